@@ -1,0 +1,12 @@
+pub mod Points
+pub mod Local
+pub mod SetLaws
+pub mod CounterLaws
+pub mod BagPoints
+pub mod QueueLaws
+pub mod MapLaws
+pub mod PoolLaws
+pub mod Product
+pub mod Looks
+pub mod LaterLaws
+pub mod Conflicts

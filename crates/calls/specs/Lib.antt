@@ -1,0 +1,15 @@
+pub mod Ranges
+pub mod Kinds
+pub mod Sets
+pub mod Maps
+pub mod Bags
+pub mod Queues
+pub mod Counters
+pub mod Pools
+pub mod Contents
+pub mod Laters
+pub mod Transactions
+pub mod Needs
+pub mod Inverses
+pub mod Names
+pub mod Refusals

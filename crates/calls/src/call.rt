@@ -1,0 +1,84 @@
+// What a collection can be asked.
+ghost use Rattle.std.specs.Prelude.{◌≡◌, IfOk};
+
+use crate::{Bytes, Kind};
+use std::alloc::AllocError;
+
+/// What a collection can be asked. Elements, keys, priorities, tags and identifiers are any u64. A client cannot ask
+/// `Pluck` and `Free`, which are inverses.
+#[derive(Drop, Debug)]
+pub enum Call {
+    /// Whether the element is in the set.
+    Contains(u64),
+    /// Puts the element into the set.
+    SetAdd(u64),
+    /// Takes the element out of the set.
+    SetRemove(u64),
+    /// The value at the key.
+    Get(u64),
+    /// Puts the value at the key.
+    Put(u64, Bytes),
+    /// Takes the key out of the map.
+    MapRemove(u64),
+    /// The entry of the least key that is at least this one.
+    Ceiling(u64),
+    /// Puts a copy of the pair of a priority and a tag into the queue.
+    QueueAdd(u64, u64),
+    /// Takes the least pair out of the queue.
+    Take,
+    /// The least pair of the queue.
+    Least,
+    /// Takes one copy of the pair out of the queue.
+    Pluck(u64, u64),
+    /// Adds to the counter.
+    Bump(i64),
+    /// The counter's number.
+    Read,
+    /// Takes an identifier that is free.
+    Draw,
+    /// Gives an identifier back at the commit.
+    Release(u64),
+    /// Makes an identifier free.
+    Free(u64),
+}
+
+impl Call {
+    ghost use Rattle.calls.specs.Kinds.{kind_of};
+
+    /// The kind of collection that the call is for.
+    pub fn kind(&self) -> Kind
+        ensures { result ≡ kind_of self.now }
+    {
+        match self {
+            Call::Contains(_) | Call::SetAdd(_) | Call::SetRemove(_) => Kind::Set,
+            Call::Get(_) | Call::Put(_, _) | Call::MapRemove(_) | Call::Ceiling(_) => Kind::Map,
+            Call::QueueAdd(_, _) | Call::Take | Call::Least | Call::Pluck(_, _) => Kind::Queue,
+            Call::Bump(_) | Call::Read => Kind::Counter,
+            Call::Draw | Call::Release(_) | Call::Free(_) => Kind::Pool,
+        }
+    }
+
+    /// The same call once more. Refused only for want of memory; only a value that is put takes any.
+    pub fn copy(&self) -> Result<Call, AllocError>
+        ensures { IfOk result (λ call. call ≡ self.now) }
+    {
+        match self {
+            Call::Contains(x) => Ok(Call::Contains(*x)),
+            Call::SetAdd(x) => Ok(Call::SetAdd(*x)),
+            Call::SetRemove(x) => Ok(Call::SetRemove(*x)),
+            Call::Get(key) => Ok(Call::Get(*key)),
+            Call::Put(key, value) => Ok(Call::Put(*key, value.copy()?)),
+            Call::MapRemove(key) => Ok(Call::MapRemove(*key)),
+            Call::Ceiling(key) => Ok(Call::Ceiling(*key)),
+            Call::QueueAdd(priority, tag) => Ok(Call::QueueAdd(*priority, *tag)),
+            Call::Take => Ok(Call::Take),
+            Call::Least => Ok(Call::Least),
+            Call::Pluck(priority, tag) => Ok(Call::Pluck(*priority, *tag)),
+            Call::Bump(by) => Ok(Call::Bump(*by)),
+            Call::Read => Ok(Call::Read),
+            Call::Draw => Ok(Call::Draw),
+            Call::Release(x) => Ok(Call::Release(*x)),
+            Call::Free(x) => Ok(Call::Free(*x)),
+        }
+    }
+}

@@ -1,0 +1,24 @@
+//! The calls of a store's collections and their replies, the needs that keep two transactions apart, the refusals
+//! and the limits of the store.
+#![tactic(auto)]
+
+mod bytes;
+mod call;
+mod check;
+mod kind;
+pub mod limits;
+mod name;
+mod need;
+mod refusal;
+mod reply;
+#[cfg(test)]
+mod tests;
+
+pub use bytes::Bytes;
+pub use call::Call;
+pub use check::{check_call, check_name};
+pub use kind::Kind;
+pub use name::Name;
+pub use need::{Mode, Need};
+pub use refusal::Refusal;
+pub use reply::Reply;

@@ -1,0 +1,4 @@
+pub mod Trees
+pub mod Rising
+pub mod Tables
+pub mod Items

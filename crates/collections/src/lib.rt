@@ -1,0 +1,16 @@
+//! The five kinds of collection: what each answers to a call, and what the call leaves.
+#![tactic(auto)]
+
+mod counter;
+mod map;
+mod pool;
+mod queue;
+mod set;
+#[cfg(test)]
+mod tests;
+
+pub use counter::CounterCol;
+pub use map::MapCol;
+pub use pool::PoolCol;
+pub use queue::QueueCol;
+pub use set::SetCol;

@@ -1,0 +1,118 @@
+// A set of numbers.
+ghost use Rattle.std.specs.Prelude.{◌≡◌, ◌↔◌, IsTrue, IsOk, OnOk, OnErr, IsOkUnless, IsOkAnd};
+ghost use Rattle.std.specs.FinSet as set;
+ghost use Rattle.std.specs.List.Sorted.{IsStrictlySortedBy};
+ghost use Rattle.std.specs.Ordering.{nat_cmp};
+ghost use Rattle.calls.specs.Sets.{Answers, after, CanLook};
+ghost use Rattle.collections.specs.Memory.{TakesNoMemory};
+
+use calls::{Call, Refusal, Reply};
+use std::alloc::Global;
+use std::collections::BTreeSet;
+use std::collections::btree_set::Iter;
+use std::marker::Model;
+
+/// A set of numbers. Contracts see the set.
+#[derive(Drop, Debug)]
+pub struct SetCol {
+    elements: BTreeSet<u64>,
+}
+
+impl Model for SetCol {
+    ghost use Rattle.std.specs.Coded.{coded_ℕ};
+    ghost use Rattle.std.specs.Ordering.{nat_cmp};
+    ghost use Rattle.std.specs.FinSet as set;
+
+    ghost Value = { set.FinSet nat_cmp };
+
+    ghost coded = { set.code coded_ℕ };
+
+    ghost view = { λ s. set.from_list s.elements.keys };
+}
+
+impl SetCol {
+    /// A set with no element. It takes no memory.
+    pub fn new(alloc: Global) -> Self
+        ensures { result ≡ set.empty }
+    {
+        Self {
+            elements: BTreeSet::new(alloc),
+        }
+    }
+
+    /// The elements, in order.
+    pub fn iter(&self) -> Iter<'_, u64>
+        ensures rising { IsStrictlySortedBy nat_cmp result }
+        ensures members { set.from_list result ≡ self.now }
+    {
+        self.elements.iter()
+    }
+
+    // Whether the element is in the set.
+    fn has(&self, element: u64) -> bool
+        ensures { result ≡ set.contains self.now element }
+    {
+        self.elements.contains(&element)
+    }
+
+    /// The reply that a call of a set gets now. It takes no memory and is never refused.
+    pub fn look(&self, call: &Call) -> Result<Reply, Refusal>
+        requires { CanLook self.now call.now }
+        ensures { IsOkAnd result (λ reply. Answers self.now call.now reply) }
+    {
+        match call {
+            Call::SetAdd(element) => {
+                if self.has(*element) {
+                    Ok(Reply::No)
+                } else {
+                    Ok(Reply::Yes)
+                }
+            }
+            Call::Contains(element) | Call::SetRemove(element) => {
+                if self.has(*element) {
+                    Ok(Reply::Yes)
+                } else {
+                    Ok(Reply::No)
+                }
+            }
+            _ => unreachable!(),
+        }
+    }
+
+    /// Whether the call may get this reply now. It takes no memory.
+    pub fn fits(&self, call: &Call, reply: &Reply) -> bool
+        ensures { IsTrue result ↔ Answers self.now call.now reply.now }
+    {
+        match (call, reply) {
+            (Call::Contains(element), Reply::Yes) => self.has(*element),
+            (Call::Contains(element), Reply::No) => !self.has(*element),
+            (Call::SetAdd(element), Reply::Yes) => !self.has(*element),
+            (Call::SetAdd(element), Reply::No) => self.has(*element),
+            (Call::SetRemove(element), Reply::Yes) => self.has(*element),
+            (Call::SetRemove(element), Reply::No) => !self.has(*element),
+            _ => false,
+        }
+    }
+
+    /// Makes the call, which is answered so. NoMemory, which leaves the set as before, only where an element is put
+    /// into it.
+    pub fn run(&mut self, call: &Call, reply: &Reply) -> Result<(), Refusal>
+        requires { Answers self.old call.now reply.now }
+        ensures ok { OnOk result (self.new ≡ after self.old call.now reply.now) }
+        ensures err { OnErr result (self.new ≡ self.old) }
+        ensures refusal { IsOkUnless result Refusal.NoMemory }
+        ensures no_memory { TakesNoMemory call.now → IsOk result }
+    {
+        match (call, reply) {
+            (Call::SetAdd(element), Reply::Yes) => {
+                self.elements.insert(*element)?;
+                Ok(())
+            }
+            (Call::SetRemove(element), Reply::Yes) => {
+                self.elements.remove(element);
+                Ok(())
+            }
+            _ => Ok(()),
+        }
+    }
+}

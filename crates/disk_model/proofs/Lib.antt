@@ -1,0 +1,3 @@
+mod Calls
+pub mod Stops
+pub mod Walk

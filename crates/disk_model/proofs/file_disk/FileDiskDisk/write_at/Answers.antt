@@ -1,0 +1,13 @@
+use Rattle.disk_model.specs.Events.{padded}
+use Rattle.disk_model.proofs.Calls.{after_write}
+use Rattle.disk_model.proofs.file_disk.FileDiskDisk.write_at.Goals as goal
+
+pub returns-then-not-ok-clause-stop : goal.returns-then-not-ok-clause-stop
+returns-then-not-ok-clause-stop g c =
+    let d = c.args.self.now in
+    after_write (padded g.S.Content.content d.size) d.size d.log.events c.note.new.self.events d.sized d.marked c.args.at c.args.bytes.now _ c.note.ensures c.requires
+
+pub returns-clause-stop : goal.returns-clause-stop
+returns-clause-stop g c =
+    let d = c.args.self.now in
+    after_write (padded g.S.Content.content d.size) d.size d.log.events c.note.new.self.events d.sized d.marked c.args.at c.args.bytes.now _ c.note.ensures c.requires

@@ -1,0 +1,20 @@
+use Rattle.std.proofs.Common.{◌≡◌, ◌∷◌, [], ◌++◌, length, false, ap, sym, ◌∙◌, arith, Result, Ok, Err, OnOk, List, ℕ}
+use Rattle.std.specs.Result.{is_err}
+use Rattle.gate_block.specs.Area.{bytes_of, HoldsRow}
+use Rattle.gate_block.proofs.Rows.{length-row_push}
+use Rattle.gate_block.proofs.area.Area.append.Goals as goal
+
+use_ok : {T E : Type 0} (P : Type 0) (r : Result T E) → is_err r ≡ false → OnOk r P → P
+use_ok P (Ok x) e p = p
+use_ok P (Err x) e p = cc
+
+pub returns-clause-kept : goal.returns-clause-kept
+returns-clause-kept g c = λ bodies body is ready.
+    let a = c.args.self.now in
+    let fine : is_err c.write_block.result ≡ false = sym c.is_err.ensures.value ∙ c.if-is_err.false in
+    let kept : HoldsRow g.D.Disk.seen g.D.Disk.may_leave a c.write_block.new.disk (bodies ++ body ∷ []) = use_ok _ c.write_block.result fine (c.write_block.ensures.kept bodies body is ready) in
+    record {
+      holds = kept.holds;
+      position = omega (arith, ready.position, ap length is.is, length-row_push bodies body c.args.block.now is);
+      at_rest = λ d left. ap (λ (l : List ℕ). bytes_of a l) (kept.at_rest d left);
+    }
