@@ -1,0 +1,230 @@
+-- Records that are repeated: the state that they lead to is the only one, and a refusal comes only where they lead nowhere.
+use Rattle.std.proofs.Common.{◌≡◌, ℕ, zero, suc, ◌+◌, ◌≤◌, ◌<◌, ◌^◌, List, [], ◌∷◌, ◌++◌, length, append_assoc, length-append, refl, sym, ◌∙◌, ap, subst, arith, true, false, true≢false, Some, None, Result, Ok, Err, OnOk, IfOk, IfErr}
+use Rattle.std.specs.Result.{is_err}
+use Rattle.calls.specs.declared.call.Call.{Call}
+use Rattle.calls.specs.declared.reply.Reply.{Reply}
+use Rattle.calls.specs.declared.refusal.Refusal.{Refusal}
+use Rattle.calls.specs.Contents.{Collection, AnswersAt}
+use Rattle.boost.specs.declared.records.record.Record.{Record}
+use Rattle.boost.specs.Records.{spelled, spelling, IsRecord, IsOfStage, IsBump, Begins, IsWhy}
+use Rattle.boost.proofs.RecordLaws.{one_spelling_of}
+use Rattle.boost.proofs.RecordLengths.{spelled-positive}
+use Rattle.std.proofs.lemmas.List.{append-nil}
+use Rattle.boost.specs.Machine.{State, Live, IsLive, IsOfCounter, IsGoodBump, CanCall, RefusesCall, CallRow, Steps, Repeats}
+use Rattle.boost.specs.declared.repetition.Part.{Part}
+use Rattle.boost.specs.Books.{next_after}
+use Rattle.boost.specs.Journals.{empty_state}
+use Rattle.boost.specs.Repetitions.{next_from, Reached, IsAccepted, AreRead, IsStuck, IsDamageOr}
+use Rattle.boost.proofs.Lists.{leads_push, leads_split, flat_map-append}
+use Rattle.boost.proofs.BookLemmas.{bump_answered}
+use Rattle.boost.proofs.Contents.{length-after_at}
+
+pub reply_done : (xs : List Collection) (at : ℕ) (call : Call) (reply : Reply) → IsBump call → AnswersAt xs at call reply → reply ≡ Reply.Done
+reply_done xs at (Call.Bump k) reply bump a = (bump_answered xs at k reply a).0
+reply_done xs at call reply bump a = absurd bump
+
+pub done_can : (s : State) (n at : ℕ) (call : Call) (found asked : Reply) → CanCall s n at call found → asked ≡ Reply.Done → CanCall s n at call asked
+done_can s n at call found asked can done = subst (λ r. CanCall s n at call r) (reply_done s.now at call found can.bump can.answers ∙ sym done) can
+
+there_at : (xs : List Collection) (at : ℕ) (call : Call) (reply : Reply) → AnswersAt xs at call reply → at < length xs
+there_at [] at call reply a = absurd a
+there_at (x ∷ xs) zero call reply a = omega arith
+there_at (x ∷ xs) (suc at) call reply a = omega (arith, there_at xs at call reply a)
+
+of_counter : (call : Call) → IsBump call → IsOfCounter call
+of_counter (Call.Bump k) bump = tt
+of_counter call bump = absurd bump
+
+good_size : (xs : List Collection) (at : ℕ) (call : Call) (reply : Reply) → IsBump call → AnswersAt xs at call reply → IsGoodBump call
+good_size xs at (Call.Bump k) reply bump a = (bump_answered xs at k reply a).1
+good_size xs at call reply bump a = absurd bump
+
+same_live : (a b : Live) → Some a ≡ Some b → a ≡ b
+same_live a b e = cc
+
+-- the live transaction has one number of calls
+one_count : (s : State) (n m k : ℕ) → IsLive s n m → IsLive s n k → m ≡ k
+one_count s n m k a b = ap (λ (l : Live). l.calls) (same_live (record { number = n; calls = m }) (record { number = n; calls = k }) (sym a ∙ b))
+
+pub call_stuck : (s t : State) (n at : ℕ) (call : Call) (reply : Reply) (e : Refusal) → RefusesCall s n at call e → CallRow s n at call reply t → ⊥
+call_stuck s t n at call reply Refusal.NoSuchTxn refused row = refused row.can.calls row.can.live
+call_stuck s t n at call reply Refusal.NoSuchCollection refused row = absurd (omega (arith, refused.1, there_at s.now at call reply row.can.answers))
+call_stuck s t n at call reply Refusal.WrongKind refused row = refused.2 (of_counter call row.can.bump)
+call_stuck s t n at call reply Refusal.BadArg refused row = refused.2 (good_size s.now at call reply row.can.bump row.can.answers)
+call_stuck s t n at call reply Refusal.Worn refused row = absurd (omega (arith, refused.3, row.can.unworn))
+call_stuck s t n at call reply Refusal.TooManyCalls refused row = absurd (omega (arith, one_count s n refused.0.0 row.can.calls refused.0.1 row.can.live, refused.0.2, row.can.few))
+call_stuck s t n at call reply e refused row = absurd refused
+
+-- a record leads to one state
+pub step_exact : (r : Record) (s t u : State) → Steps s r t → Steps s r u → t ≡ u
+step_exact (Record.Make kind name) s t u a b =
+    let now : t.now ≡ u.now = a.makes.is ∙ sym b.makes.is in
+    let live : t.live ≡ u.live = a.live ∙ sym b.live in
+    let wear : t.wear ≡ u.wear = a.wear ∙ sym b.wear in
+    λ i. record { now = now i; live = live i; wear = wear i }
+step_exact (Record.Begin n) s t u a b = a.is ∙ sym b.is
+step_exact (Record.Call c) s t u a b =
+    let now : t.now ≡ u.now = a.does.1 ∙ sym b.does.1 in
+    let count : a.can.calls ≡ b.can.calls = one_count s c.number a.can.calls b.can.calls a.can.live b.can.live in
+    let live : t.live ≡ u.live = a.live ∙ ap (λ k. Some (record { number = c.number; calls = k + 1 })) count ∙ sym b.live in
+    let wear : t.wear ≡ u.wear = a.wear ∙ sym b.wear in
+    λ i. record { now = now i; live = live i; wear = wear i }
+step_exact (Record.Commit n) s t u a b = a.is ∙ sym b.is
+step_exact r s t u a b = absurd a
+
+pub repeat_exact : (rs : List Record) (s t u : State) → Repeats rs s t → Repeats rs s u → t ≡ u
+repeat_exact [] s t u a b = sym a ∙ b
+repeat_exact (r ∷ rs) s t u a b = repeat_exact rs a.0 t u a.2 (subst (λ m. Repeats rs m u) (step_exact r s b.0 a.0 b.1 a.1) b.2)
+
+-- what was looked up, where it was not refused
+pub found_of : {E : Type 0} (r : Result Reply E) (P : Reply → Type 0) → is_err r ≡ false → IfOk r P → (reply : Reply) × P reply
+found_of (Ok reply) P fine is = (reply, is)
+found_of (Err e) P fine is = absurd (true≢false fine)
+
+-- why not
+pub refused_of : {T : Type 0} (r : Result T Refusal) (P : Refusal → Type 0) → is_err r ≡ true → IfErr r P → (e : Refusal) × P e
+refused_of (Ok x) P bad is = absurd (true≢false (sym bad))
+refused_of (Err e) P bad is = (e, is)
+
+pub call_room : (s t : State) (n at : ℕ) (call : Call) (reply : Reply) → CallRow s n at call reply t → length s.now ≤ 256 → (length t.now ≤ 256) × (t.wear ≤ 2 ^ 61)
+call_room s t n at call reply row few = (omega (arith, ap length row.does.1, length-after_at s.now at call reply row.can.answers, few), omega (arith, row.wear, row.can.unworn))
+
+-- a number above those of one record more
+next_from-push : (rs : List Record) (r : Record) (next : ℕ) → next_from next (rs ++ r ∷ []) ≡ next_after (next_from next rs) r
+next_from-push [] r next = refl
+next_from-push (x ∷ rs) r next = next_from-push rs r (next_after next x)
+
+pub reached_more : (rs : List Record) (r : Record) (s t : State) (next above : ℕ) → Reached rs Part.Journal s next → Steps s r t → above ≡ next_after next r → Reached (rs ++ r ∷ []) Part.Journal t above
+reached_more rs r s t next above reached step above_is =
+    let journal = reached.0 in (
+      journal ++ r ∷ [],
+      ap (λ l. l ++ r ∷ []) reached.1,
+      leads_push Steps journal r empty_state s t reached.2 step,
+      above_is ∙ ap (λ n. next_after n r) reached.3 ∙ sym (next_from-push journal r 1),
+    )
+
+same_tail : (x y : Record) (xs ys : List Record) → x ∷ xs ≡ y ∷ ys → xs ≡ ys
+same_tail x y xs ys e = cc
+
+same_front : (x y : Record) (xs ys : List Record) → x ∷ xs ≡ y ∷ ys → x ≡ y
+same_front x y xs ys e = cc
+
+-- records that lead nowhere are not accepted
+pub stuck_is_refused : (rs more : List Record) (r : Record) (s : State) (next : ℕ) → IsStuck s r → Reached rs Part.Journal s next → IsAccepted (rs ++ r ∷ more) → ⊥
+stuck_is_refused rs more r s next stuck reached accepted =
+    let journal = reached.0 in
+    let both : Record.Marks 1 0 ∷ (Record.ImageEnd ∷ (journal ++ r ∷ more)) ≡ Record.Marks 1 0 ∷ (Record.ImageEnd ∷ accepted.journal) = sym (ap (λ l. l ++ r ∷ more) reached.1) ∙ accepted.is in
+    let tail : journal ++ r ∷ more ≡ accepted.journal = same_tail _ _ _ _ (same_tail _ _ _ _ both) in
+    let split = leads_split Steps journal (r ∷ more) empty_state accepted.end (subst (λ l. Repeats l empty_state accepted.end) (sym tail) accepted.repeats) in
+    let here : split.0 ≡ s = repeat_exact journal empty_state split.0 s split.1 reached.2 in
+    stuck split.2.0 (subst (λ x. Steps x r split.2.0) here split.2.1)
+
+pub first_or_refused : (rs more : List Record) (r : Record) (s : State) (next : ℕ) → Reached rs Part.Marks s next → IsAccepted (rs ++ r ∷ more) → r ≡ Record.Marks 1 0
+first_or_refused rs more r s next reached accepted = same_front r (Record.Marks 1 0) more (Record.ImageEnd ∷ accepted.journal) (sym (ap (λ l. l ++ r ∷ more) reached.0) ∙ accepted.is)
+
+pub end_or_refused : (rs more : List Record) (r : Record) (s : State) (next : ℕ) → Reached rs Part.End s next → IsAccepted (rs ++ r ∷ more) → r ≡ Record.ImageEnd
+end_or_refused rs more r s next reached accepted =
+    let both : Record.Marks 1 0 ∷ (r ∷ more) ≡ Record.Marks 1 0 ∷ (Record.ImageEnd ∷ accepted.journal) = sym (ap (λ l. l ++ r ∷ more) reached.0) ∙ accepted.is in
+    same_front r Record.ImageEnd more accepted.journal (same_tail _ _ _ _ both)
+
+-- the marks, and then the end
+pub marks_reached : (rs : List Record) (r : Record) (s : State) (next : ℕ) → r ≡ Record.Marks 1 0 → Reached rs Part.Marks s next → Reached (rs ++ r ∷ []) Part.End s next
+marks_reached rs r s next is reached = (ap (λ l. l ++ r ∷ []) reached.0 ∙ ap (λ x. x ∷ []) is, reached.1, reached.2)
+
+pub end_reached : (rs : List Record) (r : Record) (s : State) (next : ℕ) → r ≡ Record.ImageEnd → Reached rs Part.End s next → Reached (rs ++ r ∷ []) Part.Journal s next
+end_reached rs r s next is reached = ([], ap (λ l. l ++ r ∷ []) reached.0 ∙ ap (λ x. Record.Marks 1 0 ∷ (x ∷ [])) is, sym reached.1, reached.2)
+
+-- results
+
+pub ok_both : {T E : Type 0} (r : Result T E) (A B C : Type 0) → OnOk r A → OnOk r B → (A → B → C) → OnOk r C
+ok_both (Ok x) A B C a b f = f a b
+ok_both (Err e) A B C a b f = tt
+
+pub damage_weaker : (place : ℕ) (e : Refusal) (A B : Type 0) → (A → B) → IsDamageOr place A e → IsDamageOr place B e
+damage_weaker place Refusal.NoMemory A B f d = tt
+damage_weaker place (Refusal.Damaged p) A B f d = (d.0, f d.1)
+damage_weaker place e A B f d = absurd d
+
+pub err_weaker : {T : Type 0} (r : Result T Refusal) (place : ℕ) (A B : Type 0) → (A → B) → IfErr r (IsDamageOr place A) → IfErr r (IsDamageOr place B)
+err_weaker (Ok x) place A B f d = tt
+err_weaker (Err e) place A B f d = damage_weaker place e A B f d
+
+-- an area that ends within its image is not accepted
+
+short_marks : (rs : List Record) → rs ≡ [] → IsAccepted rs → ⊥
+short_marks rs e accepted = let d : [] ≡ Record.Marks 1 0 ∷ (Record.ImageEnd ∷ accepted.journal) = sym e ∙ accepted.is in absurd (omega (arith, ap length d))
+
+short_end : (rs : List Record) → rs ≡ Record.Marks 1 0 ∷ [] → IsAccepted rs → ⊥
+short_end rs e accepted = let d : Record.Marks 1 0 ∷ [] ≡ Record.Marks 1 0 ∷ (Record.ImageEnd ∷ accepted.journal) = sym e ∙ accepted.is in absurd (omega (arith, ap length d))
+
+pub not_journal : (rs : List Record) (part : Part) (s : State) (next : ℕ) → (part ≡ Part.Journal → ⊥) → Reached rs part s next → IsAccepted rs → ⊥
+not_journal rs Part.Marks s next other reached accepted = short_marks rs reached.0 accepted
+not_journal rs Part.End s next other reached accepted = short_end rs reached.0 accepted
+not_journal rs Part.Journal s next other reached accepted = other refl
+
+pub accepted_idle : (rs : List Record) (s : State) (next : ℕ) → Reached rs Part.Journal s next → IsAccepted rs → s.live ≡ None
+accepted_idle rs s next reached accepted =
+    let tail : reached.0 ≡ accepted.journal = same_tail _ _ _ _ (same_tail _ _ _ _ (sym reached.1 ∙ accepted.is)) in
+    let here : accepted.end ≡ s = repeat_exact reached.0 empty_state accepted.end s (subst (λ l. Repeats l empty_state accepted.end) (sym tail) accepted.repeats) reached.2 in
+    subst (λ (x : State). x.live ≡ None) here accepted.idle
+
+-- records that are read one behind another are a beginning of those that the bytes spell
+
+pub read_front : (done group : List Record) (rest : List ℕ) → AreRead done → AreRead group → spelling group ≡ spelling done ++ rest → (tail : List Record) × (group ≡ done ++ tail) × (spelling tail ≡ rest) × AreRead tail
+read_front [] group rest ds gs e = (group, refl, e, gs)
+read_front (d ∷ done) [] rest ds gs e = absurd (omega (arith, ap length e, length-append (spelled d ++ spelling done) rest, length-append (spelled d) (spelling done), spelled-positive d))
+read_front (d ∷ done) (g ∷ group) rest ds gs e =
+    let both = one_spelling_of g d (spelling group) (spelling done ++ rest) gs.0.0 gs.0.1 ds.0.0 ds.0.1 (e ∙ append_assoc (spelled d) (spelling done) rest) in
+    let next = read_front done group rest ds.1 gs.1 both.1 in
+    (next.0, (λ i. both.0 i ∷ next.1 i), next.2, next.3)
+
+no_tail : (tail : List Record) (rest : List ℕ) → 0 < length rest → spelling tail ≡ rest → AreRead tail → ((r : Record) (behind : List ℕ) → Begins rest r behind → ⊥) → ⊥
+no_tail [] rest some is read none = absurd (omega (arith, some, ap length is))
+no_tail (r ∷ tail) rest some is read none = none r (spelling tail) (record { parts = sym is; is = read.0.0; stage = read.0.1 })
+
+-- The records of a body so far, and the bytes behind them.
+pub record IsRepeating (body rest : List ℕ) (first : Part) (s : State) (above : ℕ) (part : Part) (t : State) (next : ℕ) : Type 0 where
+  pub done : List Record
+  pub read : AreRead done
+  pub is : body ≡ spelling done ++ rest
+  pub reaches : (rs : List Record) → Reached rs first s above → Reached (rs ++ done) part t next
+
+read_push : (done : List Record) (r : Record) → AreRead done → IsRecord r → IsOfStage r → AreRead (done ++ r ∷ [])
+read_push [] r all is stage = ((is, stage), tt)
+read_push (d ∷ done) r all is stage = (all.0, read_push done r all.1 is stage)
+
+pub repeating_starts : (body : List ℕ) (part : Part) (s : State) (next : ℕ) → IsRepeating body body part s next part s next
+repeating_starts body part s next = record { done = []; read = tt; is = refl; reaches = λ rs reached. subst (λ l. Reached l part s next) (sym (append-nil rs)) reached }
+
+pub repeating_goes_on : (body rest behind : List ℕ) (first part now : Part) (s t u : State) (above next after : ℕ) (r : Record) → IsRepeating body rest first s above part t next → Begins rest r behind
+    → ((rs : List Record) → Reached rs part t next → Reached (rs ++ r ∷ []) now u after) → IsRepeating body behind first s above now u after
+repeating_goes_on body rest behind first part now s t u above next after r so_far begins takes = record {
+  done = so_far.done ++ r ∷ [];
+  read = read_push so_far.done r so_far.read begins.is begins.stage;
+  is =
+      so_far.is ∙ ap (λ l. spelling so_far.done ++ l) begins.parts ∙ sym (append_assoc (spelling so_far.done) (spelled r) behind)
+      ∙ ap (λ l. l ++ behind) (sym (flat_map-append spelled so_far.done (r ∷ []) ∙ ap (λ l. spelling so_far.done ++ l) (append-nil (spelled r))));
+  reaches = λ rs reached. subst (λ l. Reached l now u after) (append_assoc rs so_far.done (r ∷ [])) (takes (rs ++ so_far.done) (so_far.reaches rs reached));
+}
+
+-- bytes of which no record begins what is left are not accepted
+pub unread_is_refused : (body rest : List ℕ) (first part : Part) (s t : State) (above next : ℕ) → IsRepeating body rest first s above part t next → 0 < length rest → ((r : Record) (behind : List ℕ) → Begins rest r behind → ⊥)
+    → (group : List Record) → AreRead group → body ≡ spelling group → ⊥
+unread_is_refused body rest first part s t above next so_far some none group read is =
+    let front = read_front so_far.done group rest so_far.read read (sym is ∙ so_far.is) in
+    no_tail front.0 rest some front.2 front.3 none
+
+pub stuck_body : (body rest behind : List ℕ) (first part : Part) (s t : State) (above next : ℕ) (r : Record) → IsRepeating body rest first s above part t next → Begins rest r behind
+    → ((rs more : List Record) → Reached rs part t next → IsAccepted (rs ++ r ∷ more) → ⊥) → (rs group more : List Record) → Reached rs first s above → AreRead group → body ≡ spelling group → IsAccepted (rs ++ (group ++ more)) → ⊥
+stuck_body body rest behind first part s t above next r so_far begins refuses rs group more reached read is accepted =
+    let front = read_front so_far.done group rest so_far.read read (sym is ∙ so_far.is) in
+    let tail = read_front (r ∷ []) front.0 behind ((begins.is, begins.stage), tt) front.3 (front.2 ∙ begins.parts ∙ ap (λ l. l ++ behind) (sym (append-nil (spelled r)))) in
+    let parts : rs ++ (group ++ more) ≡ (rs ++ so_far.done) ++ r ∷ (tail.0 ++ more) =
+    ap (λ g. rs ++ (g ++ more)) (front.1 ∙ ap (λ l. so_far.done ++ l) tail.1) ∙ ap (λ l. rs ++ l) (append_assoc so_far.done (r ∷ tail.0) more) ∙ sym (append_assoc rs so_far.done (r ∷ (tail.0 ++ more))) in
+    refuses (rs ++ so_far.done) (tail.0 ++ more) (so_far.reaches rs reached) (subst IsAccepted parts accepted)
+
+-- why a record could not be read
+pub unread_damage : (place : ℕ) (bytes : List ℕ) (e : Refusal) (B : Type 0) → IsWhy place bytes e → (((r : Record) (behind : List ℕ) → Begins bytes r behind → ⊥) → B) → IsDamageOr place B e
+unread_damage place bytes Refusal.NoMemory B why f = tt
+unread_damage place bytes (Refusal.Damaged p) B why f = (why.0, f why.1)
+unread_damage place bytes e B why f = absurd why

@@ -1,0 +1,15 @@
+use Rattle.std.proofs.Common.{refl, arith, rules}
+use Rattle.boost.proofs.RecordLaws.{IsRead-of, is_found, is_unsound, is_nothing, refuted}
+use Rattle.boost.proofs.records.decoding.decode.Goals as goal
+
+pub is_sound-requires : goal.is_sound-requires
+is_sound-requires c = IsRead-of c.args.bytes.now c.in-Ok.found c.in-Ok.rest.now (λ i. omega (arith, c.type_inv.bytes i)) c.in-Ok.ensures
+
+pub returns-then-is_sound-clause-found : goal.returns-then-is_sound-clause-found
+returns-then-is_sound-clause-found c = is_found c.args.bytes.now c.in-Ok.found c.in-Ok.rest.now (λ i. omega (arith, c.type_inv.bytes i)) c.in-Ok.ensures (search rules)
+
+pub returns-in-Ok-clause-refused : goal.returns-in-Ok-clause-refused
+returns-in-Ok-clause-refused c = (refl, is_unsound c.args.bytes.now c.in-Ok.found c.in-Ok.rest.now c.in-Ok.ensures (refuted c.is_sound.result c.is_sound.ensures c.if-is_sound.false))
+
+pub returns-clause-refused : goal.returns-clause-refused
+returns-clause-refused c = (refl, is_nothing c.args.bytes.now (rw c.in-Err-Damage.field-0-is at c.in-Err-Damage.ensures))

@@ -1,0 +1,46 @@
+use Rattle.std.proofs.Common.{◌≡◌, length, arith, sym, subst, ap}
+use Rattle.std.proofs.lemmas.Result.{err_from_is_err_and}
+use Rattle.std.proofs.Common.{MatchOption, Option, Vec, ℕ, List, ◌+◌, Some, ◌∙◌}
+use Rattle.std.specs.declared.alloc.Global.{Global}
+use Rattle.gate_block.specs.Row.{Finds, StandsAt}
+use Rattle.gate_block.specs.Area.{body_in}
+use Rattle.boost.proofs.OpenLemmas.{gate_refused, body_refused, loads_on, end_refused, loads}
+use Rattle.boost.proofs.recovery.load.Goals as goal
+
+stands_there : (found : Option (Vec ℕ Global)) (v : Vec ℕ Global) (body bytes : List ℕ) (p : ℕ) → found ≡ Some v → body ≡ v.items → Finds bytes p (body_in found) → StandsAt bytes p body
+stands_there found v body bytes p is value finds = subst (λ b. StandsAt bytes p b) (sym value) (subst (λ o. Finds bytes p (body_in o)) is finds)
+
+position_there : (found : Option (Vec ℕ Global)) (v : Vec ℕ Global) (body : List ℕ) (was now : ℕ) → found ≡ Some v → body ≡ v.items → MatchOption found (now ≡ was) (λ body. now ≡ was + 5 + length body.items) → now ≡ was + 5 + length body
+position_there found v body was now is value moved = subst (λ o. MatchOption o (now ≡ was) (λ body. now ≡ was + 5 + length body.items)) is moved ∙ ap (λ b. was + 5 + length b) (sym value)
+
+pub returns-in_err-body-clause-refused : goal.returns-in_err-body-clause-refused
+returns-in_err-body-clause-refused g c =
+    let p = err_from_is_err_and c.from_residual.result c.from_residual.ensures.1 in
+    rw (p.1, p.2)
+    (gate_refused c.loop-repetition.invariant c.next_block.new.disk c.next_block.ensures.reads c.next_block.ensures.honest c.next_block.ensures.faults (Option (Vec ℕ Global)) _ c.in_err-body.field-0.0 c.in_err-body.ensures.answer)
+
+pub returns-in_err-repeat_body-clause-refused : goal.returns-in_err-repeat_body-clause-refused
+returns-in_err-repeat_body-clause-refused g c =
+    let p = err_from_is_err_and c.from_residual-in_err-repeat_body.result c.from_residual-in_err-repeat_body.ensures.1 in
+    rw (p.1, p.2)
+    (body_refused c.loop-repetition.invariant c.next_block.new.disk c.next_block.ensures.reads c.next_block.ensures.honest c.next_block.ensures.faults c.loop-repetition.place c.as_slice.result.now c.in_err-repeat_body.field-0.0
+    (λ true_read. stands_there c.in_ok-body.field-0 c.in-Some.body c.as_slice.result.now _ _ c.in-Some.is c.as_slice.ensures.value (c.in_ok-body.ensures.found true_read))
+    c.in_err-repeat_body.ensures.err)
+
+pub loop-repetition-preserved : goal.loop-repetition-preserved
+loop-repetition-preserved g c =
+    loads_on c.loop-repetition.invariant c.next_block.new.disk c.next_block.ensures.reads c.next_block.ensures.honest c.next_block.ensures.faults c.next_block.new.self c.as_slice.result.now 0 _ _ _ _
+    (λ true_read. stands_there c.in_ok-body.field-0 c.in-Some.body c.as_slice.result.now _ _ c.in-Some.is c.as_slice.ensures.value (c.in_ok-body.ensures.found true_read))
+    c.next_block.ensures.base c.next_block.ensures.size c.in_ok-body.ensures.answer.1 (position_there c.in_ok-body.field-0 c.in-Some.body c.as_slice.result.now _ _ c.in-Some.is c.as_slice.ensures.value c.in_ok-body.ensures.position) (omega (arith, c.len.ensures, ap length c.as_slice.ensures.value)) c.in_ok-repeat_body.ensures.ok
+
+pub returns-in_err-finish-clause-refused : goal.returns-in_err-finish-clause-refused
+returns-in_err-finish-clause-refused g c =
+    let p = err_from_is_err_and c.from_residual-in_err-finish.result c.from_residual-in_err-finish.ensures.1 in
+    rw (p.1, p.2)
+    (end_refused c.loop-repetition.invariant c.next_block.new.disk c.next_block.ensures.reads c.next_block.ensures.honest c.next_block.ensures.faults c.loop-repetition.place c.in_ok-body.field-0 c.in_err-finish.field-0.0
+    c.in_default.not-Some c.in_ok-body.ensures.found c.in_err-finish.ensures.err)
+
+pub returns-clause-loaded : goal.returns-clause-loaded
+returns-clause-loaded g c =
+    loads c.loop-repetition.invariant c.next_block.new.disk c.next_block.ensures.reads c.next_block.ensures.honest c.next_block.ensures.faults c.next_block.new.self c.in_ok-body.field-0 c.in_ok-finish.field-0
+    c.in_default.not-Some c.in_ok-body.ensures.found c.requires.disk (omega (arith, c.next_block.new.self.inside, c.next_block.ensures.size, c.loop-repetition.invariant.size_is)) c.next_block.ensures.base c.next_block.ensures.size c.in_ok-body.ensures.answer.1 c.in_ok-body.ensures.position c.in_ok-finish.ensures.ok.0 c.in_ok-finish.ensures.ok.1 c.in_ok-finish.ensures.ok.2

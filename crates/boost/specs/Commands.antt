@@ -1,0 +1,50 @@
+-- What a command's status says.
+use Rattle.std.specs.Prelude.{ℕ, List}
+use Rattle.boost.specs.declared.arguments.Task.{Task}
+use Rattle.boost.specs.declared.commands.failure.Failure.{Failure}
+use Rattle.boost.specs.declared.script.line.Line.{Line}
+use Rattle.boost.specs.declared.script.line.ScriptError.{ScriptError}
+use Rattle.boost.specs.Scripts.{IsScriptOf, IsWhy}
+
+abbrev pub IsPlay : Task → Type 0
+IsPlay (Task.Play disk script) = Unit {0}
+IsPlay task = ⊥
+
+abbrev pub IsDemo : Task → Type 0
+IsDemo Task.Demo = Unit {0}
+IsDemo task = ⊥
+
+-- the status of a command that was not done
+abbrev pub status_of : Failure → ℕ
+status_of (Failure.Refused refusal) = 1
+status_of (Failure.NotUnderstood line) = 3
+status_of (Failure.CannotOpen path) = 4
+status_of Failure.Unwritten = 4
+
+-- each line of the script says something, or is passed over
+abbrev pub IsUnderstood : List ℕ → Type 0
+IsUnderstood script = (lines : List Line) × IsScriptOf lines script
+
+-- A failure of the store or of the output alone.
+abbrev pub IsOfStore : Failure → Type 0
+IsOfStore (Failure.Refused refusal) = Unit {0}
+IsOfStore Failure.Unwritten = Unit {0}
+IsOfStore failure = ⊥
+
+-- Why a script was not played: the first line that is not understood is named, and then `same` holds.
+abbrev pub IsWhyUnplayed : List ℕ → Type 0 → Failure → Type 0
+IsWhyUnplayed script same (Failure.NotUnderstood line) = IsWhy script (ScriptError.NotUnderstood line) × same
+IsWhyUnplayed script same (Failure.Refused refusal) = Unit {0}
+IsWhyUnplayed script same Failure.Unwritten = Unit {0}
+IsWhyUnplayed script same (Failure.CannotOpen path) = ⊥
+
+-- why a command was not done: only a play fails by its script
+abbrev pub IsWhyUndone : Task → List ℕ → Type 0 → Failure → Type 0
+IsWhyUndone task script same (Failure.NotUnderstood line) = IsPlay task × IsWhy script (ScriptError.NotUnderstood line) × same
+IsWhyUndone task script same (Failure.Refused refusal) = Unit {0}
+IsWhyUndone task script same Failure.Unwritten = Unit {0}
+IsWhyUndone task script same (Failure.CannotOpen path) = ⊥
+
+-- The script's line of this number is the first that is not understood.
+abbrev pub IsNotUnderstoodAt : List ℕ → ℕ → Type 0
+IsNotUnderstoodAt script line = IsWhy script (ScriptError.NotUnderstood line)

@@ -1,0 +1,103 @@
+-- Pasts: steps with their answers; what they have committed, and what was acknowledged.
+use Rattle.std.specs.Prelude.{◌≡◌, ℕ, ◌+◌, ◌<◌, ◌≤◌, ◌^◌, max, true, false, List, [], ◌∷◌, ◌++◌, take, Result, Ok, Err}
+use Rattle.std.specs.List.{flat_map}
+use Rattle.calls.specs.Transactions.{Transaction, Act, Begins, Asks, Commits, Creates, Asked, committed, Leads}
+use Rattle.calls.specs.Inverses.{inverse_of}
+use Rattle.calls.specs.declared.refusal.Refusal.{Refusal}
+use Rattle.boost.specs.declared.block.Block.{Block}
+use Rattle.boost.specs.declared.records.record.Record.{Record}
+use Rattle.boost.specs.Books.{BookState, Hands, HasNoCut, MakeAnswers, EnterAnswers, CallAnswers, CommitAnswers}
+use Rattle.boost.specs.declared.steps.Step.{Step}
+use Rattle.boost.specs.declared.steps.Answer.{Answer}
+use Rattle.boost.specs.declared.steps.Turn.{Turn}
+
+-- A past is a list of steps, each with its answer.
+abbrev pub Past : Type 0
+Past = List (Step × Answer)
+
+-- What a step with its answer says of transactions. A step that was refused says nothing.
+abbrev pub acts_of_step : Step → Answer → List Act
+acts_of_step (Step.Make name kind) (Answer.Placed place) = Creates name kind ∷ []
+acts_of_step (Step.Enter n) Answer.Entered = Begins n ∷ []
+acts_of_step (Step.Call n at call) (Answer.Replied reply) = Asks n (Asked (record { at = at; call = call; reply = reply })) ∷ []
+acts_of_step (Step.Commit n) (Answer.Placed place) = Commits n ∷ []
+acts_of_step s a = []
+
+abbrev pub acts_in : Past → List Act
+acts_in past = flat_map (λ x. acts_of_step x.0 x.1) past
+
+-- The transactions that a past has committed, in the order of their commits.
+abbrev pub committed_in : Past → List Transaction
+committed_in past = committed (acts_in past)
+
+-- up to which place a step told that commits are kept
+abbrev pub told : Step → Answer → ℕ
+told Step.Turn (Answer.Turned (Turn.Kept place)) = place
+told Step.Look (Answer.Marked place) = place
+told s a = 0
+
+abbrev pub greatest_told : Past → ℕ
+greatest_told [] = 0
+greatest_told (x ∷ past) = max (told x.0 x.1) (greatest_told past)
+
+-- The transactions of a past that were acknowledged: the first of those that it committed, up to the greatest place that was told.
+abbrev pub acknowledged : Past → List Transaction
+acknowledged past = take (greatest_told past) (committed_in past)
+
+-- What a step adds to the journal. A step that was refused adds nothing.
+abbrev pub records_of_step : Step → Answer → List Record
+records_of_step (Step.Make name kind) (Answer.Placed place) = Record.Make kind name ∷ []
+records_of_step (Step.Enter n) Answer.Entered = Record.Begin n ∷ []
+records_of_step (Step.Call n at call) (Answer.Replied reply) = Record.Call (record { number = n; collection = at; call = call; reply = reply; inverse = inverse_of call reply }) ∷ []
+records_of_step (Step.Commit n) (Answer.Placed place) = Record.Commit n ∷ []
+records_of_step s a = []
+
+abbrev pub records_of : Past → List Record
+records_of past = flat_map (λ x. records_of_step x.0 x.1) past
+
+-- A step with its answer leads a book from one state to another: a row for each answer that the step can get.
+abbrev pub BookStep : BookState → Step × Answer → BookState → Type 0
+BookStep s (Step.Make name kind, Answer.Placed place) t = MakeAnswers s name kind (Ok place) t
+BookStep s (Step.Make name kind, Answer.Refused e) t = MakeAnswers s name kind (Err e) t
+BookStep s (Step.Enter n, Answer.Entered) t = EnterAnswers s n (Ok tt) t
+BookStep s (Step.Enter n, Answer.Refused e) t = EnterAnswers s n (Err e) t
+BookStep s (Step.Call n at call, Answer.Replied reply) t = CallAnswers s n at call (Ok reply) t
+BookStep s (Step.Call n at call, Answer.Refused e) t = CallAnswers s n at call (Err e) t
+BookStep s (Step.Commit n, Answer.Placed place) t = CommitAnswers s n (Ok place) t
+BookStep s (Step.Commit n, Answer.Refused e) t = CommitAnswers s n (Err e) t
+BookStep s (Step.Cut, Answer.Cut true) t = (block : Block) × Hands s block t
+BookStep s (Step.Cut, Answer.Cut false) t = HasNoCut s.pending × (t ≡ s)
+BookStep s (Step.Cut, Answer.Refused e) t = t ≡ s
+BookStep s (Step.Draw, Answer.Drawn n) t = t ≡ s
+BookStep s (Step.Draw, Answer.Refused e) t = t ≡ s
+BookStep s (Step.Turn, Answer.Turned turn) t = t ≡ s
+BookStep s (Step.Turn, Answer.Refused e) t = t ≡ s
+BookStep s (Step.Look, Answer.Marked mark) t = t ≡ s
+-- no step has another answer
+BookStep s x t = ⊥
+
+-- The steps with their answers are those of a book of one thread, from one state to another.
+abbrev pub IsLegal : BookState → Past → BookState → Type 0
+IsLegal s past t = Leads BookStep past s t
+
+-- A step other than a turn, with its answer, leads a book and the blocks in transit on; the mark is the one that a look answers.
+abbrev pub CoreStep : BookState → List Block → ℕ → Step × Answer → BookState → List Block → Type 0
+CoreStep s waiting mark (Step.Cut, Answer.Cut true) t waits = (block : Block) × Hands s block t × (waits ≡ waiting ++ block ∷ [])
+CoreStep s waiting mark (Step.Look, Answer.Marked m) t waits = (t ≡ s) × (m ≡ mark) × (waits ≡ waiting)
+CoreStep s waiting mark (Step.Turn, a) t waits = ⊥
+CoreStep s waiting mark x t waits = BookStep s x t × (waits ≡ waiting)
+
+-- A draw gives the next number, and none gives it again; from 2 ^ 61 on it is refused. No other step draws.
+abbrev pub IsDraw : ℕ → Answer → ℕ → Type 0
+IsDraw next (Answer.Drawn n) after = (n ≡ next) × (n < 2 ^ 61) × (after ≡ next + 1)
+IsDraw next (Answer.Refused Refusal.Worn) after = (2 ^ 61 ≤ next) × (after ≡ next)
+IsDraw next a after = ⊥
+
+abbrev pub Draws : ℕ → Step × Answer → ℕ → Type 0
+Draws next (Step.Draw, a) after = IsDraw next a after
+Draws next x after = after ≡ next
+
+-- how a turn's result stands in a past
+abbrev pub turn_answer : Result Turn Refusal → Answer
+turn_answer (Ok turn) = Answer.Turned turn
+turn_answer (Err e) = Answer.Refused e

@@ -1,0 +1,93 @@
+// Why a command was not done.
+ghost use Rattle.std.specs.Prelude.{◌≡◌};
+
+use crate::script::ScriptError;
+use calls::Refusal;
+use std::alloc::AllocError;
+use std::{fmt, io};
+
+/// Why a command was not done. Its text begins with the program's name; that of `Unwritten` is empty.
+#[derive(Clone, Copy, Debug, PartialEq, Eq)]
+pub enum Failure<'a> {
+    /// The store refused, and no line of a script answers for it.
+    Refused(Refusal),
+    /// The number of the first line of the script that is not understood.
+    NotUnderstood(u64),
+    /// The path of a file that cannot be opened, made or read.
+    CannotOpen(&'a str),
+    /// Output could not be written.
+    Unwritten,
+}
+
+impl Failure<'_> {
+    ghost use Rattle.boost.specs.Commands.{status_of};
+
+    /// The status with which the program ends: 1, 3, or 4 for the last two.
+    pub fn status(&self) -> u8
+        ensures { result ≡ status_of self.now }
+    {
+        match self {
+            Failure::Refused(_) => 1,
+            Failure::NotUnderstood(_) => 3,
+            Failure::CannotOpen(_) | Failure::Unwritten => 4,
+        }
+    }
+}
+
+impl fmt::Display for Failure<'_> {
+    fn fmt<W: fmt::Write>(&self, f: &mut fmt::Formatter<W>) -> fmt::Result {
+        match self {
+            Failure::Refused(refusal) => {
+                let number = refusal.number();
+                write!(f, "boost: refused {number} {refusal}")
+            }
+            Failure::NotUnderstood(line) => write!(f, "boost: line {line}: not understood"),
+            Failure::CannotOpen(path) => write!(f, "boost: cannot open {path}"),
+            Failure::Unwritten => Ok(()),
+        }
+    }
+}
+
+impl From<Refusal> for Failure<'_> {
+    ghost use Rattle.boost.specs.declared.commands.failure.Failure.{Failure};
+
+    ghost from_gives = { λ refusal failure. failure ≡ Failure.Refused refusal };
+
+    fn from(refusal: Refusal) -> Self {
+        Failure::Refused(refusal)
+    }
+}
+
+impl From<AllocError> for Failure<'_> {
+    ghost use Rattle.boost.specs.declared.commands.failure.Failure.{Failure};
+    ghost use Rattle.calls.specs.declared.refusal.Refusal.{Refusal};
+
+    ghost from_gives = { λ _ failure. failure ≡ Failure.Refused Refusal.NoMemory };
+
+    fn from(_error: AllocError) -> Self {
+        Failure::Refused(Refusal::NoMemory)
+    }
+}
+
+impl From<ScriptError> for Failure<'_> {
+    ghost use Rattle.boost.specs.Failures.{failure_of};
+
+    ghost from_gives = { λ error failure. failure ≡ failure_of error };
+
+    fn from(error: ScriptError) -> Self {
+        match error {
+            ScriptError::NotUnderstood(line) => Failure::NotUnderstood(line),
+            ScriptError::NoMemory => Failure::Refused(Refusal::NoMemory),
+        }
+    }
+}
+
+impl From<io::Error> for Failure<'_> {
+    ghost use Rattle.boost.specs.declared.commands.failure.Failure.{Failure};
+
+    ghost from_gives = { λ _ failure. failure ≡ Failure.Unwritten };
+
+    fn from(_error: io::Error) -> Self {
+        Failure::Unwritten
+    }
+}

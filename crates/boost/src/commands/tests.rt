@@ -1,0 +1,125 @@
+// What runs answer, on disks in memory and on files.
+mod any_disks;
+mod bad_scripts;
+mod files;
+mod rows;
+mod stops;
+
+use super::*;
+use std::process::Abort;
+use std::test::Fail;
+
+// The size of a disk with two of the least areas.
+const SIZE: u64 = 135_168;
+
+// A script that makes a counter, bumps it and commits.
+const HITS: &[u8] =
+    b"c1 make counter hits\nc1 begin\nc1 call hits bump 1\nc1 commit\nc1 kept\nturn\nc1 kept\nturn\n";
+
+// What it prints, and what its store shows.
+const HITS_SAYS: &str =
+    "1: place 1\n2: begun 1\n3: done\n4: place 2\n5: not yet\n6: kept 2\n7: kept\n8: idle\n";
+
+const HITS_SHOWN: &str = "counter hits\n  1\n";
+
+// A run's status, what it printed, and its disk.
+#[derive(Drop)]
+struct Ran {
+    status: u8,
+    out: Vec<u8>,
+    err: Vec<u8>,
+    disk: MemDisk,
+}
+
+impl Ran {
+    fn out(&self) -> &str {
+        text(&self.out)
+    }
+
+    fn err(&self) -> &str {
+        text(&self.err)
+    }
+}
+
+fn text(bytes: &Vec<u8>) -> &str {
+    std::str::from_utf8(bytes.as_slice()).unwrap_or("no text")
+}
+
+fn run_on(alloc: Global, task: &Task, disk: MemDisk, script: &[u8]) -> Ran {
+    let mut out = Vec::new(alloc);
+    let mut err = Vec::new(alloc);
+    let (status, disk) = run(alloc, task, disk, script, &mut out, &mut err);
+    Ran {
+        status,
+        out,
+        err,
+        disk,
+    }
+}
+
+fn format_on(alloc: Global, disk: MemDisk) -> Ran {
+    let task = Task::Format {
+        disk: String::new(alloc),
+        area: MIN_AREA,
+    };
+    run_on(alloc, &task, disk, &[])
+}
+
+fn play_on(alloc: Global, disk: MemDisk, script: &[u8]) -> Ran {
+    let task = Task::Play {
+        disk: String::new(alloc),
+        script: String::new(alloc),
+    };
+    run_on(alloc, &task, disk, script)
+}
+
+fn show_on(alloc: Global, disk: MemDisk) -> Ran {
+    let task = Task::Show {
+        disk: String::new(alloc),
+    };
+    run_on(alloc, &task, disk, &[])
+}
+
+// A disk that was formatted.
+fn fresh(alloc: Global) -> Result<MemDisk, Fail> {
+    Ok(format_on(alloc, MemDisk::new(alloc, SIZE)?).disk)
+}
+
+// The bytes of a disk from one place on.
+fn bytes_at(
+    rt: &(impl AllocGlobal + Abort),
+    disk: &mut MemDisk,
+    at: u64,
+    n: usize,
+) -> Result<Vec<u8>, Fail> {
+    let mut bytes = vec![in rt.alloc(); 0; n]?;
+    assert!(rt; at <= disk.size() && n as u64 <= disk.size() - at);
+    assert!(rt; disk.read_at(at, &mut bytes).is_ok());
+    Ok(bytes)
+}
+
+fn write_at(rt: &(impl AllocGlobal + Abort), disk: &mut MemDisk, at: u64, bytes: &[u8]) {
+    assert!(rt; at <= disk.size() && bytes.len() as u64 <= disk.size() - at);
+    assert!(rt; disk.write_at(at, bytes).is_ok());
+}
+
+// Numbers that look like chance, the same at each run.
+#[derive(Drop)]
+struct Numbers {
+    state: u64,
+}
+
+impl Numbers {
+    // A number below this one, which is not 0.
+    fn below(&mut self, end: u64) -> u64 {
+        self.state = self
+            .state
+            .wrapping_mul(6_364_136_223_846_793_005)
+            .wrapping_add(1_442_695_040_888_963_407);
+        (self.state >> 33) % end.max(1)
+    }
+
+    fn byte(&mut self) -> u8 {
+        (self.below(256) % 256) as u8
+    }
+}

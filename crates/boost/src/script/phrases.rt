@@ -1,0 +1,82 @@
+// What a line asks for.
+ghost use Rattle.std.specs.Prelude.{◌≡◌, ℕ, ℤ, ◌++◌, ◌∷◌, List, IfOk, MatchOption, codes};
+ghost use Rattle.calls.specs.declared.kind.Kind.{Kind};
+ghost use Rattle.calls.specs.declared.call.Call.{Call};
+ghost use Rattle.boost.specs.declared.script.action.Request.{Request};
+ghost use Rattle.boost.specs.declared.script.action.Action.{Action};
+ghost use Rattle.boost.specs.ScriptTexts.{IsWord, IsRequestOf, IsLineOf, IsCallOf, CanBeCalled, call_text};
+
+use crate::script::action::{Action, Request};
+use crate::script::words::{behind, number, same, split_at_byte, word};
+use calls::{Call, Kind};
+use std::alloc::{AllocError, Global};
+
+// The call that the text asks for.
+fn call(alloc: Global, text: &[u8]) -> Result<Option<Call>, AllocError>
+    ensures { IfOk result (λ found. MatchOption found ((c : Call) → CanBeCalled c → text.now ≡ call_text c → ⊥) (λ c. CanBeCalled c × (text.now ≡ call_text c))) }
+{
+    let Some(rest) = behind(text, b"bump ") else {
+        return Ok(None);
+    };
+    match number(alloc, rest)? {
+        Some(n) => Ok(Some(Call::Bump(n))),
+        None => Ok(None),
+    }
+}
+
+// What stands behind the word call.
+fn called(alloc: Global, text: &[u8]) -> Result<Option<Request>, AllocError>
+    ensures { IfOk result (λ found. MatchOption found ((r : Request) → IsCallOf r text.now → ⊥) (λ r. IsCallOf r text.now)) }
+{
+    let Some((front, back)) = split_at_byte(text, b' ') else {
+        return Ok(None);
+    };
+    let Some(name) = word(alloc, front)? else {
+        return Ok(None);
+    };
+    match call(alloc, back)? {
+        Some(asked) => Ok(Some(Request::Call(name, asked))),
+        None => Ok(None),
+    }
+}
+
+// What a client asks for.
+fn request(alloc: Global, text: &[u8]) -> Result<Option<Request>, AllocError>
+    ensures { IfOk result (λ found. MatchOption found ((r : Request) → IsRequestOf r text.now → ⊥) (λ r. IsRequestOf r text.now)) }
+{
+    if same(text, b"begin") {
+        return Ok(Some(Request::Begin));
+    }
+    if same(text, b"commit") {
+        return Ok(Some(Request::Commit));
+    }
+    if same(text, b"kept") {
+        return Ok(Some(Request::Kept));
+    }
+    if let Some(rest) = behind(text, b"call ") {
+        return called(alloc, rest);
+    }
+    let Some(rest) = behind(text, b"make counter ") else {
+        return Ok(None);
+    };
+    match word(alloc, rest)? {
+        Some(name) => Ok(Some(Request::Make(Kind::Counter, name))),
+        None => Ok(None),
+    }
+}
+
+// What a line asks for.
+pub fn action(alloc: Global, line: &[u8]) -> Result<Option<Action>, AllocError>
+    ensures { IfOk result (λ found. MatchOption found ((a : Action) → IsLineOf a line.now → ⊥) (λ a. IsLineOf a line.now)) }
+{
+    if same(line, b"turn") {
+        return Ok(Some(Action::Turn));
+    }
+    let Some(rest) = behind(line, b"c1 ") else {
+        return Ok(None);
+    };
+    match request(alloc, rest)? {
+        Some(asked) => Ok(Some(Action::Client(1, asked))),
+        None => Ok(None),
+    }
+}
