@@ -21,3 +21,5 @@ pub mod ArgumentNumbers
 pub mod ScriptLines
 pub mod ScriptPhrases
 pub mod ScriptWords
+pub mod ContentLemmas
+pub mod FormatLemmas

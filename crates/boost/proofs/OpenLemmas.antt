@@ -2,7 +2,7 @@
 use Rattle.std.proofs.Common.{◌≡◌, ◌≢◌, ◌⊎◌, inl, inr, ℕ, zero, suc, ◌+◌, ◌-◌, ◌^◌, ◌<◌, ◌≤◌, List, [], ◌∷◌, ◌++◌, length, take, drop, get_or, map, refl, sym, ◌∙◌, ap, subst, arith, append_assoc, length-drop, take-append-drop, Bool, false, true≢false, Option, None, Some, Result, Ok, Err, MatchOption, Vec}
 use Rattle.std.specs.declared.alloc.Global.{Global}
 use Rattle.calls.specs.declared.refusal.Refusal.{Refusal}
-use Rattle.std.proofs.lemmas.List.{append-nil, drop-drop, map-append, length-take-le, at_drop_more, take-take, get_or-take, drop-take}
+use Rattle.std.proofs.lemmas.List.{append-nil, drop-drop, map-append, length-take-le, at_drop_more, take-take, get_or-take, get_or-drop, drop-take}
 use Rattle.std.specs.Int.{w64, to_be_bytes}
 use Rattle.std.specs.Option.{ok_or, IfNone}
 use Rattle.std.specs.Result.{IfErr, OnOk, is_err}
@@ -14,23 +14,24 @@ use Rattle.disk_model.proofs.Walk.{reads_on as read_twice}
 use Rattle.gate_block.specs.Row.{block, row, IsBody, IsRow, StandsAt, IsBroken, Finds, part}
 use Rattle.gate_block.specs.Answers.{IsNextAnswer}
 use Rattle.gate_block.proofs.Facts.{ready, length-row_add, row-append, next_is, none_is_next, not_broken}
+use Rattle.gate_block.proofs.Unique.{first_block}
 use Rattle.gate_block.specs.declared.area.Area.{Area}
 use Rattle.gate_block.specs.Area.{base_of, size_of, position_of, has_failed, bytes_of, body_in, IsDamage}
 use Rattle.boost.specs.declared.records.record.Record.{Record}
 use Rattle.boost.specs.Records.{spelling, Fits, IsRecord, IsOfStage}
 use Rattle.boost.proofs.RecordUnique.{read_of_stage, same_records}
 use Rattle.boost.specs.declared.repetition.Part.{Part}
-use Rattle.boost.specs.Machine.{State, Steps, Repeats}
+use Rattle.boost.specs.Machine.{State, Live, Steps, Repeats}
 use Rattle.boost.specs.Books.{BookState, opened}
 use Rattle.boost.specs.Journals.{IsHeader, IsSound, base_in_use, records_in, empty_state}
 use Rattle.boost.specs.Repetitions.{AreRead, Reached, IsAccepted, IsDamageOr, next_from}
-use Rattle.boost.specs.Openings.{Loaded, AreSound, IsLoadRefusal, IsHead, IsHeadRefusal, IsOpened, IsOpenRefusal}
+use Rattle.boost.specs.Openings.{Loaded, AreSound, IsFirstFault, IsSpoilt, IsDamagedAt, IsLoadRefusal, IsHead, IsHeadRefusal, IsOpened, IsOpenRefusal}
 use Rattle.boost.specs.declared.block.Block.{Block}
 use Rattle.boost.specs.Keepers.{IsFresh}
 use Rattle.boost.specs.Worlds.{IsBase, IsHeaded, HasPast, parts_of}
 use Rattle.boost.proofs.YieldLemmas.{holds_row, yields}
 use Rattle.boost.specs.RecordReading.{IsRead}
-use Rattle.boost.proofs.Lists.{flat_map-append}
+use Rattle.boost.proofs.Lists.{leads_append, flat_map-append, all_append, all_first, all_last, upto_or}
 
 -- What was read of the area's bytes, up to its next gate.
 pub record HasRead (bytes : List ℕ) (position : ℕ) (part : Part) (s : State) (next : ℕ) : Type 0 where
@@ -53,19 +54,11 @@ nothing_read bytes position part s next none reached = record {
   only = λ others read is. (others, refl);
 }
 
-all_both : {X : Type 0} (P : X → Type 0) (xs ys : List X) → AllByRecursion P xs → AllByRecursion P ys → AllByRecursion P (xs ++ ys)
-all_both P [] ys a b = b
-all_both P (x ∷ xs) ys a b = (a.0, all_both P xs ys a.1 b)
-
-all_behind : {X : Type 0} (P : X → Type 0) (xs ys : List X) → AllByRecursion P (xs ++ ys) → AllByRecursion P ys
-all_behind P [] ys a = a
-all_behind P (x ∷ xs) ys a = all_behind P xs ys a.1
-
 pub records_in-append : (front back : List (List Record)) → records_in (front ++ back) ≡ records_in front ++ records_in back
 records_in-append front back = flat_map-append (λ rs. rs) front back
 
 -- records of one spelling are the same
-read_all : (rs : List Record) → AreRead rs → AllByRecursion (λ r. Fits r × IsRead r) rs
+pub read_all : (rs : List Record) → AreRead rs → AllByRecursion (λ r. Fits r × IsRead r) rs
 read_all [] read = tt
 read_all (r ∷ rs) read = (read_of_stage r read.0.0 read.0.1, read_all rs read.1)
 
@@ -89,7 +82,7 @@ pub next_group : (blocks others : List (List Record)) (bytes body : List ℕ) (p
 next_group blocks others bytes body position here read is rest split stands =
     let parts : map spelling others ≡ map spelling blocks ++ map spelling rest = ap (map spelling) split ∙ map-append spelling blocks rest in
     let next = next_is (map spelling blocks) (map spelling rest) bytes position body here (subst (λ l. IsRow l bytes) parts is) stands in
-    first_left rest body next.0 (all_behind AreRead blocks rest (subst (AllByRecursion AreRead) split read)) next.1
+    first_left rest body next.0 (all_last AreRead blocks rest (subst (AllByRecursion AreRead) split read)) next.1
 
 -- one block more
 pub reads_on : (bytes body : List ℕ) (position after : ℕ) (part now : Part) (s t : State) (next above : ℕ) → HasRead bytes position part s next → StandsAt bytes position body → after ≡ position + 5 + length body
@@ -108,17 +101,70 @@ reads_on bytes body position after part now s t next above so_far stands after_i
     ∙ ap (λ l. block body ++ l) (drop-drop size position bytes ∙ ap (λ n. drop n bytes) (omega (arith, after_is))) in
     record {
       blocks = blocks;
-      read = all_both AreRead so_far.blocks (group ∷ []) so_far.read (found.1, tt);
+      read = all_append AreRead so_far.blocks (group ∷ []) so_far.read (found.1, tt);
       reached = subst (λ l. Reached l now t above) (sym (records_in-append so_far.blocks (group ∷ []) ∙ ap (λ l. records_in so_far.blocks ++ l) (append-nil group))) found.3;
       position_is = omega (arith, after_is, so_far.position_is, length-row_add (map spelling so_far.blocks) body, ap (λ l. length (row l)) mapped);
       stood = so_far.stood ∙ ap (λ l. row (map spelling so_far.blocks) ++ l) behind ∙ sym (append_assoc (row (map spelling so_far.blocks)) (block body) (drop after bytes)) ∙ ap (λ l. l ++ drop after bytes) (sym rows);
-      bodies = subst (AllByRecursion IsBody) (sym mapped) (all_both IsBody (map spelling so_far.blocks) (body ∷ []) so_far.bodies (stands.fits, tt));
+      bodies = subst (AllByRecursion IsBody) (sym mapped) (all_append IsBody (map spelling so_far.blocks) (body ∷ []) so_far.bodies (stands.fits, tt));
       only = λ others read is.
           let rest = so_far.only others read is in
           let g = next_group so_far.blocks others bytes body position so_far.position_is read is rest.0 rest.1 stands in
           let same : g.0 ≡ group = one_group g.0 group g.4 found.1 (g.3 ∙ sym spelled_is) in
           (g.1, rest.1 ∙ ap (λ l. so_far.blocks ++ l) (g.2 ∙ ap (λ x. x ∷ g.1) same) ∙ sym (append_assoc so_far.blocks (group ∷ []) g.1));
     }
+
+-- ---- the first fault
+
+-- where a block stands, the gate is open
+gate_open : (bytes body : List ℕ) (p : ℕ) → StandsAt bytes p body → get_or bytes p 0 ≡ 167
+gate_open bytes body p stands =
+    ap (λ n. get_or bytes n 0) (omega arith) ∙ sym (get_or-drop p bytes 0 0) ∙ sym (get_or-take (5 + length body) (drop p bytes) 0 0 (omega arith)) ∙ ap (λ l. get_or l 0 0) stands.is
+
+-- one block at most stands at a place
+one_body : (bytes b c : List ℕ) (p : ℕ) → StandsAt bytes p b → StandsAt bytes p c → b ≡ c
+one_body bytes b c p first second =
+    let split : (body : List ℕ) → StandsAt bytes p body → drop p bytes ≡ block body ++ drop (5 + length body) (drop p bytes) =
+    λ body stands. sym (take-append-drop (5 + length body) (drop p bytes)) ∙ ap (λ l. l ++ drop (5 + length body) (drop p bytes)) stands.is in
+    (first_block b c (drop (5 + length b) (drop p bytes)) (drop (5 + length c) (drop p bytes)) first.fits second.fits (sym (split b first) ∙ split c second)).0
+
+-- a commit leaves no transaction live
+to_idle : (live : Option Live) (s : State) → s.live ≡ live → (more : List Record) × (t : State) × Repeats more s t × (t.live ≡ None)
+to_idle None s is = ([], s, refl, is)
+to_idle (Some l) s is =
+    let t : State = record { now = s.now; live = None; wear = s.wear } in
+    (Record.Commit l.number ∷ [], t, (t, record { can = (l.calls, is); is = refl }, refl), refl)
+
+-- records so far begin some that are accepted
+begins_some : (rs : List Record) (part : Part) (s : State) (next : ℕ) → Reached rs part s next → (more : List Record) × IsAccepted (rs ++ more)
+begins_some rs Part.Marks s next reached = (Record.Marks 1 0 ∷ (Record.ImageEnd ∷ []), record { journal = []; is = ap (λ l. l ++ Record.Marks 1 0 ∷ (Record.ImageEnd ∷ [])) reached.0; end = empty_state; repeats = refl; idle = refl })
+begins_some rs Part.End s next reached = (Record.ImageEnd ∷ [], record { journal = []; is = ap (λ l. l ++ Record.ImageEnd ∷ []) reached.0; end = empty_state; repeats = refl; idle = refl })
+begins_some rs Part.Journal s next reached =
+    let end = to_idle s.live s refl in (
+      end.0,
+      record {
+        journal = reached.0 ++ end.0;
+        is = ap (λ l. l ++ end.0) reached.1;
+        end = end.1;
+        repeats = leads_append Steps reached.0 end.0 empty_state s end.1 reached.2 end.2;
+        idle = end.3;
+      },
+    )
+
+-- the first fault, where no block goes on and no end is right
+first_fault : (base : ℕ) (bytes : List ℕ) (position place : ℕ) (part : Part) (s : State) (next : ℕ) → HasRead bytes position part s next → place ≡ base + position
+    → ((rs group more : List Record) → Reached rs part s next → AreRead group → StandsAt bytes position (spelling group) → IsAccepted (rs ++ (group ++ more)) → ⊥)
+    → (get_or bytes position 0 ≢ 167 → (rs : List Record) → Reached rs part s next → IsAccepted rs → ⊥) → IsFirstFault base bytes place
+first_fault base bytes position place part s next so_far place_is no_block no_end = record {
+  blocks = so_far.blocks;
+  read = so_far.read;
+  position = position;
+  behind = so_far.position_is;
+  stood = so_far.stood;
+  place_is = place_is;
+  begins = begins_some (records_in so_far.blocks) part s next so_far.reached;
+  no_block = λ group more read stands accepted. no_block (records_in so_far.blocks) group more so_far.reached read stands accepted;
+  no_end = λ closed accepted. no_end closed (records_in so_far.blocks) so_far.reached accepted;
+}
 
 -- ---- refusals
 
@@ -199,15 +245,6 @@ pub record IsLoading {D : Type 0} (seen : D → List ℕ) (may_leave : D → Lis
   pub place_is : place ≡ base + position_of area
   pub has_read : is_honest new → HasRead (part base size (seen old)) (position_of area) part_now s next
 
-upto_or : (a b : ℕ) → (a ≤ b) ⊎ (b < a)
-upto_or zero b = inl (omega arith)
-upto_or (suc a) zero = inr (omega arith)
-upto_or (suc a) (suc b) =
-    elim (upto_or a b) [
-      | inl le ↦ inl (omega (arith, le))
-      | inr lt ↦ inr (omega (arith, lt))
-    ]
-
 -- a count that rose since a moment rose since an earlier one
 pub rises_before : (a b c : ℕ) → a ≤ b → b ≤ c → Rises b c → Rises a c
 rises_before a b c early late rises =
@@ -216,22 +253,22 @@ rises_before a b c early late rises =
       | inr under ↦ omega (arith, early, rises under)
     ]
 
-next_refusal : (T : Type 0) (before after : Bool) (risen rises unsound : Type 0) (is_damaged : ℕ → Type 0) (e : Refusal) → before ≡ false → (risen → rises) → ((place : ℕ) → is_damaged place → unsound)
-    → IsNextAnswer {T = T} before after risen is_damaged (Err e) → IsLoadRefusal rises unsound e
-next_refusal T before after risen rises unsound is_damaged Refusal.NoMemory fine f g answer = tt
-next_refusal T before after risen rises unsound is_damaged Refusal.Fault fine f g answer = f answer.2
-next_refusal T before after risen rises unsound is_damaged (Refusal.Damaged place) fine f g answer = g place answer.2
-next_refusal T before after risen rises unsound is_damaged Refusal.Failed fine f g answer = absurd (true≢false (sym answer.0 ∙ fine))
-next_refusal T before after risen rises unsound is_damaged e fine f g answer = absurd answer
+next_refusal : (T : Type 0) (before after : Bool) (risen rises : Type 0) (is_damaged spoils : ℕ → Type 0) (e : Refusal) → before ≡ false → (risen → rises) → ((place : ℕ) → is_damaged place → spoils place)
+    → IsNextAnswer {T = T} before after risen is_damaged (Err e) → IsLoadRefusal rises spoils e
+next_refusal T before after risen rises is_damaged spoils Refusal.NoMemory fine f g answer = tt
+next_refusal T before after risen rises is_damaged spoils Refusal.Fault fine f g answer = f answer.2
+next_refusal T before after risen rises is_damaged spoils (Refusal.Damaged place) fine f g answer = g place answer.2
+next_refusal T before after risen rises is_damaged spoils Refusal.Failed fine f g answer = absurd (true≢false (sym answer.0 ∙ fine))
+next_refusal T before after risen rises is_damaged spoils e fine f g answer = absurd answer
 
-damage_refusal : (place : ℕ) (damaged rises unsound : Type 0) (e : Refusal) → (damaged → unsound) → IsDamageOr place damaged e → IsLoadRefusal rises unsound e
-damage_refusal place damaged rises unsound Refusal.NoMemory f d = tt
-damage_refusal place damaged rises unsound (Refusal.Damaged p) f d = f d.1
-damage_refusal place damaged rises unsound e f d = absurd d
+damage_refusal : (place : ℕ) (damaged rises : Type 0) (spoils : ℕ → Type 0) (e : Refusal) → (damaged → spoils place) → IsDamageOr place damaged e → IsLoadRefusal rises spoils e
+damage_refusal place damaged rises spoils Refusal.NoMemory f d = tt
+damage_refusal place damaged rises spoils (Refusal.Damaged p) f d = subst spoils (sym d.0) (f d.1)
+damage_refusal place damaged rises spoils e f d = absurd d
 
--- No sound blocks stand there.
-abbrev pub Unsound : Type 0 → ℕ → ℕ → List ℕ → Type 0
-Unsound is_honest base size bytes = is_honest → (blocks : List (List Record)) → AreSound base size bytes blocks → ⊥
+-- Where the disk read true, the area is spoilt at that place.
+abbrev pub Spoils : Type 0 → ℕ → ℕ → List ℕ → ℕ → Type 0
+Spoils is_honest base size bytes place = is_honest → IsSpoilt base size bytes place
 
 -- a closed gate, where no block was found
 closed_gate : (found : Option (Vec ℕ Global)) (bytes : List ℕ) (p : ℕ) → ((v : Vec ℕ Global) → found ≡ Some v → ⊥) → Finds bytes p (body_in found) → get_or bytes p 0 ≢ 167
@@ -248,21 +285,35 @@ module _ {D : Type 0} {seen : D → List ℕ} {may_leave : D → List ℕ → Ty
   bytes_same : bytes_of area (seen mid) ≡ part base size (seen old)
   bytes_same = ap (λ b. part b (size_of area) (seen mid)) l.base_is ∙ ap (λ n. part base n (seen mid)) l.size_is ∙ ap (part base size) l.reads.same
 
+  -- of what was read, where the disk reads true to the end
+  so_far : is_honest new → HasRead (part base size (seen old)) (position_of area) part_now s next
+  so_far true_read = l.has_read (honest true_read)
+
   pub gate_refused : (T : Type 0) (after : Bool) (e : Refusal) → IsNextAnswer {T = T} (has_failed area) after (Rises (fault_count mid) (fault_count new)) (IsDamage (is_honest new) area (seen mid)) (Err e)
-      → IsLoadRefusal (Rises (fault_count old) (fault_count new)) (Unsound (is_honest new) base size (seen old)) e
+      → IsLoadRefusal (Rises (fault_count old) (fault_count new)) (Spoils (is_honest new) base size (seen old)) e
   gate_refused T after e answer =
-      next_refusal T (has_failed area) after _ _ _ (IsDamage (is_honest new) area (seen mid)) e l.fine (rises_before (fault_count old) (fault_count mid) (fault_count new) l.faults faults)
-      (λ p damage true_read blocks sound.
-      broken_is_refused _ _ _ _ _ (l.has_read (honest true_read)) (subst (λ b. IsBroken b (position_of area)) bytes_same (damage.broken true_read)) blocks sound.read sound.row_is)
+      next_refusal T (has_failed area) after _ _ (IsDamage (is_honest new) area (seen mid)) _ e l.fine (rises_before (fault_count old) (fault_count mid) (fault_count new) l.faults faults)
+      (λ p damage true_read.
+      let broken : IsBroken (part base size (seen old)) (position_of area) = subst (λ b. IsBroken b (position_of area)) bytes_same (damage.broken true_read) in
+      record {
+        fault = first_fault base (part base size (seen old)) (position_of area) p part_now s next (so_far true_read) (damage.here ∙ ap (λ b. b + position_of area) l.base_is)
+            (λ rs group more reached read stands accepted. broken.no_block (spelling group) stands) (λ closed rs reached accepted. closed broken.opened);
+        unsound = λ blocks sound. broken_is_refused _ _ _ _ _ (so_far true_read) broken blocks sound.read sound.row_is;
+      })
       answer
 
-  pub body_refused : (at : ℕ) (body : List ℕ) (e : Refusal) → (is_honest new → StandsAt (bytes_of area (seen mid)) (position_of area) body)
-      → IsDamageOr at ((rs group more : List Record) → Reached rs part_now s next → AreRead group → body ≡ spelling group → IsAccepted (rs ++ (group ++ more)) → ⊥) e
-      → IsLoadRefusal (Rises (fault_count old) (fault_count new)) (Unsound (is_honest new) base size (seen old)) e
-  body_refused at body e stands damage =
-      damage_refusal at _ _ _ e
-      (λ refuses true_read blocks sound.
-      refused_body (part base size (seen old)) body (position_of area) part_now s next (l.has_read (honest true_read)) (subst (λ b. StandsAt b (position_of area) body) bytes_same (stands true_read)) refuses blocks sound.read sound.row_is sound.accepted)
+  pub body_refused : (body : List ℕ) (e : Refusal) → (is_honest new → StandsAt (bytes_of area (seen mid)) (position_of area) body)
+      → IsDamageOr place ((rs group more : List Record) → Reached rs part_now s next → AreRead group → body ≡ spelling group → IsAccepted (rs ++ (group ++ more)) → ⊥) e
+      → IsLoadRefusal (Rises (fault_count old) (fault_count new)) (Spoils (is_honest new) base size (seen old)) e
+  body_refused body e stands damage =
+      damage_refusal place _ _ (Spoils (is_honest new) base size (seen old)) e
+      (λ refuses true_read.
+      let stood : StandsAt (part base size (seen old)) (position_of area) body = subst (λ b. StandsAt b (position_of area) body) bytes_same (stands true_read) in
+      record {
+        fault = first_fault base (part base size (seen old)) (position_of area) place part_now s next (so_far true_read) l.place_is
+            (λ rs group more reached read there accepted. refuses rs group more reached read (one_body _ body (spelling group) (position_of area) stood there) accepted) (λ closed rs reached accepted. closed (gate_open _ body (position_of area) stood));
+        unsound = λ blocks sound. refused_body (part base size (seen old)) body (position_of area) part_now s next (so_far true_read) stood refuses blocks sound.read sound.row_is sound.accepted;
+      })
       damage
 
   pub loads_on : (after : Area) (body : List ℕ) (then_at above later : ℕ) (now : Part) (t : State) → (is_honest new → StandsAt (bytes_of area (seen mid)) (position_of area) body)
@@ -280,14 +331,19 @@ module _ {D : Type 0} {seen : D → List ℕ} {may_leave : D → List ℕ → Ty
     has_read = λ true_read. reads_on (part base size (seen old)) body (position_of area) (position_of after) part_now now s t next above (l.has_read (honest true_read)) (subst (λ b. StandsAt b (position_of area) body) bytes_same (stands true_read)) position_is repeats;
   }
 
-  pub end_refused : (at : ℕ) (found : Option (Vec ℕ Global)) (e : Refusal) → ((v : Vec ℕ Global) → found ≡ Some v → ⊥) → (is_honest new → Finds (bytes_of area (seen mid)) (position_of area) (body_in found))
-      → IsDamageOr at ((rs : List Record) → Reached rs part_now s next → IsAccepted rs → ⊥) e
-      → IsLoadRefusal (Rises (fault_count old) (fault_count new)) (Unsound (is_honest new) base size (seen old)) e
-  end_refused at found e none finds damage =
-      damage_refusal at _ _ _ e
-      (λ refuses true_read blocks sound.
-      refused_end (part base size (seen old)) (position_of area) part_now s next (l.has_read (honest true_read))
-      (subst (λ b. get_or b (position_of area) 0 ≢ 167) bytes_same (closed_gate found (bytes_of area (seen mid)) (position_of area) none (finds true_read))) refuses blocks sound.read sound.row_is sound.accepted)
+  pub end_refused : (found : Option (Vec ℕ Global)) (e : Refusal) → ((v : Vec ℕ Global) → found ≡ Some v → ⊥) → (is_honest new → Finds (bytes_of area (seen mid)) (position_of area) (body_in found))
+      → IsDamageOr place ((rs : List Record) → Reached rs part_now s next → IsAccepted rs → ⊥) e
+      → IsLoadRefusal (Rises (fault_count old) (fault_count new)) (Spoils (is_honest new) base size (seen old)) e
+  end_refused found e none finds damage =
+      damage_refusal place _ _ (Spoils (is_honest new) base size (seen old)) e
+      (λ refuses true_read.
+      let closed : get_or (part base size (seen old)) (position_of area) 0 ≢ 167 =
+      subst (λ b. get_or b (position_of area) 0 ≢ 167) bytes_same (closed_gate found (bytes_of area (seen mid)) (position_of area) none (finds true_read)) in
+      record {
+        fault = first_fault base (part base size (seen old)) (position_of area) place part_now s next (so_far true_read) l.place_is
+            (λ rs group more reached read there accepted. closed (gate_open _ (spelling group) (position_of area) there)) (λ shut rs reached accepted. refuses rs reached accepted);
+        unsound = λ blocks sound. refused_end (part base size (seen old)) (position_of area) part_now s next (so_far true_read) closed refuses blocks sound.read sound.row_is sound.accepted;
+      })
       damage
 
   pub loads : (after : Area) (found : Option (Vec ℕ Global)) (book : BookState) → ((v : Vec ℕ Global) → found ≡ Some v → ⊥) → (is_honest new → Finds (bytes_of area (seen mid)) (position_of area) (body_in found))
@@ -405,20 +461,16 @@ read_of_run : (rs : List Record) (s t : State) → Repeats rs s t → AllByRecur
 read_of_run [] s t run good = tt
 read_of_run (r ∷ rs) s t run good = ((good.0, stage_of r s run.0 run.1), read_of_run rs run.0 t run.2 good.1)
 
-all_front : {X : Type 0} (P : X → Type 0) (xs ys : List X) → AllByRecursion P (xs ++ ys) → AllByRecursion P xs
-all_front P [] ys a = tt
-all_front P (x ∷ xs) ys a = (a.0, all_front P xs ys a.1)
-
 by_block : (blocks : List (List Record)) → AreRead (records_in blocks) → AllByRecursion AreRead blocks
 by_block [] read = tt
-by_block (rs ∷ blocks) read = (all_front (λ r. IsRecord r × IsOfStage r) rs (records_in blocks) read, by_block blocks (all_behind (λ r. IsRecord r × IsOfStage r) rs (records_in blocks) read))
+by_block (rs ∷ blocks) read = (all_first (λ r. IsRecord r × IsOfStage r) rs (records_in blocks) read, by_block blocks (all_last (λ r. IsRecord r × IsOfStage r) rs (records_in blocks) read))
 
 read_sound : (rs : List Record) (journal : List Record) (end : State) → rs ≡ Record.Marks 1 0 ∷ (Record.ImageEnd ∷ journal) → AllByRecursion IsRecord rs → Repeats journal empty_state end → AreRead rs
 read_sound rs journal end is good run =
     let parts : AllByRecursion IsRecord (Record.Marks 1 0 ∷ (Record.ImageEnd ∷ journal)) = subst (AllByRecursion IsRecord) is good in
     subst AreRead (sym is) ((parts.0, tt), ((parts.1.0, tt), read_of_run journal empty_state end run parts.1.1))
 
-one_size : (n m : ℕ) (bytes : List ℕ) → IsHeader n bytes → IsHeader m bytes → n ≡ m
+pub one_size : (n m : ℕ) (bytes : List ℕ) → IsHeader n bytes → IsHeader m bytes → n ≡ m
 one_size n m bytes a b = omega (arith, a.whole, b.whole)
 
 -- sound bytes hold blocks that an opening takes
@@ -435,21 +487,26 @@ sound_blocks bytes size base header picks sound =
       },
     )
 
-pub head_open_refusal : (risen rises no_head unsound : Type 0) (e : Refusal) → (risen → rises) → IsHeadRefusal risen no_head e → IsOpenRefusal rises no_head unsound e
-head_open_refusal risen rises no_head unsound Refusal.Fault f why = f why
-head_open_refusal risen rises no_head unsound Refusal.NotAStore f why = why
-head_open_refusal risen rises no_head unsound e f why = absurd why
+pub head_open_refusal : (risen rises no_head : Type 0) (is_damaged : ℕ → Type 0) (e : Refusal) → (risen → rises) → IsHeadRefusal risen no_head e → IsOpenRefusal rises no_head is_damaged e
+head_open_refusal risen rises no_head is_damaged Refusal.Fault f why = f why
+head_open_refusal risen rises no_head is_damaged Refusal.NotAStore f why = why
+head_open_refusal risen rises no_head is_damaged e f why = absurd why
+
+-- an area in use that is spoilt
+spoilt_bytes : (bytes : List ℕ) (size base place : ℕ) → IsHeader size bytes → base ≡ base_in_use size bytes → IsSpoilt base size bytes place → IsDamagedAt bytes place
+spoilt_bytes bytes size base place header picks spoilt = record {
+  size = size;
+  header = header;
+  fault = subst (λ b. IsFirstFault b (part b size bytes) place) picks spoilt.fault;
+  unsound = λ sound. let taken = sound_blocks bytes size base header picks sound in spoilt.unsound taken.0 taken.1;
+}
 
 -- why a load was refused, as why the opening is
-pub load_open_refusal : (risen rises no_head is_honest : Type 0) (bytes : List ℕ) (size base : ℕ) (e : Refusal) → (risen → rises) → (is_honest → IsHeader size bytes × (base ≡ base_in_use size bytes)) → IsLoadRefusal risen (Unsound is_honest base size bytes) e
-    → IsOpenRefusal rises no_head (is_honest → IsSound bytes → ⊥) e
+pub load_open_refusal : (risen rises no_head is_honest : Type 0) (bytes : List ℕ) (size base : ℕ) (e : Refusal) → (risen → rises) → (is_honest → IsHeader size bytes × (base ≡ base_in_use size bytes)) → IsLoadRefusal risen (Spoils is_honest base size bytes) e
+    → IsOpenRefusal rises no_head (λ place. is_honest → IsDamagedAt bytes place) e
 load_open_refusal risen rises no_head is_honest bytes size base Refusal.NoMemory f header why = tt
 load_open_refusal risen rises no_head is_honest bytes size base Refusal.Fault f header why = f why
-load_open_refusal risen rises no_head is_honest bytes size base (Refusal.Damaged place) f header why =
-    λ true_read sound.
-    let h = header true_read in
-    let taken = sound_blocks bytes size base h.0 h.1 sound in
-    why true_read taken.0 taken.1
+load_open_refusal risen rises no_head is_honest bytes size base (Refusal.Damaged place) f header why = λ true_read. spoilt_bytes bytes size base place (header true_read).0 (header true_read).1 (why true_read)
 load_open_refusal risen rises no_head is_honest bytes size base e f header why = absurd why
 
 pub opened_here : (bytes : List ℕ) (book : BookState) (area : Area) (base size : ℕ) → IsHeader size bytes → base ≡ base_in_use size bytes → base_of area ≡ base → size_of area ≡ size → Loaded bytes book area → IsOpened bytes book area

@@ -9,7 +9,7 @@ use Rattle.boost.proofs.RecordLengths.{spelled-positive}
 use Rattle.std.specs.Int.{w32, to_be_bytes}
 use Rattle.gate_block.specs.Row.{IsBlockOf}
 use Rattle.boost.specs.Wholes.{body_of, IsWhole}
-use Rattle.boost.proofs.Lists.{flat_map-append}
+use Rattle.boost.proofs.Lists.{flat_map-append, upto_or}
 
 pub live_after-append : (xs ys : List Record) (live : Bool) → live_after live (xs ++ ys) ≡ live_after (live_after live xs) ys
 live_after-append [] ys live = refl
@@ -19,9 +19,6 @@ live_after-append (r ∷ xs) ys live = live_after-append xs ys live
 
 upto_next : (k i : ℕ) → k ≤ i + 1 → (k ≤ i) ⊎ (k ≡ i + 1)
 upto_next k i le = ⊎_elim (λ (lt : i < k). inr (omega (arith, le, lt))) inl (cases_lt i k)
-
-upto_or : (k i : ℕ) → (k ≤ i) ⊎ (i + 1 ≤ k)
-upto_or k i = ⊎_elim (λ (lt : i < k). inr (omega (arith, lt))) inl (cases_lt i k)
 
 -- a longer beginning is a shorter one and more
 front : (xs : List Record) (i k : ℕ) → i ≤ k → take k xs ≡ take i xs ++ drop i (take k xs)
@@ -102,7 +99,7 @@ spelled_end pending bytes count end j are le inside whole end_is short most =
 -- no more can be a block, where the next record makes them too long, or where there is none
 pub none_longer : (pending : List Record) (count i : ℕ) → ((k : ℕ) → count < k → k ≤ i → live_after false (take k pending) ≡ true) → 65535 < length (spelling (take (i + 1) pending)) → (k : ℕ) → count < k → IsCut (take k pending) → ⊥
 none_longer pending count i none long k above cut =
-    ⊎_elim (λ below. true≢false (sym (none k above below) ∙ cut.whole)) (λ over. absurd (omega (arith, longer pending (i + 1) k over, cut.short, long))) (upto_or k i)
+    ⊎_elim (λ below. true≢false (sym (none k above below) ∙ cut.whole)) (λ over. absurd (omega (arith, longer pending (i + 1) k (omega (arith, over)), cut.short, long))) (upto_or k i)
 
 pub none_more : (pending : List Record) (count : ℕ) → ((k : ℕ) → count < k → k ≤ length pending → live_after false (take k pending) ≡ true) → (k : ℕ) → count < k → k ≤ length pending → IsCut (take k pending) → ⊥
 none_more pending count none k above upto cut = true≢false (sym (none k above upto) ∙ cut.whole)

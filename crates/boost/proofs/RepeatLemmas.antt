@@ -15,7 +15,7 @@ use Rattle.boost.specs.declared.repetition.Part.{Part}
 use Rattle.boost.specs.Books.{next_after}
 use Rattle.boost.specs.Journals.{empty_state}
 use Rattle.boost.specs.Repetitions.{next_from, Reached, IsAccepted, AreRead, IsStuck, IsDamageOr}
-use Rattle.boost.proofs.Lists.{leads_push, leads_split, flat_map-append}
+use Rattle.boost.proofs.Lists.{leads_push, leads_split, flat_map-append, leads_exact}
 use Rattle.boost.proofs.BookLemmas.{bump_answered}
 use Rattle.boost.proofs.Contents.{length-after_at}
 
@@ -73,8 +73,7 @@ step_exact (Record.Commit n) s t u a b = a.is ∙ sym b.is
 step_exact r s t u a b = absurd a
 
 pub repeat_exact : (rs : List Record) (s t u : State) → Repeats rs s t → Repeats rs s u → t ≡ u
-repeat_exact [] s t u a b = sym a ∙ b
-repeat_exact (r ∷ rs) s t u a b = repeat_exact rs a.0 t u a.2 (subst (λ m. Repeats rs m u) (step_exact r s b.0 a.0 b.1 a.1) b.2)
+repeat_exact rs s t u = leads_exact Steps step_exact rs s t u
 
 -- what was looked up, where it was not refused
 pub found_of : {E : Type 0} (r : Result Reply E) (P : Reply → Type 0) → is_err r ≡ false → IfOk r P → (reply : Reply) × P reply

@@ -17,10 +17,10 @@ use Rattle.boost.specs.Journals.{IsHeader, base_in_use, records_in}
 use Rattle.boost.specs.Pasts.{Past, committed_in, records_of_step, records_of, told, BookStep}
 use Rattle.boost.specs.Crash.{Yields}
 use Rattle.boost.specs.Worlds.{IsStage, Stages, IsCarried, Carries, IsHeaded, IsInUse, Parts, HasPast}
-use Rattle.boost.proofs.Lists.{leads_push}
+use Rattle.boost.proofs.Lists.{leads_push, all_append}
 use Rattle.boost.proofs.History.{places-append}
 use Rattle.boost.proofs.PastLemmas.{length-committed_in, records_of-append, greatest_told-push}
-use Rattle.boost.proofs.YieldLemmas.{yields, holds_row, all_append, stages_good}
+use Rattle.boost.proofs.YieldLemmas.{yields, holds_row, stages_good}
 use Rattle.boost.proofs.WorldLemmas.{yields_more, records_in-push, mark_few}
 
 -- what stands before an area stays, and so does the head

@@ -16,7 +16,7 @@ use Rattle.boost.specs.Journals.{Holds, records_in, IsJournalRecord, StandsFor, 
 use Rattle.boost.specs.Pasts.{Past, committed_in, records_of}
 use Rattle.boost.specs.Crash.{Yields}
 use Rattle.boost.specs.Worlds.{Stages, IsBase, IsHeaded}
-use Rattle.boost.proofs.Lists.{leads_append, flat_map-append}
+use Rattle.boost.proofs.Lists.{leads_append, flat_map-append, all_append}
 use Rattle.boost.proofs.History.{gathered, committed_after-append, length-committed, idle_moves}
 use Rattle.boost.proofs.PastLemmas.{committed_in-records, take-longer}
 
@@ -45,12 +45,6 @@ stages_idle (rs ∷ blocks) s t idle stages = stages_idle blocks stages.0 t stag
 pub stages_good : (blocks : List (List Record)) (s t : State) → Stages blocks s t → AllByRecursion (AllByRecursion IsRecord) blocks
 stages_good [] s t stages = tt
 stages_good (rs ∷ blocks) s t stages = (stages.1.good, stages_good blocks stages.0 t stages.2)
-
--- lists of which each has something
-
-pub all_append : {X : Type 0} (P : X → Type 0) (xs ys : List X) → AllByRecursion P xs → AllByRecursion P ys → AllByRecursion P (xs ++ ys)
-all_append P [] ys a b = b
-all_append P (x ∷ xs) ys a b = (a.0, all_append P xs ys a.1 b)
 
 all_in : (blocks : List (List Record)) → AllByRecursion (AllByRecursion IsRecord) blocks → AllByRecursion IsRecord (records_in blocks)
 all_in [] a = tt

@@ -113,7 +113,24 @@ fn read_words(alloc: Global, args: &Vec<String>) -> Result<Vec<&str>, AllocError
     args.iter().map(|word| word.as_str()).collect(alloc)
 }
 
-// Understands the command line and carries it out. Answers the status.
+// Understands the words of a command line and carries them out. Answers the status.
+fn obey<'a, R: Files<File = File> + AllocGlobal>(
+    rt: &R,
+    words: &'a [&'a str],
+    out: &mut impl Write,
+    err: &mut impl Write,
+) -> u8 {
+    let task = match command(rt.alloc(), words) {
+        Ok(task) => task,
+        Err(error) => return explain(&error, out, err),
+    };
+    match carry_out(rt, &task, out, err) {
+        Ok(status) => status,
+        Err(failure) => report(&failure, err),
+    }
+}
+
+// Reads the command line and obeys it. Answers the status.
 fn start<R: Env + Files<File = File> + AllocGlobal>(
     rt: &R,
     out: &mut impl Write,
@@ -122,14 +139,7 @@ fn start<R: Env + Files<File = File> + AllocGlobal>(
     let alloc = rt.alloc();
     let args = env::args(rt)?.collect(alloc)?;
     let words = read_words(alloc, &args)?;
-    let task = match command(alloc, words.as_slice()) {
-        Ok(task) => task,
-        Err(error) => return Ok(explain(&error, out, err)),
-    };
-    match carry_out(rt, &task, out, err) {
-        Ok(status) => Ok(status),
-        Err(failure) => Ok(report(&failure, err)),
-    }
+    Ok(obey(rt, words.as_slice(), out, err))
 }
 
 fn main(rt: HostRuntime) -> ExitCode {
@@ -146,3 +156,6 @@ fn main(rt: HostRuntime) -> ExitCode {
     };
     ExitCode::from(status)
 }
+
+#[cfg(test)]
+mod tests;

@@ -13,3 +13,4 @@ pub mod Needs
 pub mod Inverses
 pub mod Names
 pub mod Refusals
+pub mod Items

@@ -5,6 +5,7 @@
 mod bytes;
 mod call;
 mod check;
+mod item;
 mod kind;
 pub mod limits;
 mod name;
@@ -17,6 +18,7 @@ mod tests;
 pub use bytes::Bytes;
 pub use call::Call;
 pub use check::{check_call, check_name};
+pub use item::Item;
 pub use kind::Kind;
 pub use name::Name;
 pub use need::{Mode, Need};

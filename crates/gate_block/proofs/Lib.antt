@@ -1,6 +1,6 @@
 mod Append
 pub mod Facts
-mod Parts
+pub mod Parts
 mod Reading
 pub mod Rows
 pub mod Unique

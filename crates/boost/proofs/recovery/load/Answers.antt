@@ -23,7 +23,7 @@ pub returns-in_err-repeat_body-clause-refused : goal.returns-in_err-repeat_body-
 returns-in_err-repeat_body-clause-refused g c =
     let p = err_from_is_err_and c.from_residual-in_err-repeat_body.result c.from_residual-in_err-repeat_body.ensures.1 in
     rw (p.1, p.2)
-    (body_refused c.loop-repetition.invariant c.next_block.new.disk c.next_block.ensures.reads c.next_block.ensures.honest c.next_block.ensures.faults c.loop-repetition.place c.as_slice.result.now c.in_err-repeat_body.field-0.0
+    (body_refused c.loop-repetition.invariant c.next_block.new.disk c.next_block.ensures.reads c.next_block.ensures.honest c.next_block.ensures.faults c.as_slice.result.now c.in_err-repeat_body.field-0.0
     (λ true_read. stands_there c.in_ok-body.field-0 c.in-Some.body c.as_slice.result.now _ _ c.in-Some.is c.as_slice.ensures.value (c.in_ok-body.ensures.found true_read))
     c.in_err-repeat_body.ensures.err)
 
@@ -37,7 +37,7 @@ pub returns-in_err-finish-clause-refused : goal.returns-in_err-finish-clause-ref
 returns-in_err-finish-clause-refused g c =
     let p = err_from_is_err_and c.from_residual-in_err-finish.result c.from_residual-in_err-finish.ensures.1 in
     rw (p.1, p.2)
-    (end_refused c.loop-repetition.invariant c.next_block.new.disk c.next_block.ensures.reads c.next_block.ensures.honest c.next_block.ensures.faults c.loop-repetition.place c.in_ok-body.field-0 c.in_err-finish.field-0.0
+    (end_refused c.loop-repetition.invariant c.next_block.new.disk c.next_block.ensures.reads c.next_block.ensures.honest c.next_block.ensures.faults c.in_ok-body.field-0 c.in_err-finish.field-0.0
     c.in_default.not-Some c.in_ok-body.ensures.found c.in_err-finish.ensures.err)
 
 pub returns-clause-loaded : goal.returns-clause-loaded

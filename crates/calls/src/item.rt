@@ -1,0 +1,16 @@
+// A part of what a collection holds.
+use crate::Bytes;
+
+/// A part of what a collection holds, by the collection's kind. A set, a map, a pool and a queue have any number of
+/// them; a counter has one.
+#[derive(Drop, Debug)]
+pub enum Item {
+    /// An element of a set, or a taken identifier of a pool.
+    Element(u64),
+    /// A key of a map and its value.
+    Entry(u64, Bytes),
+    /// A priority and a tag, in a queue.
+    Pair(u64, u64),
+    /// The number of a counter.
+    Number(i128),
+}
