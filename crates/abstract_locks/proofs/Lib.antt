@@ -1,0 +1,4 @@
+pub mod Rooms
+pub mod Members
+pub mod Blockers
+pub mod Grants

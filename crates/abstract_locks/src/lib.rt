@@ -1,0 +1,8 @@
+//! The needs that live transactions hold, and which other owner stands in the way of a need.
+#![tactic(auto)]
+
+mod table;
+#[cfg(test)]
+mod tests;
+
+pub use table::NeedTable;

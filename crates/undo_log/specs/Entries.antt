@@ -1,0 +1,45 @@
+-- What live transactions asked for.
+use Rattle.std.specs.Prelude.{◌≡◌, ℕ, List, [], ◌∷◌, ◌++◌, map, drop}
+use Rattle.calls.specs.Transactions as transactions
+use Rattle.calls.specs.Transactions.{Event, own, calls_of}
+use Rattle.undo_log.specs.declared.logged.Logged.{Logged}
+use Rattle.undo_log.specs.declared.logged.Entry.{Entry}
+use Rattle.undo_log.specs.declared.logged.Entry.TheVariants.{Asked, PutOff}
+use Rattle.undo_log.specs.declared.logged.Owned.{Owned}
+
+-- A call with its reply, as transactions are told.
+abbrev pub event_of : Logged → Event
+event_of l = record { at = l.at; call = l.call; reply = l.reply }
+
+-- What was asked for, as transactions are told.
+abbrev pub entry_of : Entry → transactions.Entry
+entry_of (Asked l) = transactions.Asked (event_of l)
+entry_of (PutOff l) = transactions.PutOff l.at l.call
+
+-- The same with the number of its transaction.
+abbrev pub owned_entry : Owned → ℕ × transactions.Entry
+owned_entry o = (o.owner, entry_of o.entry)
+
+-- It is a call that the transaction asked for.
+abbrev pub IsCallOf : ℕ → Owned → Type 0
+IsCallOf n o = (l : Logged) × (o ≡ record { owner = n; entry = Asked l })
+
+-- No call of the transaction is among the entries.
+abbrev pub HasNoCall : ℕ → List (ℕ × transactions.Entry) → Type 0
+HasNoCall n es = calls_of (own n es) ≡ []
+
+-- The event is the newest call of the transaction, and rest is what is there without it.
+pub record IsNewestCall (n : ℕ) (es : List (ℕ × transactions.Entry)) (x : Event) (rest : List (ℕ × transactions.Entry)) : Type 0 where
+  pub before : List (ℕ × transactions.Entry)
+  pub after : List (ℕ × transactions.Entry)
+  pub is : es ≡ before ++ (n, transactions.Asked x) ∷ after
+  pub rest_is : rest ≡ before ++ after
+  pub none_newer : HasNoCall n after
+
+-- The event is the newest call of the transaction.
+abbrev pub HasNewestCall : ℕ → List (ℕ × transactions.Entry) → Event → Type 0
+HasNewestCall n es x = (rest : List (ℕ × transactions.Entry)) × IsNewestCall n es x rest
+
+-- The newest call of the transaction stands at the place: no call of it comes behind.
+abbrev pub IsNewestPlace : ℕ → List Owned → ℕ → Type 0
+IsNewestPlace n os i = (l : Logged) × (rest : List Owned) × (drop i os ≡ record { owner = n; entry = Asked l } ∷ rest) × HasNoCall n (map owned_entry rest)

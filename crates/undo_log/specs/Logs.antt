@@ -1,0 +1,60 @@
+-- The live transactions, which of them are falling, and what they asked for.
+use Rattle.std.specs.Prelude.{◌≡◌, ℕ, Bool, true, IsTrue, Option, Some, None, List, [], ◌∷◌, map, Contains, nat_lt, if◌then◌else◌}
+use Rattle.std.specs.Ordering.{nat_cmp}
+use Rattle.std.specs.FinMap as maps
+use Rattle.slab.specs.Slab.{Slab, get}
+use Rattle.calls.specs.Transactions.{Entry}
+use Rattle.undo_log.specs.declared.live.Transaction.{Transaction}
+
+-- At the number of each live transaction, whether it is falling.
+abbrev pub Statuses : Type 0
+Statuses = maps.FinMap nat_cmp Bool
+
+-- The live transactions; all that they asked for and did not undo, each with the number of its transaction, in the order
+-- asked; and the numbers of the transactions that have room for one entry more.
+pub record Log : Type 0 where
+  pub live : Statuses
+  pub entries : List (ℕ × Entry)
+  pub rooms : List ℕ
+
+-- The transaction is live.
+abbrev pub IsLive : Log → ℕ → Type 0
+IsLive log n = IsTrue (maps.contains_key log.live n)
+
+-- The live transaction is falling.
+abbrev pub IsFalling : Log → ℕ → Type 0
+IsFalling log n = maps.get log.live n ≡ Some true
+
+-- There is room for one more entry of the transaction.
+abbrev pub HasRoom : Log → ℕ → Type 0
+HasRoom log n = Contains log.rooms n
+
+-- A transaction that is still live keeps its room.
+abbrev pub KeepsRoom : (old new : Log) → Type 0
+KeepsRoom old new = (n : ℕ) → IsLive new n → HasRoom old n → HasRoom new n
+
+-- The same transactions are live, and this one is falling if it is one of them.
+abbrev pub fallen : Statuses → ℕ → Statuses
+fallen live n = if maps.contains_key live n then maps.insert live n true else live
+
+-- The numbers of the transactions in the slots, each with whether it is falling.
+abbrev pub statuses : List (Option Transaction) → List (ℕ × Bool)
+statuses [] = []
+statuses (None ∷ rest) = statuses rest
+statuses (Some t ∷ rest) = (t.number, t.falling) ∷ statuses rest
+
+-- The live transactions in the slots.
+unfoldable pub live_of : List (Option Transaction) → Statuses
+live_of slots = maps.from_entries (statuses slots)
+
+-- The numbers in the slots where one entry more fits, and else none.
+unfoldable pub rooms_of : (len capacity : ℕ) → List (Option Transaction) → List ℕ
+rooms_of len capacity slots = if nat_lt len capacity then map (λ s. s.0) (statuses slots) else []
+
+-- No two slots have one number.
+abbrev pub EachOnce : Slab Transaction → Type 0
+EachOnce slots = (i j : ℕ) (t u : Transaction) → get slots i ≡ Some t → get slots j ≡ Some u → t.number ≡ u.number → i ≡ j
+
+-- The slot has the number.
+abbrev pub IsSlotOf : Slab Transaction → ℕ → ℕ → Type 0
+IsSlotOf slots n key = (t : Transaction) × (get slots key ≡ Some t) × (t.number ≡ n)

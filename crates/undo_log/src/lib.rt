@@ -1,0 +1,10 @@
+//! What the live transactions asked for and did not undo: by transaction, and all in the order asked.
+#![tactic(auto)]
+
+mod live;
+mod logged;
+#[cfg(test)]
+mod tests;
+
+pub use live::Live;
+pub use logged::{Entry, Later, Logged, Owned};
