@@ -1,0 +1,6 @@
+pub mod Places
+pub mod Making
+pub mod Holdings
+pub mod Codes
+pub mod Shows
+pub mod Laws

@@ -1,0 +1,201 @@
+// Named collections, in the order of making.
+ghost use Rattle.std.specs.Prelude.{◌≡◌, ◌≤◌, ◌↔◌, [], length, string_bytes, refl, IfOk, IsOk, IfErr, OnOk, OnErr, IsOkUnless};
+ghost use Rattle.std.specs.Option.{option_map};
+ghost use Rattle.calls.specs.Contents.{AnswersAt, after_at};
+ghost use Rattle.calls.specs.Transactions.{Makes};
+ghost use Rattle.calls.specs.Inverses.{Disposable};
+ghost use Rattle.boosted.specs.Shape.{HasRoom};
+ghost use Rattle.catalog.specs.Holdings.{content_of};
+ghost use Rattle.catalog.specs.Places.{At, content_at, Belongs, Misplaced, IsWithin};
+ghost use Rattle.catalog.specs.Making.{names_of, AreDistinct, IsNew, NewRefused};
+ghost use Rattle.catalog.specs.Shows.{Shows, ShowRefused};
+ghost use Rattle.catalog.specs.Laws.OneContent.{part_deferred_other};
+ghost use Rattle.catalog.specs.Laws.Makings.{names_kept, makes_one, makes_named, makes_before, makes_after, makes_keep_belonging, makes_keep_deferred, makes_keep_within};
+
+use crate::{Holding, Parts, Shown};
+use calls::limits::MAX_COLLECTIONS;
+use calls::{Call, Kind, Name, Refusal, Reply, check_name};
+use indexmap::IndexMap;
+use std::alloc::{AllocError, Global};
+use std::marker::Model;
+
+/// Named collections, at most 256, in the order of making: the place of a collection is its number. Contracts see the
+/// list of them, each with its name and what it holds.
+#[derive(Drop)]
+pub struct Catalog {
+    collections: IndexMap<String, Holding>,
+}
+
+impl Model for Catalog {
+    ghost use Rattle.std.specs.Prelude.{List, ◌≤◌};
+    ghost use Rattle.indexmap.specs.IndexMap.{index_map_len};
+    ghost use Rattle.calls.specs.Contents.{Collection};
+    ghost use Rattle.catalog.specs.Codes.{catalog_code};
+
+    ghost Value = { List Collection };
+
+    ghost coded = { catalog_code };
+
+    ghost use Rattle.catalog.specs.Holdings.{collections_of};
+
+    ghost view = { λ catalog. collections_of catalog.collections.entries };
+
+    ghost invariant = { λ catalog. index_map_len catalog.collections ≤ 256 };
+}
+
+impl Catalog {
+    /// A catalog with no collection. It takes no memory.
+    pub fn new(alloc: Global) -> Self
+        ensures { result ≡ [] }
+    {
+        Self {
+            collections: IndexMap::new(alloc),
+        }
+    }
+
+    /// How many collections there are.
+    pub fn len(&self) -> usize
+        ensures len { result ≡ length self.now }
+        ensures few { result ≤ 256 }
+        ensures distinct { AreDistinct (names_of self.now) }
+    {
+        self.collections.len()
+    }
+
+    // What is at the place, if there is a collection.
+    pub(crate) fn holding(&self, at: u8) -> Option<&Holding>
+        ensures { option_map (λ holding. content_of holding.now) result ≡ content_at self.now at }
+    {
+        match self.collections.get_index(usize::from(at)) {
+            Some((_, holding)) => Some(holding),
+            None => None,
+        }
+    }
+
+    // Whether the call is one of what is at the place.
+    pub(crate) fn check_place(&self, at: u8, call: &Call) -> Result<(), Refusal>
+        ensures ok { IsOk result ↔ Belongs self.now at call.now }
+        ensures err { IfErr result (Misplaced self.now at call.now) }
+    {
+        match self.holding(at) {
+            None => Err(Refusal::NoSuchCollection),
+            Some(holding) => {
+                if holding.is_for(call) {
+                    Ok(())
+                } else {
+                    Err(Refusal::WrongKind)
+                }
+            }
+        }
+    }
+
+    // Makes the call at the place, which has a collection that answers it so.
+    pub(crate) fn run_at(&mut self, at: u8, call: &Call, reply: &Reply) -> Result<(), Refusal>
+        requires can { AnswersAt self.old at call.now reply.now }
+        requires room { HasRoom IsWithin self.old }
+        ensures ok { OnOk result (self.new ≡ after_at self.old at call.now reply.now) }
+        ensures err { OnErr result (self.new ≡ self.old) }
+        ensures refusal { IsOkUnless result Refusal.NoMemory }
+        ensures disposable { Disposable call.now → IsOk result }
+    {
+        match self.collections.get_index_mut(usize::from(at)) {
+            Some(holding) => holding.run(call, reply),
+            None => unreachable!(),
+        }
+    }
+
+    // Whether a collection may be made under the name.
+    fn check_new(&self, name: &str) -> Result<(), Refusal>
+        ensures ok { OnOk result (IsNew (names_of self.now) name.now) }
+        ensures err { IfErr result (NewRefused (names_of self.now) name.now) }
+    {
+        check_name(name)?;
+        if self.collections.contains_key(name) {
+            return Err(Refusal::NameTaken);
+        }
+        if self.collections.len() >= MAX_COLLECTIONS {
+            return Err(Refusal::TooManyCollections);
+        }
+        Ok(())
+    }
+
+    // Puts an empty collection at the end.
+    fn add(&mut self, name: &str, kind: Kind) -> Result<(), Refusal>
+        requires { IsNew (names_of self.old) name.now }
+        ensures ok { OnOk result (Makes self.old name.now kind self.new) }
+        ensures err { OnErr result (self.new ≡ self.old) }
+        ensures refusal { IsOkUnless result Refusal.NoMemory }
+    {
+        let alloc = *self.collections.allocator();
+        let key = name.to_string(alloc)?;
+        self.collections.insert(key, Holding::new(kind, alloc))?;
+        Ok(())
+    }
+
+    /// The name, the kind and the items of the collection at the place, the items in their order.
+    ///
+    /// NoSuchCollection where there is none, then NoMemory.
+    pub fn show(&self, col: u8) -> Result<Shown, Refusal>
+        ensures ok { IfOk result (λ shown. At (λ x. Shows x shown) self.now col) }
+        ensures err { IfErr result (ShowRefused self.now col) }
+    {
+        match self.collections.get_index(usize::from(col)) {
+            Some((name, holding)) => Ok(shown_of(name, holding)?),
+            None => Err(Refusal::NoSuchCollection),
+        }
+    }
+}
+
+// What is shown of a collection.
+fn shown_of(name: &String, holding: &Holding) -> Result<Shown, AllocError>
+    ensures { IfOk result (λ shown. Shows (record { name = string_bytes name.now; content = content_of holding.now }) shown) }
+{
+    let text = name.clone()?;
+    let items = holding.items(*name.allocator())?;
+    Ok(Shown {
+        name: Name::new(text),
+        kind: holding.kind(),
+        items,
+    })
+}
+
+impl Parts for Catalog {
+    ghost names = { λ s. names_of s };
+
+    ghost makes = { λ s name kind t. Makes s name kind t };
+
+    fn find(&self, name: &str) -> Result<u8, Refusal> {
+        check_name(name)?;
+        match self.collections.get_index_of(name) {
+            Some(at) => Ok(at as u8),
+            None => Err(Refusal::NoSuchCollection),
+        }
+    }
+
+    fn make(&mut self, name: &str, kind: Kind) -> Result<u8, Refusal> {
+        self.check_new(name)?;
+        let at = self.collections.len();
+        self.add(name, kind)?;
+        Ok(at as u8)
+    }
+
+    ghost deferred_is_other = { part_deferred_other };
+
+    ghost begins_unnamed = { refl };
+
+    ghost runs_keep_names = { names_kept };
+
+    ghost makes_one = { makes_one };
+
+    ghost makes_named = { makes_named };
+
+    ghost makes_before_calls = { makes_before };
+
+    ghost makes_after_calls = { makes_after };
+
+    ghost makes_keep_belonging = { makes_keep_belonging };
+
+    ghost makes_keep_deferred = { makes_keep_deferred };
+
+    ghost makes_keep_within = { makes_keep_within };
+}

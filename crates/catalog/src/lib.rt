@@ -1,0 +1,16 @@
+//! A catalog: named collections of the five kinds, whose calls can be undone.
+#![tactic(auto)]
+
+mod catalog;
+mod holding;
+mod items;
+mod parts;
+mod product;
+mod shown;
+#[cfg(test)]
+mod tests;
+
+pub use catalog::Catalog;
+pub use holding::Holding;
+pub use parts::Parts;
+pub use shown::Shown;
