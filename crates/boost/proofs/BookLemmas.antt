@@ -1,5 +1,5 @@
 -- What holds of a book behind one step more.
-use Rattle.std.proofs.Common.{◌≡◌, ℕ, ℤ, neg_ℤ, zero, suc, ◌+◌, ◌*◌, ◌≤◌, ◌<◌, ◌^◌, List, [], ◌∷◌, ◌++◌, length, take, drop, refl, sym, ◌∙◌, ap, subst, arith, length-append, length-drop, Option, Some, IfSome}
+use Rattle.std.proofs.Common.{◌≡◌, ℕ, ℤ, neg_ℤ, zero, suc, ◌+◌, ◌*◌, ◌≤◌, ◌<◌, ◌^◌, List, [], ◌∷◌, ◌++◌, length, take, drop, refl, sym, ◌∙◌, ap, subst, arith, length-append, length-drop, Option, Some, None, IfSome}
 use Rattle.std.proofs.lemmas.Int.{ints}
 use Rattle.std.specs.Int.{w64}
 use Rattle.std.specs.Int.RustNames.{FitsSigned}
@@ -10,12 +10,12 @@ use Rattle.calls.specs.declared.call.Call.{Call}
 use Rattle.calls.specs.declared.reply.Reply.{Reply}
 use Rattle.calls.specs.Ranges.{IsStep}
 use Rattle.calls.specs.Contents.{Content, InSet, InMap, InQueue, InCounter, InPool, Collection, Answers, AnswersAt}
-use Rattle.calls.specs.Inverses.{inverse_of}
-use Rattle.boost.specs.declared.records.record.Record.{Record}
-use Rattle.boost.specs.declared.records.record.CallRecord.{CallRecord}
-use Rattle.boost.specs.Records.{IsRecord, IsBump, IsNumber, MayBeAsked, Pairs, FitsCall, FitsReply}
-use Rattle.boost.specs.Acts.{places}
-use Rattle.boost.specs.Machine.{State, Live, IsLive, IsGoodBump, CanCall, MakeRow, CallRow, Steps}
+use Rattle.calls.specs.Inverses.{inverse_of, Askable}
+use Rattle.records.specs.declared.record.Record.{Record}
+use Rattle.records.specs.declared.record.CallRecord.{CallRecord}
+use Rattle.records.specs.Records.{IsRecord, IsNumber, Pairs, FitsCall, FitsReply}
+use Rattle.records.specs.Acts.{places}
+use Rattle.boost.specs.Machine.{IsBump, State, Live, IsLive, IsGoodBump, CanCall, MakeRow, CallRow, Steps}
 use Rattle.boost.specs.Books.{BookState, Appends, IsKept, IsPacked, Hands, HasNumber, live_count, next_after}
 use Rattle.boost.specs.declared.block.Block.{Block}
 use Rattle.boost.proofs.Contents.{length-after_at}
@@ -27,7 +27,7 @@ places_le (Record.Make kind name ∷ rs) = omega (arith, places_le rs)
 places_le (Record.Commit n ∷ rs) = omega (arith, places_le rs)
 places_le (r ∷ rs) = omega (arith, places_le rs)
 
-all_push : (rs : List Record) (r : Record) → AllByRecursion IsRecord rs → IsRecord r → AllByRecursion IsRecord (rs ++ r ∷ [])
+all_push : (rs : List Record) (r : Record) → AllByRecursion (IsRecord None) rs → IsRecord None r → AllByRecursion (IsRecord None) (rs ++ r ∷ [])
 all_push [] r all is = (is, tt)
 all_push (x ∷ rs) r all is = (all.0, all_push rs r all.1 is)
 
@@ -71,12 +71,12 @@ numbered r s t row number = absurd row
 pub live_numbered : (s : State) (n calls : ℕ) → IsLive s n calls → HasNumber s.live → IsNumber n
 live_numbered s n calls live number = rw live at number
 
-pub appended_kept : (s t : BookState) (r : Record) → IsKept s → Appends s r t → IsRecord r → t.next ≤ 2 ^ 61 → IsKept t
+pub appended_kept : (s t : BookState) (r : Record) → IsKept s → Appends s r t → IsRecord None r → t.next ≤ 2 ^ 61 → IsKept t
 appended_kept s t r kept more is next =
     let bounds = room r s.state t.state more.steps kept.few kept.unworn in
     let size : length t.pending ≡ length s.pending + 1 = ap length more.pending ∙ length-append s.pending (r ∷ []) in
     record {
-      records = subst (AllByRecursion IsRecord) (sym more.pending) (all_push s.pending r kept.records is);
+      records = subst (AllByRecursion (IsRecord None)) (sym more.pending) (all_push s.pending r kept.records is);
       few = bounds.0;
       unworn = bounds.1;
       next = next;
@@ -114,21 +114,22 @@ fits_back : (k : ℤ) → IsStep k → FitsSigned w64 (neg_ℤ k)
 fits_back k step = omega (arith, ints, step.above, step.below)
 
 abbrev Good : Call → Reply → Type 0
-Good call reply = FitsCall call × FitsReply reply × MayBeAsked call × Pairs call reply × ((i : Option Call) → i ≡ inverse_of call Reply.Done → i ≡ inverse_of call reply) × ((i : Option Call) → i ≡ inverse_of call reply → IfSome i FitsCall)
+Good call reply = FitsCall call × FitsReply reply × Askable call × Pairs call reply × ((i : Option Call) → i ≡ inverse_of call Reply.Done → i ≡ inverse_of call reply) × ((i : Option Call) → i ≡ inverse_of call reply → IfSome i FitsCall)
 
 good_bump : (xs : List Collection) (at : ℕ) (call : Call) (reply : Reply) → IsBump call → AnswersAt xs at call reply → Good call reply
 good_bump xs at (Call.Bump k) r bump a =
     let both = bump_answered xs at k r a in
-    let done : Good (Call.Bump k) Reply.Done = (fits_step k both.1, tt, both.1.above, tt, λ i e. e, λ i e. rw e (fits_back k both.1)) in
+    let done : Good (Call.Bump k) Reply.Done = (fits_step k both.1, tt, both.1, tt, λ i e. e, λ i e. rw e (fits_back k both.1)) in
     subst (Good (Call.Bump k)) (sym both.0) done
 good_bump xs at call r bump a = absurd bump
 
 -- the record of a call that can be made
-pub call_record : (s : State) (c : CallRecord) → c.collection < 256 → IsNumber c.number → IsBump c.call → AnswersAt s.now c.collection c.call c.reply → c.inverse ≡ inverse_of c.call c.reply → IsRecord (Record.Call c)
+pub call_record : (s : State) (c : CallRecord) → c.collection < 256 → IsNumber c.number → IsBump c.call → AnswersAt s.now c.collection c.call c.reply → c.inverse ≡ inverse_of c.call c.reply → IsRecord None (Record.Call c)
 call_record s c small number bump answers inverse =
     let good = good_bump s.now c.collection c.call c.reply bump answers in
     record {
       fits = record { number = omega (arith, number.below); collection = small; call = good.0; reply = good.1; inverse = good.5 c.inverse inverse };
+      suits = tt;
       sound = record { number = number; asked = good.2; answered = good.3; undone = inverse };
     }
 
@@ -143,8 +144,8 @@ good_of xs at call reply inverse bump a gives = absurd bump
 pub make_steps : (s t : State) (kind : Kind) (name copied handed : List ℕ) → kind ≡ Kind.Counter → name ≡ handed → copied ≡ handed → MakeRow s copied Kind.Counter t → Steps s (Record.Make kind name) t
 make_steps s t kind name copied handed is_counter is_name is_copy row = rw (is_counter, is_name, ← is_copy) row
 
-pub make_record : (s t : State) (kind : Kind) (name : List ℕ) → Steps s (Record.Make kind name) t → IsRecord (Record.Make kind name)
-make_record s t kind name row = record { fits = row.can.good; sound = tt }
+pub make_record : (s t : State) (kind : Kind) (name : List ℕ) → Steps s (Record.Make kind name) t → IsRecord None (Record.Make kind name)
+make_record s t kind name row = record { fits = row.can.good; suits = tt; sound = tt }
 
 -- a call with its parts as they were handed in
 pub call_steps : (s t : State) (c : CallRecord) (call : Call) (reply : Reply) → c.call ≡ call → c.reply ≡ reply → CallRow s c.number c.collection call reply t → Steps s (Record.Call c) t
@@ -164,17 +165,17 @@ module _ (now next : State) (pending more : List Record) (end place count counte
   pub appends : length pending < 16384 → Steps now r next → more ≡ pending ++ r ∷ [] → counted ≡ count + places (r ∷ []) → above ≡ next_after number r → Appends Before r After
   appends free steps is places_are next_is = record { room = free; steps = steps; pending = is; end = refl; place = refl; places = places_are; next = next_is }
 
-  pub kept : IsKept Before → length pending < 16384 → Steps now r next → more ≡ pending ++ r ∷ [] → counted ≡ count + places (r ∷ []) → above ≡ next_after number r → IsRecord r → above ≤ 2 ^ 61 → IsKept After
+  pub kept : IsKept Before → length pending < 16384 → Steps now r next → more ≡ pending ++ r ∷ [] → counted ≡ count + places (r ∷ []) → above ≡ next_after number r → IsRecord None r → above ≤ 2 ^ 61 → IsKept After
   kept before free steps is places_are next_is good bound = appended_kept Before After r before (appends free steps is places_are next_is) good bound
 
 -- the first records and the rest
 
-pub all_front : (k : ℕ) (rs : List Record) → AllByRecursion IsRecord rs → AllByRecursion IsRecord (take k rs)
+pub all_front : (k : ℕ) (rs : List Record) → AllByRecursion (IsRecord None) rs → AllByRecursion (IsRecord None) (take k rs)
 all_front zero rs all = tt
 all_front (suc k) [] all = tt
 all_front (suc k) (r ∷ rs) all = (all.0, all_front k rs all.1)
 
-all_behind : (k : ℕ) (rs : List Record) → AllByRecursion IsRecord rs → AllByRecursion IsRecord (drop k rs)
+all_behind : (k : ℕ) (rs : List Record) → AllByRecursion (IsRecord None) rs → AllByRecursion (IsRecord None) (drop k rs)
 all_behind zero rs all = all
 all_behind (suc k) [] all = tt
 all_behind (suc k) (r ∷ rs) all = all_behind k rs all.1
@@ -194,7 +195,7 @@ module _ (now : State) (pending rest : List Record) (end place count next k : �
 
   pub cut_kept : IsKept Whole → k ≤ length pending → rest ≡ drop k pending → end_now ≡ end + k → place_now ≡ place + places (take k pending) → IsKept Rest
   cut_kept before inside is end_is place_is = record {
-    records = subst (AllByRecursion IsRecord) (sym is) (all_behind k pending before.records);
+    records = subst (AllByRecursion (IsRecord None)) (sym is) (all_behind k pending before.records);
     few = before.few;
     unworn = before.unworn;
     next = before.next;

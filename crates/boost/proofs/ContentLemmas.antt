@@ -1,5 +1,5 @@
 -- The bytes of a store that was opened stand for one content: that of the book.
-use Rattle.std.proofs.Common.{◌≡◌, ◌⊎◌, inl, inr, ℕ, List, [], ◌∷◌, ◌++◌, map, refl, sym, ◌∙◌, ap, subst}
+use Rattle.std.proofs.Common.{◌≡◌, inl, inr, ℕ, List, [], ◌∷◌, ◌++◌, map, refl, sym, ◌∙◌, ap, subst, None}
 use Rattle.std.specs.List.{flat_map, AllByRecursion}
 use Rattle.calls.specs.Contents.{Collection}
 use Rattle.calls.specs.Transactions.{Transaction, Whole, Made, Event, Leads, Does, RunsWhole, Serial, calls_of, laters_of, committed}
@@ -7,19 +7,18 @@ use Rattle.gate_block.specs.declared.area.Area.{Area}
 use Rattle.gate_block.specs.Row.{IsRow, part}
 use Rattle.gate_block.specs.Area.{base_of, size_of}
 use Rattle.gate_block.proofs.Unique.{row_unique}
-use Rattle.disk_model.specs.Disk.{ReadsOnly, IsAtRest, LeavesOnly}
-use Rattle.boost.specs.declared.records.record.Record.{Record}
-use Rattle.boost.specs.Records.{spelling, Fits}
-use Rattle.boost.specs.RecordReading.{IsRead}
-use Rattle.boost.specs.Acts.{acts_of}
+use Rattle.disk_model.specs.Disk.{ReadsOnly}
+use Rattle.records.specs.declared.record.Record.{Record}
+use Rattle.records.specs.Records.{spelling}
+use Rattle.records.specs.Acts.{acts_of}
 use Rattle.boost.specs.Books.{BookState}
 use Rattle.boost.specs.Journals.{Holds, IsSound, StandsFor, IsLiveRecord, area_in_use, collection_records, live_entries, records_in, empty_state}
-use Rattle.boost.specs.Repetitions.{AreRead}
 use Rattle.boost.specs.Openings.{IsOpened, Loaded, KeepsContent}
 use Rattle.boost.proofs.Lists.{leads_exact}
 use Rattle.boost.proofs.History.{idle_moves}
-use Rattle.boost.proofs.RecordUnique.{same_blocks}
-use Rattle.boost.proofs.OpenLemmas.{read_all, one_size}
+use Rattle.boost.proofs.Grammar.{same_blocks}
+use Rattle.boost.proofs.YieldLemmas.{base_spelt}
+use Rattle.boost.proofs.OpenLemmas.{base_of_loaded, one_size}
 
 -- ---- transactions run whole have one end
 
@@ -56,10 +55,6 @@ starts_empty live start shown none empty leads = let same : start ≡ shown = su
 
 -- ---- the content
 
-read_blocks : (blocks : List (List Record)) → AllByRecursion AreRead blocks → AllByRecursion (AllByRecursion (λ r. Fits r × IsRead r)) blocks
-read_blocks [] read = tt
-read_blocks (rs ∷ blocks) read = (read_all rs read.0, read_blocks blocks read.1)
-
 -- the blocks that were loaded are those that the bytes hold
 same_held : (bytes : List ℕ) (book : BookState) (area : Area) (opened : IsOpened bytes book area) (blocks : List (List Record)) → Holds bytes blocks → opened.loaded.blocks ≡ blocks
 same_held bytes book area opened blocks holds =
@@ -68,7 +63,7 @@ same_held bytes book area opened blocks holds =
     let there : area_in_use holds.size bytes ≡ part (base_of area) (size_of area) bytes = ap (λ n. area_in_use n bytes) size ∙ ap (λ b. part b (size_of area) bytes) (sym opened.picks) in
     let bodies : map spelling l.blocks ≡ map spelling blocks =
     row_unique (map spelling l.blocks) (map spelling blocks) (part (base_of area) (size_of area) bytes) l.row_is (subst (λ b. IsRow (map spelling blocks) b) there holds.row) in
-    same_blocks l.blocks blocks (read_blocks l.blocks l.read) holds.fits bodies
+    same_blocks None l.blocks blocks (base_spelt l.blocks l.state (base_of_loaded bytes book area l)) holds.spelt bodies
 
 pub opened_content : (bytes : List ℕ) (book : BookState) (area : Area) (content : List Collection) → StandsFor bytes content → IsOpened bytes book area → book.state.now ≡ content
 opened_content bytes book area content stands opened =

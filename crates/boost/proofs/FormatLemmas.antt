@@ -1,6 +1,7 @@
 -- What the writes of a format leave.
-use Rattle.std.proofs.Common.{◌≡◌, ◌≢◌, ◌⊎◌, inl, inr, ℕ, ◌+◌, ◌-◌, ◌*◌, ◌%◌, ◌^◌, ◌<◌, ◌≤◌, List, [], ◌∷◌, ◌++◌, length, take, drop, get_or, codes, refl, sym, ◌∙◌, ap, subst, arith, append_assoc}
-use Rattle.std.specs.Prelude.{Result, Ok, Err, OnOk}
+use Rattle.std.proofs.Common.{◌≡◌, ◌≢◌, ◌⊎◌, inl, inr, ℕ, ◌+◌, ◌-◌, ◌*◌, ◌%◌, ◌≤◌, List, [], ◌∷◌, ◌++◌, length, take, drop, get_or, codes, refl, sym, ◌∙◌, ap, subst, arith, append_assoc}
+use Rattle.std.specs.Prelude.{Result, Ok, Err, OnOk, None}
+use Rattle.std.specs.List.{AllByRecursion}
 use Rattle.std.specs.Int.{w64, to_be_bytes}
 use Rattle.std.proofs.lemmas.List.{take-append-drop, take-take, drop-take, drop-drop, get_or-drop, get_or-take}
 use Rattle.std.proofs.lemmas.Bool.{cases_eq}
@@ -9,9 +10,9 @@ use Rattle.disk_model.proofs.Stops.{overwritten_torn}
 use Rattle.disk_model.proofs.Walk.{started, goes_on, and_then, weaker}
 use Rattle.gate_block.specs.Row.{IsRow, part, row}
 use Rattle.gate_block.proofs.Parts.{written_there}
-use Rattle.boost.specs.declared.records.record.Record.{Record}
-use Rattle.boost.specs.Records.{spelling, number}
-use Rattle.boost.specs.Journals.{Holds, IsHeader, IsSound, StandsFor, base_in_use, area_in_use, empty_state}
+use Rattle.records.specs.declared.record.Record.{Record}
+use Rattle.records.specs.Records.{spelling, number, IsRecord}
+use Rattle.boost.specs.Journals.{Holds, IsHeader, base_in_use, area_in_use, empty_state}
 use Rattle.boost.specs.Openings.{empty_area, IsFilled, IsEmptyStore, IsRoomFor, HasNoHeader, IsFormatting}
 
 -- ---- parts that a write leaves
@@ -121,12 +122,15 @@ module _ (area : ℕ) (old new : List ℕ) (room : IsRoomFor area (length old)) 
         all_fit = (record { not_empty = omega (arith, image_length); short = omega (arith, image_length) }, tt);
       }
 
+  good : AllByRecursion (IsRecord None) (Record.Marks 1 0 ∷ (Record.ImageEnd ∷ []))
+  good = (record { fits = (omega arith, omega arith); suits = tt; sound = (omega arith, omega arith) }, (record { fits = tt; suits = tt; sound = tt }, tt))
+
   pub empty_store : IsEmptyStore new
   empty_store =
       let blocks : List (List Record) = (Record.Marks 1 0 ∷ (Record.ImageEnd ∷ [])) ∷ [] in
-      let holds : Holds new blocks = record { size = area; header = header; row = row_there; fits = (((omega arith, omega arith), (tt, tt)), tt) } in
+      let holds : Holds new blocks = record { size = area; header = header; row = row_there; spelt = ((good.0.fits, good.0.suits), ((good.1.0.fits, good.1.0.suits), tt)) } in
       record {
-        sound = record { blocks = blocks; holds = holds; good = (record { fits = (omega arith, omega arith); sound = (omega arith, omega arith) }, (record { fits = tt; sound = tt }, tt)); journal = []; is = refl; end = empty_state; repeats = refl; idle = refl };
+        sound = record { blocks = blocks; holds = holds; good = good; journal = []; is = refl; end = empty_state; repeats = refl; idle = refl };
         stands = record {
           blocks = blocks;
           holds = holds;

@@ -10,11 +10,10 @@ use Rattle.calls.specs.declared.reply.Reply.{Reply}
 use Rattle.calls.specs.Laters.{left_by}
 use Rattle.calls.specs.Contents.{Collection}
 use Rattle.calls.specs.Transactions.{Leads, Does, Event, Entry, Asked, PutOff, Makes, Whole, RunsWhole, Serial, calls_of, laters_of, Act, own, others, gather, commits, committed_after, committed}
-use Rattle.boost.specs.declared.records.record.Record.{Record}
-use Rattle.boost.specs.declared.records.record.CallRecord.{CallRecord}
-use Rattle.boost.specs.Records.{IsBump}
-use Rattle.boost.specs.Acts.{event_of, acts_of_record, acts_of, places}
-use Rattle.boost.specs.Machine.{State, Live, Steps, Repeats}
+use Rattle.records.specs.declared.record.Record.{Record}
+use Rattle.records.specs.declared.record.CallRecord.{CallRecord}
+use Rattle.records.specs.Acts.{event_of, acts_of_record, acts_of, places}
+use Rattle.boost.specs.Machine.{IsBump, State, Live, Steps, Repeats}
 use Rattle.boost.proofs.Lists.{leads_append, leads_push}
 use Rattle.boost.proofs.Contents.{makes_first}
 

@@ -1,9 +1,5 @@
-pub mod RecordFields
-pub mod RecordLaws
-pub mod RecordLengths
-pub mod RecordNames
-pub mod RecordUnique
 pub mod Lists
+pub mod Grammar
 pub mod Contents
 pub mod History
 pub mod PackingLemmas

@@ -13,7 +13,7 @@ use Rattle.collections.specs.Numbers.{IsI128}
 use Rattle.boost.specs.declared.machine.Named.{Named}
 use Rattle.boost.specs.declared.machine.Live.{Live}
 use Rattle.boost.specs.Machine as machine
-use Rattle.boost.specs.Records.{IsBump}
+use Rattle.boost.specs.Machine.{IsBump}
 use Rattle.boost.specs.Shown.{shown_one, shown_live, IsWorn}
 
 within_more : (s : ℤ) (n : ℕ) → IsWithin s n → IsWithin s (n + 1)

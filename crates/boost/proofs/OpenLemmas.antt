@@ -1,5 +1,5 @@
 -- An area that is loaded, block by block.
-use Rattle.std.proofs.Common.{◌≡◌, ◌≢◌, ◌⊎◌, inl, inr, ℕ, zero, suc, ◌+◌, ◌-◌, ◌^◌, ◌<◌, ◌≤◌, List, [], ◌∷◌, ◌++◌, length, take, drop, get_or, map, refl, sym, ◌∙◌, ap, subst, arith, append_assoc, length-drop, take-append-drop, Bool, false, true≢false, Option, None, Some, Result, Ok, Err, MatchOption, Vec}
+use Rattle.std.proofs.Common.{◌≡◌, ◌≢◌, inl, inr, ℕ, ◌+◌, ◌-◌, ◌^◌, ◌<◌, ◌≤◌, List, [], ◌∷◌, ◌++◌, length, take, drop, get_or, map, refl, sym, ◌∙◌, ap, subst, arith, append_assoc, length-drop, take-append-drop, Bool, false, true≢false, Option, None, Some, Result, Ok, Err, MatchOption, Vec}
 use Rattle.std.specs.declared.alloc.Global.{Global}
 use Rattle.calls.specs.declared.refusal.Refusal.{Refusal}
 use Rattle.std.proofs.lemmas.List.{append-nil, drop-drop, map-append, length-take-le, at_drop_more, take-take, get_or-take, get_or-drop, drop-take}
@@ -7,7 +7,7 @@ use Rattle.std.specs.Int.{w64, to_be_bytes}
 use Rattle.std.specs.Option.{ok_or, IfNone}
 use Rattle.std.specs.Result.{IfErr, OnOk, is_err}
 use Rattle.byteorder.specs.Endian.{big_number}
-use Rattle.boost.proofs.RecordFields.{IsBytes, IsBytes-drop, number-read}
+use Rattle.records.proofs.RecordFields.{IsBytes, IsBytes-drop, number-read}
 use Rattle.std.specs.List.{AllByRecursion}
 use Rattle.disk_model.specs.Disk.{ReadsOnly, Rises, IsAtRest}
 use Rattle.disk_model.proofs.Walk.{reads_on as read_twice}
@@ -17,9 +17,9 @@ use Rattle.gate_block.proofs.Facts.{ready, length-row_add, row-append, next_is, 
 use Rattle.gate_block.proofs.Unique.{first_block}
 use Rattle.gate_block.specs.declared.area.Area.{Area}
 use Rattle.gate_block.specs.Area.{base_of, size_of, position_of, has_failed, bytes_of, body_in, IsDamage}
-use Rattle.boost.specs.declared.records.record.Record.{Record}
-use Rattle.boost.specs.Records.{spelling, Fits, IsRecord, IsOfStage}
-use Rattle.boost.proofs.RecordUnique.{read_of_stage, same_records}
+use Rattle.records.specs.declared.record.Record.{Record}
+use Rattle.records.specs.Records.{spelling, IsRecord}
+use Rattle.boost.proofs.RepeatLemmas.{one_group}
 use Rattle.boost.specs.declared.repetition.Part.{Part}
 use Rattle.boost.specs.Machine.{State, Live, Steps, Repeats}
 use Rattle.boost.specs.Books.{BookState, opened}
@@ -29,8 +29,7 @@ use Rattle.boost.specs.Openings.{Loaded, AreSound, IsFirstFault, IsSpoilt, IsDam
 use Rattle.boost.specs.declared.block.Block.{Block}
 use Rattle.boost.specs.Keepers.{IsFresh}
 use Rattle.boost.specs.Worlds.{IsBase, IsHeaded, HasPast, parts_of}
-use Rattle.boost.proofs.YieldLemmas.{holds_row, yields}
-use Rattle.boost.specs.RecordReading.{IsRead}
+use Rattle.boost.proofs.YieldLemmas.{holds_row, yields, spelt}
 use Rattle.boost.proofs.Lists.{leads_append, flat_map-append, all_append, all_first, all_last, upto_or}
 
 -- What was read of the area's bytes, up to its next gate.
@@ -56,19 +55,6 @@ nothing_read bytes position part s next none reached = record {
 
 pub records_in-append : (front back : List (List Record)) → records_in (front ++ back) ≡ records_in front ++ records_in back
 records_in-append front back = flat_map-append (λ rs. rs) front back
-
--- records of one spelling are the same
-pub read_all : (rs : List Record) → AreRead rs → AllByRecursion (λ r. Fits r × IsRead r) rs
-read_all [] read = tt
-read_all (r ∷ rs) read = (read_of_stage r read.0.0 read.0.1, read_all rs read.1)
-
-fit_all : (rs : List Record) → AreRead rs → AllByRecursion Fits rs
-fit_all [] read = tt
-fit_all (r ∷ rs) read = (read.0.0.fits, fit_all rs read.1)
-
--- records of one spelling are the same
-one_group : (group other : List Record) → AreRead group → AreRead other → spelling group ≡ spelling other → group ≡ other
-one_group group other read also e = same_records group other (read_all group read) (fit_all other also) e
 
 -- the first of the blocks that are left, where its body is known
 first_left : (rest : List (List Record)) (body : List ℕ) (more : List (List ℕ)) → AllByRecursion AreRead rest → map spelling rest ≡ body ∷ more → (g : List Record) × (others : List (List Record)) × (rest ≡ g ∷ others) × (spelling g ≡ body) × AreRead g
@@ -395,16 +381,8 @@ on_ok (Err e) P fine p = absurd (true≢false fine)
 
 -- ---- the world of a store that was opened
 
-records_of_read : (rs : List Record) → AreRead rs → AllByRecursion IsRecord rs
-records_of_read [] read = tt
-records_of_read (r ∷ rs) read = (read.0.0, records_of_read rs read.1)
-
-blocks_of_read : (blocks : List (List Record)) → AllByRecursion AreRead blocks → AllByRecursion (AllByRecursion IsRecord) blocks
-blocks_of_read [] read = tt
-blocks_of_read (rs ∷ blocks) read = (records_of_read rs read.0, blocks_of_read blocks read.1)
-
 pub base_of_loaded : (bytes : List ℕ) (book : BookState) (area : Area) (l : Loaded bytes book area) → IsBase l.blocks l.state
-base_of_loaded bytes book area l = record { journal = l.journal; is = l.is; good = blocks_of_read l.blocks l.read; repeats = l.repeats; idle = l.idle }
+base_of_loaded bytes book area l = record { journal = l.journal; is = l.is; good = l.read; repeats = l.repeats; idle = l.idle }
 
 -- with a disk at rest, the past of a world begins
 pub past_starts : {D : Type 0} (seen : D → List ℕ) (may_leave : D → List ℕ → Type 0) (book : BookState) (disk : D) (area : Area) → IsAtRest seen may_leave disk → base_of area + size_of area ≤ length (seen disk) → IsOpened (seen disk) book area
@@ -440,7 +418,7 @@ past_starts seen may_leave book disk area rest inside is_opened =
       marked = omega arith;
       told = omega arith;
       stop = λ c left.
-          yields l.blocks [] l.state l.state base refl book.state.now [] [] 0 c first_is refl (omega arith) (holds_row area (l.blocks ++ []) c (headed c left) (row_at c left) (subst (AllByRecursion (AllByRecursion IsRecord)) (sym all) base.good));
+          yields l.blocks [] l.state l.state base refl book.state.now [] [] 0 c first_is refl (omega arith) (holds_row area (l.blocks ++ []) c (headed c left) (row_at c left) (spelt l.blocks [] l.state l.state base refl));
       inside = inside;
       in_use = λ fine. record {
         ready = ready seen may_leave area disk (map spelling (l.blocks ++ [])) (subst (λ b. IsRow (map spelling b) (bytes_of area (seen disk))) (sym all) l.row_is) (l.position ∙ ap (λ b. length (row (map spelling b))) (sym all)) rest;
@@ -450,25 +428,9 @@ past_starts seen may_leave book disk area rest inside is_opened =
 
 -- ---- sound bytes are taken
 
-stage_of : (r : Record) (s t : State) → Steps s r t → IsOfStage r
-stage_of (Record.Make kind name) s t step = tt
-stage_of (Record.Begin n) s t step = tt
-stage_of (Record.Call c) s t step = step.can.bump
-stage_of (Record.Commit n) s t step = tt
-stage_of r s t step = absurd step
-
-read_of_run : (rs : List Record) (s t : State) → Repeats rs s t → AllByRecursion IsRecord rs → AreRead rs
-read_of_run [] s t run good = tt
-read_of_run (r ∷ rs) s t run good = ((good.0, stage_of r s run.0 run.1), read_of_run rs run.0 t run.2 good.1)
-
 by_block : (blocks : List (List Record)) → AreRead (records_in blocks) → AllByRecursion AreRead blocks
 by_block [] read = tt
-by_block (rs ∷ blocks) read = (all_first (λ r. IsRecord r × IsOfStage r) rs (records_in blocks) read, by_block blocks (all_last (λ r. IsRecord r × IsOfStage r) rs (records_in blocks) read))
-
-read_sound : (rs : List Record) (journal : List Record) (end : State) → rs ≡ Record.Marks 1 0 ∷ (Record.ImageEnd ∷ journal) → AllByRecursion IsRecord rs → Repeats journal empty_state end → AreRead rs
-read_sound rs journal end is good run =
-    let parts : AllByRecursion IsRecord (Record.Marks 1 0 ∷ (Record.ImageEnd ∷ journal)) = subst (AllByRecursion IsRecord) is good in
-    subst AreRead (sym is) ((parts.0, tt), ((parts.1.0, tt), read_of_run journal empty_state end run parts.1.1))
+by_block (rs ∷ blocks) read = (all_first (IsRecord None) rs (records_in blocks) read, by_block blocks (all_last (IsRecord None) rs (records_in blocks) read))
 
 pub one_size : (n m : ℕ) (bytes : List ℕ) → IsHeader n bytes → IsHeader m bytes → n ≡ m
 one_size n m bytes a b = omega (arith, a.whole, b.whole)
@@ -481,7 +443,7 @@ sound_blocks bytes size base header picks sound =
     let there : part (base_in_use sound.holds.size bytes) sound.holds.size bytes ≡ part base size bytes = ap (λ b. part b sound.holds.size bytes) at ∙ ap (λ n. part base n bytes) same in (
       sound.blocks,
       record {
-        read = by_block sound.blocks (read_sound (records_in sound.blocks) sound.journal sound.end sound.is sound.good sound.repeats);
+        read = by_block sound.blocks sound.good;
         row_is = subst (λ b. IsRow (map spelling sound.blocks) b) there sound.holds.row;
         accepted = record { journal = sound.journal; is = sound.is; end = sound.end; repeats = sound.repeats; idle = sound.idle };
       },

@@ -2,10 +2,10 @@
 use Rattle.std.proofs.Common.{◌≡◌, ◌⊎◌, inl, inr, ⊎_elim, ℕ, zero, suc, ◌+◌, ◌-◌, ◌≤◌, ◌<◌, Bool, true, false, true≢false, List, [], ◌∷◌, ◌++◌, length, take, drop, replicate, get_or, refl, sym, ◌∙◌, ap, subst, arith, append_assoc, length-append}
 use Rattle.std.proofs.lemmas.List.{take_at, take-take, take-append-drop, take_more, append-nil, length-take-le, drop-append-le}
 use Rattle.std.proofs.lemmas.Bool.{cases_lt}
-use Rattle.boost.specs.declared.records.record.Record.{Record}
-use Rattle.boost.specs.Records.{spelled, spelling}
+use Rattle.records.specs.declared.record.Record.{Record}
+use Rattle.records.specs.Records.{spelled, spelling}
 use Rattle.boost.specs.Books.{live_after, IsCut, IsSpelled, IsPacked, HasNoCut}
-use Rattle.boost.proofs.RecordLengths.{spelled-positive}
+use Rattle.records.proofs.RecordLengths.{spelled-positive}
 use Rattle.std.specs.Int.{w32, to_be_bytes}
 use Rattle.gate_block.specs.Row.{IsBlockOf}
 use Rattle.boost.specs.Wholes.{body_of, IsWhole}

@@ -5,7 +5,7 @@ use mathlib.Core.List.{IsPrefix}
 use Rattle.calls.specs.Transactions.{Transaction, committed_after, committed}
 use Rattle.boost.specs.declared.steps.Step.{Step}
 use Rattle.boost.specs.declared.steps.Answer.{Answer}
-use Rattle.boost.specs.Acts.{acts_of_record, acts_of, places}
+use Rattle.records.specs.Acts.{acts_of_record, acts_of, places}
 use Rattle.boost.specs.Pasts.{Past, acts_of_step, acts_in, records_of_step, records_of, committed_in, told, greatest_told}
 use Rattle.boost.proofs.Lists.{flat_map-append}
 use Rattle.boost.proofs.History.{gathered, committed_after-append, length-committed}

@@ -5,16 +5,17 @@ use Rattle.calls.specs.declared.call.Call.{Call}
 use Rattle.calls.specs.declared.reply.Reply.{Reply}
 use Rattle.calls.specs.declared.refusal.Refusal.{Refusal}
 use Rattle.calls.specs.Contents.{Collection, AnswersAt}
-use Rattle.boost.specs.declared.records.record.Record.{Record}
-use Rattle.boost.specs.Records.{spelled, spelling, IsRecord, IsOfStage, IsBump, Begins, IsWhy}
-use Rattle.boost.proofs.RecordLaws.{one_spelling_of}
-use Rattle.boost.proofs.RecordLengths.{spelled-positive}
+use Rattle.records.specs.declared.record.Record.{Record}
+use Rattle.records.specs.Records.{spelled, spelling, IsRecord, Begins, IsWhy}
+use Rattle.records.proofs.RecordLaws.{one_spelling_of}
+use Rattle.records.proofs.RecordLengths.{spelled-positive}
 use Rattle.std.proofs.lemmas.List.{append-nil}
-use Rattle.boost.specs.Machine.{State, Live, IsLive, IsOfCounter, IsGoodBump, CanCall, RefusesCall, CallRow, Steps, Repeats}
+use Rattle.boost.specs.Machine.{State, Live, IsLive, IsOfCounter, IsBump, IsGoodBump, CanCall, RefusesCall, CallRow, Steps, Repeats}
 use Rattle.boost.specs.declared.repetition.Part.{Part}
 use Rattle.boost.specs.Books.{next_after}
 use Rattle.boost.specs.Journals.{empty_state}
 use Rattle.boost.specs.Repetitions.{next_from, Reached, IsAccepted, AreRead, IsStuck, IsDamageOr}
+use Rattle.boost.proofs.Grammar.{not_empty}
 use Rattle.boost.proofs.Lists.{leads_push, leads_split, flat_map-append, leads_exact}
 use Rattle.boost.proofs.BookLemmas.{bump_answered}
 use Rattle.boost.proofs.Contents.{length-after_at}
@@ -173,13 +174,23 @@ pub read_front : (done group : List Record) (rest : List ℕ) → AreRead done �
 read_front [] group rest ds gs e = (group, refl, e, gs)
 read_front (d ∷ done) [] rest ds gs e = absurd (omega (arith, ap length e, length-append (spelled d ++ spelling done) rest, length-append (spelled d) (spelling done), spelled-positive d))
 read_front (d ∷ done) (g ∷ group) rest ds gs e =
-    let both = one_spelling_of g d (spelling group) (spelling done ++ rest) gs.0.0 gs.0.1 ds.0.0 ds.0.1 (e ∙ append_assoc (spelled d) (spelling done) rest) in
+    let both = one_spelling_of None g d (spelling group) (spelling done ++ rest) gs.0 ds.0 (e ∙ append_assoc (spelled d) (spelling done) rest) in
     let next = read_front done group rest ds.1 gs.1 both.1 in
     (next.0, (λ i. both.0 i ∷ next.1 i), next.2, next.3)
 
-no_tail : (tail : List Record) (rest : List ℕ) → 0 < length rest → spelling tail ≡ rest → AreRead tail → ((r : Record) (behind : List ℕ) → Begins rest r behind → ⊥) → ⊥
+no_records : (rs : List Record) → spelling rs ≡ [] → rs ≡ []
+no_records [] e = refl
+no_records (r ∷ rs) e = absurd (not_empty r rs e)
+
+-- records of one spelling are the same
+pub one_group : (group other : List Record) → AreRead group → AreRead other → spelling group ≡ spelling other → group ≡ other
+one_group group other read also e =
+    let front = read_front other group [] also read (e ∙ sym (append-nil (spelling other))) in
+    front.1 ∙ ap (λ l. other ++ l) (no_records front.0 front.2) ∙ append-nil other
+
+no_tail : (tail : List Record) (rest : List ℕ) → 0 < length rest → spelling tail ≡ rest → AreRead tail → ((r : Record) (behind : List ℕ) → Begins None rest r behind → ⊥) → ⊥
 no_tail [] rest some is read none = absurd (omega (arith, some, ap length is))
-no_tail (r ∷ tail) rest some is read none = none r (spelling tail) (record { parts = sym is; is = read.0.0; stage = read.0.1 })
+no_tail (r ∷ tail) rest some is read none = none r (spelling tail) (record { parts = sym is; is = read.0 })
 
 -- The records of a body so far, and the bytes behind them.
 pub record IsRepeating (body rest : List ℕ) (first : Part) (s : State) (above : ℕ) (part : Part) (t : State) (next : ℕ) : Type 0 where
@@ -188,18 +199,18 @@ pub record IsRepeating (body rest : List ℕ) (first : Part) (s : State) (above 
   pub is : body ≡ spelling done ++ rest
   pub reaches : (rs : List Record) → Reached rs first s above → Reached (rs ++ done) part t next
 
-read_push : (done : List Record) (r : Record) → AreRead done → IsRecord r → IsOfStage r → AreRead (done ++ r ∷ [])
-read_push [] r all is stage = ((is, stage), tt)
-read_push (d ∷ done) r all is stage = (all.0, read_push done r all.1 is stage)
+read_push : (done : List Record) (r : Record) → AreRead done → IsRecord None r → AreRead (done ++ r ∷ [])
+read_push [] r all is = (is, tt)
+read_push (d ∷ done) r all is = (all.0, read_push done r all.1 is)
 
 pub repeating_starts : (body : List ℕ) (part : Part) (s : State) (next : ℕ) → IsRepeating body body part s next part s next
 repeating_starts body part s next = record { done = []; read = tt; is = refl; reaches = λ rs reached. subst (λ l. Reached l part s next) (sym (append-nil rs)) reached }
 
-pub repeating_goes_on : (body rest behind : List ℕ) (first part now : Part) (s t u : State) (above next after : ℕ) (r : Record) → IsRepeating body rest first s above part t next → Begins rest r behind
+pub repeating_goes_on : (body rest behind : List ℕ) (first part now : Part) (s t u : State) (above next after : ℕ) (r : Record) → IsRepeating body rest first s above part t next → Begins None rest r behind
     → ((rs : List Record) → Reached rs part t next → Reached (rs ++ r ∷ []) now u after) → IsRepeating body behind first s above now u after
 repeating_goes_on body rest behind first part now s t u above next after r so_far begins takes = record {
   done = so_far.done ++ r ∷ [];
-  read = read_push so_far.done r so_far.read begins.is begins.stage;
+  read = read_push so_far.done r so_far.read begins.is;
   is =
       so_far.is ∙ ap (λ l. spelling so_far.done ++ l) begins.parts ∙ sym (append_assoc (spelling so_far.done) (spelled r) behind)
       ∙ ap (λ l. l ++ behind) (sym (flat_map-append spelled so_far.done (r ∷ []) ∙ ap (λ l. spelling so_far.done ++ l) (append-nil (spelled r))));
@@ -207,23 +218,23 @@ repeating_goes_on body rest behind first part now s t u above next after r so_fa
 }
 
 -- bytes of which no record begins what is left are not accepted
-pub unread_is_refused : (body rest : List ℕ) (first part : Part) (s t : State) (above next : ℕ) → IsRepeating body rest first s above part t next → 0 < length rest → ((r : Record) (behind : List ℕ) → Begins rest r behind → ⊥)
+pub unread_is_refused : (body rest : List ℕ) (first part : Part) (s t : State) (above next : ℕ) → IsRepeating body rest first s above part t next → 0 < length rest → ((r : Record) (behind : List ℕ) → Begins None rest r behind → ⊥)
     → (group : List Record) → AreRead group → body ≡ spelling group → ⊥
 unread_is_refused body rest first part s t above next so_far some none group read is =
     let front = read_front so_far.done group rest so_far.read read (sym is ∙ so_far.is) in
     no_tail front.0 rest some front.2 front.3 none
 
-pub stuck_body : (body rest behind : List ℕ) (first part : Part) (s t : State) (above next : ℕ) (r : Record) → IsRepeating body rest first s above part t next → Begins rest r behind
+pub stuck_body : (body rest behind : List ℕ) (first part : Part) (s t : State) (above next : ℕ) (r : Record) → IsRepeating body rest first s above part t next → Begins None rest r behind
     → ((rs more : List Record) → Reached rs part t next → IsAccepted (rs ++ r ∷ more) → ⊥) → (rs group more : List Record) → Reached rs first s above → AreRead group → body ≡ spelling group → IsAccepted (rs ++ (group ++ more)) → ⊥
 stuck_body body rest behind first part s t above next r so_far begins refuses rs group more reached read is accepted =
     let front = read_front so_far.done group rest so_far.read read (sym is ∙ so_far.is) in
-    let tail = read_front (r ∷ []) front.0 behind ((begins.is, begins.stage), tt) front.3 (front.2 ∙ begins.parts ∙ ap (λ l. l ++ behind) (sym (append-nil (spelled r)))) in
+    let tail = read_front (r ∷ []) front.0 behind (begins.is, tt) front.3 (front.2 ∙ begins.parts ∙ ap (λ l. l ++ behind) (sym (append-nil (spelled r)))) in
     let parts : rs ++ (group ++ more) ≡ (rs ++ so_far.done) ++ r ∷ (tail.0 ++ more) =
     ap (λ g. rs ++ (g ++ more)) (front.1 ∙ ap (λ l. so_far.done ++ l) tail.1) ∙ ap (λ l. rs ++ l) (append_assoc so_far.done (r ∷ tail.0) more) ∙ sym (append_assoc rs so_far.done (r ∷ (tail.0 ++ more))) in
     refuses (rs ++ so_far.done) (tail.0 ++ more) (so_far.reaches rs reached) (subst IsAccepted parts accepted)
 
 -- why a record could not be read
-pub unread_damage : (place : ℕ) (bytes : List ℕ) (e : Refusal) (B : Type 0) → IsWhy place bytes e → (((r : Record) (behind : List ℕ) → Begins bytes r behind → ⊥) → B) → IsDamageOr place B e
+pub unread_damage : (place : ℕ) (bytes : List ℕ) (e : Refusal) (B : Type 0) → IsWhy None place bytes e → (((r : Record) (behind : List ℕ) → Begins None bytes r behind → ⊥) → B) → IsDamageOr place B e
 unread_damage place bytes Refusal.NoMemory B why f = tt
 unread_damage place bytes (Refusal.Damaged p) B why f = (why.0, f why.1)
 unread_damage place bytes e B why f = absurd why

@@ -13,9 +13,9 @@ use Rattle.boost.specs.declared.block.Block.{Block}
 use Rattle.boost.specs.declared.steps.Step.{Step}
 use Rattle.boost.specs.declared.steps.Answer.{Answer}
 use Rattle.boost.specs.declared.steps.Turn.{Turn}
-use Rattle.boost.specs.declared.records.record.Record.{Record}
-use Rattle.boost.specs.Records.{spelling}
-use Rattle.boost.specs.Acts.{places}
+use Rattle.records.specs.declared.record.Record.{Record}
+use Rattle.records.specs.Records.{spelling}
+use Rattle.records.specs.Acts.{places}
 use Rattle.calls.specs.Inverses.{inverse_of}
 use Rattle.boost.specs.Books.{BookState, Appends}
 use Rattle.boost.specs.Journals.{records_in}

@@ -9,18 +9,18 @@ use Rattle.boost.specs.declared.block.Block.{Block}
 use Rattle.boost.specs.declared.steps.Step.{Step}
 use Rattle.boost.specs.declared.steps.Answer.{Answer}
 use Rattle.boost.specs.declared.steps.Turn.{Turn}
-use Rattle.boost.specs.declared.records.record.Record.{Record}
-use Rattle.boost.specs.Records.{spelling}
-use Rattle.boost.specs.Acts.{places}
+use Rattle.records.specs.declared.record.Record.{Record}
+use Rattle.records.specs.Records.{spelling}
+use Rattle.records.specs.Acts.{places}
 use Rattle.boost.specs.Books.{opened}
 use Rattle.boost.specs.Journals.{IsHeader, base_in_use, records_in}
 use Rattle.boost.specs.Pasts.{Past, committed_in, records_of_step, records_of, told, BookStep}
 use Rattle.boost.specs.Crash.{Yields}
 use Rattle.boost.specs.Worlds.{IsStage, Stages, IsCarried, Carries, IsHeaded, IsInUse, Parts, HasPast}
-use Rattle.boost.proofs.Lists.{leads_push, all_append}
+use Rattle.boost.proofs.Lists.{leads_push}
 use Rattle.boost.proofs.History.{places-append}
 use Rattle.boost.proofs.PastLemmas.{length-committed_in, records_of-append, greatest_told-push}
-use Rattle.boost.proofs.YieldLemmas.{yields, holds_row, stages_good}
+use Rattle.boost.proofs.YieldLemmas.{yields, holds_row, spelt}
 use Rattle.boost.proofs.WorldLemmas.{yields_more, records_in-push, mark_few}
 
 -- what stands before an area stays, and so does the head
@@ -89,7 +89,7 @@ module _ {D : Type 0} (seen : D → List ℕ) (may_leave : D → List ℕ → Ty
   pub row_yields : (m : ℕ) (c : List ℕ) → m ≤ places (records_in had.kept) → IsHeaded w.area c → IsRow (map spelling (had.old ++ had.kept)) (bytes_of w.area c) → Yields start past (take m (committed_in past)) c
   row_yields m c few headed row =
       yields had.old had.kept had.first had.kept_to had.base had.keeps start past (records_in had.handed ++ w.book.pending) m c had.starts records_old few
-      (holds_row w.area (had.old ++ had.kept) c headed row (all_append _ had.old had.kept had.base.good (stages_good had.kept had.first had.kept_to had.keeps)))
+      (holds_row w.area (had.old ++ had.kept) c headed row (spelt had.old had.kept had.first had.kept_to had.base had.keeps))
 
   bodies_are : map spelling (had.old ++ (had.kept ++ rs ∷ [])) ≡ map spelling (had.old ++ had.kept) ++ spelling rs ∷ []
   bodies_are = ap (map spelling) (sym (append_assoc had.old had.kept (rs ∷ []))) ∙ map-append spelling (had.old ++ had.kept) (rs ∷ [])
@@ -98,7 +98,7 @@ module _ {D : Type 0} (seen : D → List ℕ) (may_leave : D → List ℕ → Ty
   row_more_yields area m c few headed row =
       yields had.old (had.kept ++ rs ∷ []) had.first hands.0 had.base keeps start past (records_in handed ++ w.book.pending) m c had.starts (records_new ∙ append_assoc (records_in (had.kept ++ rs ∷ [])) (records_in handed) w.book.pending)
       (omega (arith, few, places_now))
-      (holds_row area (had.old ++ (had.kept ++ rs ∷ [])) c headed (subst (λ l. IsRow l (bytes_of area c)) (sym bodies_are) row) (all_append _ had.old (had.kept ++ rs ∷ []) had.base.good (stages_good (had.kept ++ rs ∷ []) had.first hands.0 keeps)))
+      (holds_row area (had.old ++ (had.kept ++ rs ∷ [])) c headed (subst (λ l. IsRow l (bytes_of area c)) (sym bodies_are) row) (spelt had.old (had.kept ++ rs ∷ []) had.first hands.0 had.base keeps))
 
   module _ (in_use : IsInUse seen may_leave w.area w.disk (had.old ++ had.kept)) where
     abbrev Moment : List ℕ → Type 0

@@ -7,8 +7,8 @@ use Rattle.calls.specs.Transactions.{Transaction}
 use Rattle.boost.specs.declared.block.Block.{Block}
 use Rattle.boost.specs.declared.steps.Step.{Step}
 use Rattle.boost.specs.declared.steps.Answer.{Answer}
-use Rattle.boost.specs.declared.records.record.Record.{Record}
-use Rattle.boost.specs.Acts.{places}
+use Rattle.records.specs.declared.record.Record.{Record}
+use Rattle.records.specs.Acts.{places}
 use Rattle.boost.specs.Machine.{State, Live, Steps, Repeats}
 use Rattle.boost.specs.Books.{BookState, Appends, Hands, live_after, opened}
 use Rattle.boost.specs.Journals.{records_in}

@@ -8,16 +8,17 @@ use Rattle.calls.specs.Transactions.{Transaction, Serial, committed, committed_a
 use Rattle.gate_block.specs.declared.area.Area.{Area}
 use Rattle.gate_block.specs.Row.{IsRow, part}
 use Rattle.gate_block.specs.Area.{size_of, bytes_of}
-use Rattle.boost.specs.declared.records.record.Record.{Record}
-use Rattle.boost.specs.Records.{spelling, Fits, IsRecord}
-use Rattle.boost.specs.Acts.{acts_of_record, acts_of, places}
+use Rattle.records.specs.declared.record.Record.{Record}
+use Rattle.records.specs.Records.{spelling, IsRecord}
+use Rattle.records.specs.Acts.{acts_of_record, acts_of, places}
 use Rattle.boost.specs.Machine.{State, Steps, Repeats}
-use Rattle.boost.specs.Journals.{Holds, records_in, IsJournalRecord, StandsFor, IsSound, empty_state}
+use Rattle.boost.specs.Journals.{Holds, AreSpelt, records_in, IsJournalRecord, StandsFor, IsSound, empty_state}
 use Rattle.boost.specs.Pasts.{Past, committed_in, records_of}
 use Rattle.boost.specs.Crash.{Yields}
 use Rattle.boost.specs.Worlds.{Stages, IsBase, IsHeaded}
 use Rattle.boost.proofs.Lists.{leads_append, flat_map-append, all_append}
 use Rattle.boost.proofs.History.{gathered, committed_after-append, length-committed, idle_moves}
+use Rattle.boost.proofs.Grammar.{opened_spelt}
 use Rattle.boost.proofs.PastLemmas.{committed_in-records, take-longer}
 
 -- only records of a journal are repeated
@@ -42,34 +43,30 @@ pub stages_idle : (blocks : List (List Record)) (s t : State) → s.live ≡ Non
 stages_idle [] s t idle stages = subst (λ (x : State). x.live ≡ None) stages idle
 stages_idle (rs ∷ blocks) s t idle stages = stages_idle blocks stages.0 t stages.1.idle stages.2
 
-pub stages_good : (blocks : List (List Record)) (s t : State) → Stages blocks s t → AllByRecursion (AllByRecursion IsRecord) blocks
+pub stages_good : (blocks : List (List Record)) (s t : State) → Stages blocks s t → AllByRecursion (AllByRecursion (IsRecord None)) blocks
 stages_good [] s t stages = tt
 stages_good (rs ∷ blocks) s t stages = (stages.1.good, stages_good blocks stages.0 t stages.2)
 
-all_in : (blocks : List (List Record)) → AllByRecursion (AllByRecursion IsRecord) blocks → AllByRecursion IsRecord (records_in blocks)
+all_in : (blocks : List (List Record)) → AllByRecursion (AllByRecursion (IsRecord None)) blocks → AllByRecursion (IsRecord None) (records_in blocks)
 all_in [] a = tt
-all_in (rs ∷ blocks) a = all_append IsRecord rs (records_in blocks) a.0 (all_in blocks a.1)
+all_in (rs ∷ blocks) a = all_append (IsRecord None) rs (records_in blocks) a.0 (all_in blocks a.1)
 
-fit : (rs : List Record) → AllByRecursion IsRecord rs → AllByRecursion Fits rs
-fit [] a = tt
-fit (r ∷ rs) a = (a.0.fits, fit rs a.1)
-
-all_fit : (blocks : List (List Record)) → AllByRecursion (AllByRecursion IsRecord) blocks → AllByRecursion (AllByRecursion Fits) blocks
-all_fit [] a = tt
-all_fit (rs ∷ blocks) a = (fit rs a.0, all_fit blocks a.1)
+-- the records of a base have a spelling
+pub base_spelt : (blocks : List (List Record)) (s : State) → IsBase blocks s → AreSpelt None (records_in blocks)
+base_spelt blocks s base = opened_spelt (records_in blocks) base.journal base.is (all_in blocks base.good) (all_journal base.journal empty_state s base.repeats)
 
 -- the bytes hold the blocks of a row in the area that the head picks
-pub holds_row : (area : Area) (blocks : List (List Record)) (c : List ℕ) → IsHeaded area c → IsRow (map spelling blocks) (bytes_of area c) → AllByRecursion (AllByRecursion IsRecord) blocks → Holds c blocks
-holds_row area blocks c headed row good = record {
+pub holds_row : (area : Area) (blocks : List (List Record)) (c : List ℕ) → IsHeaded area c → IsRow (map spelling blocks) (bytes_of area c) → AreSpelt None (records_in blocks) → Holds c blocks
+holds_row area blocks c headed row spelt = record {
   size = size_of area;
   header = headed.header;
   row = subst (λ b. IsRow (map spelling blocks) (part b (size_of area) c)) (sym headed.picks) row;
-  fits = all_fit blocks good;
+  spelt = spelt;
 }
 
 module _ (old kept : List (List Record)) (first end : State) (base : IsBase old first) (stages : Stages kept first end) where
-  good : AllByRecursion (AllByRecursion IsRecord) (old ++ kept)
-  good = all_append (AllByRecursion IsRecord) old kept base.good (stages_good kept first end stages)
+  good : AllByRecursion (AllByRecursion (IsRecord None)) (old ++ kept)
+  good = all_append (AllByRecursion (IsRecord None)) old kept base.good (stages_good kept first end stages)
 
   journal : List Record
   journal = base.journal ++ records_in kept
@@ -82,6 +79,9 @@ module _ (old kept : List (List Record)) (first end : State) (base : IsBase old 
 
   over : end.live ≡ None
   over = stages_idle kept first end base.idle stages
+
+  pub spelt : AreSpelt None (records_in (old ++ kept))
+  spelt = opened_spelt (records_in (old ++ kept)) (base.journal ++ records_in kept) is (all_in (old ++ kept) good) (all_journal (base.journal ++ records_in kept) empty_state end run)
 
   pub is_sound : (c : List ℕ) → Holds c (old ++ kept) → IsSound c
   is_sound c holds = record { blocks = old ++ kept; holds = holds; good = all_in (old ++ kept) good; journal = base.journal ++ records_in kept; is = is; end = end; repeats = run; idle = over }

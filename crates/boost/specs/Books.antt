@@ -6,12 +6,12 @@ use Rattle.calls.specs.declared.call.Call.{Call}
 use Rattle.calls.specs.declared.reply.Reply.{Reply}
 use Rattle.calls.specs.declared.refusal.Refusal.{Refusal}
 use Rattle.calls.specs.Inverses.{inverse_of}
-use Rattle.boost.specs.declared.records.record.Record.{Record}
+use Rattle.records.specs.declared.record.Record.{Record}
 use Rattle.boost.specs.declared.block.Block.{Block}
 use Rattle.gate_block.specs.Row.{IsBlockOf}
-use Rattle.boost.specs.Acts.{places}
+use Rattle.records.specs.Acts.{places}
 use Rattle.boost.specs.Machine.{State, Live, Steps, RefusesMake, RefusesBegin, CanBegin, RefusesCall, CanCall, CanCommit}
-use Rattle.boost.specs.Records.{spelling, IsRecord, IsNumber}
+use Rattle.records.specs.Records.{spelling, IsRecord, IsNumber}
 
 pub record BookState : Type 0 where
   pub state : State
@@ -68,7 +68,7 @@ HasNoCut pending = (k : ℕ) → k ≤ length pending → IsCut (take k pending)
 pub record Hands (s : BookState) (block : Block) (t : BookState) : Type 0 where
   pub count : ℕ
   pub packed : IsPacked s.pending block.bytes.items count
-  pub good : AllByRecursion IsRecord (take count s.pending)
+  pub good : AllByRecursion (IsRecord None) (take count s.pending)
   pub end : block.end ≡ s.end + count
   pub place : block.place ≡ s.place + places (take count s.pending)
   pub is : t ≡ record s { pending = drop count s.pending; end = block.end; place = block.place }
@@ -150,7 +150,7 @@ HasNumber (Some live) = IsNumber live.number
 
 -- What holds of every book: its records can be spelled, its numbers are in range, and the places are counted.
 pub record IsKept (s : BookState) : Type 0 where
-  pub records : AllByRecursion IsRecord s.pending
+  pub records : AllByRecursion (IsRecord None) s.pending
   pub few : length s.state.now ≤ 256
   pub unworn : s.state.wear ≤ 2 ^ 61
   pub next : s.next ≤ 2 ^ 61

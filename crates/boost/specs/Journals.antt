@@ -1,18 +1,16 @@
 -- What the bytes of a disk stand for: by the grammar of blocks and records, and by transactions run whole. No need, no inverse and no
 -- machine is named up to `StandsFor`.
-use Rattle.std.specs.Prelude.{◌≡◌, ℕ, suc, ◌+◌, ◌*◌, ◌%◌, ◌≤◌, ◌^◌, List, [], ◌∷◌, ◌++◌, length, take, drop, map, get_or, replicate, codes, None}
+use Rattle.std.specs.Prelude.{◌≡◌, ℕ, ◌+◌, ◌*◌, ◌%◌, ◌≤◌, ◌^◌, List, [], ◌∷◌, ◌++◌, length, take, drop, map, get_or, codes, Option, None}
 use Rattle.std.specs.List.{flat_map, AllByRecursion}
 use Rattle.std.specs.Int.{w64, to_be_bytes}
-use Rattle.std.specs.FinMap as maps
-use Rattle.std.specs.FinSet as sets
 use Rattle.calls.specs.declared.kind.Kind.{Kind}
-use Rattle.calls.specs.Contents.{Content, InSet, InMap, InQueue, InCounter, InPool, Collection}
+use Rattle.calls.specs.Contents.{Collection}
 use Rattle.calls.specs.Transactions.{Leads, Does, Entry, Asked, PutOff, calls_of, Serial, committed}
 use Rattle.gate_block.specs.Row.{IsRow, part}
-use Rattle.boost.specs.declared.records.record.Record.{Record}
-use Rattle.boost.specs.declared.records.record.Item.{Item}
-use Rattle.boost.specs.Records.{spelling, Fits, IsRecord}
-use Rattle.boost.specs.Acts.{event_of, acts_of}
+use Rattle.records.specs.declared.record.Record.{Record}
+use Rattle.calls.specs.Items.{items_of, kind_of_content}
+use Rattle.records.specs.Records.{spelling, Fits, Suits, IsRecord, named_by}
+use Rattle.records.specs.Acts.{event_of, acts_of}
 use Rattle.boost.specs.Machine.{State, Repeats}
 
 -- The head of a disk whose areas have this size: eight letters, an open gate, the size.
@@ -31,34 +29,24 @@ base_in_use size bytes = 4096 + size * (get_or bytes 512 0 % 2)
 abbrev pub area_in_use : ℕ → List ℕ → List ℕ
 area_in_use size bytes = part (base_in_use size bytes) size bytes
 
+-- the records of all blocks, in order
+abbrev pub records_in : List (List Record) → List Record
+records_in blocks = flat_map (λ rs. rs) blocks
+
+-- Records one after another that have a spelling, each item of them of the kind that was named last.
+abbrev pub AreSpelt : Option Kind → List Record → Type 0
+AreSpelt last [] = Unit {0}
+AreSpelt last (r ∷ rs) = (Fits r × Suits last r) × AreSpelt (named_by last r) rs
+
 -- The area in use is a row of blocks whose bodies spell these records, block by block.
 pub record Holds (bytes : List ℕ) (blocks : List (List Record)) : Type 0 where
   pub size : ℕ
   pub header : IsHeader size bytes
   pub row : IsRow (map spelling blocks) (area_in_use size bytes)
-  pub fits : AllByRecursion (AllByRecursion Fits) blocks
-
--- the records of all blocks, in order
-abbrev pub records_in : List (List Record) → List Record
-records_in blocks = flat_map (λ rs. rs) blocks
-
--- The items of a collection, in their order: a queue's by priority and then tag, each as often as it is there.
-abbrev pub items_of : Content → List Item
-items_of (InSet s) = map Item.Element (sets.items s)
-items_of (InMap m) = map (λ e. Item.Entry e.0 e.1) (maps.entries m)
-items_of (InQueue q) = flat_map (λ e. replicate (suc e.1) (Item.Pair e.0.0 e.0.1)) (maps.entries q)
-items_of (InCounter n) = Item.Number n ∷ []
-items_of (InPool s) = map Item.Element (sets.items s)
-
-abbrev pub kind_of : Content → Kind
-kind_of (InSet s) = Kind.Set
-kind_of (InMap m) = Kind.Map
-kind_of (InQueue q) = Kind.Queue
-kind_of (InCounter n) = Kind.Counter
-kind_of (InPool s) = Kind.Pool
+  pub spelt : AreSpelt None (records_in blocks)
 
 abbrev pub collection_records : Collection → List Record
-collection_records x = Record.Name (kind_of x.content) x.name ∷ map Record.Item (items_of x.content)
+collection_records x = Record.Name (kind_of_content x.content) x.name ∷ map Record.Item (items_of x.content)
 
 -- a call, or one that was put off, of a transaction that was live when the image was taken
 abbrev pub IsLiveRecord : Record → Type 0
@@ -115,7 +103,7 @@ empty_state = record { now = []; live = None; wear = 0 }
 pub record IsSound (bytes : List ℕ) : Type 0 where
   pub blocks : List (List Record)
   pub holds : Holds bytes blocks
-  pub good : AllByRecursion IsRecord (records_in blocks)
+  pub good : AllByRecursion (IsRecord None) (records_in blocks)
   pub journal : List Record
   pub is : records_in blocks ≡ Record.Marks 1 0 ∷ (Record.ImageEnd ∷ journal)
   pub end : State

@@ -1,7 +1,4 @@
 pub mod Wholes
-pub mod Records
-pub mod RecordReading
-pub mod Acts
 pub mod Machine
 pub mod Codes
 pub mod Shown

@@ -9,8 +9,8 @@ use Rattle.calls.specs.Names.{IsSpelt, IsName}
 use Rattle.calls.specs.Ranges.{IsStep}
 use Rattle.calls.specs.Contents.{Collection, AnswersAt, does}
 use Rattle.calls.specs.Transactions.{Makes, Leads}
-use Rattle.boost.specs.declared.records.record.Record.{Record}
-use Rattle.boost.specs.Records.{IsNumber, IsBump}
+use Rattle.records.specs.declared.record.Record.{Record}
+use Rattle.records.specs.Records.{IsNumber}
 
 -- A live transaction: its number, and how many calls it has made.
 pub record Live : Type 0 where
@@ -30,6 +30,11 @@ IsLive s n calls = s.live ≡ Some (record { number = n; calls = calls })
 
 abbrev pub names_of : State → List (List ℕ)
 names_of s = map (λ x. x.name) s.now
+
+-- the one call that a transaction can make at this stage
+abbrev pub IsBump : Call → Type 0
+IsBump (Call.Bump n) = Unit {0}
+IsBump c = ⊥
 
 -- a call of the kind of a counter
 abbrev pub IsOfCounter : Call → Type 0

@@ -6,8 +6,8 @@ use Rattle.calls.specs.declared.refusal.Refusal.{Refusal}
 use Rattle.gate_block.specs.declared.area.Area.{Area}
 use Rattle.gate_block.specs.Row.{row, IsRow, StandsAt, part}
 use Rattle.gate_block.specs.Area.{base_of, size_of, position_of, has_failed}
-use Rattle.boost.specs.declared.records.record.Record.{Record}
-use Rattle.boost.specs.Records.{spelling}
+use Rattle.records.specs.declared.record.Record.{Record}
+use Rattle.records.specs.Records.{spelling}
 use Rattle.boost.specs.Machine.{State, Repeats}
 use Rattle.boost.specs.Books.{BookState, opened}
 use Rattle.calls.specs.Contents.{Collection}

@@ -5,7 +5,7 @@ use Rattle.calls.specs.Transactions.{Transaction, Act, Begins, Asks, Commits, Cr
 use Rattle.calls.specs.Inverses.{inverse_of}
 use Rattle.calls.specs.declared.refusal.Refusal.{Refusal}
 use Rattle.boost.specs.declared.block.Block.{Block}
-use Rattle.boost.specs.declared.records.record.Record.{Record}
+use Rattle.records.specs.declared.record.Record.{Record}
 use Rattle.boost.specs.Books.{BookState, Hands, HasNoCut, MakeAnswers, EnterAnswers, CallAnswers, CommitAnswers}
 use Rattle.boost.specs.declared.steps.Step.{Step}
 use Rattle.boost.specs.declared.steps.Answer.{Answer}

@@ -2,9 +2,9 @@
 use Rattle.std.specs.Prelude.{◌≡◌, ℕ, List, [], ◌∷◌, None}
 use Rattle.std.specs.List.{AllByRecursion}
 use Rattle.calls.specs.declared.refusal.Refusal.{Refusal}
-use Rattle.boost.specs.declared.records.record.Record.{Record}
+use Rattle.records.specs.declared.record.Record.{Record}
 use Rattle.boost.specs.declared.repetition.Part.{Part}
-use Rattle.boost.specs.Records.{IsRecord, IsOfStage}
+use Rattle.records.specs.Records.{IsRecord}
 use Rattle.boost.specs.Machine.{State, Steps, Repeats}
 use Rattle.boost.specs.Books.{next_after}
 use Rattle.boost.specs.Journals.{empty_state}
@@ -28,9 +28,9 @@ pub record IsAccepted (rs : List Record) : Type 0 where
   pub repeats : Repeats journal empty_state end
   pub idle : end.live ≡ None
 
--- records of this stage
+-- records that may stand where no kind was named
 abbrev pub AreRead : List Record → Type 0
-AreRead rs = AllByRecursion (λ r. IsRecord r × IsOfStage r) rs
+AreRead rs = AllByRecursion (IsRecord None) rs
 
 -- A refusal for want of memory, or of damage at the place that is there.
 abbrev pub IsDamageOr : ℕ → Type 0 → Refusal → Type 0

@@ -7,9 +7,9 @@ use Rattle.gate_block.specs.Row.{IsBlockOf}
 use Rattle.gate_block.specs.declared.area.Area.{Area}
 use Rattle.gate_block.specs.Area.{base_of, size_of, IsReady}
 use Rattle.boost.specs.declared.block.Block.{Block}
-use Rattle.boost.specs.declared.records.record.Record.{Record}
-use Rattle.boost.specs.Records.{spelling, IsRecord}
-use Rattle.boost.specs.Acts.{places}
+use Rattle.records.specs.declared.record.Record.{Record}
+use Rattle.records.specs.Records.{spelling, IsRecord}
+use Rattle.records.specs.Acts.{places}
 use Rattle.boost.specs.Machine.{State, Repeats}
 use Rattle.boost.specs.Books.{BookState, opened}
 use Rattle.boost.specs.Journals.{IsHeader, base_in_use, records_in, empty_state}
@@ -21,7 +21,7 @@ use Rattle.boost.specs.Crash.{Yields}
 pub record IsStage (s : State) (rs : List Record) (t : State) : Type 0 where
   pub repeats : Repeats rs s t
   pub idle : t.live ≡ None
-  pub good : AllByRecursion IsRecord rs
+  pub good : AllByRecursion (IsRecord None) rs
 
 abbrev pub Stages : List (List Record) → State → State → Type 0
 Stages blocks s t = Leads IsStage blocks s t
@@ -43,7 +43,7 @@ Carries end place (b ∷ bs) (rs ∷ rss) = IsCarried end place b rs × Carries 
 pub record IsBase (blocks : List (List Record)) (s : State) : Type 0 where
   pub journal : List Record
   pub is : records_in blocks ≡ Record.Marks 1 0 ∷ (Record.ImageEnd ∷ journal)
-  pub good : AllByRecursion (AllByRecursion IsRecord) blocks
+  pub good : AllByRecursion (AllByRecursion (IsRecord None)) blocks
   pub repeats : Repeats journal empty_state s
   pub idle : s.live ≡ None
 

@@ -1,7 +1,7 @@
 // The book: the state that its records lead to, and the records that wait for a block.
 ghost use Rattle.std.specs.Prelude.{◌≡◌, ◌≤◌, ◌^◌, None, length, map, take, drop, ◌∷◌, []};
 ghost use Rattle.calls.specs.Inverses.{inverse_of};
-ghost use Rattle.boost.specs.Acts.{places};
+ghost use Rattle.records.specs.Acts.{places};
 ghost use Rattle.boost.specs.Shown.{shown_one};
 ghost use Rattle.boost.specs.Machine.{IsGoodBump};
 ghost use Rattle.boost.specs.Books.{opened, MakeAnswers, EnterAnswers, CallAnswers, CommitAnswers, CutAnswers};
@@ -9,9 +9,9 @@ ghost use Rattle.boost.specs.Books.{opened, MakeAnswers, EnterAnswers, CallAnswe
 use crate::block::{Block, Outbox};
 use crate::machine::{Machine, Named};
 use crate::packing::pack;
-use crate::records::{CallRecord, Record};
 use calls::limits::MAX_PENDING;
 use calls::{Call, Kind, Name, Refusal, Reply};
+use records::{CallRecord, Record};
 use std::alloc::Global;
 use std::collections::VecDeque;
 use std::marker::Model;

@@ -9,7 +9,6 @@ mod core_steps;
 mod keeper;
 mod machine;
 mod packing;
-mod records;
 mod recovery;
 mod repetition;
 mod script;
@@ -24,9 +23,7 @@ pub use commands::{Failure, report, run};
 pub use keeper::Keeper;
 pub use machine::{Live, Machine, Named};
 pub use packing::{Packed, pack};
-pub use records::{
-    CallRecord, Item, LaterRecord, Record, decode, encode, encoded_len, one_spelling,
-};
+pub use records::Record;
 pub use recovery::{format, open};
 pub use repetition::{Part, Repetition};
 pub use script::{Action, Line, Request, ScriptError, parse};

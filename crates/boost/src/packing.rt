@@ -2,12 +2,12 @@
 ghost use Rattle.std.specs.Prelude.{◌≡◌, ◌≤◌, ◌∷◌, ◌++◌, [], length, drop, IfOk, IfErr, MatchOption};
 ghost use Rattle.std.specs.List.{AllByRecursion};
 ghost use Rattle.std.specs.Int.{w32, to_be_bytes};
-ghost use Rattle.boost.specs.Records.{IsRecord};
+ghost use Rattle.records.specs.Records.{IsRecord};
 ghost use Rattle.boost.specs.Books.{live_after, IsPacked, IsSpelled, HasNoCut};
 
-use crate::records::{Record, encode};
 use calls::Refusal;
 use calls::limits::MAX_BODY;
+use records::{Record, encode};
 use std::alloc::Global;
 use std::collections::VecDeque;
 
@@ -46,7 +46,7 @@ struct Packing {
 
 // Spells records until they are too long for one block.
 fn spell(alloc: Global, pending: &VecDeque<Record>) -> Result<Packing, Refusal>
-    requires { AllByRecursion IsRecord pending.now.items }
+    requires { AllByRecursion (IsRecord None) pending.now.items }
     ensures spelled { IfOk result (λ p. IsSpelled pending.now.items p.bytes.items p.count p.len) }
     ensures only { IfErr result (λ e. e ≡ Refusal.NoMemory) }
 {
@@ -81,7 +81,7 @@ fn write_head(block: &mut [u8], len: u32)
 /// The first records as one whole block: as many as can be one, or none where none can. The records are spelled into
 /// the block itself. Refused only for want of memory.
 pub fn pack(alloc: Global, pending: &VecDeque<Record>) -> Result<Option<Packed>, Refusal>
-    requires { AllByRecursion IsRecord pending.now.items }
+    requires { AllByRecursion (IsRecord None) pending.now.items }
     ensures packed { IfOk result (λ found. MatchOption found (HasNoCut pending.now.items) (λ p. IsPacked pending.now.items p.bytes.items p.count)) }
     ensures only { IfErr result (λ e. e ≡ Refusal.NoMemory) }
 {

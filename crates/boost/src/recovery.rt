@@ -2,7 +2,7 @@
 ghost use Rattle.std.specs.Prelude.{◌≡◌, ◌≤◌, ◌<◌, ◌+◌, ◌*◌, ◌^◌, ℕ, List, length, take, get_or, codes, OnOk, IfOk, IfErr, IsErrOf, IfSome, IfNone, IsTrue, ◌↔◌, false};
 ghost use Rattle.disk_model.specs.Disk.{ReadsOnly, LeavesOnly, Rises, HasCause, IsAtRest};
 ghost use Rattle.gate_block.specs.Area.{base_of, size_of, has_failed};
-ghost use Rattle.boost.specs.declared.records.record.Record.{Record};
+ghost use Rattle.records.specs.declared.record.Record.{Record};
 ghost use Rattle.calls.specs.Contents.{Collection};
 ghost use Rattle.boost.specs.Journals.{IsHeader, IsSound, StandsFor, base_in_use};
 ghost use Rattle.boost.specs.Keepers.{IsFresh};

@@ -1,15 +1,15 @@
 // The records of an area, repeated one after another.
 ghost use Rattle.std.specs.Prelude.{◌≡◌, ◌≤◌, ◌^◌, List, ◌++◌, ◌∷◌, [], length, OnOk, IfOk, IfErr, None, IsTrue, ◌↔◌};
 ghost use Rattle.calls.specs.declared.reply.Reply.{Reply};
-ghost use Rattle.boost.specs.declared.records.record.Record.{Record};
-ghost use Rattle.boost.specs.Records.{spelling};
+ghost use Rattle.records.specs.declared.record.Record.{Record};
+ghost use Rattle.records.specs.Records.{spelling};
 ghost use Rattle.boost.specs.Machine.{Steps};
 ghost use Rattle.boost.specs.Books.{opened, next_after};
 
 use crate::book::Book;
 use crate::machine::Machine;
-use crate::records::{CallRecord, Record, decode};
 use calls::{Kind, Name, Refusal, Reply};
+use records::{CallRecord, Record, decode};
 use std::alloc::Global;
 
 /// What stands next in an area: an image of marks and an end, and a journal behind it.
@@ -58,7 +58,7 @@ impl Repetition {
     {
         let mut rest = body;
         while !rest.is_empty() {
-            let (entry, behind) = decode(alloc, rest, place)?;
+            let (entry, behind) = decode(alloc, rest, None, place)?;
             self.take(entry, place)?;
             rest = behind;
         }

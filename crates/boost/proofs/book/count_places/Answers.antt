@@ -1,7 +1,7 @@
 use Rattle.std.proofs.Common.{◌≡◌, ◌+◌, ◌<◌, ◌∷◌, [], ◌++◌, ℕ, List, length, take, get_or, arith, sym, ◌∙◌, ap}
 use Rattle.std.proofs.lemmas.List.{take_more, length-take-le}
-use Rattle.boost.specs.declared.records.record.Record.{Record}
-use Rattle.boost.specs.Acts.{places}
+use Rattle.records.specs.declared.record.Record.{Record}
+use Rattle.records.specs.Acts.{places}
 use Rattle.boost.proofs.History.{places-append}
 use Rattle.boost.proofs.BookLemmas.{places_le}
 use Rattle.boost.proofs.book.count_places.Goals as goal

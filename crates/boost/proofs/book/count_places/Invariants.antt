@@ -1,5 +1,5 @@
 use Rattle.std.proofs.Common.{◌≡◌, take}
-use Rattle.boost.specs.Acts.{places}
+use Rattle.records.specs.Acts.{places}
 use Rattle.boost.proofs.book.count_places.Given as goal
 
 abbrev pub invariant-loop-i : goal.invariant-loop-i

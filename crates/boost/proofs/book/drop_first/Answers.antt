@@ -1,6 +1,6 @@
 use Rattle.std.proofs.Common.{◌∙◌, ap, drop, List}
 use Rattle.std.proofs.lemmas.List.{drop-drop}
-use Rattle.boost.specs.declared.records.record.Record.{Record}
+use Rattle.records.specs.declared.record.Record.{Record}
 use Rattle.boost.proofs.book.drop_first.Goals as goal
 
 pub loop-done-preserved : goal.loop-done-preserved

@@ -1,6 +1,6 @@
 use Rattle.std.proofs.Common.{◌≡◌, ◌+◌, ◌<◌, ◌≤◌, ℕ, List, length, take, arith, ◌∙◌, ap, replicate, length-append, Vec, Global}
-use Rattle.boost.specs.declared.records.record.Record.{Record}
-use Rattle.boost.specs.Records.{spelling}
+use Rattle.records.specs.declared.record.Record.{Record}
+use Rattle.records.specs.Records.{spelling}
 use Rattle.boost.proofs.PackingLemmas.{IsSpelling, goes_on, ends_here, spelled_end, none_longer, none_more, next_bytes, longer}
 use Rattle.boost.proofs.packing.spell.Goals as goal
 use Rattle.boost.proofs.packing.spell.Goals.{then-not-live, else-not-live, else-loop-i-test, then-loop-i-test+in_ok-encode+then-len}

@@ -1,5 +1,5 @@
-use Rattle.std.proofs.Common.{◌≡◌, inl, inr, ℕ, List, length, get_or, refl, ap, subst, sym, arith}
-use Rattle.boost.proofs.FormatLemmas.{StaysShut, stays_shut, shut_past_write, shut_past_sync, filled, empty_image, on_any}
+use Rattle.std.proofs.Common.{inl, inr, length, refl, ap, subst, sym, arith}
+use Rattle.boost.proofs.FormatLemmas.{stays_shut, shut_past_write, shut_past_sync, filled, empty_image, on_any}
 use Rattle.boost.specs.Openings.{IsFilled}
 use Rattle.boost.proofs.recovery.fill.Goals as goal
 

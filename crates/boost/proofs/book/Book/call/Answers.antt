@@ -1,6 +1,6 @@
 use Rattle.std.proofs.Common.{◌<◌, ◌∷◌, [], ◌++◌, length, arith, refl, List, ◌∙◌, ap}
-use Rattle.boost.specs.declared.records.record.Record.{Record}
-use Rattle.boost.specs.declared.records.record.CallRecord.{CallRecord}
+use Rattle.records.specs.declared.record.Record.{Record}
+use Rattle.records.specs.declared.record.CallRecord.{CallRecord}
 use Rattle.boost.specs.Machine.{Steps}
 use Rattle.boost.proofs.BookLemmas.{kept, appends, live_numbered, call_record, call_steps, good_inverse}
 use Rattle.boost.proofs.book.Book.call.Goals as goal

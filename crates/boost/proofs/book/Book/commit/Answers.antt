@@ -1,5 +1,5 @@
 use Rattle.std.proofs.Common.{◌<◌, ◌∷◌, [], ◌++◌, length, arith, refl, List, ◌∙◌, ap}
-use Rattle.boost.specs.declared.records.record.Record.{Record}
+use Rattle.records.specs.declared.record.Record.{Record}
 use Rattle.boost.proofs.BookLemmas.{kept, places_fit, live_numbered}
 use Rattle.boost.proofs.book.Book.commit.Goals as goal
 
@@ -12,4 +12,4 @@ invariant_of-self-2 c =
     let free : length c.self.inside.pending.items < 16384 = omega (arith, c.if-len-ge-MAX_PENDING.false, c.len.ensures, c.self.inside.pending.ok.0) in
     let r = Record.Commit c.args.number in
     kept _ _ c.self.inside.pending.items _ c.self.inside.end c.self.inside.place c.self.inside.places _ c.self.inside.next _ r c.self.invariant free c.commit.ensures
-    (c.push_back_reserved.ensures.items ∙ ap (λ (l : List Record). l ++ r ∷ []) c.reserve.ensures.items) refl refl (record { fits = omega (arith, number.below); sound = number }) c.self.invariant.next
+    (c.push_back_reserved.ensures.items ∙ ap (λ (l : List Record). l ++ r ∷ []) c.reserve.ensures.items) refl refl (record { fits = omega (arith, number.below); suits = tt; sound = number }) c.self.invariant.next

@@ -1,5 +1,5 @@
 use Rattle.std.proofs.Common.{◌<◌, ◌∷◌, [], ◌++◌, length, arith, refl, List, ◌∙◌, ap}
-use Rattle.boost.specs.declared.records.record.Record.{Record}
+use Rattle.records.specs.declared.record.Record.{Record}
 use Rattle.boost.specs.Machine.{Steps}
 use Rattle.boost.proofs.BookLemmas.{kept, places_fit, make_steps, make_record}
 use Rattle.boost.proofs.book.Book.make.Goals as goal
