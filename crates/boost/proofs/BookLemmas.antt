@@ -4,7 +4,7 @@ use Rattle.std.proofs.lemmas.Int.{ints}
 use Rattle.std.specs.Int.{w64}
 use Rattle.std.specs.Int.RustNames.{FitsSigned}
 use Rattle.std.specs.List.{AllByRecursion}
-use Rattle.std.proofs.lemmas.List.{take-append-drop, length-take-le}
+use Rattle.std.proofs.lemmas.List.{take-append-drop, length-take-le, length-map}
 use Rattle.calls.specs.declared.kind.Kind.{Kind}
 use Rattle.calls.specs.declared.call.Call.{Call}
 use Rattle.calls.specs.declared.reply.Reply.{Reply}
@@ -15,7 +15,7 @@ use Rattle.records.specs.declared.record.Record.{Record}
 use Rattle.records.specs.declared.record.CallRecord.{CallRecord}
 use Rattle.records.specs.Records.{IsRecord, IsNumber, Pairs, FitsCall, FitsReply}
 use Rattle.records.specs.Acts.{places}
-use Rattle.boost.specs.Machine.{IsBump, State, Live, IsLive, IsGoodBump, CanCall, MakeRow, CallRow, Steps}
+use Rattle.boost.specs.Machine.{IsBump, State, Live, IsLive, MakeRow, CallRow, Steps}
 use Rattle.boost.specs.Books.{BookState, Appends, IsKept, IsPacked, Hands, HasNumber, live_count, next_after}
 use Rattle.boost.specs.declared.block.Block.{Block}
 use Rattle.boost.proofs.Contents.{length-after_at}
@@ -41,7 +41,7 @@ Room r = (s t : State) → Steps s r t → length s.now ≤ 256 → s.wear ≤ 2
 room : (r : Record) → Room r
 room (Record.Make kind name) s t row few unworn =
     let size : length t.now ≡ length s.now + 1 = ap length row.makes.is ∙ length-append s.now (_ ∷ []) in
-    (omega (arith, size, row.can.room), omega (arith, row.wear), λ n le. omega (arith, size, row.wear, ap live_count row.live))
+    (omega (arith, size, row.can.few, length-map s.now (λ (x : Collection). x.name)), omega (arith, row.wear), λ n le. omega (arith, size, row.wear, ap live_count row.live))
 room (Record.Begin m) s t row few unworn =
     let now : t.now ≡ s.now = ap (λ (x : State). x.now) row.is in
     let wear : t.wear ≡ s.wear + 1 = ap (λ (x : State). x.wear) row.is in
@@ -49,10 +49,10 @@ room (Record.Begin m) s t row few unworn =
     let idle : live_count s.live ≡ 0 = ap live_count row.can.idle in
     (omega (arith, ap length now), omega (arith, wear, row.can.unworn), λ n le. omega (arith, ap length now, wear, live, idle))
 room (Record.Call c) s t row few unworn =
-    let before : live_count s.live ≡ 1 = ap live_count row.can.live in
+    let before : live_count s.live ≡ 1 = ap live_count row.can.may.live in
     let after : live_count t.live ≡ 1 = ap live_count row.live in
     let size : length t.now ≡ length s.now = ap length row.does.1 ∙ length-after_at s.now c.collection c.call c.reply row.can.answers in
-    (omega (arith, size), omega (arith, row.wear, row.can.unworn), λ n le. omega (arith, size, row.wear, before, after))
+    (omega (arith, size), omega (arith, row.wear, row.can.may.unworn), λ n le. omega (arith, size, row.wear, before, after))
 room (Record.Commit m) s t row few unworn =
     let now : t.now ≡ s.now = ap (λ (x : State). x.now) row.is in
     let wear : t.wear ≡ s.wear = ap (λ (x : State). x.wear) row.is in
@@ -64,7 +64,7 @@ room r s t row few unworn = absurd row
 numbered : (r : Record) (s t : State) → Steps s r t → HasNumber s.live → HasNumber t.live
 numbered (Record.Make kind name) s t row number = rw row.live number
 numbered (Record.Begin m) s t row number = rw row.is row.can.number
-numbered (Record.Call c) s t row number = let had : IsNumber c.number = rw row.can.live at number in rw row.live had
+numbered (Record.Call c) s t row number = let had : IsNumber c.number = rw row.can.may.live at number in rw row.live had
 numbered (Record.Commit m) s t row number = rw row.is tt
 numbered r s t row number = absurd row
 
@@ -114,12 +114,12 @@ fits_back : (k : ℤ) → IsStep k → FitsSigned w64 (neg_ℤ k)
 fits_back k step = omega (arith, ints, step.above, step.below)
 
 abbrev Good : Call → Reply → Type 0
-Good call reply = FitsCall call × FitsReply reply × Askable call × Pairs call reply × ((i : Option Call) → i ≡ inverse_of call Reply.Done → i ≡ inverse_of call reply) × ((i : Option Call) → i ≡ inverse_of call reply → IfSome i FitsCall)
+Good call reply = FitsCall call × FitsReply reply × Askable call × Pairs call reply × ((i : Option Call) → i ≡ inverse_of call reply → IfSome i FitsCall)
 
 good_bump : (xs : List Collection) (at : ℕ) (call : Call) (reply : Reply) → IsBump call → AnswersAt xs at call reply → Good call reply
 good_bump xs at (Call.Bump k) r bump a =
     let both = bump_answered xs at k r a in
-    let done : Good (Call.Bump k) Reply.Done = (fits_step k both.1, tt, both.1, tt, λ i e. e, λ i e. rw e (fits_back k both.1)) in
+    let done : Good (Call.Bump k) Reply.Done = (fits_step k both.1, tt, both.1, tt, λ i e. rw e (fits_back k both.1)) in
     subst (Good (Call.Bump k)) (sym both.0) done
 good_bump xs at call r bump a = absurd bump
 
@@ -128,21 +128,14 @@ pub call_record : (s : State) (c : CallRecord) → c.collection < 256 → IsNumb
 call_record s c small number bump answers inverse =
     let good = good_bump s.now c.collection c.call c.reply bump answers in
     record {
-      fits = record { number = omega (arith, number.below); collection = small; call = good.0; reply = good.1; inverse = good.5 c.inverse inverse };
+      fits = record { number = omega (arith, number.below); collection = small; call = good.0; reply = good.1; inverse = good.4 c.inverse inverse };
       suits = tt;
       sound = record { number = number; asked = good.2; answered = good.3; undone = inverse };
     }
 
-good_of : (xs : List Collection) (at : ℕ) (call : Call) (reply : Reply) (inverse : Option Call) → IsBump call → AnswersAt xs at call reply → (IsGoodBump call → inverse ≡ inverse_of call Reply.Done) → inverse ≡ inverse_of call reply
-good_of xs at (Call.Bump k) reply inverse bump a gives =
-    let both = bump_answered xs at k reply a in
-    let good = good_bump xs at (Call.Bump k) reply bump a in
-    good.4 inverse (gives both.1)
-good_of xs at call reply inverse bump a gives = absurd bump
-
--- a making with its name and kind as they were handed in
-pub make_steps : (s t : State) (kind : Kind) (name copied handed : List ℕ) → kind ≡ Kind.Counter → name ≡ handed → copied ≡ handed → MakeRow s copied Kind.Counter t → Steps s (Record.Make kind name) t
-make_steps s t kind name copied handed is_counter is_name is_copy row = rw (is_counter, is_name, ← is_copy) row
+-- a making with its name as it was handed in
+pub make_steps : (s t : State) (kind : Kind) (name given handed : List ℕ) → name ≡ handed → given ≡ handed → MakeRow s given kind t → Steps s (Record.Make kind name) t
+make_steps s t kind name given handed is_name is_given row = rw (is_name, ← is_given) row
 
 pub make_record : (s t : State) (kind : Kind) (name : List ℕ) → Steps s (Record.Make kind name) t → IsRecord None (Record.Make kind name)
 make_record s t kind name row = record { fits = row.can.good; suits = tt; sound = tt }
@@ -150,9 +143,6 @@ make_record s t kind name row = record { fits = row.can.good; suits = tt; sound 
 -- a call with its parts as they were handed in
 pub call_steps : (s t : State) (c : CallRecord) (call : Call) (reply : Reply) → c.call ≡ call → c.reply ≡ reply → CallRow s c.number c.collection call reply t → Steps s (Record.Call c) t
 call_steps s t c call reply is_call is_reply row = rw (is_call, is_reply) row
-
-pub good_inverse : (s : State) (n at : ℕ) (call : Call) (reply : Reply) (inverse : Option Call) → CanCall s n at call reply → (IsGoodBump call → inverse ≡ inverse_of call Reply.Done) → inverse ≡ inverse_of call reply
-good_inverse s n at call reply inverse can gives = good_of s.now at call reply inverse can.bump can.answers gives
 
 -- the same over the fields of a book
 module _ (now next : State) (pending more : List Record) (end place count counted number above : ℕ) (r : Record) where

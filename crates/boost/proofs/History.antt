@@ -95,10 +95,10 @@ call_moves : (c : CallRecord) → Moves (Record.Call c)
 call_moves c es s t content settles row =
     let n = c.number in
     let e : Event = event_of c in
-    let before : Leads Does (calls_of (own n es)) content s.now × (laters_of (own n es) ≡ []) = rw row.can.live at settles in
+    let before : Leads Does (calls_of (own n es)) content s.now × (laters_of (own n es) ≡ []) = rw row.can.may.live at settles in
     let after : Leads Does (calls_of (own n (es ++ (n, Asked e) ∷ []))) content t.now × (laters_of (own n (es ++ (n, Asked e) ∷ [])) ≡ []) = (
       rw (own-push n es (Asked e), calls_of-push (own n es) e) (leads_push Does (calls_of (own n es)) e content s.now t.now before.0 row.does),
-      rw (own-push n es (Asked e)) (laters_of-push (own n es) e (bump_leaves_none c.call c.reply row.can.bump) ∙ before.1),
+      rw (own-push n es (Asked e)) (laters_of-push (own n es) e (bump_leaves_none c.call c.reply row.can.may.taken.bump) ∙ before.1),
     ) in
     (content, refl, rw row.live after)
 
@@ -162,7 +162,7 @@ record_forgets (Record.Begin n) es fs s t same row = (refl, rw row.is (own-other
 record_forgets (Record.Call c) es fs s t same row =
     let n = c.number in
     let e : Entry = Asked (event_of c) in
-    let before : own n es ≡ own n fs = rw row.can.live at same in
+    let before : own n es ≡ own n fs = rw row.can.may.live at same in
     (refl, rw row.live (own-push n es e ∙ ap (λ l. l ++ e ∷ []) before ∙ sym (own-push n fs e)))
 record_forgets (Record.Commit n) es fs s t same row =
     let before : own n es ≡ own n fs = rw row.can.1 at same in

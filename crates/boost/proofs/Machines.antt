@@ -1,108 +1,86 @@
--- The fields of a machine.
-use Rattle.std.proofs.Common.{◌≡◌, ℕ, zero, suc, ◌+◌, get_or, set, ◌≤◌, ◌<◌, ◌^◌, ℤ, List, [], ◌∷◌, length, map, slice_index_or, refl, sym, ap, ◌∙◌, arith, Option, Some, None, Result, Ok, Err, IfOk, IsOkAnd}
-use borrow.Author.Count.{below_more}
-use Rattle.std.proofs.lemmas.Int.{ints}
-use Rattle.std.specs.List.{AllByRecursion}
+-- The fields of a machine, and when it refuses a call.
+use Rattle.std.proofs.Common.{◌≡◌, ℕ, zero, suc, ◌+◌, ◌<◌, ◌≤◌, ◌^◌, List, [], ◌∷◌, length, sym, ◌∙◌, ap, arith, Option, Some, Result, Ok, Err, IsOk, OnOk, IfErr, false, true≢false, inl, inr}
+use Rattle.std.specs.Result.{is_ok}
 use Rattle.calls.specs.declared.call.Call.{Call}
 use Rattle.calls.specs.declared.reply.Reply.{Reply}
 use Rattle.calls.specs.declared.refusal.Refusal.{Refusal}
-use Rattle.calls.specs.Ranges.{IsStep}
-use Rattle.calls.specs.Counters.{IsWithin, Answers, after}
-use Rattle.calls.specs.Contents.{InCounter, AnswersAt, after_at}
-use Rattle.collections.specs.Numbers.{IsI128}
-use Rattle.boost.specs.declared.machine.Named.{Named}
+use Rattle.calls.specs.Contents.{Collection, AnswersAt, after_at}
+use Rattle.calls.specs.Inverses.{Disposable}
+use Rattle.boosted.specs.Shape.{HasRoom}
+use Rattle.catalog.specs.Places.{At, IsWithin}
+use Rattle.catalog.specs.Laws.OneContent.{part_rests}
+use Rattle.catalog.specs.Laws.ByPlace.{wears}
 use Rattle.boost.specs.declared.machine.Live.{Live}
 use Rattle.boost.specs.Machine as machine
-use Rattle.boost.specs.Machine.{IsBump}
-use Rattle.boost.specs.Shown.{shown_one, shown_live, IsWorn}
+use Rattle.boost.specs.Machine.{State, IsLive, IsBump, MayCall, RefusesCall}
+use Rattle.boost.specs.Shown.{shown_live, IsWorn}
 
-within_more : (s : ℤ) (n : ℕ) → IsWithin s n → IsWithin s (n + 1)
-within_more s n w = record { low = omega (arith, ints, w.low); high = omega (arith, ints, w.high) }
+-- ---- the wear
 
-abbrev pub AllWithin : List Named → ℕ → Type 0
-AllWithin xs n = AllByRecursion (λ x. IsWithin x.counter n) xs
-
-all_within_more : (xs : List Named) (n : ℕ) → AllWithin xs n → AllWithin xs (n + 1)
+all_within_more : (xs : List Collection) (n : ℕ) → IsWithin xs n → IsWithin xs (n + 1)
 all_within_more [] n all = tt
-all_within_more (x ∷ xs) n all = (within_more x.counter n all.0, all_within_more xs n all.1)
+all_within_more (x ∷ xs) n all = (part_rests x.content n all.0, all_within_more xs n all.1)
 
-pub worn_more : (xs : List Named) (n : ℕ) → n < 2 ^ 61 → IsWorn xs n → IsWorn xs (n + 1)
+pub worn_more : (xs : List Collection) (n : ℕ) → n < 2 ^ 61 → IsWorn xs n → IsWorn xs (n + 1)
 worn_more xs n small worn = record { within = all_within_more xs n worn.within; bound = omega (arith, small) }
 
--- the live transaction's number
+pub worn_run : (xs ys : List Collection) (n at : ℕ) (c : Call) (r : Reply) → n < 2 ^ 61 → AnswersAt xs at c r → ys ≡ after_at xs at c r → IsWorn xs n → IsWorn ys (n + 1)
+worn_run xs ys n at c r small answers is worn = rw is (record { within = wears xs n at c r worn.within answers; bound = omega (arith, small) })
+
+pub has_room : (xs : List Collection) (n : ℕ) → IsWorn xs n → HasRoom IsWithin xs
+has_room xs n worn = (n, worn.within, omega (arith, worn.bound))
+
+-- ---- results of calls
+
+-- a bump takes no memory
+pub bump_disposable : (c : Call) → IsBump c → Disposable c
+bump_disposable (Call.Bump n) bump = tt
+bump_disposable c bump = absurd bump
+
+pub use_ok : {T E : Type 0} (P : Type 0) (r : Result T E) → IsOk r → OnOk r P → P
+use_ok P (Ok x) fine p = p
+use_ok P (Err e) fine p = absurd (true≢false (sym fine))
+
+pub why_not : {T : Type 0} (r : Result T Refusal) (P : Refusal → Type 0) → is_ok r ≡ false → IfErr r P → (e : Refusal) × P e
+why_not (Ok x) P bad why = absurd (true≢false bad)
+why_not (Err e) P bad why = (e, why)
+
+-- ---- the live transaction
+
 pub live_is : (o : Option Live) (live : Live) → o ≡ Some live → shown_live o ≡ Some (record { number = live.number; calls = live.calls })
 live_is o live e = ap shown_live e
 
 same_some : (a b : machine.Live) → Some a ≡ Some b → a ≡ b
 same_some a b e = cc
 
-pub shown_some : (o : Option Live) (n k : ℕ) → shown_live o ≡ Some (record { number = n; calls = k }) → (live : Live) × (o ≡ Some live) × (live.number ≡ n) × (live.calls ≡ k)
-shown_some None n k e = cc
-shown_some (Some live) n k e =
-    let is : record { number = live.number; calls = live.calls } ≡ record { number = n; calls = k } = same_some (record { number = live.number; calls = live.calls }) (record { number = n; calls = k }) e in
-    (live, refl, ap (λ (x : machine.Live). x.number) is, ap (λ (x : machine.Live). x.calls) is)
-
--- the call goes to the counter at the place
-
-module _ (c : Call) (r : Reply) where
-  pub answers_at : (xs : List Named) (i : ℕ) (d : Named) → i < length xs → Answers (get_or xs i d).counter c r → AnswersAt (map shown_one xs) i c r
-  answers_at [] i d l a = absurd (omega arith)
-  answers_at (x ∷ xs) zero d l a = a
-  answers_at (x ∷ xs) (suc i) d l a = answers_at xs i d (omega arith) a
-
-  pub there : (xs : List Named) (i : ℕ) → AnswersAt (map shown_one xs) i c r → i < length xs
-  there [] i a = absurd a
-  there (x ∷ xs) zero a = omega arith
-  there (x ∷ xs) (suc i) a = omega (arith, there xs i a)
-
-  pub answers_there : (xs : List Named) (i : ℕ) (d : Named) → AnswersAt (map shown_one xs) i c r → Answers (get_or xs i d).counter c r
-  answers_there [] i d a = absurd a
-  answers_there (x ∷ xs) zero d a = a
-  answers_there (x ∷ xs) (suc i) d a = answers_there xs i d a
-
-  pub after_there : (xs : List Named) (i : ℕ) (x : Named) (v : ℤ) → AnswersAt (map shown_one xs) i c r → x ≡ get_or xs i x → v ≡ after x.counter c r → map shown_one (set xs i (record { name = x.name; counter = v })) ≡ after_at (map shown_one xs) i c r
-  after_there [] i x v a e w = absurd a
-  after_there (y ∷ ys) zero x v a e w =
-      let name : x.name ≡ y.name = ap (λ (z : Named). z.name) e in
-      let total : v ≡ after y.counter c r = w ∙ ap (λ (z : Named). after z.counter c r) e in
-      λ i. record { name = name i; content = InCounter (total i) } ∷ map shown_one ys
-  after_there (y ∷ ys) (suc i) x v a e w = ap (λ l. shown_one y ∷ l) (after_there ys i x v a e w)
-
-pub within_at : (xs : List Named) (i n : ℕ) (d : Named) → i < length xs → AllWithin xs n → IsWithin (get_or xs i d).counter n
-within_at [] i n d l all = absurd (omega arith)
-within_at (x ∷ xs) zero n d l all = all.0
-within_at (x ∷ xs) (suc i) n d l all = within_at xs i n d (omega arith) all.1
-
-pub within_set : (xs : List Named) (i n : ℕ) (x : Named) → AllWithin xs n → IsWithin x.counter n → AllWithin (set xs i x) n
-within_set [] i n x all w = tt
-within_set (y ∷ ys) zero n x all w = (w, all.1)
-within_set (y ∷ ys) (suc i) n x all w = (all.0, within_set ys i n x all.1 w)
-
--- one bump more stays within one more, and in the range of an i128
-pub bump_within : (s : ℤ) (c : Call) (r : Reply) (n : ℕ) → IsBump c → Answers s c r → IsWithin s n → IsWithin (after s c r) (n + 1)
-bump_within s (Call.Bump k) r n bump a w = let step : IsStep k = a.0.0 in record { low = omega (arith, ints, w.low, step.above); high = omega (arith, ints, w.high, step.below) }
-bump_within s c r n bump a w = absurd bump
-
-pub bump_fits : (s : ℤ) (n : ℕ) → n ≤ 2 ^ 61 → IsWithin s n → IsI128 s
-bump_fits s n small w = record { low = omega (arith, ints, w.low); high = omega (arith, ints, w.high) }
-
-pub looked : (result : Result Reply Refusal) (s : ℤ) (call : Call) (P : Reply → Type 0) → IsOkAnd result (λ reply. Answers s call reply) → ((reply : Reply) → Answers s call reply → P reply) → IfOk result P
-looked (Ok reply) s call P given gives = gives reply given
-looked (Err e) s call P given gives = tt
-
--- one name more is none of the earlier ones
-
-pub name_at : (xs : List Named) (i : ℕ) (x : Named) (name : List ℕ) → i < length xs → x ≡ get_or xs i x → slice_index_or (map (λ y. y.name) (map shown_one xs)) i name ≡ x.name
-name_at [] i x name l e = absurd (omega arith)
-name_at (y ∷ ys) zero x name l e = ap (λ (z : Named). z.name) (sym e)
-name_at (y ∷ ys) (suc i) x name l e = name_at ys i x name (omega arith) e
-
-pub length-names : (xs : List Named) → length (map (λ y. y.name) (map shown_one xs)) ≡ length xs
-length-names [] = refl
-length-names (x ∷ xs) = ap suc (length-names xs)
-
-pub none_more : (P : ℕ → Type 0) (i : ℕ) → ((k : ℕ) → k < i → P k) → P i → (k : ℕ) → k < i + 1 → P k
-none_more P i below here k l = below_more P i below here k l
-
 pub same_calls : (o : Option Live) (live : Live) (n k : ℕ) → o ≡ Some live → shown_live o ≡ Some (record { number = n; calls = k }) → live.calls ≡ k
 same_calls o live n k is shown = let e = same_some (record { number = live.number; calls = live.calls }) (record { number = n; calls = k }) (sym (ap shown_live is) ∙ shown) in ap (λ (x : machine.Live). x.calls) e
+
+-- it has one number of calls
+pub one_count : (s : State) (n m k : ℕ) → IsLive s n m → IsLive s n k → m ≡ k
+one_count s n m k a b = ap (λ (l : machine.Live). l.calls) (same_some (record { number = n; calls = m }) (record { number = n; calls = k }) (sym a ∙ b))
+
+-- ---- refusals of calls
+
+none_past : (P : Collection → Type 0) (xs : List Collection) (at : ℕ) → length xs ≤ at → At P xs at → ⊥
+none_past P [] at past there = there
+none_past P (x ∷ xs) zero past there = absurd (omega arith)
+none_past P (x ∷ xs) (suc at) past there = none_past P xs at (omega arith) there
+
+not_both : (P : Collection → Type 0) (xs : List Collection) (at : ℕ) → At (λ x. P x → ⊥) xs at → At P xs at → ⊥
+not_both P [] at other same = same
+not_both P (x ∷ xs) zero other same = other same
+not_both P (x ∷ xs) (suc at) other same = not_both P xs at other same
+
+pub refused_call : (s : State) (n at : ℕ) (call : Call) (e : Refusal) → RefusesCall s n at call e → MayCall s n at call → ⊥
+refused_call s n at call Refusal.NoSuchTxn refused may = refused may.calls may.live
+refused_call s n at call Refusal.NoSuchCollection refused may = none_past _ s.now at refused.1 may.taken.asked.0
+refused_call s n at call Refusal.WrongKind refused may = not_both _ s.now at refused.1 may.taken.asked.0
+refused_call s n at call Refusal.BadArg refused may = elim refused.1 [
+  | inl asked ↦ asked.1 may.taken.asked.1
+  | inr other ↦ other.1 may.taken.bump
+]
+refused_call s n at call Refusal.TooLong refused may = refused.1.2 may.taken.asked.2
+refused_call s n at call Refusal.Worn refused may = absurd (omega (arith, refused.2, may.unworn))
+refused_call s n at call Refusal.TooManyCalls refused may = absurd (omega (arith, one_count s n refused.0.0 may.calls refused.0.1 may.live, refused.0.2, may.few))
+refused_call s n at call e refused may = refused.1

@@ -10,7 +10,7 @@ use Rattle.byteorder.specs.Endian.{big_number}
 use Rattle.records.proofs.RecordFields.{IsBytes, IsBytes-drop, number-read}
 use Rattle.std.specs.List.{AllByRecursion}
 use Rattle.disk_model.specs.Disk.{ReadsOnly, Rises, IsAtRest}
-use Rattle.disk_model.proofs.Walk.{reads_on as read_twice}
+use Rattle.disk_model.proofs.Walk.{started, reads_on as read_twice}
 use Rattle.gate_block.specs.Row.{block, row, IsBody, IsRow, StandsAt, IsBroken, Finds, part}
 use Rattle.gate_block.specs.Answers.{IsNextAnswer}
 use Rattle.gate_block.proofs.Facts.{ready, length-row_add, row-append, next_is, none_is_next, not_broken}
@@ -230,6 +230,21 @@ pub record IsLoading {D : Type 0} (seen : D → List ℕ) (may_leave : D → Lis
   pub fine : has_failed area ≡ false
   pub place_is : place ≡ base + position_of area
   pub has_read : is_honest new → HasRead (part base size (seen old)) (position_of area) part_now s next
+
+-- before the first block
+pub loading_starts : {D : Type 0} (seen : D → List ℕ) (may_leave : D → List ℕ → Type 0) (moment : D → ℕ) (left_since : D → ℕ → List ℕ → Type 0) (is_honest : D → Type 0) (fault_count : D → ℕ) (disk : D) (base size : ℕ) (area : Area) (part_now : Part) (s : State) (next : ℕ)
+    → ((c : List ℕ) → left_since disk (moment disk) c → may_leave disk c) → base_of area ≡ base → size_of area ≡ size → position_of area ≡ 0 → has_failed area ≡ false → Reached [] part_now s next
+    → IsLoading seen may_leave moment left_since is_honest fault_count disk disk base size area part_now s next base
+loading_starts seen may_leave moment left_since is_honest fault_count disk base size area part_now s next only_now base_is size_is none fine reached = record {
+  reads = record { same = refl; stop = λ c left. left; any_moment = started moment left_since disk (may_leave disk) only_now };
+  honest = λ true_read. true_read;
+  faults = omega arith;
+  base_is = base_is;
+  size_is = size_is;
+  fine = fine;
+  place_is = omega (arith, none);
+  has_read = λ true_read. nothing_read (part base size (seen disk)) (position_of area) part_now s next none reached;
+}
 
 -- a count that rose since a moment rose since an earlier one
 pub rises_before : (a b c : ℕ) → a ≤ b → b ≤ c → Rises b c → Rises a c

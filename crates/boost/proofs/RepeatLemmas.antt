@@ -1,60 +1,22 @@
 -- Records that are repeated: the state that they lead to is the only one, and a refusal comes only where they lead nowhere.
-use Rattle.std.proofs.Common.{◌≡◌, ℕ, zero, suc, ◌+◌, ◌≤◌, ◌<◌, ◌^◌, List, [], ◌∷◌, ◌++◌, length, append_assoc, length-append, refl, sym, ◌∙◌, ap, subst, arith, true, false, true≢false, Some, None, Result, Ok, Err, OnOk, IfOk, IfErr}
-use Rattle.std.specs.Result.{is_err}
+use Rattle.std.proofs.Common.{◌≡◌, ℕ, ◌+◌, ◌≤◌, ◌<◌, ◌^◌, List, [], ◌∷◌, ◌++◌, length, append_assoc, length-append, refl, sym, ◌∙◌, ap, subst, arith, Some, None, Result, Ok, Err, OnOk, IfErr}
 use Rattle.calls.specs.declared.call.Call.{Call}
 use Rattle.calls.specs.declared.reply.Reply.{Reply}
 use Rattle.calls.specs.declared.refusal.Refusal.{Refusal}
-use Rattle.calls.specs.Contents.{Collection, AnswersAt}
 use Rattle.records.specs.declared.record.Record.{Record}
 use Rattle.records.specs.Records.{spelled, spelling, IsRecord, Begins, IsWhy}
 use Rattle.records.proofs.RecordLaws.{one_spelling_of}
 use Rattle.records.proofs.RecordLengths.{spelled-positive}
 use Rattle.std.proofs.lemmas.List.{append-nil}
-use Rattle.boost.specs.Machine.{State, Live, IsLive, IsOfCounter, IsBump, IsGoodBump, CanCall, RefusesCall, CallRow, Steps, Repeats}
+use Rattle.boost.specs.Machine.{State, CallRow, Steps, Repeats}
 use Rattle.boost.specs.declared.repetition.Part.{Part}
 use Rattle.boost.specs.Books.{next_after}
 use Rattle.boost.specs.Journals.{empty_state}
 use Rattle.boost.specs.Repetitions.{next_from, Reached, IsAccepted, AreRead, IsStuck, IsDamageOr}
 use Rattle.boost.proofs.Grammar.{not_empty}
 use Rattle.boost.proofs.Lists.{leads_push, leads_split, flat_map-append, leads_exact}
-use Rattle.boost.proofs.BookLemmas.{bump_answered}
+use Rattle.boost.proofs.Machines.{one_count}
 use Rattle.boost.proofs.Contents.{length-after_at}
-
-pub reply_done : (xs : List Collection) (at : ℕ) (call : Call) (reply : Reply) → IsBump call → AnswersAt xs at call reply → reply ≡ Reply.Done
-reply_done xs at (Call.Bump k) reply bump a = (bump_answered xs at k reply a).0
-reply_done xs at call reply bump a = absurd bump
-
-pub done_can : (s : State) (n at : ℕ) (call : Call) (found asked : Reply) → CanCall s n at call found → asked ≡ Reply.Done → CanCall s n at call asked
-done_can s n at call found asked can done = subst (λ r. CanCall s n at call r) (reply_done s.now at call found can.bump can.answers ∙ sym done) can
-
-there_at : (xs : List Collection) (at : ℕ) (call : Call) (reply : Reply) → AnswersAt xs at call reply → at < length xs
-there_at [] at call reply a = absurd a
-there_at (x ∷ xs) zero call reply a = omega arith
-there_at (x ∷ xs) (suc at) call reply a = omega (arith, there_at xs at call reply a)
-
-of_counter : (call : Call) → IsBump call → IsOfCounter call
-of_counter (Call.Bump k) bump = tt
-of_counter call bump = absurd bump
-
-good_size : (xs : List Collection) (at : ℕ) (call : Call) (reply : Reply) → IsBump call → AnswersAt xs at call reply → IsGoodBump call
-good_size xs at (Call.Bump k) reply bump a = (bump_answered xs at k reply a).1
-good_size xs at call reply bump a = absurd bump
-
-same_live : (a b : Live) → Some a ≡ Some b → a ≡ b
-same_live a b e = cc
-
--- the live transaction has one number of calls
-one_count : (s : State) (n m k : ℕ) → IsLive s n m → IsLive s n k → m ≡ k
-one_count s n m k a b = ap (λ (l : Live). l.calls) (same_live (record { number = n; calls = m }) (record { number = n; calls = k }) (sym a ∙ b))
-
-pub call_stuck : (s t : State) (n at : ℕ) (call : Call) (reply : Reply) (e : Refusal) → RefusesCall s n at call e → CallRow s n at call reply t → ⊥
-call_stuck s t n at call reply Refusal.NoSuchTxn refused row = refused row.can.calls row.can.live
-call_stuck s t n at call reply Refusal.NoSuchCollection refused row = absurd (omega (arith, refused.1, there_at s.now at call reply row.can.answers))
-call_stuck s t n at call reply Refusal.WrongKind refused row = refused.2 (of_counter call row.can.bump)
-call_stuck s t n at call reply Refusal.BadArg refused row = refused.2 (good_size s.now at call reply row.can.bump row.can.answers)
-call_stuck s t n at call reply Refusal.Worn refused row = absurd (omega (arith, refused.3, row.can.unworn))
-call_stuck s t n at call reply Refusal.TooManyCalls refused row = absurd (omega (arith, one_count s n refused.0.0 row.can.calls refused.0.1 row.can.live, refused.0.2, row.can.few))
-call_stuck s t n at call reply e refused row = absurd refused
 
 -- a record leads to one state
 pub step_exact : (r : Record) (s t u : State) → Steps s r t → Steps s r u → t ≡ u
@@ -66,7 +28,7 @@ step_exact (Record.Make kind name) s t u a b =
 step_exact (Record.Begin n) s t u a b = a.is ∙ sym b.is
 step_exact (Record.Call c) s t u a b =
     let now : t.now ≡ u.now = a.does.1 ∙ sym b.does.1 in
-    let count : a.can.calls ≡ b.can.calls = one_count s c.number a.can.calls b.can.calls a.can.live b.can.live in
+    let count : a.can.may.calls ≡ b.can.may.calls = one_count s c.number a.can.may.calls b.can.may.calls a.can.may.live b.can.may.live in
     let live : t.live ≡ u.live = a.live ∙ ap (λ k. Some (record { number = c.number; calls = k + 1 })) count ∙ sym b.live in
     let wear : t.wear ≡ u.wear = a.wear ∙ sym b.wear in
     λ i. record { now = now i; live = live i; wear = wear i }
@@ -76,18 +38,8 @@ step_exact r s t u a b = absurd a
 pub repeat_exact : (rs : List Record) (s t u : State) → Repeats rs s t → Repeats rs s u → t ≡ u
 repeat_exact rs s t u = leads_exact Steps step_exact rs s t u
 
--- what was looked up, where it was not refused
-pub found_of : {E : Type 0} (r : Result Reply E) (P : Reply → Type 0) → is_err r ≡ false → IfOk r P → (reply : Reply) × P reply
-found_of (Ok reply) P fine is = (reply, is)
-found_of (Err e) P fine is = absurd (true≢false fine)
-
--- why not
-pub refused_of : {T : Type 0} (r : Result T Refusal) (P : Refusal → Type 0) → is_err r ≡ true → IfErr r P → (e : Refusal) × P e
-refused_of (Ok x) P bad is = absurd (true≢false (sym bad))
-refused_of (Err e) P bad is = (e, is)
-
 pub call_room : (s t : State) (n at : ℕ) (call : Call) (reply : Reply) → CallRow s n at call reply t → length s.now ≤ 256 → (length t.now ≤ 256) × (t.wear ≤ 2 ^ 61)
-call_room s t n at call reply row few = (omega (arith, ap length row.does.1, length-after_at s.now at call reply row.can.answers, few), omega (arith, row.wear, row.can.unworn))
+call_room s t n at call reply row few = (omega (arith, ap length row.does.1, length-after_at s.now at call reply row.can.answers, few), omega (arith, row.wear, row.can.may.unworn))
 
 -- a number above those of one record more
 next_from-push : (rs : List Record) (r : Record) (next : ℕ) → next_from next (rs ++ r ∷ []) ≡ next_after (next_from next rs) r

@@ -50,7 +50,7 @@ flag (Some live) = true
 record_flag : (r : Record) (s t : State) → Steps s r t → flag t.live ≡ live_after (flag s.live) (r ∷ [])
 record_flag (Record.Make kind name) s t row = ap flag row.live
 record_flag (Record.Begin n) s t row = ap (λ (x : State). flag x.live) row.is
-record_flag (Record.Call c) s t row = ap flag row.live ∙ sym (ap flag row.can.live)
+record_flag (Record.Call c) s t row = ap flag row.live ∙ sym (ap flag row.can.may.live)
 record_flag (Record.Commit n) s t row = ap (λ (x : State). flag x.live) row.is
 record_flag r s t row = absurd row
 

@@ -6,11 +6,12 @@ use Rattle.calls.specs.declared.call.Call.{Call}
 use Rattle.calls.specs.declared.reply.Reply.{Reply}
 use Rattle.calls.specs.declared.refusal.Refusal.{Refusal}
 use Rattle.calls.specs.Inverses.{inverse_of}
+use Rattle.catalog.specs.Making.{names_of, MakeRefused}
 use Rattle.records.specs.declared.record.Record.{Record}
 use Rattle.boost.specs.declared.block.Block.{Block}
 use Rattle.gate_block.specs.Row.{IsBlockOf}
 use Rattle.records.specs.Acts.{places}
-use Rattle.boost.specs.Machine.{State, Live, Steps, RefusesMake, RefusesBegin, CanBegin, RefusesCall, CanCall, CanCommit}
+use Rattle.boost.specs.Machine.{State, Live, Steps, RefusesBegin, CanBegin, RefusesCall, MayCall, CanCommit}
 use Rattle.records.specs.Records.{spelling, IsRecord, IsNumber}
 
 pub record BookState : Type 0 where
@@ -76,25 +77,24 @@ pub record Hands (s : BookState) (block : Block) (t : BookState) : Type 0 where
 abbrev pub IsFull : BookState → Type 0
 IsFull s = 16384 ≤ length s.pending
 
--- When each refusal comes. The one for want of memory may come behind all others.
+-- When each refusal comes. The one for want of memory comes behind all others.
 
-abbrev pub MakeRefusal : BookState → List ℕ → Kind → Refusal → Type 0
-MakeRefusal s name kind Refusal.NoMemory = Unit {0}
-MakeRefusal s name kind Refusal.Backlog = IsFull s
-MakeRefusal s name kind e = (IsFull s → ⊥) × RefusesMake s.state name kind e
+abbrev pub MakeRefusal : BookState → List ℕ → Refusal → Type 0
+MakeRefusal s name Refusal.Backlog = IsFull s
+MakeRefusal s name e = (IsFull s → ⊥) × MakeRefused (names_of s.state.now) name e
 
 abbrev pub EnterRefusal : BookState → ℕ → Refusal → Type 0
-EnterRefusal s n Refusal.NoMemory = Unit {0}
+EnterRefusal s n Refusal.NoMemory = (IsFull s → ⊥) × CanBegin s.state n
 EnterRefusal s n Refusal.Backlog = IsFull s × CanBegin s.state n
 EnterRefusal s n e = RefusesBegin s.state n e
 
 abbrev pub CallRefusal : BookState → ℕ → ℕ → Call → Refusal → Type 0
-CallRefusal s n at call Refusal.NoMemory = Unit {0}
-CallRefusal s n at call Refusal.Backlog = IsFull s × ((reply : Reply) × CanCall s.state n at call reply)
+CallRefusal s n at call Refusal.NoMemory = (IsFull s → ⊥) × MayCall s.state n at call
+CallRefusal s n at call Refusal.Backlog = IsFull s × MayCall s.state n at call
 CallRefusal s n at call e = RefusesCall s.state n at call e
 
 abbrev pub CommitRefusal : BookState → ℕ → Refusal → Type 0
-CommitRefusal s n Refusal.NoMemory = Unit {0}
+CommitRefusal s n Refusal.NoMemory = (IsFull s → ⊥) × CanCommit s.state n
 CommitRefusal s n Refusal.Backlog = IsFull s × CanCommit s.state n
 CommitRefusal s n Refusal.NoSuchTxn = CanCommit s.state n → ⊥
 CommitRefusal s n e = ⊥
@@ -103,7 +103,7 @@ CommitRefusal s n e = ⊥
 
 abbrev pub MakeAnswers : BookState → List ℕ → Kind → Result ℕ Refusal → BookState → Type 0
 MakeAnswers s name kind (Ok place) t = Appends s (Record.Make kind name) t × (place ≡ t.places)
-MakeAnswers s name kind (Err e) t = (t ≡ s) × MakeRefusal s name kind e
+MakeAnswers s name kind (Err e) t = (t ≡ s) × MakeRefusal s name e
 
 abbrev pub EnterAnswers : BookState → ℕ → Result (Unit {0}) Refusal → BookState → Type 0
 EnterAnswers s n (Ok done) t = Appends s (Record.Begin n) t

@@ -1,14 +1,15 @@
 -- The machine that a book runs forward, and that an opening repeats over the records of a journal: what each record asks for,
--- and what it changes. At this stage one transaction is live at a time, and collections are counters.
-use Rattle.std.specs.Prelude.{◌≡◌, ℕ, ◌+◌, ◌<◌, ◌≤◌, ◌^◌, List, length, map, Contains, Option, Some, None}
+-- and what it changes. At this stage one transaction is live at a time, and all that it can do is to bump counters.
+use Rattle.std.specs.Prelude.{◌≡◌, ◌⊎◌, ℕ, ◌+◌, ◌<◌, ◌≤◌, ◌^◌, List, Option, Some, None}
 use Rattle.calls.specs.declared.kind.Kind.{Kind}
 use Rattle.calls.specs.declared.call.Call.{Call}
 use Rattle.calls.specs.declared.reply.Reply.{Reply}
 use Rattle.calls.specs.declared.refusal.Refusal.{Refusal}
-use Rattle.calls.specs.Names.{IsSpelt, IsName}
-use Rattle.calls.specs.Ranges.{IsStep}
 use Rattle.calls.specs.Contents.{Collection, AnswersAt, does}
 use Rattle.calls.specs.Transactions.{Makes, Leads}
+use Rattle.boosted.specs.Shape.{CanAsk, AskRefused}
+use Rattle.catalog.specs.Places.{Belongs, Misplaced}
+use Rattle.catalog.specs.Making.{names_of, IsNew}
 use Rattle.records.specs.declared.record.Record.{Record}
 use Rattle.records.specs.Records.{IsNumber}
 
@@ -28,45 +29,17 @@ pub record State : Type 0 where
 abbrev pub IsLive : State → ℕ → ℕ → Type 0
 IsLive s n calls = s.live ≡ Some (record { number = n; calls = calls })
 
-abbrev pub names_of : State → List (List ℕ)
-names_of s = map (λ x. x.name) s.now
-
 -- the one call that a transaction can make at this stage
 abbrev pub IsBump : Call → Type 0
 IsBump (Call.Bump n) = Unit {0}
 IsBump c = ⊥
 
--- a call of the kind of a counter
-abbrev pub IsOfCounter : Call → Type 0
-IsOfCounter (Call.Bump n) = Unit {0}
-IsOfCounter Call.Read = Unit {0}
-IsOfCounter c = ⊥
-
--- a bump of a size that can be taken back
-abbrev pub IsGoodBump : Call → Type 0
-IsGoodBump (Call.Bump n) = IsStep n
-IsGoodBump c = ⊥
-
--- the collection is there, and the call is one of its kind
-pub record IsAddressed (s : State) (at : ℕ) (call : Call) : Type 0 where
-  pub there : at < length s.now
-  pub kind : IsOfCounter call
+-- A client can ask for the call there, and a transaction can make it at this stage.
+pub record IsTaken (s : State) (at : ℕ) (call : Call) : Type 0 where
+  pub asked : CanAsk Belongs s.now at call
+  pub bump : IsBump call
 
 -- When a step can be taken, but for what memory allows; and when each refusal comes instead.
-
-pub record CanMake (s : State) (name : List ℕ) (kind : Kind) : Type 0 where
-  pub good : IsName name
-  pub counter : kind ≡ Kind.Counter
-  pub free : Contains (names_of s) name → ⊥
-  pub room : length s.now < 256
-
-abbrev pub RefusesMake : State → List ℕ → Kind → Refusal → Type 0
-RefusesMake s name kind Refusal.BadName = IsSpelt name → ⊥
-RefusesMake s name kind Refusal.TooLong = IsSpelt name × (64 < length name)
-RefusesMake s name kind Refusal.BadArg = IsName name × (kind ≡ Kind.Counter → ⊥)
-RefusesMake s name kind Refusal.NameTaken = IsName name × (kind ≡ Kind.Counter) × Contains (names_of s) name
-RefusesMake s name kind Refusal.TooManyCollections = IsName name × (kind ≡ Kind.Counter) × (Contains (names_of s) name → ⊥) × (256 ≤ length s.now)
-RefusesMake s name kind e = ⊥
 
 pub record CanBegin (s : State) (n : ℕ) : Type 0 where
   pub number : IsNumber n
@@ -80,22 +53,29 @@ RefusesBegin s n Refusal.TooManyLive = IsNumber n × ((m : ℕ) × (calls : ℕ)
 RefusesBegin s n Refusal.Worn = IsNumber n × (s.live ≡ None) × (2 ^ 61 ≤ s.wear)
 RefusesBegin s n e = ⊥
 
-pub record CanCall (s : State) (n at : ℕ) (call : Call) (reply : Reply) : Type 0 where
+-- The transaction can make the call, whatever the reply is.
+pub record MayCall (s : State) (n at : ℕ) (call : Call) : Type 0 where
   pub calls : ℕ
   pub live : IsLive s n calls
-  pub bump : IsBump call
-  pub answers : AnswersAt s.now at call reply
+  pub taken : IsTaken s at call
   pub unworn : s.wear < 2 ^ 61
   pub few : calls < 1024
 
+-- It can, and may get this reply.
+pub record CanCall (s : State) (n at : ℕ) (call : Call) (reply : Reply) : Type 0 where
+  pub may : MayCall s n at call
+  pub answers : AnswersAt s.now at call reply
+
+-- A call of a live transaction is refused so: as each call that a client cannot ask, else BadArg where none can be made at this stage.
+abbrev pub RefusesAsked : State → ℕ → Call → Refusal → Type 0
+RefusesAsked s at call Refusal.BadArg = AskRefused Belongs Misplaced s.now at call Refusal.BadArg ⊎ (CanAsk Belongs s.now at call × (IsBump call → ⊥))
+RefusesAsked s at call e = AskRefused Belongs Misplaced s.now at call e
+
 abbrev pub RefusesCall : State → ℕ → ℕ → Call → Refusal → Type 0
 RefusesCall s n at call Refusal.NoSuchTxn = (calls : ℕ) → IsLive s n calls → ⊥
-RefusesCall s n at call Refusal.NoSuchCollection = ((calls : ℕ) × IsLive s n calls) × (length s.now ≤ at)
-RefusesCall s n at call Refusal.WrongKind = ((calls : ℕ) × IsLive s n calls) × (at < length s.now) × (IsOfCounter call → ⊥)
-RefusesCall s n at call Refusal.BadArg = ((calls : ℕ) × IsLive s n calls) × IsAddressed s at call × (IsGoodBump call → ⊥)
-RefusesCall s n at call Refusal.Worn = ((calls : ℕ) × IsLive s n calls) × IsAddressed s at call × IsGoodBump call × (2 ^ 61 ≤ s.wear)
-RefusesCall s n at call Refusal.TooManyCalls = ((calls : ℕ) × IsLive s n calls × (1024 ≤ calls)) × IsAddressed s at call × IsGoodBump call × (s.wear < 2 ^ 61)
-RefusesCall s n at call e = ⊥
+RefusesCall s n at call Refusal.Worn = ((calls : ℕ) × IsLive s n calls) × IsTaken s at call × (2 ^ 61 ≤ s.wear)
+RefusesCall s n at call Refusal.TooManyCalls = ((calls : ℕ) × IsLive s n calls × (1024 ≤ calls)) × IsTaken s at call × (s.wear < 2 ^ 61)
+RefusesCall s n at call e = ((calls : ℕ) × IsLive s n calls) × RefusesAsked s at call e
 
 abbrev pub CanCommit : State → ℕ → Type 0
 CanCommit s n = (calls : ℕ) × IsLive s n calls
@@ -104,7 +84,7 @@ CanCommit s n = (calls : ℕ) × IsLive s n calls
 
 -- one empty collection more
 pub record MakeRow (s : State) (name : List ℕ) (kind : Kind) (t : State) : Type 0 where
-  pub can : CanMake s name kind
+  pub can : IsNew (names_of s.now) name
   pub makes : Makes s.now name kind t.now
   pub live : t.live ≡ s.live
   pub wear : t.wear ≡ s.wear
@@ -118,7 +98,7 @@ pub record BeginRow (s : State) (n : ℕ) (t : State) : Type 0 where
 pub record CallRow (s : State) (n at : ℕ) (call : Call) (reply : Reply) (t : State) : Type 0 where
   pub can : CanCall s n at call reply
   pub does : does s.now at call reply t.now
-  pub live : IsLive t n (can.calls + 1)
+  pub live : IsLive t n (can.may.calls + 1)
   pub wear : t.wear ≡ s.wear + 1
 
 -- the transaction is over

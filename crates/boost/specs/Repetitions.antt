@@ -38,6 +38,11 @@ IsDamageOr place damaged Refusal.NoMemory = Unit {0}
 IsDamageOr place damaged (Refusal.Damaged p) = (p ≡ place) × damaged
 IsDamageOr place damaged e = ⊥
 
+-- A refusal of a record's step is damage, but for one for want of memory.
+abbrev pub damage_of : ℕ → Refusal → Refusal
+damage_of place Refusal.NoMemory = Refusal.NoMemory
+damage_of place e = Refusal.Damaged place
+
 -- no step of the record leads from the state
 abbrev pub IsStuck : State → Record → Type 0
 IsStuck s r = (t : State) → Steps s r t → ⊥

@@ -42,14 +42,14 @@ abbrev pub action_text : Action → List ℕ
 action_text (Action.Client client r) = codes "c" ++ (client_text client ++ 32 ∷ request_text r)
 action_text Action.Turn = codes "turn"
 
--- ---- what can be said: for now of counters, and by client 1
+-- ---- what can be said: for now each making, of calls a bump alone, and by client 1
 
 abbrev pub CanBeCalled : Call → Type 0
 CanBeCalled (Call.Bump n) = FitsSigned w64 n
 CanBeCalled c = ⊥
 
 abbrev pub CanBeAsked : Request → Type 0
-CanBeAsked (Request.Make kind name) = (kind ≡ Kind.Counter) × IsWord name
+CanBeAsked (Request.Make kind name) = IsWord name
 CanBeAsked Request.Begin = Unit {0}
 CanBeAsked (Request.Call name c) = IsWord name × CanBeCalled c
 CanBeAsked Request.Commit = Unit {0}
@@ -63,6 +63,11 @@ CanBeSaid Action.Turn = Unit {0}
 pub record IsRequestOf (r : Request) (text : List ℕ) : Type 0 where
   pub said : CanBeAsked r
   pub is : text ≡ request_text r
+
+-- the text, behind the word make, asks for this making
+abbrev pub IsMakeOf : Request → List ℕ → Type 0
+IsMakeOf (Request.Make kind name) text = IsWord name × (text ≡ kind_text kind ++ 32 ∷ name)
+IsMakeOf r text = ⊥
 
 -- the text, behind the word call, asks for this call
 abbrev pub IsCallOf : Request → List ℕ → Type 0

@@ -1,23 +1,22 @@
 // The book: the state that its records lead to, and the records that wait for a block.
-ghost use Rattle.std.specs.Prelude.{◌≡◌, ◌≤◌, ◌^◌, None, length, map, take, drop, ◌∷◌, []};
-ghost use Rattle.calls.specs.Inverses.{inverse_of};
+ghost use Rattle.std.specs.Prelude.{◌≡◌, ◌≤◌, ◌^◌, None, length, take, drop, ◌∷◌, []};
 ghost use Rattle.records.specs.Acts.{places};
-ghost use Rattle.boost.specs.Shown.{shown_one};
-ghost use Rattle.boost.specs.Machine.{IsGoodBump};
 ghost use Rattle.boost.specs.Books.{opened, MakeAnswers, EnterAnswers, CallAnswers, CommitAnswers, CutAnswers};
 
 use crate::block::{Block, Outbox};
-use crate::machine::{Machine, Named};
+use crate::machine::Machine;
 use crate::packing::pack;
+use boosted::Boosted;
 use calls::limits::MAX_PENDING;
 use calls::{Call, Kind, Name, Refusal, Reply};
+use catalog::Catalog;
 use records::{CallRecord, Record};
 use std::alloc::Global;
 use std::collections::VecDeque;
 use std::marker::Model;
 
 /// The collections with the live transaction, and the records of the steps that were not handed over yet.
-#[derive(Drop, Debug)]
+#[derive(Drop)]
 pub struct Book {
     machine: Machine,
     pending: VecDeque<Record>,
@@ -76,18 +75,17 @@ impl Book {
     /// Makes an empty collection: a committed transaction of its own. Answers the count of commits and makes since the
     /// store was opened, this one included.
     ///
-    /// Refused Backlog, BadName, TooLong, BadArg for another kind than a counter, NameTaken, TooManyCollections,
-    /// NoMemory, with nothing changed.
+    /// Refused Backlog, BadName, TooLong, NameTaken, TooManyCollections, NoMemory, with nothing changed.
     pub fn make(&mut self, name: &Name, kind: Kind) -> Result<u64, Refusal>
         ensures { MakeAnswers self.old name.now kind result self.new }
     {
         if self.pending.len() >= MAX_PENDING {
             return Err(Refusal::Backlog);
         }
-        self.machine.check_make(name.as_str(), kind)?;
+        self.machine.check_make(name.as_str())?;
         self.pending.reserve(1)?;
         let record = Record::Make(kind, name.copy()?);
-        self.machine.make(name.copy()?)?;
+        self.machine.make(name.as_str(), kind)?;
         self.pending.push_back_reserved(record);
         self.places += 1;
         Ok(self.places)
@@ -113,22 +111,25 @@ impl Book {
 
     /// The live transaction's call on a collection: a Bump of a counter.
     ///
-    /// Refused NoSuchTxn, NoSuchCollection, WrongKind, BadArg for a Bump of -2^63 and for a Read, Worn, TooManyCalls,
-    /// Backlog, NoMemory, with nothing changed.
+    /// Refused NoSuchTxn, NoSuchCollection, WrongKind, BadArg for a call that a client cannot ask, TooLong for a value
+    /// over 256 bytes, BadArg for each other call than a Bump, Worn, TooManyCalls, Backlog, NoMemory, with nothing
+    /// changed.
     pub fn call(&mut self, number: u64, collection: u8, call: &Call) -> Result<Reply, Refusal>
         ensures { CallAnswers self.old number collection call.now result self.new }
     {
-        let reply = self.machine.look(number, collection, call)?;
+        self.machine.check_call(number, collection, call)?;
         if self.pending.len() >= MAX_PENDING {
             return Err(Refusal::Backlog);
         }
+        let reply = self.machine.look(number, collection, call)?;
+        let inverse = Catalog::inverse(call, &reply)?;
         self.pending.reserve(1)?;
         let record = Record::Call(CallRecord {
             number,
             collection,
             call: call.copy()?,
             reply: reply.copy()?,
-            inverse: inverse_of_bump(call),
+            inverse,
         });
         self.machine.run(number, collection, call, &reply);
         self.pending.push_back_reserved(record);
@@ -180,8 +181,8 @@ impl Book {
     }
 
     /// The collections, for showing.
-    pub fn collections(&self) -> &[Named]
-        ensures { map shown_one result.now ≡ self.now.state.now }
+    pub fn collections(&self) -> &Catalog
+        ensures { result.now ≡ self.now.state.now }
     {
         self.machine.collections()
     }
@@ -215,15 +216,5 @@ fn drop_first(pending: &mut VecDeque<Record>, count: usize)
 {
     for _done in 0..count {
         pending.pop_front();
-    }
-}
-
-// The call that takes a bump back.
-fn inverse_of_bump(call: &Call) -> Option<Call>
-    ensures { IsGoodBump call.now → result ≡ inverse_of call.now Reply.Done }
-{
-    match call {
-        Call::Bump(by) if *by != i64::MIN => Some(Call::Bump(-*by)),
-        _ => None,
     }
 }

@@ -8,17 +8,18 @@ mod player;
 mod texts;
 
 use crate::arguments::Task;
-use crate::machine::Named;
 use crate::recovery::{format, open};
 use crate::script::{Line, parse};
 use crate::world::World;
+use calls::Refusal;
 use calls::limits::MIN_AREA;
-use calls::{Kind, Refusal};
+use catalog::{Catalog, Shown};
 use disk_model::{Disk, MemDisk};
 pub use failure::Failure;
 use player::Player;
 use std::alloc::Global;
 use std::io::{BufWriter, Write};
+use texts::ItemText;
 
 // The script of the stored run.
 const DEMO: &[u8] =
@@ -30,9 +31,9 @@ const DEMO_SIZE: u64 = 4096 + 2 * MIN_AREA;
 /// Carries a command out on a disk, and answers the status of the program with the disk.
 ///
 /// Format makes the disk an empty store. Play runs the script, and prints for each line that is not passed over its
-/// number and its answer. Show prints each collection's kind and name, and behind two spaces what it holds. Demo runs
-/// a stored script on a disk in memory of its own and prints what Play does, and then what Show does: it touches
-/// neither the disk nor the script.
+/// number and its answer. Show prints for each collection, by rising number, a line with its kind and name, and then
+/// each of its items in a line of its own, after two spaces. Demo runs a stored script on a disk in memory of its own
+/// and prints what Play does, and then what Show does: it touches neither the disk nor the script.
 ///
 /// The status is 0 where the command was done, lines of the script that were refused among it; else a text goes to
 /// `err`, as `Failure` says: 3 for a script with a line that is not understood, of which no line is run and for
@@ -164,14 +165,27 @@ fn show<D: Disk, O: Write>(alloc: Global, disk: D, out: &mut O) -> (Result<(), F
     }
 }
 
-// Prints collections, which are counters.
-fn show_collections<O: Write>(collections: &[Named], out: &mut O) -> Result<(), Failure<'static>>
+// Prints collections, by rising number: each in a line of its own, and its items in the lines behind it.
+fn show_collections<O: Write>(catalog: &Catalog, out: &mut O) -> Result<(), Failure<'static>>
     ensures { IfErr result IsOfStore }
 {
-    for Named { name, counter } in collections {
-        let (kind, name, total) = (Kind::Counter, name.as_str(), counter.total());
-        writeln!(out, "{kind} {name}")?;
-        writeln!(out, "  {total}")?;
+    for number in (0..=u8::MAX).take(catalog.len()) {
+        let shown = catalog.show(number)?;
+        show_collection(&shown, out)?;
+    }
+    Ok(())
+}
+
+// Prints what is shown of a collection.
+fn show_collection<O: Write>(shown: &Shown, out: &mut O) -> Result<(), Failure<'static>>
+    ensures { IfErr result IsOfStore }
+{
+    let Shown { kind, name, items } = shown;
+    let name = name.as_str();
+    writeln!(out, "{kind} {name}")?;
+    for item in items {
+        let item = ItemText(item);
+        writeln!(out, "  {item}")?;
     }
     Ok(())
 }

@@ -21,7 +21,7 @@ pub use block::{Block, Inbox, Outbox};
 pub use book::Book;
 pub use commands::{Failure, report, run};
 pub use keeper::Keeper;
-pub use machine::{Live, Machine, Named};
+pub use machine::{Live, Machine};
 pub use packing::{Packed, pack};
 pub use records::Record;
 pub use recovery::{format, open};

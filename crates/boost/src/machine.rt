@@ -1,20 +1,14 @@
 // The state that records lead to: what an opening repeats, and what a book runs forward.
-ghost use Rattle.std.specs.Prelude.{◌≡◌, IfOk, OnOk, OnErr, IfErr, IsErrOf, IsOkUnless, IfSome, IfNone, IsTrue, ◌↔◌, Contains, ℕ, None, map};
-ghost use Rattle.boost.specs.Shown.{shown_one};
-ghost use Rattle.boost.specs.Machine.{IsLive, names_of, CanMake, RefusesMake, CanBegin, RefusesBegin, CanCall, RefusesCall, CanCommit, MakeRow, BeginRow, CallRow, CommitRow};
+ghost use Rattle.std.specs.Prelude.{◌≡◌, IfOk, OnOk, OnErr, IfErr, IsOkUnless, IfSome, IfNone, IsTrue, ◌↔◌, ℕ, None};
+ghost use Rattle.catalog.specs.Making.{names_of, IsNew, NewRefused, MakeRefused};
+ghost use Rattle.boost.specs.Machine.{IsLive, IsBump, CanBegin, RefusesBegin, MayCall, CanCall, RefusesCall, CanCommit, MakeRow, BeginRow, CallRow, CommitRow};
 
+use boosted::Boosted;
 use calls::limits::{MAX_CALLS, MAX_COLLECTIONS, NUMBER_END};
-use calls::{Call, Kind, Name, Refusal, Reply, check_name};
-use collections::CounterCol;
+use calls::{Call, Kind, Refusal, Reply};
+use catalog::{Catalog, Parts};
 use std::alloc::Global;
 use std::marker::Model;
-
-/// A collection with its name.
-#[derive(Drop, Debug)]
-pub struct Named {
-    pub name: Name,
-    pub counter: CounterCol,
-}
 
 /// A live transaction: its number, and how many calls it has made.
 #[derive(Clone, Copy, Debug, PartialEq, Eq)]
@@ -24,9 +18,9 @@ pub struct Live {
 }
 
 /// What the records so far lead to: the collections, the live transaction, the wear.
-#[derive(Drop, Debug)]
+#[derive(Drop)]
 pub struct Machine {
-    collections: Vec<Named>,
+    collections: Catalog,
     live: Option<Live>,
     wear: u64,
 }
@@ -41,9 +35,9 @@ impl Model for Machine {
 
     ghost use Rattle.boost.specs.Shown.{state_of, IsWorn};
 
-    ghost view = { λ m. state_of m.collections.items m.live m.wear };
+    ghost view = { λ m. state_of m.collections m.live m.wear };
 
-    ghost invariant = { λ m. IsWorn m.collections.items m.wear };
+    ghost invariant = { λ m. IsWorn m.collections m.wear };
 }
 
 impl Machine {
@@ -54,24 +48,17 @@ impl Machine {
         ensures { result ≡ empty_state }
     {
         Self {
-            collections: Vec::new(alloc),
+            collections: Catalog::new(alloc),
             live: None,
             wear: 0,
         }
     }
 
     /// The collections, in the order of making.
-    pub fn collections(&self) -> &[Named]
-        ensures { map shown_one result.now ≡ self.now.now }
+    pub fn collections(&self) -> &Catalog
+        ensures { result.now ≡ self.now.now }
     {
-        self.collections.as_slice()
-    }
-
-    /// The wear: how many of the records that wear were accepted.
-    pub fn wear(&self) -> u64
-        ensures { result ≡ self.now.wear }
-    {
-        self.wear
+        &self.collections
     }
 
     /// Whether a transaction is live.
@@ -81,47 +68,32 @@ impl Machine {
         self.live.is_none()
     }
 
-    // Whether a collection has the name.
-    fn has(&self, name: &str) -> bool
-        ensures { IsTrue result ↔ Contains (names_of self.now) name.now }
+    /// Whether an empty collection of the name can be made.
+    pub fn check_make(&self, name: &str) -> Result<(), Refusal>
+        ensures ok { OnOk result (IsNew (names_of self.now.now) name.now) }
+        ensures err { IfErr result (NewRefused (names_of self.now.now) name.now) }
     {
-        for named in &self.collections {
-            if named.name.as_str() == name {
-                return true;
+        match self.collections.find(name) {
+            Ok(_) => Err(Refusal::NameTaken),
+            Err(Refusal::NoSuchCollection) => {
+                if self.collections.len() >= MAX_COLLECTIONS {
+                    Err(Refusal::TooManyCollections)
+                } else {
+                    Ok(())
+                }
             }
+            Err(refusal) => Err(refusal),
         }
-        false
     }
 
-    /// Whether an empty collection of the name and kind can be made.
-    pub fn check_make(&self, name: &str, kind: Kind) -> Result<(), Refusal>
-        ensures ok { OnOk result (CanMake self.now name.now kind) }
-        ensures err { IfErr result (RefusesMake self.now name.now kind) }
-    {
-        check_name(name)?;
-        if kind != Kind::Counter {
-            return Err(Refusal::BadArg);
-        }
-        if self.has(name) {
-            return Err(Refusal::NameTaken);
-        }
-        if self.collections.len() >= MAX_COLLECTIONS {
-            return Err(Refusal::TooManyCollections);
-        }
-        Ok(())
-    }
-
-    /// Makes an empty counter. Refused only for want of memory, with nothing changed.
-    pub fn make(&mut self, name: Name) -> Result<(), Refusal>
-        requires { CanMake self.old name Kind.Counter }
-        ensures ok { OnOk result (MakeRow self.old name Kind.Counter self.new) }
-        ensures only { IsOkUnless result Refusal.NoMemory }
+    /// Makes an empty collection, at the end. Refused BadName, TooLong, NameTaken, TooManyCollections, NoMemory, with
+    /// nothing changed.
+    pub fn make(&mut self, name: &str, kind: Kind) -> Result<(), Refusal>
+        ensures ok { OnOk result (MakeRow self.old name.now kind self.new) }
         ensures err { OnErr result (self.new ≡ self.old) }
+        ensures refused { IfErr result (MakeRefused (names_of self.old.now) name.now) }
     {
-        self.collections.push(Named {
-            name,
-            counter: CounterCol::new(),
-        })?;
+        self.collections.make(name, kind)?;
         Ok(())
     }
 
@@ -163,25 +135,19 @@ impl Machine {
         self.live.filter(|live| live.number == number)
     }
 
-    /// The reply that the live transaction's call gets now, where it can be made.
-    pub fn look(&self, number: u64, at: u8, call: &Call) -> Result<Reply, Refusal>
-        ensures ok { IfOk result (CanCall self.now number at call.now) }
+    /// Whether the transaction can make the call, whatever it is answered.
+    ///
+    /// Refused NoSuchTxn, NoSuchCollection, WrongKind, BadArg for a call that a client cannot ask, TooLong, BadArg for
+    /// one that is no Bump, Worn, TooManyCalls.
+    pub fn check_call(&self, number: u64, at: u8, call: &Call) -> Result<(), Refusal>
+        ensures ok { OnOk result (MayCall self.now number at call.now) }
         ensures err { IfErr result (RefusesCall self.now number at call.now) }
     {
         let Some(live) = self.live(number) else {
             return Err(Refusal::NoSuchTxn);
         };
-        let Some(named) = self.collections.get(at as usize) else {
-            return Err(Refusal::NoSuchCollection);
-        };
-        let Call::Bump(by) = call else {
-            return Err(if matches!(call, Call::Read) {
-                Refusal::BadArg
-            } else {
-                Refusal::WrongKind
-            });
-        };
-        if *by == i64::MIN {
+        self.collections.askable(at, call)?;
+        if !is_bump(call) {
             return Err(Refusal::BadArg);
         }
         if self.wear >= NUMBER_END {
@@ -190,7 +156,23 @@ impl Machine {
         if live.calls >= MAX_CALLS as u64 {
             return Err(Refusal::TooManyCalls);
         }
-        named.counter.look(call)
+        Ok(())
+    }
+
+    /// A reply that the transaction's call may get now. Refused only for want of memory.
+    pub fn look(&self, number: u64, at: u8, call: &Call) -> Result<Reply, Refusal>
+        requires { MayCall self.now number at call.now }
+        ensures ok { IfOk result (CanCall self.now number at call.now) }
+        ensures only { IsOkUnless result Refusal.NoMemory }
+    {
+        self.collections.look(at, call)
+    }
+
+    /// Whether the transaction can make the call, and it may get this reply now.
+    pub fn can_call(&self, number: u64, at: u8, call: &Call, reply: &Reply) -> bool
+        ensures { IsTrue result ↔ CanCall self.now number at call.now reply.now }
+    {
+        self.check_call(number, at, call).is_ok() && self.collections.fits(at, call, reply)
     }
 
     /// Makes the live transaction's call, which is answered so.
@@ -198,8 +180,8 @@ impl Machine {
         requires { CanCall self.old number at call.now reply.now }
         ensures { CallRow self.old number at call.now reply.now self.new }
     {
-        let named = &mut self.collections[at as usize];
-        let _done = named.counter.run(call, reply);
+        // A bump takes no memory.
+        let _done = self.collections.run(at, call, reply);
         let live = self.live.unwrap();
         self.live = Some(Live {
             number,
@@ -227,4 +209,11 @@ impl Machine {
     {
         self.live = None;
     }
+}
+
+// Whether the call is a Bump.
+fn is_bump(call: &Call) -> bool
+    ensures { IsTrue result ↔ IsBump call.now }
+{
+    matches!(call, Call::Bump(_))
 }

@@ -1,14 +1,14 @@
 // The records of an area, repeated one after another.
 ghost use Rattle.std.specs.Prelude.{◌≡◌, ◌≤◌, ◌^◌, List, ◌++◌, ◌∷◌, [], length, OnOk, IfOk, IfErr, None, IsTrue, ◌↔◌};
-ghost use Rattle.calls.specs.declared.reply.Reply.{Reply};
 ghost use Rattle.records.specs.declared.record.Record.{Record};
 ghost use Rattle.records.specs.Records.{spelling};
 ghost use Rattle.boost.specs.Machine.{Steps};
 ghost use Rattle.boost.specs.Books.{opened, next_after};
+ghost use Rattle.boost.specs.Repetitions.{damage_of};
 
 use crate::book::Book;
 use crate::machine::Machine;
-use calls::{Kind, Name, Refusal, Reply};
+use calls::{Kind, Name, Refusal};
 use records::{CallRecord, Record, decode};
 use std::alloc::Global;
 
@@ -21,7 +21,7 @@ pub enum Part {
 }
 
 /// What the records so far lead to.
-#[derive(Drop, Debug)]
+#[derive(Drop)]
 pub struct Repetition {
     machine: Machine,
     part: Part,
@@ -136,10 +136,10 @@ impl Repetition {
         ensures part { self.new.part ≡ self.old.part }
         ensures err { IfErr result (IsDamageOr place (IsStuck self.old.machine (Record.Make kind name))) }
     {
-        if self.machine.check_make(name.as_str(), kind).is_err() {
-            return Err(Refusal::Damaged(place));
+        match self.machine.make(name.as_str(), kind) {
+            Ok(()) => Ok(()),
+            Err(refusal) => Err(damage(refusal, place)),
         }
-        self.machine.make(name)
     }
 
     fn begin(&mut self, number: u64, place: u64) -> Result<(), Refusal>
@@ -162,14 +162,10 @@ impl Repetition {
         ensures part { self.new.part ≡ self.old.part }
         ensures err { IfErr result (IsDamageOr place (IsStuck self.old.machine (Record.Call asked.now))) }
     {
-        // At this stage each call is a bump, which is answered Done.
-        if !is_done(&asked.reply) {
-            return Err(Refusal::Damaged(place));
-        }
-        let looked = self
+        let can = self
             .machine
-            .look(asked.number, asked.collection, &asked.call);
-        if looked.is_err() {
+            .can_call(asked.number, asked.collection, &asked.call, &asked.reply);
+        if !can {
             return Err(Refusal::Damaged(place));
         }
         self.machine
@@ -205,9 +201,12 @@ fn is_end(entry: &Record) -> bool
     matches!(entry, Record::ImageEnd)
 }
 
-// Whether the reply is Done.
-fn is_done(reply: &Reply) -> bool
-    ensures { IsTrue result ↔ (reply.now ≡ Reply.Done) }
+// What the refusal of a record's step says of an area.
+fn damage(refusal: Refusal, place: u64) -> Refusal
+    ensures { result ≡ damage_of place refusal }
 {
-    matches!(reply, Reply::Done)
+    match refusal {
+        Refusal::NoMemory => Refusal::NoMemory,
+        _ => Refusal::Damaged(place),
+    }
 }

@@ -22,9 +22,7 @@ use Rattle.calls.specs.declared.refusal.Refusal.{Refusal}
 use Rattle.calls.specs.Inverses.{Askable}
 use Rattle.calls.specs.Items.{kind_of_content}
 use Rattle.boosted.specs.Kinds.{IsOf}
-use Rattle.calls.specs.declared.kind.Kind.{Kind}
-use Rattle.calls.specs.Transactions.{Makes}
-use Rattle.calls.specs.Contents.{Content, empty, Answers, after, Collection, AnswersAt, after_at}
+use Rattle.calls.specs.Contents.{Content, Answers, after, Collection, AnswersAt, after_at}
 use Rattle.catalog.specs.declared.holding.Holding.{Holding}
 use Rattle.catalog.specs.Holdings.{content_of, collections_of}
 use Rattle.catalog.specs.Making.{names_of, IsPlaceOf, IsFree, AreDistinct}
@@ -245,14 +243,12 @@ module _ (s : List Collection) (es : List Entry) (seen : collections_of es ≡ s
   stands_at i d e = rw (← seen) (found_at name es i d e)
 
   -- A new entry is a new collection.
-  pub made : (kind : Kind) (key : String Global) (h : Holding) (n : List Entry) → string_bytes key ≡ name → content_of h ≡ empty kind → n ≡ insert_entry string_eq es key h → IsFree (names_of s) name → Makes s name kind (collections_of n)
-  made kind key h n k e i f = record {
-    free = f;
-    is =
-        let absent : IsFree (names_of (collections_of es)) (string_bytes key) = rw (k, seen) f in
-        let new : n ≡ es ++ (key, h) ∷ [] = i ∙ insert_entry-absent string_eq key h es (absent_from_lookup (string_eq key) es (free_absent (string_bytes key) es absent)) in
-        ap collections_of new ∙ collections_of-push es key h ∙ (λ j. seen j ++ record { name = k j; content = e j } ∷ []);
-  }
+  pub added : (key : String Global) (h : Holding) (n : List Entry) → string_bytes key ≡ name → n ≡ insert_entry string_eq es key h → IsFree (names_of s) name →
+      collections_of n ≡ s ++ record { name = name; content = content_of h } ∷ []
+  added key h n k i f =
+      let absent : IsFree (names_of (collections_of es)) (string_bytes key) = rw (k, seen) f in
+      let new : n ≡ es ++ (key, h) ∷ [] = i ∙ insert_entry-absent string_eq key h es (absent_from_lookup (string_eq key) es (free_absent (string_bytes key) es absent)) in
+      ap collections_of new ∙ collections_of-push es key h ∙ (λ j. seen j ++ record { name = k j; content = content_of h } ∷ [])
 
 -- What holds of the collection that an entry stands for holds at its place.
 pub shown_at : (P : Collection → Type 0) (s : List Collection) (es : List Entry) (i at : ℕ) (e : Entry) → collections_of es ≡ s → i ≡ at → Some e ≡ slice_get es i →

@@ -1,2 +1,4 @@
 pub mod Entries
 pub mod Listings
+pub mod Orders
+pub mod OneContent

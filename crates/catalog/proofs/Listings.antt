@@ -44,7 +44,7 @@ pub entry_items : (m : Table) (es : List (ℕ × List ℕ)) → IsStrictlySorted
 entry_items m es s e = ap (map entry_item) (sym (entries-rising es s) ∙ ap entries e)
 
 -- The pairs of a bag's entries, each as often as it is there.
-abbrev spread : List ((ℕ × ℕ) × ℕ) → List Item
+abbrev pub spread : List ((ℕ × ℕ) × ℕ) → List Item
 spread = flat_map (λ e. replicate (suc e.1) (Item.Pair e.0.0 e.0.1))
 
 no_pairs : entries (empty {X = ℕ} {R = pair_cmp}) ≡ []

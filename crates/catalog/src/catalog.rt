@@ -1,5 +1,5 @@
 // Named collections, in the order of making.
-ghost use Rattle.std.specs.Prelude.{◌≡◌, ◌≤◌, ◌↔◌, [], length, string_bytes, refl, IfOk, IsOk, IfErr, OnOk, OnErr, IsOkUnless};
+ghost use Rattle.std.specs.Prelude.{◌≡◌, ◌≤◌, ◌↔◌, [], ◌∷◌, ◌++◌, false, IsTrue, length, string_bytes, refl, IfOk, IsOk, IfErr, OnOk, OnErr, IsOkUnless};
 ghost use Rattle.std.specs.Option.{option_map};
 ghost use Rattle.calls.specs.Contents.{AnswersAt, after_at};
 ghost use Rattle.calls.specs.Transactions.{Makes};
@@ -9,12 +9,14 @@ ghost use Rattle.catalog.specs.Holdings.{content_of};
 ghost use Rattle.catalog.specs.Places.{At, content_at, Belongs, Misplaced, IsWithin};
 ghost use Rattle.catalog.specs.Making.{names_of, AreDistinct, IsNew, NewRefused};
 ghost use Rattle.catalog.specs.Shows.{Shows, ShowRefused};
+ghost use Rattle.catalog.specs.Loading.{AreItems, Loads, LoadRefused};
 ghost use Rattle.catalog.specs.Laws.OneContent.{part_deferred_other};
 ghost use Rattle.catalog.specs.Laws.Makings.{names_kept, makes_one, makes_named, makes_before, makes_after, makes_keep_belonging, makes_keep_deferred, makes_keep_within};
 
+use crate::loading::are_items;
 use crate::{Holding, Parts, Shown};
 use calls::limits::MAX_COLLECTIONS;
-use calls::{Call, Kind, Name, Refusal, Reply, check_name};
+use calls::{Call, Item, Kind, Name, Refusal, Reply, check_name};
 use indexmap::IndexMap;
 use std::alloc::{AllocError, Global};
 use std::marker::Model;
@@ -119,17 +121,39 @@ impl Catalog {
         Ok(())
     }
 
-    // Puts an empty collection at the end.
-    fn add(&mut self, name: &str, kind: Kind) -> Result<(), Refusal>
+    // Puts a collection at the end.
+    fn add(&mut self, name: &str, holding: Holding) -> Result<(), Refusal>
         requires { IsNew (names_of self.old) name.now }
-        ensures ok { OnOk result (Makes self.old name.now kind self.new) }
+        ensures ok { OnOk result (self.new ≡ self.old ++ record { name = name.now; content = content_of holding } ∷ []) }
         ensures err { OnErr result (self.new ≡ self.old) }
         ensures refusal { IsOkUnless result Refusal.NoMemory }
     {
         let alloc = *self.collections.allocator();
         let key = name.to_string(alloc)?;
-        self.collections.insert(key, Holding::new(kind, alloc))?;
+        self.collections.insert(key, holding)?;
         Ok(())
+    }
+
+    /// Puts a collection of the name, the kind and these items at the end; false, with nothing changed, where no
+    /// collection of the kind has these items in this order.
+    ///
+    /// BadName and TooLong as `check_name` says, then NameTaken, TooManyCollections where there are 256, and NoMemory
+    /// only where it is not false. Each of them leaves everything as before.
+    pub fn load(&mut self, name: &str, kind: Kind, items: Vec<Item>) -> Result<bool, Refusal>
+        ensures new { IfOk result (λ loaded. IsNew (names_of self.old) name.now) }
+        ensures loads { IfOk result (λ loaded. IsTrue loaded → Loads self.old name.now kind items.items self.new) }
+        ensures not { IfOk result (λ loaded. loaded ≡ false → (self.new ≡ self.old) × (AreItems kind items.items → ⊥)) }
+        ensures as_before { OnErr result (self.new ≡ self.old) }
+        ensures err { IfErr result (LoadRefused (names_of self.old) name.now kind items.items) }
+    {
+        self.check_new(name)?;
+        if !are_items(kind, &items) {
+            return Ok(false);
+        }
+        let alloc = *self.collections.allocator();
+        let holding = Holding::of_items(kind, items, alloc)?;
+        self.add(name, holding)?;
+        Ok(true)
     }
 
     /// The name, the kind and the items of the collection at the place, the items in their order.
@@ -175,7 +199,8 @@ impl Parts for Catalog {
     fn make(&mut self, name: &str, kind: Kind) -> Result<u8, Refusal> {
         self.check_new(name)?;
         let at = self.collections.len();
-        self.add(name, kind)?;
+        let alloc = *self.collections.allocator();
+        self.add(name, Holding::new(kind, alloc))?;
         Ok(at as u8)
     }
 

@@ -4,6 +4,7 @@
 mod catalog;
 mod holding;
 mod items;
+mod loading;
 mod parts;
 mod product;
 mod shown;
@@ -12,5 +13,6 @@ mod tests;
 
 pub use catalog::Catalog;
 pub use holding::Holding;
+pub use loading::one_content;
 pub use parts::Parts;
 pub use shown::Shown;

@@ -4,7 +4,7 @@ ghost use Rattle.catalog.specs.Places.{IsWithin};
 
 use crate::*;
 use boosted::Boosted;
-use calls::{Bytes, Call, Kind, Refusal, Reply};
+use calls::{Bytes, Call, Item, Kind, Refusal, Reply};
 use std::alloc::{AllocError, Global};
 use std::fmt;
 use std::process::Abort;
@@ -287,4 +287,111 @@ fn a_drawn_identifier_is_released(rt: HostRuntime) -> Result<(), Fail> {
     check_same(&rt, &later.as_ref(), &Some(&Call::Free(8)))?;
     ask(&rt, &mut catalog, 2, 4, &Call::Free(8), &Reply::Done)?;
     check_shown(&rt, &catalog, 4, Kind::Pool, "[]")
+}
+
+// Loads a collection of these items, and looks at what is shown of it.
+fn check_loaded(
+    rt: &(impl Abort + AllocGlobal),
+    kind: Kind,
+    items: Vec<Item>,
+    wanted: &str,
+) -> Result<(), Fail> {
+    let mut catalog = Catalog::new(rt.alloc());
+    assert!(rt; catalog.load("x", kind, items)?);
+    check_shown(rt, &catalog, 0, kind, wanted)
+}
+
+fn check_not_loaded(
+    rt: &(impl Abort + AllocGlobal),
+    kind: Kind,
+    items: Vec<Item>,
+) -> Result<(), Fail> {
+    let mut catalog = Catalog::new(rt.alloc());
+    assert!(rt; !catalog.load("x", kind, items)?);
+    assert_eq!(rt; catalog.len(), 0);
+    Ok(())
+}
+
+fn elements(alloc: Global, numbers: &[u64]) -> Result<Vec<Item>, AllocError> {
+    let mut items = Vec::new(alloc);
+    for x in numbers {
+        items.push(Item::Element(*x))?;
+    }
+    Ok(items)
+}
+
+fn pairs(alloc: Global, numbers: &[(u64, u64)]) -> Result<Vec<Item>, AllocError> {
+    let mut items = Vec::new(alloc);
+    for (priority, tag) in numbers {
+        items.push(Item::Pair(*priority, *tag))?;
+    }
+    Ok(items)
+}
+
+fn entries(alloc: Global, keys: &[u64]) -> Result<Vec<Item>, AllocError> {
+    let mut items = Vec::new(alloc);
+    for key in keys {
+        items.push(Item::Entry(*key, value(alloc, 1)?))?;
+    }
+    Ok(items)
+}
+
+fn number(alloc: Global, total: i128) -> Result<Vec<Item>, AllocError> {
+    let mut items = Vec::new(alloc);
+    items.push(Item::Number(total))?;
+    Ok(items)
+}
+
+#[test]
+fn a_set_and_a_pool_are_loaded(rt: HostRuntime) -> Result<(), Fail> {
+    let shown = "[Element(3), Element(7)]";
+    check_loaded(&rt, Kind::Set, elements(rt.alloc(), &[3, 7])?, shown)?;
+    check_loaded(&rt, Kind::Pool, elements(rt.alloc(), &[3, 7])?, shown)?;
+    check_loaded(&rt, Kind::Set, elements(rt.alloc(), &[])?, "[]")
+}
+
+#[test]
+fn a_map_is_loaded(rt: HostRuntime) -> Result<(), Fail> {
+    let shown = "[Entry(2, Bytes { items: [7] }), Entry(9, Bytes { items: [7] })]";
+    check_loaded(&rt, Kind::Map, entries(rt.alloc(), &[2, 9])?, shown)
+}
+
+#[test]
+fn a_queue_is_loaded(rt: HostRuntime) -> Result<(), Fail> {
+    let items = pairs(rt.alloc(), &[(1, 9), (4, 0), (4, 0)])?;
+    check_loaded(
+        &rt,
+        Kind::Queue,
+        items,
+        "[Pair(1, 9), Pair(4, 0), Pair(4, 0)]",
+    )
+}
+
+#[test]
+fn a_counter_is_loaded(rt: HostRuntime) -> Result<(), Fail> {
+    check_loaded(&rt, Kind::Counter, number(rt.alloc(), -8)?, "[Number(-8)]")
+}
+
+#[test]
+fn items_out_of_order_are_not_loaded(rt: HostRuntime) -> Result<(), Fail> {
+    check_not_loaded(&rt, Kind::Set, elements(rt.alloc(), &[7, 3])?)?;
+    check_not_loaded(&rt, Kind::Pool, elements(rt.alloc(), &[3, 3])?)?;
+    check_not_loaded(&rt, Kind::Map, entries(rt.alloc(), &[9, 9])?)?;
+    check_not_loaded(&rt, Kind::Queue, pairs(rt.alloc(), &[(1, 9), (1, 8)])?)
+}
+
+#[test]
+fn items_of_another_kind_are_not_loaded(rt: HostRuntime) -> Result<(), Fail> {
+    check_not_loaded(&rt, Kind::Map, elements(rt.alloc(), &[3])?)?;
+    check_not_loaded(&rt, Kind::Counter, elements(rt.alloc(), &[])?)
+}
+
+#[test]
+fn a_name_is_not_loaded_twice(rt: HostRuntime) -> Result<(), Fail> {
+    let mut catalog = five(rt.alloc())?;
+    let refused: Result<bool, Refusal> = Err(Refusal::NameTaken);
+    let items = elements(rt.alloc(), &[3])?;
+    check_same(&rt, &catalog.load("s", Kind::Map, items), &refused)?;
+    assert_eq!(rt; catalog.len(), 5);
+    Ok(())
 }

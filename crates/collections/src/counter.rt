@@ -28,11 +28,18 @@ impl CounterCol {
         Self { total: 0 }
     }
 
+    /// A counter at the number.
+    pub fn with_total(total: i128) -> Self
+        ensures { result ≡ total }
+    {
+        Self { total }
+    }
+
     /// The number.
     pub fn total(&self) -> i128
         ensures { result ≡ self.now }
     {
-        let Self { total } = *self;
+        let CounterCol { total } = *self;
         total
     }
 

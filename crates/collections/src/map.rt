@@ -152,6 +152,16 @@ impl MapCol {
         }
     }
 
+    /// Puts the value, which is not copied, at the key. NoMemory leaves the map as before.
+    pub fn put(&mut self, key: u64, value: Bytes) -> Result<(), Refusal>
+        ensures ok { OnOk result (self.new ≡ map.insert self.old key value) }
+        ensures err { OnErr result (self.new ≡ self.old) }
+        ensures refusal { IsOkUnless result Refusal.NoMemory }
+    {
+        self.values.insert(key, value)?;
+        Ok(())
+    }
+
     /// Makes the call, which is answered so. NoMemory, which leaves the map as before, only where a value is put into
     /// it.
     pub fn run(&mut self, call: &Call, reply: &Reply) -> Result<(), Refusal>

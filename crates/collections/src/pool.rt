@@ -87,6 +87,16 @@ impl PoolCol {
         }
     }
 
+    /// Takes the identifier. NoMemory leaves the pool as before.
+    pub fn take(&mut self, identifier: u64) -> Result<(), Refusal>
+        ensures ok { OnOk result (self.new ≡ set.insert self.old identifier) }
+        ensures err { OnErr result (self.new ≡ self.old) }
+        ensures refusal { IsOkUnless result Refusal.NoMemory }
+    {
+        self.taken.insert(identifier)?;
+        Ok(())
+    }
+
     /// Makes the call, which is answered so. NoMemory, which leaves the pool as before, only where an identifier is
     /// drawn: to free one takes no memory.
     pub fn run(&mut self, call: &Call, reply: &Reply) -> Result<(), Refusal>

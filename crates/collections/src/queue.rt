@@ -122,8 +122,8 @@ impl QueueCol {
         }
     }
 
-    // Puts one copy of the pair there.
-    fn put(&mut self, priority: u64, tag: u64) -> Result<(), Refusal>
+    /// Puts one copy of the pair into the queue. NoMemory leaves the queue as before.
+    pub fn put(&mut self, priority: u64, tag: u64) -> Result<(), Refusal>
         ensures ok { OnOk result (self.new ≡ add self.old (priority, tag)) }
         ensures err { OnErr result (self.new ≡ self.old) }
         ensures refusal { IsOkUnless result Refusal.NoMemory }

@@ -94,6 +94,16 @@ impl SetCol {
         }
     }
 
+    /// Puts the element into the set. NoMemory leaves the set as before.
+    pub fn insert(&mut self, element: u64) -> Result<(), Refusal>
+        ensures ok { OnOk result (self.new ≡ set.insert self.old element) }
+        ensures err { OnErr result (self.new ≡ self.old) }
+        ensures refusal { IsOkUnless result Refusal.NoMemory }
+    {
+        self.elements.insert(element)?;
+        Ok(())
+    }
+
     /// Makes the call, which is answered so. NoMemory, which leaves the set as before, only where an element is put
     /// into it.
     pub fn run(&mut self, call: &Call, reply: &Reply) -> Result<(), Refusal>

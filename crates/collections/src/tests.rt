@@ -178,3 +178,40 @@ fn a_refused_value_changes_nothing(rt: HostRuntime) {
         assert_eq!(rt; map.fits(&Call::Get(key), &Reply::Nothing), !done);
     }
 }
+
+#[test]
+fn elements_are_put_in_any_order(rt: HostRuntime) -> Result<(), Fail> {
+    let mut set = SetCol::new(rt.alloc());
+    set.insert(7)?;
+    set.insert(3)?;
+    set.insert(7)?;
+    check_same(
+        &rt,
+        &set.iter().copied().collect::<Vec<u64>>(rt.alloc())?,
+        &[3u64, 7],
+    )?;
+    let mut pool = PoolCol::new(rt.alloc());
+    pool.take(9)?;
+    check_same(
+        &rt,
+        &pool.iter().copied().collect::<Vec<u64>>(rt.alloc())?,
+        &[9u64],
+    )
+}
+
+#[test]
+fn pairs_and_values_are_put(rt: HostRuntime) -> Result<(), Fail> {
+    let mut queue = QueueCol::new(rt.alloc());
+    queue.put(2, 0)?;
+    queue.put(1, 9)?;
+    check_same(&rt, &queue.to_vec(rt.alloc())?, &[(1u64, 9u64), (2, 0)])?;
+    let mut map = MapCol::new(rt.alloc());
+    map.put(5, value(rt.alloc(), 1)?)?;
+    map.put(5, value(rt.alloc(), 2)?)?;
+    check_same(
+        &rt,
+        &map.look(&Call::Get(5))?,
+        &Reply::Value(value(rt.alloc(), 2)?),
+    )?;
+    check_same(&rt, &CounterCol::with_total(-8).total(), &-8i128)
+}

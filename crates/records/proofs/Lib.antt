@@ -4,3 +4,6 @@ pub mod RecordNames
 pub mod Readers
 pub mod RecordLaws
 pub mod RecordUnique
+pub mod ShortValues
+pub mod CallRecords
+pub mod Reaching

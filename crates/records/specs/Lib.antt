@@ -1,3 +1,6 @@
 pub mod Records
 pub mod RecordReading
 pub mod Acts
+pub mod Told
+pub mod Short
+pub mod Reached

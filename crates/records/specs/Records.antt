@@ -81,6 +81,10 @@ inverse (Some c) = call c
 abbrev pub called : CallRecord → List ℕ
 called c = number 8 c.number ++ (c.collection ∷ call c.call) ++ reply c.reply ++ inverse c.inverse
 
+-- the record of a call, of its parts
+abbrev pub call_record : (number collection : ℕ) → Call → Reply → Option Call → CallRecord
+call_record n at c r back = record { number = n; collection = at; call = c; reply = r; inverse = back }
+
 abbrev pub put_off : LaterRecord → List ℕ
 put_off l = number 8 l.number ++ (l.collection ∷ call l.call)
 

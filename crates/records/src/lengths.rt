@@ -1,6 +1,8 @@
 // How many bytes a record takes.
-ghost use Rattle.std.specs.Prelude.{◌≡◌, ◌+◌, ◌≤◌, length, IfSome};
-ghost use Rattle.records.specs.Records.{value, named, call, reply, inverse, called, put_off, item, spelled, Fits, FitsCall, FitsReply, FitsItem, FitsCalled, FitsPutOff, IsValue};
+ghost use Rattle.std.specs.Prelude.{◌≡◌, ◌+◌, ◌≤◌, ℕ, length, IfSome};
+ghost use Rattle.std.specs.Option.{option_copied};
+ghost use Rattle.records.specs.declared.record.Record.{Record};
+ghost use Rattle.records.specs.Records.{value, named, call, reply, inverse, call_record, put_off, item, spelled, Fits, FitsCall, FitsReply, FitsItem, FitsCalled, FitsPutOff, IsValue};
 
 use crate::record::{CallRecord, LaterRecord, Record};
 use calls::{Bytes, Call, Item, Name, Reply};
@@ -15,7 +17,7 @@ fn value_len(bytes: &Bytes) -> usize
 }
 
 #[tactic(auto, using(crate::proofs::RecordLengths::lengths))]
-fn call_len(asked: &Call) -> usize
+fn asked_len(asked: &Call) -> usize
     requires { FitsCall asked.now }
     ensures len { result ≡ length (call asked.now) }
     ensures bound { result ≤ 267 }
@@ -37,7 +39,7 @@ fn call_len(asked: &Call) -> usize
 }
 
 #[tactic(auto, using(crate::proofs::RecordLengths::lengths))]
-fn reply_len(answer: &Reply) -> usize
+fn answer_len(answer: &Reply) -> usize
     requires { FitsReply answer.now }
     ensures len { result ≡ length (reply answer.now) }
     ensures bound { result ≤ 267 }
@@ -51,24 +53,38 @@ fn reply_len(answer: &Reply) -> usize
     }
 }
 
-fn inverse_len(back: &Option<Call>) -> usize
-    requires { IfSome back.now FitsCall }
-    ensures len { result ≡ length (inverse back.now) }
+fn back_len(back: Option<&Call>) -> usize
+    requires { IfSome (option_copied back) FitsCall }
+    ensures len { result ≡ length (inverse (option_copied back.entry)) }
     ensures bound { result ≤ 267 }
 {
     match back {
         None => 1,
-        Some(asked) => call_len(asked),
+        Some(asked) => asked_len(asked),
     }
+}
+
+/// How many bytes the record of a call takes, with its reply and the call that takes it back, whose values have at most
+/// 256 bytes: from 12 to 811.
+#[tactic(auto, using(crate::proofs::RecordLengths::lengths))]
+pub fn call_len(asked: &Call, answer: &Reply, back: Option<&Call>) -> usize
+    requires asked { FitsCall asked.now }
+    requires answer { FitsReply answer.now }
+    requires back { IfSome (option_copied back) FitsCall }
+    ensures len { (n at : ℕ) → result ≡ length (spelled (Record.Call (call_record n at asked.now answer.now (option_copied back.entry)))) }
+    ensures positive { 1 ≤ result }
+    ensures bound { result ≤ 811 }
+{
+    10 + asked_len(asked) + answer_len(answer) + back_len(back)
 }
 
 #[tactic(auto, using(crate::proofs::RecordLengths::lengths))]
 fn called_len(asked: &CallRecord) -> usize
     requires { FitsCalled asked.now }
-    ensures len { result ≡ length (called asked.now) }
-    ensures bound { result ≤ 810 }
+    ensures len { result ≡ length (spelled (Record.Call asked.now)) }
+    ensures bound { result ≤ 811 }
 {
-    9 + call_len(&asked.call) + reply_len(&asked.reply) + inverse_len(&asked.inverse)
+    call_len(&asked.call, &asked.reply, asked.inverse.as_ref())
 }
 
 #[tactic(auto, using(crate::proofs::RecordLengths::lengths))]
@@ -77,7 +93,7 @@ fn later_len(later: &LaterRecord) -> usize
     ensures len { result ≡ length (put_off later.now) }
     ensures bound { result ≤ 276 }
 {
-    9 + call_len(&later.call)
+    9 + asked_len(&later.call)
 }
 
 #[tactic(auto, using(crate::proofs::RecordLengths::lengths))]
@@ -110,7 +126,7 @@ pub fn encoded_len(entry: &Record) -> usize
 {
     match entry {
         Record::Make(_, name) | Record::Name(_, name) => 1 + named_len(name),
-        Record::Call(asked) | Record::LiveCall(asked) => 1 + called_len(asked),
+        Record::Call(asked) | Record::LiveCall(asked) => called_len(asked),
         Record::Later(later) | Record::LiveLater(later) => 1 + later_len(later),
         Record::Commit(_) | Record::Back(_) | Record::Ended(_) | Record::Begin(_) => 9,
         Record::Item(part) => 1 + item_len(part),

@@ -2,6 +2,8 @@
 ghost use Rattle.std.specs.Prelude.{IfOk};
 ghost use Rattle.calls.specs.Names.{IsName};
 
+mod recorded;
+
 use crate::*;
 use calls::{Call, Kind, Name, Refusal, Reply};
 use std::alloc::{AllocError, Global};

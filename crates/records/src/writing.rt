@@ -1,8 +1,10 @@
 // Records into bytes. The room is made first, so that what follows can't be refused.
 ghost use Rattle.std.specs.Prelude.{◌≡◌, ◌+◌, ◌<◌, ◌≤◌, ◌^◌, ◌∷◌, [], ◌++◌, length, vec_len, vec_capacity, OnOk, OnErr, IfErr, IfSome};
-ghost use Rattle.records.specs.Records.{number, signed, wide, value, kind_code, named, call, reply, inverse, called, put_off, item, spelled, Fits, FitsCall, FitsReply, FitsItem, FitsCalled, FitsPutOff, IsValue};
+ghost use Rattle.std.specs.Option.{option_copied};
+ghost use Rattle.records.specs.declared.record.Record.{Record};
+ghost use Rattle.records.specs.Records.{number, signed, wide, value, kind_code, named, call, reply, inverse, call_record, called, put_off, item, spelled, Fits, FitsCall, FitsReply, FitsItem, FitsCalled, FitsPutOff, IsValue};
 
-use crate::lengths::encoded_len;
+use crate::lengths::{call_len, encoded_len};
 use crate::record::{CallRecord, LaterRecord, Record};
 use byteorder::{BigEndian, ByteOrder};
 use calls::{Bytes, Call, Item, Kind, Name, Refusal, Reply};
@@ -209,17 +211,41 @@ fn put_reply(out: &mut Vec<u8>, answer: &Reply)
 }
 
 #[tactic(auto, using(crate::proofs::RecordLengths::lengths))]
-fn put_inverse(out: &mut Vec<u8>, back: &Option<Call>)
-    requires fits { IfSome back.now FitsCall }
-    requires room { vec_len out.old + length (inverse back.now) ≤ vec_capacity out.old }
-    ensures items { out.new.items ≡ out.old.items ++ inverse back.now }
-    ensures len { vec_len out.new ≡ vec_len out.old + length (inverse back.now) }
+fn put_inverse(out: &mut Vec<u8>, back: Option<&Call>)
+    requires fits { IfSome (option_copied back) FitsCall }
+    requires room { vec_len out.old + length (inverse (option_copied back)) ≤ vec_capacity out.old }
+    ensures items { out.new.items ≡ out.old.items ++ inverse (option_copied back.entry) }
+    ensures len { vec_len out.new ≡ vec_len out.old + length (inverse (option_copied back.entry)) }
     ensures capacity { vec_capacity out.old ≤ vec_capacity out.new }
 {
     match back {
         None => put_byte(out, 0),
         Some(asked) => put_call(out, asked),
     }
+}
+
+#[tactic(auto, using(crate::proofs::RecordLengths::lengths))]
+fn put_parts(
+    out: &mut Vec<u8>,
+    number: u64,
+    collection: u8,
+    asked: &Call,
+    answer: &Reply,
+    back: Option<&Call>,
+)
+    requires asked { FitsCall asked.now }
+    requires answer { FitsReply answer.now }
+    requires back { IfSome (option_copied back) FitsCall }
+    requires room { vec_len out.old + length (called (call_record number collection asked.now answer.now (option_copied back))) ≤ vec_capacity out.old }
+    ensures items { out.new.items ≡ out.old.items ++ called (call_record number collection asked.now answer.now (option_copied back.entry)) }
+    ensures len { vec_len out.new ≡ vec_len out.old + length (called (call_record number collection asked.now answer.now (option_copied back.entry))) }
+    ensures capacity { vec_capacity out.old ≤ vec_capacity out.new }
+{
+    put_u64(out, number);
+    put_byte(out, collection);
+    put_call(out, asked);
+    put_reply(out, answer);
+    put_inverse(out, back);
 }
 
 #[tactic(auto, using(crate::proofs::RecordLengths::lengths))]
@@ -230,11 +256,15 @@ fn put_called(out: &mut Vec<u8>, asked: &CallRecord)
     ensures len { vec_len out.new ≡ vec_len out.old + length (called asked.now) }
     ensures capacity { vec_capacity out.old ≤ vec_capacity out.new }
 {
-    put_u64(out, asked.number);
-    put_byte(out, asked.collection);
-    put_call(out, &asked.call);
-    put_reply(out, &asked.reply);
-    put_inverse(out, &asked.inverse);
+    let back = asked.inverse.as_ref();
+    put_parts(
+        out,
+        asked.number,
+        asked.collection,
+        &asked.call,
+        &asked.reply,
+        back,
+    );
 }
 
 #[tactic(auto, using(crate::proofs::RecordLengths::lengths))]
@@ -328,5 +358,34 @@ pub fn encode(entry: &Record, out: &mut Vec<u8>) -> Result<(), Refusal>
         return Err(Refusal::NoMemory);
     }
     put_record(out, entry);
+    Ok(())
+}
+
+/// Puts the record of a call, whose values have at most 256 bytes, behind what `out` holds, in place: the transaction's
+/// number, the collection, the call, its reply, and the call that takes it back. Nothing is copied but into `out`.
+///
+/// NoMemory, only where room was missing; it leaves `out` as it was.
+pub fn encode_call(
+    number: u64,
+    collection: u8,
+    asked: &Call,
+    answer: &Reply,
+    back: Option<&Call>,
+    out: &mut Vec<u8>,
+) -> Result<(), Refusal>
+    requires asked { FitsCall asked.now }
+    requires answer { FitsReply answer.now }
+    requires back { IfSome (option_copied back) FitsCall }
+    ensures ok { OnOk result (out.new.items ≡ out.old.items ++ spelled (Record.Call (call_record number collection asked.now answer.now (option_copied back.entry)))) }
+    ensures len { OnOk result (vec_len out.new ≡ vec_len out.old + length (spelled (Record.Call (call_record number collection asked.now answer.now (option_copied back.entry))))) }
+    ensures err { IfErr result (λ e. (e ≡ Refusal.NoMemory) × (out.new.items ≡ out.old.items)) }
+    ensures full { OnErr result (vec_capacity out.old < vec_len out.old + length (spelled (Record.Call (call_record number collection asked.now answer.now (option_copied back.entry))))) }
+    ensures capacity { vec_capacity out.old ≤ vec_capacity out.new }
+{
+    if out.reserve(call_len(asked, answer, back)).is_err() {
+        return Err(Refusal::NoMemory);
+    }
+    put_byte(out, 2);
+    put_parts(out, number, collection, asked, answer, back);
     Ok(())
 }

@@ -18,12 +18,18 @@ pub record Log : Type 0 where
   pub rooms : List ℕ
 
 -- The transaction is live.
+abbrev pub Lives : Statuses → ℕ → Type 0
+Lives live n = IsTrue (maps.contains_key live n)
+
 abbrev pub IsLive : Log → ℕ → Type 0
-IsLive log n = IsTrue (maps.contains_key log.live n)
+IsLive log n = Lives log.live n
 
 -- The live transaction is falling.
+abbrev pub Falls : Statuses → ℕ → Type 0
+Falls live n = maps.get live n ≡ Some true
+
 abbrev pub IsFalling : Log → ℕ → Type 0
-IsFalling log n = maps.get log.live n ≡ Some true
+IsFalling log n = Falls log.live n
 
 -- There is room for one more entry of the transaction.
 abbrev pub HasRoom : Log → ℕ → Type 0

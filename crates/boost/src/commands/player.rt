@@ -1,11 +1,11 @@
 // A script's client and its committer, line by line.
 use crate::commands::failure::Failure;
 use crate::commands::texts::Said;
-use crate::machine::Named;
 use crate::script::{Action, Line, Request};
 use crate::steps::{Answer, Step};
 use crate::world::{World, play};
-use calls::{Call, Kind, Name, Refusal, check_name};
+use calls::{Call, Kind, Name, Refusal};
+use catalog::Parts;
 use disk_model::Disk;
 use std::alloc::Global;
 use std::io::Write;
@@ -149,7 +149,7 @@ impl<D: Disk> Player<D> {
 
     fn call(&mut self, alloc: Global, name: &Name, call: Call) -> Result<Said, Stop> {
         let number = self.enter(alloc)?;
-        let collection = find(self.world.book().collections(), name.as_str())?;
+        let collection = self.world.book().collections().find(name.as_str())?;
         let answer = self.step(alloc, Step::Call(number, collection, call))?;
         Ok(Said::Answer(answer))
     }
@@ -181,15 +181,4 @@ impl<D: Disk> Player<D> {
         let answer = self.step(alloc, Step::Turn)?;
         Ok(Said::Answer(answer))
     }
-}
-
-// The number of the collection of the name. Refused BadName, TooLong, NoSuchCollection.
-fn find(collections: &[Named], name: &str) -> Result<u8, Refusal> {
-    check_name(name)?;
-    for (number, named) in (0..=u8::MAX).zip(collections) {
-        if named.name.as_str() == name {
-            return Ok(number);
-        }
-    }
-    Err(Refusal::NoSuchCollection)
 }

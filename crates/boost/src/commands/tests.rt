@@ -2,6 +2,7 @@
 mod any_disks;
 mod bad_scripts;
 mod files;
+mod items;
 mod rows;
 mod stops;
 

@@ -1,6 +1,6 @@
 // What the lines of a script answer, as texts.
 use crate::steps::{Answer, Turn};
-use calls::Reply;
+use calls::{Item, Reply};
 use std::fmt;
 
 /// What a line answers.
@@ -67,6 +67,24 @@ fn write_reply<W: fmt::Write>(f: &mut fmt::Formatter<W>, reply: &Reply) -> fmt::
         Reply::Id(id) => write!(f, "id {id}"),
         Reply::Queued => write!(f, "queued"),
         Reply::Absent => write!(f, "absent"),
+    }
+}
+
+/// An item of a collection, as it is shown.
+#[derive(Clone, Copy)]
+pub struct ItemText<'a>(pub &'a Item);
+
+impl fmt::Display for ItemText<'_> {
+    fn fmt<W: fmt::Write>(&self, f: &mut fmt::Formatter<W>) -> fmt::Result {
+        match self.0 {
+            Item::Element(x) => write!(f, "{x}"),
+            Item::Entry(key, value) => {
+                let hex = Hex(value.as_slice());
+                write!(f, "{key} {hex}")
+            }
+            Item::Pair(priority, tag) => write!(f, "{priority} {tag}"),
+            Item::Number(total) => write!(f, "{total}"),
+        }
     }
 }
 

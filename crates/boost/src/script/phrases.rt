@@ -4,7 +4,7 @@ ghost use Rattle.calls.specs.declared.kind.Kind.{Kind};
 ghost use Rattle.calls.specs.declared.call.Call.{Call};
 ghost use Rattle.boost.specs.declared.script.action.Request.{Request};
 ghost use Rattle.boost.specs.declared.script.action.Action.{Action};
-ghost use Rattle.boost.specs.ScriptTexts.{IsWord, IsRequestOf, IsLineOf, IsCallOf, CanBeCalled, call_text};
+ghost use Rattle.boost.specs.ScriptTexts.{IsWord, IsRequestOf, IsLineOf, IsMakeOf, IsCallOf, CanBeCalled, kind_text, call_text};
 
 use crate::script::action::{Action, Request};
 use crate::script::words::{behind, number, same, split_at_byte, word};
@@ -40,6 +40,36 @@ fn called(alloc: Global, text: &[u8]) -> Result<Option<Request>, AllocError>
     }
 }
 
+// The kind that the text names.
+fn kind_of(text: &[u8]) -> Option<Kind>
+    ensures { MatchOption result ((k : Kind) → text.now ≡ kind_text k → ⊥) (λ k. text.now ≡ kind_text k) }
+{
+    match text {
+        b"set" => Some(Kind::Set),
+        b"map" => Some(Kind::Map),
+        b"queue" => Some(Kind::Queue),
+        b"counter" => Some(Kind::Counter),
+        b"pool" => Some(Kind::Pool),
+        _ => None,
+    }
+}
+
+// What stands behind the word make.
+fn made(alloc: Global, text: &[u8]) -> Result<Option<Request>, AllocError>
+    ensures { IfOk result (λ found. MatchOption found ((r : Request) → IsMakeOf r text.now → ⊥) (λ r. IsMakeOf r text.now)) }
+{
+    let Some((front, back)) = split_at_byte(text, b' ') else {
+        return Ok(None);
+    };
+    let Some(kind) = kind_of(front) else {
+        return Ok(None);
+    };
+    match word(alloc, back)? {
+        Some(name) => Ok(Some(Request::Make(kind, name))),
+        None => Ok(None),
+    }
+}
+
 // What a client asks for.
 fn request(alloc: Global, text: &[u8]) -> Result<Option<Request>, AllocError>
     ensures { IfOk result (λ found. MatchOption found ((r : Request) → IsRequestOf r text.now → ⊥) (λ r. IsRequestOf r text.now)) }
@@ -56,11 +86,8 @@ fn request(alloc: Global, text: &[u8]) -> Result<Option<Request>, AllocError>
     if let Some(rest) = behind(text, b"call ") {
         return called(alloc, rest);
     }
-    let Some(rest) = behind(text, b"make counter ") else {
-        return Ok(None);
-    };
-    match word(alloc, rest)? {
-        Some(name) => Ok(Some(Request::Make(Kind::Counter, name))),
+    match behind(text, b"make ") {
+        Some(rest) => made(alloc, rest),
         None => Ok(None),
     }
 }

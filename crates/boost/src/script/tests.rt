@@ -5,14 +5,14 @@ use std::test::Fail;
 const FIRST: &[u8] =
     b"# one counter\nc1 make counter hits\n\nc1 begin\nc1 call hits bump 1\nc1 call a.b bump -9223372036854775808\nc1 commit\nturn\nc1 kept";
 
-fn says_make(line: Option<&Line>, number: u64, text: &str) -> bool {
+fn says_make(line: Option<&Line>, number: u64, kind: Kind, text: &str) -> bool {
     match line {
         Some(
             Line {
                 number: n,
-                what: Action::Client(1, Request::Make(Kind::Counter, name)),
+                what: Action::Client(1, Request::Make(k, name)),
             },
-        ) => *n == number && name.as_str() == text,
+        ) => *n == number && *k == kind && name.as_str() == text,
         _ => false,
     }
 }
@@ -33,7 +33,7 @@ fn says_bump(line: Option<&Line>, number: u64, text: &str, by: i64) -> bool {
 fn reads_each_line(rt: HostRuntime) -> Result<(), Fail> {
     let lines = parse(rt.alloc(), FIRST)?;
     assert_eq!(rt; lines.len(), 7);
-    assert!(rt; says_make(lines.get(0), 2, "hits"));
+    assert!(rt; says_make(lines.get(0), 2, Kind::Counter, "hits"));
     assert!(rt;
         matches!(
             lines.get(1),
@@ -76,6 +76,17 @@ fn reads_each_line(rt: HostRuntime) -> Result<(), Fail> {
 }
 
 #[test]
+fn reads_each_kind(rt: HostRuntime) -> Result<(), Fail> {
+    let kinds = [Kind::Set, Kind::Map, Kind::Queue, Kind::Counter, Kind::Pool];
+    for kind in kinds {
+        let line = format!(in rt.alloc(); "c1 make {kind} a.b")?;
+        let lines = parse(rt.alloc(), line.as_str().as_bytes())?;
+        assert!(rt; says_make(lines.get(0), 1, kind, "a.b"));
+    }
+    Ok(())
+}
+
+#[test]
 fn reads_what_says_nothing(rt: HostRuntime) -> Result<(), Fail> {
     let scripts: [&[u8]; 5] = [b"", b"\n", b"\n\n", b"#", b"# turn\n#\n"];
     for script in scripts {
@@ -88,13 +99,13 @@ fn reads_what_says_nothing(rt: HostRuntime) -> Result<(), Fail> {
 fn takes_any_word_as_a_name(rt: HostRuntime) -> Result<(), Fail> {
     let line = "c1 make counter \t\r\0Ä#-";
     let lines = parse(rt.alloc(), line.as_bytes())?;
-    assert!(rt; says_make(lines.get(0), 1, "\t\r\0Ä#-"));
+    assert!(rt; says_make(lines.get(0), 1, Kind::Counter, "\t\r\0Ä#-"));
     Ok(())
 }
 
 #[test]
 fn refuses_each_line_that_it_does_not_know(rt: HostRuntime) {
-    let bad: [&[u8]; 34] = [
+    let bad: [&[u8]; 38] = [
         b"c1 call hits bump 01",
         b"c1 call hits bump -0",
         b"c1 call hits bump +1",
@@ -111,7 +122,11 @@ fn refuses_each_line_that_it_does_not_know(rt: HostRuntime) {
         b"c1 call hits read",
         b"c1 call  bump 1",
         b"c1 call hits  bump 1",
-        b"c1 make set s",
+        b"c1 make sets s",
+        b"c1 make se s",
+        b"c1 make Set s",
+        b"c1 make  s",
+        b"c1 make set",
         b"c1 make counter",
         b"c1 make counter ",
         b"c1 make counter a b",

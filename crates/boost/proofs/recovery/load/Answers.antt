@@ -4,7 +4,7 @@ use Rattle.std.proofs.Common.{MatchOption, Option, Vec, ℕ, List, ◌+◌, Some
 use Rattle.std.specs.declared.alloc.Global.{Global}
 use Rattle.gate_block.specs.Row.{Finds, StandsAt}
 use Rattle.gate_block.specs.Area.{body_in}
-use Rattle.boost.proofs.OpenLemmas.{gate_refused, body_refused, loads_on, end_refused, loads}
+use Rattle.boost.proofs.OpenLemmas.{loading_starts, gate_refused, body_refused, loads_on, end_refused, loads}
 use Rattle.boost.proofs.recovery.load.Goals as goal
 
 stands_there : (found : Option (Vec ℕ Global)) (v : Vec ℕ Global) (body bytes : List ℕ) (p : ℕ) → found ≡ Some v → body ≡ v.items → Finds bytes p (body_in found) → StandsAt bytes p body
@@ -26,6 +26,11 @@ returns-in_err-repeat_body-clause-refused g c =
     (body_refused c.loop-repetition.invariant c.next_block.new.disk c.next_block.ensures.reads c.next_block.ensures.honest c.next_block.ensures.faults c.as_slice.result.now c.in_err-repeat_body.field-0.0
     (λ true_read. stands_there c.in_ok-body.field-0 c.in-Some.body c.as_slice.result.now _ _ c.in-Some.is c.as_slice.ensures.value (c.in_ok-body.ensures.found true_read))
     c.in_err-repeat_body.ensures.err)
+
+pub loop-repetition-init : goal.loop-repetition-init
+loop-repetition-init g c =
+    loading_starts g.D.Disk.seen g.D.Disk.may_leave g.D.Disk.moment g.D.Disk.left_since g.D.Disk.is_honest g.D.Disk.fault_count c.args.disk.now c.args.base c.args.size c.start-area.result _ _ _
+    (g.met.D.Disk.only_now c.args.disk.now) c.start-area.ensures.base c.start-area.ensures.size c.start-area.ensures.position c.start-area.ensures.failed c.new-repetition.ensures
 
 pub loop-repetition-preserved : goal.loop-repetition-preserved
 loop-repetition-preserved g c =

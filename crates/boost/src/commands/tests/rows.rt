@@ -10,6 +10,21 @@ const HITS_BLOCK: &[u8] = b"\xa7\0\0\0\x36\x01\x04\x04hits\
 \x02\0\0\0\0\0\0\0\x01\0\x0c\0\0\0\0\0\0\0\x01\0\x0c\xff\xff\xff\xff\xff\xff\xff\xff\
 \x04\0\0\0\0\0\0\0\x01\0";
 
+// A script that makes a collection of each kind, and what it prints; the block that it leaves behind the bytes of an
+// empty store, with a closed gate; and what its store shows.
+const FIVE: &[u8] =
+    b"c1 make set s\nc1 make map m\nc1 make queue q\nc1 make counter n\nc1 make pool p\nturn";
+
+const FIVE_SAYS: &str = "1: place 1\n2: place 2\n3: place 3\n4: place 4\n5: place 5\n6: kept 5\n";
+
+const FIVE_BLOCK: &[u8] = b"\xa7\0\0\0\x14\
+\x01\x01\x01s\x01\x02\x01m\x01\x03\x01q\x01\x04\x01n\x01\x05\x01p\0";
+
+const FIVE_SHOWN: &str = "set s\nmap m\nqueue q\ncounter n\n  0\npool p\n";
+
+// A name of 65 letters.
+const LONG: &str = "aaaaaaaaaaaaaaaaaaaaaaaaaaaaaaaaaaaaaaaaaaaaaaaaaaaaaaaaaaaaaaaaa";
+
 #[test]
 fn an_empty_store_shows_nothing(rt: HostRuntime) -> Result<(), Fail> {
     let alloc = rt.alloc();
@@ -60,6 +75,62 @@ fn a_counter_is_kept(rt: HostRuntime) -> Result<(), Fail> {
         "1: no ticket\n2: begun 2\n3: done\n4: place 1\n5: kept 1\n"
     );
     assert_eq!(rt; show_on(alloc, again.disk).out(), "counter hits\n  -2\n");
+    Ok(())
+}
+
+#[test]
+fn each_kind_is_made(rt: HostRuntime) -> Result<(), Fail> {
+    let alloc = rt.alloc();
+    let mut played = play_on(alloc, fresh(alloc)?, FIVE);
+    assert_eq!(rt;
+        (played.status, played.out(), played.err()),
+        (0, FIVE_SAYS, "")
+    );
+    // The gate behind the block stands at the byte 4144.
+    assert_eq!(rt; FIVE_BLOCK.len(), 26);
+    let block = bytes_at(&rt, &mut played.disk, 4119, FIVE_BLOCK.len())?;
+    assert_eq!(rt; block.as_slice(), FIVE_BLOCK);
+    let shown = show_on(alloc, played.disk);
+    assert_eq!(rt;
+        (shown.status, shown.out(), shown.err()),
+        (0, FIVE_SHOWN, "")
+    );
+    Ok(())
+}
+
+#[test]
+fn there_are_256_collections_at_most(rt: HostRuntime) -> Result<(), Fail> {
+    let alloc = rt.alloc();
+    let mut script = String::new(alloc);
+    for number in 0..257 {
+        write!(script, "c1 make set {number}\n")?;
+    }
+    write!(script, "turn")?;
+    let played = play_on(alloc, fresh(alloc)?, script.as_str().as_bytes());
+    assert!(rt;
+        played.out().ends_with(
+            "\n256: place 256\n257: refused 8 TooManyCollections\n258: kept 256\n"
+        )
+    );
+    let shown = show_on(alloc, played.disk);
+    assert_eq!(rt; (shown.status, shown.out().lines().count()), (0, 256));
+    assert!(rt; shown.out().ends_with("set 254\nset 255\n"));
+    Ok(())
+}
+
+#[test]
+fn a_making_says_why_it_is_refused(rt: HostRuntime) -> Result<(), Fail> {
+    let alloc = rt.alloc();
+    let script = format!(in alloc;
+        "c1 make set Bad\nc1 make set {LONG}\nc1 make set s\nc1 make set s\nc1 make pool s\n\
+c1 begin\nc1 call s bump 1"
+    )?;
+    let played = play_on(alloc, fresh(alloc)?, script.as_str().as_bytes());
+    assert_eq!(rt;
+        played.out(),
+        "1: refused 1 BadName\n2: refused 3 TooLong\n3: place 1\n4: refused 5 NameTaken\n\
+5: refused 5 NameTaken\n6: begun 1\n7: refused 7 WrongKind\n"
+    );
     Ok(())
 }
 

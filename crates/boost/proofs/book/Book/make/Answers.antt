@@ -11,7 +11,6 @@ pub invariant_of-self-2 : goal.invariant_of-self-2
 invariant_of-self-2 c =
     let free : length c.self.inside.pending.items < 16384 = omega (arith, c.if-len-ge-MAX_PENDING.false, c.len.ensures, c.self.inside.pending.ok.0) in
     let r = Record.Make c.args.kind c.in_ok-copy.field-0 in
-    let steps : Steps c.self.inside.machine r c.make.new.self =
-    make_steps c.self.inside.machine c.make.new.self c.args.kind c.in_ok-copy.field-0 c.in_ok-copy-2.field-0 c.args.name.now c.in_ok-check_make.ensures.ok.counter c.in_ok-copy.ensures c.in_ok-copy-2.ensures c.in_ok-make.ensures.ok in
+    let steps : Steps c.self.inside.machine r c.make.new.self = make_steps c.self.inside.machine c.make.new.self c.args.kind c.in_ok-copy.field-0 _ c.args.name.now c.in_ok-copy.ensures c.as_str-2.ensures c.in_ok-make.ensures.ok in
     kept _ _ c.self.inside.pending.items _ c.self.inside.end c.self.inside.place c.self.inside.places _ c.self.inside.next _ r c.self.invariant free steps
     (c.push_back_reserved.ensures.items ∙ ap (λ (l : List Record). l ++ r ∷ []) c.reserve.ensures.items) refl refl (make_record c.self.inside.machine c.make.new.self c.args.kind c.in_ok-copy.field-0 steps) c.self.invariant.next

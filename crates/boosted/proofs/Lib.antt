@@ -1,0 +1,4 @@
+pub mod Each
+pub mod Runs
+pub mod Owners
+pub mod Settled

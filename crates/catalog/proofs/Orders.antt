@@ -1,0 +1,275 @@
+-- Items are in order exactly where they are those of a content, which then is what they fill.
+use Rattle.std.proofs.Common.{◌≡◌, ℕ, zero, suc, ◌<◌, ◌≤◌, ◌⊎◌, ◌&&◌, true, false, replicate, List, [], ◌∷◌, ◌++◌, map, refl, sym, ◌∙◌, ap, subst, inl, inr, ⊎_elim, arith}
+use Rattle.std.proofs.Common.{Ordering, Less, Equal, Greater}
+use Rattle.std.specs.Prelude.{T}
+use Rattle.std.specs.List.{AllByRecursion}
+use Rattle.std.specs.List.Sorted.{IsStrictlySortedBy}
+use Rattle.std.specs.Map.{keys_of}
+use Rattle.std.specs.Ordering.{nat_cmp, ordering_then, is_lt}
+use Rattle.std.specs.Cmp.{ranked, nat_cmp_is}
+use Rattle.std.specs.FinMap as maps
+use Rattle.std.specs.FinMap.Entries.{is_sorted, below_all}
+use Rattle.std.specs.FinSet as sets
+use Rattle.std.proofs.lemmas.Bool.{cases_lt}
+use Rattle.calls.specs.declared.kind.Kind.{Kind}
+use Rattle.calls.specs.declared.item.Item.{Item}
+use Rattle.calls.specs.Bags.{pair_cmp}
+use Rattle.calls.specs.Contents.{Content, InSet, InMap, InQueue, InCounter, InPool, empty}
+use Rattle.calls.specs.Items.{kind_of_content}
+use Rattle.collections.specs.Items.{bag_from, IsRising}
+use Rattle.catalog.specs.Shows.{ListsContent, pair_item}
+use Rattle.catalog.specs.Loading.{AreItems, Rise, AreInOrder, with_item, filled}
+use Rattle.catalog.proofs.Listings.{entry_item, entry_items, spread, pair_items}
+
+-- ---- items that are filled in from the last to the first
+
+pub filled-push : (k : Content) (xs : List Item) (x : Item) → filled k (xs ++ x ∷ []) ≡ filled (with_item k x) xs
+filled-push k [] x = refl
+filled-push k (y ∷ xs) x = ap (λ l. with_item l y) (filled-push k xs x)
+
+kind_with : (k : Content) (x : Item) → kind_of_content (with_item k x) ≡ kind_of_content k
+kind_with (InSet s) (Item.Element x) = refl
+kind_with (InMap m) (Item.Entry k v) = refl
+kind_with (InQueue q) (Item.Pair p g) = refl
+kind_with (InCounter n) (Item.Number m) = refl
+kind_with (InPool s) (Item.Element x) = refl
+kind_with k x = refl
+
+kind_empty : (kind : Kind) → kind_of_content (empty kind) ≡ kind
+kind_empty Kind.Set = refl
+kind_empty Kind.Map = refl
+kind_empty Kind.Queue = refl
+kind_empty Kind.Counter = refl
+kind_empty Kind.Pool = refl
+
+pub kind_filled : (kind : Kind) (items : List Item) → kind_of_content (filled (empty kind) items) ≡ kind
+kind_filled kind [] = kind_empty kind
+kind_filled kind (x ∷ xs) = kind_with (filled (empty kind) xs) x ∙ kind_filled kind xs
+
+-- ---- orders
+
+less_of : (x y : ℕ) → x < y → nat_cmp x y ≡ Less
+less_of x y h = sym (nat_cmp_is x y Less h)
+
+below_of : (x y : ℕ) → nat_cmp x y ≡ Less → x < y
+below_of x y e = ranked x y Less (sym e)
+
+pub is_less : (o : Ordering) → T (is_lt o) → o ≡ Less
+is_less Less h = refl
+is_less Equal h = absurd h
+is_less Greater h = absurd h
+
+pub first_of_both : (a b : _) → T (a && b) → T a
+first_of_both true b h = tt
+first_of_both false b h = absurd h
+
+pub second_of_both : (a b : _) → T (a && b) → T b
+second_of_both true b h = h
+second_of_both false b h = absurd h
+
+all_above : (x y : ℕ) (ns : List ℕ) → x < y → AllByRecursion (λ z. nat_cmp y z ≡ Less) ns → AllByRecursion (λ z. nat_cmp x z ≡ Less) ns
+all_above x y [] l a = tt
+all_above x y (z ∷ ns) l a = (let m : y < z = below_of y z a.0 in less_of x z (omega arith), all_above x y ns l a.1)
+
+-- pairs by their first and then their second number
+abbrev PairLe : ℕ × ℕ → ℕ × ℕ → Type 0
+PairLe x y = (x.0 < y.0) ⊎ ((x.0 ≡ y.0) × (x.1 ≤ y.1))
+
+pair_le_trans : (x y z : ℕ × ℕ) → PairLe x y → PairLe y z → PairLe x z
+pair_le_trans x y z a b = ⊎_elim
+    (λ (l : x.0 < y.0). ⊎_elim (λ (m : y.0 < z.0). inl (omega arith)) (λ (m : (y.0 ≡ z.0) × (y.1 ≤ z.1)). let e = m.0 in inl (omega arith)) b)
+    (λ (l : (x.0 ≡ y.0) × (x.1 ≤ y.1)). ⊎_elim
+    (λ (m : y.0 < z.0). let e = l.0 in inl (omega arith))
+    (λ (m : (y.0 ≡ z.0) × (y.1 ≤ z.1)). let d = l.1 in let e = m.1 in inr (l.0 ∙ m.0, omega arith)) b)
+    a
+
+not_less : (x y : ℕ) → y ≤ x → is_lt (nat_cmp x y) ≡ false
+not_less x y l = ⊎_elim
+    (λ (h : y < x). ap is_lt (sym (nat_cmp_is x y Greater h)))
+    (λ (h : x ≤ y). let e : x ≡ y = omega arith in ap is_lt (sym (nat_cmp_is x y Equal e)))
+    (cases_lt y x)
+
+le_not_less : (x y : ℕ × ℕ) → PairLe x y → is_lt (pair_cmp y x) ≡ false
+le_not_less x y h = ⊎_elim
+    (λ (l : x.0 < y.0). ap (λ o. is_lt (ordering_then o (nat_cmp y.1 x.1))) (sym (nat_cmp_is y.0 x.0 Greater l)))
+    (λ (l : (x.0 ≡ y.0) × (x.1 ≤ y.1)). ap (λ o. is_lt (ordering_then o (nat_cmp y.1 x.1))) (sym (nat_cmp_is y.0 x.0 Equal (sym l.0))) ∙ not_less y.1 x.1 l.1)
+    h
+
+by_first : (x y : ℕ × ℕ) (o p : Ordering) → nat_cmp x.0 y.0 ≡ o → nat_cmp x.1 y.1 ≡ p → ordering_then o p ≡ Less → PairLe x y
+by_first x y Less p e f l = inl (below_of x.0 y.0 e)
+by_first x y Equal p e f l = let m : x.1 < y.1 = below_of x.1 y.1 (f ∙ l) in inr (ranked x.0 y.0 Equal (sym e), omega arith)
+by_first x y Greater p e f l = absurd (cc)
+
+less_le : (x y : ℕ × ℕ) → pair_cmp x y ≡ Less → PairLe x y
+less_le x y e = by_first x y (nat_cmp x.0 y.0) (nat_cmp x.1 y.1) refl refl e
+
+-- ---- what a content lists is in order
+
+rise_numbers : (x : ℕ) (ns : List ℕ) → IsStrictlySortedBy nat_cmp (x ∷ ns) → Rise Kind.Set (Item.Element x) (map Item.Element ns)
+unfolding IsStrictlySortedBy
+rise_numbers x [] s = tt
+rise_numbers x (y ∷ ns) s = (below_of x y s.0.0, rise_numbers y ns s.1)
+
+pool_as_set : (x : Item) (xs : List Item) → Rise Kind.Set x xs → Rise Kind.Pool x xs
+pool_as_set (Item.Element x) [] h = tt
+pool_as_set x [] h = absurd h
+pool_as_set (Item.Element x) (Item.Element y ∷ ys) h = (h.0, pool_as_set (Item.Element y) ys h.1)
+pool_as_set x (y ∷ ys) h = absurd h.0
+
+set_as_pool : (x : Item) (xs : List Item) → Rise Kind.Pool x xs → Rise Kind.Set x xs
+set_as_pool (Item.Element x) [] h = tt
+set_as_pool x [] h = absurd h
+set_as_pool (Item.Element x) (Item.Element y ∷ ys) h = (h.0, set_as_pool (Item.Element y) ys h.1)
+set_as_pool x (y ∷ ys) h = absurd h.0
+
+numbers_in_order : (ns : List ℕ) → IsStrictlySortedBy nat_cmp ns → AreInOrder Kind.Set (map Item.Element ns)
+numbers_in_order [] s = tt
+numbers_in_order (x ∷ ns) s = rise_numbers x ns s
+
+taken_in_order : (ns : List ℕ) → IsStrictlySortedBy nat_cmp ns → AreInOrder Kind.Pool (map Item.Element ns)
+taken_in_order [] s = tt
+taken_in_order (x ∷ ns) s = pool_as_set (Item.Element x) (map Item.Element ns) (rise_numbers x ns s)
+
+rise_entries : (e : ℕ × List ℕ) (es : List (ℕ × List ℕ)) → T (is_sorted nat_cmp (e ∷ es)) → Rise Kind.Map (entry_item e) (map entry_item es)
+rise_entries e [] s = tt
+rise_entries e (f ∷ es) s =
+    let low : T (below_all nat_cmp e.0 (f ∷ es)) = first_of_both _ _ s in
+    (below_of e.0 f.0 (is_less _ (first_of_both _ _ low)), rise_entries f es (second_of_both _ _ s))
+
+entries_in_order : (es : List (ℕ × List ℕ)) → T (is_sorted nat_cmp es) → AreInOrder Kind.Map (map entry_item es)
+entries_in_order [] s = tt
+entries_in_order (e ∷ es) s = rise_entries e es s
+
+rise_spread : (x : ℕ × ℕ) (n : ℕ) (es : List ((ℕ × ℕ) × ℕ)) → T (below_all pair_cmp x es) → T (is_sorted pair_cmp es) → Rise Kind.Queue (pair_item x) (replicate n (pair_item x) ++ spread es)
+rise_spread x (suc n) es b s = (inr (refl, omega arith), rise_spread x n es b s)
+rise_spread x zero [] b s = tt
+rise_spread x zero (e ∷ es) b s = (less_le x e.0 (is_less _ (first_of_both _ _ b)), rise_spread e.0 e.1 es (first_of_both _ _ s) (second_of_both _ _ s))
+
+spread_in_order : (es : List ((ℕ × ℕ) × ℕ)) → T (is_sorted pair_cmp es) → AreInOrder Kind.Queue (spread es)
+spread_in_order [] s = tt
+spread_in_order (e ∷ es) s = rise_spread e.0 e.1 es (first_of_both _ _ s) (second_of_both _ _ s)
+
+pub listed_in_order : (k : Content) (items : List Item) → ListsContent items k → AreInOrder (kind_of_content k) items
+listed_in_order (InSet s) items l = subst (AreInOrder Kind.Set) (sym l.are) (numbers_in_order l.numbers l.rising)
+listed_in_order (InMap m) items l = subst (AreInOrder Kind.Map) (sym l) (entries_in_order (maps.entries m) (maps.entries_sorted m))
+listed_in_order (InQueue q) items l = subst (AreInOrder Kind.Queue) (sym l) (spread_in_order (maps.entries q) (maps.entries_sorted q))
+listed_in_order (InCounter n) items l = subst (AreInOrder Kind.Counter) (sym l) tt
+listed_in_order (InPool s) items l = subst (AreInOrder Kind.Pool) (sym l.are) (taken_in_order l.numbers l.rising)
+
+-- ---- items in order are those of what they fill
+
+-- The numbers of elements that rise behind a first one.
+pub record Numbers (x : ℕ) (xs : List Item) : Type 0 where
+  pub numbers : List ℕ
+  pub are : xs ≡ map Item.Element numbers
+  pub rising : IsStrictlySortedBy nat_cmp (x ∷ numbers)
+
+numbers_of : (x : ℕ) (xs : List Item) → Rise Kind.Set (Item.Element x) xs → Numbers x xs
+unfolding IsStrictlySortedBy
+numbers_of x [] h = record { numbers = []; are = refl; rising = (tt, tt) }
+numbers_of x (Item.Element y ∷ ys) h =
+    let r = numbers_of y ys h.1 in
+    record { numbers = y ∷ r.numbers; are = ap (λ l. Item.Element y ∷ l) r.are; rising = ((less_of x y h.0, all_above x y r.numbers h.0 r.rising.0), r.rising) }
+numbers_of x (y ∷ ys) h = absurd h.0
+
+pub filled_set : (ns : List ℕ) → filled (InSet sets.empty) (map Item.Element ns) ≡ InSet (sets.from_list ns)
+filled_set [] = refl
+filled_set (n ∷ ns) = ap (λ k. with_item k (Item.Element n)) (filled_set ns)
+
+pub filled_pool : (ns : List ℕ) → filled (InPool sets.empty) (map Item.Element ns) ≡ InPool (sets.from_list ns)
+filled_pool [] = refl
+filled_pool (n ∷ ns) = ap (λ k. with_item k (Item.Element n)) (filled_pool ns)
+
+abbrev Lists : Kind → List Item → Type 0
+Lists kind items = ListsContent items (filled (empty kind) items)
+
+set_lists : (ns : List ℕ) → IsStrictlySortedBy nat_cmp ns → Lists Kind.Set (map Item.Element ns)
+set_lists ns s = subst (ListsContent (map Item.Element ns)) (sym (filled_set ns)) (record { numbers = ns; rising = s; members = refl; are = refl })
+
+pool_lists : (ns : List ℕ) → IsStrictlySortedBy nat_cmp ns → Lists Kind.Pool (map Item.Element ns)
+pool_lists ns s = subst (ListsContent (map Item.Element ns)) (sym (filled_pool ns)) (record { numbers = ns; rising = s; members = refl; are = refl })
+
+-- The entries that rise behind a first one.
+pub record Entries (e : ℕ × List ℕ) (xs : List Item) : Type 0 where
+  pub entries : List (ℕ × List ℕ)
+  pub are : xs ≡ map entry_item entries
+  pub rising : IsStrictlySortedBy nat_cmp (e.0 ∷ keys_of entries)
+
+entries_of : (e : ℕ × List ℕ) (xs : List Item) → Rise Kind.Map (entry_item e) xs → Entries e xs
+unfolding IsStrictlySortedBy
+entries_of e [] h = record { entries = []; are = refl; rising = (tt, tt) }
+entries_of e (Item.Entry k v ∷ ys) h =
+    let r = entries_of (k, v) ys h.1 in
+    record { entries = (k, v) ∷ r.entries; are = ap (λ l. Item.Entry k v ∷ l) r.are; rising = ((less_of e.0 k h.0, all_above e.0 k (keys_of r.entries) h.0 r.rising.0), r.rising) }
+entries_of e (y ∷ ys) h = absurd h.0
+
+pub filled_map : (es : List (ℕ × List ℕ)) → filled (InMap maps.empty) (map entry_item es) ≡ InMap (maps.from_entries es)
+filled_map [] = refl
+filled_map (e ∷ es) = ap (λ k. with_item k (entry_item e)) (filled_map es)
+
+map_lists : (es : List (ℕ × List ℕ)) → IsStrictlySortedBy nat_cmp (keys_of es) → Lists Kind.Map (map entry_item es)
+map_lists es s = subst (ListsContent (map entry_item es)) (sym (filled_map es)) (entry_items (maps.from_entries es) es s refl)
+
+-- The pairs that rise behind a first one.
+pub record Pairs (x : ℕ × ℕ) (xs : List Item) : Type 0 where
+  pub pairs : List (ℕ × ℕ)
+  pub are : xs ≡ map pair_item pairs
+  pub above : AllByRecursion (PairLe x) pairs
+  pub rising : IsRising pairs
+
+above_all : (x y : ℕ × ℕ) (ps : List (ℕ × ℕ)) → PairLe x y → AllByRecursion (PairLe y) ps → AllByRecursion (PairLe x) ps
+above_all x y [] l a = tt
+above_all x y (z ∷ ps) l a = (pair_le_trans x y z l a.0, above_all x y ps l a.1)
+
+none_less : (x : ℕ × ℕ) (ps : List (ℕ × ℕ)) → AllByRecursion (PairLe x) ps → AllByRecursion (λ y. is_lt (pair_cmp y x) ≡ false) ps
+none_less x [] a = tt
+none_less x (y ∷ ps) a = (le_not_less x y a.0, none_less x ps a.1)
+
+pairs_of : (x : ℕ × ℕ) (xs : List Item) → Rise Kind.Queue (pair_item x) xs → Pairs x xs
+pairs_of x [] h = record { pairs = []; are = refl; above = tt; rising = tt }
+pairs_of x (Item.Pair p g ∷ ys) h =
+    let r = pairs_of (p, g) ys h.1 in
+    record { pairs = (p, g) ∷ r.pairs; are = ap (λ l. Item.Pair p g ∷ l) r.are; above = (h.0, above_all x (p, g) r.pairs h.0 r.above); rising = (none_less (p, g) r.pairs r.above, r.rising) }
+pairs_of x (y ∷ ys) h = absurd h.0
+
+filled_queue : (ps : List (ℕ × ℕ)) → filled (InQueue maps.empty) (map pair_item ps) ≡ InQueue (bag_from ps)
+filled_queue [] = refl
+filled_queue (p ∷ ps) = ap (λ k. with_item k (pair_item p)) (filled_queue ps)
+
+queue_lists : (ps : List (ℕ × ℕ)) → IsRising ps → Lists Kind.Queue (map pair_item ps)
+queue_lists ps r = subst (ListsContent (map pair_item ps)) (sym (filled_queue ps)) (pair_items (bag_from ps) ps (record { rising = r; same = refl }))
+
+pub in_order_lists : (kind : Kind) (items : List Item) → AreInOrder kind items → ListsContent items (filled (empty kind) items)
+unfolding IsStrictlySortedBy
+in_order_lists Kind.Set [] h = set_lists [] tt
+in_order_lists Kind.Set (Item.Element x ∷ xs) h = let r = numbers_of x xs h in subst (λ l. Lists Kind.Set (Item.Element x ∷ l)) (sym r.are) (set_lists (x ∷ r.numbers) r.rising)
+in_order_lists Kind.Pool [] h = pool_lists [] tt
+in_order_lists Kind.Pool (Item.Element x ∷ xs) h =
+    let r = numbers_of x xs (set_as_pool (Item.Element x) xs h) in
+    subst (λ l. Lists Kind.Pool (Item.Element x ∷ l)) (sym r.are) (pool_lists (x ∷ r.numbers) r.rising)
+in_order_lists Kind.Map [] h = map_lists [] tt
+in_order_lists Kind.Map (Item.Entry k v ∷ xs) h = let r = entries_of (k, v) xs h in subst (λ l. Lists Kind.Map (Item.Entry k v ∷ l)) (sym r.are) (map_lists ((k, v) ∷ r.entries) r.rising)
+in_order_lists Kind.Queue [] h = queue_lists [] tt
+in_order_lists Kind.Queue (Item.Pair p g ∷ xs) h =
+    let r = pairs_of (p, g) xs h in
+    subst (λ l. Lists Kind.Queue (Item.Pair p g ∷ l)) (sym r.are) (queue_lists ((p, g) ∷ r.pairs) (none_less (p, g) r.pairs r.above, r.rising))
+in_order_lists Kind.Counter [] h = absurd h
+in_order_lists Kind.Counter (Item.Number n ∷ []) h = refl
+in_order_lists Kind.Counter (x ∷ (y ∷ ys)) h = absurd h.0
+in_order_lists Kind.Set (x ∷ []) h = absurd h
+in_order_lists Kind.Set (x ∷ (y ∷ ys)) h = absurd h.0
+in_order_lists Kind.Pool (x ∷ []) h = absurd h
+in_order_lists Kind.Pool (x ∷ (y ∷ ys)) h = absurd h.0
+in_order_lists Kind.Map (x ∷ []) h = absurd h
+in_order_lists Kind.Map (x ∷ (y ∷ ys)) h = absurd h.0
+in_order_lists Kind.Queue (x ∷ []) h = absurd h
+in_order_lists Kind.Queue (x ∷ (y ∷ ys)) h = absurd h.0
+in_order_lists Kind.Counter (x ∷ []) h = absurd h
+
+-- ---- both ways
+
+pub items_from_order : (kind : Kind) (items : List Item) → AreInOrder kind items → AreItems kind items
+items_from_order kind items h = (filled (empty kind) items, kind_filled kind items, in_order_lists kind items h)
+
+pub order_from_items : (kind : Kind) (items : List Item) → AreItems kind items → AreInOrder kind items
+order_from_items kind items k = subst (λ n. AreInOrder n items) k.1 (listed_in_order k.0 items k.2)

@@ -1,0 +1,175 @@
+-- Where no value is longer than 256 bytes, calls of short values keep it so, and no reply has a longer one.
+use Rattle.std.proofs.Common.{◌≡◌, ℕ, zero, suc, ◌≤◌, Bool, true, false, cond, Option, Some, None, List, [], ◌∷◌, ◌++◌, map, length, sym, ◌∙◌, ap, subst}
+use Rattle.std.specs.Prelude.{IfSome}
+use Rattle.std.specs.List.{AllByRecursion}
+use Rattle.std.specs.Ordering.{nat_cmp, eq_by_cmp}
+use Rattle.std.specs.Cmp.{nat_cmp_total}
+use Rattle.std.specs.Option.{unwrap_or}
+use Rattle.std.specs.FinMap.{get, find, entries, empty, get-empty, get-insert, get-remove, get-entries}
+use Rattle.calls.specs.declared.kind.Kind.{Kind}
+use Rattle.calls.specs.declared.call.Call.{Call}
+use Rattle.calls.specs.declared.reply.Reply.{Reply}
+use Rattle.calls.specs.declared.item.Item.{Item}
+use Rattle.calls.specs.Sets as sets
+use Rattle.calls.specs.Maps as maps
+use Rattle.calls.specs.Queues as queues
+use Rattle.calls.specs.Counters as counters
+use Rattle.calls.specs.Pools as pools
+use Rattle.calls.specs.Inverses.{inverse_of, IsShort, Disposable, Deferrable}
+use Rattle.calls.specs.Contents as contents
+use Rattle.calls.specs.Contents.{Content, InSet, InMap, InQueue, InCounter, InPool, Collection, Answers, after, AnswersAt, after_at}
+use Rattle.calls.specs.Transactions.{Makes}
+use Rattle.catalog.specs.Shows.{ListsContent}
+use Rattle.catalog.specs.Loading.{Loads}
+use Rattle.records.specs.Records.{FitsCall, FitsReply, FitsItem}
+use Rattle.records.specs.Short.{IsShortReply, IsShortItem, HoldsShort, AreShort}
+
+-- ---- what fits is short
+
+pub short_call : (c : Call) → FitsCall c → IsShort c
+short_call (Call.Put k v) f = f.1.short
+short_call c f = tt
+
+pub short_reply_of : (r : Reply) → FitsReply r → IsShortReply r
+short_reply_of (Reply.Value v) f = f.short
+short_reply_of (Reply.Entry k v) f = f.1.short
+short_reply_of r f = tt
+
+pub short_item : (i : Item) → FitsItem i → IsShortItem i
+short_item (Item.Entry k v) f = f.1.short
+short_item i f = tt
+
+-- A call that may run in a commit or be put off holds no value.
+pub short_disposable : (c : Call) → Disposable c → IsShort c
+short_disposable (Call.Bump n) d = tt
+short_disposable (Call.Free x) d = tt
+short_disposable c d = absurd d
+
+pub short_deferrable : (c : Call) → Deferrable c → IsShort c
+short_deferrable (Call.Bump n) d = tt
+short_deferrable c d = absurd d
+
+-- ---- replies
+
+set_short : (s : sets.NumberSet) (c : Call) (r : Reply) → sets.Answers s c r → IsShortReply r
+set_short s (Call.Contains x) (Reply.Value v) a = absurd a.1
+set_short s c (Reply.Value v) a = absurd a.1
+set_short s c (Reply.Entry k v) a = absurd a.1
+set_short s c r a = tt
+
+map_short : (m : maps.Table) (c : Call) (r : Reply) → HoldsShort (InMap m) → maps.Answers m c r → IsShortReply r
+map_short m (Call.Get k) (Reply.Value v) h a = h k v a.1
+map_short m (Call.Put k w) (Reply.Value v) h a = h k v a.1
+map_short m (Call.MapRemove k) (Reply.Value v) h a = h k v a.1
+map_short m (Call.Ceiling k) (Reply.Entry j v) h a = h j v a.1.there
+map_short m c (Reply.Value v) h a = absurd a.1
+map_short m c (Reply.Entry j v) h a = absurd a.1
+map_short m c r h a = tt
+
+queue_short : (q : _) (c : Call) (r : Reply) → queues.Answers q c r → IsShortReply r
+queue_short q (Call.QueueAdd p g) (Reply.Value v) a = absurd a.1
+queue_short q c (Reply.Value v) a = absurd a.1
+queue_short q c (Reply.Entry k v) a = absurd a.1
+queue_short q c r a = tt
+
+counter_short : (n : _) (c : Call) (r : Reply) → counters.Answers n c r → IsShortReply r
+counter_short n (Call.Bump k) (Reply.Value v) a = absurd a.1
+counter_short n c (Reply.Value v) a = absurd a.1
+counter_short n c (Reply.Entry k v) a = absurd a.1
+counter_short n c r a = tt
+
+pool_short : (s : sets.NumberSet) (c : Call) (r : Reply) → pools.Answers s c r → IsShortReply r
+pool_short s Call.Draw (Reply.Value v) a = absurd a.1
+pool_short s c (Reply.Value v) a = absurd a.1
+pool_short s c (Reply.Entry k v) a = absurd a.1
+pool_short s c r a = tt
+
+content_reply : (k : Content) (c : Call) (r : Reply) → HoldsShort k → Answers k c r → IsShortReply r
+content_reply (InSet s) c r h a = set_short s c r a
+content_reply (InMap m) c r h a = map_short m c r h a
+content_reply (InQueue q) c r h a = queue_short q c r a
+content_reply (InCounter n) c r h a = counter_short n c r a
+content_reply (InPool s) c r h a = pool_short s c r a
+
+pub short_reply : (s : List Collection) (at : ℕ) (c : Call) (r : Reply) → AreShort s → AnswersAt s at c r → IsShortReply r
+short_reply [] at c r h a = absurd a
+short_reply (x ∷ xs) zero c r h a = content_reply x.content c r h.0 a
+short_reply (x ∷ xs) (suc at) c r h a = short_reply xs at c r h.1 a
+
+inverse_short : (c : Call) (r : Reply) → IsShortReply r → IfSome (inverse_of c r) IsShort
+inverse_short (Call.SetAdd x) Reply.Yes h = tt
+inverse_short (Call.SetRemove x) Reply.Yes h = tt
+inverse_short (Call.Put k v) Reply.Nothing h = tt
+inverse_short (Call.Put k v) (Reply.Value o) h = h
+inverse_short (Call.MapRemove k) (Reply.Value o) h = h
+inverse_short (Call.QueueAdd p g) Reply.Done h = tt
+inverse_short Call.Take (Reply.Item p g) h = tt
+inverse_short (Call.Bump n) Reply.Done h = tt
+inverse_short Call.Draw (Reply.Id x) h = tt
+inverse_short c r h = tt
+
+-- The call that takes back what was answered so is short.
+pub short_inverse : (c : Call) (r : Reply) (back : Call) → IsShortReply r → inverse_of c r ≡ Some back → IsShort back
+short_inverse c r back h e = subst (λ (o : Option Call). IfSome o IsShort) e (inverse_short c r h)
+
+-- ---- contents
+
+same_value : (v w : List ℕ) → Some v ≡ Some w → v ≡ w
+same_value v w e = ap (λ o. unwrap_or o v) e
+
+put_short : (b : Bool) (v w : List ℕ) (o : Option (List ℕ)) → length v ≤ 256 → (o ≡ Some w → length w ≤ 256) → cond b (Some v) o ≡ Some w → length w ≤ 256
+put_short true v w o l h e = subst (λ u. length u ≤ 256) (same_value v w e) l
+put_short false v w o l h e = h e
+
+left_short : (b : Bool) (w : List ℕ) (o : Option (List ℕ)) → (o ≡ Some w → length w ≤ 256) → cond b None o ≡ Some w → length w ≤ 256
+left_short true w o h e = absurd (cc)
+left_short false w o h e = h e
+
+map_after : (m : maps.Table) (c : Call) (r : Reply) → HoldsShort (InMap m) → IsShort c → HoldsShort (InMap (maps.after m c r))
+map_after m (Call.Put k v) r h l = λ q w e. put_short (eq_by_cmp nat_cmp q k) v w (get m q) l (h q w) (sym (get-insert nat_cmp_total m k v q) ∙ e)
+map_after m (Call.MapRemove k) (Reply.Value o) h l = λ q w e. left_short (eq_by_cmp nat_cmp q k) w (get m q) (h q w) (sym (get-remove nat_cmp_total m k q) ∙ e)
+map_after m c r h l = h
+
+content_after : (k : Content) (c : Call) (r : Reply) → HoldsShort k → IsShort c → HoldsShort (after k c r)
+content_after (InSet s) c r h l = tt
+content_after (InMap m) c r h l = map_after m c r h l
+content_after (InQueue q) c r h l = tt
+content_after (InCounter n) c r h l = tt
+content_after (InPool s) c r h l = tt
+
+pub short_after : (s : List Collection) (at : ℕ) (c : Call) (r : Reply) → AreShort s → AnswersAt s at c r → IsShort c → AreShort (after_at s at c r)
+short_after [] at c r h a l = absurd a
+short_after (x ∷ xs) zero c r h a l = (content_after x.content c r h.0 l, h.1)
+short_after (x ∷ xs) (suc at) c r h a l = (h.0, short_after xs at c r h.1 a l)
+
+short_more : (s : List Collection) (x : Collection) → HoldsShort x.content → AreShort s → AreShort (s ++ x ∷ [])
+short_more [] x h a = (h, tt)
+short_more (y ∷ s) x h a = (a.0, short_more s x h a.1)
+
+none_short : (k : ℕ) (v : List ℕ) → get (empty {X = List ℕ} {R = nat_cmp}) k ≡ Some v → length v ≤ 256
+none_short k v e = let none = get-empty {X = List ℕ} nat_cmp k in absurd (cc)
+
+empty_short : (kind : Kind) → HoldsShort (contents.empty kind)
+empty_short Kind.Set = tt
+empty_short Kind.Map = none_short
+empty_short Kind.Queue = tt
+empty_short Kind.Counter = tt
+empty_short Kind.Pool = tt
+
+pub short_made : (s t : List Collection) (name : List ℕ) (kind : Kind) → Makes s name kind t → AreShort s → AreShort t
+short_made s t name kind m a = subst AreShort (sym m.is) (short_more s (record { name = name; content = contents.empty kind }) (empty_short kind) a)
+
+-- What is found among entries of short values is short.
+found_short : (es : List (ℕ × List ℕ)) (q : ℕ) (w : List ℕ) → AllByRecursion IsShortItem (map (λ e. Item.Entry e.0 e.1) es) → find nat_cmp q es ≡ Some w → length w ≤ 256
+found_short [] q w a e = absurd (cc)
+found_short (x ∷ es) q w a e = put_short (eq_by_cmp nat_cmp q x.0) x.1 w (find nat_cmp q es) a.0 (found_short es q w a.1) e
+
+listed_short : (k : Content) (items : List Item) → ListsContent items k → AllByRecursion IsShortItem items → HoldsShort k
+listed_short (InSet s) items l a = tt
+listed_short (InMap m) items l a = λ q w e. found_short (entries m) q w (subst (AllByRecursion IsShortItem) l a) (sym (get-entries m q) ∙ e)
+listed_short (InQueue q) items l a = tt
+listed_short (InCounter n) items l a = tt
+listed_short (InPool s) items l a = tt
+
+pub short_loaded : (s t : List Collection) (name : List ℕ) (kind : Kind) (items : List Item) → Loads s name kind items t → AllByRecursion IsShortItem items → AreShort s → AreShort t
+short_loaded s t name kind items m a h = subst AreShort (sym m.is) (short_more s (record { name = name; content = m.content }) (listed_short m.content items m.lists a) h)
