@@ -1,0 +1,48 @@
+use Rattle.std.proofs.Common.{◌≡◌, ◌<◌, ◌+◌, length, refl, sym, ◌∙◌, subst, arith}
+use Rattle.records.specs.declared.record.Record.{Record}
+use Rattle.records.specs.Short.{AreShort}
+use Rattle.txn.specs.Machine.{IsRunning, CommitRow}
+use Rattle.txn.specs.Books.{AppendsTo}
+use Rattle.txn.specs.Views.{book_of}
+use Rattle.txn.specs.Waits.{HasRoomFor}
+use Rattle.txn.proofs.BookLaws.{BookLaws, book_laws}
+use Rattle.txn.proofs.BookLemmas.{mark_length, recorded, left_is}
+use Rattle.txn.proofs.Kept.{commit_keeps}
+use Rattle.txn.proofs.Steps.{commit_settles}
+use Rattle.txn.proofs.book.Book.commit.Given.{Over}
+use Rattle.txn.proofs.book.Book.commit.Goals as goal
+
+pub push-requires-clause-room : goal.push-requires-clause-room
+push-requires-clause-room g c = subst (HasRoomFor c.reserve.new.self) (mark_length c.args.number) c.in_ok-reserve.ensures.room
+
+-- the laws of the collections
+laws : (g : Over) → BookLaws g.B.Boosted.answers g.B.Boosted.leaves g.B.Parts.makes g.B.Boosted.need g.B.Boosted.inverse g.B.Parts.names g.B.Boosted.within (λ s. AreShort (g.B.Coded.collections s))
+laws g =
+    book_laws g.B.Boosted.answers g.B.Boosted.leaves g.B.Parts.makes g.B.Boosted.need g.B.Boosted.inverse g.B.Parts.names g.B.Boosted.within g.B.Boosted.after g.B.Coded.collections
+    g.met.B.Boosted.exact g.met.B.Boosted.goes_back g.met.B.Boosted.commutes g.met.B.Boosted.moves_left g.met.B.Boosted.wears g.met.B.Boosted.deferred_stays_ready g.met.B.Boosted.leaves_one g.met.B.Boosted.leaves_disposable
+    g.met.B.Boosted.leaves_need g.met.B.Boosted.leaves_ready g.met.B.Boosted.stays_past_calls g.met.B.Boosted.stays_past_laters g.met.B.Parts.deferred_is_other g.met.B.Parts.runs_keep_names g.met.B.Parts.makes_one
+    g.met.B.Parts.makes_named g.met.B.Parts.makes_before_calls g.met.B.Parts.makes_keep_deferred g.met.B.Parts.makes_keep_within g.met.B.Coded.answers_as_told g.met.B.Coded.leaves_as_told g.met.B.Coded.makes_as_told
+    g.met.B.Coded.within_as_told g.met.B.Coded.inverse_as_told g.met.B.Coded.after_as_told
+
+-- the step that was taken
+step : (g : Over) (c : goal.After-self-1 g) → let i = c.self.inside in
+    let old = book_of i.parts i.needs i.live i.pending i.wear i.places i.next in
+    let new = book_of i.parts c.give_up.new.self c.remove.new.self c.push.new.self i.wear (i.places + 1) i.next in
+    CommitRow old.state c.args.number new.state × AppendsTo old (Record.Commit c.args.number) new
+step g c =
+    let i = c.self.inside in
+    let left = left_is i.parts i.needs i.live i.pending i.wear i.places i.next c.args.number c.give_up.new.self c.remove.new.self c.push.new.self (i.places + 1) c.remove.ensures.live c.remove.ensures.entries c.give_up.ensures.holds in
+    let written =
+    recorded i.parts i.needs i.live i.pending i.wear i.places i.next (Record.Commit c.args.number) i.parts c.give_up.new.self c.remove.new.self c.reserve.new.self c.push.new.self i.wear (i.places + 1) i.next
+    (subst (λ b. length b.pending < 16384) (sym c.self.view_is) c.in_ok-check_backlog.ensures.ok)
+    c.in_ok-reserve.ensures.records c.in_ok-reserve.ensures.handed c.push.ensures.records c.push.ensures.handed (omega arith) in
+    (record { running = subst (λ b. IsRunning b.state c.args.number) (sym c.self.view_is) c.in_ok-check_running.ensures.ok; left = left }, record { appends = written; next = refl })
+
+pub invariant_of-self-2 : goal.invariant_of-self-2
+invariant_of-self-2 g c = commit_keeps g.B.Boosted.answers g.B.Boosted.leaves g.B.Parts.makes g.B.Boosted.need g.B.Boosted.inverse g.B.Boosted.belongs g.B.Parts.names g.B.Boosted.within (λ s. AreShort (g.B.Coded.collections s)) (laws g) _ c.self.invariant c.args.number _ (step g c).0 (step g c).1
+
+pub returns-clause-answer : goal.returns-clause-answer
+returns-clause-answer g c = rw (← c.self.view_is) ((step g c).0, (step g c).1, refl)
+
+pub returns-clause-settled : goal.returns-clause-settled
+returns-clause-settled g c = rw (← c.self.view_is) (λ d w. commit_settles g.B.Boosted.answers g.B.Boosted.leaves g.B.Parts.makes g.B.Boosted.need g.B.Boosted.inverse (laws g).rules _ c.self.invariant.holds c.args.number _ d (step g c).0 w)

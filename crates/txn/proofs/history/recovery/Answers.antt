@@ -1,0 +1,26 @@
+use Rattle.txn.proofs.BookLaws.{book_laws}
+use Rattle.txn.proofs.Theory.Serial.{stands_for_one}
+use Rattle.txn.proofs.Theory.Undo.{undo_settles}
+use Rattle.txn.proofs.Theory.Open.{open_yields}
+use Rattle.txn.proofs.history.recovery.Goals as goal
+
+pub returns-clause-one : goal.returns-clause-one
+returns-clause-one g c = let laws = book_laws g.B.Boosted.answers g.B.Boosted.leaves g.B.Parts.makes g.B.Boosted.need g.B.Boosted.inverse g.B.Parts.names g.B.Boosted.within g.B.Boosted.after g.B.Coded.collections
+    g.met.B.Boosted.exact g.met.B.Boosted.goes_back g.met.B.Boosted.commutes g.met.B.Boosted.moves_left g.met.B.Boosted.wears g.met.B.Boosted.deferred_stays_ready g.met.B.Boosted.leaves_one g.met.B.Boosted.leaves_disposable
+    g.met.B.Boosted.leaves_need g.met.B.Boosted.leaves_ready g.met.B.Boosted.stays_past_calls g.met.B.Boosted.stays_past_laters g.met.B.Parts.deferred_is_other g.met.B.Parts.runs_keep_names g.met.B.Parts.makes_one
+    g.met.B.Parts.makes_named g.met.B.Parts.makes_before_calls g.met.B.Parts.makes_keep_deferred g.met.B.Parts.makes_keep_within g.met.B.Coded.answers_as_told g.met.B.Coded.leaves_as_told g.met.B.Coded.makes_as_told
+    g.met.B.Coded.within_as_told g.met.B.Coded.inverse_as_told g.met.B.Coded.after_as_told in stands_for_one laws.rules
+
+pub returns-clause-undo : goal.returns-clause-undo
+returns-clause-undo g c = let laws = book_laws g.B.Boosted.answers g.B.Boosted.leaves g.B.Parts.makes g.B.Boosted.need g.B.Boosted.inverse g.B.Parts.names g.B.Boosted.within g.B.Boosted.after g.B.Coded.collections
+    g.met.B.Boosted.exact g.met.B.Boosted.goes_back g.met.B.Boosted.commutes g.met.B.Boosted.moves_left g.met.B.Boosted.wears g.met.B.Boosted.deferred_stays_ready g.met.B.Boosted.leaves_one g.met.B.Boosted.leaves_disposable
+    g.met.B.Boosted.leaves_need g.met.B.Boosted.leaves_ready g.met.B.Boosted.stays_past_calls g.met.B.Boosted.stays_past_laters g.met.B.Parts.deferred_is_other g.met.B.Parts.runs_keep_names g.met.B.Parts.makes_one
+    g.met.B.Parts.makes_named g.met.B.Parts.makes_before_calls g.met.B.Parts.makes_keep_deferred g.met.B.Parts.makes_keep_within g.met.B.Coded.answers_as_told g.met.B.Coded.leaves_as_told g.met.B.Coded.makes_as_told
+    g.met.B.Coded.within_as_told g.met.B.Coded.inverse_as_told g.met.B.Coded.after_as_told in undo_settles laws.rules
+
+pub returns-clause-open : goal.returns-clause-open
+returns-clause-open g c = let laws = book_laws g.B.Boosted.answers g.B.Boosted.leaves g.B.Parts.makes g.B.Boosted.need g.B.Boosted.inverse g.B.Parts.names g.B.Boosted.within g.B.Boosted.after g.B.Coded.collections
+    g.met.B.Boosted.exact g.met.B.Boosted.goes_back g.met.B.Boosted.commutes g.met.B.Boosted.moves_left g.met.B.Boosted.wears g.met.B.Boosted.deferred_stays_ready g.met.B.Boosted.leaves_one g.met.B.Boosted.leaves_disposable
+    g.met.B.Boosted.leaves_need g.met.B.Boosted.leaves_ready g.met.B.Boosted.stays_past_calls g.met.B.Boosted.stays_past_laters g.met.B.Parts.deferred_is_other g.met.B.Parts.runs_keep_names g.met.B.Parts.makes_one
+    g.met.B.Parts.makes_named g.met.B.Parts.makes_before_calls g.met.B.Parts.makes_keep_deferred g.met.B.Parts.makes_keep_within g.met.B.Coded.answers_as_told g.met.B.Coded.leaves_as_told g.met.B.Coded.makes_as_told
+    g.met.B.Coded.within_as_told g.met.B.Coded.inverse_as_told g.met.B.Coded.after_as_told in open_yields laws.rules

@@ -1,0 +1,230 @@
+-- A book: the state that its records lead to, and the records that wait for a block.
+use Rattle.std.specs.Prelude.{◌≡◌, ℕ, ◌+◌, ◌*◌, ◌<◌, ◌≤◌, ◌^◌, ◌⊎◌, max, Bool, true, false, List, [], ◌∷◌, ◌++◌, length, Option, None, Result, Ok, Err}
+use Rattle.std.specs.FinMap as maps
+use Rattle.std.specs.List.{AllByRecursion}
+use Rattle.calls.specs.declared.kind.Kind.{Kind}
+use Rattle.calls.specs.declared.call.Call.{Call}
+use Rattle.calls.specs.declared.reply.Reply.{Reply}
+use Rattle.calls.specs.declared.need.Need.{Need}
+use Rattle.calls.specs.declared.refusal.Refusal.{Refusal}
+use Rattle.calls.specs.Laters.{left_by}
+use Rattle.calls.specs.Transactions.{Event, Entry, Asked, PutOff, own}
+use Rattle.abstract_locks.specs.Holds.{IsBusy}
+use Rattle.undo_log.specs.Entries.{HasNoCall}
+use Rattle.undo_log.specs.Logs.{Lives, Falls}
+use Rattle.boosted.specs.Shape.{CanAsk, AskRefused}
+use Rattle.catalog.specs.Making as making
+use Rattle.gate_block.specs.Row.{IsBlockOf}
+use Rattle.records.specs.declared.record.Record.{Record}
+use Rattle.records.specs.Acts.{places}
+use Rattle.records.specs.Records.{call_record, spelled, spelling, IsRecord, IsNumber}
+use Rattle.records.specs.Short.{IsShortReply}
+use Rattle.txn.specs.Machine.{State, IsRunning, CanBegin, BeginRow, CommitRow, EndedRow, FallRow, MakeRow, CallRow, BackRow}
+use Rattle.txn.specs.declared.block.Block.{Block}
+
+pub record BookState (S : Type 0) : Type 0 where
+  pub state : State S
+  -- the records of the steps that were not handed over yet, in order
+  pub pending : List Record
+  -- how many records were handed over, and how many of these commit something
+  pub end : ℕ
+  pub place : ℕ
+  -- the commits and makes since the book was opened
+  pub places : ℕ
+  -- above every number that was entered
+  pub next : ℕ
+
+-- a book that was opened
+abbrev pub opened : {S : Type 0} → S → (next wear : ℕ) → BookState S
+opened now next wear = record {
+  state = record { now = now; live = maps.empty; entries = []; holds = []; wear = wear };
+  pending = [];
+  end = 0;
+  place = 0;
+  places = 0;
+  next = next;
+}
+
+abbrev pub IsFull : {S : Type 0} → BookState S → Type 0
+IsFull b = 16384 ≤ length b.pending
+
+-- The state is t's now, and the step's record waits behind the others.
+pub record Appends {S : Type 0} (b : BookState S) (r : Record) (c : BookState S) : Type 0 where
+  pub room : length b.pending < 16384
+  pub is : c ≡ record b { state = c.state; pending = b.pending ++ r ∷ []; places = b.places + places (r ∷ []); next = c.next }
+
+-- The next number is what it was.
+pub record AppendsTo {S : Type 0} (b : BookState S) (r : Record) (c : BookState S) : Type 0 where
+  pub appends : Appends b r c
+  pub next : c.next ≡ b.next
+
+-- A transaction that is not live, or falling, is refused so.
+abbrev pub RunRefused : {S : Type 0} → BookState S → ℕ → Refusal → Type 0
+RunRefused b n Refusal.NoSuchTxn = Lives b.state.live n → ⊥
+RunRefused b n Refusal.Falling = Falls b.state.live n
+RunRefused b n e = ⊥
+
+-- ---- making: a committed transaction of its own
+
+abbrev pub MakeRefused : List (List ℕ) → {S : Type 0} → BookState S → List ℕ → Refusal → Type 0
+MakeRefused names b name Refusal.Backlog = IsFull b
+MakeRefused names b name Refusal.NoMemory = IsFull b → ⊥
+MakeRefused names b name e = (IsFull b → ⊥) × making.MakeRefused names name e
+
+abbrev pub MakeAnswers : {S : Type 0} → (S → List (List ℕ)) → (S → List ℕ → Kind → S → Type 0) → BookState S → List ℕ → Kind → Result ℕ Refusal → BookState S → Type 0
+MakeAnswers names makes b name kind (Ok place) c = MakeRow names makes b.state name kind c.state × AppendsTo b (Record.Make kind name) c × (place ≡ c.places)
+MakeAnswers names makes b name kind (Err e) c = (c ≡ b) × MakeRefused (names b.state.now) b name e
+
+-- ---- entering
+
+-- The number may begin, and its record has room.
+pub record CanEnter {S : Type 0} (b : BookState S) (n : ℕ) : Type 0 where
+  pub begins : CanBegin b.state n
+  pub unworn : b.state.wear < 2 ^ 61
+  pub room : length b.pending < 16384
+
+abbrev pub EnterRefused : {S : Type 0} → BookState S → ℕ → Refusal → Type 0
+EnterRefused b n Refusal.BadArg = IsNumber n → ⊥
+EnterRefused b n Refusal.AlreadyLive = IsNumber n × Lives b.state.live n
+EnterRefused b n Refusal.TooManyLive = IsNumber n × (Lives b.state.live n → ⊥) × (64 ≤ maps.len b.state.live)
+EnterRefused b n Refusal.Worn = CanBegin b.state n × (2 ^ 61 ≤ b.state.wear)
+EnterRefused b n Refusal.Backlog = CanBegin b.state n × (b.state.wear < 2 ^ 61) × IsFull b
+EnterRefused b n Refusal.NoMemory = CanEnter b n
+EnterRefused b n e = ⊥
+
+abbrev pub EnterAnswers : {S : Type 0} → BookState S → ℕ → Result (Unit {0}) Refusal → BookState S → Type 0
+EnterAnswers b n (Ok done) c = BeginRow b.state n c.state × (b.state.wear < 2 ^ 61) × Appends b (Record.Begin n) c × (c.next ≡ max b.next (n + 1))
+EnterAnswers b n (Err e) c = (c ≡ b) × EnterRefused b n e
+
+-- ---- calls
+
+-- The running transaction can ask for the call, and has room for it.
+pub record IsOpen {S : Type 0} (belongs : S → ℕ → Call → Type 0) (b : BookState S) (n at : ℕ) (call : Call) : Type 0 where
+  pub running : IsRunning b.state n
+  pub asked : CanAsk belongs b.state.now at call
+  pub unworn : b.state.wear < 2 ^ 61
+  pub few : length (own n b.state.entries) < 1024
+  pub room : length b.pending < 16384
+
+module _ {S : Type 0} (answers : S → ℕ → Call → Reply → Type 0) (belongs : S → ℕ → Call → Type 0) where
+  -- The call would leave something to the commit, which no call may do yet.
+  abbrev pub WouldLeave : BookState S → (at : ℕ) → Call → Type 0
+  WouldLeave b at call = (reply : Reply) × answers b.state.now at call reply × (left_by call reply ≡ [] → ⊥)
+
+  -- The book refuses the call so,
+  abbrev pub AskedInVain : (Call → Reply → Need) → BookState S → (n at : ℕ) → Call → Refusal → Type 0
+  AskedInVain need b n at call Refusal.NoSuchTxn = Lives b.state.live n → ⊥
+  AskedInVain need b n at call Refusal.Falling = Falls b.state.live n
+  AskedInVain need b n at call Refusal.Worn = IsRunning b.state n × CanAsk belongs b.state.now at call × (2 ^ 61 ≤ b.state.wear)
+  AskedInVain need b n at call Refusal.TooManyCalls = IsRunning b.state n × CanAsk belongs b.state.now at call × (b.state.wear < 2 ^ 61) × (1024 ≤ length (own n b.state.entries))
+  AskedInVain need b n at call Refusal.Backlog = IsRunning b.state n × CanAsk belongs b.state.now at call × (b.state.wear < 2 ^ 61) × (length (own n b.state.entries) < 1024) × IsFull b
+  AskedInVain need b n at call Refusal.BadArg = IsOpen belongs b n at call × WouldLeave b at call
+  AskedInVain need b n at call (Refusal.Busy m) = IsOpen belongs b n at call × ((reply : Reply) × answers b.state.now at call reply × (left_by call reply ≡ []) × IsBusy b.state.holds n at (need call reply) m)
+  AskedInVain need b n at call Refusal.NoMemory = IsOpen belongs b n at call
+  AskedInVain need b n at call e = ⊥
+
+  -- or, for a transaction that is running, as the collections do.
+  abbrev pub CallRefused : (S → ℕ → Call → Refusal → Type 0) → (Call → Reply → Need) → BookState S → (n at : ℕ) → Call → Refusal → Type 0
+  CallRefused misplaced need b n at call e = AskedInVain need b n at call e ⊎ (IsRunning b.state n × AskRefused belongs misplaced b.state.now at call e)
+
+-- a call's record
+abbrev pub record_of : (Call → Reply → Option Call) → ℕ → Event → Record
+record_of inverse n e = Record.Call (call_record n e.at e.call e.reply (inverse e.call e.reply))
+
+module _ {S : Type 0} (answers : S → ℕ → Call → Reply → Type 0) (leaves : S → ℕ → Call → Reply → S) (belongs : S → ℕ → Call → Type 0) (need : Call → Reply → Need) (inverse : Call → Reply → Option Call) where
+  abbrev pub CallAnswers : (S → ℕ → Call → Refusal → Type 0) → BookState S → (n at : ℕ) → Call → Result Reply Refusal → BookState S → Type 0
+  CallAnswers misplaced b n at call (Ok reply) c =
+      CallRow answers leaves belongs need b.state n (record { at = at; call = call; reply = reply }) c.state × (b.state.wear < 2 ^ 61) ×
+      AppendsTo b (record_of inverse n (record { at = at; call = call; reply = reply })) c
+  CallAnswers misplaced b n at call (Err e) c = (c ≡ b) × CallRefused answers belongs misplaced need b n at call e
+
+-- ---- the ends of a transaction
+
+-- The record cannot be appended: the records pending are too many, or memory is wanted.
+abbrev pub AppendRefused : {S : Type 0} → BookState S → Refusal → Type 0
+AppendRefused b Refusal.Backlog = IsFull b
+AppendRefused b Refusal.NoMemory = IsFull b → ⊥
+AppendRefused b e = ⊥
+
+abbrev pub CommitRefused : {S : Type 0} → BookState S → ℕ → Refusal → Type 0
+CommitRefused b n Refusal.NoSuchTxn = Lives b.state.live n → ⊥
+CommitRefused b n Refusal.Falling = Falls b.state.live n
+CommitRefused b n e = IsRunning b.state n × AppendRefused b e
+
+abbrev pub CommitAnswers : {S : Type 0} → BookState S → ℕ → Result ℕ Refusal → BookState S → Type 0
+CommitAnswers b n (Ok place) c = CommitRow b.state n c.state × AppendsTo b (Record.Commit n) c × (place ≡ c.places)
+CommitAnswers b n (Err e) c = (c ≡ b) × CommitRefused b n e
+
+abbrev pub BackRefused : {S : Type 0} → BookState S → ℕ → Refusal → Type 0
+BackRefused b n Refusal.NoSuchTxn = Lives b.state.live n → ⊥
+BackRefused b n e = Lives b.state.live n × AppendRefused b e
+
+abbrev pub BackAnswers : {S : Type 0} → (S → ℕ → Call → Reply → Type 0) → (S → ℕ → Call → Reply → S) → (Call → Reply → Option Call) → BookState S → ℕ → Result Bool Refusal → BookState S → Type 0
+BackAnswers answers leaves inverse b n (Ok true) c = BackRow answers leaves inverse b.state n c.state × AppendsTo b (Record.Back n) c
+BackAnswers answers leaves inverse b n (Ok false) c = FallRow b.state n c.state × (length b.pending < 16384) × (c ≡ record b { state = c.state })
+BackAnswers answers leaves inverse b n (Err e) c = (c ≡ b) × BackRefused b n e
+
+abbrev pub EndedRefused : {S : Type 0} → BookState S → ℕ → Refusal → Type 0
+EndedRefused b n Refusal.NoSuchTxn = Lives b.state.live n → ⊥
+EndedRefused b n Refusal.Unfinished = Lives b.state.live n × (HasNoCall n b.state.entries → ⊥)
+EndedRefused b n e = Lives b.state.live n × HasNoCall n b.state.entries × AppendRefused b e
+
+abbrev pub EndedAnswers : {S : Type 0} → BookState S → ℕ → Result (Unit {0}) Refusal → BookState S → Type 0
+EndedAnswers b n (Ok done) c = EndedRow b.state n c.state × AppendsTo b (Record.Ended n) c
+EndedAnswers b n (Err e) c = (c ≡ b) × EndedRefused b n e
+
+-- ---- handing records over
+
+-- The first of the records, as many as fit, are handed over as one block, and rest is left.
+pub record HandsOver (pending : List Record) (end place : ℕ) (block : Block) (rest : List Record) : Type 0 where
+  pub first : List Record
+  pub are : pending ≡ first ++ rest
+  pub some : 0 < length first
+  pub bytes : IsBlockOf (spelling first) block.bytes.items
+  -- the next one would not have fitted
+  pub most : (r : Record) (behind : List Record) → rest ≡ r ∷ behind → 65535 < length (spelling first) + length (spelled r)
+  pub ends : block.end ≡ end + length first
+  pub commits : block.place ≡ place + places first
+
+-- What a cut answers of the records that are pending, and of how many were handed over before: one block goes behind those that wait in the outbox, or
+-- nothing where nothing is pending. A refusal leaves all.
+abbrev pub CutsOff : (pending : List Record) (end place : ℕ) → List Block → Type 0 → Result Bool Refusal → List Block → (rest : List Record) (end_then place_then : ℕ) → Type 0
+CutsOff pending end place waiting full (Ok true) waits rest end_then place_then =
+    (block : Block) × (waits ≡ waiting ++ block ∷ []) × HandsOver pending end place block rest × (end_then ≡ block.end) × (place_then ≡ block.place)
+CutsOff pending end place waiting full (Ok false) waits rest end_then place_then =
+    (pending ≡ []) × (waits ≡ waiting) × (rest ≡ pending) × (end_then ≡ end) × (place_then ≡ place)
+CutsOff pending end place waiting full (Err Refusal.NotNow) waits rest end_then place_then =
+    full × (waits ≡ waiting) × (rest ≡ pending) × (end_then ≡ end) × (place_then ≡ place)
+CutsOff pending end place waiting full (Err e) waits rest end_then place_then = ⊥
+
+-- The same of a book, whose state stays.
+abbrev pub CutAnswers : {S : Type 0} → BookState S → List Block → Type 0 → Result Bool Refusal → List Block → BookState S → Type 0
+CutAnswers b waiting full result waits c =
+    CutsOff b.pending b.end b.place waiting full result waits c.pending c.end c.place × (c ≡ record b { pending = c.pending; end = c.end; place = c.place })
+
+-- ---- what holds of every book
+
+-- No value in the reply to a call is too long to be spelled.
+abbrev pub IsShortEntry : Entry → Type 0
+IsShortEntry (Asked e) = IsShortReply e.reply
+IsShortEntry (PutOff at c) = Unit {0}
+
+-- short: no value in the collections is too long to be spelled. sound: what holds of every state that the machine reaches.
+module _ {S : Type 0} (names : S → List (List ℕ)) (within : S → ℕ → Type 0) (short : S → Type 0) (sound : State S → Type 0) where
+  pub record IsKept (b : BookState S) : Type 0 where
+    pub records : AllByRecursion (IsRecord None) b.pending
+    pub few_pending : length b.pending ≤ 16384
+    pub few_live : maps.len b.state.live ≤ 64
+    pub few_calls : (n : ℕ) → length (own n b.state.entries) ≤ 1024
+    pub few_names : length (names b.state.now) ≤ 256
+    pub reached : within b.state.now b.state.wear
+    pub unworn : b.state.wear + length b.state.entries ≤ 2 ^ 61 + 65536
+    pub numbers : (n : ℕ) → Lives b.state.live n → IsNumber n × (n < b.next)
+    pub next : (1 ≤ b.next) × (b.next ≤ 2 ^ 61)
+    pub spells : short b.state.now
+    pub replies : AllByRecursion (λ e. IsShortEntry e.1) b.state.entries
+    pub holds : sound b.state
+    -- a record is a unit of wear, the one Commit or Ended of a Begin, or a Make
+    pub positions : b.end + length b.pending + maps.len b.state.live ≤ 2 * b.state.wear + length (names b.state.now)
+    pub placed : b.place + places b.pending ≡ b.places
+    pub counted : b.places ≤ b.end + length b.pending

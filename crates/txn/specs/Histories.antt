@@ -1,0 +1,66 @@
+-- Histories of a book: its steps with their answers, and what they commit.
+use Rattle.std.specs.Prelude.{◌≡◌, ℕ, ◌+◌, List, [], ◌∷◌, length, Bool, Option, Result, Ok}
+use Rattle.std.specs.List.{flat_map}
+use Rattle.calls.specs.declared.kind.Kind.{Kind}
+use Rattle.calls.specs.declared.call.Call as calls
+use Rattle.calls.specs.declared.reply.Reply.{Reply}
+use Rattle.calls.specs.declared.need.Need.{Need}
+use Rattle.calls.specs.declared.refusal.Refusal.{Refusal}
+use Rattle.calls.specs.Contents.{Collection}
+use Rattle.calls.specs.Transactions.{Leads, Asked, Transaction, Whole, Made, calls_of, laters_of, Act, Begins, Asks, Commits, Creates, committed, Serial}
+use Rattle.txn.specs.Machine.{State, Does}
+use Rattle.txn.specs.Books.{BookState, MakeAnswers, EnterAnswers, CallAnswers, CommitAnswers, BackAnswers, EndedAnswers, CutAnswers}
+use Rattle.txn.specs.declared.block.Block.{Block}
+
+-- A step of a book, with its answer.
+pub data Step : Type 0 where
+  Make : (name : List ℕ) → Kind → Result ℕ Refusal → Step
+  Enter : (number : ℕ) → Result (Unit {0}) Refusal → Step
+  Ask : (number at : ℕ) → calls.Call → Result Reply Refusal → Step
+  Commit : (number : ℕ) → Result ℕ Refusal → Step
+  Back : (number : ℕ) → Result Bool Refusal → Step
+  Ended : (number : ℕ) → Result (Unit {0}) Refusal → Step
+  Cut : Result Bool Refusal → Step
+
+-- What a step says of transactions. A refused one says nothing.
+abbrev pub acts_of_step : Step → List Act
+acts_of_step (Make name kind (Ok place)) = Creates name kind ∷ []
+acts_of_step (Enter n (Ok done)) = Begins n ∷ []
+acts_of_step (Ask n at call (Ok reply)) = Asks n (Asked (record { at = at; call = call; reply = reply })) ∷ []
+acts_of_step (Commit n (Ok place)) = Commits n ∷ []
+acts_of_step step = []
+
+-- The transactions that the steps commit, in the order of their commits, each with the calls and replies that its steps show.
+abbrev pub committed_by : List Step → List Transaction
+committed_by steps = committed (flat_map acts_of_step steps)
+
+module _ {S : Type 0} (answers : S → ℕ → calls.Call → Reply → Type 0) (leaves : S → ℕ → calls.Call → Reply → S) (makes : S → List ℕ → Kind → S → Type 0) where
+  -- A transaction leads from s to t: its calls one after another, and then what it put off; or a collection is made.
+  abbrev pub RunsWhole : S → Transaction → S → Type 0
+  RunsWhole s (Whole es) t = (m : S) × Leads (Does answers leaves) (calls_of es) s m × Leads (Does answers leaves) (laters_of es) m t
+  RunsWhole s (Made name kind) t = makes s name kind t
+
+  module _ (belongs : S → ℕ → calls.Call → Type 0) (misplaced : S → ℕ → calls.Call → Refusal → Type 0) (names : S → List (List ℕ)) (need : calls.Call → Reply → Need) (inverse : calls.Call → Reply → Option calls.Call) where
+    -- The step leads from one book to another: one row of the histories of an object of one thread.
+    abbrev pub Acts : BookState S → Step → BookState S → Type 0
+    Acts b (Make name kind a) c = MakeAnswers names makes b name kind a c
+    Acts b (Enter n a) c = EnterAnswers b n a c
+    Acts b (Ask n at call a) c = CallAnswers answers leaves belongs need inverse misplaced b n at call a c
+    Acts b (Commit n a) c = CommitAnswers b n a c
+    Acts b (Back n a) c = BackAnswers answers leaves inverse b n a c
+    Acts b (Ended n a) c = EndedAnswers b n a c
+    Acts b (Cut a) c = (waiting waits : List Block) × CutAnswers b waiting (Unit {0}) a waits c
+
+    -- The history leads from one book to another, step by step.
+    abbrev pub IsLegal : BookState S → List Step → BookState S → Type 0
+    IsLegal b steps c = Leads Acts steps b c
+
+-- What a history comes to: a kept book, and a settled content to which the committed transactions lead, each run whole, one after another, with
+-- the replies that were got. The places count them.
+-- kept: what holds of every book. collections: the content as named collections. settled: the contents without the live transactions.
+pub record ComesTo {S : Type 0} (kept : BookState S → Type 0) (collections : S → List Collection) (settled : State S → S → Type 0) (b : BookState S) (steps : List Step) (c : BookState S) : Type 0 where
+  pub is_kept : kept c
+  pub content : S
+  pub is_settled : settled c.state content
+  pub serial : Serial (committed_by steps) (collections b.state.now) (collections content)
+  pub places : c.places ≡ b.places + length (committed_by steps)

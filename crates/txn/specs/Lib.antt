@@ -1,0 +1,10 @@
+pub mod Theory
+pub mod Wholes
+pub mod Machine
+pub mod Sound
+pub mod Books
+pub mod Histories
+pub mod Drafts
+pub mod Offers
+pub mod Waits
+pub mod Views

@@ -1,0 +1,390 @@
+// The book: transactions on shared collections, one step at a time.
+ghost use Rattle.std.specs.Prelude.{◌≡◌, ℕ, ◌<◌, ◌≤◌, ◌^◌, ◌+◌, [], ◌∷◌, ◌++◌, IfOk, IfErr, OnOk, OnErr, IsOkUnless, length};
+ghost use Rattle.calls.specs.Inverses.{Askable, IsShort};
+ghost use Rattle.calls.specs.Names.{IsName};
+ghost use Rattle.calls.specs.Transactions.{Whole, Asked, own};
+ghost use Rattle.undo_log.specs.Logs as logs;
+ghost use Rattle.undo_log.specs.Logs.{Lives};
+ghost use Rattle.boosted.specs.Shape.{Does, Undoes, HasRoom};
+ghost use Rattle.catalog.specs.Making.{IsPlaceOf, FindRefused};
+ghost use Rattle.records.specs.Acts.{event_of};
+ghost use Rattle.records.specs.Records.{call_record, FitsCall, FitsReply};
+ghost use Rattle.records.specs.Short.{AreShort, IsShortReply};
+ghost use Rattle.txn.specs.Machine.{IsRunning, IsSettled};
+ghost use Rattle.txn.specs.Books.{opened, IsOpen, IsFull, RunRefused, CanEnter, EnterRefused, CallRefused, MakeAnswers, EnterAnswers, CallAnswers, CommitAnswers, BackAnswers, EndedAnswers, CutAnswers};
+ghost use Rattle.txn.specs.Histories.{RunsWhole};
+
+use crate::block::Outbox;
+use crate::pending::Pending;
+use abstract_locks::NeedTable;
+use calls::limits::{MAX_CALLS, MAX_LIVE, MAX_PENDING, NUMBER_END};
+use calls::{Call, Kind, Name, Refusal, Reply, check_name};
+use catalog::Parts;
+use records::{CallRecord, Coded, Record, encoded_len, fits_call, fits_reply};
+use std::alloc::Global;
+use std::marker::Model;
+use undo_log::{Live, Logged};
+
+// The bytes of a record of a transaction's number alone, and of one of a making but for the name.
+const MARK_LEN: usize = 9;
+
+const MAKE_HEAD: usize = 3;
+
+/// The collections with the live transactions on them, and the records of the steps that were not handed over yet
+/// (transactional boosting: Herlihy and Koskinen, PPoPP 2008).
+///
+/// Contracts see what the collections hold now, the live transactions with what they asked for and the needs that they
+/// hold, the wear, and the records that wait. A refused step changes nothing of that.
+#[derive(Drop)]
+pub struct Book<B: Parts + Coded> {
+    alloc: Global,
+    parts: B,
+    needs: NeedTable,
+    live: Live,
+    pending: Pending,
+    wear: u64,
+    // the commits and makes since the book was opened
+    places: u64,
+    // above every number that was entered
+    next: u64,
+}
+
+impl<B: Parts + Coded> Model for Book<B> {
+    ghost use Rattle.txn.specs.Books.{BookState, IsKept};
+    ghost use Rattle.txn.specs.Sound.{IsSound};
+    ghost use Rattle.txn.specs.Views.{book_of};
+    ghost use Rattle.records.specs.Short.{AreShort};
+    ghost use Rattle.std.specs.FinMap as maps;
+    ghost use Rattle.std.specs.Ordering.{nat_cmp};
+    ghost use Rattle.std.specs.Coded.{codes, coded_ℕ, coded_bool};
+
+    ghost Value = { BookState B };
+
+    ghost coded = { Prim.hlevel (codes, maps.code {R = nat_cmp} coded_ℕ coded_bool) };
+
+    ghost view = { λ b. book_of b.parts b.needs b.live b.pending b.wear b.places b.next };
+
+    ghost invariant = { λ b. IsKept B.names B.within (λ s. AreShort (B.collections s)) (IsSound B.answers B.leaves B.makes B.need B.inverse)
+        (book_of b.parts b.needs b.live b.pending b.wear b.places b.next) };
+}
+
+impl<B: Parts + Coded> Book<B> {
+    /// A book of collections that were opened, with no live transaction and nothing pending. `next` is above every
+    /// number that was entered before, and `wear` is what the collections are within.
+    pub fn new(alloc: Global, parts: B, next: u64, wear: u64) -> Self
+        requires within { B.within parts wear }
+        requires worn { wear ≤ 2 ^ 61 + 65536 }
+        requires next { (1 ≤ next) × (next ≤ 2 ^ 61) }
+        requires short { AreShort (B.collections parts) }
+        requires few { length (B.names parts) ≤ 256 }
+        ensures { result ≡ opened parts next wear }
+    {
+        Self {
+            alloc,
+            parts,
+            needs: NeedTable::new(alloc),
+            live: Live::new(alloc),
+            pending: Pending::new(alloc),
+            wear,
+            places: 0,
+            next,
+        }
+    }
+
+    /// The collections. This is no step.
+    pub fn parts(&self) -> &B
+        ensures { result.now ≡ self.now.state.now }
+    {
+        &self.parts
+    }
+
+    /// A number above every number that was entered: the greater of the one that the book was made with and one more
+    /// than the greatest entered since. This is no step.
+    pub fn next(&self) -> u64
+        ensures { result ≡ self.now.next }
+    {
+        self.next
+    }
+
+    /// The collection of the name, as `Parts::find` answers. This is no step.
+    pub fn find(&self, name: &str) -> Result<u8, Refusal>
+        ensures ok { IfOk result (λ at. IsName name.now × IsPlaceOf (B.names self.now.state.now) name.now at) }
+        ensures err { IfErr result (FindRefused (B.names self.now.state.now) name.now) }
+    {
+        self.parts.find(name)
+    }
+
+    /// Makes an empty collection: a committed transaction of its own. Answers the count of commits and makes since the
+    /// book was opened, this one included.
+    ///
+    /// Backlog at 16,384 pending records, then the refusals of `Parts::make`: BadName, TooLong, NameTaken,
+    /// TooManyCollections, NoMemory.
+    pub fn make(&mut self, name: &str, kind: Kind) -> Result<u64, Refusal>
+        ensures answer { MakeAnswers B.names B.makes self.old name.now kind result self.new }
+        ensures settled { OnOk result ((c : B) → IsSettled B.answers B.leaves self.old.state c →
+            (d : B) × B.makes c name.now kind d × IsSettled B.answers B.leaves self.new.state d) }
+    {
+        self.check_backlog()?;
+        check_name(name)?;
+        self.pending.reserve(MAKE_HEAD + name.len())?;
+        let spelled = Name::new(name.to_string(self.alloc)?);
+        let at = self.parts.make(name, kind)?;
+        prove!(at <= u8::MAX);
+        self.pending.push(&Record::Make(kind, spelled));
+        self.places += 1;
+        Ok(self.places)
+    }
+
+    /// Makes the number live.
+    ///
+    /// BadArg for 0 and from 2^61 on, AlreadyLive, TooManyLive where 64 are live, Worn where the wear is 2^61 or more,
+    /// Backlog, NoMemory.
+    pub fn enter(&mut self, number: u64) -> Result<(), Refusal>
+        ensures answer { EnterAnswers self.old number result self.new }
+        ensures settled { (c : B) → IsSettled B.answers B.leaves self.old.state c → IsSettled B.answers B.leaves self.new.state c }
+    {
+        self.check_enter(number)?;
+        self.pending.reserve(MARK_LEN)?;
+        self.live.enter(number)?;
+        self.pending.push(&Record::Begin(number));
+        self.wear += 1;
+        self.next = self.next.max(number + 1);
+        Ok(())
+    }
+
+    /// The transaction's call on a collection, made at once under the need that it has with its reply.
+    ///
+    /// NoSuchTxn, Falling, NoSuchCollection, WrongKind, BadArg for a call that no client can ask, TooLong, Worn,
+    /// TooManyCalls at 1,024 calls, Backlog, NoMemory in the look-up, BadArg for a call that would leave something to
+    /// the commit, Busy with the least other transaction that holds a need in the way, NoMemory.
+    pub fn call(&mut self, number: u64, col: u8, call: &Call) -> Result<Reply, Refusal>
+        ensures answer { CallAnswers B.answers B.leaves B.belongs B.need B.inverse B.misplaced self.old number col call.now result self.new }
+        ensures settled { (c : B) → IsSettled B.answers B.leaves self.old.state c → IsSettled B.answers B.leaves self.new.state c }
+    {
+        self.check_call(number, col, call)?;
+        let reply = self.parts.look(col, call)?;
+        if B::after(call, &reply).is_some() {
+            return Err(Refusal::BadArg);
+        }
+        let need = B::need(call, &reply);
+        self.needs.test(number, col, &need)?;
+        let entry = record_of::<B>(number, col, call, &reply)?;
+        self.needs.reserve(col)?;
+        self.live.reserve(number)?;
+        self.pending.reserve(encoded_len(&entry))?;
+        self.parts.run(col, call, &reply)?;
+        if self.needs.ask(number, col, need).is_err() {
+            unreachable!();
+        }
+        self.pending.push(&entry);
+        note_call(&mut self.live, entry);
+        self.wear += 1;
+        Ok(reply)
+    }
+
+    /// Commits the transaction: all that it asked for stays, and its needs go. Answers the count of commits and makes
+    /// since the book was opened, this one included.
+    ///
+    /// NoSuchTxn, Falling, Backlog, NoMemory.
+    pub fn commit(&mut self, number: u64) -> Result<u64, Refusal>
+        ensures answer { CommitAnswers self.old number result self.new }
+        ensures settled { OnOk result ((c : B) → IsSettled B.answers B.leaves self.old.state c →
+            (d : B) × RunsWhole B.answers B.leaves B.makes c (Whole (own number self.old.state.entries)) d × IsSettled B.answers B.leaves self.new.state d) }
+    {
+        self.check_running(number)?;
+        self.check_backlog()?;
+        self.pending.reserve(MARK_LEN)?;
+        self.live.remove(number);
+        self.needs.give_up(number);
+        self.pending.push(&Record::Commit(number));
+        self.places += 1;
+        Ok(self.places)
+    }
+
+    /// Undoes the newest call of the transaction that is not undone, and answers true; false where none is left. From
+    /// then on the transaction is falling. It holds its needs until `ended`.
+    ///
+    /// NoSuchTxn, Backlog, NoMemory.
+    pub fn back(&mut self, number: u64) -> Result<bool, Refusal>
+        ensures answer { BackAnswers B.answers B.leaves B.inverse self.old number result self.new }
+        ensures settled { (c : B) → IsSettled B.answers B.leaves self.old.state c → IsSettled B.answers B.leaves self.new.state c }
+    {
+        self.check_live(number)?;
+        self.check_backlog()?;
+        let Some(newest) = self.live.newest(number) else {
+            self.live.fall(number);
+            return Ok(false);
+        };
+        self.pending.reserve(MARK_LEN)?;
+        undo(&mut self.parts, newest)?;
+        let _undone = self.live.pop(number);
+        self.live.fall(number);
+        self.pending.push(&Record::Back(number));
+        self.wear += 1;
+        Ok(true)
+    }
+
+    /// Ends a transaction whose calls are all undone: its needs go.
+    ///
+    /// NoSuchTxn, Unfinished where a call is not undone, Backlog, NoMemory.
+    pub fn ended(&mut self, number: u64) -> Result<(), Refusal>
+        ensures answer { EndedAnswers self.old number result self.new }
+        ensures settled { (c : B) → IsSettled B.answers B.leaves self.old.state c → IsSettled B.answers B.leaves self.new.state c }
+    {
+        self.check_live(number)?;
+        if self.live.newest(number).is_some() {
+            return Err(Refusal::Unfinished);
+        }
+        self.check_backlog()?;
+        self.pending.reserve(MARK_LEN)?;
+        self.live.remove(number);
+        self.needs.give_up(number);
+        self.pending.push(&Record::Ended(number));
+        Ok(())
+    }
+
+    /// Hands the first pending records over as one block, as many whole ones as fit in 65,535 bytes, and answers true;
+    /// false where nothing is pending. No record is copied, and no memory is taken.
+    ///
+    /// NotNow, only where the outbox is full.
+    pub fn cut<O: Outbox>(&mut self, out: &mut O) -> Result<bool, Refusal>
+        ensures answer { CutAnswers self.old (O.waiting out.old) (O.is_full out.old) result (O.waiting out.new) self.new }
+        ensures settled { (c : B) → IsSettled B.answers B.leaves self.old.state c → IsSettled B.answers B.leaves self.new.state c }
+    {
+        self.pending.cut(out)
+    }
+
+    // Whether a record more may wait.
+    fn check_backlog(&self) -> Result<(), Refusal>
+        ensures ok { OnOk result (length self.now.pending < 16384) }
+        ensures err { IfErr result (λ e. (e ≡ Refusal.Backlog) × IsFull self.now) }
+    {
+        if self.pending.len() >= MAX_PENDING {
+            return Err(Refusal::Backlog);
+        }
+        Ok(())
+    }
+
+    // Whether the transaction is live.
+    fn check_live(&self, number: u64) -> Result<(), Refusal>
+        ensures ok { OnOk result (Lives self.now.state.live number) }
+        ensures err { IfErr result (λ e. (e ≡ Refusal.NoSuchTxn) × (Lives self.now.state.live number → ⊥)) }
+    {
+        if self.live.is_live(number) {
+            Ok(())
+        } else {
+            Err(Refusal::NoSuchTxn)
+        }
+    }
+
+    // Whether the transaction is live, and nothing of it was undone.
+    fn check_running(&self, number: u64) -> Result<(), Refusal>
+        ensures ok { OnOk result (IsRunning self.now.state number) }
+        ensures err { IfErr result (RunRefused self.now number) }
+    {
+        self.check_live(number)?;
+        if self.live.is_falling(number) {
+            return Err(Refusal::Falling);
+        }
+        Ok(())
+    }
+
+    // Whether the number may begin.
+    fn check_enter(&self, number: u64) -> Result<(), Refusal>
+        ensures ok { OnOk result (CanEnter self.now number) }
+        ensures err { IfErr result (EnterRefused self.now number) }
+    {
+        if number == 0 || number >= NUMBER_END {
+            return Err(Refusal::BadArg);
+        }
+        if self.live.is_live(number) {
+            return Err(Refusal::AlreadyLive);
+        }
+        if self.live.count_live() >= MAX_LIVE {
+            return Err(Refusal::TooManyLive);
+        }
+        if self.wear >= NUMBER_END {
+            return Err(Refusal::Worn);
+        }
+        self.check_backlog()
+    }
+
+    // Whether the transaction can ask for the call, and has room for it.
+    fn check_call(&self, number: u64, col: u8, call: &Call) -> Result<(), Refusal>
+        ensures ok { OnOk result (IsOpen B.belongs self.now number col call.now) }
+        ensures err { IfErr result (CallRefused B.answers B.belongs B.misplaced B.need self.now number col call.now) }
+    {
+        self.check_running(number)?;
+        self.parts.askable(col, call)?;
+        if self.wear >= NUMBER_END {
+            return Err(Refusal::Worn);
+        }
+        if self.live.count(number) >= MAX_CALLS {
+            return Err(Refusal::TooManyCalls);
+        }
+        self.check_backlog()
+    }
+}
+
+// The record of a call with its reply.
+fn record_of<B: Parts + Coded>(
+    number: u64,
+    col: u8,
+    call: &Call,
+    reply: &Reply,
+) -> Result<Record, Refusal>
+    requires askable { Askable call.now }
+    requires short { IsShort call.now × IsShortReply reply.now }
+    ensures ok { IfOk result (λ entry. (entry ≡ Record.Call (call_record number col call.now reply.now (B.inverse call.now reply.now))) × FitsCall call.now × FitsReply reply.now) }
+    ensures refusal { IsOkUnless result Refusal.NoMemory }
+{
+    prove!(fits_call(call));
+    prove!(fits_reply(reply));
+    Ok(Record::Call(CallRecord {
+        number,
+        collection: col,
+        call: call.copy()?,
+        reply: reply.copy()?,
+        inverse: B::inverse(call, reply)?,
+    }))
+}
+
+// Notes the call of the record as the newest of its transaction. It takes no memory.
+fn note_call(live: &mut Live, entry: Record)
+    requires call { (c : CallRecord) × (entry ≡ Record.Call c) × logs.IsLive live.old c.number × logs.HasRoom live.old c.number }
+    ensures noted { (c : CallRecord) → entry ≡ Record.Call c → live.new.entries ≡ live.old.entries ++ (c.number, Asked (event_of c)) ∷ [] }
+    ensures live { live.new.live ≡ live.old.live }
+{
+    let Record::Call(asked) = entry else {
+        unreachable!();
+    };
+    let CallRecord {
+        number,
+        collection,
+        call,
+        reply,
+        ..
+    } = asked;
+    let logged = Logged {
+        at: collection,
+        call,
+        reply,
+    };
+    live.push_call(number, logged);
+}
+
+// Takes a call back.
+fn undo<B: Parts + Coded>(parts: &mut B, newest: &Logged) -> Result<(), Refusal>
+    requires askable { Askable newest.now.call }
+    requires undoes { (before : B) × Undoes (Does B.answers B.leaves) B.inverse parts.old newest.now.at newest.now.call newest.now.reply before }
+    requires room { HasRoom B.within parts.old }
+    ensures ok { OnOk result (Undoes (Does B.answers B.leaves) B.inverse parts.old newest.now.at newest.now.call newest.now.reply parts.new) }
+    ensures err { OnErr result (parts.new ≡ parts.old) }
+    ensures refusal { IsOkUnless result Refusal.NoMemory }
+{
+    let Some(call) = B::inverse(&newest.call, &newest.reply)? else {
+        return Ok(());
+    };
+    let reply = parts.look(newest.at, &call)?;
+    parts.run(newest.at, &call, &reply)
+}

@@ -1,0 +1,136 @@
+// The records that wait for a block.
+ghost use Rattle.std.specs.Prelude.{◌≡◌, ◌+◌, ◌<◌, ◌≤◌, ◌^◌, [], ◌∷◌, ◌++◌, ◌↔◌, IsTrue, length, OnOk, IsOkUnless};
+ghost use Rattle.records.specs.Acts.{places};
+ghost use Rattle.records.specs.Records.{spelled, Fits};
+ghost use Rattle.txn.specs.Waits.{waiting, Suits, HasRoomFor};
+ghost use Rattle.txn.specs.Books.{CutsOff};
+
+use crate::block::Outbox;
+use crate::draft::{Draft, Handed};
+use calls::Refusal;
+use calls::limits::MAX_BODY;
+use records::{Record, encoded_len};
+use std::alloc::Global;
+use std::collections::VecDeque;
+use std::marker::Model;
+use std::mem;
+
+/// The records that wait for a block, each spelled once into the block in which it will be handed over.
+#[derive(Drop)]
+pub(crate) struct Pending {
+    alloc: Global,
+    // blocks that the next record did not fit in, the one that is filled now, and room for one more
+    full: VecDeque<Draft>,
+    last: Draft,
+    spare: Draft,
+    // how many records they are
+    count: usize,
+    handed: Handed,
+}
+
+impl Model for Pending {
+    ghost use Rattle.std.specs.VecDeque.{deque_capacity};
+    ghost use Rattle.txn.specs.Waits.{Waiting, IsCounted};
+
+    ghost Value = { Waiting };
+
+    ghost view = { λ p. record { full = p.full.items; last = p.last; spare = p.spare; most = deque_capacity p.full; handed = p.handed } };
+
+    ghost invariant = { λ p. IsCounted (record { full = p.full.items; last = p.last; spare = p.spare; most = deque_capacity p.full; handed = p.handed }) p.count };
+}
+
+impl Pending {
+    // No record. It takes no memory.
+    pub(crate) fn new(alloc: Global) -> Self
+        ensures records { waiting result ≡ [] }
+        ensures handed { result.handed ≡ record { end = 0; place = 0 } }
+    {
+        Self {
+            alloc,
+            full: VecDeque::new(alloc),
+            last: Draft::new(alloc),
+            spare: Draft::new(alloc),
+            count: 0,
+            handed: Handed { end: 0, place: 0 },
+        }
+    }
+
+    // How many records wait.
+    pub(crate) fn len(&self) -> usize
+        ensures { result ≡ length (waiting self.now) }
+    {
+        self.count
+    }
+
+    // Whether a record of the length fits in the block that is filled now.
+    fn fits(&self, len: usize) -> bool
+        requires { len ≤ 65535 }
+        ensures { IsTrue result ↔ Suits self.now len }
+    {
+        self.last.len() + len <= MAX_BODY
+    }
+
+    // Makes room for a record of the length. NoMemory leaves the records.
+    pub(crate) fn reserve(&mut self, len: usize) -> Result<(), Refusal>
+        requires { len ≤ 65535 }
+        ensures room { OnOk result (HasRoomFor self.new len) }
+        ensures records { waiting self.new ≡ waiting self.old }
+        ensures handed { self.new.handed ≡ self.old.handed }
+        ensures refusal { IsOkUnless result Refusal.NoMemory }
+    {
+        if self.fits(len) {
+            return self.last.reserve(len);
+        }
+        self.full.reserve(1)?;
+        self.spare.reserve(len)
+    }
+
+    // Writes the record behind the others. It takes no memory.
+    pub(crate) fn push(&mut self, entry: &Record)
+        requires fits { Fits entry.now }
+        requires room { HasRoomFor self.old (length (spelled entry.now)) }
+        requires few { length (waiting self.old) < 2 ^ 32 }
+        ensures records { waiting self.new ≡ waiting self.old ++ entry.now ∷ [] }
+        ensures handed { self.new.handed ≡ self.old.handed }
+    {
+        let fits = self.fits(encoded_len(entry));
+        self.count += 1;
+        if fits {
+            self.last.push(entry);
+            return;
+        }
+        self.spare.push(entry);
+        let filled = mem::replace(&mut self.spare, Draft::new(self.alloc));
+        let filled = mem::replace(&mut self.last, filled);
+        self.full.push_back_reserved(filled);
+    }
+
+    // Hands the first records over as one block, as many as fit in it. Answers whether there was one. NotNow where the
+    // outbox is full leaves the records.
+    pub(crate) fn cut<O: Outbox>(&mut self, out: &mut O) -> Result<bool, Refusal>
+        requires end { self.old.handed.end + length (waiting self.old) < 2 ^ 64 }
+        requires place { self.old.handed.place + places (waiting self.old) < 2 ^ 64 }
+        ensures { CutsOff (waiting self.old) self.old.handed.end self.old.handed.place (O.waiting out.old) (O.is_full out.old) result
+            (O.waiting out.new) (waiting self.new) self.new.handed.end self.new.handed.place }
+    {
+        if let Some(first) = self.full.pop_front() {
+            let count = first.count();
+            if let Err(first) = first.offer(&mut self.handed, out) {
+                self.full.push_front_reserved(first);
+                return Err(Refusal::NotNow);
+            }
+            self.count -= count;
+            return Ok(true);
+        }
+        if self.last.is_empty() {
+            return Ok(false);
+        }
+        let last = mem::replace(&mut self.last, Draft::new(self.alloc));
+        if let Err(last) = last.offer(&mut self.handed, out) {
+            self.last = last;
+            return Err(Refusal::NotNow);
+        }
+        self.count = 0;
+        Ok(true)
+    }
+}
