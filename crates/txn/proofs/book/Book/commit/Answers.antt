@@ -1,4 +1,4 @@
-use Rattle.std.proofs.Common.{◌≡◌, ◌<◌, ◌+◌, length, refl, sym, ◌∙◌, subst, arith}
+use Rattle.std.proofs.Common.{◌<◌, ◌+◌, length, refl, sym, subst, arith}
 use Rattle.records.specs.declared.record.Record.{Record}
 use Rattle.records.specs.Short.{AreShort}
 use Rattle.txn.specs.Machine.{IsRunning, CommitRow}
