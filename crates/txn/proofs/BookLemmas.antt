@@ -109,7 +109,7 @@ make_done names makes named now needs log w wear places next name kind now' at r
 -- What refuses a making in the collections refuses it in the book.
 pub make_refused : {S : Type 0} (names : List (List ℕ)) (b : BookState S) (name : List ℕ) (e : Refusal) → length b.pending < 16384 → making.MakeRefused names name e → MakeRefused names b name e
 make_refused names b name Refusal.Backlog room is = absurd is
-make_refused names b name Refusal.NoMemory room is = λ full. absurd (omega (arith, room, full))
+make_refused names b name Refusal.NoMemory room is = (λ full. absurd (omega (arith, room, full)), is.good)
 make_refused names b name Refusal.NameTaken room is = (λ full. absurd (omega (arith, room, full)), is)
 make_refused names b name Refusal.TooManyCollections room is = (λ full. absurd (omega (arith, room, full)), is)
 make_refused names b name Refusal.BadName room is = (λ full. absurd (omega (arith, room, full)), is)

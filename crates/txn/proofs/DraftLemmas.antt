@@ -21,12 +21,6 @@ flat_map-append f (x ∷ xs) ys = ap (λ l. f x ++ l) (flat_map-append f xs ys) 
 pub spelling-push : (rs : List Record) (r : Record) → spelling (rs ++ r ∷ []) ≡ spelling rs ++ spelled r
 spelling-push rs r = flat_map-append spelled rs (r ∷ []) ∙ ap (λ l. spelling rs ++ l) (append-nil (spelled r))
 
-pub places-append : (rs ss : List Record) → places (rs ++ ss) ≡ places rs + places ss
-places-append [] ss = omega arith
-places-append (Record.Make kind name ∷ rs) ss = omega (arith, places-append rs ss)
-places-append (Record.Commit n ∷ rs) ss = omega (arith, places-append rs ss)
-places-append (r ∷ rs) ss = places-append rs ss
-
 pub places-few : (rs : List Record) → places rs ≤ length rs
 places-few [] = omega arith
 places-few (Record.Make kind name ∷ rs) = omega (arith, places-few rs)

@@ -11,7 +11,8 @@ use Rattle.txn.specs.Drafts.{Drafted, Fills, ArePacked}
 use Rattle.txn.specs.Offers.{IsOffered}
 use Rattle.txn.specs.Waits.{Waiting, waiting, IsCounted, Suits}
 use Rattle.txn.specs.Books.{HandsOver}
-use Rattle.txn.proofs.DraftLemmas.{flat_map-append, spelling-push, places-append}
+use Rattle.txn.proofs.DraftLemmas.{flat_map-append, spelling-push}
+use Rattle.txn.proofs.Sizes.{places_append}
 
 pub last_short : (bs : List (List Record)) (b : List Record) → ArePacked (bs ++ b ∷ []) → length (spelling b) ≤ 65535
 last_short [] b packed = packed
@@ -74,22 +75,7 @@ counted_next w full last spare most r count is more one unused short not_fits =
       unused = unused;
     }
 
--- The first full block is handed over: the others stay counted,
-pub first_gone : (w : Waiting) (first : Drafted) (full : List Drafted) (most count less : ℕ) (after : Handed) → IsCounted w count → w.full ≡ first ∷ full → less + length first.records ≡ count →
-    IsCounted (record { full = full; last = w.last; spare = w.spare; most = most; handed = after }) less
-first_gone w first full most count less after is same rest =
-    let all : ArePacked (first.records ∷ map (λ d. d.records) full ++ w.last.records ∷ []) = subst (λ (l : List Drafted). ArePacked (map (λ d. d.records) l ++ w.last.records ∷ [])) same is.packed in
-    record {
-      packed = tail first.records full all;
-      counted = omega (arith, rest, is.counted, ap (λ (l : List Drafted). length (flat_map (λ d. d.records) l ++ w.last.records)) same, length-append (first.records ++ flat_map (λ d. d.records) full) w.last.records, length-append first.records (flat_map (λ d. d.records) full), length-append (flat_map (λ d. d.records) full) w.last.records);
-      unused = is.unused;
-    }
-  where
-    tail : (b : List Record) (fs : List Drafted) → ArePacked (b ∷ map (λ d. d.records) fs ++ w.last.records ∷ []) → ArePacked (map (λ d. d.records) fs ++ w.last.records ∷ [])
-    tail b [] packed = packed.3
-    tail b (f ∷ fs) packed = packed.3
-
--- and it holds as many of the records as fit.
+-- The first full block is handed over: it holds as many of the records as fit.
 pub first_over : (w : Waiting) (first : Drafted) (full : List Drafted) (count : ℕ) (after : Handed) (before waits : List Block) → IsCounted w count → w.full ≡ first ∷ full → IsOffered first.records w.handed after before waits →
     (block : Block) × (waits ≡ before ++ block ∷ []) × HandsOver (waiting w) w.handed.end w.handed.place block (flat_map (λ d. d.records) full ++ w.last.records) × (after.end ≡ block.end) × (after.place ≡ block.place)
 first_over w first full count after before waits is same offered =
@@ -113,7 +99,7 @@ first_over w first full count after before waits is same offered =
     front_some b [] packed = packed.0
     front_some b (f ∷ fs) packed = packed.0
 
--- Where no block is full, the last one is handed over,
+-- Where no block is full, the last one is handed over.
 pub last_over : (w : Waiting) (after : Handed) (before waits : List Block) (rest : List Record) → w.full ≡ [] → 0 < length w.last.records → rest ≡ [] → IsOffered w.last.records w.handed after before waits →
     (block : Block) × (waits ≡ before ++ block ∷ []) × HandsOver (waiting w) w.handed.end w.handed.place block rest × (after.end ≡ block.end) × (after.place ≡ block.place)
 last_over w after before waits rest none some over offered = (
@@ -136,18 +122,10 @@ last_over w after before waits rest none some over offered = (
     cons_none [] r behind a b = cc
     cons_none (x ∷ l) r behind a b = cc
 
--- and nothing is left.
-pub none_left : (w : Waiting) (last : Drafted) (most count : ℕ) (full : List Drafted) (after : Handed) → IsCounted w count → full ≡ [] → last.records ≡ [] → IsCounted (record { full = full; last = last; spare = w.spare; most = most; handed = after }) 0
-none_left w last most count full after is none empty = record {
-  packed = rw (none, empty) (omega arith);
-  counted = rw (none, empty) refl;
-  unused = is.unused;
-}
-
 -- The first block commits no more than all of them.
 pub first_places : (all full : List Drafted) (first last : Drafted) → all ≡ first ∷ full → places first.records ≤ places (flat_map (λ d. d.records) all ++ last.records)
 first_places all full first last same =
-    omega (arith, ap (λ (l : List Drafted). places (flat_map (λ d. d.records) l ++ last.records)) same, ap places (append_assoc first.records (flat_map (λ d. d.records) full) last.records), places-append first.records (flat_map (λ d. d.records) full ++ last.records))
+    omega (arith, ap (λ (l : List Drafted). places (flat_map (λ d. d.records) l ++ last.records)) same, ap places (append_assoc first.records (flat_map (λ d. d.records) full) last.records), places_append first.records (flat_map (λ d. d.records) full ++ last.records))
 
 pub none_long : {A : Type 0} (l : List A) → length l ≡ 0 → l ≡ []
 none_long [] is = refl

@@ -7,6 +7,7 @@ use Rattle.calls.specs.declared.call.Call.{Call}
 use Rattle.calls.specs.declared.reply.Reply.{Reply}
 use Rattle.calls.specs.declared.need.Need.{Need}
 use Rattle.calls.specs.declared.refusal.Refusal.{Refusal}
+use Rattle.calls.specs.Names.{IsName}
 use Rattle.calls.specs.Laters.{left_by}
 use Rattle.calls.specs.Transactions.{Event, Entry, Asked, PutOff, own}
 use Rattle.abstract_locks.specs.Holds.{IsBusy}
@@ -68,7 +69,7 @@ RunRefused b n e = ⊥
 
 abbrev pub MakeRefused : List (List ℕ) → {S : Type 0} → BookState S → List ℕ → Refusal → Type 0
 MakeRefused names b name Refusal.Backlog = IsFull b
-MakeRefused names b name Refusal.NoMemory = IsFull b → ⊥
+MakeRefused names b name Refusal.NoMemory = (IsFull b → ⊥) × IsName name
 MakeRefused names b name e = (IsFull b → ⊥) × making.MakeRefused names name e
 
 abbrev pub MakeAnswers : {S : Type 0} → (S → List (List ℕ)) → (S → List ℕ → Kind → S → Type 0) → BookState S → List ℕ → Kind → Result ℕ Refusal → BookState S → Type 0
@@ -194,7 +195,7 @@ CutsOff pending end place waiting full (Ok true) waits rest end_then place_then 
 CutsOff pending end place waiting full (Ok false) waits rest end_then place_then =
     (pending ≡ []) × (waits ≡ waiting) × (rest ≡ pending) × (end_then ≡ end) × (place_then ≡ place)
 CutsOff pending end place waiting full (Err Refusal.NotNow) waits rest end_then place_then =
-    full × (waits ≡ waiting) × (rest ≡ pending) × (end_then ≡ end) × (place_then ≡ place)
+    full × (waits ≡ waiting) × (rest ≡ pending) × (end_then ≡ end) × (place_then ≡ place) × (0 < length pending)
 CutsOff pending end place waiting full (Err e) waits rest end_then place_then = ⊥
 
 -- The same of a book, whose state stays.

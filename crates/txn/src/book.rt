@@ -246,7 +246,7 @@ impl<B: Parts + Coded> Book<B> {
     /// Hands the first pending records over as one block, as many whole ones as fit in 65,535 bytes, and answers true;
     /// false where nothing is pending. No record is copied, and no memory is taken.
     ///
-    /// NotNow, only where the outbox is full.
+    /// NotNow, only where a record waits and the outbox is full.
     pub fn cut<O: Outbox>(&mut self, out: &mut O) -> Result<bool, Refusal>
         ensures answer { CutAnswers self.old (O.waiting out.old) (O.is_full out.old) result (O.waiting out.new) self.new }
         ensures settled { (c : B) → IsSettled B.answers B.leaves self.old.state c → IsSettled B.answers B.leaves self.new.state c }

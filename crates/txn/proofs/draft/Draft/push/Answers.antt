@@ -1,7 +1,8 @@
 use Rattle.std.proofs.Common.{◌∷◌, [], List, length, arith, ap, length-append}
 use Rattle.records.specs.declared.record.Record.{Record}
 use Rattle.txn.specs.Drafts.{noted_records}
-use Rattle.txn.proofs.DraftLemmas.{pushed, places-append, places-few, sure}
+use Rattle.txn.proofs.DraftLemmas.{pushed, places-few, sure}
+use Rattle.txn.proofs.Sizes.{places_append}
 use Rattle.txn.proofs.draft.Draft.push.Goals as goal
 
 pub overflow_add-self-2 : goal.overflow_add-self-2
@@ -20,4 +21,4 @@ invariant_of-self c =
     let is = sure written.result _ _ written.ensures.ok written.ensures.full (λ full. omega (arith, room.room, len, capacity, full)) in
     let long = sure written.result _ _ written.ensures.len written.ensures.full (λ full. omega (arith, room.room, len, capacity, full)) in
     rw (c.of.ensures, c.of-2.ensures)
-    (pushed c.self.inside.bytes.items written.new.out.items _ _ rs r c.self.invariant.0 (omega (arith, room.head, len, c.self.inside.bytes.ok.0)) is (omega (arith, room.room, len, capacity, long, written.ensures.capacity, written.new.out.ok.0)), omega (arith, c.self.invariant.1, length-append rs (r ∷ [])), omega (arith, c.self.invariant.2, places-append rs (r ∷ []), c.places_of.ensures))
+    (pushed c.self.inside.bytes.items written.new.out.items _ _ rs r c.self.invariant.0 (omega (arith, room.head, len, c.self.inside.bytes.ok.0)) is (omega (arith, room.room, len, capacity, long, written.ensures.capacity, written.new.out.ok.0)), omega (arith, c.self.invariant.1, length-append rs (r ∷ [])), omega (arith, c.self.invariant.2, places_append rs (r ∷ []), c.places_of.ensures))
