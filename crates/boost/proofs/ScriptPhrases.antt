@@ -1,50 +1,33 @@
 -- What a text asks for is told by its first words.
-use Rattle.std.proofs.Common.{◌≡◌, ◌≢◌, ℕ, zero, suc, ◌<◌, length, List, [], ◌∷◌, ◌++◌, get_or, All, refl, sym, subst, ◌∙◌, ap, arith, codes, Option, Some, None, Result, Ok, Err, Bool, false}
+use Rattle.std.proofs.Common.{◌≡◌, ◌≢◌, ℕ, zero, suc, ◌<◌, length, List, [], ◌∷◌, ◌++◌, get_or, All, sym, subst, ◌∙◌, ap, arith, codes, Option, Some, None, Result, Ok, Err, Bool, false}
 use Rattle.std.specs.Prelude.{IfOk, MatchOption, IsTrue, ◌↔◌}
 use Rattle.std.specs.List.{AllByRecursion}
 use Rattle.std.proofs.lemmas.Bool.{true≢false}
 use Rattle.std.proofs.lemmas.List.{append_cancel_left}
 use Rattle.calls.specs.declared.kind.Kind.{Kind}
-use Rattle.calls.specs.declared.call.Call.{Call}
+use Rattle.boost.specs.declared.script.action.Operation.{Operation}
 use Rattle.boost.specs.declared.script.action.Request.{Request}
-use Rattle.boost.specs.ScriptTexts.{IsWord, CanBeCalled, kind_text, call_text, IsRequestOf, IsMakeOf, IsCallOf}
-use Rattle.boost.proofs.ScriptWords.{not_whole}
-
--- ---- the first space
-
-rest_whole : (byte x : ℕ) (xs : List ℕ) → All (λ b. b ≢ byte) (x ∷ xs) → All (λ b. b ≢ byte) xs
-rest_whole byte x xs h = λ k d lt. h (suc k) d (omega arith)
-
-first_other : (byte x : ℕ) (xs : List ℕ) → All (λ b. b ≢ byte) (x ∷ xs) → x ≢ byte
-first_other byte x xs h = h 0 0 (omega arith)
-
-pub same_split : (byte : ℕ) (a b front back : List ℕ) → a ++ byte ∷ b ≡ front ++ byte ∷ back → All (λ b. b ≢ byte) a → All (λ b. b ≢ byte) front → (a ≡ front) × (b ≡ back)
-same_split byte [] b [] back e p q = (refl, cc)
-same_split byte [] b (y ∷ front) back e p q = let h : y ≡ byte = cc in absurd (first_other byte y front q h)
-same_split byte (x ∷ a) b [] back e p q = let h : x ≡ byte = cc in absurd (first_other byte x a p h)
-same_split byte (x ∷ a) b (y ∷ front) back e p q =
-    let head : x ≡ y = cc in
-    let tail : a ++ byte ∷ b ≡ front ++ byte ∷ back = cc in
-    let parts = same_split byte a b front back tail (rest_whole byte x a p) (rest_whole byte y front q) in
-    let whole = parts.0 in
-    (cc, parts.1)
+use Rattle.boost.specs.declared.script.action.Action.{Action}
+use Rattle.boost.specs.ScriptTexts.{IsWord, IsClient, CanBeDone, kind_text, operation_text, request_text, IsRequestOf, IsMakeOf, IsCallOf, IsClientLine, IsLineOf}
+use Rattle.std.specs.Fmt.{decimal}
+use Rattle.boost.proofs.ScriptWords.{not_whole, decimal_whole, same_split}
 
 -- ---- calls
 
 pub no_call_without_space : (text : List ℕ) (r : Request) → All (λ b. b ≢ 32) text → IsCallOf r text → ⊥
-no_call_without_space text (Request.Call name c) whole is = not_whole 32 text name (call_text c) is.2 whole
+no_call_without_space text (Request.Call name o) whole is = not_whole 32 text name (operation_text o) is.2 whole
 no_call_without_space text r whole is = is
 
 pub name_is_front : (text front back : List ℕ) (r : Request) → text ≡ front ++ 32 ∷ back → All (λ b. b ≢ 32) front → IsCallOf r text → IsWord front
-name_is_front text front back (Request.Call name c) e first is =
-    let parts = same_split 32 name (call_text c) front back (sym is.2 ∙ e) is.0.whole first in
+name_is_front text front back (Request.Call name o) e first is =
+    let parts = same_split 32 name (operation_text o) front back (sym is.2 ∙ e) is.0.whole first in
     subst IsWord parts.0 is.0
 name_is_front text front back r e first is = absurd is
 
-pub call_is_back : (text front back : List ℕ) (r : Request) → text ≡ front ++ 32 ∷ back → All (λ b. b ≢ 32) front → ((c : Call) → CanBeCalled c → back ≡ call_text c → ⊥) → IsCallOf r text → ⊥
-call_is_back text front back (Request.Call name c) e first none is =
-    let parts = same_split 32 name (call_text c) front back (sym is.2 ∙ e) is.0.whole first in
-    none c is.1 (sym parts.1)
+pub call_is_back : (text front back : List ℕ) (r : Request) → text ≡ front ++ 32 ∷ back → All (λ b. b ≢ 32) front → ((o : Operation) → CanBeDone o → back ≡ operation_text o → ⊥) → IsCallOf r text → ⊥
+call_is_back text front back (Request.Call name o) e first none is =
+    let parts = same_split 32 name (operation_text o) front back (sym is.2 ∙ e) is.0.whole first in
+    none o is.1 (sym parts.1)
 call_is_back text front back r e first none is = is
 
 -- ---- makings
@@ -92,33 +75,36 @@ second t = get_or t 1 0
 pub request_is_call : (text rest : List ℕ) (r : Request) → text ≡ codes "call " ++ rest → IsRequestOf r text → IsCallOf r rest
 request_is_call text rest (Request.Make kind name) e is = let h : ◌≡◌ {A = ℕ} 99 109 = ap first (sym e ∙ is.is) in absurd (omega arith)
 request_is_call text rest Request.Begin e is = let h : ◌≡◌ {A = ℕ} 99 98 = ap first (sym e ∙ is.is) in absurd (omega arith)
-request_is_call text rest (Request.Call name c) e is = (is.said.0, is.said.1, append_cancel_left (codes "call ") rest (name ++ 32 ∷ call_text c) (sym e ∙ is.is))
+request_is_call text rest (Request.Call name o) e is = (is.said.0, is.said.1, append_cancel_left (codes "call ") rest (name ++ 32 ∷ operation_text o) (sym e ∙ is.is))
 request_is_call text rest Request.Commit e is = let h : ◌≡◌ {A = ℕ} 97 111 = ap second (sym e ∙ is.is) in absurd (omega arith)
+request_is_call text rest Request.Abort e is = let h : ◌≡◌ {A = ℕ} 99 97 = ap first (sym e ∙ is.is) in absurd (omega arith)
 request_is_call text rest Request.Kept e is = let h : ◌≡◌ {A = ℕ} 99 107 = ap first (sym e ∙ is.is) in absurd (omega arith)
 
 pub call_is_request : (text rest : List ℕ) (r : Request) → text ≡ codes "call " ++ rest → IsCallOf r rest → IsRequestOf r text
-call_is_request text rest (Request.Call name c) e is = record { said = (is.0, is.1); is = e ∙ ap (λ (t : List ℕ). codes "call " ++ t) is.2 }
+call_is_request text rest (Request.Call name o) e is = record { said = (is.0, is.1); is = e ∙ ap (λ (t : List ℕ). codes "call " ++ t) is.2 }
 call_is_request text rest r e is = absurd is
 
 -- behind the word make stands a making and nothing else
 request_is_make : (text rest : List ℕ) (r : Request) → text ≡ codes "make " ++ rest → IsRequestOf r text → IsMakeOf r rest
 request_is_make text rest (Request.Make kind name) e is = (is.said, append_cancel_left (codes "make ") rest (kind_text kind ++ 32 ∷ name) (sym e ∙ is.is))
 request_is_make text rest Request.Begin e is = let h : ◌≡◌ {A = ℕ} 109 98 = ap first (sym e ∙ is.is) in absurd (omega arith)
-request_is_make text rest (Request.Call name c) e is = let h : ◌≡◌ {A = ℕ} 109 99 = ap first (sym e ∙ is.is) in absurd (omega arith)
+request_is_make text rest (Request.Call name o) e is = let h : ◌≡◌ {A = ℕ} 109 99 = ap first (sym e ∙ is.is) in absurd (omega arith)
 request_is_make text rest Request.Commit e is = let h : ◌≡◌ {A = ℕ} 109 99 = ap first (sym e ∙ is.is) in absurd (omega arith)
+request_is_make text rest Request.Abort e is = let h : ◌≡◌ {A = ℕ} 109 97 = ap first (sym e ∙ is.is) in absurd (omega arith)
 request_is_make text rest Request.Kept e is = let h : ◌≡◌ {A = ℕ} 109 107 = ap first (sym e ∙ is.is) in absurd (omega arith)
 
 make_is_request : (text rest : List ℕ) (r : Request) → text ≡ codes "make " ++ rest → IsMakeOf r rest → IsRequestOf r text
 make_is_request text rest (Request.Make kind name) e is = record { said = is.0; is = e ∙ ap (λ (t : List ℕ). codes "make " ++ t) is.1 }
 make_is_request text rest r e is = absurd is
 
-pub no_request : (text : List ℕ) (r : Request) → (text ≡ codes "begin" → ⊥) → (text ≡ codes "commit" → ⊥) → (text ≡ codes "kept" → ⊥)
+pub no_request : (text : List ℕ) (r : Request) → (text ≡ codes "begin" → ⊥) → (text ≡ codes "commit" → ⊥) → (text ≡ codes "abort" → ⊥) → (text ≡ codes "kept" → ⊥)
     → ((rest : List ℕ) → text ≡ codes "call " ++ rest → ⊥) → ((rest : List ℕ) → text ≡ codes "make " ++ rest → ⊥) → IsRequestOf r text → ⊥
-no_request text (Request.Make kind name) b c k l m is = m (kind_text kind ++ 32 ∷ name) is.is
-no_request text Request.Begin b c k l m is = b is.is
-no_request text (Request.Call name a) b c k l m is = l (name ++ 32 ∷ call_text a) is.is
-no_request text Request.Commit b c k l m is = c is.is
-no_request text Request.Kept b c k l m is = k is.is
+no_request text (Request.Make kind name) b c a k l m is = m (kind_text kind ++ 32 ∷ name) is.is
+no_request text Request.Begin b c a k l m is = b is.is
+no_request text (Request.Call name o) b c a k l m is = l (name ++ 32 ∷ operation_text o) is.is
+no_request text Request.Commit b c a k l m is = c is.is
+no_request text Request.Abort b c a k l m is = a is.is
+no_request text Request.Kept b c a k l m is = k is.is
 
 -- what is found behind the word call is found in the whole text
 pub called_gives : {E : Type 0} (r : Result (Option Request) E) (text rest : List ℕ) → text ≡ codes "call " ++ rest
@@ -135,6 +121,46 @@ pub made_gives : {E : Type 0} (r : Result (Option Request) E) (text rest : List 
 made_gives (Ok None) text rest e none = λ q is. none q (request_is_make text rest q e is)
 made_gives (Ok (Some q)) text rest e is = make_is_request text rest q e is
 made_gives (Err why) text rest e h = tt
+
+-- ---- clients
+
+pub no_client_without_space : (text : List ℕ) (a : Action) → All (λ b. b ≢ 32) text → IsClientLine a text → ⊥
+no_client_without_space text (Action.Client n r) whole is = not_whole 32 text (decimal n) (request_text r) is.2 whole
+no_client_without_space text a whole is = is
+
+pub client_is_front : (text front back : List ℕ) (a : Action) → text ≡ front ++ 32 ∷ back → All (λ b. b ≢ 32) front → ((n : ℕ) → IsClient n → front ≡ decimal n → ⊥) → IsClientLine a text → ⊥
+client_is_front text front back (Action.Client n r) e first none is =
+    let last = is.0.last in
+    let parts = same_split 32 (decimal n) (request_text r) front back (sym is.2 ∙ e) (decimal_whole n (omega arith)) first in
+    none n is.0 (sym parts.0)
+client_is_front text front back a e first none is = is
+
+pub request_is_back : (text front back : List ℕ) (a : Action) → text ≡ front ++ 32 ∷ back → All (λ b. b ≢ 32) front → ((r : Request) → IsRequestOf r back → ⊥) → IsClientLine a text → ⊥
+request_is_back text front back (Action.Client n r) e first none is =
+    let last = is.0.last in
+    let parts = same_split 32 (decimal n) (request_text r) front back (sym is.2 ∙ e) (decimal_whole n (omega arith)) first in
+    none r (record { said = is.1; is = sym parts.1 })
+request_is_back text front back a e first none is = is
+
+line_is_client : (line rest : List ℕ) (a : Action) → line ≡ codes "c" ++ rest → IsLineOf a line → IsClientLine a rest
+line_is_client line rest (Action.Client n r) e is = (is.said.0, is.said.1, append_cancel_left (codes "c") rest (decimal n ++ 32 ∷ request_text r) (sym e ∙ is.is))
+line_is_client line rest Action.Turn e is = let h : ◌≡◌ {A = ℕ} 99 116 = ap first (sym e ∙ is.is) in absurd (omega arith)
+
+client_is_line : (line rest : List ℕ) (a : Action) → line ≡ codes "c" ++ rest → IsClientLine a rest → IsLineOf a line
+client_is_line line rest (Action.Client n r) e is = record { said = (is.0, is.1); is = e ∙ ap (λ (t : List ℕ). codes "c" ++ t) is.2 }
+client_is_line line rest a e is = absurd is
+
+-- what is found behind the letter c is found in the whole line
+pub client_gives : {E : Type 0} (r : Result (Option Action) E) (line rest : List ℕ) → line ≡ codes "c" ++ rest
+    → IfOk r (λ found. MatchOption found ((a : Action) → IsClientLine a rest → ⊥) (λ a. IsClientLine a rest))
+    → IfOk r (λ found. MatchOption found ((a : Action) → IsLineOf a line → ⊥) (λ a. IsLineOf a line))
+client_gives (Ok None) line rest e none = λ a is. none a (line_is_client line rest a e is)
+client_gives (Ok (Some a)) line rest e is = client_is_line line rest a e is
+client_gives (Err why) line rest e h = tt
+
+pub no_line : (line : List ℕ) (a : Action) → (line ≡ codes "turn" → ⊥) → ((rest : List ℕ) → line ≡ codes "c" ++ rest → ⊥) → IsLineOf a line → ⊥
+no_line line (Action.Client n r) t c is = c (decimal n ++ 32 ∷ request_text r) is.is
+no_line line Action.Turn t c is = t is.is
 
 -- a test that failed
 pub denied : {P : Type 0} (b : Bool) → (IsTrue b ↔ P) → b ≡ false → P → ⊥

@@ -31,6 +31,9 @@ play_app = with_rule (with_rule (new_app (codes "play")) (path_rule (codes "DISK
 abbrev pub show_app : App
 show_app = with_rule (new_app (codes "show")) (path_rule (codes "DISK"))
 
+abbrev pub check_app : App
+check_app = with_rule (new_app (codes "check")) (path_rule (codes "DISK"))
+
 abbrev pub demo_app : App
 demo_app = new_app (codes "demo")
 
@@ -38,7 +41,7 @@ abbrev pub bare_app : App
 bare_app = let a = new_app (codes "boost") in record a { top = record a.top { subcommand_required = true } }
 
 abbrev pub program_app : App
-program_app = with_subcommand (with_subcommand (with_subcommand (with_subcommand bare_app format_app.top) play_app.top) show_app.top) demo_app.top
+program_app = with_subcommand (with_subcommand (with_subcommand (with_subcommand (with_subcommand bare_app format_app.top) play_app.top) show_app.top) check_app.top) demo_app.top
 
 -- ---- what is asked for
 
@@ -51,6 +54,7 @@ abbrev pub Asks : Task → Text × List Row → Type 0
 Asks (Task.Format disk area) found = (found.0 ≡ codes "format") × (first_of (codes "DISK") found.1 ≡ Some (string_bytes disk)) × IsSomeAnd (first_of (codes "area") found.1) (IsNumberOf area)
 Asks (Task.Play disk script) found = (found.0 ≡ codes "play") × (first_of (codes "DISK") found.1 ≡ Some (string_bytes disk)) × (first_of (codes "SCRIPT") found.1 ≡ Some (string_bytes script))
 Asks (Task.Show disk) found = (found.0 ≡ codes "show") × (first_of (codes "DISK") found.1 ≡ Some (string_bytes disk))
+Asks (Task.Check disk) found = (found.0 ≡ codes "check") × (first_of (codes "DISK") found.1 ≡ Some (string_bytes disk))
 Asks Task.Demo found = found.0 ≡ codes "demo"
 
 -- The words ask for the task: clap finds the task's command in them, with the task's paths and number.

@@ -10,6 +10,10 @@ abbrev pub IsPlay : Task → Type 0
 IsPlay (Task.Play disk script) = Unit {0}
 IsPlay task = ⊥
 
+abbrev pub IsCheck : Task → Type 0
+IsCheck (Task.Check disk) = Unit {0}
+IsCheck task = ⊥
+
 abbrev pub IsDemo : Task → Type 0
 IsDemo Task.Demo = Unit {0}
 IsDemo task = ⊥

@@ -1,39 +1,39 @@
 // What the program does for a command, on any disk.
 ghost use Rattle.std.specs.Prelude.{◌≡◌, ◌⊎◌, ℕ, OnOk, IfErr};
+ghost use Rattle.disk_model.specs.Disk.{ReadsOnly};
 ghost use Rattle.boost.specs.declared.commands.failure.Failure.{Failure};
-ghost use Rattle.boost.specs.Commands.{IsPlay, IsDemo, IsUnderstood, IsOfStore, IsWhyUnplayed, IsWhyUndone, IsNotUnderstoodAt, status_of};
+ghost use Rattle.boost.specs.Commands.{IsPlay, IsCheck, IsDemo, IsUnderstood, IsOfStore, IsWhyUnplayed, IsWhyUndone, IsNotUnderstoodAt, status_of};
 
+mod client;
+mod committer;
 mod failure;
 mod player;
+mod showing;
+mod stored_run;
 mod texts;
 
 use crate::arguments::Task;
-use crate::recovery::{format, open};
 use crate::script::{Line, parse};
-use crate::world::World;
+use crate::transit::Transit;
 use calls::Refusal;
-use calls::limits::MIN_AREA;
-use catalog::{Catalog, Shown};
-use disk_model::{Disk, MemDisk};
+use disk_model::Disk;
 pub use failure::Failure;
 use player::Player;
+use recovery::{format, inspect, open};
+use showing::{show_collections, show_counts};
 use std::alloc::Global;
 use std::io::{BufWriter, Write};
-use texts::ItemText;
-
-// The script of the stored run.
-const DEMO: &[u8] =
-    b"c1 make counter hits\nc1 begin\nc1 call hits bump 1\nc1 commit\nc1 kept\nturn\nc1 kept\nturn\n";
-
-// How many bytes the disk of the stored run has: what stands before the areas, and two of the least areas.
-const DEMO_SIZE: u64 = 4096 + 2 * MIN_AREA;
+use stored_run::demo;
 
 /// Carries a command out on a disk, and answers the status of the program with the disk.
 ///
 /// Format makes the disk an empty store. Play runs the script, and prints for each line that is not passed over its
 /// number and its answer. Show prints for each collection, by rising number, a line with its kind and name, and then
-/// each of its items in a line of its own, after two spaces. Demo runs a stored script on a disk in memory of its own
-/// and prints what Play does, and then what Show does: it touches neither the disk nor the script.
+/// each of its items in a line of its own, after two spaces. Check prints how many collections, unfinished transactions
+/// and journal records the store has, and writes nothing. Demo runs a stored script on a disk in memory of its own and
+/// prints what Play does, and then what Show does: it touches neither the disk nor the script.
+///
+/// Play and Show open the store: transactions that have not ended are undone, and that is written to the disk.
 ///
 /// The status is 0 where the command was done, lines of the script that were refused among it; else a text goes to
 /// `err`, as `Failure` says: 3 for a script with a line that is not understood, of which no line is run and for
@@ -51,6 +51,7 @@ pub fn run<D: Disk, O: Write, E: Write>(
     ensures understood { result.0 ≡ 0 → IsPlay task.now → IsUnderstood script.now }
     ensures not_understood { result.0 ≡ 3 → IsPlay task.now × ((line : ℕ) × IsNotUnderstoodAt script.now line) }
     ensures untouched { result.0 ≡ 3 → result.1 ≡ disk }
+    ensures only_read { IsCheck task.now → ReadsOnly D.seen D.may_leave D.moment D.left_since disk result.1 }
     ensures stored_run { IsDemo task.now → result.1 ≡ disk }
     ensures silent { (result.0 ≡ 0) ⊎ (result.0 ≡ 4) → err.new ≡ err.old }
 {
@@ -83,6 +84,7 @@ fn carry_out<D: Disk, O: Write>(
 ) -> (Result<(), Failure<'static>>, D)
     ensures understood { OnOk result.0 (IsPlay task.now → IsUnderstood script.now) }
     ensures why { IfErr result.0 (IsWhyUndone task.now script.now (result.1 ≡ disk)) }
+    ensures only_read { IsCheck task.now → ReadsOnly D.seen D.may_leave D.moment D.left_since disk result.1 }
     ensures stored_run { IsDemo task.now → result.1 ≡ disk }
 {
     let Ok(mut out) = BufWriter::new(alloc, out) else {
@@ -92,6 +94,7 @@ fn carry_out<D: Disk, O: Write>(
         Task::Format { area, .. } => format_disk(disk, *area),
         Task::Play { .. } => play_script(alloc, disk, script, &mut out),
         Task::Show { .. } => show(alloc, disk, &mut out),
+        Task::Check { .. } => check(alloc, disk, &mut out),
         Task::Demo => (demo(alloc, &mut out), disk),
     };
     match out.flush() {
@@ -111,12 +114,6 @@ fn format_disk<D: Disk>(disk: D, area: u64) -> (Result<(), Failure<'static>>, D)
     }
 }
 
-// The world of a store that is opened.
-fn open_world<D: Disk>(alloc: Global, disk: D) -> Result<World<D>, (Refusal, D)> {
-    let (book, keeper) = open(alloc, disk)?;
-    World::new(alloc, book, keeper)
-}
-
 // Runs a script on the store of a disk.
 fn play_script<D: Disk, O: Write>(
     alloc: Global,
@@ -133,6 +130,15 @@ fn play_script<D: Disk, O: Write>(
     }
 }
 
+// The player of a store that is opened.
+fn open_player<D: Disk>(alloc: Global, disk: D) -> Result<Player<D>, (Refusal, D)> {
+    let Ok(transit) = Transit::new(alloc) else {
+        return Err((Refusal::NoMemory, disk));
+    };
+    let (book, keeper) = open(alloc, disk)?;
+    Ok(Player::new(book, keeper, transit))
+}
+
 // Runs lines on the store of a disk.
 fn play_lines<D: Disk, O: Write>(
     alloc: Global,
@@ -142,10 +148,9 @@ fn play_lines<D: Disk, O: Write>(
 ) -> (Result<(), Failure<'static>>, D)
     ensures { IfErr result.0 IsOfStore }
 {
-    match open_world(alloc, disk) {
-        Ok(world) => {
-            let mut player = Player::new(world);
-            let done = player.play_lines(alloc, lines, out);
+    match open_player(alloc, disk) {
+        Ok(mut player) => {
+            let done = player.play_lines(lines, out);
             (done, player.into_disk())
         }
         Err((refusal, disk)) => (Err(Failure::Refused(refusal)), disk),
@@ -158,61 +163,27 @@ fn show<D: Disk, O: Write>(alloc: Global, disk: D, out: &mut O) -> (Result<(), F
 {
     match open(alloc, disk) {
         Ok((book, keeper)) => {
-            let done = show_collections(book.collections(), out);
+            let done = show_collections(book.parts(), out);
             (done, keeper.into_disk())
         }
         Err((refusal, disk)) => (Err(Failure::Refused(refusal)), disk),
     }
 }
 
-// Prints collections, by rising number: each in a line of its own, and its items in the lines behind it.
-fn show_collections<O: Write>(catalog: &Catalog, out: &mut O) -> Result<(), Failure<'static>>
-    ensures { IfErr result IsOfStore }
+// Counts what the store of a disk holds, and writes nothing to the disk.
+fn check<D: Disk, O: Write>(
+    alloc: Global,
+    disk: D,
+    out: &mut O,
+) -> (Result<(), Failure<'static>>, D)
+    ensures why { IfErr result.0 IsOfStore }
+    ensures only_read { ReadsOnly D.seen D.may_leave D.moment D.left_since disk result.1 }
 {
-    for number in (0..=u8::MAX).take(catalog.len()) {
-        let shown = catalog.show(number)?;
-        show_collection(&shown, out)?;
+    let mut disk = disk;
+    match inspect(alloc, &mut disk) {
+        Ok(counts) => (show_counts(&counts, out), disk),
+        Err(refusal) => (Err(Failure::Refused(refusal)), disk),
     }
-    Ok(())
-}
-
-// Prints what is shown of a collection.
-fn show_collection<O: Write>(shown: &Shown, out: &mut O) -> Result<(), Failure<'static>>
-    ensures { IfErr result IsOfStore }
-{
-    let Shown { kind, name, items } = shown;
-    let name = name.as_str();
-    writeln!(out, "{kind} {name}")?;
-    for item in items {
-        let item = ItemText(item);
-        writeln!(out, "  {item}")?;
-    }
-    Ok(())
-}
-
-// Runs the stored script on a disk of its own, and prints what it leaves.
-fn demo<O: Write>(alloc: Global, out: &mut O) -> Result<(), Failure<'static>>
-    ensures { IfErr result IsOfStore }
-{
-    let disk = demo_disk(alloc)?;
-    // The stored script is understood: only memory can be wanting.
-    let Ok(lines) = parse(alloc, DEMO) else {
-        return Err(Failure::Refused(Refusal::NoMemory));
-    };
-    let (played, disk) = play_lines(alloc, disk, lines, out);
-    match played {
-        Ok(()) => show(alloc, disk, out).0,
-        Err(failure) => Err(failure),
-    }
-}
-
-// An empty store in memory.
-fn demo_disk(alloc: Global) -> Result<MemDisk, Failure<'static>>
-    ensures { IfErr result IsOfStore }
-{
-    let mut disk = MemDisk::new(alloc, DEMO_SIZE)?;
-    format(&mut disk, MIN_AREA)?;
-    Ok(disk)
 }
 
 #[cfg(test)]

@@ -2,10 +2,11 @@
 ghost use Rattle.std.specs.Prelude.{◌≡◌, ◌≤◌, length, IfOk, []};
 ghost use Rattle.std.specs.VecDeque.{deque_capacity};
 
-use crate::block::{Block, Inbox, Outbox};
 use calls::limits::MAX_TRANSIT;
+use checkpoint::Inbox;
 use std::alloc::{AllocError, Global};
 use std::collections::VecDeque;
+use txn::{Block, Outbox};
 
 /// The blocks that were handed over and did not reach the disk yet: at most four, in order.
 #[derive(Drop, Debug)]
@@ -15,7 +16,7 @@ pub struct Transit {
 }
 
 impl Transit {
-    /// No block, with room for four.
+    /// No block, with room for four: no later call takes memory.
     pub fn new(alloc: Global) -> Result<Self, AllocError>
         ensures { IfOk result (λ transit. transit.blocks.items ≡ []) }
     {

@@ -81,7 +81,7 @@ fn carry_out<'a, R: Files<File = File> + AllocGlobal>(
             let disk = open_disk(rt, path).map_err(|e| cannot_open(path, &e))?;
             Ok(run(alloc, task, disk, script.as_slice(), out, err).0)
         }
-        Task::Show { disk } => {
+        Task::Show { disk } | Task::Check { disk } => {
             let path = disk.as_str();
             let disk = open_disk(rt, path).map_err(|e| cannot_open(path, &e))?;
             Ok(run(alloc, task, disk, &[], out, err).0)

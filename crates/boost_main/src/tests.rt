@@ -48,6 +48,9 @@ fn a_counter_is_kept_in_a_file(rt: HostRuntime) -> Result<(), Fail> {
     );
     let shown = tell(&rt, &["boost", "show", disk]);
     assert!(rt; shown.says(0, "counter hits\n  1\n", ""));
+    let checked = tell(&rt, &["boost", "check", disk]);
+    let counts = "sound: 1 collections, 0 unfinished transactions, 4 journal records\n";
+    assert!(rt; checked.says(0, counts, ""));
     remove_file(&rt, disk)?;
     remove_file(&rt, script)?;
     Ok(())

@@ -24,7 +24,7 @@ pub struct Area {
 
 impl Area {
     ghost use Rattle.disk_model.specs.Disk.{LeavesOnly, ReadsOnly, Rises, HasCause};
-    ghost use Rattle.gate_block.specs.Row.{IsBlockOf, SameOutside, Finds};
+    ghost use Rattle.gate_block.specs.Row.{row, IsRow, IsBlockOf, SameOutside, Finds};
     ghost use Rattle.gate_block.specs.Answers.{IsAppendAnswer, IsNextAnswer, IsReadError};
     ghost use Rattle.gate_block.specs.Area.{base_of, size_of, position_of, has_failed, IsReady, HoldsRow, LeavesBlocks, LeavesElsewhere, bytes_of, body_in, IsDamage};
 
@@ -59,6 +59,9 @@ impl Area {
             (LeavesBlocks (D.may_leave disk.old) self.now bodies body) }
         ensures any_moment_elsewhere { LeavesOnly D.moment D.left_since disk.old disk.new
             (LeavesElsewhere (D.may_leave disk.old) self.now) }
+        ensures counts { (bodies : List (List ℕ)) (body : List ℕ) → IsBlockOf body block.now →
+            IsRow bodies (bytes_of self.now (D.seen disk.old)) → position_of self.now ≡ length (row bodies) →
+            OnOk result (IsRow (bodies ++ body ∷ []) (bytes_of self.now (D.seen disk.new))) }
         ensures elsewhere { SameOutside (base_of self.now) (size_of self.now)
             (D.seen disk.old) (D.seen disk.new) }
         ensures honest { D.is_honest disk.new → D.is_honest disk.old }
@@ -99,6 +102,11 @@ impl Area {
             (LeavesBlocks (D.may_leave disk.old) self.old bodies body) }
         ensures any_moment_elsewhere { LeavesOnly D.moment D.left_since disk.old disk.new
             (LeavesElsewhere (D.may_leave disk.old) self.old) }
+        // Also where a stop might leave another: where a read gives blocks up to the next gate, it gives the new one behind
+        // them then.
+        ensures counts { (bodies : List (List ℕ)) (body : List ℕ) → IsBlockOf body block.now →
+            IsRow bodies (bytes_of self.old (D.seen disk.old)) → position_of self.old ≡ length (row bodies) →
+            OnOk result (IsRow (bodies ++ body ∷ []) (bytes_of self.new (D.seen disk.new))) }
         ensures elsewhere { SameOutside (base_of self.old) (size_of self.old)
             (D.seen disk.old) (D.seen disk.new) }
         ensures honest { D.is_honest disk.new → D.is_honest disk.old }

@@ -1,5 +1,5 @@
 -- A call that is made: its record, and the book behind it.
-use Rattle.std.proofs.Common.{◌≡◌, ℕ, ◌+◌, ◌<◌, ◌≤◌, ◌^◌, Option, Some, None, false, Result, Ok, Err, OnOk, List, [], ◌∷◌, ◌++◌, length, refl, sym, ◌∙◌, ap, subst, arith}
+use Rattle.std.proofs.Common.{◌≡◌, ℕ, ◌+◌, ◌<◌, ◌≤◌, ◌^◌, Option, Some, None, Bool, true, false, not, ◌↔◌, Result, Ok, Err, OnOk, List, [], ◌∷◌, ◌++◌, length, refl, sym, ◌∙◌, ap, arith}
 use Rattle.std.specs.Option.{option_to_list, is_some}
 use Rattle.std.specs.Result.{is_err}
 use Rattle.calls.specs.declared.call.Call.{Call}
@@ -15,10 +15,11 @@ use Rattle.records.specs.declared.record.Record.{Record}
 use Rattle.records.specs.Records.{IsNumber, IsRecord, FitsCall, FitsReply}
 use Rattle.records.specs.Told.{InverseAsTold, AfterAsTold}
 use Rattle.records.proofs.CallRecords.{call_is_record}
-use Rattle.txn.specs.Machine.{State, CanCall, CallRow}
+use Rattle.txn.specs.Machine.{CanCall, CallRow}
 use Rattle.txn.specs.Books.{AppendsTo, record_of}
 use Rattle.txn.specs.Waits.{Waiting, waiting}
-use Rattle.txn.specs.Views.{book_of}
+use Rattle.txn.specs.Views.{state_of, book_of}
+use Rattle.txn.proofs.Rows.{called_row}
 use Rattle.txn.proofs.BookLemmas.{appends}
 
 -- The call has a record.
@@ -31,6 +32,13 @@ pub at_once : (after : Call → Reply → List Call) → AfterAsTold after → (
 at_once after told c r None is none = sym (told c r) ∙ sym is
 at_once after told c r (Some d) is none = cc
 
+-- A call leaves nothing exactly where it leaves nothing to the commit.
+pub leaves_none : (after : Call → Reply → List Call) → AfterAsTold after → (c : Call) (r : Reply) (left : Option Call) (none : Bool) → option_to_list left ≡ after c r → is_some left ≡ not none → (none ≡ true) ↔ (left_by c r ≡ [])
+leaves_none after told c r None true is some = (λ no_one. sym (told c r) ∙ sym is, λ left. refl)
+leaves_none after told c r None false is some = cc
+leaves_none after told c r (Some d) true is some = cc
+leaves_none after told c r (Some d) false is some = (λ no_one. cc, λ left. let no : d ∷ [] ≡ [] = is ∙ told c r ∙ left in cc)
+
 -- What is not refused is done.
 pub use_ok : {T E : Type 0} (P : Type 0) (r : Result T E) → is_err r ≡ false → OnOk r P → P
 use_ok P (Ok x) e p = p
@@ -39,26 +47,17 @@ use_ok P (Err x) e p = cc
 module _ {S : Type 0} (answers : S → ℕ → Call → Reply → Type 0) (leaves : S → ℕ → Call → Reply → S) (belongs : S → ℕ → Call → Type 0) (need : Call → Reply → Need) (inverse : Call → Reply → Option Call)
     (now : S) (needs : Holdings) (log : Log) (w : Waiting) (wear places next n : ℕ) where
   -- The book once the call is made, noted and recorded.
-  pub call_done : (e : Event) (now' : S) (added : List _) (needs' : Holdings) (kept log' : Log) (reserved w' : Waiting) (entry : Record) → CanCall answers leaves belongs need (book_of now needs log w wear places next).state n e →
+  pub call_done : (e : Event) (now' : S) (added : List _) (needs' : Holdings) (kept log' : Log) (reserved w' : Waiting) (entry : Record) → CanCall answers leaves belongs need (state_of now needs log wear) n e →
       wear + 1 + (length log.entries + 1) ≤ 2 ^ 61 + 65536 → added ≡ needs.holds → IsAdded added needs'.holds (hold n e.at (need e.call e.reply)) → now' ≡ leaves now e.at e.call e.reply →
       kept.live ≡ log.live → kept.entries ≡ log.entries → log'.live ≡ kept.live → log'.entries ≡ kept.entries ++ (n, Asked e) ∷ [] → length (waiting w) < 16384 → entry ≡ record_of inverse n e →
       waiting reserved ≡ waiting w → reserved.handed ≡ w.handed → waiting w' ≡ waiting reserved ++ entry ∷ [] → w'.handed ≡ reserved.handed →
-      CallRow answers leaves belongs need (book_of now needs log w wear places next).state n e (book_of now' needs' log' w' (wear + 1) places next).state ×
+      CallRow answers leaves belongs need (state_of now needs log wear) n e (state_of now' needs' log' (wear + 1)) ×
       AppendsTo (book_of now needs log w wear places next) (record_of inverse n e) (book_of now' needs' log' w' (wear + 1) places next)
-  call_done e now' added needs' kept log' reserved w' entry can room same holds made live_kept entries_kept live entries few is waits handed written also =
-      let noted : log'.entries ≡ log.entries ++ (n, Asked e) ∷ [] = entries ∙ ap (λ l. l ++ (n, Asked e) ∷ []) entries_kept in
-      let lives : log'.live ≡ log.live = live ∙ live_kept in (
-        record {
-          can = can;
-          room = room;
-          holds = subst (λ l. IsAdded l needs'.holds (hold n e.at (need e.call e.reply))) same holds;
-          is = ap (λ v. let s : State S = record { now = v; live = log'.live; entries = log'.entries; holds = needs'.holds; wear = wear + 1 } in s) made
-              ∙ ap (λ v. let s : State S = record { now = leaves now e.at e.call e.reply; live = v; entries = log'.entries; holds = needs'.holds; wear = wear + 1 } in s) lives
-              ∙ ap (λ v. let s : State S = record { now = leaves now e.at e.call e.reply; live = log.live; entries = v; holds = needs'.holds; wear = wear + 1 } in s) noted;
-        },
-        record {
-          appends = appends now needs log w wear places next (record_of inverse n e) now' needs' log' w' (wear + 1) places next few
-              (written ∙ ap (λ r. waiting reserved ++ r ∷ []) is ∙ ap (λ l. l ++ record_of inverse n e ∷ []) waits) (also ∙ handed) (omega arith);
-          next = refl;
-        },
-      )
+  call_done e now' added needs' kept log' reserved w' entry can room same holds made live_kept entries_kept live entries few is waits handed written also = (
+    called_row now needs log wear n answers leaves belongs need e now' added needs' kept log' can room same holds made live_kept entries_kept live entries,
+    record {
+      appends = appends now needs log w wear places next (record_of inverse n e) now' needs' log' w' (wear + 1) places next few
+          (written ∙ ap (λ r. waiting reserved ++ r ∷ []) is ∙ ap (λ l. l ++ record_of inverse n e ∷ []) waits) (also ∙ handed) (omega arith);
+      next = refl;
+    },
+  )

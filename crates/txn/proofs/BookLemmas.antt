@@ -3,14 +3,14 @@ use Rattle.std.proofs.Common.{◌≡◌, ℕ, suc, ◌+◌, ◌<◌, true, false
 use Rattle.std.specs.Prelude.{IfSome, IfNone}
 use Rattle.std.specs.List.{AllByRecursion}
 use Rattle.std.specs.FinMap as maps
-use Rattle.calls.specs.Transactions.{Event, Entry, others}
+use Rattle.calls.specs.Transactions.{Event, Entry}
 use Rattle.calls.specs.Names.{IsName}
 use Rattle.calls.specs.declared.kind.Kind.{Kind}
 use Rattle.calls.specs.declared.refusal.Refusal.{Refusal}
 use Rattle.catalog.specs.Making as making
 use Rattle.catalog.specs.Making.{MakesNamed}
 use Rattle.abstract_locks.specs.declared.table.Hold.{Hold}
-use Rattle.abstract_locks.specs.Holds.{Holdings, IsGivenUp}
+use Rattle.abstract_locks.specs.Holds.{Holdings}
 use Rattle.undo_log.specs.Logs.{Log, Statuses}
 use Rattle.undo_log.specs.Entries.{HasNoCall, HasNewestCall}
 use Rattle.boosted.proofs.Each.{each_back}
@@ -18,12 +18,13 @@ use Rattle.records.specs.declared.record.Record.{Record}
 use Rattle.records.specs.Acts as acts
 use Rattle.records.specs.Records.{number}
 use Rattle.records.proofs.RecordLengths.{length-number}
-use Rattle.txn.specs.Machine.{State, IsLeft, MakeRow}
+use Rattle.txn.specs.Machine.{State, MakeRow}
 use Rattle.txn.specs.Books.{BookState, opened, Appends, AppendsTo, MakeRefused}
 use Rattle.txn.specs.Waits.{Waiting, waiting}
-use Rattle.txn.specs.Views.{book_of}
+use Rattle.txn.specs.Views.{state_of, book_of}
 use Rattle.txn.specs.declared.draft.Handed.{Handed}
 use Rattle.txn.specs.Theory.Journal as journal
+use Rattle.txn.proofs.Rows.{made_row}
 use Rattle.txn.proofs.Theory.Lists.{calls_append}
 use Rattle.txn.proofs.Owned.{no_call, newest_call}
 
@@ -48,22 +49,6 @@ module _ {S : Type 0} (now : S) (needs : Holdings) (log : Log) (w : Waiting) (we
       waiting w' ≡ waiting reserved ++ r ∷ [] → w'.handed ≡ reserved.handed → places' ≡ places + acts.places (r ∷ []) → Appends (book_of now needs log w wear places next) r (book_of now' needs' log' w' wear' places' next')
   recorded r now' needs' log' reserved w' wear' places' next' room waits handed written also counted =
       appends r now' needs' log' w' wear' places' next' room (written ∙ ap (λ l. l ++ r ∷ []) waits) (also ∙ handed) counted
-
-  -- A transaction is taken out.
-  pub left_is : (n : ℕ) (needs' : Holdings) (log' : Log) (w' : Waiting) (places' : ℕ) → log'.live ≡ maps.remove log.live n → log'.entries ≡ others n log.entries → IsGivenUp needs.holds needs'.holds n →
-      IsLeft (book_of now needs log w wear places next).state n (book_of now needs' log' w' wear places' next).state
-  left_is n needs' log' w' places' live entries given = record {
-    holds = given;
-    is = ap (λ v. let s : State S = record { now = now; live = v; entries = log'.entries; holds = needs'.holds; wear = wear } in s) live
-        ∙ ap (λ v. let s : State S = record { now = now; live = maps.remove log.live n; entries = v; holds = needs'.holds; wear = wear } in s) entries;
-  }
-
-  -- A transaction begins.
-  pub begun_is : (n : ℕ) (log' : Log) (w' : Waiting) (next' : ℕ) → log'.live ≡ maps.insert log.live n false → log'.entries ≡ log.entries →
-      (book_of now needs log' w' (wear + 1) places next').state ≡ record { now = now; live = maps.insert log.live n false; entries = log.entries; holds = needs.holds; wear = wear + 1 }
-  begun_is n log' w' next' live entries =
-      ap (λ v. let s : State S = record { now = now; live = v; entries = log'.entries; holds = needs.holds; wear = wear + 1 } in s) live
-      ∙ ap (λ v. let s : State S = record { now = now; live = maps.insert log.live n false; entries = v; holds = needs.holds; wear = wear + 1 } in s) entries
 
 -- a book with no live transaction and nothing pending
 pub opened_is : {S : Type 0} (now : S) (needs : Holdings) (log : Log) (w : Waiting) (wear next : ℕ) → needs.holds ≡ [] → log.live ≡ maps.empty → log.entries ≡ [] → waiting w ≡ [] → w.handed ≡ record { end = 0; place = 0 } →
@@ -96,10 +81,10 @@ one_found (Some x) P one there = (x, there)
 pub make_done : {S : Type 0} (names : S → List (List ℕ)) (makes : S → List ℕ → Kind → S → Type 0) (named : MakesNamed makes names) (now : S) (needs : Holdings) (log : Log) (w : Waiting) (wear places next : ℕ)
     (name : List ℕ) (kind : Kind) (now' : S) (at : ℕ) (reserved w' : Waiting) → IsName name → at ≡ length (names now) → at < 256 → makes now name kind now' → length (waiting w) < 16384 →
     waiting reserved ≡ waiting w → reserved.handed ≡ w.handed → waiting w' ≡ waiting reserved ++ Record.Make kind name ∷ [] → w'.handed ≡ reserved.handed →
-    MakeRow names makes (book_of now needs log w wear places next).state name kind (book_of now' needs log w' wear (places + 1) next).state ×
+    MakeRow names makes (state_of now needs log wear) name kind (state_of now' needs log wear) ×
     AppendsTo (book_of now needs log w wear places next) (Record.Make kind name) (book_of now' needs log w' wear (places + 1) next)
 make_done names makes named now needs log w wear places next name kind now' at reserved w' good is few made room waits handed written also = (
-  record { new = record { good = good; free = (named now now' name kind made).0; few = omega (arith, is, few) }; next = now'; made = made; is = refl },
+  made_row names makes named now needs log wear name kind now' at good is few made,
   record {
     appends = appends now needs log w wear places next (Record.Make kind name) now' needs log w' wear (places + 1) next room (written ∙ ap (λ l. l ++ Record.Make kind name ∷ []) waits) (also ∙ handed) (omega arith);
     next = refl;

@@ -8,11 +8,15 @@ pub mod Sizes
 pub mod Wearing
 pub mod Spelled
 pub mod BookLaws
+pub mod Upheld
 pub mod Kept
 pub mod Told
 pub mod Played
+pub mod Rows
 pub mod BookLemmas
 pub mod DraftLemmas
 pub mod PendingLemmas
 pub mod Undone
 pub mod Asked
+pub mod Alikes
+pub mod Rewinding

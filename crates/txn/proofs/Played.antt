@@ -1,4 +1,4 @@
--- What a history of a book comes to.
+-- What records, and a history of a book, come to.
 use Rattle.std.proofs.Common.{◌≡◌, ℕ, ◌+◌, ◌==◌, true, false, Option, inl, inr, ⊎_elim, Ok, Err, List, [], ◌∷◌, ◌++◌, map, length, refl, sym, ◌∙◌, ap, subst, arith, append_assoc}
 use Rattle.std.specs.List.{flat_map}
 use Rattle.std.specs.FinMap as maps
@@ -11,12 +11,15 @@ use Rattle.calls.specs.declared.reply.Reply.{Reply}
 use Rattle.calls.specs.declared.need.Need.{Need}
 use Rattle.calls.specs.declared.refusal.Refusal.{Refusal}
 use Rattle.calls.specs.Contents.{Collection, AnswersAt, after_at}
-use Rattle.calls.specs.Transactions.{Event, Entry, Asked, Leads, Transaction, Whole, Act, Makes, own, others, gather, commits, committed_after}
+use Rattle.calls.specs.Transactions.{Entry, Asked, Leads, Transaction, Whole, Act, Makes, Serial, own, others, gather, commits, committed_after, committed}
 use Rattle.boosted.proofs.Each.{weaker}
 use Rattle.boosted.proofs.Runs.{Leads-append}
-use Rattle.undo_log.specs.Logs.{Statuses, Lives, Falls}
-use Rattle.txn.specs.Machine.{State, IsSettled, IsRunning, IsLeft, BeginRow}
-use Rattle.txn.specs.Books.{BookState}
+use Rattle.undo_log.specs.Logs.{Statuses, Lives, Falls, fallen}
+use Rattle.records.specs.declared.record.Record.{Record}
+use Rattle.records.specs.Acts.{event_of, acts_of_record, acts_of}
+use Rattle.txn.specs.Machine.{State, IsSettled, IsRunning, IsLeft, BeginRow, FallRow, Steps}
+use Rattle.txn.specs.Machines.{resting}
+use Rattle.txn.specs.Books.{BookState, record_of}
 use Rattle.txn.specs.Histories.{Step, Make, Enter, Ask, Commit, Back, Ended, Cut, acts_of_step, RunsWhole, Acts, IsLegal, ComesTo}
 use Rattle.txn.specs.Sound.{IsSound}
 use Rattle.txn.specs.Theory.Rules.{RuleLaws}
@@ -46,23 +49,23 @@ own_of_rest k before x after other = ap (map (λ e. e.1)) (own_without number k 
 -- ---- acts one after another
 
 -- What is known of each number's entries after the acts.
-abbrev gathered : List (ℕ × Entry) → List Act → List (ℕ × Entry)
+abbrev pub gathered : List (ℕ × Entry) → List Act → List (ℕ × Entry)
 gathered es [] = es
 gathered es (a ∷ acts) = gathered (gather es a) acts
 
-committed_append : (acts more : List Act) (es : List (ℕ × Entry)) → committed_after es (acts ++ more) ≡ committed_after es acts ++ committed_after (gathered es acts) more
+pub committed_append : (acts more : List Act) (es : List (ℕ × Entry)) → committed_after es (acts ++ more) ≡ committed_after es acts ++ committed_after (gathered es acts) more
 committed_append [] more es = refl
 committed_append (a ∷ acts) more es =
     ap (λ l. commits es a ++ l) (committed_append acts more (gather es a)) ∙ sym (append_assoc (commits es a) (committed_after (gather es a) acts) (committed_after (gathered (gather es a) acts) more))
 
-gathered_append : (acts more : List Act) (es : List (ℕ × Entry)) → gathered es (acts ++ more) ≡ gathered (gathered es acts) more
+pub gathered_append : (acts more : List Act) (es : List (ℕ × Entry)) → gathered es (acts ++ more) ≡ gathered (gathered es acts) more
 gathered_append [] more es = refl
 gathered_append (a ∷ acts) more es = gathered_append acts more (gather es a)
 
 -- ---- who is running
 
 -- The entries are those of the state, of each transaction that is running.
-abbrev Tells : {S : Type 0} → List (ℕ × Entry) → State S → Type 0
+abbrev pub Tells : {S : Type 0} → List (ℕ × Entry) → State S → Type 0
 Tells es s = (n : ℕ) → IsRunning s n → own n es ≡ own n s.entries
 
 module _ {S : Type 0} (s : State S) (es : List (ℕ × Entry)) (tells : Tells es s) (n k : ℕ) where
@@ -92,143 +95,170 @@ module _ {S : Type 0} (s : State S) (es : List (ℕ × Entry)) (tells : Tells es
 
 module _ {S : Type 0} (answers : S → ℕ → Call → Reply → Type 0) (leaves : S → ℕ → Call → Reply → S) (makes : S → List ℕ → Kind → S → Type 0) (need : Call → Reply → Need) (inverse : Call → Reply → Option Call) (laws : RuleLaws (collection_rules answers leaves makes need inverse))
     (belongs : S → ℕ → Call → Type 0) (misplaced : S → ℕ → Call → Refusal → Type 0) (names : S → List (List ℕ)) where
-  abbrev Sound : State S → Type 0
+  abbrev pub Sound : State S → Type 0
   Sound s = IsSound answers leaves makes need inverse s
 
-  abbrev Settled : State S → S → Type 0
+  abbrev pub Settled : State S → S → Type 0
   Settled s c = IsSettled answers leaves s c
 
-  abbrev Runs : List Transaction → S → S → Type 0
+  abbrev pub Runs : List Transaction → S → S → Type 0
   Runs ts s t = Leads (RunsWhole answers leaves makes) ts s t
 
-  -- The steps that say the acts lead from the book b, where the entries es are known and d is the settled content, to the book c.
-  record IsPlayed (es : List (ℕ × Entry)) (acts : List Act) (b : BookState S) (d : S) (c : BookState S) : Type 0 where
-    sound : Sound c.state
-    tells : Tells (gathered es acts) c.state
-    content : S
-    runs : Runs (committed_after es acts) d content
-    settled : Settled c.state content
-    places : c.places ≡ b.places + length (committed_after es acts)
+  -- What says the acts leads from where the entries es are known and d is the settled content to the state t.
+  pub record IsPlayed (es : List (ℕ × Entry)) (acts : List Act) (d : S) (t : State S) : Type 0 where
+    pub sound : Sound t
+    pub tells : Tells (gathered es acts) t
+    pub content : S
+    pub runs : Runs (committed_after es acts) d content
+    pub settled : Settled t content
 
-  module _ (es : List (ℕ × Entry)) (b : BookState S) (sound : Sound b.state) (tells : Tells es b.state) (d : S) (settled : Settled b.state d) where
-    -- a step that says nothing
-    quiet : (c : BookState S) → Sound c.state → Tells es c.state → Settled c.state d → c.places ≡ b.places → IsPlayed es [] b d c
-    quiet c sound_then tells_then settled_then same =
-        record { sound = sound_then; tells = tells_then; content = d; runs = refl; settled = settled_then; places = omega arith }
+  module _ (es : List (ℕ × Entry)) (s : State S) (sound : Sound s) (tells : Tells es s) (d : S) (settled : Settled s d) where
+    -- nothing is said
+    quiet : (t : State S) → Sound t → Tells es t → Settled t d → IsPlayed es [] d t
+    quiet t sound_then tells_then settled_then = record { sound = sound_then; tells = tells_then; content = d; runs = refl; settled = settled_then }
 
-    refused : (c : BookState S) → c ≡ b → IsPlayed es [] b d c
-    refused c is = subst (IsPlayed es [] b d) (sym is) (quiet b sound tells settled refl)
+    stays : IsPlayed es [] d s
+    stays = quiet s sound tells settled
 
-    same_entries : (s t : State S) → t.live ≡ s.live → t.entries ≡ s.entries → Tells es s → Tells es t
-    same_entries s t live entries told n run =
-        told n (record { live = subst (λ v. Lives v n) live run.live; standing = λ falls. run.standing (subst (λ v. Falls v n) (sym live) falls) }) ∙ sym (ap (own n) entries)
+    same_entries : (t : State S) → t.live ≡ s.live → t.entries ≡ s.entries → Tells es t
+    same_entries t live entries n run =
+        tells n (record { live = subst (λ v. Lives v n) live run.live; standing = λ falls. run.standing (subst (λ v. Falls v n) (sym live) falls) }) ∙ sym (ap (own n) entries)
 
-    one : (step : Step) (c : BookState S) → Acts answers leaves makes belongs misplaced names need inverse b step c → IsPlayed es (acts_of_step step) b d c
-    one (Make name kind (Ok place)) c acts =
-        let row = acts.0 in
-        let made = steps.make_settles answers leaves makes need inverse laws b.state sound names name kind c.state d row settled in
+    -- a number falls
+    tells_fallen : (n : ℕ) (t : State S) → Lives s.live n → t.live ≡ fallen s.live n → ((k : ℕ) → (n ≡ k → ⊥) → own k s.entries ≡ own k t.entries) → Tells es t
+    tells_fallen n t lives live_is rest k run =
+        let still = stands_fallen s es tells n k t.live lives (live_is ∙ fallen_is s.live n lives) run.live run.standing in
+        tells k still.0 ∙ rest k still.1
+
+    -- a step of the machine
+    one_step : (r : Record) (t : State S) → Steps answers leaves belongs names makes need inverse s r t → IsPlayed es (acts_of_record r) d t
+    one_step (Record.Make kind name) t row =
+        let made = steps.make_settles answers leaves makes need inverse laws s sound names name kind t d row settled in
         record {
-          sound = steps.make_sound answers leaves makes need inverse laws b.state sound names name kind c.state row;
-          tells = same_entries b.state c.state (ap (λ v. v.live) row.is) (ap (λ v. v.entries) row.is) tells;
+          sound = steps.make_sound answers leaves makes need inverse laws s sound names name kind t row;
+          tells = same_entries t (ap (λ v. v.live) row.is) (ap (λ v. v.entries) row.is);
           content = made.0;
           runs = (made.0, made.1, refl);
           settled = made.2;
-          places = ap (λ v. v.places) acts.1.appends.is;
         }
-    one (Make name kind (Err e)) c acts = refused c acts.0
-    one (Enter n (Ok done)) c acts =
-        let row = acts.0 in
+    one_step (Record.Begin n) t row =
         let fresh = row.can.fresh in
-        let none : own n b.state.entries ≡ [] =
-        ap (map (λ e. e.1)) (none_own number n b.state.entries (weaker (λ e. Lives b.state.live e.0) (λ e. e.0 ≡ n → ⊥) (λ e lives same. fresh (subst (Lives b.state.live) same lives)) b.state.entries (steps.alive answers leaves makes need inverse laws b.state sound))) in
+        let none : own n s.entries ≡ [] =
+        ap (map (λ e. e.1)) (none_own number n s.entries (weaker (λ e. Lives s.live e.0) (λ e. e.0 ≡ n → ⊥) (λ e lives same. fresh (subst (Lives s.live) same lives)) s.entries (steps.alive answers leaves makes need inverse laws s sound))) in
         record {
-          sound = steps.begin_sound answers leaves makes need inverse laws b.state sound n c.state row;
-          tells = λ k run. tells_begun b.state es tells n k c.state fresh none row run;
+          sound = steps.begin_sound answers leaves makes need inverse laws s sound n t row;
+          tells = λ k run. tells_begun s es tells n k t fresh none row run;
           content = d;
           runs = refl;
-          settled = steps.begin_settles answers leaves makes need inverse laws b.state sound n c.state d row settled;
-          places = ap (λ v. v.places) acts.2.is;
+          settled = steps.begin_settles answers leaves makes need inverse laws s sound n t d row settled;
         }
-    one (Enter n (Err e)) c acts = refused c acts.0
-    one (Ask n at call (Ok reply)) c acts =
-        let e : Event = record { at = at; call = call; reply = reply } in
-        let row = acts.0 in
-        let before : (k : ℕ) → IsRunning c.state k → own k es ≡ own k b.state.entries = λ k run. tells k (record {
+    one_step (Record.Call c) t row =
+        let n = c.number in
+        let e = event_of c in
+        let before : (k : ℕ) → IsRunning t k → own k es ≡ own k s.entries = λ k run. tells k (record {
           live = subst (λ v. Lives v k) (ap (λ v. v.live) row.is) run.live;
           standing = λ falls. run.standing (subst (λ v. Falls v k) (sym (ap (λ v. v.live) row.is)) falls);
         }) in
         record {
-          sound = steps.call_sound answers leaves makes need inverse laws b.state sound belongs n e c.state row;
-          tells = λ k run. own_append k es ((n, Asked e) ∷ []) ∙ ap (λ l. l ++ own k ((n, Asked e) ∷ [])) (before k run) ∙ sym (own_append k b.state.entries ((n, Asked e) ∷ [])) ∙ sym (ap (λ v. own k v.entries) row.is);
+          sound = steps.call_sound answers leaves makes need inverse laws s sound belongs n e t row;
+          tells = λ k run. own_append k es ((n, Asked e) ∷ []) ∙ ap (λ l. l ++ own k ((n, Asked e) ∷ [])) (before k run) ∙ sym (own_append k s.entries ((n, Asked e) ∷ [])) ∙ sym (ap (λ v. own k v.entries) row.is);
           content = d;
           runs = refl;
-          settled = steps.call_settles answers leaves makes need inverse laws b.state sound belongs n e c.state d row settled;
-          places = ap (λ v. v.places) acts.2.appends.is;
+          settled = steps.call_settles answers leaves makes need inverse laws s sound belongs n e t d row settled;
         }
-    one (Ask n at call (Err e)) c acts = refused c acts.0
-    one (Commit n (Ok place)) c acts =
-        let row = acts.0 in
-        let run = steps.commit_settles answers leaves makes need inverse laws b.state sound n c.state d row settled in
+    one_step (Record.Commit n) t row =
+        let run = steps.commit_settles answers leaves makes need inverse laws s sound n t d row settled in
         record {
-          sound = steps.commit_sound answers leaves makes need inverse laws b.state sound n c.state row;
-          tells = λ k running. tells_left b.state es tells n k c.state row.left running;
+          sound = steps.commit_sound answers leaves makes need inverse laws s sound n t row;
+          tells = λ k running. tells_left s es tells n k t row.left running;
           content = run.0;
           runs = (run.0, subst (λ l. RunsWhole answers leaves makes d (Whole l) run.0) (sym (tells n row.running)) run.1, refl);
           settled = run.2;
-          places = ap (λ v. v.places) acts.1.appends.is;
         }
-    one (Commit n (Err e)) c acts = refused c acts.0
-    one (Back n (Ok true)) c acts =
-        let row = acts.0 in
+    one_step (Record.Back n) t row =
         let new = row.newest in
-        quiet c (steps.back_sound answers leaves makes need inverse laws b.state sound n c.state row)
-        (λ k run.
-        let still = stands_fallen b.state es tells n k c.state.live row.live (ap (λ v. v.live) row.is ∙ fallen_is b.state.live n row.live) run.live run.standing in
-        tells k still.0 ∙ ap (own k) new.is ∙ own_of_rest k new.before (n, Asked row.call) new.after still.1 ∙ ap (own k) (sym new.rest_is) ∙ sym (ap (λ v. own k v.entries) row.is))
-        (steps.back_settles answers leaves makes need inverse laws b.state sound n c.state d row settled)
-        (let places = ap (λ v. v.places) acts.1.appends.is in omega arith)
-    one (Back n (Ok false)) c acts =
-        let row = acts.0 in
-        quiet c (steps.fall_sound answers leaves makes need inverse laws b.state sound n c.state row)
-        (λ k run.
-        let still = stands_fallen b.state es tells n k c.state.live row.live (ap (λ v. v.live) row.is ∙ fallen_is b.state.live n row.live) run.live run.standing in
-        tells k still.0 ∙ sym (ap (λ v. own k v.entries) row.is))
-        (steps.fall_settles answers leaves makes need inverse laws b.state sound n c.state d row settled)
-        (ap (λ v. v.places) acts.2)
+        quiet t (steps.back_sound answers leaves makes need inverse laws s sound n t row)
+        (tells_fallen n t row.live (ap (λ v. v.live) row.is)
+        (λ k other. ap (own k) new.is ∙ own_of_rest k new.before (n, Asked row.call) new.after other ∙ ap (own k) (sym new.rest_is) ∙ sym (ap (λ v. own k v.entries) row.is)))
+        (steps.back_settles answers leaves makes need inverse laws s sound n t d row settled)
+    one_step (Record.Ended n) t row =
+        quiet t (steps.ended_sound answers leaves makes need inverse laws s sound n t row)
+        (λ k run. tells_left s es tells n k t row.left run)
+        (steps.ended_settles answers leaves makes need inverse laws s sound n t d row settled)
+    one_step other t row = absurd row
+
+    -- a number falls, without a record
+    one_fall : (n : ℕ) (t : State S) → FallRow s n t → IsPlayed es [] d t
+    one_fall n t row =
+        quiet t (steps.fall_sound answers leaves makes need inverse laws s sound n t row)
+        (tells_fallen n t row.live (ap (λ v. v.live) row.is) (λ k other. sym (ap (λ v. own k v.entries) row.is)))
+        (steps.fall_settles answers leaves makes need inverse laws s sound n t d row settled)
+
+  -- One after another.
+  played_both : (es : List (ℕ × Entry)) (acts rest : List Act) (d : S) (s t : State S) → (first : IsPlayed es acts d s) → IsPlayed (gathered es acts) rest first.content t → IsPlayed es (acts ++ rest) d t
+  played_both es acts rest d s t first more = record {
+    sound = more.sound;
+    tells = subst (λ l. Tells l t) (sym (gathered_append acts rest es)) more.tells;
+    content = more.content;
+    runs = subst (λ l. Runs l d more.content) (sym (committed_append acts rest es)) (Leads-append (RunsWhole answers leaves makes) (committed_after es acts) (committed_after (gathered es acts) rest) d first.content more.content first.runs more.runs);
+    settled = more.settled;
+  }
+
+  -- Records lead the settled content on by the transactions that they commit, each run whole, one after another.
+  pub all_repeated : (rs : List Record) (es : List (ℕ × Entry)) (s t : State S) (d : S) → Sound s → Tells es s → Settled s d → Leads (Steps answers leaves belongs names makes need inverse) rs s t → IsPlayed es (acts_of rs) d t
+  all_repeated [] es s t d sound tells settled leads = subst (IsPlayed es [] d) leads (stays es s sound tells d settled)
+  all_repeated (r ∷ rs) es s t d sound tells settled leads =
+      let first = one_step es s sound tells d settled r leads.0 leads.1 in
+      played_both es (acts_of_record r) (acts_of rs) d leads.0 t first (all_repeated rs (gathered es (acts_of_record r)) leads.0 t first.content first.sound first.tells first.settled leads.2)
+
+  -- The same of a book's steps, where the places count the transactions.
+  record IsBookPlayed (es : List (ℕ × Entry)) (acts : List Act) (b : BookState S) (d : S) (c : BookState S) : Type 0 where
+    played : IsPlayed es acts d c.state
+    places : c.places ≡ b.places + length (committed_after es acts)
+
+  module _ (es : List (ℕ × Entry)) (b : BookState S) (sound : Sound b.state) (tells : Tells es b.state) (d : S) (settled : Settled b.state d) where
+    -- a step that is recorded
+    recorded : (r : Record) (c : BookState S) → Steps answers leaves belongs names makes need inverse b.state r c.state → c.places ≡ b.places + length (committed_after es (acts_of_record r)) → IsBookPlayed es (acts_of_record r) b d c
+    recorded r c row places = record { played = one_step es b.state sound tells d settled r c.state row; places = places }
+
+    -- a step that says nothing
+    unheard : (c : BookState S) → IsPlayed es [] d c.state → c.places ≡ b.places → IsBookPlayed es [] b d c
+    unheard c played same = record { played = played; places = omega arith }
+
+    refused : (c : BookState S) → c ≡ b → IsBookPlayed es [] b d c
+    refused c is = subst (IsBookPlayed es [] b d) (sym is) (unheard b (stays es b.state sound tells d settled) refl)
+
+    one : (step : Step) (c : BookState S) → Acts answers leaves makes belongs misplaced names need inverse b step c → IsBookPlayed es (acts_of_step step) b d c
+    one (Make name kind (Ok place)) c acts = recorded (Record.Make kind name) c acts.0 (ap (λ v. v.places) acts.1.appends.is)
+    one (Make name kind (Err e)) c acts = refused c acts.0
+    one (Enter n (Ok done)) c acts = recorded (Record.Begin n) c acts.0 (ap (λ v. v.places) acts.2.is)
+    one (Enter n (Err e)) c acts = refused c acts.0
+    one (Ask n at call (Ok reply)) c acts = recorded (record_of inverse n (record { at = at; call = call; reply = reply })) c acts.0 (ap (λ v. v.places) acts.2.appends.is)
+    one (Ask n at call (Err e)) c acts = refused c acts.0
+    one (Commit n (Ok place)) c acts = recorded (Record.Commit n) c acts.0 (ap (λ v. v.places) acts.1.appends.is)
+    one (Commit n (Err e)) c acts = refused c acts.0
+    one (Back n (Ok true)) c acts = recorded (Record.Back n) c acts.0 (ap (λ v. v.places) acts.1.appends.is)
+    one (Back n (Ok false)) c acts = unheard c (one_fall es b.state sound tells d settled n c.state acts.0) (ap (λ v. v.places) acts.2)
     one (Back n (Err e)) c acts = refused c acts.0
-    one (Ended n (Ok done)) c acts =
-        let row = acts.0 in
-        quiet c (steps.ended_sound answers leaves makes need inverse laws b.state sound n c.state row)
-        (λ k run. tells_left b.state es tells n k c.state row.left run)
-        (steps.ended_settles answers leaves makes need inverse laws b.state sound n c.state d row settled)
-        (let places = ap (λ v. v.places) acts.1.appends.is in omega arith)
+    one (Ended n (Ok done)) c acts = recorded (Record.Ended n) c acts.0 (ap (λ v. v.places) acts.1.appends.is)
     one (Ended n (Err e)) c acts = refused c acts.0
     one (Cut a) c acts =
         let is = acts.2.1 in
-        quiet c (subst Sound (sym (ap (λ v. v.state) is)) sound) (subst (Tells es) (sym (ap (λ v. v.state) is)) tells) (subst (λ v. Settled v d) (sym (ap (λ v. v.state) is)) settled) (ap (λ v. v.places) is)
+        unheard c (subst (IsPlayed es [] d) (sym (ap (λ v. v.state) is)) (stays es b.state sound tells d settled)) (ap (λ v. v.places) is)
 
   -- A history leads the settled content on by the transactions that it commits, each run whole, one after another.
   all_played : (steps : List Step) (es : List (ℕ × Entry)) (b c : BookState S) (d : S) → Sound b.state → Tells es b.state → Settled b.state d → IsLegal answers leaves makes belongs misplaced names need inverse b steps c →
-      IsPlayed es (flat_map acts_of_step steps) b d c
-  all_played [] es b c d sound tells settled legal =
-      subst (IsPlayed es [] b d) legal (record { sound = sound; tells = tells; content = d; runs = refl; settled = settled; places = omega arith })
+      IsBookPlayed es (flat_map acts_of_step steps) b d c
+  all_played [] es b c d sound tells settled legal = subst (IsBookPlayed es [] b d) legal (unheard es b sound tells d settled b (stays es b.state sound tells d settled) refl)
   all_played (step ∷ steps) es b c d sound tells settled legal =
       let acts = acts_of_step step in
       let rest = flat_map acts_of_step steps in
       let first = one es b sound tells d settled step legal.0 legal.1 in
-      let more = all_played steps (gathered es acts) legal.0 c first.content first.sound first.tells first.settled legal.2 in
-      let parts = committed_append acts rest es in
-      let count = ap length parts ∙ append_length (committed_after es acts) (committed_after (gathered es acts) rest) in
+      let more = all_played steps (gathered es acts) legal.0 c first.played.content first.played.sound first.played.tells first.played.settled legal.2 in
+      let count = ap length (committed_append acts rest es) ∙ append_length (committed_after es acts) (committed_after (gathered es acts) rest) in
       let places_first = first.places in
       let places_more = more.places in
-      record {
-        sound = more.sound;
-        tells = subst (λ l. Tells l c.state) (sym (gathered_append acts rest es)) more.tells;
-        content = more.content;
-        runs = subst (λ l. Runs l d more.content) (sym parts) (Leads-append (RunsWhole answers leaves makes) (committed_after es acts) (committed_after (gathered es acts) rest) d first.content more.content first.runs more.runs);
-        settled = more.settled;
-        places = omega arith;
-      }
+      record { played = played_both es acts rest d legal.0.state c.state first.played more.played; places = omega arith }
 
   module _ (collections : S → List Collection)
       (answers_as_told : (s : S) (at : ℕ) (c : Call) (r : Reply) → answers s at c r → AnswersAt (collections s) at c r)
@@ -241,11 +271,22 @@ module _ {S : Type 0} (answers : S → ℕ → Call → Reply → Type 0) (leave
         let none = none_live answers leaves makes need inverse laws b.state sound sound.content empty sound.settled in
         let settled : Settled b.state b.state.now = subst (Settled b.state) none.1 sound.settled in
         let tells : Tells [] b.state = λ n run. sym (ap (own n) none.0) in
-        let played = all_played steps [] b c b.state.now sound tells settled legal in
+        let all = all_played steps [] b c b.state.now sound tells settled legal in
+        let played = all.played in
         record {
           is_kept = played.sound;
           content = played.content;
           is_settled = played.settled;
           serial = serial_told answers leaves makes collections answers_as_told leaves_as_told makes_as_told (committed_after [] (flat_map acts_of_step steps)) b.state.now played.content played.runs;
-          places = played.places;
+          places = all.places;
         }
+
+    -- What records come to that lead from no live transaction to none.
+    pub records_serial : (start : S) (wear : ℕ) (rs : List Record) (t : State S) → Leads (Steps answers leaves belongs names makes need inverse) rs (resting start wear) t → t.live ≡ maps.empty →
+        Serial (committed (acts_of rs)) (collections start) (collections t.now)
+    records_serial start wear rs t leads empty =
+        let sound = steps.opened_sound answers leaves makes need inverse laws start wear in
+        let played = all_repeated rs [] (resting start wear) t start sound (λ n run. refl) refl leads in
+        let none = none_live answers leaves makes need inverse laws t played.sound played.content empty played.settled in
+        let told = serial_told answers leaves makes collections answers_as_told leaves_as_told makes_as_told (committed_after [] (acts_of rs)) start played.content played.runs in
+        subst (λ c. Serial (committed (acts_of rs)) (collections start) (collections c)) none.1 told

@@ -9,7 +9,7 @@ use Rattle.undo_log.specs.Entries.{IsNewestCall}
 use Rattle.boosted.specs.Shape.{Does, Undoes}
 use Rattle.boosted.proofs.Each.{each_back, each_filter, each_rest}
 use Rattle.records.specs.Short.{IsShortReply}
-use Rattle.txn.specs.Books.{IsShortEntry}
+use Rattle.txn.specs.Machines.{IsShortEntry}
 
 abbrev AreShort : List (ℕ × Entry) → Type 0
 AreShort es = AllByRecursion (λ e. IsShortEntry e.1) es

@@ -1,5 +1,5 @@
 -- The newest call of a transaction is undone.
-use Rattle.std.proofs.Common.{◌≡◌, ℕ, ◌==◌, ◌+◌, ◌<◌, Bool, true, false, Option, Some, None, IfSome, IfNone, List, [], ◌∷◌, ◌++◌, length, map, cond, refl, sym, ◌∙◌, ap, subst, arith}
+use Rattle.std.proofs.Common.{◌≡◌, ℕ, ◌==◌, ◌+◌, ◌<◌, Bool, true, false, Option, Some, None, is_some, ◌↔◌, IfSome, IfNone, List, [], ◌∷◌, ◌++◌, length, map, cond, refl, sym, ◌∙◌, ap, subst, arith}
 use Rattle.std.proofs.lemmas.Bool.{eq-eqb}
 use Rattle.std.specs.List.{filter}
 use Rattle.calls.specs.declared.call.Call.{Call}
@@ -15,7 +15,7 @@ use Rattle.records.specs.declared.record.Record.{Record}
 use Rattle.txn.specs.Machine.{State, BackRow, FallRow}
 use Rattle.txn.specs.Books.{AppendsTo}
 use Rattle.txn.specs.Waits.{Waiting, waiting}
-use Rattle.txn.specs.Views.{book_of}
+use Rattle.txn.specs.Views.{state_of, book_of}
 use Rattle.txn.proofs.BookLemmas.{appends}
 
 none_behind : (b : Bool) (n k : ℕ) (e : Entry) (rest : List (ℕ × Entry)) → calls_of (map (λ x. x.1) (cond b ((k, e) ∷ filter (λ x. x.0 == n) rest) (filter (λ x. x.0 == n) rest))) ≡ [] → HasNoCall n rest
@@ -68,39 +68,65 @@ popped_rest n es left x rest (Some l) newest found none = (newest_once n es (eve
 popped_rest n es left x rest None newest found none = absurd (has_call n newest.before newest.after x (subst (HasNoCall n) newest.is none))
 
 module _ {S : Type 0} (answers : S → ℕ → Call → Reply → Type 0) (leaves : S → ℕ → Call → Reply → S) (inverse : Call → Reply → Option Call)
+    (now : S) (needs : Holdings) (log : Log) (wear n : ℕ) where
+  -- The newest call is undone and taken out.
+  pub undone_row : (x : Event) (now' : S) (popped log' : Log) (taken : Option Logged) → Lives log.live n → HasNewestCall n log.entries x →
+      Undoes (shape.Does answers leaves) inverse now x.at x.call x.reply now' → IfSome taken (λ l. IsNewestCall n log.entries (event_of l) popped.entries) → IfNone taken (HasNoCall n log.entries) →
+      popped.live ≡ log.live → log'.live ≡ fallen popped.live n → log'.entries ≡ popped.entries → BackRow answers leaves inverse (state_of now needs log wear) n (state_of now' needs log' (wear + 1))
+  undone_row x now' popped log' taken live newest undone found none same falls rest =
+      let left : log'.entries ≡ newest.0 = rest ∙ popped_rest n log.entries popped.entries x newest.0 taken newest.1 found none in
+      let fell : log'.live ≡ fallen log.live n = falls ∙ ap (λ v. fallen v n) same in
+      record {
+        live = live;
+        call = x;
+        rest = newest.0;
+        newest = newest.1;
+        next = now';
+        undoes = undone;
+        is = ap (λ v. let s : State S = record { now = now'; live = v; entries = log'.entries; holds = needs.holds; wear = wear + 1 } in s) fell
+            ∙ ap (λ v. let s : State S = record { now = now'; live = fallen log.live n; entries = v; holds = needs.holds; wear = wear + 1 } in s) left;
+      }
+
+module _ {S : Type 0} (answers : S → ℕ → Call → Reply → Type 0) (leaves : S → ℕ → Call → Reply → S) (inverse : Call → Reply → Option Call)
     (now : S) (needs : Holdings) (log : Log) (w : Waiting) (wear places next n : ℕ) where
   -- The book once the newest call is undone, taken out and recorded.
   pub back_done : (x : Event) (now' : S) (popped log' : Log) (reserved w' : Waiting) (taken : Option Logged) → Lives log.live n → length (waiting w) < 16384 → HasNewestCall n log.entries x →
       Undoes (shape.Does answers leaves) inverse now x.at x.call x.reply now' → IfSome taken (λ l. IsNewestCall n log.entries (event_of l) popped.entries) → IfNone taken (HasNoCall n log.entries) →
       popped.live ≡ log.live → log'.live ≡ fallen popped.live n → log'.entries ≡ popped.entries → waiting reserved ≡ waiting w → reserved.handed ≡ w.handed → waiting w' ≡ waiting reserved ++ Record.Back n ∷ [] → w'.handed ≡ reserved.handed →
-      BackRow answers leaves inverse (book_of now needs log w wear places next).state n (book_of now' needs log' w' (wear + 1) places next).state ×
+      BackRow answers leaves inverse (state_of now needs log wear) n (state_of now' needs log' (wear + 1)) ×
       AppendsTo (book_of now needs log w wear places next) (Record.Back n) (book_of now' needs log' w' (wear + 1) places next)
-  back_done x now' popped log' reserved w' taken live room newest undone found none same falls rest waits handed written also =
-      let left : log'.entries ≡ newest.0 = rest ∙ popped_rest n log.entries popped.entries x newest.0 taken newest.1 found none in
-      let fell : log'.live ≡ fallen log.live n = falls ∙ ap (λ v. fallen v n) same in (
-        record {
-          live = live;
-          call = x;
-          rest = newest.0;
-          newest = newest.1;
-          next = now';
-          undoes = undone;
-          is = ap (λ v. let s : State S = record { now = now'; live = v; entries = log'.entries; holds = needs.holds; wear = wear + 1 } in s) fell
-              ∙ ap (λ v. let s : State S = record { now = now'; live = fallen log.live n; entries = v; holds = needs.holds; wear = wear + 1 } in s) left;
-        },
-        record {
-          appends = appends now needs log w wear places next (Record.Back n) now' needs log' w' (wear + 1) places next room (written ∙ ap (λ l. l ++ Record.Back n ∷ []) waits) (also ∙ handed) (omega arith);
-          next = refl;
-        },
-      )
+  back_done x now' popped log' reserved w' taken live room newest undone found none same falls rest waits handed written also = (
+    undone_row answers leaves inverse now needs log wear n x now' popped log' taken live newest undone found none same falls rest,
+    record {
+      appends = appends now needs log w wear places next (Record.Back n) now' needs log' w' (wear + 1) places next room (written ∙ ap (λ l. l ++ Record.Back n ∷ []) waits) (also ∙ handed) (omega arith);
+      next = refl;
+    },
+  )
 
-module _ {S : Type 0} (now : S) (needs : Holdings) (log : Log) (w : Waiting) (wear places next n : ℕ) where
-  -- The book where nothing is left to undo.
+module _ {S : Type 0} (now : S) (needs : Holdings) (log : Log) (wear n : ℕ) where
+  -- Nothing is left to undo.
   pub fall_done : (log' : Log) → Lives log.live n → HasNoCall n log.entries → log'.live ≡ fallen log.live n → log'.entries ≡ log.entries →
-      FallRow (book_of now needs log w wear places next).state n (book_of now needs log' w wear places next).state
+      FallRow (state_of now needs log wear) n (state_of now needs log' wear)
   fall_done log' live none falls same = record {
     live = live;
     undone = none;
     is = ap (λ v. let s : State S = record { now = now; live = v; entries = log'.entries; holds = needs.holds; wear = wear } in s) falls
         ∙ ap (λ v. let s : State S = record { now = now; live = fallen log.live n; entries = v; holds = needs.holds; wear = wear } in s) same;
   }
+
+-- Whether a number has a call is decided.
+pub some_or_none : (n : ℕ) (es : List (ℕ × Entry)) → ((HasNoCall n es → ⊥) → ⊥) → HasNoCall n es
+some_or_none n es twice = by (calls_of (own n es)) refl
+  where
+    by : (l : List Event) → calls_of (own n es) ≡ l → HasNoCall n es
+    by [] is = is
+    by (x ∷ xs) is = absurd (twice (λ none. let no : x ∷ xs ≡ [] = sym is ∙ none in cc))
+
+-- A call is found exactly where there is one.
+pub call_there : {X : Type 0} (n : ℕ) (es : List (ℕ × Entry)) (event : X → Event) (found : Option X) → IfSome found (λ l. HasNewestCall n es (event l)) → IfNone found (HasNoCall n es) → (is_some found ≡ true) ↔ (HasNoCall n es → ⊥)
+call_there n es event None there none = (λ some. cc, λ one. absurd (one none))
+call_there n es event (Some l) there none = (λ some no. has_call n there.1.before there.1.after (event l) (subst (HasNoCall n) there.1.is no), λ one. refl)
+
+-- Where a call is undone there is one.
+pub undoes_call : {S : Type 0} (answers : S → ℕ → Call → Reply → Type 0) (leaves : S → ℕ → Call → Reply → S) (inverse : Call → Reply → Option Call) (s : State S) (n : ℕ) (t : State S) → BackRow answers leaves inverse s n t → HasNoCall n s.entries → ⊥
+undoes_call answers leaves inverse s n t row none = has_call n row.newest.before row.newest.after row.call (subst (HasNoCall n) row.newest.is none)

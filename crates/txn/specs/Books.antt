@@ -9,7 +9,7 @@ use Rattle.calls.specs.declared.need.Need.{Need}
 use Rattle.calls.specs.declared.refusal.Refusal.{Refusal}
 use Rattle.calls.specs.Names.{IsName}
 use Rattle.calls.specs.Laters.{left_by}
-use Rattle.calls.specs.Transactions.{Event, Entry, Asked, PutOff, own}
+use Rattle.calls.specs.Transactions.{Event, own}
 use Rattle.abstract_locks.specs.Holds.{IsBusy}
 use Rattle.undo_log.specs.Entries.{HasNoCall}
 use Rattle.undo_log.specs.Logs.{Lives, Falls}
@@ -19,8 +19,8 @@ use Rattle.gate_block.specs.Row.{IsBlockOf}
 use Rattle.records.specs.declared.record.Record.{Record}
 use Rattle.records.specs.Acts.{places}
 use Rattle.records.specs.Records.{call_record, spelled, spelling, IsRecord, IsNumber}
-use Rattle.records.specs.Short.{IsShortReply}
 use Rattle.txn.specs.Machine.{State, IsRunning, CanBegin, BeginRow, CommitRow, EndedRow, FallRow, MakeRow, CallRow, BackRow}
+use Rattle.txn.specs.Machines.{resting, IsUpheld}
 use Rattle.txn.specs.declared.block.Block.{Block}
 
 pub record BookState (S : Type 0) : Type 0 where
@@ -38,7 +38,7 @@ pub record BookState (S : Type 0) : Type 0 where
 -- a book that was opened
 abbrev pub opened : {S : Type 0} → S → (next wear : ℕ) → BookState S
 opened now next wear = record {
-  state = record { now = now; live = maps.empty; entries = []; holds = []; wear = wear };
+  state = resting now wear;
   pending = [];
   end = 0;
   place = 0;
@@ -205,26 +205,14 @@ CutAnswers b waiting full result waits c =
 
 -- ---- what holds of every book
 
--- No value in the reply to a call is too long to be spelled.
-abbrev pub IsShortEntry : Entry → Type 0
-IsShortEntry (Asked e) = IsShortReply e.reply
-IsShortEntry (PutOff at c) = Unit {0}
-
 -- short: no value in the collections is too long to be spelled. sound: what holds of every state that the machine reaches.
 module _ {S : Type 0} (names : S → List (List ℕ)) (within : S → ℕ → Type 0) (short : S → Type 0) (sound : State S → Type 0) where
   pub record IsKept (b : BookState S) : Type 0 where
     pub records : AllByRecursion (IsRecord None) b.pending
     pub few_pending : length b.pending ≤ 16384
-    pub few_live : maps.len b.state.live ≤ 64
-    pub few_calls : (n : ℕ) → length (own n b.state.entries) ≤ 1024
-    pub few_names : length (names b.state.now) ≤ 256
-    pub reached : within b.state.now b.state.wear
-    pub unworn : b.state.wear + length b.state.entries ≤ 2 ^ 61 + 65536
-    pub numbers : (n : ℕ) → Lives b.state.live n → IsNumber n × (n < b.next)
+    pub upheld : IsUpheld names within short sound b.state
+    pub below : (n : ℕ) → Lives b.state.live n → n < b.next
     pub next : (1 ≤ b.next) × (b.next ≤ 2 ^ 61)
-    pub spells : short b.state.now
-    pub replies : AllByRecursion (λ e. IsShortEntry e.1) b.state.entries
-    pub holds : sound b.state
     -- a record is a unit of wear, the one Commit or Ended of a Begin, or a Make
     pub positions : b.end + length b.pending + maps.len b.state.live ≤ 2 * b.state.wear + length (names b.state.now)
     pub placed : b.place + places b.pending ≡ b.places

@@ -1,6 +1,7 @@
 pub mod Theory
 pub mod Wholes
 pub mod Machine
+pub mod Machines
 pub mod Sound
 pub mod Books
 pub mod Histories

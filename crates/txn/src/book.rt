@@ -11,11 +11,13 @@ ghost use Rattle.records.specs.Acts.{event_of};
 ghost use Rattle.records.specs.Records.{call_record, FitsCall, FitsReply};
 ghost use Rattle.records.specs.Short.{AreShort, IsShortReply};
 ghost use Rattle.txn.specs.Machine.{IsRunning, IsSettled};
-ghost use Rattle.txn.specs.Books.{opened, IsOpen, IsFull, RunRefused, CanEnter, EnterRefused, CallRefused, MakeAnswers, EnterAnswers, CallAnswers, CommitAnswers, BackAnswers, EndedAnswers, CutAnswers};
+ghost use Rattle.txn.specs.Books.{opened, IsKept, IsOpen, IsFull, RunRefused, CanEnter, EnterRefused, CallRefused, MakeAnswers, EnterAnswers, CallAnswers, CommitAnswers, BackAnswers, EndedAnswers, CutAnswers};
 ghost use Rattle.txn.specs.Histories.{RunsWhole};
+ghost use Rattle.txn.specs.Sound.{IsSound};
 
 use crate::block::Outbox;
 use crate::pending::Pending;
+use crate::undoing::undo;
 use abstract_locks::NeedTable;
 use calls::limits::{MAX_CALLS, MAX_LIVE, MAX_PENDING, NUMBER_END};
 use calls::{Call, Kind, Name, Refusal, Reply, check_name};
@@ -104,6 +106,14 @@ impl<B: Parts + Coded> Book<B> {
         ensures { result ≡ self.now.next }
     {
         self.next
+    }
+
+    /// What holds of every book: its records have a spelling, its counts and numbers are in range, and what the laws of
+    /// the collections give. It does nothing.
+    pub fn upheld(&self)
+        ensures { IsKept B.names B.within (λ s. AreShort (B.collections s)) (IsSound B.answers B.leaves B.makes B.need B.inverse) self.now }
+    {
+        let _ = &self.places;
     }
 
     /// The collection of the name, as `Parts::find` answers. This is no step.
@@ -371,20 +381,4 @@ fn note_call(live: &mut Live, entry: Record)
         reply,
     };
     live.push_call(number, logged);
-}
-
-// Takes a call back.
-fn undo<B: Parts + Coded>(parts: &mut B, newest: &Logged) -> Result<(), Refusal>
-    requires askable { Askable newest.now.call }
-    requires undoes { (before : B) × Undoes (Does B.answers B.leaves) B.inverse parts.old newest.now.at newest.now.call newest.now.reply before }
-    requires room { HasRoom B.within parts.old }
-    ensures ok { OnOk result (Undoes (Does B.answers B.leaves) B.inverse parts.old newest.now.at newest.now.call newest.now.reply parts.new) }
-    ensures err { OnErr result (parts.new ≡ parts.old) }
-    ensures refusal { IsOkUnless result Refusal.NoMemory }
-{
-    let Some(call) = B::inverse(&newest.call, &newest.reply)? else {
-        return Ok(());
-    };
-    let reply = parts.look(newest.at, &call)?;
-    parts.run(newest.at, &call, &reply)
 }

@@ -1,7 +1,9 @@
 // What clients are answered, step by step, which blocks are handed over, and a plain serial store beside the book.
 mod cuts;
+mod machines;
 mod refusals;
 mod rows;
+mod serial;
 
 use crate::*;
 use calls::{Bytes, Call, Kind, Refusal, Reply};

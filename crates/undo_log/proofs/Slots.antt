@@ -1,6 +1,7 @@
 -- The live transactions in the slots, seen as a finite map, and who has room.
-use Rattle.std.proofs.Common.{◌≡◌, ◌≢◌, ℕ, suc, zero, ◌<◌, ◌+◌, ◌⊎◌, inl, inr, ⊎_elim, Bool, true, false, cond, Option, Some, None, is_some, List, [], ◌∷◌, map, get_or, count_by, refl, sym, ap, subst, ◌∙◌, ltb, arith}
+use Rattle.std.proofs.Common.{◌≡◌, ◌≢◌, ℕ, suc, zero, ◌<◌, ◌≤◌, ◌+◌, min, IfSome, IfNone, ◌⊎◌, inl, inr, ⊎_elim, Bool, true, false, cond, Option, Some, None, is_some, List, [], ◌∷◌, map, get_or, count_by, refl, sym, ap, subst, ◌∙◌, ltb, arith}
 use Rattle.std.specs.List.{Contains}
+use Rattle.std.specs.Option.{option_map_or}
 use Rattle.std.specs.Ordering.{nat_cmp}
 use Rattle.std.specs.Cmp.{nat_cmp_total}
 use Rattle.std.specs.FinMap as maps
@@ -10,7 +11,7 @@ use Rattle.std.proofs.lemmas.List.Elements.{Contains-push, Contains-push_cases, 
 use Rattle.slab.specs.Slab.{Slab, get, Updates}
 use Rattle.calls.proofs.Points.{get_insert, get_insert_other, get_remove, get_remove_other}
 use Rattle.undo_log.specs.declared.live.Transaction.{Transaction}
-use Rattle.undo_log.specs.Logs.{Statuses, statuses, live_of, rooms_of, fallen, EachOnce, IsSlotOf}
+use Rattle.undo_log.specs.Logs.{Statuses, statuses, live_of, rooms_of, fallen, EachOnce, IsSlotOf, IsLeastLive, IsLeastSlot}
 
 abbrev Once : List (Option Transaction) → Type 0
 Once slots = (i j : ℕ) (t u : Transaction) → get_or slots i None ≡ Some t → get_or slots j None ≡ Some u → t.number ≡ u.number → i ≡ j
@@ -228,3 +229,57 @@ fallen_there live n b h = ap (λ x. cond x (maps.insert live n true) live) (ap i
 
 pub fallen_absent : (live : Statuses) (n : ℕ) → maps.get live n ≡ None → fallen live n ≡ live
 fallen_absent live n h = ap (λ x. cond x (maps.insert live n true) live) (ap is_some h)
+
+-- The least number so far, if there is one, is not above the number.
+abbrev pub Bounds : Option ℕ → ℕ → Type 0
+Bounds None m = ⊥
+Bounds (Some n) m = n ≤ m
+
+-- one number more is looked at: the least so far is not above it, nor above what it was not above before,
+pub bounds_this : (least : Option ℕ) (m : ℕ) → Bounds (Some (option_map_or (min m) least m)) m
+bounds_this None m = omega arith
+bounds_this (Some n) m = omega arith
+
+pub bounds_more : (least : Option ℕ) (m k : ℕ) → Bounds least k → Bounds (Some (option_map_or (min m) least m)) k
+bounds_more None m k b = absurd b
+bounds_more (Some n) m k b = omega arith
+
+-- and is one of those that were looked at
+pub least_is_one : (P : ℕ → Type 0) (least : Option ℕ) (m : ℕ) → IfSome least P → P m → P (option_map_or (min m) least m)
+least_is_one P None m p q = q
+least_is_one P (Some n) m p q = ⊎_elim (λ (same : min m n ≡ m). subst P (sym same) q) (λ (other : min m n ≡ m → ⊥). let is : min m n ≡ n = omega arith in subst P (sym is) p) (cases_eq (min m n) m)
+
+-- the least number in the slots is the least that is live
+pub least_live : (s : Slab Transaction) → EachOnce s → (n : ℕ) → IsLeastSlot s n → IsLeastLive (live_of s.slots) n
+least_live s once n least = record {
+  lives = ap is_some (slot_live s once n least.key least.there.0 least.there.1 least.there.2);
+  least = λ m lives. lives_in m (maps.get (live_of s.slots) m) refl lives;
+}
+  where
+    lives_in : (m : ℕ) (o : Option Bool) → maps.get (live_of s.slots) m ≡ o → is_some o ≡ true → n ≤ m
+    lives_in m None is lives = cc
+    lives_in m (Some b) is lives = let r = from_live s m b is in subst (λ k. n ≤ k) r.3 (least.least r.0 r.1 r.2)
+
+-- nobody is live where the slots are empty
+pub none_in_slots : (s : Slab Transaction) → ((key : ℕ) (t : Transaction) → get s key ≡ Some t → ⊥) → live_of s.slots ≡ maps.empty
+none_in_slots s free =
+    same_statuses (live_of s.slots) maps.empty
+    (λ q b h. let r = from_live s q b h in absurd (free r.0 r.1 r.2))
+    (λ q b h. let none = maps.get-empty {X = Bool} nat_cmp q in let no : None ≡ Some b = sym none ∙ h in cc)
+
+-- the same of what was found
+pub least_slot : (s : Slab Transaction) (least : Option ℕ) → ((k : ℕ) (t : Transaction) → get s k ≡ Some t → Bounds least t.number) → IfSome least (λ n. (k : ℕ) × IsSlotOf s n k) → IfSome least (IsLeastSlot s)
+least_slot s None bounds one = tt
+least_slot s (Some n) bounds one = record { key = one.0; there = one.1; least = bounds }
+
+pub no_slot : (s : Slab Transaction) (least : Option ℕ) → ((k : ℕ) (t : Transaction) → get s k ≡ Some t → Bounds least t.number) → IfNone least ((key : ℕ) (t : Transaction) → get s key ≡ Some t → ⊥)
+no_slot s None bounds = bounds
+no_slot s (Some n) bounds = tt
+
+pub least_found : (s : Slab Transaction) → EachOnce s → (least : Option ℕ) → IfSome least (IsLeastSlot s) → IfSome least (IsLeastLive (live_of s.slots))
+least_found s once None found = tt
+least_found s once (Some n) found = least_live s once n found
+
+pub least_none : (s : Slab Transaction) (least : Option ℕ) → IfNone least ((key : ℕ) (t : Transaction) → get s key ≡ Some t → ⊥) → IfNone least (live_of s.slots ≡ maps.empty)
+least_none s None none = none_in_slots s none
+least_none s (Some n) none = tt

@@ -1,5 +1,5 @@
 -- The live transactions, which of them are falling, and what they asked for.
-use Rattle.std.specs.Prelude.{◌≡◌, ℕ, Bool, true, IsTrue, Option, Some, None, List, [], ◌∷◌, map, Contains, nat_lt, if◌then◌else◌}
+use Rattle.std.specs.Prelude.{◌≡◌, ℕ, ◌≤◌, Bool, true, IsTrue, Option, Some, None, List, [], ◌∷◌, map, Contains, nat_lt, if◌then◌else◌}
 use Rattle.std.specs.Ordering.{nat_cmp}
 use Rattle.std.specs.FinMap as maps
 use Rattle.slab.specs.Slab.{Slab, get}
@@ -20,6 +20,11 @@ pub record Log : Type 0 where
 -- The transaction is live.
 abbrev pub Lives : Statuses → ℕ → Type 0
 Lives live n = IsTrue (maps.contains_key live n)
+
+-- It is the least number that is live.
+pub record IsLeastLive (live : Statuses) (n : ℕ) : Type 0 where
+  pub lives : Lives live n
+  pub least : (m : ℕ) → Lives live m → n ≤ m
 
 abbrev pub IsLive : Log → ℕ → Type 0
 IsLive log n = Lives log.live n
@@ -64,3 +69,9 @@ EachOnce slots = (i j : ℕ) (t u : Transaction) → get slots i ≡ Some t → 
 -- The slot has the number.
 abbrev pub IsSlotOf : Slab Transaction → ℕ → ℕ → Type 0
 IsSlotOf slots n key = (t : Transaction) × (get slots key ≡ Some t) × (t.number ≡ n)
+
+-- It is the least number in the slots.
+pub record IsLeastSlot (slots : Slab Transaction) (n : ℕ) : Type 0 where
+  pub key : ℕ
+  pub there : IsSlotOf slots n key
+  pub least : (key : ℕ) (t : Transaction) → get slots key ≡ Some t → n ≤ t.number

@@ -1,10 +1,13 @@
 // The live transactions in the slots of a slab, and a plain list of what they asked for.
-ghost use Rattle.std.specs.Prelude.{◌≡◌, ◌↔◌, ℕ, List, [], ◌∷◌, ◌++◌, false, IsTrue, IsOk, IsOkUnless, IfSome, IfNone, OnOk, OnErr, length, map, filter, ◌==◌};
+ghost use Rattle.std.specs.Prelude.{◌≡◌, ◌↔◌, ℕ, List, [], ◌∷◌, ◌++◌, Some, false, min, IsTrue, IsOk, IsOkUnless, IfSome, IfNone, OnOk, OnErr, length, map, filter, ◌==◌};
 ghost use Rattle.std.specs.FinMap as maps;
+ghost use Rattle.std.specs.Option.{option_map_or};
+ghost use Rattle.slab.specs.Slab.{get};
 ghost use Rattle.calls.specs.Transactions as transactions;
 ghost use Rattle.calls.specs.Transactions.{own, others, Asked, PutOff};
 ghost use Rattle.undo_log.specs.Entries.{event_of, owned_entry, HasNoCall, HasNewestCall, IsNewestCall, IsNewestPlace};
-ghost use Rattle.undo_log.specs.Logs.{Log, IsLive, IsFalling, HasRoom, KeepsRoom, fallen, live_of, EachOnce, IsSlotOf};
+ghost use Rattle.undo_log.specs.Logs.{Log, IsLive, IsFalling, HasRoom, KeepsRoom, fallen, live_of, EachOnce, IsSlotOf, IsLeastLive, IsLeastSlot};
+ghost use Rattle.undo_log.specs.declared.live.Transaction.{Transaction};
 
 use crate::{Entry, Later, Logged, Owned};
 use calls::Refusal;
@@ -68,6 +71,14 @@ impl Live {
         self.slots.len()
     }
 
+    /// The least number that is live. It takes no memory.
+    pub fn least(&self) -> Option<u64>
+        ensures found { IfSome result (IsLeastLive self.now.live) }
+        ensures none { IfNone result (self.now.live ≡ maps.empty) }
+    {
+        least_of(&self.slots)
+    }
+
     /// Whether the transaction is live.
     pub fn is_live(&self, number: u64) -> bool
         ensures { IsTrue result ↔ IsLive self.now number }
@@ -83,6 +94,13 @@ impl Live {
             Some(key) => self.slots[key].falling,
             None => false,
         }
+    }
+
+    /// How many calls and laters there are, of all transactions together.
+    pub fn len(&self) -> usize
+        ensures { result ≡ length self.now.entries }
+    {
+        self.entries.len()
     }
 
     /// How many calls and laters of the transaction there are together.
@@ -217,6 +235,28 @@ fn slot_of(slots: &Slab<Transaction>, number: u64) -> Option<usize>
         }
     }
     None
+}
+
+// The least number in the slots.
+fn least_of(slots: &Slab<Transaction>) -> Option<u64>
+    ensures found { IfSome result (IsLeastSlot slots.now) }
+    ensures none { IfNone result ((key : ℕ) (t : Transaction) → get slots.now key ≡ Some t → ⊥) }
+{
+    let mut least = None;
+    for (_, transaction) in slots.iter() {
+        least = Some(lesser(least, transaction.number));
+    }
+    least
+}
+
+// The lesser of the numbers.
+fn lesser(least: Option<u64>, number: u64) -> u64
+    ensures { result ≡ option_map_or (min number) least number }
+{
+    match least {
+        Some(other) => number.min(other),
+        None => number,
+    }
 }
 
 // Makes the slot of a transaction's number free, if there is one.

@@ -1,184 +1,124 @@
-// A script's client and its committer, line by line.
+// A script's clients and its committer, line by line.
+ghost use Rattle.std.specs.Prelude.{◌≡◌, ◌<◌, IfErr};
+ghost use Rattle.boost.specs.Commands.{IsOfStore};
+
+use crate::commands::client::Client;
+use crate::commands::committer::turn;
 use crate::commands::failure::Failure;
 use crate::commands::texts::Said;
 use crate::script::{Action, Line, Request};
-use crate::steps::{Answer, Step};
-use crate::world::{World, play};
-use calls::{Call, Kind, Name, Refusal};
-use catalog::Parts;
+use crate::transit::Transit;
+use calls::Refusal;
+use catalog::Catalog;
+use checkpoint::Keeper;
 use disk_model::Disk;
-use std::alloc::Global;
 use std::io::Write;
+use txn::Book;
 
-// The client's open transaction: its number, and whether the book knows it.
-#[derive(Clone, Copy)]
-struct Open {
-    number: u64,
-    is_entered: bool,
-}
+// A script has so many clients.
+const CLIENTS: usize = 64;
 
-// Why a line was not carried out.
-#[derive(Clone, Copy)]
-enum Stop {
-    // The line is answered so.
-    Refused(Refusal),
-    // The play ends.
-    Ended(Refusal),
-}
-
-impl From<Refusal> for Stop {
-    fn from(refusal: Refusal) -> Stop {
-        Stop::Refused(refusal)
-    }
-}
-
-// A world, with what its client keeps from line to line.
+/// A book and its keeper, the blocks between them, and what the clients of a script have from line to line.
 #[derive(Drop)]
 pub struct Player<D: Disk> {
-    world: World<D>,
-    open: Option<Open>,
-    // the place of what the client last committed or made
-    ticket: Option<u64>,
+    book: Book<Catalog>,
+    keeper: Keeper<D>,
+    transit: Transit,
+    // the place up to which commits are kept
+    mark: u64,
+    // the next number to draw
+    next: u64,
+    clients: [Client; CLIENTS],
+    ghost marked: { mark ≡ keeper.mark },
 }
 
 impl<D: Disk> Player<D> {
-    ghost use Rattle.std.specs.Prelude.{IfErr};
-    ghost use Rattle.boost.specs.Commands.{IsOfStore};
-
-    /// Before the first line.
-    pub fn new(world: World<D>) -> Self {
+    /// Before the first line, with nothing in transit and nothing kept.
+    pub fn new(book: Book<Catalog>, keeper: Keeper<D>, transit: Transit) -> Self
+        requires { keeper.mark ≡ 0 }
+    {
+        let next = book.next();
         Self {
-            world,
-            open: None,
-            ticket: None,
+            book,
+            keeper,
+            transit,
+            mark: 0,
+            next,
+            clients: [Client::NEW; CLIENTS],
         }
     }
 
     /// The disk. No device is called.
     pub fn into_disk(self) -> D {
-        let Self { world, .. } = self;
-        world.into_disk()
+        let Self { keeper, .. } = self;
+        keeper.into_disk()
     }
 
     /// Carries lines out, and prints for each its number and its answer.
     pub fn play_lines<O: Write>(
         &mut self,
-        alloc: Global,
         lines: Vec<Line>,
         out: &mut O,
     ) -> Result<(), Failure<'static>>
         ensures { IfErr result IsOfStore }
     {
         for Line { number, what } in lines {
-            let said = self.answer(alloc, what)?;
+            let said = self.answer(what);
             writeln!(out, "{number}: {said}")?;
         }
         Ok(())
     }
 
-    // What a line answers. An error ends the play.
-    fn answer(&mut self, alloc: Global, action: Action) -> Result<Said, Refusal> {
+    // What a line answers.
+    fn answer(&mut self, action: Action) -> Said {
         let said = match action {
-            Action::Turn => self.turn(alloc),
-            Action::Client(_, Request::Make(kind, name)) => self.make(alloc, kind, name),
-            Action::Client(_, Request::Begin) => self.begin(alloc),
-            Action::Client(_, Request::Call(name, call)) => self.call(alloc, &name, call),
-            Action::Client(_, Request::Commit) => self.commit(alloc),
-            Action::Client(_, Request::Kept) => self.kept(alloc),
+            Action::Turn => self.turn(),
+            // clients are numbered from 1 to 64
+            Action::Client(number, request) => self.obey(usize::from(number) % CLIENTS, request),
         };
         match said {
-            Ok(said) => Ok(said),
-            Err(Stop::Refused(refusal)) => Ok(Said::Answer(Answer::Refused(refusal))),
-            Err(Stop::Ended(refusal)) => Err(refusal),
+            Ok(said) => said,
+            Err(refusal) => Said::Refused(refusal),
         }
     }
 
-    // Takes a step of the world.
-    fn step(&mut self, alloc: Global, step: Step) -> Result<Answer, Stop> {
-        match play(alloc, &mut self.world, &[step]) {
-            Ok(mut answers) => match answers.pop().unwrap() {
-                Answer::Refused(refusal) => Err(Stop::Refused(refusal)),
-                answer => Ok(answer),
-            },
-            Err(refusal) => Err(Stop::Ended(refusal)),
-        }
-    }
-
-    // Says what was placed, and keeps the place as the client's ticket.
-    fn placed(&mut self, answer: Answer) -> Said {
-        if let Answer::Placed(place) = answer {
-            self.ticket = Some(place);
-        }
-        Said::Answer(answer)
-    }
-
-    fn make(&mut self, alloc: Global, kind: Kind, name: Name) -> Result<Said, Stop> {
-        let answer = self.step(alloc, Step::Make(name, kind))?;
-        Ok(self.placed(answer))
-    }
-
-    // Draws a number. The book learns it with the transaction's first call, or with its commit.
-    fn begin(&mut self, alloc: Global) -> Result<Said, Stop> {
-        if self.open.is_some() {
-            return Err(Stop::Refused(Refusal::AlreadyLive));
-        }
-        let answer = self.step(alloc, Step::Draw)?;
-        if let Answer::Drawn(number) = answer {
-            self.open = Some(Open {
-                number,
-                is_entered: false,
-            });
-        }
-        Ok(Said::Answer(answer))
-    }
-
-    // The number of the open transaction, which the book knows then.
-    fn enter(&mut self, alloc: Global) -> Result<u64, Stop> {
-        let Some(Open { number, is_entered }) = self.open else {
-            return Err(Stop::Refused(Refusal::NoSuchTxn));
+    // Carries a client's request out.
+    fn obey(&mut self, client: usize, request: Request) -> Result<Said, Refusal>
+        requires { client < 64 }
+    {
+        let client = &mut self.clients[client];
+        let book = &mut self.book;
+        let said = match request {
+            Request::Make(kind, name) => Said::Placed(client.make(book, kind, &name)?),
+            Request::Begin => Said::Begun(client.begin(&mut self.next)?),
+            Request::Call(name, operation) => Said::Replied(client.call(book, &name, operation)?),
+            Request::Commit => Said::Placed(client.commit(book)?),
+            Request::Abort => {
+                client.abort(book)?;
+                Said::Aborted
+            }
+            Request::Kept => said_of(client.is_kept(self.mark)),
         };
-        if !is_entered {
-            self.step(alloc, Step::Enter(number))?;
-            self.open = Some(Open {
-                number,
-                is_entered: true,
-            });
-        }
-        Ok(number)
+        Ok(said)
     }
 
-    fn call(&mut self, alloc: Global, name: &Name, call: Call) -> Result<Said, Stop> {
-        let number = self.enter(alloc)?;
-        let collection = self.world.book().collections().find(name.as_str())?;
-        let answer = self.step(alloc, Step::Call(number, collection, call))?;
-        Ok(Said::Answer(answer))
+    fn turn(&mut self) -> Result<Said, Refusal> {
+        let Self {
+            book,
+            keeper,
+            transit,
+            mark,
+            ..
+        } = self;
+        Ok(Said::Turned(turn(book, transit, keeper, mark)?))
     }
+}
 
-    fn commit(&mut self, alloc: Global) -> Result<Said, Stop> {
-        let number = self.enter(alloc)?;
-        let answer = self.step(alloc, Step::Commit(number))?;
-        self.open = None;
-        Ok(self.placed(answer))
-    }
-
-    // Whether the mark has reached the client's ticket.
-    fn kept(&mut self, alloc: Global) -> Result<Said, Stop> {
-        let Some(ticket) = self.ticket else {
-            return Ok(Said::NoTicket);
-        };
-        match self.step(alloc, Step::Look)? {
-            Answer::Marked(mark) if mark >= ticket => Ok(Said::Kept),
-            _ => Ok(Said::NotYet),
-        }
-    }
-
-    // A turn of the committer: a block is handed over where there is room for one, and then one is brought.
-    fn turn(&mut self, alloc: Global) -> Result<Said, Stop> {
-        match self.step(alloc, Step::Cut) {
-            Ok(_) | Err(Stop::Refused(Refusal::NotNow)) => {}
-            Err(stop) => return Err(stop),
-        }
-        let answer = self.step(alloc, Step::Turn)?;
-        Ok(Said::Answer(answer))
+// What is said of a client's ticket.
+fn said_of(kept: Option<bool>) -> Said {
+    match kept {
+        None => Said::NoTicket,
+        Some(true) => Said::Kept,
+        Some(false) => Said::NotYet,
     }
 }

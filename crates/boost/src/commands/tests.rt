@@ -1,12 +1,18 @@
 // What runs answer, on disks in memory and on files.
 mod any_disks;
 mod bad_scripts;
+mod clients;
+mod damage;
 mod files;
 mod items;
-mod rows;
+mod losers;
+mod refusals;
 mod stops;
+mod stores;
 
 use super::*;
+use calls::limits::MIN_AREA;
+use disk_model::MemDisk;
 use std::process::Abort;
 use std::test::Fail;
 
@@ -81,9 +87,48 @@ fn show_on(alloc: Global, disk: MemDisk) -> Ran {
     run_on(alloc, &task, disk, &[])
 }
 
+fn check_on(alloc: Global, disk: MemDisk) -> Ran {
+    let task = Task::Check {
+        disk: String::new(alloc),
+    };
+    run_on(alloc, &task, disk, &[])
+}
+
 // A disk that was formatted.
 fn fresh(alloc: Global) -> Result<MemDisk, Fail> {
     Ok(format_on(alloc, MemDisk::new(alloc, SIZE)?).disk)
+}
+
+// Sees what a run answered: its status, and all that it printed.
+fn check_ran(rt: &(impl AllocGlobal + Abort), ran: &Ran, status: u8, out: &str, err: &str) {
+    assert_eq!(rt; (ran.status, ran.out(), ran.err()), (status, out, err));
+}
+
+// Plays a script on a disk, sees what it prints and what the store shows behind it, and answers the disk.
+fn check_play(
+    rt: &(impl AllocGlobal + Abort),
+    disk: MemDisk,
+    script: &[u8],
+    says: &str,
+    shown: &str,
+) -> MemDisk {
+    let played = play_on(rt.alloc(), disk, script);
+    check_ran(rt, &played, 0, says, "");
+    check_show(rt, played.disk, shown)
+}
+
+// Sees what the store of a disk shows, and answers the disk.
+fn check_show(rt: &(impl AllocGlobal + Abort), disk: MemDisk, shown: &str) -> MemDisk {
+    let ran = show_on(rt.alloc(), disk);
+    check_ran(rt, &ran, 0, shown, "");
+    ran.disk
+}
+
+// Sees what the store of a disk counts, and answers the disk.
+fn check_counts(rt: &(impl AllocGlobal + Abort), disk: MemDisk, counts: &str) -> MemDisk {
+    let ran = check_on(rt.alloc(), disk);
+    check_ran(rt, &ran, 0, counts, "");
+    ran.disk
 }
 
 // The bytes of a disk from one place on.
@@ -102,6 +147,17 @@ fn bytes_at(
 fn write_at(rt: &(impl AllocGlobal + Abort), disk: &mut MemDisk, at: u64, bytes: &[u8]) {
     assert!(rt; at <= disk.size() && bytes.len() as u64 <= disk.size() - at);
     assert!(rt; disk.write_at(at, bytes).is_ok());
+}
+
+// The number behind the last such word, or 0.
+fn last(said: &str, word: &str) -> usize {
+    let mut found = 0;
+    for line in said.lines() {
+        if let Some((_, number)) = line.split_once(word) {
+            found = number.parse().unwrap_or(0);
+        }
+    }
+    found
 }
 
 // Numbers that look like chance, the same at each run.

@@ -1,45 +1,41 @@
-// What the lines of a script answer, as texts.
-use crate::steps::{Answer, Turn};
-use calls::{Item, Reply};
+// What the lines of a script answer, and what a store holds, as texts.
+use calls::{Item, Refusal, Reply};
+use checkpoint::Turn;
 use std::fmt;
 
 /// What a line answers.
 #[derive(Drop, Debug)]
 pub enum Said {
-    /// What a step was answered.
-    Answer(Answer),
+    /// The count of commits and makes since the store was opened, this one included.
+    Placed(u64),
+    /// The number of the transaction that begins.
+    Begun(u64),
+    Replied(Reply),
+    /// The transaction was taken back.
+    Aborted,
     /// The client's ticket is kept.
     Kept,
     /// The client's ticket is not kept yet.
     NotYet,
     /// The client has no ticket.
     NoTicket,
+    Turned(Turn),
+    Refused(Refusal),
 }
 
 impl fmt::Display for Said {
     fn fmt<W: fmt::Write>(&self, f: &mut fmt::Formatter<W>) -> fmt::Result {
         match self {
-            Said::Answer(answer) => write!(f, "{answer}"),
+            Said::Placed(place) => write!(f, "place {place}"),
+            Said::Begun(number) => write!(f, "begun {number}"),
+            Said::Replied(reply) => write_reply(f, reply),
+            Said::Aborted => write!(f, "aborted"),
             Said::Kept => write!(f, "kept"),
             Said::NotYet => write!(f, "not yet"),
             Said::NoTicket => write!(f, "no ticket"),
-        }
-    }
-}
-
-impl fmt::Display for Answer {
-    fn fmt<W: fmt::Write>(&self, f: &mut fmt::Formatter<W>) -> fmt::Result {
-        match self {
-            Answer::Drawn(number) => write!(f, "begun {number}"),
-            Answer::Placed(place) => write!(f, "place {place}"),
-            Answer::Entered => write!(f, "entered"),
-            Answer::Replied(reply) => write_reply(f, reply),
-            Answer::Cut(true) => write!(f, "cut"),
-            Answer::Cut(false) => write!(f, "not cut"),
-            Answer::Turned(Turn::Idle) => write!(f, "idle"),
-            Answer::Turned(Turn::Kept(place)) => write!(f, "kept {place}"),
-            Answer::Marked(mark) => write!(f, "mark {mark}"),
-            Answer::Refused(refusal) => {
+            Said::Turned(Turn::Idle) => write!(f, "idle"),
+            Said::Turned(Turn::Kept(place)) => write!(f, "kept {place}"),
+            Said::Refused(refusal) => {
                 let number = refusal.number();
                 write!(f, "refused {number} {refusal}")
             }

@@ -1,6 +1,15 @@
 // What a line asks for.
 use calls::{Call, Kind, Name};
 
+/// What a client asks of a collection.
+#[derive(Drop, Debug)]
+pub enum Operation {
+    /// The call.
+    Call(Call),
+    /// What a map holds at the key is removed, or the element of a set: of which of the two, the name decides.
+    Remove(u64),
+}
+
 /// What a client asks for.
 #[derive(Drop, Debug)]
 pub enum Request {
@@ -8,10 +17,12 @@ pub enum Request {
     Make(Kind, Name),
     /// A transaction begins.
     Begin,
-    /// A call of the collection of the name.
-    Call(Name, Call),
+    /// An operation on the collection of the name.
+    Call(Name, Operation),
     /// The transaction is committed.
     Commit,
+    /// The transaction is taken back.
+    Abort,
     /// Whether what the client last committed or made is kept.
     Kept,
 }
@@ -19,7 +30,7 @@ pub enum Request {
 /// What a line asks for.
 #[derive(Drop, Debug)]
 pub enum Action {
-    /// A client's request; clients are numbered from 1.
+    /// A client's request; clients are numbered from 1 to 64.
     Client(u8, Request),
     /// The committer takes a turn.
     Turn,

@@ -1,28 +1,15 @@
 // What a line asks for.
-ghost use Rattle.std.specs.Prelude.{◌≡◌, ℕ, ℤ, ◌++◌, ◌∷◌, List, IfOk, MatchOption, codes};
+ghost use Rattle.std.specs.Prelude.{◌≡◌, IfOk, MatchOption};
 ghost use Rattle.calls.specs.declared.kind.Kind.{Kind};
-ghost use Rattle.calls.specs.declared.call.Call.{Call};
 ghost use Rattle.boost.specs.declared.script.action.Request.{Request};
 ghost use Rattle.boost.specs.declared.script.action.Action.{Action};
-ghost use Rattle.boost.specs.ScriptTexts.{IsWord, IsRequestOf, IsLineOf, IsMakeOf, IsCallOf, CanBeCalled, kind_text, call_text};
+ghost use Rattle.boost.specs.ScriptTexts.{IsRequestOf, IsLineOf, IsClientLine, IsMakeOf, IsCallOf, kind_text};
 
 use crate::script::action::{Action, Request};
-use crate::script::words::{behind, number, same, split_at_byte, word};
-use calls::{Call, Kind};
+use crate::script::operations::operation;
+use crate::script::words::{behind, client, same, split_at_byte, word};
+use calls::Kind;
 use std::alloc::{AllocError, Global};
-
-// The call that the text asks for.
-fn call(alloc: Global, text: &[u8]) -> Result<Option<Call>, AllocError>
-    ensures { IfOk result (λ found. MatchOption found ((c : Call) → CanBeCalled c → text.now ≡ call_text c → ⊥) (λ c. CanBeCalled c × (text.now ≡ call_text c))) }
-{
-    let Some(rest) = behind(text, b"bump ") else {
-        return Ok(None);
-    };
-    match number(alloc, rest)? {
-        Some(n) => Ok(Some(Call::Bump(n))),
-        None => Ok(None),
-    }
-}
 
 // What stands behind the word call.
 fn called(alloc: Global, text: &[u8]) -> Result<Option<Request>, AllocError>
@@ -34,7 +21,7 @@ fn called(alloc: Global, text: &[u8]) -> Result<Option<Request>, AllocError>
     let Some(name) = word(alloc, front)? else {
         return Ok(None);
     };
-    match call(alloc, back)? {
+    match operation(alloc, back)? {
         Some(asked) => Ok(Some(Request::Call(name, asked))),
         None => Ok(None),
     }
@@ -80,6 +67,9 @@ fn request(alloc: Global, text: &[u8]) -> Result<Option<Request>, AllocError>
     if same(text, b"commit") {
         return Ok(Some(Request::Commit));
     }
+    if same(text, b"abort") {
+        return Ok(Some(Request::Abort));
+    }
     if same(text, b"kept") {
         return Ok(Some(Request::Kept));
     }
@@ -92,6 +82,22 @@ fn request(alloc: Global, text: &[u8]) -> Result<Option<Request>, AllocError>
     }
 }
 
+// What a client's line asks for, behind the letter c.
+fn of_client(alloc: Global, text: &[u8]) -> Result<Option<Action>, AllocError>
+    ensures { IfOk result (λ found. MatchOption found ((a : Action) → IsClientLine a text.now → ⊥) (λ a. IsClientLine a text.now)) }
+{
+    let Some((front, back)) = split_at_byte(text, b' ') else {
+        return Ok(None);
+    };
+    let Some(number) = client(alloc, front)? else {
+        return Ok(None);
+    };
+    match request(alloc, back)? {
+        Some(asked) => Ok(Some(Action::Client(number, asked))),
+        None => Ok(None),
+    }
+}
+
 // What a line asks for.
 pub fn action(alloc: Global, line: &[u8]) -> Result<Option<Action>, AllocError>
     ensures { IfOk result (λ found. MatchOption found ((a : Action) → IsLineOf a line.now → ⊥) (λ a. IsLineOf a line.now)) }
@@ -99,11 +105,8 @@ pub fn action(alloc: Global, line: &[u8]) -> Result<Option<Action>, AllocError>
     if same(line, b"turn") {
         return Ok(Some(Action::Turn));
     }
-    let Some(rest) = behind(line, b"c1 ") else {
-        return Ok(None);
-    };
-    match request(alloc, rest)? {
-        Some(asked) => Ok(Some(Action::Client(1, asked))),
+    match behind(line, b"c") {
+        Some(rest) => of_client(alloc, rest),
         None => Ok(None),
     }
 }

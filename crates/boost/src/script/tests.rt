@@ -22,7 +22,7 @@ fn says_bump(line: Option<&Line>, number: u64, text: &str, by: i64) -> bool {
         Some(
             Line {
                 number: n,
-                what: Action::Client(1, Request::Call(name, Call::Bump(m))),
+                what: Action::Client(1, Request::Call(name, Operation::Call(Call::Bump(m)))),
             },
         ) => *n == number && name.as_str() == text && *m == by,
         _ => false,
@@ -105,7 +105,7 @@ fn takes_any_word_as_a_name(rt: HostRuntime) -> Result<(), Fail> {
 
 #[test]
 fn refuses_each_line_that_it_does_not_know(rt: HostRuntime) {
-    let bad: [&[u8]; 38] = [
+    let bad: [&[u8]; 58] = [
         b"c1 call hits bump 01",
         b"c1 call hits bump -0",
         b"c1 call hits bump +1",
@@ -119,7 +119,24 @@ fn refuses_each_line_that_it_does_not_know(rt: HostRuntime) {
         b"c1 call hits bump 1 ",
         b"c1 call hits bump 1\r",
         b"c1 call hits bump 1_0",
-        b"c1 call hits read",
+        b"c1 call hits reads",
+        b"c1 call hits read 1",
+        b"c1 call hits",
+        b"c1 call s add",
+        b"c1 call s add 1 2 3",
+        b"c1 call s add 1  2",
+        b"c1 call s add 01",
+        b"c1 call s add 18446744073709551616",
+        b"c1 call s remove -1",
+        b"c1 call m put 1",
+        b"c1 call m put 1 a",
+        b"c1 call m put 1 AA",
+        b"c1 call m put 1 --",
+        b"c1 call m put 1 ",
+        b"c1 call m put 1 0g",
+        b"c1 call q pluck 1 2",
+        b"c1 call p free 1",
+        b"c1 abort now",
         b"c1 call  bump 1",
         b"c1 call hits  bump 1",
         b"c1 make sets s",
@@ -136,8 +153,11 @@ fn refuses_each_line_that_it_does_not_know(rt: HostRuntime) {
         b" c1 begin",
         b"c1 begin ",
         b"c1 begin\r",
-        b"c2 begin",
+        b"c0 begin",
         b"c01 begin",
+        b"c65 begin",
+        b"c+1 begin",
+        b"c begin",
         b"begin",
         b"c1",
         b"turn ",
@@ -170,4 +190,98 @@ fn names_the_first_line_that_is_not_understood(rt: HostRuntime) {
             Err(ScriptError::NotUnderstood(1))
         )
     );
+}
+
+// One line of each operation.
+const OPERATIONS: &[u8] =
+    b"c64 call s contains 0\nc64 call s add 18446744073709551615\nc64 call s remove 7\nc64 call m get 7\nc64 call m put 7 -\nc64 call m put 7 00ff\nc64 call m ceiling 7\nc64 call q add 4 0\nc64 call q take\nc64 call q least\nc64 call n bump -7\nc64 call n read\nc64 call p draw\nc64 call p release 7\n";
+
+fn asked(lines: &Vec<Line>, at: usize) -> Option<&Operation> {
+    match lines.get(at) {
+        Some(
+            Line {
+                what: Action::Client(64, Request::Call(_, asked)),
+                ..
+            },
+        ) => Some(asked),
+        _ => None,
+    }
+}
+
+// Whether the operation puts the bytes at the key 7.
+fn puts(operation: Option<&Operation>, bytes: &[u8]) -> bool {
+    match operation {
+        Some(Operation::Call(Call::Put(7, value))) => value.as_slice() == bytes,
+        _ => false,
+    }
+}
+
+#[test]
+fn reads_each_operation(rt: HostRuntime) -> Result<(), Fail> {
+    let lines = parse(rt.alloc(), OPERATIONS)?;
+    assert_eq!(rt; lines.len(), 14);
+    assert!(rt; matches!(asked(&lines, 0), Some(Operation::Call(Call::Contains(0)))));
+    assert!(rt;
+        matches!(
+            asked(&lines, 1),
+            Some(Operation::Call(Call::SetAdd(u64::MAX)))
+        )
+    );
+    assert!(rt; matches!(asked(&lines, 2), Some(Operation::Remove(7))));
+    assert!(rt; matches!(asked(&lines, 3), Some(Operation::Call(Call::Get(7)))));
+    assert!(rt; puts(asked(&lines, 4), &[]));
+    assert!(rt; puts(asked(&lines, 5), &[0, 255]));
+    assert!(rt; matches!(asked(&lines, 6), Some(Operation::Call(Call::Ceiling(7)))));
+    Ok(())
+}
+
+#[test]
+fn reads_each_operation_without_a_key(rt: HostRuntime) -> Result<(), Fail> {
+    let lines = parse(rt.alloc(), OPERATIONS)?;
+    assert!(rt;
+        matches!(
+            asked(&lines, 7),
+            Some(Operation::Call(Call::QueueAdd(4, 0)))
+        )
+    );
+    assert!(rt; matches!(asked(&lines, 8), Some(Operation::Call(Call::Take))));
+    assert!(rt; matches!(asked(&lines, 9), Some(Operation::Call(Call::Least))));
+    assert!(rt; matches!(asked(&lines, 10), Some(Operation::Call(Call::Bump(-7)))));
+    assert!(rt; matches!(asked(&lines, 11), Some(Operation::Call(Call::Read))));
+    assert!(rt; matches!(asked(&lines, 12), Some(Operation::Call(Call::Draw))));
+    assert!(rt; matches!(asked(&lines, 13), Some(Operation::Call(Call::Release(7)))));
+    Ok(())
+}
+
+#[test]
+fn reads_what_a_client_asks(rt: HostRuntime) -> Result<(), Fail> {
+    let lines = parse(rt.alloc(), b"c2 abort\nc10 commit\nc64 kept")?;
+    assert!(rt;
+        matches!(
+            lines.get(0),
+            Some(Line {
+                number: 1,
+                what: Action::Client(2, Request::Abort)
+            })
+        )
+    );
+    assert!(rt;
+        matches!(
+            lines.get(1),
+            Some(Line {
+                number: 2,
+                what: Action::Client(10, Request::Commit)
+            })
+        )
+    );
+    assert!(rt;
+        matches!(
+            lines.get(2),
+            Some(Line {
+                number: 3,
+                what: Action::Client(64, Request::Kept)
+            })
+        )
+    );
+    Ok(())
 }

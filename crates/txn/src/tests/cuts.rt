@@ -6,12 +6,12 @@ use std::alloc::AllocError;
 
 // A shelf for some blocks.
 #[derive(Drop)]
-struct Shelf {
+pub struct Shelf {
     blocks: Vec<Block>,
 }
 
 impl Shelf {
-    fn new(alloc: Global, room: usize) -> Result<Self, AllocError> {
+    pub fn new(alloc: Global, room: usize) -> Result<Self, AllocError> {
         Ok(Self {
             blocks: Vec::with_capacity(alloc, room)?,
         })

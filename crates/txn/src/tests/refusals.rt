@@ -3,6 +3,62 @@ use super::*;
 
 const END: u64 = 1 << 61;
 
+// What the collections hold, and the next number.
+fn content(alloc: Global, book: &Book<Catalog>) -> Result<String, Fail> {
+    let mut text = String::new(alloc);
+    for at in 0..4u8 {
+        if usize::from(at) < book.parts().len() {
+            write!(&mut text, "{:?};", book.parts().show(at)?.items)?;
+        }
+    }
+    write!(&mut text, "{}", book.next())?;
+    Ok(text)
+}
+
+// A step of a transaction's number alone.
+#[derive(Clone, Copy)]
+enum Step {
+    Enter,
+    Commit,
+    Back,
+    Ended,
+}
+
+// Why the step is refused, if it is.
+fn refusal(book: &mut Book<Catalog>, step: Step, number: u64) -> Option<Refusal> {
+    match step {
+        Step::Enter => book.enter(number).err(),
+        Step::Commit => book.commit(number).err(),
+        Step::Back => book.back(number).err(),
+        Step::Ended => book.ended(number).err(),
+    }
+}
+
+fn check_step_refused(
+    rt: &(impl Abort + AllocGlobal),
+    book: &mut Book<Catalog>,
+    step: Step,
+    number: u64,
+    wanted: Refusal,
+) -> Result<(), Fail> {
+    let before = content(rt.alloc(), book)?;
+    assert_eq!(rt; refusal(book, step, number), Some(wanted));
+    assert_eq!(rt; content(rt.alloc(), book)?.as_str(), before.as_str());
+    Ok(())
+}
+
+fn check_make_refused(
+    rt: &(impl Abort + AllocGlobal),
+    book: &mut Book<Catalog>,
+    name: &str,
+    wanted: Refusal,
+) -> Result<(), Fail> {
+    let before = content(rt.alloc(), book)?;
+    assert_eq!(rt; book.make(name, Kind::Map), Err(wanted));
+    assert_eq!(rt; content(rt.alloc(), book)?.as_str(), before.as_str());
+    Ok(())
+}
+
 // A call that is refused, on any collection.
 fn check_refused(
     rt: &(impl Abort + AllocGlobal),
@@ -11,9 +67,10 @@ fn check_refused(
     call: Call,
     wanted: Refusal,
 ) -> Result<(), Fail> {
-    let before = shown(rt.alloc(), book.parts(), 0)?;
+    let before = content(rt.alloc(), book)?;
     check_same(rt, &book.call(1, at, &call), &Err::<Reply, _>(wanted))?;
-    check_shown(rt, book, before.as_str())
+    assert_eq!(rt; content(rt.alloc(), book)?.as_str(), before.as_str());
+    Ok(())
 }
 
 // Bumps of the transaction 1, up to the most that it may ask for.
@@ -31,7 +88,7 @@ fn a_transaction_asks_for_1024_calls(rt: HostRuntime) -> Result<(), Fail> {
     check_refused(&rt, &mut book, 0, Call::Bump(1), Refusal::TooManyCalls)?;
     check_shown(&rt, &book, "[Number(1024)]")?;
     assert_eq!(rt; book.back(1), Ok(true));
-    assert_eq!(rt; book.commit(1), Err(Refusal::Falling));
+    check_step_refused(&rt, &mut book, Step::Commit, 1, Refusal::Falling)?;
     check_call(&rt, &mut book, 2, Call::Bump(1), Ok(Reply::Done))
 }
 
@@ -42,8 +99,8 @@ fn there_are_64_live_ones(rt: HostRuntime) -> Result<(), Fail> {
     for number in 1..65 {
         book.enter(number)?;
     }
-    assert_eq!(rt; book.enter(65), Err(Refusal::TooManyLive));
-    assert_eq!(rt; book.enter(7), Err(Refusal::AlreadyLive));
+    check_step_refused(&rt, &mut book, Step::Enter, 65, Refusal::TooManyLive)?;
+    check_step_refused(&rt, &mut book, Step::Enter, 7, Refusal::AlreadyLive)?;
     assert_eq!(rt; book.next(), 65);
     book.commit(7)?;
     assert_eq!(rt; book.enter(65), Ok(()));
@@ -54,8 +111,8 @@ fn there_are_64_live_ones(rt: HostRuntime) -> Result<(), Fail> {
 #[test]
 fn numbers_lie_below_the_end(rt: HostRuntime) -> Result<(), Fail> {
     let mut book = empty_book(rt.alloc());
-    assert_eq!(rt; book.enter(0), Err(Refusal::BadArg));
-    assert_eq!(rt; book.enter(END), Err(Refusal::BadArg));
+    check_step_refused(&rt, &mut book, Step::Enter, 0, Refusal::BadArg)?;
+    check_step_refused(&rt, &mut book, Step::Enter, END, Refusal::BadArg)?;
     assert_eq!(rt; book.enter(END - 1), Ok(()));
     assert_eq!(rt; book.next(), END);
     Ok(())
@@ -65,9 +122,9 @@ fn numbers_lie_below_the_end(rt: HostRuntime) -> Result<(), Fail> {
 fn who_is_not_live_is_refused(rt: HostRuntime) -> Result<(), Fail> {
     let mut book = book_of(rt.alloc(), "n", Kind::Counter)?;
     check_call(&rt, &mut book, 9, Call::Read, Err(Refusal::NoSuchTxn))?;
-    assert_eq!(rt; book.commit(9), Err(Refusal::NoSuchTxn));
-    assert_eq!(rt; book.back(9), Err(Refusal::NoSuchTxn));
-    assert_eq!(rt; book.ended(9), Err(Refusal::NoSuchTxn));
+    check_step_refused(&rt, &mut book, Step::Commit, 9, Refusal::NoSuchTxn)?;
+    check_step_refused(&rt, &mut book, Step::Back, 9, Refusal::NoSuchTxn)?;
+    check_step_refused(&rt, &mut book, Step::Ended, 9, Refusal::NoSuchTxn)?;
     Ok(())
 }
 
@@ -76,11 +133,11 @@ fn who_falls_is_undone_to_the_end(rt: HostRuntime) -> Result<(), Fail> {
     let mut book = book_of(rt.alloc(), "n", Kind::Counter)?;
     check_call(&rt, &mut book, 1, Call::Bump(5), Ok(Reply::Done))?;
     check_call(&rt, &mut book, 1, Call::Bump(6), Ok(Reply::Done))?;
-    assert_eq!(rt; book.ended(1), Err(Refusal::Unfinished));
+    check_step_refused(&rt, &mut book, Step::Ended, 1, Refusal::Unfinished)?;
     assert_eq!(rt; book.back(1), Ok(true));
     check_refused(&rt, &mut book, 0, Call::Bump(1), Refusal::Falling)?;
-    assert_eq!(rt; book.commit(1), Err(Refusal::Falling));
-    assert_eq!(rt; book.ended(1), Err(Refusal::Unfinished));
+    check_step_refused(&rt, &mut book, Step::Commit, 1, Refusal::Falling)?;
+    check_step_refused(&rt, &mut book, Step::Ended, 1, Refusal::Unfinished)?;
     check_shown(&rt, &book, "[Number(5)]")
 }
 
@@ -97,12 +154,12 @@ fn fill_backlog(book: &mut Book<Catalog>) -> Result<(), Refusal> {
 fn at_most_16384_records_wait(rt: HostRuntime) -> Result<(), Fail> {
     let mut book = book_of(rt.alloc(), "n", Kind::Counter)?;
     fill_backlog(&mut book)?;
-    assert_eq!(rt; book.enter(9_000), Err(Refusal::Backlog));
+    check_step_refused(&rt, &mut book, Step::Enter, 9_000, Refusal::Backlog)?;
     check_refused(&rt, &mut book, 0, Call::Bump(1), Refusal::Backlog)?;
-    assert_eq!(rt; book.commit(1), Err(Refusal::Backlog));
-    assert_eq!(rt; book.back(1), Err(Refusal::Backlog));
-    assert_eq!(rt; book.ended(1), Err(Refusal::Backlog));
-    assert_eq!(rt; book.make("m", Kind::Map), Err(Refusal::Backlog));
+    check_step_refused(&rt, &mut book, Step::Commit, 1, Refusal::Backlog)?;
+    check_step_refused(&rt, &mut book, Step::Back, 1, Refusal::Backlog)?;
+    check_step_refused(&rt, &mut book, Step::Ended, 1, Refusal::Backlog)?;
+    check_make_refused(&rt, &mut book, "m", Refusal::Backlog)?;
     Ok(())
 }
 
@@ -146,7 +203,7 @@ fn a_worn_book_only_ends_transactions(rt: HostRuntime) -> Result<(), Fail> {
     book.enter(2)?;
     check_call(&rt, &mut book, 1, Call::SetAdd(7), Ok(Reply::Yes))?;
     check_refused(&rt, &mut book, 0, Call::SetAdd(8), Refusal::Worn)?;
-    assert_eq!(rt; book.enter(3), Err(Refusal::Worn));
+    check_step_refused(&rt, &mut book, Step::Enter, 3, Refusal::Worn)?;
     assert_eq!(rt; book.back(1), Ok(true));
     assert_eq!(rt; book.back(1), Ok(false));
     assert_eq!(rt; book.ended(1), Ok(()));
@@ -158,9 +215,9 @@ fn a_worn_book_only_ends_transactions(rt: HostRuntime) -> Result<(), Fail> {
 fn names_are_refused(rt: HostRuntime) -> Result<(), Fail> {
     let mut book = book_of(rt.alloc(), "s", Kind::Set)?;
     let long = format!(in rt.alloc(); "{:065}", 0)?;
-    assert_eq!(rt; book.make("Bad", Kind::Map), Err(Refusal::BadName));
-    assert_eq!(rt; book.make(long.as_str(), Kind::Map), Err(Refusal::TooLong));
-    assert_eq!(rt; book.make("s", Kind::Map), Err(Refusal::NameTaken));
+    check_make_refused(&rt, &mut book, "Bad", Refusal::BadName)?;
+    check_make_refused(&rt, &mut book, long.as_str(), Refusal::TooLong)?;
+    check_make_refused(&rt, &mut book, "s", Refusal::NameTaken)?;
     assert_eq!(rt; book.parts().len(), 1);
     assert_eq!(rt; book.make("m", Kind::Map), Ok(2));
     assert_eq!(rt; book.find("m"), Ok(1));

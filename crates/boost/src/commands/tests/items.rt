@@ -1,6 +1,8 @@
 // What is shown of a collection.
 use super::*;
+use crate::commands::showing::show_collection;
 use calls::{Bytes, Item, Kind, Name};
+use catalog::Shown;
 
 fn value(alloc: Global, bytes: &[u8]) -> Result<Bytes, Fail> {
     Ok(Bytes::new(Vec::from_slice(alloc, bytes)?))

@@ -8,12 +8,20 @@ struct Story {
     shown: Vec<String>,
 }
 
-// What a script's lines led to so far: the collections, and the calls of the open transaction.
+// A call of a client's open transaction: the client, the counter, and by how much.
+#[derive(Clone, Copy)]
+struct Bumped {
+    client: u8,
+    letter: u8,
+    by: i64,
+}
+
+// What a script's lines led to so far: the counters, the calls of the open transactions, and whose these are.
 #[derive(Drop)]
 struct Replay {
     totals: Vec<(u8, i128)>,
-    calls: Vec<(u8, i64)>,
-    is_open: bool,
+    calls: Vec<Bumped>,
+    open: Vec<u8>,
 }
 
 impl Replay {
@@ -21,16 +29,27 @@ impl Replay {
         self.totals.iter().any(|total| total.0 == letter)
     }
 
-    fn commit(&mut self) {
-        for (letter, by) in self.calls.iter() {
+    fn is_open(&self, client: u8) -> bool {
+        self.open.iter().any(|other| *other == client)
+    }
+
+    fn commit(&mut self, client: u8) {
+        for call in self.calls.iter() {
+            if call.client != client {
+                continue;
+            }
             for total in self.totals.iter_mut() {
-                if total.0 == *letter {
-                    total.1 = total.1.saturating_add(i128::from(*by));
+                if total.0 == call.letter {
+                    total.1 = total.1.saturating_add(i128::from(call.by));
                 }
             }
         }
-        self.calls.clear();
-        self.is_open = false;
+        self.close(client);
+    }
+
+    fn close(&mut self, client: u8) {
+        self.calls.retain(|call| call.client != client);
+        self.open.retain(|other| *other != client);
     }
 
     fn text(&self, alloc: Global) -> Result<String, Fail> {
@@ -43,44 +62,52 @@ impl Replay {
     }
 }
 
-// Adds one line to the script, and to the replay what it leads to. Answers whether it has a place.
+// Adds a client's line to the script, and to the replay what it leads to. Answers whether it has a place.
 fn add_line(script: &mut String, replay: &mut Replay, numbers: &mut Numbers) -> Result<bool, Fail> {
+    let client = [1, 2, 64][(numbers.below(3) % 3) as usize];
     let letter = [b'a', b'b', b'c'][(numbers.below(3) % 3) as usize];
     let name = char::from(letter);
-    match numbers.below(10) {
+    match numbers.below(12) {
         0 => {
-            write!(script, "c1 make counter {name}\n")?;
+            write!(script, "c{client} make counter {name}\n")?;
             if replay.has(letter) {
                 return Ok(false);
             }
             replay.totals.push((letter, 0))?;
             Ok(true)
         }
-        1 => {
-            write!(script, "c1 begin\n")?;
-            replay.is_open = true;
-            Ok(false)
-        }
-        2..=5 => {
-            let by = i64::from(numbers.byte()) * 9 - 1_000;
-            write!(script, "c1 call {name} bump {by}\n")?;
-            if replay.is_open && replay.has(letter) {
-                replay.calls.push((letter, by))?;
+        1 | 2 => {
+            write!(script, "c{client} begin\n")?;
+            if !replay.is_open(client) {
+                replay.open.push(client)?;
             }
             Ok(false)
         }
-        6 | 7 => {
-            write!(script, "c1 commit\n")?;
-            let is_place = replay.is_open;
-            replay.commit();
+        3..=6 => {
+            let by = i64::from(numbers.byte()) * 9 - 1_000;
+            write!(script, "c{client} call {name} bump {by}\n")?;
+            if replay.is_open(client) && replay.has(letter) {
+                replay.calls.push(Bumped { client, letter, by })?;
+            }
+            Ok(false)
+        }
+        7 | 8 => {
+            write!(script, "c{client} commit\n")?;
+            let is_place = replay.is_open(client);
+            replay.commit(client);
             Ok(is_place)
         }
-        8 => {
+        9 => {
+            write!(script, "c{client} abort\n")?;
+            replay.close(client);
+            Ok(false)
+        }
+        10 => {
             write!(script, "turn\n")?;
             Ok(false)
         }
         _ => {
-            write!(script, "c1 kept\n")?;
+            write!(script, "c{client} kept\n")?;
             Ok(false)
         }
     }
@@ -90,11 +117,20 @@ fn make_story(alloc: Global, numbers: &mut Numbers) -> Result<Story, Fail> {
     let mut replay = Replay {
         totals: Vec::new(alloc),
         calls: Vec::new(alloc),
-        is_open: false,
+        open: Vec::new(alloc),
     };
-    let mut script = String::from_str(alloc, "c1 make counter a\nc1 begin\n")?;
+    let mut script = String::from_str(
+        alloc,
+        "c1 make counter a\nc1 begin\nc2 begin\nc2 call a bump 1000000\nturn\n",
+    )?;
     replay.totals.push((b'a', 0))?;
-    replay.is_open = true;
+    replay.open.push(1)?;
+    replay.open.push(2)?;
+    replay.calls.push(Bumped {
+        client: 2,
+        letter: b'a',
+        by: 1_000_000,
+    })?;
     let mut shown = Vec::new(alloc);
     shown.push(String::new(alloc))?;
     shown.push(replay.text(alloc)?)?;
@@ -105,17 +141,6 @@ fn make_story(alloc: Global, numbers: &mut Numbers) -> Result<Story, Fail> {
     }
     script.push_str("turn\nturn\n")?;
     Ok(Story { script, shown })
-}
-
-// The number behind the last such word, or 0.
-fn last(said: &str, word: &str) -> usize {
-    let mut found = 0;
-    for line in said.lines() {
-        if let Some((_, number)) = line.split_once(word) {
-            found = number.parse().unwrap_or(0);
-        }
-    }
-    found
 }
 
 // Each byte at which a run may have written, with this value.

@@ -114,3 +114,13 @@ returns-clause-kept g c = λ bodies body is ready.
       at_rest = done.1;
     })
     (both_ok _ _ c.write_and_sync-2.result c.write_and_sync-2.ensures.written c.write_and_sync-2.ensures.durable)
+
+pub returns-clause-counts : goal.returns-clause-counts
+returns-clause-counts g c = λ bodies body is holds here.
+    let a = c.args.self.now in
+    let block = c.args.block.now in
+    let s = g.D.Disk.seen c.args.disk.now in
+    let mid = g.D.Disk.seen c.write_and_sync.new.disk in
+    on_ok_weaker c.write_and_sync-2.result
+    (second_holds a.base a.size a.position bodies body block (behind_gate block) s is (take_rest block 1) c.requires.room c.requires.disk holds here mid c.in_ok-write_and_sync.ensures.written c.write_and_sync.ensures.seen _ c.write_and_sync-2.ensures.seen)
+    c.write_and_sync-2.ensures.written

@@ -8,7 +8,8 @@ use Rattle.txn.specs.Books.{AppendsTo}
 use Rattle.txn.specs.Views.{book_of}
 use Rattle.txn.specs.Waits.{HasRoomFor}
 use Rattle.txn.proofs.BookLaws.{BookLaws, book_laws}
-use Rattle.txn.proofs.Kept.{back_keeps, fall_keeps, back_room}
+use Rattle.txn.proofs.Kept.{back_keeps, fall_keeps}
+use Rattle.txn.proofs.Upheld.{back_room}
 use Rattle.txn.proofs.Steps.{back_can, back_settles}
 use Rattle.txn.proofs.BookLemmas.{mark_length}
 use Rattle.txn.proofs.Undone.{back_done, fall_done}
@@ -41,21 +42,21 @@ laws g =
 
 pub undo-requires-clause-askable : goal.undo-requires-clause-askable
 undo-requires-clause-askable g c =
-    (back_can g.B.Boosted.answers g.B.Boosted.leaves g.B.Parts.makes g.B.Boosted.need g.B.Boosted.inverse (laws g).rules _ c.self.invariant.holds c.args.number (event_of c.in-Some.newest.now) _ c.in-Some.ensures.found.1).0
+    (back_can g.B.Boosted.answers g.B.Boosted.leaves g.B.Parts.makes g.B.Boosted.need g.B.Boosted.inverse (laws g).rules _ c.self.invariant.upheld.holds c.args.number (event_of c.in-Some.newest.now) _ c.in-Some.ensures.found.1).0
 
 pub undo-requires-clause-undoes : goal.undo-requires-clause-undoes
 undo-requires-clause-undoes g c =
-    (back_can g.B.Boosted.answers g.B.Boosted.leaves g.B.Parts.makes g.B.Boosted.need g.B.Boosted.inverse (laws g).rules _ c.self.invariant.holds c.args.number (event_of c.in-Some.newest.now) _ c.in-Some.ensures.found.1).1
+    (back_can g.B.Boosted.answers g.B.Boosted.leaves g.B.Parts.makes g.B.Boosted.need g.B.Boosted.inverse (laws g).rules _ c.self.invariant.upheld.holds c.args.number (event_of c.in-Some.newest.now) _ c.in-Some.ensures.found.1).1
 
 pub undo-requires-clause-room : goal.undo-requires-clause-room
-undo-requires-clause-room g c = back_room g.B.Boosted.answers g.B.Boosted.leaves g.B.Parts.makes g.B.Boosted.need g.B.Boosted.inverse g.B.Boosted.belongs g.B.Parts.names g.B.Boosted.within (λ s. AreShort (g.B.Coded.collections s)) (laws g) _ c.self.invariant c.args.number (event_of c.in-Some.newest.now) _ c.in-Some.ensures.found.1
+undo-requires-clause-room g c = back_room g.B.Boosted.answers g.B.Boosted.leaves g.B.Parts.makes g.B.Boosted.need g.B.Boosted.inverse g.B.Boosted.belongs g.B.Parts.names g.B.Boosted.within (λ s. AreShort (g.B.Coded.collections s)) (laws g) _ c.self.invariant.upheld c.args.number (event_of c.in-Some.newest.now) _ c.in-Some.ensures.found.1
 
 pub invariant_of-self : goal.invariant_of-self
 invariant_of-self g c =
     let i = c.self.inside in
     fall_keeps g.B.Boosted.answers g.B.Boosted.leaves g.B.Parts.makes g.B.Boosted.need g.B.Boosted.inverse g.B.Boosted.belongs g.B.Parts.names g.B.Boosted.within (λ s. AreShort (g.B.Coded.collections s)) (laws g) _ c.self.invariant c.args.number
     (book_of i.parts i.needs c.fall.new.self i.pending i.wear i.places i.next)
-    (fall_done i.parts i.needs i.live i.pending i.wear i.places i.next c.args.number c.fall.new.self (subst (λ b. Lives b.state.live c.args.number) (sym c.self.view_is) c.in_ok-check_live.ensures.ok) c.in_default.ensures.none c.fall.ensures.live c.fall.ensures.entries)
+    (fall_done i.parts i.needs i.live i.wear c.args.number c.fall.new.self (subst (λ b. Lives b.state.live c.args.number) (sym c.self.view_is) c.in_ok-check_live.ensures.ok) c.in_default.ensures.none c.fall.ensures.live c.fall.ensures.entries)
     refl
 
 pub invariant_of-self-2 : goal.invariant_of-self-2
@@ -67,4 +68,4 @@ pub returns-clause-answer : goal.returns-clause-answer
 returns-clause-answer g c = rw (← c.self.view_is) (step g c)
 
 pub returns-clause-settled : goal.returns-clause-settled
-returns-clause-settled g c = rw (← c.self.view_is) (λ d w. back_settles g.B.Boosted.answers g.B.Boosted.leaves g.B.Parts.makes g.B.Boosted.need g.B.Boosted.inverse (laws g).rules _ c.self.invariant.holds c.args.number _ d (step g c).0 w)
+returns-clause-settled g c = rw (← c.self.view_is) (λ d w. back_settles g.B.Boosted.answers g.B.Boosted.leaves g.B.Parts.makes g.B.Boosted.need g.B.Boosted.inverse (laws g).rules _ c.self.invariant.upheld.holds c.args.number _ d (step g c).0 w)

@@ -9,7 +9,8 @@ use Rattle.txn.specs.Machine.{CanCall, CallRow}
 use Rattle.txn.specs.Books.{AppendsTo, IsOpen, record_of}
 use Rattle.txn.specs.Views.{book_of}
 use Rattle.txn.proofs.BookLaws.{BookLaws, book_laws}
-use Rattle.txn.proofs.Kept.{call_keeps, call_room}
+use Rattle.txn.proofs.Kept.{call_keeps}
+use Rattle.txn.proofs.Upheld.{call_room}
 use Rattle.txn.proofs.Steps.{call_settles}
 use Rattle.txn.proofs.Asked.{is_record, at_once, use_ok, call_done}
 use Rattle.txn.proofs.book.Book.call.Given.{Over}
@@ -26,13 +27,13 @@ laws g =
 
 pub record_of-requires-clause-short : goal.record_of-requires-clause-short
 record_of-requires-clause-short g c =
-    (c.in_ok-check_call.ensures.ok.asked.2, (laws g).short_replies c.self.inside.parts c.args.col c.args.call.now c.in_ok-reply.reply c.self.invariant.spells c.in_ok-reply.ensures.ok)
+    (c.in_ok-check_call.ensures.ok.asked.2, (laws g).short_replies c.self.inside.parts c.args.col c.args.call.now c.in_ok-reply.reply c.self.invariant.upheld.spells c.in_ok-reply.ensures.ok)
 
 pub encoded_len-requires : goal.encoded_len-requires
 encoded_len-requires g c =
     let made = c.in_ok-entry.ensures.ok in
     let asks = c.in_ok-check_call.ensures.ok in
-    let number = (c.self.invariant.numbers c.args.number (subst (λ b. Lives b.state.live c.args.number) (sym c.self.view_is) asks.running.live)).0 in
+    let number = c.self.invariant.upheld.numbers c.args.number (subst (λ b. Lives b.state.live c.args.number) (sym c.self.view_is) asks.running.live) in
     let good = is_record g.B.Boosted.inverse g.met.B.Coded.inverse_as_told c.args.number c.args.col (g.B.Coded.collections c.self.inside.parts) c.args.call.now c.in_ok-reply.reply number c.ranges.col.fits asks.asked.1
     ((g.met.B.Coded.answers_as_told c.self.inside.parts c.args.col c.args.call.now c.in_ok-reply.reply).0 c.in_ok-reply.ensures.ok) made.1 made.2 in
     subst Fits (sym made.0) good.fits
@@ -41,7 +42,7 @@ pub push-requires-clause-fits : goal.push-requires-clause-fits
 push-requires-clause-fits g c =
     let made = c.in_ok-entry.ensures.ok in
     let asks = c.in_ok-check_call.ensures.ok in
-    let number = (c.self.invariant.numbers c.args.number (subst (λ b. Lives b.state.live c.args.number) (sym c.self.view_is) asks.running.live)).0 in
+    let number = c.self.invariant.upheld.numbers c.args.number (subst (λ b. Lives b.state.live c.args.number) (sym c.self.view_is) asks.running.live) in
     let good = is_record g.B.Boosted.inverse g.met.B.Coded.inverse_as_told c.args.number c.args.col (g.B.Coded.collections c.self.inside.parts) c.args.call.now c.in_ok-reply.reply number c.ranges.col.fits asks.asked.1
     ((g.met.B.Coded.answers_as_told c.self.inside.parts c.args.col c.args.call.now c.in_ok-reply.reply).0 c.in_ok-reply.ensures.ok) made.1 made.2 in
     subst Fits (sym made.0) good.fits
@@ -71,7 +72,7 @@ step g c =
     } in
     let held = use_ok _ c.ask.result (sym c.is_err.ensures.value ∙ c.if-is_err.false) c.ask.ensures.held in
     call_done g.B.Boosted.answers g.B.Boosted.leaves g.B.Boosted.belongs g.B.Boosted.need g.B.Boosted.inverse i.parts i.needs i.live i.pending i.wear i.places i.next n (event g c)
-    c.run.new.self c.reserve.new.self.holds c.ask.new.self c.reserve-2.new.self c.note_call.new.live c.reserve-3.new.self c.push.new.self c.in_ok-entry.entry can (call_room g.B.Boosted.answers g.B.Boosted.leaves g.B.Parts.makes g.B.Boosted.need g.B.Boosted.inverse g.B.Boosted.belongs g.B.Parts.names g.B.Boosted.within (λ s. AreShort (g.B.Coded.collections s)) (laws g) _ c.self.invariant n c.args.col c.args.call.now asks).0 c.in_ok-reserve.ensures.holds
+    c.run.new.self c.reserve.new.self.holds c.ask.new.self c.reserve-2.new.self c.note_call.new.live c.reserve-3.new.self c.push.new.self c.in_ok-entry.entry can (call_room g.B.Boosted.answers g.B.Boosted.leaves g.B.Parts.makes g.B.Boosted.need g.B.Boosted.inverse g.B.Boosted.belongs g.B.Parts.names g.B.Boosted.within (λ s. AreShort (g.B.Coded.collections s)) (laws g) _ c.self.invariant.upheld n c.args.col c.args.call.now asks.running asks.few asks.unworn).0 c.in_ok-reserve.ensures.holds
     (subst (λ k. IsAdded c.reserve.new.self.holds c.ask.new.self.holds (hold n c.args.col k)) c.need-need.ensures held) c.in_ok-run.ensures.ok
     c.in_ok-reserve-2.ensures.live c.in_ok-reserve-2.ensures.entries c.note_call.ensures.live (c.note_call.ensures.noted (call_record n c.args.col c.args.call.now c.in_ok-reply.reply (g.B.Boosted.inverse c.args.call.now c.in_ok-reply.reply)) c.in_ok-entry.ensures.ok.0) asks.room c.in_ok-entry.ensures.ok.0
     c.in_ok-reserve-3.ensures.records c.in_ok-reserve-3.ensures.handed c.push.ensures.records c.push.ensures.handed
@@ -85,10 +86,10 @@ pub invariant_of-self-2 : goal.invariant_of-self-2
 invariant_of-self-2 g c =
     let made = c.in_ok-entry.ensures.ok in
     let asks = c.in_ok-check_call.ensures.ok in
-    let number = (c.self.invariant.numbers c.args.number (subst (λ b. Lives b.state.live c.args.number) (sym c.self.view_is) asks.running.live)).0 in
+    let number = c.self.invariant.upheld.numbers c.args.number (subst (λ b. Lives b.state.live c.args.number) (sym c.self.view_is) asks.running.live) in
     let good = is_record g.B.Boosted.inverse g.met.B.Coded.inverse_as_told c.args.number c.args.col (g.B.Coded.collections c.self.inside.parts) c.args.call.now c.in_ok-reply.reply number c.ranges.col.fits asks.asked.1
     ((g.met.B.Coded.answers_as_told c.self.inside.parts c.args.col c.args.call.now c.in_ok-reply.reply).0 c.in_ok-reply.ensures.ok) made.1 made.2 in
     call_keeps g.B.Boosted.answers g.B.Boosted.leaves g.B.Parts.makes g.B.Boosted.need g.B.Boosted.inverse g.B.Boosted.belongs g.B.Parts.names g.B.Boosted.within (λ s. AreShort (g.B.Coded.collections s)) (laws g) _ c.self.invariant c.args.number (event g c) _ (step g c).0 (step g c).1 good
 
 pub returns-clause-settled : goal.returns-clause-settled
-returns-clause-settled g c = rw (← c.self.view_is) (λ d w. call_settles g.B.Boosted.answers g.B.Boosted.leaves g.B.Parts.makes g.B.Boosted.need g.B.Boosted.inverse (laws g).rules _ c.self.invariant.holds g.B.Boosted.belongs c.args.number (event g c) _ d (step g c).0 w)
+returns-clause-settled g c = rw (← c.self.view_is) (λ d w. call_settles g.B.Boosted.answers g.B.Boosted.leaves g.B.Parts.makes g.B.Boosted.need g.B.Boosted.inverse (laws g).rules _ c.self.invariant.upheld.holds g.B.Boosted.belongs c.args.number (event g c) _ d (step g c).0 w)

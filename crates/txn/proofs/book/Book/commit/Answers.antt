@@ -6,7 +6,8 @@ use Rattle.txn.specs.Books.{AppendsTo}
 use Rattle.txn.specs.Views.{book_of}
 use Rattle.txn.specs.Waits.{HasRoomFor}
 use Rattle.txn.proofs.BookLaws.{BookLaws, book_laws}
-use Rattle.txn.proofs.BookLemmas.{mark_length, recorded, left_is}
+use Rattle.txn.proofs.BookLemmas.{mark_length, recorded}
+use Rattle.txn.proofs.Rows.{left_row}
 use Rattle.txn.proofs.Kept.{commit_keeps}
 use Rattle.txn.proofs.Steps.{commit_settles}
 use Rattle.txn.proofs.book.Book.commit.Given.{Over}
@@ -31,7 +32,7 @@ step : (g : Over) (c : goal.After-self-1 g) → let i = c.self.inside in
     CommitRow old.state c.args.number new.state × AppendsTo old (Record.Commit c.args.number) new
 step g c =
     let i = c.self.inside in
-    let left = left_is i.parts i.needs i.live i.pending i.wear i.places i.next c.args.number c.give_up.new.self c.remove.new.self c.push.new.self (i.places + 1) c.remove.ensures.live c.remove.ensures.entries c.give_up.ensures.holds in
+    let left = left_row i.parts i.needs i.live i.wear c.args.number c.give_up.new.self c.remove.new.self c.remove.ensures.live c.remove.ensures.entries c.give_up.ensures.holds in
     let written =
     recorded i.parts i.needs i.live i.pending i.wear i.places i.next (Record.Commit c.args.number) i.parts c.give_up.new.self c.remove.new.self c.reserve.new.self c.push.new.self i.wear (i.places + 1) i.next
     (subst (λ b. length b.pending < 16384) (sym c.self.view_is) c.in_ok-check_backlog.ensures.ok)
@@ -45,4 +46,4 @@ pub returns-clause-answer : goal.returns-clause-answer
 returns-clause-answer g c = rw (← c.self.view_is) ((step g c).0, (step g c).1, refl)
 
 pub returns-clause-settled : goal.returns-clause-settled
-returns-clause-settled g c = rw (← c.self.view_is) (λ d w. commit_settles g.B.Boosted.answers g.B.Boosted.leaves g.B.Parts.makes g.B.Boosted.need g.B.Boosted.inverse (laws g).rules _ c.self.invariant.holds c.args.number _ d (step g c).0 w)
+returns-clause-settled g c = rw (← c.self.view_is) (λ d w. commit_settles g.B.Boosted.answers g.B.Boosted.leaves g.B.Parts.makes g.B.Boosted.need g.B.Boosted.inverse (laws g).rules _ c.self.invariant.upheld.holds c.args.number _ d (step g c).0 w)

@@ -8,7 +8,8 @@ use Rattle.txn.specs.Books.{AppendsTo}
 use Rattle.txn.specs.Views.{book_of}
 use Rattle.txn.specs.Waits.{HasRoomFor}
 use Rattle.txn.proofs.BookLaws.{BookLaws, book_laws}
-use Rattle.txn.proofs.BookLemmas.{mark_length, recorded, left_is, some_call, none_found, one_found}
+use Rattle.txn.proofs.BookLemmas.{mark_length, recorded, some_call, none_found, one_found}
+use Rattle.txn.proofs.Rows.{left_row}
 use Rattle.txn.proofs.Kept.{ended_keeps}
 use Rattle.txn.proofs.Steps.{ended_settles}
 use Rattle.txn.proofs.book.Book.ended.Given.{Over}
@@ -38,7 +39,7 @@ step : (g : Over) (c : goal.Joined-this g) → let i = c.self.inside in
     EndedRow old.state c.args.number new.state × AppendsTo old (Record.Ended c.args.number) new
 step g c =
     let i = c.self.inside in
-    let left = left_is i.parts i.needs i.live i.pending i.wear i.places i.next c.args.number c.give_up.new.self c.remove.new.self c.push.new.self i.places c.remove.ensures.live c.remove.ensures.entries c.give_up.ensures.holds in
+    let left = left_row i.parts i.needs i.live i.wear c.args.number c.give_up.new.self c.remove.new.self c.remove.ensures.live c.remove.ensures.entries c.give_up.ensures.holds in
     let written =
     recorded i.parts i.needs i.live i.pending i.wear i.places i.next (Record.Ended c.args.number) i.parts c.give_up.new.self c.remove.new.self c.reserve.new.self c.push.new.self i.wear i.places i.next
     (subst (λ b. length b.pending < 16384) (sym c.self.view_is) c.in_ok-check_backlog.ensures.ok)
@@ -52,4 +53,4 @@ pub returns-clause-answer : goal.returns-clause-answer
 returns-clause-answer g c = rw (← c.self.view_is) (step g c)
 
 pub returns-clause-settled : goal.returns-clause-settled
-returns-clause-settled g c = rw (← c.self.view_is) (λ d w. ended_settles g.B.Boosted.answers g.B.Boosted.leaves g.B.Parts.makes g.B.Boosted.need g.B.Boosted.inverse (laws g).rules _ c.self.invariant.holds c.args.number _ d (step g c).0 w)
+returns-clause-settled g c = rw (← c.self.view_is) (λ d w. ended_settles g.B.Boosted.answers g.B.Boosted.leaves g.B.Parts.makes g.B.Boosted.need g.B.Boosted.inverse (laws g).rules _ c.self.invariant.upheld.holds c.args.number _ d (step g c).0 w)

@@ -6,8 +6,10 @@ use Rattle.txn.specs.Books.{CanEnter, Appends}
 use Rattle.txn.specs.Views.{book_of}
 use Rattle.txn.specs.Waits.{HasRoomFor}
 use Rattle.txn.proofs.BookLaws.{BookLaws, book_laws}
-use Rattle.txn.proofs.BookLemmas.{mark_length, recorded, begun_is}
-use Rattle.txn.proofs.Kept.{enter_room, enter_keeps}
+use Rattle.txn.proofs.BookLemmas.{mark_length, recorded}
+use Rattle.txn.proofs.Rows.{begun_is}
+use Rattle.txn.proofs.Kept.{enter_keeps}
+use Rattle.txn.proofs.Upheld.{enter_room}
 use Rattle.txn.proofs.book.Book.enter.Given.{Over}
 use Rattle.txn.proofs.book.Book.enter.Goals as goal
 
@@ -34,8 +36,8 @@ step g c =
     let can : CanEnter old c.args.number = subst (λ b. CanEnter b c.args.number) (sym c.self.view_is) c.in_ok-check_enter.ensures.ok in
     let row : BeginRow old.state c.args.number _ = record {
       can = can.begins;
-      room = enter_room g.B.Boosted.answers g.B.Boosted.leaves g.B.Parts.makes g.B.Boosted.need g.B.Boosted.inverse g.B.Boosted.belongs g.B.Parts.names g.B.Boosted.within (λ s. AreShort (g.B.Coded.collections s)) (laws g) old c.self.invariant can.unworn;
-      is = begun_is i.parts i.needs i.live i.pending i.wear i.places i.next c.args.number c.enter.new.self c.push.new.self c.max-self-inside.result c.in_ok-enter.ensures.live c.in_ok-enter.ensures.entries;
+      room = enter_room g.B.Boosted.answers g.B.Boosted.leaves g.B.Parts.makes g.B.Boosted.need g.B.Boosted.inverse g.B.Boosted.belongs g.B.Parts.names g.B.Boosted.within (λ s. AreShort (g.B.Coded.collections s)) (laws g) old.state c.self.invariant.upheld can.unworn;
+      is = begun_is i.parts i.needs i.live i.wear c.args.number c.enter.new.self c.in_ok-enter.ensures.live c.in_ok-enter.ensures.entries;
     } in
     let written =
     recorded i.parts i.needs i.live i.pending i.wear i.places i.next (Record.Begin c.args.number) i.parts i.needs c.enter.new.self c.reserve.new.self c.push.new.self (i.wear + 1) i.places c.max-self-inside.result can.room

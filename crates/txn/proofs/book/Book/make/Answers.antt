@@ -44,7 +44,7 @@ pub invariant_of-self-2 : goal.invariant_of-self-2
 invariant_of-self-2 g c = make_keeps g.B.Boosted.answers g.B.Boosted.leaves g.B.Parts.makes g.B.Boosted.need g.B.Boosted.inverse g.B.Boosted.belongs g.B.Parts.names g.B.Boosted.within (λ s. AreShort (g.B.Coded.collections s)) (laws g) _ c.self.invariant c.args.name.now c.args.kind _ (step g c).0 (step g c).1
 
 pub returns-clause-settled : goal.returns-clause-settled
-returns-clause-settled g c = rw (← c.self.view_is) (λ d w. make_settles g.B.Boosted.answers g.B.Boosted.leaves g.B.Parts.makes g.B.Boosted.need g.B.Boosted.inverse (laws g).rules _ c.self.invariant.holds g.B.Parts.names c.args.name.now c.args.kind _ d (step g c).0 w)
+returns-clause-settled g c = rw (← c.self.view_is) (λ d w. make_settles g.B.Boosted.answers g.B.Boosted.leaves g.B.Parts.makes g.B.Boosted.need g.B.Boosted.inverse (laws g).rules _ c.self.invariant.upheld.holds g.B.Parts.names c.args.name.now c.args.kind _ d (step g c).0 w)
 
 pub returns-in_err-at-clause-answer : goal.returns-in_err-at-clause-answer
 returns-in_err-at-clause-answer g c =

@@ -1,0 +1,13 @@
+use Rattle.std.proofs.Common.{Ok, Err, refl}
+use Rattle.std.proofs.lemmas.Result.{err_from_is_err_and}
+use Rattle.boost.proofs.commands.client.Client.commit.Goals as goal
+
+pub returns-in_err-number : goal.returns-in_err-number
+returns-in_err-number g c =
+    let p = err_from_is_err_and c.from_residual.result c.from_residual.ensures.1 in
+    rw (p.1, p.2) (Err c.in_err-number.field-0.0, _, _, c.in_err-number.ensures, (refl, refl, refl))
+
+pub returns-in_err-place : goal.returns-in_err-place
+returns-in_err-place g c =
+    let p = err_from_is_err_and c.from_residual-in_err-place.result c.from_residual-in_err-place.ensures.1 in
+    rw (p.1, p.2) (Ok c.in_ok-number.number, _, _, c.in_ok-number.ensures, (c.in_err-place.ensures.answer, refl))

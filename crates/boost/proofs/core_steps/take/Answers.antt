@@ -1,4 +1,0 @@
-use Rattle.boost.proofs.core_steps.take.Goals as goal
-
-pub returns-in-Cut-clause-core : goal.returns-in-Cut-clause-core
-returns-in-Cut-clause-core c = rw c.in-Cut.is (c.cut.ensures c.args.mark)

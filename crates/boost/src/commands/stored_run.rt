@@ -1,0 +1,45 @@
+// A stored script, run on a disk in memory.
+ghost use Rattle.std.specs.Prelude.{IfErr};
+ghost use Rattle.boost.specs.Commands.{IsOfStore};
+
+use crate::commands::failure::Failure;
+use crate::commands::{play_lines, show};
+use crate::script::parse;
+use calls::Refusal;
+use calls::limits::MIN_AREA;
+use disk_model::MemDisk;
+use recovery::format;
+use std::alloc::Global;
+use std::io::Write;
+
+// The script.
+const SCRIPT: &[u8] =
+    b"c1 make counter hits\nc1 begin\nc1 call hits bump 1\nc1 commit\nc1 kept\nturn\nc1 kept\nturn\n";
+
+// How many bytes its disk has: what stands before the areas, and two of the least areas.
+const SIZE: u64 = 4096 + 2 * MIN_AREA;
+
+/// Runs the script on a disk of its own, and prints what the lines answer and what they leave.
+pub fn demo<O: Write>(alloc: Global, out: &mut O) -> Result<(), Failure<'static>>
+    ensures { IfErr result IsOfStore }
+{
+    let disk = demo_disk(alloc)?;
+    // The stored script is understood: only memory can be wanting.
+    let Ok(lines) = parse(alloc, SCRIPT) else {
+        return Err(Failure::Refused(Refusal::NoMemory));
+    };
+    let (played, disk) = play_lines(alloc, disk, lines, out);
+    match played {
+        Ok(()) => show(alloc, disk, out).0,
+        Err(failure) => Err(failure),
+    }
+}
+
+// An empty store in memory.
+fn demo_disk(alloc: Global) -> Result<MemDisk, Failure<'static>>
+    ensures { IfErr result IsOfStore }
+{
+    let mut disk = MemDisk::new(alloc, SIZE)?;
+    format(&mut disk, MIN_AREA)?;
+    Ok(disk)
+}

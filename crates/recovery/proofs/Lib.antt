@@ -1,0 +1,12 @@
+pub mod Lists
+pub mod FormatLemmas
+pub mod HeadLemmas
+pub mod Grammar
+pub mod UndoRecords
+pub mod AppendLemmas
+pub mod Walks
+pub mod UndoLemmas
+pub mod RepeatLemmas
+pub mod LoadLemmas
+pub mod OpenLemmas
+pub mod FindLemmas

@@ -1,0 +1,338 @@
+-- A store that was found: what its opening gives, and what a stop in it leaves.
+use Rattle.std.proofs.Common.{◌≡◌, inl, inr, ℕ, ◌+◌, ◌*◌, ◌%◌, ◌<◌, ◌≤◌, List, [], ◌∷◌, ◌++◌, length, take, drop, get_or, map, refl, sym, ◌∙◌, ap, subst, arith, append_assoc, length-append, None}
+use Rattle.std.proofs.lemmas.List.{append-nil, map-append, take-take, drop-take, get_or-take}
+use Rattle.std.specs.List.{flat_map, AllByRecursion}
+use Rattle.std.specs.FinMap as maps
+use Rattle.calls.specs.Contents.{Collection}
+use Rattle.calls.specs.Transactions.{Transaction, Whole, Made, Event, Leads, Does, RunsWhole, Serial, calls_of, laters_of, committed}
+use Rattle.disk_model.specs.Disk.{ReadsOnly, IsAtRest, LeavesOnly}
+use Rattle.disk_model.proofs.Walk.{and_then, reads_rest}
+use Rattle.gate_block.specs.declared.area.Area.{Area}
+use Rattle.gate_block.specs.Row.{row, IsRow, SameOutside, part}
+use Rattle.gate_block.specs.Area.{base_of, size_of, position_of, bytes_of}
+use Rattle.gate_block.proofs.Facts.{row-append}
+use Rattle.gate_block.proofs.Unique.{row_unique}
+use Rattle.records.specs.declared.record.Record.{Record}
+use Rattle.records.specs.Records.{spelling, IsRecord}
+use Rattle.records.specs.Acts.{acts_of, acts_of_record}
+use Rattle.txn.specs.Books.{BookState, opened}
+use Rattle.recovery.specs.Journals.{AreSpelt, Holds, IsHeader, StandsFor, IsLiveRecord, IsJournalRecord, base_in_use, area_in_use, collection_records, live_entries, records_in}
+use Rattle.recovery.specs.Steps.{State, Steps, Repeats, IsSound, empty_state}
+use Rattle.recovery.specs.Repetitions.{AreRead}
+use Rattle.recovery.specs.Undoing.{Undo, IsUndoRecord, AreBlocksOf, blocks_len}
+use Rattle.recovery.specs.Appending.{IsAt, HoldsFirst, IsAppended}
+use Rattle.recovery.specs.Finding.{IsStored}
+use Rattle.recovery.specs.Openings.{IsRead, IsOpened, HasNoRoom, KeepsContent}
+use Rattle.recovery.proofs.Lists.{leads_append, leads_split, leads_exact, flat_map-append, all_append, all_first, all_last}
+use Rattle.recovery.proofs.Grammar.{opened_spelt, same_blocks}
+use Rattle.recovery.proofs.UndoRecords.{undo_records_read, undo_acts, undo_journal, blocks_hold, in_blocks, rows_len}
+
+-- ---- transactions run whole have one end
+
+call_exact : (e : Event) (s t u : List Collection) → Does s e t → Does s e u → t ≡ u
+call_exact e s t u a b = a.1 ∙ sym b.1
+
+whole_exact : (x : Transaction) (s t u : List Collection) → RunsWhole s x t → RunsWhole s x u → t ≡ u
+whole_exact (Whole es) s t u a b =
+    let middle : b.0 ≡ a.0 = leads_exact Does call_exact (calls_of es) s b.0 a.0 b.1 a.1 in
+    leads_exact Does call_exact (laters_of es) a.0 t u a.2 (subst (λ m. Leads Does (laters_of es) m u) middle b.2)
+whole_exact (Made name kind) s t u a b = a.is ∙ sym b.is
+
+serial_exact : (xs : List Transaction) (s t u : List Collection) → Serial xs s t → Serial xs s u → t ≡ u
+serial_exact xs s t u = leads_exact RunsWhole whole_exact xs s t u
+
+-- ---- an image that ends at once shows nothing
+
+no_live : (live : List Record) (journal rest : List Record) → AllByRecursion IsLiveRecord live → Record.ImageEnd ∷ journal ≡ (live ++ Record.ImageEnd ∷ []) ++ rest → live ≡ []
+no_live [] journal rest all e = refl
+no_live (r ∷ live) journal rest all e =
+    let same : r ≡ Record.ImageEnd = cc in
+    absurd (subst IsLiveRecord same all.0)
+
+no_image : (shown : List Collection) (numbers : List ℕ) (live journal rest : List Record) (next wear : ℕ) → AllByRecursion IsLiveRecord live
+    → Record.Marks 1 0 ∷ (Record.ImageEnd ∷ journal) ≡ (Record.Marks next wear ∷ (flat_map collection_records shown ++ (map Record.Begin numbers ++ (live ++ Record.ImageEnd ∷ [])))) ++ rest → (shown ≡ []) × (live ≡ [])
+no_image (x ∷ shown) numbers live journal rest next wear all e = absurd cc
+no_image [] (n ∷ numbers) live journal rest next wear all e = absurd cc
+no_image [] [] live journal rest next wear all e =
+    let behind : Record.ImageEnd ∷ journal ≡ (live ++ Record.ImageEnd ∷ []) ++ rest = cc in
+    (refl, no_live live journal rest all behind)
+
+starts_empty : (live : List Record) (start shown : List Collection) → live ≡ [] → shown ≡ [] → Leads Does (calls_of (live_entries live)) start shown → start ≡ []
+starts_empty live start shown none empty leads = let same : start ≡ shown = subst (λ l. Leads Does (calls_of (live_entries l)) start shown) none leads in same ∙ empty
+
+-- ---- records that are repeated stand in a journal
+
+step_journal : (r : Record) (s t : State) → Steps s r t → IsJournalRecord r
+step_journal (Record.Make kind name) s t step = tt
+step_journal (Record.Call c) s t step = tt
+step_journal (Record.Later l) s t step = tt
+step_journal (Record.Commit n) s t step = tt
+step_journal (Record.Back n) s t step = tt
+step_journal (Record.Ended n) s t step = tt
+step_journal (Record.Begin n) s t step = tt
+step_journal r s t step = absurd step
+
+repeats_journal : (rs : List Record) (s t : State) → Repeats rs s t → AllByRecursion IsJournalRecord rs
+repeats_journal [] s t run = tt
+repeats_journal (r ∷ rs) s t run = (step_journal r s run.0 run.1, repeats_journal rs run.0 t run.2)
+
+-- ---- a head that nothing changed
+
+front_same : (base size n : ℕ) (old new : List ℕ) → n ≤ base → SameOutside base size old new → take n new ≡ take n old
+front_same base size n old new le outside = sym (take-take n base new le) ∙ ap (take n) outside.before ∙ take-take n base old le
+
+byte_same : (base size n : ℕ) (old new : List ℕ) → n < base → SameOutside base size old new → get_or new n 0 ≡ get_or old n 0
+byte_same base size n old new lt outside = sym (get_or-take base new n 0 lt) ∙ ap (λ l. get_or l n 0) outside.before ∙ get_or-take base old n 0 lt
+
+header_same : (base size area : ℕ) (old new : List ℕ) → 4096 ≤ base → SameOutside base area old new → IsHeader size old → IsHeader size new
+header_same base size area old new far outside header = record {
+  letters = front_same base area 8 old new (omega (arith, far)) outside ∙ header.letters;
+  gate = byte_same base area 8 old new (omega (arith, far)) outside ∙ header.gate;
+  area = sym (drop-take 9 8 new) ∙ ap (drop 9) (front_same base area 17 old new (omega (arith, far)) outside) ∙ drop-take 9 8 old ∙ header.area;
+  not_small = header.not_small;
+  not_large = header.not_large;
+  whole = outside.same_size ∙ header.whole;
+}
+
+picks_same : (base size area : ℕ) (old new : List ℕ) → 4096 ≤ base → SameOutside base area old new → base_in_use size new ≡ base_in_use size old
+picks_same base size area old new far outside = ap (λ r. 4096 + size * (r % 2)) (byte_same base area 512 old new (omega (arith, far)) outside)
+
+far_off : (base size : ℕ) (bytes : List ℕ) → base ≡ base_in_use size bytes → 4096 ≤ base
+far_off base size bytes is = let r : ℕ = get_or bytes 512 0 in elim_far base size (r % 2) is
+  where
+    elim_far : (base size r : ℕ) → base ≡ 4096 + size * r → 4096 ≤ base
+    elim_far base size r is = let more : ℕ = size * r in behind base more is
+      where
+        behind : (base more : ℕ) → base ≡ 4096 + more → 4096 ≤ base
+        behind base more is = omega (arith, is)
+
+pub one_size : (n m : ℕ) (bytes : List ℕ) → IsHeader n bytes → IsHeader m bytes → n ≡ m
+one_size n m bytes a b = omega (arith, a.whole, b.whole)
+
+pub records_in-append : (front back : List (List Record)) → records_in (front ++ back) ≡ records_in front ++ records_in back
+records_in-append front back = flat_map-append (λ rs. rs) front back
+
+acts_of-append : (xs ys : List Record) → acts_of (xs ++ ys) ≡ acts_of xs ++ acts_of ys
+acts_of-append xs ys = flat_map-append acts_of_record xs ys
+
+all_in : (blocks : List (List Record)) → AllByRecursion AreRead blocks → AreRead (records_in blocks)
+all_in [] read = tt
+all_in (b ∷ blocks) read = all_append (IsRecord None) b (records_in blocks) read.0 (all_in blocks read.1)
+
+pub by_block : (blocks : List (List Record)) → AreRead (records_in blocks) → AllByRecursion AreRead blocks
+by_block [] read = tt
+by_block (rs ∷ blocks) read = (all_first (IsRecord None) rs (records_in blocks) read, by_block blocks (all_last (IsRecord None) rs (records_in blocks) read))
+
+-- ---- a store that was found
+
+module _ (old : List ℕ) (area : Area) (state : State) (next count : ℕ) (stored : IsStored old area state next count) (records : List Record) (undone : State) (undo : Undo state records undone) (marks : AllByRecursion IsUndoRecord records) where
+  abbrev blocks : List (List Record)
+  blocks = stored.loaded.blocks
+
+  abbrev journal : List Record
+  journal = stored.loaded.journal
+
+  abbrev read : IsRead (base_of area) (size_of area) old blocks journal state
+  read = stored.loaded.is_read
+
+  pub stands_there : IsAt area old (map spelling blocks)
+  stands_there = record { row_is = read.row_is; position = stored.loaded.position }
+
+  -- the records behind those that were there lead on
+  whole_run : Repeats (journal ++ records) empty_state undone
+  whole_run = leads_append Steps journal records empty_state state undone read.repeats undo.leads
+
+  good : AreRead (records_in blocks)
+  good = all_in blocks read.read
+
+  pub opens : (after : Area) (new : List ℕ) (book : BookState (List Collection)) → IsAppended records area after old new → book ≡ opened undone.now next undone.wear → IsOpened old book after new
+  opens after new book appended book_is =
+      let b : base_of after ≡ base_of area = appended.same_base in
+      let n : size_of after ≡ size_of area = appended.same_size in record {
+        header = subst (λ k. IsHeader k old) (sym n) stored.header;
+        picks = b ∙ stored.picks ∙ ap (λ k. base_in_use k old) (sym n);
+        blocks = blocks;
+        journal = journal;
+        state = state;
+        is_read = subst (λ k. IsRead k (size_of after) old blocks journal state) (sym b) (subst (λ k. IsRead (base_of area) k old blocks journal state) (sym n) read);
+        undoing = records;
+        undone = undone;
+        undo = undo;
+        book_is = book_is ∙ ap (λ k. opened undone.now k undone.wear) stored.loaded.next;
+        written = appended.written;
+        in_blocks = appended.in_blocks;
+        read_too = by_block appended.written (subst AreRead (sym (blocks_hold records appended.written appended.in_blocks)) (undo_records_read records marks));
+        row_is = subst (λ l. IsRow l (bytes_of after new)) (sym (map-append spelling blocks appended.written)) (appended.counts (map spelling blocks) stands_there);
+        position =
+            omega (
+              arith,
+              appended.position,
+              stored.loaded.position,
+              ap (λ l. length (row l)) (map-append spelling blocks appended.written),
+              ap length (row-append (map spelling blocks) (map spelling appended.written)),
+              length-append (row (map spelling blocks)) (row (map spelling appended.written)),
+            );
+        elsewhere = subst (λ k. SameOutside k (size_of after) old new) (sym b) (subst (λ k. SameOutside (base_of area) k old new) (sym n) appended.elsewhere);
+        unwritten = appended.unwritten;
+        fine = appended.fine;
+      }
+
+  pub has_no_room : size_of area ≤ position_of area + blocks_len (length records) → HasNoRoom old
+  has_no_room over =
+      let written = in_blocks records in
+      let at : IsRead (base_in_use (size_of area) old) (size_of area) old blocks journal state = subst (λ k. IsRead k (size_of area) old blocks journal state) stored.picks read in record {
+        size = size_of area;
+        header = stored.header;
+        blocks = blocks;
+        journal = journal;
+        state = state;
+        is_read = at;
+        undoing = records;
+        undone = undone;
+        undo = undo;
+        written = written.0;
+        in_blocks = written.1;
+        full =
+            omega (
+              arith,
+              over,
+              stored.loaded.position,
+              rows_len records written.0 marks written.1,
+              ap (λ l. length (row l)) (map-append spelling blocks written.0),
+              ap length (row-append (map spelling blocks) (map spelling written.0)),
+              length-append (row (map spelling blocks)) (row (map spelling written.0)),
+            );
+      }
+
+  spelt : (front : List (List Record)) → AllByRecursion IsUndoRecord (records_in front) → AreSpelt None (records_in (blocks ++ front))
+  spelt front undo_front =
+      opened_spelt (records_in (blocks ++ front)) (journal ++ records_in front) (records_in-append blocks front ∙ ap (λ l. l ++ records_in front) read.is)
+      (subst AreRead (sym (records_in-append blocks front)) (all_append (IsRecord None) (records_in blocks) (records_in front) good (undo_records_read (records_in front) undo_front)))
+      (all_append IsJournalRecord journal (records_in front) (repeats_journal journal empty_state state read.repeats) (undo_journal (records_in front) undo_front))
+
+  -- the blocks that were loaded are those that the bytes hold
+  same_held : (held : List (List Record)) → Holds old held → blocks ≡ held
+  same_held held holds =
+      let size : holds.size ≡ size_of area = one_size holds.size (size_of area) old holds.header stored.header in
+      let there : area_in_use holds.size old ≡ part (base_of area) (size_of area) old = ap (λ n. area_in_use n old) size ∙ ap (λ b. part b (size_of area) old) (sym stored.picks) in
+      let bodies : map spelling blocks ≡ map spelling held = row_unique (map spelling blocks) (map spelling held) (part (base_of area) (size_of area) old) read.row_is (subst (λ b. IsRow (map spelling held) b) there holds.row) in
+      let none : records_in (blocks ++ []) ≡ records_in blocks = ap records_in (append-nil blocks) in
+      same_blocks None blocks held (subst (AreSpelt None) none (spelt [] tt)) holds.spelt bodies
+
+  -- the content that the bytes stand for is what the records lead to
+  pub content_is : (content : List Collection) → StandsFor old content → ((rs : List Record) → Repeats rs empty_state undone → undone.live ≡ maps.empty → Serial (committed (acts_of rs)) [] undone.now) → undone.now ≡ content
+  content_is content stands history =
+      let same : blocks ≡ stands.blocks = same_held stands.blocks stands.holds in
+      let parts : Record.Marks 1 0 ∷ (Record.ImageEnd ∷ journal) ≡ stands.image ++ stands.journal = sym read.is ∙ ap records_in same ∙ stands.split in
+      let none = no_image stands.shown stands.is_image.numbers stands.live journal stands.journal stands.is_image.next stands.is_image.wear stands.is_image.all_live (parts ∙ ap (λ i. i ++ stands.journal) stands.is_image.is) in
+      let start : stands.start ≡ [] = starts_empty stands.live stands.start stands.shown none.1 none.0 stands.leads in
+      let acts : committed (acts_of (records_in stands.blocks)) ≡ committed (acts_of journal) = ap (λ b. committed (acts_of (records_in b))) (sym same) ∙ ap (λ rs. committed (acts_of rs)) read.is in
+      let stood : Serial (committed (acts_of journal)) [] content = subst (λ s. Serial (committed (acts_of journal)) s content) start (subst (λ xs. Serial xs stands.start content) acts stands.serial) in
+      let silent : acts_of (journal ++ records) ≡ acts_of journal = acts_of-append journal records ∙ ap (λ l. acts_of journal ++ l) (undo_acts records marks) ∙ append-nil (acts_of journal) in
+      let run : Serial (committed (acts_of journal)) [] undone.now = subst (λ a. Serial (committed a) [] undone.now) silent (history (journal ++ records) whole_run undo.over) in
+      serial_exact (committed (acts_of journal)) [] undone.now content run stood
+
+  -- what a stop leaves while the records are written is sound, and stands for the same content
+  module _ (c : List ℕ) (holds : HoldsFirst area old (map spelling blocks) records c) where
+    abbrev front : List (List Record)
+    front = holds.front
+
+    undo_front : AllByRecursion IsUndoRecord (records_in front)
+    undo_front = all_first IsUndoRecord (records_in front) holds.more (subst (AllByRecursion IsUndoRecord) holds.is marks)
+
+    far : 4096 ≤ base_of area
+    far = far_off (base_of area) (size_of area) old stored.picks
+
+    holds_all : Holds c (blocks ++ front)
+    holds_all = record {
+      size = size_of area;
+      header = header_same (base_of area) (size_of area) (size_of area) old c far holds.elsewhere stored.header;
+      row =
+          subst (λ b. IsRow (map spelling (blocks ++ front)) (part b (size_of area) c)) (stored.picks ∙ sym (picks_same (base_of area) (size_of area) (size_of area) old c far holds.elsewhere))
+          (subst (λ l. IsRow l (bytes_of area c)) (sym (map-append spelling blocks front)) holds.row_is);
+      spelt = spelt front undo_front;
+    }
+
+    pub stop_sound : IsSound c
+    stop_sound =
+        let split = leads_split Steps (records_in front) holds.more state undone (subst (λ l. Repeats l state undone) holds.is undo.leads) in record {
+          blocks = blocks ++ front;
+          holds = holds_all;
+          good = subst AreRead (sym (records_in-append blocks front)) (all_append (IsRecord None) (records_in blocks) (records_in front) good (undo_records_read (records_in front) undo_front));
+          journal = journal ++ records_in front;
+          is = records_in-append blocks front ∙ ap (λ l. l ++ records_in front) read.is;
+          end = split.0;
+          repeats = leads_append Steps journal (records_in front) empty_state state split.0 read.repeats split.1;
+        }
+
+    pub stop_stands : (content : List Collection) → StandsFor old content → StandsFor c content
+    stop_stands content stands =
+        let same : blocks ≡ stands.blocks = same_held stands.blocks stands.holds in
+        let all : records_in (blocks ++ front) ≡ records_in stands.blocks ++ records_in front = records_in-append blocks front ∙ ap (λ b. records_in b ++ records_in front) same in
+        let silent : acts_of (records_in stands.blocks) ≡ acts_of (records_in (blocks ++ front)) =
+        sym (append-nil (acts_of (records_in stands.blocks))) ∙ ap (λ l. acts_of (records_in stands.blocks) ++ l) (sym (undo_acts (records_in front) undo_front)) ∙ sym (acts_of-append (records_in stands.blocks) (records_in front)) ∙ ap acts_of (sym all) in record {
+          blocks = blocks ++ front;
+          holds = holds_all;
+          image = stands.image;
+          journal = stands.journal ++ records_in front;
+          split = all ∙ ap (λ l. l ++ records_in front) stands.split ∙ append_assoc stands.image stands.journal (records_in front);
+          all_journal = all_append IsJournalRecord stands.journal (records_in front) stands.all_journal (undo_journal (records_in front) undo_front);
+          shown = stands.shown;
+          live = stands.live;
+          is_image = stands.is_image;
+          start = stands.start;
+          leads = stands.leads;
+          serial = subst (λ a. Serial (committed a) stands.start content) silent stands.serial;
+        }
+
+-- what is only read keeps its content
+pub keeps_content : {D : Type 0} (seen : D → List ℕ) (may_leave : D → List ℕ → Type 0) (moment : D → ℕ) (left_since : D → ℕ → List ℕ → Type 0) (old new : D) → ReadsOnly seen may_leave moment left_since old new → KeepsContent seen may_leave moment left_since old new
+keeps_content seen may_leave moment left_since old new reads content rest sound stands =
+    let Fine : List ℕ → Type 0 = λ b. IsSound b × StandsFor b content in
+    let at_rest : (c : List ℕ) → may_leave old c → Fine c = λ c left. subst Fine (sym (rest c left)) (sound, stands) in
+    record {
+      later = reads.any_moment.later;
+      each = λ c left. at_rest c (reads.any_moment.each c left);
+      before = λ t c early left. elim (reads.any_moment.before t c early left) [
+        | inl was ↦ inl was
+        | inr may ↦ inr (at_rest c may)
+      ];
+    }
+
+-- nor does what is written behind it change that
+pub keeps_on : {D : Type 0} (seen : D → List ℕ) (may_leave : D → List ℕ → Type 0) (moment : D → ℕ) (left_since : D → ℕ → List ℕ → Type 0) (old mid new : D) (area : Area) (state undone : State) (next count : ℕ) (records : List Record)
+    → ReadsOnly seen may_leave moment left_since old mid → (stored : IsStored (seen old) area state next count) → Undo state records undone → AllByRecursion IsUndoRecord records
+    → ((bodies : List (List ℕ)) → IsAt area (seen mid) bodies → IsAtRest seen may_leave mid → LeavesOnly moment left_since mid new (HoldsFirst area (seen mid) bodies records)) → KeepsContent seen may_leave moment left_since old new
+keeps_on seen may_leave moment left_since old mid new area state undone next count records reads stored undo marks stop content rest sound stands =
+    let Fine : List ℕ → Type 0 = λ b. IsSound b × StandsFor b content in
+    let bodies : List (List ℕ) = map spelling stored.loaded.blocks in
+    let at : IsAt area (seen mid) bodies = subst (λ b. IsAt area b bodies) (sym reads.same) (stands_there (seen old) area state next count stored records undone undo marks) in
+    and_then moment left_since old mid new Fine (HoldsFirst area (seen mid) bodies records) (keeps_content seen may_leave moment left_since old mid reads content rest sound stands) (stop bodies at (reads_rest seen may_leave moment left_since old mid reads rest))
+    (λ c holds.
+    let here : HoldsFirst area (seen old) bodies records c = subst (λ b. HoldsFirst area b bodies records c) reads.same holds in
+    (stop_sound (seen old) area state next count stored records undone undo marks c here, stop_stands (seen old) area state next count stored records undone undo marks c here content stands))
+
+-- what holds where an area at rest has its blocks
+pub where_it_stands : {D : Type 0} (seen : D → List ℕ) (may_leave : D → List ℕ → Type 0) (moment : D → ℕ) (left_since : D → ℕ → List ℕ → Type 0) (old mid : D) (area : Area) (state undone : State) (next count : ℕ) (records : List Record)
+    → ReadsOnly seen may_leave moment left_since old mid → (stored : IsStored (seen old) area state next count) → Undo state records undone → AllByRecursion IsUndoRecord records → IsAtRest seen may_leave old
+    → (X : Type 0) → ((bodies : List (List ℕ)) → IsAt area (seen mid) bodies → IsAtRest seen may_leave mid → X) → X
+where_it_stands seen may_leave moment left_since old mid area state undone next count records reads stored undo marks rest X f =
+    let bodies : List (List ℕ) = map spelling stored.loaded.blocks in
+    f bodies (subst (λ b. IsAt area b bodies) (sym reads.same) (stands_there (seen old) area state next count stored records undone undo marks)) (reads_rest seen may_leave moment left_since old mid reads rest)
+
+no_blocks : (bs : List (List Record)) → AreBlocksOf [] bs → bs ≡ []
+no_blocks [] are = refl
+no_blocks (b ∷ bs) are = absurd (omega (arith, are.0))
+
+-- where an opening undid nothing, there was nothing to write
+pub nothing_undone : (old : List ℕ) (area after : Area) (state undone : State) (next count : ℕ) (records : List Record) (book : BookState (List Collection)) (new : List ℕ) → IsStored old area state next count → AllByRecursion IsUndoRecord records
+    → IsAppended records area after old new → (o : IsOpened old book after new) → o.undoing ≡ [] → length records ≡ 0
+nothing_undone old area after state undone next count records book new stored marks appended o none =
+    let none_written : o.written ≡ [] = no_blocks o.written (subst (λ l. AreBlocksOf l o.written) none o.in_blocks) in
+    let all : o.blocks ++ o.written ≡ o.blocks = ap (λ l. o.blocks ++ l) none_written ∙ append-nil o.blocks in
+    let there : part (base_of after) (size_of after) old ≡ part (base_of area) (size_of area) old = ap (λ n. part n (size_of after) old) appended.same_base ∙ ap (λ n. part (base_of area) n old) appended.same_size in
+    let same : map spelling o.blocks ≡ map spelling stored.loaded.blocks =
+    row_unique (map spelling o.blocks) (map spelling stored.loaded.blocks) (part (base_of area) (size_of area) old) (subst (λ b. IsRow (map spelling o.blocks) b) there o.is_read.row_is) stored.loaded.is_read.row_is in
+    let long : length (row (map spelling (o.blocks ++ o.written))) ≡ length (row (map spelling stored.loaded.blocks)) = ap (λ l. length (row (map spelling l))) all ∙ ap (λ l. length (row l)) same in
+    let some : length (row (map spelling appended.written)) ≡ blocks_len (length records) = rows_len records appended.written marks appended.in_blocks in
+    omega (arith, o.position, long, appended.position, stored.loaded.position, some)

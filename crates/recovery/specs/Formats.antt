@@ -1,0 +1,44 @@
+-- What a format makes, and what a stop in it leaves.
+use Rattle.std.specs.Prelude.{◌≡◌, ◌⊎◌, ℕ, ◌+◌, ◌*◌, ◌^◌, ◌≤◌, List, [], ◌∷◌, ◌++◌, take, drop, codes, Result, Ok, Err}
+use Rattle.std.specs.Int.{w64, to_be_bytes}
+use Rattle.calls.specs.declared.refusal.Refusal.{Refusal}
+use Rattle.disk_model.specs.Disk.{Torn}
+use Rattle.gate_block.specs.Row.{row}
+use Rattle.records.specs.declared.record.Record.{Record}
+use Rattle.records.specs.Records.{spelling}
+use Rattle.recovery.specs.Journals.{StandsFor}
+use Rattle.recovery.specs.Steps.{IsSound}
+use Rattle.recovery.specs.Heads.{HasNoHeader}
+
+-- a disk of so many bytes has room for two areas of this size, and no more
+pub record IsRoomFor (area bytes : ℕ) : Type 0 where
+  pub not_small : 65536 ≤ area
+  pub not_large : area ≤ 2 ^ 30
+  pub whole : bytes ≡ 4096 + 2 * area
+
+-- When each answer of a format comes.
+abbrev pub IsFormatAnswer : Type 0 → Type 0 → Result (Unit {0}) Refusal → Type 0
+IsFormatAnswer is_room is_risen (Ok done) = is_room
+IsFormatAnswer is_room is_risen (Err Refusal.BadArg) = is_room → ⊥
+IsFormatAnswer is_room is_risen (Err Refusal.Fault) = is_room × is_risen
+IsFormatAnswer is_room is_risen (Err e) = ⊥
+
+-- The area of an empty store: one block, of the image of nothing, and a closed gate.
+abbrev pub empty_area : List ℕ
+empty_area = row (spelling (Record.Marks 1 0 ∷ (Record.ImageEnd ∷ [])) ∷ []) ++ 0 ∷ []
+
+-- The bytes of an empty store with areas of this size, but for the gate of its head.
+pub record IsFilled (area : ℕ) (bytes : List ℕ) : Type 0 where
+  pub letters : take 8 bytes ≡ codes "BOOSTED1"
+  pub area_is : take 8 (drop 9 bytes) ≡ to_be_bytes w64 area
+  pub root : take 1 (drop 512 bytes) ≡ 0 ∷ []
+  pub image : take 24 (drop 4096 bytes) ≡ empty_area
+
+-- The bytes are sound, and stand for a store with no collection.
+pub record IsEmptyStore (bytes : List ℕ) : Type 0 where
+  pub sound : IsSound bytes
+  pub stands : StandsFor bytes []
+
+-- What a stop in a format may leave of the old bytes: these, with any value for the gate of the head; no store; or an empty one.
+abbrev pub IsFormatting : List ℕ → List ℕ → Type 0
+IsFormatting old bytes = Torn 8 1 old bytes ⊎ (HasNoHeader bytes ⊎ IsEmptyStore bytes)

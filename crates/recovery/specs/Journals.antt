@@ -1,0 +1,95 @@
+-- What the bytes of a disk stand for: by the grammar of blocks and records, and by transactions run whole. No need, no inverse and no
+-- machine is named.
+use Rattle.std.specs.Prelude.{◌≡◌, ℕ, ◌+◌, ◌*◌, ◌%◌, ◌≤◌, ◌^◌, List, [], ◌∷◌, ◌++◌, length, take, drop, map, get_or, codes, Option, None}
+use Rattle.std.specs.List.{flat_map, AllByRecursion}
+use Rattle.std.specs.Int.{w64, to_be_bytes}
+use Rattle.calls.specs.declared.kind.Kind.{Kind}
+use Rattle.calls.specs.Contents.{Collection}
+use Rattle.calls.specs.Transactions.{Leads, Does, Entry, Asked, PutOff, calls_of, Serial, committed}
+use Rattle.gate_block.specs.Row.{IsRow, part}
+use Rattle.records.specs.declared.record.Record.{Record}
+use Rattle.calls.specs.Items.{items_of, kind_of_content}
+use Rattle.records.specs.Records.{spelling, Fits, Suits, named_by}
+use Rattle.records.specs.Acts.{event_of, acts_of}
+
+-- The head of a disk whose areas have this size: eight letters, an open gate, the size.
+pub record IsHeader (size : ℕ) (bytes : List ℕ) : Type 0 where
+  pub letters : take 8 bytes ≡ codes "BOOSTED1"
+  pub gate : get_or bytes 8 0 ≡ 167
+  pub area : take 8 (drop 9 bytes) ≡ to_be_bytes w64 size
+  pub not_small : 65536 ≤ size
+  pub not_large : size ≤ 2 ^ 30
+  pub whole : length bytes ≡ 4096 + 2 * size
+
+-- where the area in use begins: the lowest bit of the root byte picks it
+abbrev pub base_in_use : ℕ → List ℕ → ℕ
+base_in_use size bytes = 4096 + size * (get_or bytes 512 0 % 2)
+
+abbrev pub area_in_use : ℕ → List ℕ → List ℕ
+area_in_use size bytes = part (base_in_use size bytes) size bytes
+
+-- the records of all blocks, in order
+abbrev pub records_in : List (List Record) → List Record
+records_in blocks = flat_map (λ rs. rs) blocks
+
+-- Records one after another that have a spelling, each item of them of the kind that was named last.
+abbrev pub AreSpelt : Option Kind → List Record → Type 0
+AreSpelt last [] = Unit {0}
+AreSpelt last (r ∷ rs) = (Fits r × Suits last r) × AreSpelt (named_by last r) rs
+
+-- The area in use is a row of blocks whose bodies spell these records, block by block.
+pub record Holds (bytes : List ℕ) (blocks : List (List Record)) : Type 0 where
+  pub size : ℕ
+  pub header : IsHeader size bytes
+  pub row : IsRow (map spelling blocks) (area_in_use size bytes)
+  pub spelt : AreSpelt None (records_in blocks)
+
+abbrev pub collection_records : Collection → List Record
+collection_records x = Record.Name (kind_of_content x.content) x.name ∷ map Record.Item (items_of x.content)
+
+-- a call, or one that was put off, of a transaction that was live when the image was taken
+abbrev pub IsLiveRecord : Record → Type 0
+IsLiveRecord (Record.LiveCall c) = Unit {0}
+IsLiveRecord (Record.LiveLater l) = Unit {0}
+IsLiveRecord r = ⊥
+
+abbrev pub live_entries : List Record → List Entry
+live_entries [] = []
+live_entries (Record.LiveCall c ∷ rs) = Asked (event_of c) ∷ live_entries rs
+live_entries (Record.LiveLater l ∷ rs) = PutOff l.collection l.call ∷ live_entries rs
+live_entries (r ∷ rs) = live_entries rs
+
+-- The records are an image: the marks, the collections with their items, the numbers that were live, what these had asked for, the end.
+pub record IsImage (rs : List Record) (content : List Collection) (live : List Record) : Type 0 where
+  pub next : ℕ
+  pub wear : ℕ
+  pub numbers : List ℕ
+  pub all_live : AllByRecursion IsLiveRecord live
+  pub is : rs ≡ Record.Marks next wear ∷ (flat_map collection_records content ++ (map Record.Begin numbers ++ (live ++ Record.ImageEnd ∷ [])))
+
+-- what stands in a journal, behind an image
+abbrev pub IsJournalRecord : Record → Type 0
+IsJournalRecord (Record.Make kind name) = Unit {0}
+IsJournalRecord (Record.Call c) = Unit {0}
+IsJournalRecord (Record.Later l) = Unit {0}
+IsJournalRecord (Record.Commit n) = Unit {0}
+IsJournalRecord (Record.Back n) = Unit {0}
+IsJournalRecord (Record.Ended n) = Unit {0}
+IsJournalRecord (Record.Begin n) = Unit {0}
+IsJournalRecord r = ⊥
+
+-- The bytes stand for the content: the area in use is an image and a journal; from some content the live calls of the image lead to
+-- the image's, and from it the transactions that image and journal show as committed lead, each run whole, to the content.
+pub record StandsFor (bytes : List ℕ) (content : List Collection) : Type 0 where
+  pub blocks : List (List Record)
+  pub holds : Holds bytes blocks
+  pub image : List Record
+  pub journal : List Record
+  pub split : records_in blocks ≡ image ++ journal
+  pub all_journal : AllByRecursion IsJournalRecord journal
+  pub shown : List Collection
+  pub live : List Record
+  pub is_image : IsImage image shown live
+  pub start : List Collection
+  pub leads : Leads Does (calls_of (live_entries live)) start shown
+  pub serial : Serial (committed (acts_of (records_in blocks))) start content

@@ -1,0 +1,10 @@
+pub mod Journals
+pub mod Heads
+pub mod Formats
+pub mod Steps
+pub mod Repetitions
+pub mod Undoing
+pub mod Openings
+pub mod Appending
+pub mod Loading
+pub mod Finding

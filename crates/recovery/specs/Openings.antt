@@ -1,0 +1,134 @@
+-- What an opening finds, what it writes, and why it is refused.
+use Rattle.std.specs.Prelude.{◌≡◌, ◌≢◌, [], ◌++◌, ℕ, ◌+◌, ◌<◌, false, List, ◌∷◌, length, drop, get_or, map}
+use Rattle.std.specs.List.{AllByRecursion}
+use Rattle.std.specs.FinMap as maps
+use Rattle.calls.specs.declared.refusal.Refusal.{Refusal}
+use Rattle.calls.specs.Contents.{Collection}
+use Rattle.disk_model.specs.Disk.{IsAtRest, LeavesOnly}
+use Rattle.gate_block.specs.declared.area.Area.{Area}
+use Rattle.gate_block.specs.Row.{row, IsRow, StandsAt, SameOutside, part}
+use Rattle.gate_block.specs.Area.{base_of, size_of, position_of, has_failed, IsReady}
+use Rattle.records.specs.declared.record.Record.{Record}
+use Rattle.records.specs.Records.{spelling}
+use Rattle.txn.specs.Books.{BookState, opened}
+use Rattle.recovery.specs.declared.report.Report.{Report}
+use Rattle.recovery.specs.Journals.{IsHeader, StandsFor, base_in_use, area_in_use, records_in}
+use Rattle.recovery.specs.Steps.{State, Repeats, IsSound, empty_state}
+use Rattle.recovery.specs.Repetitions.{AreRead, IsAccepted, next_from}
+use Rattle.recovery.specs.Undoing.{Undo, AreBlocksOf}
+
+-- The area is a row of these blocks, of the empty image and the journal, which leads to the state.
+pub record IsRead (base size : ℕ) (bytes : List ℕ) (blocks : List (List Record)) (journal : List Record) (state : State) : Type 0 where
+  pub read : AllByRecursion AreRead blocks
+  pub row_is : IsRow (map spelling blocks) (part base size bytes)
+  pub is : records_in blocks ≡ Record.Marks 1 0 ∷ (Record.ImageEnd ∷ journal)
+  pub repeats : Repeats journal empty_state state
+
+-- Blocks that an opening takes: those of an accepted image and journal.
+pub record AreSound (base size : ℕ) (bytes : List ℕ) (blocks : List (List Record)) : Type 0 where
+  pub read : AllByRecursion AreRead blocks
+  pub row_is : IsRow (map spelling blocks) (part base size bytes)
+  pub accepted : IsAccepted (records_in blocks)
+
+-- At this place of the disk stands the first fault of an area. Before it stand whole blocks, of records with which an accepted image and journal
+-- begin. There the gate is open, and no block stands with which these go on; or it is closed, and what stands before it is not accepted.
+pub record IsFirstFault (base : ℕ) (area : List ℕ) (place : ℕ) : Type 0 where
+  pub blocks : List (List Record)
+  pub read : AllByRecursion AreRead blocks
+  pub position : ℕ
+  pub behind : position ≡ length (row (map spelling blocks))
+  pub stood : area ≡ row (map spelling blocks) ++ drop position area
+  pub place_is : place ≡ base + position
+  pub begins : (more : List Record) × IsAccepted (records_in blocks ++ more)
+  pub no_block : (group more : List Record) → AreRead group → StandsAt area position (spelling group) → IsAccepted (records_in blocks ++ (group ++ more)) → ⊥
+  pub no_end : get_or area position 0 ≢ 167 → IsAccepted (records_in blocks) → ⊥
+
+-- Why an area could not be loaded: for want of memory, for a counted fault, or for damage at the place.
+abbrev pub IsLoadRefusal : Type 0 → (ℕ → Type 0) → Refusal → Type 0
+IsLoadRefusal is_risen is_damaged Refusal.NoMemory = Unit {0}
+IsLoadRefusal is_risen is_damaged Refusal.Fault = is_risen
+IsLoadRefusal is_risen is_damaged (Refusal.Damaged place) = is_damaged place
+IsLoadRefusal is_risen is_damaged e = ⊥
+
+-- The area has its first fault at this place, so no sound blocks stand there.
+pub record IsSpoilt (base size : ℕ) (bytes : List ℕ) (place : ℕ) : Type 0 where
+  pub fault : IsFirstFault base (part base size bytes) place
+  pub unsound : (blocks : List (List Record)) → AreSound base size bytes blocks → ⊥
+
+-- The bytes are damaged, first at this place: the area that their head picks has its first fault there, and they are not sound.
+pub record IsDamagedAt (bytes : List ℕ) (place : ℕ) : Type 0 where
+  pub size : ℕ
+  pub header : IsHeader size bytes
+  pub fault : IsFirstFault (base_in_use size bytes) (area_in_use size bytes) place
+  pub unsound : IsSound bytes → ⊥
+
+-- A store was opened: its head picks the area, and that was read. Whatever was live is undone, and the records of the undoing stand in blocks
+-- behind the others, in the area and nowhere else. The book is of the state that they lead to.
+pub record IsOpened (old : List ℕ) (book : BookState (List Collection)) (area : Area) (new : List ℕ) : Type 0 where
+  pub header : IsHeader (size_of area) old
+  pub picks : base_of area ≡ base_in_use (size_of area) old
+  pub blocks : List (List Record)
+  pub journal : List Record
+  pub state : State
+  pub is_read : IsRead (base_of area) (size_of area) old blocks journal state
+  pub undoing : List Record
+  pub undone : State
+  pub undo : Undo state undoing undone
+  pub book_is : book ≡ opened undone.now (next_from 1 journal) undone.wear
+  pub written : List (List Record)
+  pub in_blocks : AreBlocksOf undoing written
+  pub read_too : AllByRecursion AreRead written
+  pub row_is : IsRow (map spelling (blocks ++ written)) (part (base_of area) (size_of area) new)
+  pub position : position_of area ≡ length (row (map spelling (blocks ++ written)))
+  pub elsewhere : SameOutside (base_of area) (size_of area) old new
+  pub unwritten : written ≡ [] → new ≡ old
+  pub fine : has_failed area ≡ false
+
+-- A stop now leaves what a read gives, and the area holds its blocks up to its next gate.
+pub record IsReadyStore {D : Type 0} (seen : D → List ℕ) (may_leave : D → List ℕ → Type 0) (old : List ℕ) (book : BookState (List Collection)) (area : Area) (disk : D) : Type 0 where
+  pub at_rest : IsAtRest seen may_leave disk
+  pub ready : (o : IsOpened old book area (seen disk)) → IsReady seen may_leave area disk (map spelling (o.blocks ++ o.written))
+
+-- The blocks of the undoing do not fit behind the others.
+pub record HasNoRoom (bytes : List ℕ) : Type 0 where
+  pub size : ℕ
+  pub header : IsHeader size bytes
+  pub blocks : List (List Record)
+  pub journal : List Record
+  pub state : State
+  pub is_read : IsRead (base_in_use size bytes) size bytes blocks journal state
+  pub undoing : List Record
+  pub undone : State
+  pub undo : Undo state undoing undone
+  pub written : List (List Record)
+  pub in_blocks : AreBlocksOf undoing written
+  pub full : size < length (row (map spelling (blocks ++ written))) + 1
+
+-- Why a store could not be read: for want of memory, for a counted fault, where there is no head, or for damage at the place.
+abbrev pub IsFindRefusal : Type 0 → Type 0 → (ℕ → Type 0) → Refusal → Type 0
+IsFindRefusal is_risen no_head is_damaged Refusal.NoMemory = Unit {0}
+IsFindRefusal is_risen no_head is_damaged Refusal.Fault = is_risen
+IsFindRefusal is_risen no_head is_damaged Refusal.NotAStore = no_head
+IsFindRefusal is_risen no_head is_damaged (Refusal.Damaged place) = is_damaged place
+IsFindRefusal is_risen no_head is_damaged e = ⊥
+
+-- Why a store could not be opened: as why it could not be read, or where the records of the undoing do not fit.
+abbrev pub IsOpenRefusal : Type 0 → Type 0 → (ℕ → Type 0) → Type 0 → Refusal → Type 0
+IsOpenRefusal is_risen no_head is_damaged no_room Refusal.Full = no_room
+IsOpenRefusal is_risen no_head is_damaged no_room e = IsFindRefusal is_risen no_head is_damaged e
+
+-- On a disk at rest whose bytes are sound and stand for a content, a stop at any moment since old leaves bytes that are sound and stand for it.
+abbrev pub KeepsContent : {D : Type 0} → (D → List ℕ) → (D → List ℕ → Type 0) → (D → ℕ) → (D → ℕ → List ℕ → Type 0) → D → D → Type 0
+KeepsContent seen may_leave moment left_since old new = (content : List Collection) → IsAtRest seen may_leave old → IsSound (seen old) → StandsFor (seen old) content → LeavesOnly moment left_since old new (λ b. IsSound b × StandsFor b content)
+
+-- What a store holds: so many collections, so many transactions that have not ended, and so many records in the journal.
+pub record IsReport (bytes : List ℕ) (report : Report) : Type 0 where
+  pub size : ℕ
+  pub header : IsHeader size bytes
+  pub blocks : List (List Record)
+  pub journal : List Record
+  pub state : State
+  pub is_read : IsRead (base_in_use size bytes) size bytes blocks journal state
+  pub collections : report.collections ≡ length state.now
+  pub unfinished : report.unfinished ≡ maps.len state.live
+  pub records : report.records ≡ length journal

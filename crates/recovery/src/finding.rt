@@ -1,0 +1,73 @@
+// Finding a store: what its area in use holds, with the losers undone in memory.
+ghost use Rattle.std.specs.Prelude.{◌≡◌, ◌≤◌, ◌+◌, ◌^◌, ℕ, length, IfOk, IfErr};
+ghost use Rattle.disk_model.specs.Disk.{ReadsOnly, Rises};
+ghost use Rattle.recovery.specs.Heads.{HasNoHeader};
+ghost use Rattle.recovery.specs.Openings.{IsDamagedAt, IsFindRefusal};
+ghost use Rattle.recovery.specs.Finding.{IsFound};
+
+use crate::head::area_in_use;
+use crate::loading::{Loaded, load};
+use crate::repetition::Repetition;
+use crate::report::Report;
+use crate::undoing::undo_all;
+use calls::Refusal;
+use catalog::Catalog;
+use disk_model::Disk;
+use gate_block::Area;
+use records::Record;
+use std::alloc::Global;
+use txn::Machine;
+
+/// A store as it was found. Its losers are undone in memory, and the records of that are still to be written.
+#[derive(Drop)]
+pub struct Found {
+    pub machine: Machine<Catalog>,
+    /// A number above every number that was entered.
+    pub next: u64,
+    pub area: Area,
+    /// How many bytes of the area are behind its blocks.
+    pub room: u64,
+    pub records: Vec<Record>,
+    pub report: Report,
+    ghost bound: { (1 ≤ next) × (next ≤ 2 ^ 61) },
+}
+
+/// Reads the area in use, repeats all its records, and undoes the losers in memory. Nothing is written.
+///
+/// Refused NotAStore, Damaged, Fault and NoMemory as `open` says.
+pub fn find<D: Disk>(alloc: Global, disk: &mut D) -> Result<Found, Refusal>
+    ensures found { IfOk result (λ x. IsFound (D.is_honest disk.new) (D.seen disk.old) x.area x.room x.machine x.next x.records.items x.report) }
+    ensures refused { IfErr result (IsFindRefusal (Rises (D.fault_count disk.old) (D.fault_count disk.new))
+        (D.is_honest disk.new → HasNoHeader (D.seen disk.old))
+        (λ place. D.is_honest disk.new → IsDamagedAt (D.seen disk.old) place)) }
+    ensures reads { ReadsOnly D.seen D.may_leave D.moment D.left_since disk.old disk.new }
+    ensures honest { D.is_honest disk.new → D.is_honest disk.old }
+    ensures faults { D.fault_count disk.old ≤ D.fault_count disk.new }
+{
+    let (base, size) = area_in_use(disk)?;
+    let Loaded {
+        repetition,
+        area,
+        place,
+    } = load(alloc, disk, base, size)?;
+    let Repetition {
+        mut machine,
+        next,
+        count,
+        ..
+    } = repetition;
+    let report = Report {
+        collections: machine.parts().len(),
+        unfinished: machine.count_live(),
+        records: count,
+    };
+    let records = undo_all(alloc, &mut machine)?;
+    Ok(Found {
+        machine,
+        next,
+        area,
+        room: base + size - place,
+        records,
+        report,
+    })
+}

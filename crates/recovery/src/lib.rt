@@ -1,0 +1,20 @@
+//! Recovery: a store is made on a disk, opened again after any stop, and looked at.
+#![tactic(auto)]
+
+mod appending;
+mod finding;
+mod formatting;
+mod head;
+mod inspecting;
+mod loading;
+mod opening;
+mod repetition;
+mod report;
+#[cfg(test)]
+mod tests;
+mod undoing;
+
+pub use formatting::format;
+pub use inspecting::inspect;
+pub use opening::open;
+pub use report::Report;

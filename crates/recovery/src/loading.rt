@@ -1,0 +1,54 @@
+// Reading an area.
+ghost use Rattle.std.specs.Prelude.{◌≡◌, ◌≤◌, ◌<◌, ◌+◌, ◌^◌, ℕ, length, IfOk, IfErr, false};
+ghost use Rattle.disk_model.specs.Disk.{ReadsOnly, Rises};
+ghost use Rattle.gate_block.specs.Area.{base_of, size_of, position_of, has_failed};
+ghost use Rattle.recovery.specs.Openings.{IsLoadRefusal, IsSpoilt};
+ghost use Rattle.recovery.specs.Loading.{IsLoaded};
+
+use crate::repetition::Repetition;
+use calls::Refusal;
+use disk_model::Disk;
+use gate_block::Area;
+use std::alloc::Global;
+
+/// An area whose blocks were read, and what their records lead to.
+#[derive(Drop)]
+pub struct Loaded {
+    pub repetition: Repetition,
+    pub area: Area,
+    /// Where on the disk its next gate stands.
+    pub place: u64,
+}
+
+/// Repeats the records of all blocks of an area, one block at a time.
+///
+/// Refused NoMemory, Fault where the disk failed, and Damaged with the position of the gate of the block in which the
+/// first damage stands.
+pub fn load<D: Disk>(alloc: Global, disk: &mut D, base: u64, size: u64) -> Result<Loaded, Refusal>
+    requires room { 0 < size }
+    requires fits { base + size < 2 ^ 63 }
+    requires disk { base + size ≤ length (D.seen disk.old) }
+    ensures loaded { IfOk result (λ x. D.is_honest disk.new →
+        IsLoaded base size (D.seen disk.old) x.repetition.machine x.repetition.next x.repetition.count (position_of x.area)) }
+    ensures area { IfOk result (λ x. (base_of x.area ≡ base) × (size_of x.area ≡ size) × (has_failed x.area ≡ false)) }
+    ensures place { IfOk result (λ x. x.place ≡ base + position_of x.area) }
+    ensures refused { IfErr result (IsLoadRefusal (Rises (D.fault_count disk.old) (D.fault_count disk.new))
+        (λ place. D.is_honest disk.new → IsSpoilt base size (D.seen disk.old) place)) }
+    ensures reads { ReadsOnly D.seen D.may_leave D.moment D.left_since disk.old disk.new }
+    ensures honest { D.is_honest disk.new → D.is_honest disk.old }
+    ensures faults { D.fault_count disk.old ≤ D.fault_count disk.new }
+{
+    let mut area = Area::start(base, size, 0);
+    let mut repetition = Repetition::new(alloc);
+    let mut place = base;
+    while let Some(body) = area.next_block(alloc, disk)? {
+        repetition.repeat_body(alloc, body.as_slice(), place)?;
+        place += 5 + body.len() as u64;
+    }
+    repetition.check_whole(place)?;
+    Ok(Loaded {
+        repetition,
+        area,
+        place,
+    })
+}

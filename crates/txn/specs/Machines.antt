@@ -1,0 +1,71 @@
+-- The machine over records as an object: the states that it may be in, and what it answers of a record.
+use Rattle.std.specs.Prelude.{◌≡◌, ℕ, ◌+◌, ◌≤◌, ◌^◌, ◌↔◌, List, [], length, Contains, Bool, true, false, Result, Ok, Err}
+use Rattle.std.specs.FinMap as maps
+use Rattle.std.specs.List.{AllByRecursion}
+use Rattle.calls.specs.declared.refusal.Refusal.{Refusal}
+use Rattle.calls.specs.Transactions.{Entry, Asked, PutOff, own}
+use Rattle.abstract_locks.specs.declared.table.Hold.{Hold}
+use Rattle.undo_log.specs.Logs.{Lives}
+use Rattle.records.specs.declared.record.Record.{Record}
+use Rattle.records.specs.Records.{IsNumber}
+use Rattle.records.specs.Short.{IsShortReply}
+use Rattle.txn.specs.Machine.{State}
+
+-- a state with no live transaction
+abbrev pub resting : {S : Type 0} → S → (wear : ℕ) → State S
+resting now wear = record { now = now; live = maps.empty; entries = []; holds = []; wear = wear }
+
+-- ---- what holds of every state
+
+-- No value in the reply to a call is too long to be spelled.
+abbrev pub IsShortEntry : Entry → Type 0
+IsShortEntry (Asked e) = IsShortReply e.reply
+IsShortEntry (PutOff at c) = Unit {0}
+
+-- short: no value in the collections is too long to be spelled. sound: what holds of every state that the machine reaches, in the words of the theory.
+module _ {S : Type 0} (names : S → List (List ℕ)) (within : S → ℕ → Type 0) (short : S → Type 0) (sound : State S → Type 0) where
+  pub record IsUpheld (s : State S) : Type 0 where
+    pub few_live : maps.len s.live ≤ 64
+    pub few_calls : (n : ℕ) → length (own n s.entries) ≤ 1024
+    pub few_names : length (names s.now) ≤ 256
+    pub reached : within s.now s.wear
+    -- each call that is not undone may be undone
+    pub unworn : s.wear + length s.entries ≤ 2 ^ 61 + 65536
+    pub numbers : (n : ℕ) → Lives s.live n → IsNumber n
+    pub spells : short s.now
+    pub replies : AllByRecursion (λ e. IsShortEntry e.1) s.entries
+    pub holds : sound s
+
+-- ---- repeating a record
+
+-- There is room in the wear for one step more, behind which there are so many more calls to undo.
+abbrev pub HasRoomFor : {S : Type 0} → State S → (more : ℕ) → Type 0
+HasRoomFor s more = s.wear + 1 + (length s.entries + more) ≤ 2 ^ 61 + 65536
+
+-- What is answered of a making that the collections refuse.
+abbrev pub unmade : Refusal → Result Bool Refusal
+unmade Refusal.NoMemory = Err Refusal.NoMemory
+unmade other = Ok false
+
+-- What a record's step answers: it was taken; or none leads from there, and nothing changed; or there was no memory, and nothing changed.
+abbrev pub StepAnswers : {S : Type 0} → (State S → Record → State S → Type 0) → State S → Record → Result Bool Refusal → State S → Type 0
+StepAnswers steps s r (Ok true) t = steps s r t
+StepAnswers {S} steps s r (Ok false) t = (t ≡ s) × ((v : State S) → steps s r v → ⊥)
+StepAnswers steps s r (Err Refusal.NoMemory) t = t ≡ s
+StepAnswers steps s r (Err e) t = ⊥
+
+-- The same state, but for the order in which the needs are kept.
+pub record Alike {S : Type 0} (s t : State S) : Type 0 where
+  pub now : s.now ≡ t.now
+  pub live : s.live ≡ t.live
+  pub entries : s.entries ≡ t.entries
+  pub holds : (h : Hold) → Contains s.holds h ↔ Contains t.holds h
+  pub wear : s.wear ≡ t.wear
+
+-- When each answer of repeating a record comes. It was its step, and leads from each state alike to one alike; or none leads from there, nor from any
+-- state alike, and nothing changed; or there was no memory, and nothing changed.
+abbrev pub RepeatAnswers : {S : Type 0} → (State S → Record → State S → Type 0) → State S → Record → Result Bool Refusal → State S → Type 0
+RepeatAnswers {S} steps s r (Ok true) t = steps s r t × ((u v : State S) → Alike u s → steps u r v → Alike v t)
+RepeatAnswers {S} steps s r (Ok false) t = (t ≡ s) × ((u v : State S) → Alike u s → steps u r v → ⊥)
+RepeatAnswers steps s r (Err Refusal.NoMemory) t = t ≡ s
+RepeatAnswers steps s r (Err e) t = ⊥

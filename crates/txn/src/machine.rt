@@ -1,0 +1,370 @@
+// The machine over records: the same steps as the book's, of records that stand already.
+ghost use Rattle.std.specs.Prelude.{◌≡◌, ◌↔◌, ℕ, ◌+◌, ◌<◌, ◌≤◌, ◌^◌, ◌⊎◌, [], false, None, List, IsTrue, IfSome, IfNone, Ok, OnOk, OnErr, IsOkUnless, length};
+ghost use Rattle.std.specs.FinMap as maps;
+ghost use Rattle.calls.specs.Names.{IsName};
+ghost use Rattle.calls.specs.Transactions.{Leads, Serial, committed, own};
+ghost use Rattle.undo_log.specs.Entries.{HasNoCall};
+ghost use Rattle.undo_log.specs.Logs.{Lives, IsLeastLive};
+ghost use Rattle.boosted.specs.Shape.{CanAsk};
+ghost use Rattle.abstract_locks.specs.Holds.{IsClear};
+ghost use Rattle.calls.specs.Laters.{left_by};
+ghost use Rattle.records.specs.declared.record.Record.{Record};
+ghost use Rattle.records.specs.Acts.{acts_of, event_of};
+ghost use Rattle.records.specs.Records.{IsRecord, IsNumber};
+ghost use Rattle.records.specs.Short.{AreShort};
+ghost use Rattle.txn.specs.Machine.{IsRunning, CanBegin, CanCall, BackRow, EndedRow, Steps, IsLeft};
+ghost use Rattle.txn.specs.Machines.{resting, unmade, HasRoomFor, IsUpheld, StepAnswers, RepeatAnswers};
+ghost use Rattle.txn.specs.Sound.{IsSound};
+
+use crate::undoing::undo;
+use abstract_locks::NeedTable;
+use calls::limits::{MAX_CALLS, MAX_LIVE, MAX_WEAR};
+use calls::{Call, Kind, Name, Refusal, Reply};
+use catalog::Parts;
+use records::{CallRecord, Coded, Record};
+use std::alloc::Global;
+use std::marker::Model;
+use undo_log::{Live, Logged};
+
+/// The collections with the live transactions on them: the state that records lead to, one step a record.
+///
+/// Contracts see what the collections hold now, the live transactions with what they asked for and did not undo, the
+/// needs that they hold, and the wear.
+#[derive(Drop)]
+pub struct Machine<B: Parts + Coded> {
+    parts: B,
+    needs: NeedTable,
+    live: Live,
+    wear: u64,
+}
+
+impl<B: Parts + Coded> Model for Machine<B> {
+    ghost use Rattle.txn.specs.Machine.{State};
+    ghost use Rattle.txn.specs.Machines.{IsUpheld};
+    ghost use Rattle.txn.specs.Sound.{IsSound};
+    ghost use Rattle.txn.specs.Views.{state_of};
+    ghost use Rattle.records.specs.Short.{AreShort};
+    ghost use Rattle.std.specs.FinMap as maps;
+    ghost use Rattle.std.specs.Ordering.{nat_cmp};
+    ghost use Rattle.std.specs.Coded.{codes, coded_ℕ, coded_bool};
+
+    ghost Value = { State B };
+
+    ghost coded = { Prim.hlevel (codes, maps.code {R = nat_cmp} coded_ℕ coded_bool) };
+
+    ghost view = { λ m. state_of m.parts m.needs m.live m.wear };
+
+    ghost invariant = { λ m. IsUpheld B.names B.within (λ s. AreShort (B.collections s)) (IsSound B.answers B.leaves B.makes B.need B.inverse)
+        (state_of m.parts m.needs m.live m.wear) };
+}
+
+impl<B: Parts + Coded> Machine<B> {
+    /// The collections with no live transaction. `wear` is what they are within. It takes no memory.
+    pub fn new(alloc: Global, parts: B, wear: u64) -> Self
+        requires within { B.within parts wear }
+        requires worn { wear ≤ 2 ^ 61 + 65536 }
+        requires short { AreShort (B.collections parts) }
+        requires few { length (B.names parts) ≤ 256 }
+        ensures { result ≡ resting parts wear }
+    {
+        Self {
+            parts,
+            needs: NeedTable::new(alloc),
+            live: Live::new(alloc),
+            wear,
+        }
+    }
+
+    /// The collections.
+    pub fn parts(&self) -> &B
+        ensures { result.now ≡ self.now.now }
+    {
+        &self.parts
+    }
+
+    /// How often anything was entered, called or undone.
+    pub fn wear(&self) -> u64
+        ensures { result ≡ self.now.wear }
+    {
+        self.wear
+    }
+
+    /// What holds of every machine: the limits, that each call may still be undone, and what the laws of the collections
+    /// give. It does nothing.
+    pub fn upheld(&self)
+        ensures { IsUpheld B.names B.within (λ s. AreShort (B.collections s)) (IsSound B.answers B.leaves B.makes B.need B.inverse) self.now }
+    {
+        let _ = &self.wear;
+    }
+
+    /// How many transactions are live.
+    pub fn count_live(&self) -> usize
+        ensures { result ≡ maps.len self.now.live }
+    {
+        self.live.count_live()
+    }
+
+    /// The least number that is live.
+    pub fn least(&self) -> Option<u64>
+        ensures found { IfSome result (IsLeastLive self.now.live) }
+        ensures none { IfNone result (self.now.live ≡ maps.empty) }
+    {
+        self.live.least()
+    }
+
+    /// Whether a call of the transaction is not undone.
+    pub fn has_call(&self, number: u64) -> bool
+        ensures some { IsTrue result ↔ (HasNoCall number self.now.entries → ⊥) }
+        ensures none { result ≡ false → HasNoCall number self.now.entries }
+    {
+        self.live.newest(number).is_some()
+    }
+
+    /// Takes the record's step, where it is one from here, and answers true; false, with nothing changed, where it is
+    /// none. A step that leaves something to the commit is none.
+    ///
+    /// NoMemory leaves all as before.
+    pub fn repeat(&mut self, entry: Record) -> Result<bool, Refusal>
+        requires { IsRecord None entry }
+        ensures { RepeatAnswers (Steps B.answers B.leaves B.belongs B.names B.makes B.need B.inverse) self.old entry result self.new }
+    {
+        self.upheld();
+        self.step(entry)
+    }
+
+    /// Undoes the newest call of the transaction. From then on it is falling. It holds its needs until `ended`.
+    ///
+    /// NoMemory leaves all as before.
+    pub fn back(&mut self, number: u64) -> Result<(), Refusal>
+        requires live { Lives self.old.live number }
+        requires call { HasNoCall number self.old.entries → ⊥ }
+        ensures ok { OnOk result (BackRow B.answers B.leaves B.inverse self.old number self.new) }
+        ensures err { OnErr result (self.new ≡ self.old) }
+        ensures refusal { IsOkUnless result Refusal.NoMemory }
+    {
+        let Some(newest) = self.live.newest(number) else {
+            unreachable!();
+        };
+        undo(&mut self.parts, newest)?;
+        let _undone = self.live.pop(number);
+        self.live.fall(number);
+        self.wear += 1;
+        Ok(())
+    }
+
+    /// Ends a transaction whose calls are all undone: its needs go. It takes no memory.
+    pub fn ended(&mut self, number: u64)
+        requires live { Lives self.old.live number }
+        requires undone { HasNoCall number self.old.entries }
+        ensures { EndedRow self.old number self.new }
+    {
+        self.leave(number);
+    }
+
+    /// The collections, where the machine is no more needed.
+    pub fn into_parts(self) -> B
+        ensures parts { result ≡ self.now }
+        ensures within { B.within result self.wear }
+        ensures worn { self.wear ≤ 2 ^ 61 + 65536 }
+        ensures short { AreShort (B.collections result) }
+        ensures few { length (B.names result) ≤ 256 }
+        ensures history { (start : B) (wear : ℕ) (rs : List Record) → Leads (Steps B.answers B.leaves B.belongs B.names B.makes B.need B.inverse) rs (resting start wear) self →
+            self.live ≡ maps.empty → Serial (committed (acts_of rs)) (B.collections start) (B.collections result) }
+    {
+        let Self { parts, .. } = self;
+        parts
+    }
+
+    // The record's step, from this very state.
+    fn step(&mut self, entry: Record) -> Result<bool, Refusal>
+        requires { IsRecord None entry }
+        ensures { StepAnswers (Steps B.answers B.leaves B.belongs B.names B.makes B.need B.inverse) self.old entry result self.new }
+    {
+        match entry {
+            Record::Make(kind, name) => self.make(kind, &name),
+            Record::Begin(number) => self.begin(number),
+            Record::Call(called) => self.call(called),
+            Record::Commit(number) => Ok(self.commit(number)),
+            Record::Back(number) => self.undo_newest(number),
+            Record::Ended(number) => Ok(self.end(number)),
+            _ => Ok(false),
+        }
+    }
+
+    fn make(&mut self, kind: Kind, name: &Name) -> Result<bool, Refusal>
+        requires { IsName name.now }
+        ensures { StepAnswers (Steps B.answers B.leaves B.belongs B.names B.makes B.need B.inverse) self.old (Record.Make kind name.now) result self.new }
+    {
+        let at = match self.parts.make(name.as_str(), kind) {
+            Ok(at) => at,
+            Err(refusal) => return unmade(refusal),
+        };
+        prove!(at <= u8::MAX);
+        Ok(true)
+    }
+
+    fn begin(&mut self, number: u64) -> Result<bool, Refusal>
+        requires { IsNumber number }
+        ensures { StepAnswers (Steps B.answers B.leaves B.belongs B.names B.makes B.need B.inverse) self.old (Record.Begin number) result self.new }
+    {
+        if !self.can_begin(number) {
+            return Ok(false);
+        }
+        self.live.enter(number)?;
+        self.wear += 1;
+        Ok(true)
+    }
+
+    fn call(&mut self, called: CallRecord) -> Result<bool, Refusal>
+        requires { IsRecord None (Record.Call called) }
+        ensures { StepAnswers (Steps B.answers B.leaves B.belongs B.names B.makes B.need B.inverse) self.old (Record.Call called) result self.new }
+    {
+        if !self.can_call(&called) {
+            return Ok(false);
+        }
+        let CallRecord {
+            number,
+            collection,
+            call,
+            reply,
+            ..
+        } = called;
+        self.needs.reserve(collection)?;
+        self.live.reserve(number)?;
+        self.parts.run(collection, &call, &reply)?;
+        if self
+            .needs
+            .ask(number, collection, B::need(&call, &reply))
+            .is_err()
+        {
+            unreachable!();
+        }
+        let logged = Logged {
+            at: collection,
+            call,
+            reply,
+        };
+        self.live.push_call(number, logged);
+        self.wear += 1;
+        Ok(true)
+    }
+
+    fn commit(&mut self, number: u64) -> bool
+        ensures { StepAnswers (Steps B.answers B.leaves B.belongs B.names B.makes B.need B.inverse) self.old (Record.Commit number) (Ok result) self.new }
+    {
+        if !self.is_running(number) {
+            return false;
+        }
+        self.leave(number);
+        true
+    }
+
+    fn undo_newest(&mut self, number: u64) -> Result<bool, Refusal>
+        ensures { StepAnswers (Steps B.answers B.leaves B.belongs B.names B.makes B.need B.inverse) self.old (Record.Back number) result self.new }
+    {
+        if !self.live.is_live(number) || !self.has_call(number) {
+            return Ok(false);
+        }
+        self.back(number)?;
+        Ok(true)
+    }
+
+    fn end(&mut self, number: u64) -> bool
+        ensures { StepAnswers (Steps B.answers B.leaves B.belongs B.names B.makes B.need B.inverse) self.old (Record.Ended number) (Ok result) self.new }
+    {
+        if !self.live.is_live(number) || self.has_call(number) {
+            return false;
+        }
+        self.leave(number);
+        true
+    }
+
+    // Takes a transaction out, with what it asked for and its needs.
+    fn leave(&mut self, number: u64)
+        requires live { Lives self.old.live number }
+        requires done { IsRunning self.old number ⊎ HasNoCall number self.old.entries }
+        ensures { IsLeft self.old number self.new }
+    {
+        self.live.remove(number);
+        self.needs.give_up(number);
+    }
+
+    // Whether the transaction is live, and nothing of it was undone.
+    fn is_running(&self, number: u64) -> bool
+        ensures { IsTrue result ↔ IsRunning self.now number }
+    {
+        self.live.is_live(number) && !self.live.is_falling(number)
+    }
+
+    // Whether the wear has room for one step more, behind which there are so many more calls to undo.
+    fn has_room(&self, more: usize) -> bool
+        requires { more ≤ 1 }
+        ensures { IsTrue result ↔ HasRoomFor self.now more }
+    {
+        self.wear + 1 + (self.live.len() + more) as u64 <= MAX_WEAR
+    }
+
+    // Whether the number may begin.
+    fn can_begin(&self, number: u64) -> bool
+        requires { IsNumber number }
+        ensures { IsTrue result ↔ (CanBegin self.now number × HasRoomFor self.now 0) }
+    {
+        !self.live.is_live(number) && self.count_live() < MAX_LIVE && self.has_room(0)
+    }
+
+    // Whether the transaction can make the call and get the reply.
+    fn can_call(&self, called: &CallRecord) -> bool
+        ensures { IsTrue result ↔ (CanCall B.answers B.leaves B.belongs B.need self.now called.now.number (event_of called.now) × HasRoomFor self.now 1) }
+    {
+        self.can_ask(called) && self.is_answered(called)
+    }
+
+    // Whether the transaction can ask for the call.
+    fn can_ask(&self, called: &CallRecord) -> bool
+        ensures { IsTrue result ↔ (IsRunning self.now called.now.number × CanAsk B.belongs self.now.now called.now.collection called.now.call ×
+            (length (own called.now.number self.now.entries) < 1024) × HasRoomFor self.now 1) }
+    {
+        self.is_running(called.number)
+            && self.parts.askable(called.collection, &called.call).is_ok()
+            && self.live.count(called.number) < MAX_CALLS
+            && self.has_room(1)
+    }
+
+    // Whether the call can get the reply, at once, with no other transaction in the way.
+    fn is_answered(&self, called: &CallRecord) -> bool
+        ensures { IsTrue result ↔ (B.answers self.now.now called.now.collection called.now.call called.now.reply × (left_by called.now.call called.now.reply ≡ []) ×
+            IsClear self.now.holds called.now.number called.now.collection (B.need called.now.call called.now.reply)) }
+    {
+        self.parts
+            .fits(called.collection, &called.call, &called.reply)
+            && leaves_nothing::<B>(&called.call, &called.reply)
+            && self.is_clear(called)
+    }
+
+    // Whether no other transaction holds a need that is in the call's way.
+    fn is_clear(&self, called: &CallRecord) -> bool
+        ensures { IsTrue result ↔ IsClear self.now.holds called.now.number called.now.collection (B.need called.now.call called.now.reply) }
+    {
+        let need = B::need(&called.call, &called.reply);
+        self.needs
+            .test(called.number, called.collection, &need)
+            .is_ok()
+    }
+}
+
+// What is answered of a making that was refused: it is no step, unless memory alone was wanted.
+fn unmade(refusal: Refusal) -> Result<bool, Refusal>
+    ensures { result ≡ unmade refusal }
+{
+    match refusal {
+        Refusal::NoMemory => Err(Refusal::NoMemory),
+        _ => Ok(false),
+    }
+}
+
+// Whether the call, answered so, leaves nothing to the commit.
+fn leaves_nothing<B: Parts + Coded>(call: &Call, reply: &Reply) -> bool
+    ensures { IsTrue result ↔ (left_by call.now reply.now ≡ []) }
+{
+    B::after(call, reply).is_none()
+}

@@ -1,0 +1,10 @@
+pub mod CatalogLaws
+pub mod History
+pub mod PastLemmas
+pub mod TrailLemmas
+pub mod YieldLemmas
+pub mod WorldLemmas
+pub mod TurnLemmas
+pub mod StepLemmas
+pub mod PlayLemmas
+pub mod Begins

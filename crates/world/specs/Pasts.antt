@@ -1,0 +1,122 @@
+-- Pasts: steps with their answers; what they have committed, and what was acknowledged.
+use Rattle.std.specs.Prelude.{◌≡◌, ℕ, ◌+◌, ◌<◌, ◌≤◌, ◌^◌, max, true, false, List, [], ◌∷◌, ◌++◌, take, Result, Ok, Err}
+use Rattle.std.specs.List.{flat_map}
+use Rattle.calls.specs.Contents.{Collection, AnswersAt, after_at}
+use Rattle.calls.specs.Transactions.{Transaction, Act, Begins, Asks, Commits, Creates, Asked, committed, Leads, Makes}
+use Rattle.calls.specs.Needs.{need_of}
+use Rattle.calls.specs.Inverses.{inverse_of}
+use Rattle.calls.specs.declared.refusal.Refusal.{Refusal}
+use Rattle.catalog.specs.Places.{Belongs, Misplaced}
+use Rattle.catalog.specs.Making.{names_of}
+use Rattle.records.specs.declared.record.Record.{Record}
+use Rattle.records.specs.Records.{call_record}
+use Rattle.checkpoint.specs.declared.turn.Turn.{Turn}
+use Rattle.txn.specs.declared.block.Block.{Block}
+use Rattle.txn.specs.Books as books
+use Rattle.world.specs.declared.steps.Step.{Step}
+use Rattle.world.specs.declared.steps.Answer.{Answer}
+
+-- A past is a list of steps, each with its answer.
+abbrev pub Past : Type 0
+Past = List (Step × Answer)
+
+-- What a step with its answer says of transactions. A step that was refused says nothing.
+abbrev pub acts_of_step : Step → Answer → List Act
+acts_of_step (Step.Make name kind) (Answer.Placed place) = Creates name kind ∷ []
+acts_of_step (Step.Enter n) Answer.Entered = Begins n ∷ []
+acts_of_step (Step.Call n at call) (Answer.Replied reply) = Asks n (Asked (record { at = at; call = call; reply = reply })) ∷ []
+acts_of_step (Step.Commit n) (Answer.Placed place) = Commits n ∷ []
+acts_of_step s a = []
+
+abbrev pub acts_in : Past → List Act
+acts_in past = flat_map (λ x. acts_of_step x.0 x.1) past
+
+-- The transactions that a past has committed, in the order of their commits.
+abbrev pub committed_in : Past → List Transaction
+committed_in past = committed (acts_in past)
+
+-- up to which place a step told that commits are kept
+abbrev pub told : Step → Answer → ℕ
+told Step.Turn (Answer.Turned (Turn.Kept place)) = place
+told Step.Look (Answer.Marked place) = place
+told s a = 0
+
+abbrev pub greatest_told : Past → ℕ
+greatest_told [] = 0
+greatest_told (x ∷ past) = max (told x.0 x.1) (greatest_told past)
+
+-- The transactions of a past that were acknowledged: the first of those that it committed, up to the greatest place that was told.
+abbrev pub acknowledged : Past → List Transaction
+acknowledged past = take (greatest_told past) (committed_in past)
+
+-- What a step adds to the journal. A step that was refused adds nothing.
+abbrev pub records_of_step : Step → Answer → List Record
+records_of_step (Step.Make name kind) (Answer.Placed place) = Record.Make kind name ∷ []
+records_of_step (Step.Enter n) Answer.Entered = Record.Begin n ∷ []
+records_of_step (Step.Call n at call) (Answer.Replied reply) = Record.Call (call_record n at call reply (inverse_of call reply)) ∷ []
+records_of_step (Step.Commit n) (Answer.Placed place) = Record.Commit n ∷ []
+records_of_step (Step.Back n) (Answer.Backed true) = Record.Back n ∷ []
+records_of_step (Step.Ended n) Answer.Ended = Record.Ended n ∷ []
+records_of_step s a = []
+
+abbrev pub records_of : Past → List Record
+records_of past = flat_map (λ x. records_of_step x.0 x.1) past
+
+-- the state of a book of named collections
+abbrev pub BookState : Type 0
+BookState = books.BookState (List Collection)
+
+-- A step with its answer leads a book from one state to another: a row for each answer that the step can get.
+abbrev pub BookStep : BookState → Step × Answer → BookState → Type 0
+BookStep s (Step.Make name kind, Answer.Placed place) t = books.MakeAnswers names_of Makes s name kind (Ok place) t
+BookStep s (Step.Make name kind, Answer.Refused e) t = books.MakeAnswers names_of Makes s name kind (Err e) t
+BookStep s (Step.Enter n, Answer.Entered) t = books.EnterAnswers s n (Ok tt) t
+BookStep s (Step.Enter n, Answer.Refused e) t = books.EnterAnswers s n (Err e) t
+BookStep s (Step.Call n at call, Answer.Replied reply) t = books.CallAnswers AnswersAt after_at Belongs need_of inverse_of Misplaced s n at call (Ok reply) t
+BookStep s (Step.Call n at call, Answer.Refused e) t = books.CallAnswers AnswersAt after_at Belongs need_of inverse_of Misplaced s n at call (Err e) t
+BookStep s (Step.Commit n, Answer.Placed place) t = books.CommitAnswers s n (Ok place) t
+BookStep s (Step.Commit n, Answer.Refused e) t = books.CommitAnswers s n (Err e) t
+BookStep s (Step.Back n, Answer.Backed undone) t = books.BackAnswers AnswersAt after_at inverse_of s n (Ok undone) t
+BookStep s (Step.Back n, Answer.Refused e) t = books.BackAnswers AnswersAt after_at inverse_of s n (Err e) t
+BookStep s (Step.Ended n, Answer.Ended) t = books.EndedAnswers s n (Ok tt) t
+BookStep s (Step.Ended n, Answer.Refused e) t = books.EndedAnswers s n (Err e) t
+BookStep s (Step.Cut, Answer.Cut handed) t = (waiting waits : List Block) × books.CutAnswers s waiting (Unit {0}) (Ok handed) waits t
+BookStep s (Step.Cut, Answer.Refused e) t = t ≡ s
+BookStep s (Step.Draw, Answer.Drawn n) t = t ≡ s
+BookStep s (Step.Draw, Answer.Refused e) t = t ≡ s
+BookStep s (Step.Turn, Answer.Turned turn) t = t ≡ s
+BookStep s (Step.Turn, Answer.Refused e) t = t ≡ s
+BookStep s (Step.Look, Answer.Marked mark) t = t ≡ s
+-- no step has another answer
+BookStep s x t = ⊥
+
+-- The steps with their answers are those of a book of one thread, from one state to another.
+abbrev pub IsLegal : BookState → Past → BookState → Type 0
+IsLegal s past t = Leads BookStep past s t
+
+-- A step other than a turn, with its answer, leads a book and the blocks in transit on; the mark is the one that a look answers.
+abbrev pub CoreStep : BookState → List Block → ℕ → Step × Answer → BookState → List Block → Type 0
+CoreStep s waiting mark (Step.Cut, Answer.Cut handed) t waits = books.CutAnswers s waiting (Unit {0}) (Ok handed) waits t
+CoreStep s waiting mark (Step.Look, Answer.Marked m) t waits = (t ≡ s) × (m ≡ mark) × (waits ≡ waiting)
+CoreStep s waiting mark (Step.Turn, a) t waits = ⊥
+CoreStep s waiting mark x t waits = BookStep s x t × (waits ≡ waiting)
+
+-- A draw gives the next number, and none gives it again; from 2 ^ 61 on it is refused. No other step draws.
+abbrev pub IsDraw : ℕ → Answer → ℕ → Type 0
+IsDraw next (Answer.Drawn n) after = (n ≡ next) × (n < 2 ^ 61) × (after ≡ next + 1)
+IsDraw next (Answer.Refused Refusal.Worn) after = (2 ^ 61 ≤ next) × (after ≡ next)
+IsDraw next a after = ⊥
+
+abbrev pub Draws : ℕ → Step × Answer → ℕ → Type 0
+Draws next (Step.Draw, a) after = IsDraw next a after
+Draws next x after = after ≡ next
+
+-- how a turn's result stands in a past
+abbrev pub turn_answer : Result Turn Refusal → Answer
+turn_answer (Ok turn) = Answer.Turned turn
+turn_answer (Err e) = Answer.Refused e
+
+-- the mark behind a turn: the one that it told, if it told one
+abbrev pub mark_behind : ℕ → Result Turn Refusal → ℕ
+mark_behind mark (Ok (Turn.Kept place)) = place
+mark_behind mark r = mark

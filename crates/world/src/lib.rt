@@ -1,0 +1,14 @@
+//! The core as a list of steps: the same book, keeper and recovery that threads use, on one thread. Its theorem is the
+//! crash theorem.
+#![tactic(auto)]
+
+mod core_steps;
+mod steps;
+#[cfg(test)]
+mod tests;
+mod transit;
+mod world;
+
+pub use steps::{Answer, Step};
+pub use transit::Transit;
+pub use world::{World, play};

@@ -1,0 +1,47 @@
+// What the core does, one step at a time, and what each step is answered.
+use calls::{Call, Kind, Name, Refusal, Reply};
+use checkpoint::Turn;
+
+/// A step of the core. Numbers are those of transactions; a collection goes by its number.
+#[derive(Drop, Debug)]
+pub enum Step {
+    /// Draws the next number.
+    Draw,
+    /// Makes an empty collection: a committed transaction of its own.
+    Make(Name, Kind),
+    /// Makes a number live.
+    Enter(u64),
+    /// A call of a live transaction on a collection.
+    Call(u64, u8, Call),
+    /// Commits a live transaction.
+    Commit(u64),
+    /// Undoes the newest call of a live transaction.
+    Back(u64),
+    /// Ends a live transaction whose calls are all undone.
+    Ended(u64),
+    /// Hands a block of pending records over.
+    Cut,
+    /// Brings a block to the disk.
+    Turn,
+    /// Looks at the mark.
+    Look,
+}
+
+/// What a step is answered.
+#[derive(Drop, Debug)]
+pub enum Answer {
+    Drawn(u64),
+    /// The count of commits and makes since the store was opened, this one included.
+    Placed(u64),
+    Entered,
+    Replied(Reply),
+    /// Whether a call was undone.
+    Backed(bool),
+    Ended,
+    /// Whether a block was handed over.
+    Cut(bool),
+    Turned(Turn),
+    /// The mark: so many commits are kept.
+    Marked(u64),
+    Refused(Refusal),
+}

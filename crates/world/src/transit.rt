@@ -1,0 +1,49 @@
+// Blocks between the book and the keeper.
+ghost use Rattle.std.specs.Prelude.{◌≡◌, ◌≤◌, length, IfOk, []};
+ghost use Rattle.std.specs.VecDeque.{deque_capacity};
+
+use calls::limits::MAX_TRANSIT;
+use checkpoint::Inbox;
+use std::alloc::{AllocError, Global};
+use std::collections::VecDeque;
+use txn::{Block, Outbox};
+
+/// The blocks that were handed over and did not reach the disk yet: at most four, in order.
+#[derive(Drop, Debug)]
+pub struct Transit {
+    blocks: VecDeque<Block>,
+    ghost room: { 4 ≤ deque_capacity blocks },
+}
+
+impl Transit {
+    /// No block, with room for four: no later call takes memory.
+    pub fn new(alloc: Global) -> Result<Self, AllocError>
+        ensures { IfOk result (λ transit. transit.blocks.items ≡ []) }
+    {
+        Ok(Self {
+            blocks: VecDeque::with_capacity(alloc, MAX_TRANSIT)?,
+        })
+    }
+}
+
+impl Outbox for Transit {
+    ghost waiting = { λ t. t.blocks.items };
+
+    ghost is_full = { λ t. 4 ≤ length t.blocks.items };
+
+    fn offer(&mut self, block: Block) -> Result<(), Block> {
+        if self.blocks.len() >= MAX_TRANSIT {
+            return Err(block);
+        }
+        self.blocks.push_back_reserved(block);
+        Ok(())
+    }
+}
+
+impl Inbox for Transit {
+    ghost waiting = { λ t. t.blocks.items };
+
+    fn take(&mut self) -> Option<Block> {
+        self.blocks.pop_front()
+    }
+}

@@ -1,0 +1,165 @@
+// The core as a list of steps.
+ghost use Rattle.std.specs.Prelude.{◌≡◌, ◌≤◌, ℕ, List, ◌++◌, ◌∷◌, [], take, length, IfOk, IfErr, OnErr, IsOkUnless};
+ghost use Rattle.std.specs.List.{zip};
+ghost use Rattle.calls.specs.Contents.{Collection};
+ghost use Rattle.disk_model.specs.Disk.{LeavesOnly};
+ghost use Rattle.world.specs.declared.steps.Step.{Step};
+ghost use Rattle.world.specs.Pasts.{Past, committed_in, acknowledged, turn_answer, mark_behind};
+ghost use Rattle.world.specs.Crash.{Yields};
+ghost use Rattle.checkpoint.specs.Keepers.{IsFresh};
+ghost use Rattle.recovery.specs.Openings.{IsOpened, IsReadyStore};
+ghost use Rattle.world.specs.Worlds.{HasPast, parts_of};
+
+use crate::core_steps;
+use crate::steps::{Answer, Step};
+use crate::transit::Transit;
+use calls::Refusal;
+use catalog::Catalog;
+use checkpoint::{Keeper, Turn};
+use disk_model::Disk;
+use std::alloc::Global;
+use txn::Book;
+
+/// A book, a keeper, the blocks in transit, the mark and the next number.
+#[derive(Drop)]
+pub struct World<D: Disk> {
+    book: Book<Catalog>,
+    keeper: Keeper<D>,
+    transit: Transit,
+    mark: u64,
+    next: u64,
+    ghost marked: { mark ≡ keeper.mark },
+}
+
+impl<D: Disk> World<D> {
+    /// A world of an opened book and its keeper, which has brought nothing to the disk yet, with nothing in transit. Its
+    /// past begins there: what a stop leaves is what it leaves of the store that was opened.
+    ///
+    /// Refused only for want of memory, and then the disk is handed back.
+    pub fn new(alloc: Global, book: Book<Catalog>, keeper: Keeper<D>) -> Result<Self, (Refusal, D)>
+        requires { IsFresh keeper }
+        ensures parts { IfOk result (λ w. (w.book ≡ book) × (w.keeper ≡ keeper) × (w.transit.blocks.items ≡ [])) }
+        ensures past { IfOk result (λ w. (bytes : List ℕ) → IsOpened bytes book keeper.area (D.seen keeper.disk) →
+            IsReadyStore D.seen D.may_leave bytes book keeper.area keeper.disk →
+            HasPast D.seen D.may_leave book.state.now [] (parts_of w.book w.keeper w.transit.blocks.items w.mark)) }
+        ensures refused { IfErr result (λ x. (x.0 ≡ Refusal.NoMemory) × (x.1 ≡ keeper.disk)) }
+    {
+        let next = book.next();
+        match Transit::new(alloc) {
+            Ok(transit) => Ok(Self {
+                book,
+                keeper,
+                transit,
+                mark: 0,
+                next,
+            }),
+            Err(_) => Err((Refusal::NoMemory, keeper.into_disk())),
+        }
+    }
+
+    /// The book.
+    pub fn book(&self) -> &Book<Catalog>
+        ensures { result.now ≡ self.now.book }
+    {
+        &self.book
+    }
+
+    /// The disk. No device is called.
+    pub fn into_disk(self) -> D
+        ensures { result ≡ self.keeper.disk }
+    {
+        let Self { keeper, .. } = self;
+        keeper.into_disk()
+    }
+
+    // Brings a block to the disk.
+    fn turn(&mut self) -> Answer
+        ensures past { (start : List Collection) (past : Past) →
+            HasPast D.seen D.may_leave start past (parts_of self.old.book self.old.keeper self.old.transit.blocks.items self.old.mark) →
+            HasPast D.seen D.may_leave start (past ++ (Step.Turn, result) ∷ []) (parts_of self.new.book self.new.keeper self.new.transit.blocks.items self.new.mark) }
+        ensures any_moment { (start : List Collection) (past : Past) →
+            HasPast D.seen D.may_leave start past (parts_of self.old.book self.old.keeper self.old.transit.blocks.items self.old.mark) →
+            LeavesOnly D.moment D.left_since self.old.keeper.disk self.new.keeper.disk
+            (Yields start (past ++ (Step.Turn, result) ∷ []) (take self.old.mark (committed_in past))) }
+        ensures mark { self.old.mark ≤ self.new.mark }
+    {
+        let turned = self.keeper.turn(&mut self.transit);
+        self.mark = mark_after(self.mark, &turned);
+        answer_of(turned)
+    }
+
+    // Takes one step.
+    fn step(&mut self, step: &Step) -> Answer
+        ensures past { (start : List Collection) (past : Past) →
+            HasPast D.seen D.may_leave start past (parts_of self.old.book self.old.keeper self.old.transit.blocks.items self.old.mark) →
+            HasPast D.seen D.may_leave start (past ++ (step.now, result) ∷ []) (parts_of self.new.book self.new.keeper self.new.transit.blocks.items self.new.mark) }
+        ensures any_moment { (start : List Collection) (past : Past) →
+            HasPast D.seen D.may_leave start past (parts_of self.old.book self.old.keeper self.old.transit.blocks.items self.old.mark) →
+            LeavesOnly D.moment D.left_since self.old.keeper.disk self.new.keeper.disk
+            (Yields start (past ++ (step.now, result) ∷ []) (take self.old.mark (committed_in past))) }
+        ensures mark { self.old.mark ≤ self.new.mark }
+    {
+        match step {
+            Step::Turn => self.turn(),
+            _ => core_steps::take(
+                &mut self.book,
+                &mut self.transit,
+                &mut self.next,
+                self.mark,
+                step,
+            ),
+        }
+    }
+}
+
+/// Takes the steps in order, and answers each. The list of answers is reserved before the first step.
+///
+/// For every past that the world has, it afterwards has that past followed by the steps with their answers. Whatever a
+/// stop at any moment since the call began might have left, also within a device write, is sound and stands for a
+/// content that some beginning of the committed transactions gives, each run whole, one after another, with the replies
+/// that its client got; and that beginning holds all that was acknowledged before.
+///
+/// Refused only for want of memory, with no step taken.
+pub fn play<D: Disk>(
+    alloc: Global,
+    world: &mut World<D>,
+    steps: &[Step],
+) -> Result<Vec<Answer>, Refusal>
+    ensures past { (start : List Collection) (past : Past) →
+        HasPast D.seen D.may_leave start past (parts_of world.old.book world.old.keeper world.old.transit.blocks.items world.old.mark) →
+        IfOk result (λ answers. HasPast D.seen D.may_leave start (past ++ zip steps.now answers.items) (parts_of world.new.book world.new.keeper world.new.transit.blocks.items world.new.mark)) }
+    ensures any_moment { (start : List Collection) (past : Past) →
+        HasPast D.seen D.may_leave start past (parts_of world.old.book world.old.keeper world.old.transit.blocks.items world.old.mark) →
+        IfOk result (λ answers. LeavesOnly D.moment D.left_since world.old.keeper.disk world.new.keeper.disk
+        (Yields start (past ++ zip steps.now answers.items) (acknowledged past))) }
+    ensures each { IfOk result (λ answers. length answers.items ≡ length steps.now) }
+    ensures only { IsOkUnless result Refusal.NoMemory }
+    ensures err { OnErr result (world.new ≡ world.old) }
+{
+    let mut answers = Vec::with_capacity(alloc, steps.len())?;
+    for step in steps {
+        let answer = world.step(step);
+        let _pushed = answers.push(answer);
+    }
+    Ok(answers)
+}
+
+// The mark behind a turn: the one that it told, if it told one.
+fn mark_after(mark: u64, turned: &Result<Turn, Refusal>) -> u64
+    ensures { result ≡ mark_behind mark turned.now }
+{
+    match turned {
+        Ok(Turn::Kept(place)) => *place,
+        _ => mark,
+    }
+}
+
+// A turn's result as an answer.
+fn answer_of(turned: Result<Turn, Refusal>) -> Answer
+    ensures { result ≡ turn_answer turned }
+{
+    match turned {
+        Ok(turn) => Answer::Turned(turn),
+        Err(refusal) => Answer::Refused(refusal),
+    }
+}
