@@ -1,10 +1,12 @@
 -- Records that wait for a block, in blocks that are each as full as they can be.
-use Rattle.std.proofs.Common.{◌≡◌, ℕ, ◌+◌, ◌≤◌, ◌<◌, List, [], ◌∷◌, ◌++◌, length, map, refl, sym, ◌∙◌, ap, subst, arith, append_assoc, length-append}
+use Rattle.std.proofs.Common.{◌≡◌, ℕ, ◌+◌, ◌≤◌, ◌<◌, Option, List, [], ◌∷◌, ◌++◌, length, map, refl, sym, ◌∙◌, ap, subst, arith, append_assoc, length-append}
 use Rattle.std.proofs.lemmas.List.{append-nil, map-append}
 use Rattle.std.specs.List.{flat_map}
 use Rattle.records.specs.declared.record.Record.{Record}
 use Rattle.records.specs.Acts.{places}
-use Rattle.records.specs.Records.{spelled, spelling}
+use Rattle.calls.specs.declared.call.Call.{Call}
+use Rattle.calls.specs.declared.reply.Reply.{Reply}
+use Rattle.records.specs.Records.{call_record, spelled, spelling}
 use Rattle.txn.specs.declared.block.Block.{Block}
 use Rattle.txn.specs.declared.draft.Handed.{Handed}
 use Rattle.txn.specs.Drafts.{Drafted, Fills, ArePacked}
@@ -51,6 +53,10 @@ next_too_long b (f ∷ fs) last r behind packed is = first f.records (flat_map (
     first : (c more : List Record) → Fills b c → (c ++ more) ++ last.records ≡ r ∷ behind → 65535 < length (spelling b) + length (spelled r)
     first [] more fills same = absurd fills
     first (s ∷ c) more fills same = subst (λ (l : List Record). Fills b l) same fills
+
+-- how long the record of a call is, where its inverse was told in another form
+pub call_size : (n at : ℕ) (c : Call) (r : Reply) (given back : Option Call) (len : ℕ) → ((n at : ℕ) → len ≡ length (spelled (Record.Call (call_record n at c r given)))) → given ≡ back → len ≡ length (spelled (Record.Call (call_record n at c r back)))
+call_size n at c r given back len is same = is n at ∙ ap (λ b. length (spelled (Record.Call (call_record n at c r b)))) same
 
 -- The records stay counted: with one more in the last block,
 pub counted_more : (w : Waiting) (last : Drafted) (r : Record) (count : ℕ) → IsCounted w count → last.records ≡ w.last.records ++ r ∷ [] → length (spelling w.last.records) + length (spelled r) ≤ 65535 →

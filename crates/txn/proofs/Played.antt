@@ -1,10 +1,8 @@
 -- What records, and a history of a book, come to.
-use Rattle.std.proofs.Common.{◌≡◌, ℕ, ◌+◌, ◌==◌, true, false, Option, inl, inr, ⊎_elim, Ok, Err, List, [], ◌∷◌, ◌++◌, map, length, refl, sym, ◌∙◌, ap, subst, arith, append_assoc}
+use Rattle.std.proofs.Common.{◌≡◌, ℕ, ◌+◌, true, false, Option, inl, inr, ⊎_elim, Ok, Err, List, [], ◌∷◌, ◌++◌, map, length, refl, sym, ◌∙◌, ap, subst, arith, append_assoc}
 use Rattle.std.specs.List.{flat_map}
 use Rattle.std.specs.FinMap as maps
 use Rattle.std.proofs.lemmas.Bool.{cases_eq}
-use Rattle.std.proofs.lemmas.List.{map-append}
-use Rattle.std.proofs.lemmas.List.Elements.{filter-append}
 use Rattle.calls.specs.declared.kind.Kind.{Kind}
 use Rattle.calls.specs.declared.call.Call.{Call}
 use Rattle.calls.specs.declared.reply.Reply.{Reply}
@@ -28,6 +26,7 @@ use Rattle.txn.proofs.Theory.Lists.{none_own, own_others_same, own_others_other,
 use Rattle.txn.proofs.Statuses.{fallen_is, lives_more, lives_fewer, falls_more, falls_fresh, falls_fewer}
 use Rattle.txn.proofs.Counting.{number}
 use Rattle.txn.proofs.Sizes.{append_length}
+use Rattle.txn.proofs.Rewinding.{own_append}
 use Rattle.txn.proofs.Told.{serial_told}
 use Rattle.txn.proofs.Steps as steps
 use Rattle.txn.proofs.Steps.{none_live}
@@ -39,9 +38,6 @@ own_of_others n k es other = ap (map (λ e. e.1)) (own_others_other number n k e
 
 own_of_its_others : (n : ℕ) (es : List (ℕ × Entry)) → own n (others n es) ≡ []
 own_of_its_others n es = ap (map (λ e. e.1)) (own_others_same number n es)
-
-own_append : (k : ℕ) (es fs : List (ℕ × Entry)) → own k (es ++ fs) ≡ own k es ++ own k fs
-own_append k es fs = ap (map (λ e. e.1)) (filter-append (λ e. e.0 == k) es fs) ∙ map-append (λ e. e.1) _ _
 
 own_of_rest : (k : ℕ) (before : List (ℕ × Entry)) (x : ℕ × Entry) (after : List (ℕ × Entry)) → (x.0 ≡ k → ⊥) → own k (before ++ x ∷ after) ≡ own k (before ++ after)
 own_of_rest k before x after other = ap (map (λ e. e.1)) (own_without number k before x after other)

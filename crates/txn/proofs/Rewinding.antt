@@ -1,5 +1,5 @@
 -- What a row does to each number's entries, to who is live, and to the wear.
-use Rattle.std.proofs.Common.{◌≡◌, ℕ, ◌+◌, ◌==◌, ⊎_elim, Option, true, false, cond, inr, List, [], ◌∷◌, ◌++◌, map, length, refl, sym, ◌∙◌, ap, subst, arith, append_assoc}
+use Rattle.std.proofs.Common.{◌≡◌, ℕ, ◌+◌, ◌==◌, ⊎_elim, Option, true, cond, inr, List, [], ◌∷◌, ◌++◌, map, length, refl, sym, ◌∙◌, ap, subst, arith}
 use Rattle.std.specs.Prelude.{◌↔◌}
 use Rattle.std.specs.FinMap as maps
 use Rattle.std.specs.List.{filter}
@@ -10,10 +10,10 @@ use Rattle.calls.specs.declared.kind.Kind.{Kind}
 use Rattle.calls.specs.declared.call.Call.{Call}
 use Rattle.calls.specs.declared.reply.Reply.{Reply}
 use Rattle.calls.specs.declared.need.Need.{Need}
-use Rattle.calls.specs.Transactions.{Event, Entry, Asked, PutOff, own, others, calls_of}
+use Rattle.calls.specs.Transactions.{Entry, Asked, PutOff, own, calls_of}
 use Rattle.undo_log.specs.Logs.{Lives}
 use Rattle.records.specs.declared.record.Record.{Record}
-use Rattle.txn.specs.Machine.{State, IsLeft, CommitRow, EndedRow, BackRow, Steps}
+use Rattle.txn.specs.Machine.{State, IsLeft, BackRow, Steps}
 use Rattle.txn.proofs.Theory.Lists.{own_others_other, own_without}
 use Rattle.txn.proofs.Counting.{number}
 use Rattle.txn.proofs.Sizes.{append_length, rest_length}
@@ -24,7 +24,7 @@ calls_append [] fs = refl
 calls_append (Asked e ∷ es) fs = ap (λ l. e ∷ l) (calls_append es fs)
 calls_append (PutOff at c ∷ es) fs = calls_append es fs
 
-own_append : (k : ℕ) (es fs : List (ℕ × Entry)) → own k (es ++ fs) ≡ own k es ++ own k fs
+pub own_append : (k : ℕ) (es fs : List (ℕ × Entry)) → own k (es ++ fs) ≡ own k es ++ own k fs
 own_append k es fs = ap (map (λ e. e.1)) (filter-append (λ e. e.0 == k) es fs) ∙ map-append (λ e. e.1) _ _
 
 own_first : (n : ℕ) (e : Entry) (es : List (ℕ × Entry)) → own n ((n, e) ∷ es) ≡ e ∷ own n es

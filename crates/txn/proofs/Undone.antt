@@ -1,5 +1,5 @@
 -- The newest call of a transaction is undone.
-use Rattle.std.proofs.Common.{◌≡◌, ℕ, ◌==◌, ◌+◌, ◌<◌, Bool, true, false, Option, Some, None, is_some, ◌↔◌, IfSome, IfNone, List, [], ◌∷◌, ◌++◌, length, map, cond, refl, sym, ◌∙◌, ap, subst, arith}
+use Rattle.std.proofs.Common.{◌≡◌, ℕ, ◌==◌, ◌+◌, Bool, true, false, Option, Some, None, is_some, ◌↔◌, IfSome, IfNone, List, [], ◌∷◌, ◌++◌, map, cond, refl, sym, ◌∙◌, ap, subst}
 use Rattle.std.proofs.lemmas.Bool.{eq-eqb}
 use Rattle.std.specs.List.{filter}
 use Rattle.calls.specs.declared.call.Call.{Call}
@@ -11,12 +11,8 @@ use Rattle.undo_log.specs.Entries.{event_of, HasNoCall, HasNewestCall, IsNewestC
 use Rattle.undo_log.specs.Logs.{Log, Lives, fallen}
 use Rattle.boosted.specs.Shape as shape
 use Rattle.boosted.specs.Shape.{Undoes}
-use Rattle.records.specs.declared.record.Record.{Record}
 use Rattle.txn.specs.Machine.{State, BackRow, FallRow}
-use Rattle.txn.specs.Books.{AppendsTo}
-use Rattle.txn.specs.Waits.{Waiting, waiting}
-use Rattle.txn.specs.Views.{state_of, book_of}
-use Rattle.txn.proofs.BookLemmas.{appends}
+use Rattle.txn.specs.Views.{state_of}
 
 none_behind : (b : Bool) (n k : ℕ) (e : Entry) (rest : List (ℕ × Entry)) → calls_of (map (λ x. x.1) (cond b ((k, e) ∷ filter (λ x. x.0 == n) rest) (filter (λ x. x.0 == n) rest))) ≡ [] → HasNoCall n rest
 none_behind true n k (Asked x) rest none = cc
@@ -86,22 +82,6 @@ module _ {S : Type 0} (answers : S → ℕ → Call → Reply → Type 0) (leave
         is = ap (λ v. let s : State S = record { now = now'; live = v; entries = log'.entries; holds = needs.holds; wear = wear + 1 } in s) fell
             ∙ ap (λ v. let s : State S = record { now = now'; live = fallen log.live n; entries = v; holds = needs.holds; wear = wear + 1 } in s) left;
       }
-
-module _ {S : Type 0} (answers : S → ℕ → Call → Reply → Type 0) (leaves : S → ℕ → Call → Reply → S) (inverse : Call → Reply → Option Call)
-    (now : S) (needs : Holdings) (log : Log) (w : Waiting) (wear places next n : ℕ) where
-  -- The book once the newest call is undone, taken out and recorded.
-  pub back_done : (x : Event) (now' : S) (popped log' : Log) (reserved w' : Waiting) (taken : Option Logged) → Lives log.live n → length (waiting w) < 16384 → HasNewestCall n log.entries x →
-      Undoes (shape.Does answers leaves) inverse now x.at x.call x.reply now' → IfSome taken (λ l. IsNewestCall n log.entries (event_of l) popped.entries) → IfNone taken (HasNoCall n log.entries) →
-      popped.live ≡ log.live → log'.live ≡ fallen popped.live n → log'.entries ≡ popped.entries → waiting reserved ≡ waiting w → reserved.handed ≡ w.handed → waiting w' ≡ waiting reserved ++ Record.Back n ∷ [] → w'.handed ≡ reserved.handed →
-      BackRow answers leaves inverse (state_of now needs log wear) n (state_of now' needs log' (wear + 1)) ×
-      AppendsTo (book_of now needs log w wear places next) (Record.Back n) (book_of now' needs log' w' (wear + 1) places next)
-  back_done x now' popped log' reserved w' taken live room newest undone found none same falls rest waits handed written also = (
-    undone_row answers leaves inverse now needs log wear n x now' popped log' taken live newest undone found none same falls rest,
-    record {
-      appends = appends now needs log w wear places next (Record.Back n) now' needs log' w' (wear + 1) places next room (written ∙ ap (λ l. l ++ Record.Back n ∷ []) waits) (also ∙ handed) (omega arith);
-      next = refl;
-    },
-  )
 
 module _ {S : Type 0} (now : S) (needs : Holdings) (log : Log) (wear n : ℕ) where
   -- Nothing is left to undo.

@@ -1,14 +1,15 @@
 -- Records spelled into the blocks in which they will be handed over.
 use Rattle.std.specs.Prelude.{◌≡◌, ℕ, ◌+◌, ◌<◌, ◌≤◌, List, [], ◌∷◌, ◌++◌, length, drop}
 use Rattle.records.specs.declared.record.Record.{Record}
-use Rattle.records.specs.Records.{spelled, spelling}
+use Rattle.records.specs.Records.{call_record, spelled, spelling}
 use Rattle.txn.specs.declared.noted.Noted.{Noted}
-use Rattle.txn.specs.declared.noted.Noted.TheVariants.{Start, After'}
+use Rattle.txn.specs.declared.noted.Noted.TheVariants.{Start, After', Called'}
 
 -- the records that were noted, in order
 abbrev pub noted_records : Noted → List Record
 noted_records Start = []
 noted_records (After' no_bytes earlier noted) = noted_records earlier ++ noted.value ∷ []
+noted_records (Called' no_bytes earlier n at call reply back) = noted_records earlier ++ Record.Call (call_record n.value at.value call.value reply.value back.value) ∷ []
 
 -- The records of a block in the making; how many bytes are written, and for how many there is room.
 pub record Drafted : Type 0 where

@@ -11,9 +11,9 @@ abbrev pub state_of : {S : Type 0} → S → Holdings → Log → (wear : ℕ) �
 state_of now needs log wear = record { now = now; live = log.live; entries = log.entries; holds = needs.holds; wear = wear }
 
 -- a book
-abbrev pub book_of : {S : Type 0} → S → Holdings → Log → Waiting → (wear places next : ℕ) → BookState S
-book_of now needs log w wear places next = record {
-  state = state_of now needs log wear;
+abbrev pub book_of : {S : Type 0} → State S → Waiting → (places next : ℕ) → BookState S
+book_of state w places next = record {
+  state = state;
   pending = waiting w;
   end = w.handed.end;
   place = w.handed.place;

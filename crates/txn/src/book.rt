@@ -1,14 +1,12 @@
 // The book: transactions on shared collections, one step at a time.
-ghost use Rattle.std.specs.Prelude.{◌≡◌, ℕ, ◌<◌, ◌≤◌, ◌^◌, ◌+◌, [], ◌∷◌, ◌++◌, IfOk, IfErr, OnOk, OnErr, IsOkUnless, length};
+ghost use Rattle.std.specs.Prelude.{◌≡◌, ℕ, ◌<◌, ◌≤◌, ◌^◌, ◌+◌, [], ◌∷◌, ◌++◌, IfOk, IfSome, IfErr, OnOk, OnErr, IsOkUnless, length};
 ghost use Rattle.calls.specs.Inverses.{Askable, IsShort};
 ghost use Rattle.calls.specs.Names.{IsName};
-ghost use Rattle.calls.specs.Transactions.{Whole, Asked, own};
-ghost use Rattle.undo_log.specs.Logs as logs;
+ghost use Rattle.calls.specs.Transactions.{Whole, own};
+ghost use Rattle.undo_log.specs.Entries.{event_of};
 ghost use Rattle.undo_log.specs.Logs.{Lives};
-ghost use Rattle.boosted.specs.Shape.{Does, Undoes, HasRoom};
 ghost use Rattle.catalog.specs.Making.{IsPlaceOf, FindRefused};
-ghost use Rattle.records.specs.Acts.{event_of};
-ghost use Rattle.records.specs.Records.{call_record, FitsCall, FitsReply};
+ghost use Rattle.records.specs.Records.{FitsCall, FitsReply};
 ghost use Rattle.records.specs.Short.{AreShort, IsShortReply};
 ghost use Rattle.txn.specs.Machine.{IsRunning, IsSettled};
 ghost use Rattle.txn.specs.Books.{opened, IsKept, IsOpen, IsFull, RunRefused, CanEnter, EnterRefused, CallRefused, MakeAnswers, EnterAnswers, CallAnswers, CommitAnswers, BackAnswers, EndedAnswers, CutAnswers};
@@ -16,16 +14,15 @@ ghost use Rattle.txn.specs.Histories.{RunsWhole};
 ghost use Rattle.txn.specs.Sound.{IsSound};
 
 use crate::block::Outbox;
+use crate::machine::Machine;
 use crate::pending::Pending;
-use crate::undoing::undo;
-use abstract_locks::NeedTable;
 use calls::limits::{MAX_CALLS, MAX_LIVE, MAX_PENDING, NUMBER_END};
 use calls::{Call, Kind, Name, Refusal, Reply, check_name};
 use catalog::Parts;
-use records::{CallRecord, Coded, Record, encoded_len, fits_call, fits_reply};
+use records::{Coded, Record, call_len, fits_call, fits_reply};
 use std::alloc::Global;
 use std::marker::Model;
-use undo_log::{Live, Logged};
+use undo_log::Logged;
 
 // The bytes of a record of a transaction's number alone, and of one of a making but for the name.
 const MARK_LEN: usize = 9;
@@ -40,11 +37,8 @@ const MAKE_HEAD: usize = 3;
 #[derive(Drop)]
 pub struct Book<B: Parts + Coded> {
     alloc: Global,
-    parts: B,
-    needs: NeedTable,
-    live: Live,
+    machine: Machine<B>,
     pending: Pending,
-    wear: u64,
     // the commits and makes since the book was opened
     places: u64,
     // above every number that was entered
@@ -64,10 +58,10 @@ impl<B: Parts + Coded> Model for Book<B> {
 
     ghost coded = { Prim.hlevel (codes, maps.code {R = nat_cmp} coded_ℕ coded_bool) };
 
-    ghost view = { λ b. book_of b.parts b.needs b.live b.pending b.wear b.places b.next };
+    ghost view = { λ b. book_of b.machine b.pending b.places b.next };
 
     ghost invariant = { λ b. IsKept B.names B.within (λ s. AreShort (B.collections s)) (IsSound B.answers B.leaves B.makes B.need B.inverse)
-        (book_of b.parts b.needs b.live b.pending b.wear b.places b.next) };
+        (book_of b.machine b.pending b.places b.next) };
 }
 
 impl<B: Parts + Coded> Book<B> {
@@ -83,11 +77,8 @@ impl<B: Parts + Coded> Book<B> {
     {
         Self {
             alloc,
-            parts,
-            needs: NeedTable::new(alloc),
-            live: Live::new(alloc),
+            machine: Machine::new(alloc, parts, wear),
             pending: Pending::new(alloc),
-            wear,
             places: 0,
             next,
         }
@@ -97,7 +88,7 @@ impl<B: Parts + Coded> Book<B> {
     pub fn parts(&self) -> &B
         ensures { result.now ≡ self.now.state.now }
     {
-        &self.parts
+        self.machine.parts()
     }
 
     /// A number above every number that was entered: the greater of the one that the book was made with and one more
@@ -121,7 +112,7 @@ impl<B: Parts + Coded> Book<B> {
         ensures ok { IfOk result (λ at. IsName name.now × IsPlaceOf (B.names self.now.state.now) name.now at) }
         ensures err { IfErr result (FindRefused (B.names self.now.state.now) name.now) }
     {
-        self.parts.find(name)
+        self.machine.parts().find(name)
     }
 
     /// Makes an empty collection: a committed transaction of its own. Answers the count of commits and makes since the
@@ -138,8 +129,7 @@ impl<B: Parts + Coded> Book<B> {
         check_name(name)?;
         self.pending.reserve(MAKE_HEAD + name.len())?;
         let spelled = Name::new(name.to_string(self.alloc)?);
-        let at = self.parts.make(name, kind)?;
-        prove!(at <= u8::MAX);
+        self.machine.make(name, kind)?;
         self.pending.push(&Record::Make(kind, spelled));
         self.places += 1;
         Ok(self.places)
@@ -155,9 +145,8 @@ impl<B: Parts + Coded> Book<B> {
     {
         self.check_enter(number)?;
         self.pending.reserve(MARK_LEN)?;
-        self.live.enter(number)?;
+        self.machine.begin(number)?;
         self.pending.push(&Record::Begin(number));
-        self.wear += 1;
         self.next = self.next.max(number + 1);
         Ok(())
     }
@@ -172,23 +161,18 @@ impl<B: Parts + Coded> Book<B> {
         ensures settled { (c : B) → IsSettled B.answers B.leaves self.old.state c → IsSettled B.answers B.leaves self.new.state c }
     {
         self.check_call(number, col, call)?;
-        let reply = self.parts.look(col, call)?;
+        let reply = self.machine.parts().look(col, call)?;
         if B::after(call, &reply).is_some() {
             return Err(Refusal::BadArg);
         }
         let need = B::need(call, &reply);
-        self.needs.test(number, col, &need)?;
-        let entry = record_of::<B>(number, col, call, &reply)?;
-        self.needs.reserve(col)?;
-        self.live.reserve(number)?;
-        self.pending.reserve(encoded_len(&entry))?;
-        self.parts.run(col, call, &reply)?;
-        if self.needs.ask(number, col, need).is_err() {
-            unreachable!();
-        }
-        self.pending.push(&entry);
-        note_call(&mut self.live, entry);
-        self.wear += 1;
+        self.machine.test(number, col, &need)?;
+        let back = inverse::<B>(call, &reply)?;
+        let len = call_len(call, &reply, back.as_ref());
+        self.pending.reserve(len)?;
+        let asked = logged(col, call, &reply)?;
+        self.machine.call(number, asked)?;
+        self.pending.push_call(number, col, call, &reply, &back);
         Ok(reply)
     }
 
@@ -204,8 +188,7 @@ impl<B: Parts + Coded> Book<B> {
         self.check_running(number)?;
         self.check_backlog()?;
         self.pending.reserve(MARK_LEN)?;
-        self.live.remove(number);
-        self.needs.give_up(number);
+        self.machine.commit(number);
         self.pending.push(&Record::Commit(number));
         self.places += 1;
         Ok(self.places)
@@ -221,16 +204,13 @@ impl<B: Parts + Coded> Book<B> {
     {
         self.check_live(number)?;
         self.check_backlog()?;
-        let Some(newest) = self.live.newest(number) else {
-            self.live.fall(number);
+        if !self.machine.has_call(number) {
+            self.machine.fall(number);
             return Ok(false);
-        };
+        }
         self.pending.reserve(MARK_LEN)?;
-        undo(&mut self.parts, newest)?;
-        let _undone = self.live.pop(number);
-        self.live.fall(number);
+        self.machine.back(number)?;
         self.pending.push(&Record::Back(number));
-        self.wear += 1;
         Ok(true)
     }
 
@@ -242,13 +222,12 @@ impl<B: Parts + Coded> Book<B> {
         ensures settled { (c : B) → IsSettled B.answers B.leaves self.old.state c → IsSettled B.answers B.leaves self.new.state c }
     {
         self.check_live(number)?;
-        if self.live.newest(number).is_some() {
+        if self.machine.has_call(number) {
             return Err(Refusal::Unfinished);
         }
         self.check_backlog()?;
         self.pending.reserve(MARK_LEN)?;
-        self.live.remove(number);
-        self.needs.give_up(number);
+        self.machine.ended(number);
         self.pending.push(&Record::Ended(number));
         Ok(())
     }
@@ -280,7 +259,7 @@ impl<B: Parts + Coded> Book<B> {
         ensures ok { OnOk result (Lives self.now.state.live number) }
         ensures err { IfErr result (λ e. (e ≡ Refusal.NoSuchTxn) × (Lives self.now.state.live number → ⊥)) }
     {
-        if self.live.is_live(number) {
+        if self.machine.is_live(number) {
             Ok(())
         } else {
             Err(Refusal::NoSuchTxn)
@@ -293,7 +272,7 @@ impl<B: Parts + Coded> Book<B> {
         ensures err { IfErr result (RunRefused self.now number) }
     {
         self.check_live(number)?;
-        if self.live.is_falling(number) {
+        if !self.machine.is_running(number) {
             return Err(Refusal::Falling);
         }
         Ok(())
@@ -307,13 +286,13 @@ impl<B: Parts + Coded> Book<B> {
         if number == 0 || number >= NUMBER_END {
             return Err(Refusal::BadArg);
         }
-        if self.live.is_live(number) {
+        if self.machine.is_live(number) {
             return Err(Refusal::AlreadyLive);
         }
-        if self.live.count_live() >= MAX_LIVE {
+        if self.machine.count_live() >= MAX_LIVE {
             return Err(Refusal::TooManyLive);
         }
-        if self.wear >= NUMBER_END {
+        if self.machine.wear() >= NUMBER_END {
             return Err(Refusal::Worn);
         }
         self.check_backlog()
@@ -325,60 +304,44 @@ impl<B: Parts + Coded> Book<B> {
         ensures err { IfErr result (CallRefused B.answers B.belongs B.misplaced B.need self.now number col call.now) }
     {
         self.check_running(number)?;
-        self.parts.askable(col, call)?;
-        if self.wear >= NUMBER_END {
+        self.machine.parts().askable(col, call)?;
+        if self.machine.wear() >= NUMBER_END {
             return Err(Refusal::Worn);
         }
-        if self.live.count(number) >= MAX_CALLS {
+        if self.machine.count_calls(number) >= MAX_CALLS {
             return Err(Refusal::TooManyCalls);
         }
         self.check_backlog()
     }
 }
 
-// The record of a call with its reply.
-fn record_of<B: Parts + Coded>(
-    number: u64,
-    col: u8,
-    call: &Call,
-    reply: &Reply,
-) -> Result<Record, Refusal>
+// The call with its reply once more, for the log.
+fn logged(at: u8, call: &Call, reply: &Reply) -> Result<Logged, Refusal>
+    ensures ok { IfOk result (λ asked. event_of asked ≡ record { at = at; call = call.now; reply = reply.now }) }
+    ensures refusal { IsOkUnless result Refusal.NoMemory }
+{
+    Ok(Logged {
+        at,
+        call: call.copy()?,
+        reply: reply.copy()?,
+    })
+}
+
+// The call that takes back what the call did, answered so. All three have a spelling.
+fn inverse<B: Parts + Coded>(call: &Call, reply: &Reply) -> Result<Option<Call>, Refusal>
     requires askable { Askable call.now }
     requires short { IsShort call.now × IsShortReply reply.now }
-    ensures ok { IfOk result (λ entry. (entry ≡ Record.Call (call_record number col call.now reply.now (B.inverse call.now reply.now))) × FitsCall call.now × FitsReply reply.now) }
+    ensures ok { IfOk result (λ back. back ≡ B.inverse call.now reply.now) }
+    ensures call { FitsCall call.now }
+    ensures reply { FitsReply reply.now }
+    ensures back { IfOk result (λ back. IfSome back FitsCall) }
     ensures refusal { IsOkUnless result Refusal.NoMemory }
 {
     prove!(fits_call(call));
     prove!(fits_reply(reply));
-    Ok(Record::Call(CallRecord {
-        number,
-        collection: col,
-        call: call.copy()?,
-        reply: reply.copy()?,
-        inverse: B::inverse(call, reply)?,
-    }))
-}
-
-// Notes the call of the record as the newest of its transaction. It takes no memory.
-fn note_call(live: &mut Live, entry: Record)
-    requires call { (c : CallRecord) × (entry ≡ Record.Call c) × logs.IsLive live.old c.number × logs.HasRoom live.old c.number }
-    ensures noted { (c : CallRecord) → entry ≡ Record.Call c → live.new.entries ≡ live.old.entries ++ (c.number, Asked (event_of c)) ∷ [] }
-    ensures live { live.new.live ≡ live.old.live }
-{
-    let Record::Call(asked) = entry else {
-        unreachable!();
-    };
-    let CallRecord {
-        number,
-        collection,
-        call,
-        reply,
-        ..
-    } = asked;
-    let logged = Logged {
-        at: collection,
-        call,
-        reply,
-    };
-    live.push_call(number, logged);
+    let back = B::inverse(call, reply)?;
+    if let Some(back) = &back {
+        prove!(fits_call(back));
+    }
+    Ok(back)
 }

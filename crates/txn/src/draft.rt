@@ -1,15 +1,15 @@
 // A block in the making.
-ghost use Rattle.std.specs.Prelude.{◌≡◌, ◌+◌, ◌≤◌, ◌<◌, ◌^◌, [], ◌∷◌, ◌++◌, ◌↔◌, IsTrue, length, drop, ◌-◌, vec_len, vec_capacity, OnOk, OnErr, IfErr, IsOkUnless};
+ghost use Rattle.std.specs.Prelude.{◌≡◌, ◌+◌, ◌≤◌, ◌<◌, ◌^◌, [], ◌∷◌, ◌++◌, ◌↔◌, IsTrue, length, drop, ◌-◌, vec_len, vec_capacity, OnOk, OnErr, IfSome, IfErr, IsOkUnless};
 ghost use Rattle.std.specs.Int.{w32, to_be_bytes};
 ghost use Rattle.txn.specs.Drafts.{HasPlace};
 ghost use Rattle.txn.specs.Offers.{IsOffered};
 ghost use Rattle.records.specs.Acts.{places};
-ghost use Rattle.records.specs.Records.{spelled, spelling, Fits};
+ghost use Rattle.records.specs.Records.{call_record, spelled, spelling, Fits, FitsCall, FitsReply};
 
 use crate::block::{Block, Outbox};
 use crate::noted::Noted;
-use calls::Refusal;
-use records::{Record, encode};
+use calls::{Call, Refusal, Reply};
+use records::{Record, encode, encode_call};
 use std::alloc::Global;
 use std::marker::Model;
 use std::snapshot::Snapshot;
@@ -100,6 +100,34 @@ impl Draft {
         self.noted = Noted::After(Snapshot::of(&self.noted), Snapshot::of(entry));
         self.count += 1;
         self.places += places_of(entry);
+    }
+
+    // Writes the record of a call behind the others, from its parts. It takes no memory.
+    pub(crate) fn push_call(
+        &mut self,
+        number: u64,
+        at: u8,
+        asked: &Call,
+        answer: &Reply,
+        back: &Option<Call>,
+    )
+        requires asked { FitsCall asked.now }
+        requires answer { FitsReply answer.now }
+        requires back { IfSome back.now FitsCall }
+        requires room { HasPlace self.old (length (spelled (Record.Call (call_record number at asked.now answer.now back.now)))) }
+        requires few { length self.old.records < 2 ^ 32 }
+        ensures { self.new.records ≡ self.old.records ++ Record.Call (call_record number at asked.now answer.now back.now) ∷ [] }
+    {
+        let _written = encode_call(number, at, asked, answer, back.as_ref(), &mut self.bytes);
+        self.noted = Noted::Called(
+            Snapshot::of(&self.noted),
+            Snapshot::of(&number),
+            Snapshot::of(&at),
+            Snapshot::of(asked),
+            Snapshot::of(answer),
+            Snapshot::of(back),
+        );
+        self.count += 1;
     }
 
     // How many records they are.

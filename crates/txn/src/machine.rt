@@ -1,25 +1,27 @@
 // The machine over records: the same steps as the book's, of records that stand already.
-ghost use Rattle.std.specs.Prelude.{◌≡◌, ◌↔◌, ℕ, ◌+◌, ◌<◌, ◌≤◌, ◌^◌, ◌⊎◌, [], false, None, List, IsTrue, IfSome, IfNone, Ok, OnOk, OnErr, IsOkUnless, length};
+ghost use Rattle.std.specs.Prelude.{◌≡◌, ◌↔◌, ℕ, ◌+◌, ◌<◌, ◌≤◌, ◌^◌, ◌⊎◌, [], false, None, List, IsTrue, IfSome, IfNone, IfErr, Ok, OnOk, OnErr, IsOkUnless, length};
 ghost use Rattle.std.specs.FinMap as maps;
 ghost use Rattle.calls.specs.Names.{IsName};
 ghost use Rattle.calls.specs.Transactions.{Leads, Serial, committed, own};
+ghost use Rattle.undo_log.specs.Entries as logs;
 ghost use Rattle.undo_log.specs.Entries.{HasNoCall};
+ghost use Rattle.catalog.specs.Making as making;
 ghost use Rattle.undo_log.specs.Logs.{Lives, IsLeastLive};
 ghost use Rattle.boosted.specs.Shape.{CanAsk};
-ghost use Rattle.abstract_locks.specs.Holds.{IsClear};
+ghost use Rattle.abstract_locks.specs.Holds.{IsClear, IsBusyRefusal};
 ghost use Rattle.calls.specs.Laters.{left_by};
 ghost use Rattle.records.specs.declared.record.Record.{Record};
 ghost use Rattle.records.specs.Acts.{acts_of, event_of};
 ghost use Rattle.records.specs.Records.{IsRecord, IsNumber};
 ghost use Rattle.records.specs.Short.{AreShort};
-ghost use Rattle.txn.specs.Machine.{IsRunning, CanBegin, CanCall, BackRow, EndedRow, Steps, IsLeft};
+ghost use Rattle.txn.specs.Machine.{IsRunning, IsLeft, CanBegin, BeginRow, CommitRow, EndedRow, FallRow, MakeRow, CanCall, CallRow, BackRow, Steps};
 ghost use Rattle.txn.specs.Machines.{resting, unmade, HasRoomFor, IsUpheld, StepAnswers, RepeatAnswers};
 ghost use Rattle.txn.specs.Sound.{IsSound};
 
 use crate::undoing::undo;
 use abstract_locks::NeedTable;
 use calls::limits::{MAX_CALLS, MAX_LIVE, MAX_WEAR};
-use calls::{Call, Kind, Name, Refusal, Reply};
+use calls::{Call, Kind, Name, Need, Refusal, Reply};
 use catalog::Parts;
 use records::{CallRecord, Coded, Record};
 use std::alloc::Global;
@@ -175,47 +177,134 @@ impl<B: Parts + Coded> Machine<B> {
         parts
     }
 
+    // Makes an empty collection at the end. The refusals of `Parts::make`, each of which leaves all as before.
+    pub(crate) fn make(&mut self, name: &str, kind: Kind) -> Result<(), Refusal>
+        ensures ok { OnOk result (MakeRow B.names B.makes self.old name.now kind self.new) }
+        ensures same { OnErr result (self.new ≡ self.old) }
+        ensures err { IfErr result (making.MakeRefused (B.names self.old.now) name.now) }
+    {
+        let at = self.parts.make(name, kind)?;
+        prove!(at <= u8::MAX);
+        Ok(())
+    }
+
+    // Begins a transaction. NoMemory leaves all as before.
+    pub(crate) fn begin(&mut self, number: u64) -> Result<(), Refusal>
+        requires can { CanBegin self.old number }
+        requires room { HasRoomFor self.old 0 }
+        ensures ok { OnOk result (BeginRow self.old number self.new) }
+        ensures same { OnErr result (self.new ≡ self.old) }
+        ensures refusal { IsOkUnless result Refusal.NoMemory }
+    {
+        self.live.enter(number)?;
+        self.wear += 1;
+        Ok(())
+    }
+
+    // Makes the call, answered so, and notes it. NoMemory leaves all as before.
+    pub(crate) fn call(&mut self, number: u64, asked: Logged) -> Result<(), Refusal>
+        requires can { CanCall B.answers B.leaves B.belongs B.need self.old number (logs.event_of asked) }
+        requires room { HasRoomFor self.old 1 }
+        ensures ok { OnOk result (CallRow B.answers B.leaves B.belongs B.need self.old number (logs.event_of asked) self.new) }
+        ensures same { OnErr result (self.new ≡ self.old) }
+        ensures refusal { IsOkUnless result Refusal.NoMemory }
+    {
+        self.needs.reserve(asked.at)?;
+        self.live.reserve(number)?;
+        self.parts.run(asked.at, &asked.call, &asked.reply)?;
+        let need = B::need(&asked.call, &asked.reply);
+        if self.needs.ask(number, asked.at, need).is_err() {
+            unreachable!();
+        }
+        self.live.push_call(number, asked);
+        self.wear += 1;
+        Ok(())
+    }
+
+    // Commits a transaction: what it asked for stays done, and its needs go.
+    pub(crate) fn commit(&mut self, number: u64)
+        requires { IsRunning self.old number }
+        ensures { CommitRow self.old number self.new }
+    {
+        self.leave(number);
+    }
+
+    // Makes a transaction falling of which nothing is left to undo.
+    pub(crate) fn fall(&mut self, number: u64)
+        requires live { Lives self.old.live number }
+        requires undone { HasNoCall number self.old.entries }
+        ensures { FallRow self.old number self.new }
+    {
+        self.live.fall(number);
+    }
+
+    // Whether the transaction is live.
+    pub(crate) fn is_live(&self, number: u64) -> bool
+        ensures { IsTrue result ↔ Lives self.now.live number }
+    {
+        self.live.is_live(number)
+    }
+
+    // Whether the transaction is live, and nothing of it was undone.
+    pub(crate) fn is_running(&self, number: u64) -> bool
+        ensures { IsTrue result ↔ IsRunning self.now number }
+    {
+        self.live.is_live(number) && !self.live.is_falling(number)
+    }
+
+    // How many calls of the transaction are not undone.
+    pub(crate) fn count_calls(&self, number: u64) -> usize
+        ensures { result ≡ length (own number self.now.entries) }
+    {
+        self.live.count(number)
+    }
+
+    // Whether no other transaction holds a need in the way: Busy with the least that does.
+    pub(crate) fn test(&self, number: u64, at: u8, need: &Need) -> Result<(), Refusal>
+        ensures clear { OnOk result (IsClear self.now.holds number at need.now) }
+        ensures busy { IfErr result (IsBusyRefusal self.now.holds number at need.now) }
+    {
+        self.needs.test(number, at, need)
+    }
+
     // The record's step, from this very state.
     fn step(&mut self, entry: Record) -> Result<bool, Refusal>
         requires { IsRecord None entry }
         ensures { StepAnswers (Steps B.answers B.leaves B.belongs B.names B.makes B.need B.inverse) self.old entry result self.new }
     {
         match entry {
-            Record::Make(kind, name) => self.make(kind, &name),
-            Record::Begin(number) => self.begin(number),
-            Record::Call(called) => self.call(called),
-            Record::Commit(number) => Ok(self.commit(number)),
-            Record::Back(number) => self.undo_newest(number),
-            Record::Ended(number) => Ok(self.end(number)),
+            Record::Make(kind, name) => self.repeat_make(kind, &name),
+            Record::Begin(number) => self.repeat_begin(number),
+            Record::Call(called) => self.repeat_call(called),
+            Record::Commit(number) => Ok(self.repeat_commit(number)),
+            Record::Back(number) => self.repeat_back(number),
+            Record::Ended(number) => Ok(self.repeat_ended(number)),
             _ => Ok(false),
         }
     }
 
-    fn make(&mut self, kind: Kind, name: &Name) -> Result<bool, Refusal>
+    fn repeat_make(&mut self, kind: Kind, name: &Name) -> Result<bool, Refusal>
         requires { IsName name.now }
         ensures { StepAnswers (Steps B.answers B.leaves B.belongs B.names B.makes B.need B.inverse) self.old (Record.Make kind name.now) result self.new }
     {
-        let at = match self.parts.make(name.as_str(), kind) {
-            Ok(at) => at,
-            Err(refusal) => return unmade(refusal),
-        };
-        prove!(at <= u8::MAX);
-        Ok(true)
+        match self.make(name.as_str(), kind) {
+            Ok(()) => Ok(true),
+            Err(refusal) => unmade(refusal),
+        }
     }
 
-    fn begin(&mut self, number: u64) -> Result<bool, Refusal>
+    fn repeat_begin(&mut self, number: u64) -> Result<bool, Refusal>
         requires { IsNumber number }
         ensures { StepAnswers (Steps B.answers B.leaves B.belongs B.names B.makes B.need B.inverse) self.old (Record.Begin number) result self.new }
     {
         if !self.can_begin(number) {
             return Ok(false);
         }
-        self.live.enter(number)?;
-        self.wear += 1;
+        self.begin(number)?;
         Ok(true)
     }
 
-    fn call(&mut self, called: CallRecord) -> Result<bool, Refusal>
+    fn repeat_call(&mut self, called: CallRecord) -> Result<bool, Refusal>
         requires { IsRecord None (Record.Call called) }
         ensures { StepAnswers (Steps B.answers B.leaves B.belongs B.names B.makes B.need B.inverse) self.old (Record.Call called) result self.new }
     {
@@ -229,53 +318,42 @@ impl<B: Parts + Coded> Machine<B> {
             reply,
             ..
         } = called;
-        self.needs.reserve(collection)?;
-        self.live.reserve(number)?;
-        self.parts.run(collection, &call, &reply)?;
-        if self
-            .needs
-            .ask(number, collection, B::need(&call, &reply))
-            .is_err()
-        {
-            unreachable!();
-        }
-        let logged = Logged {
+        let asked = Logged {
             at: collection,
             call,
             reply,
         };
-        self.live.push_call(number, logged);
-        self.wear += 1;
+        self.call(number, asked)?;
         Ok(true)
     }
 
-    fn commit(&mut self, number: u64) -> bool
+    fn repeat_commit(&mut self, number: u64) -> bool
         ensures { StepAnswers (Steps B.answers B.leaves B.belongs B.names B.makes B.need B.inverse) self.old (Record.Commit number) (Ok result) self.new }
     {
         if !self.is_running(number) {
             return false;
         }
-        self.leave(number);
+        self.commit(number);
         true
     }
 
-    fn undo_newest(&mut self, number: u64) -> Result<bool, Refusal>
+    fn repeat_back(&mut self, number: u64) -> Result<bool, Refusal>
         ensures { StepAnswers (Steps B.answers B.leaves B.belongs B.names B.makes B.need B.inverse) self.old (Record.Back number) result self.new }
     {
-        if !self.live.is_live(number) || !self.has_call(number) {
+        if !self.is_live(number) || !self.has_call(number) {
             return Ok(false);
         }
         self.back(number)?;
         Ok(true)
     }
 
-    fn end(&mut self, number: u64) -> bool
+    fn repeat_ended(&mut self, number: u64) -> bool
         ensures { StepAnswers (Steps B.answers B.leaves B.belongs B.names B.makes B.need B.inverse) self.old (Record.Ended number) (Ok result) self.new }
     {
-        if !self.live.is_live(number) || self.has_call(number) {
+        if !self.is_live(number) || self.has_call(number) {
             return false;
         }
-        self.leave(number);
+        self.ended(number);
         true
     }
 
@@ -287,13 +365,6 @@ impl<B: Parts + Coded> Machine<B> {
     {
         self.live.remove(number);
         self.needs.give_up(number);
-    }
-
-    // Whether the transaction is live, and nothing of it was undone.
-    fn is_running(&self, number: u64) -> bool
-        ensures { IsTrue result ↔ IsRunning self.now number }
-    {
-        self.live.is_live(number) && !self.live.is_falling(number)
     }
 
     // Whether the wear has room for one step more, behind which there are so many more calls to undo.
@@ -309,7 +380,7 @@ impl<B: Parts + Coded> Machine<B> {
         requires { IsNumber number }
         ensures { IsTrue result ↔ (CanBegin self.now number × HasRoomFor self.now 0) }
     {
-        !self.live.is_live(number) && self.count_live() < MAX_LIVE && self.has_room(0)
+        !self.is_live(number) && self.count_live() < MAX_LIVE && self.has_room(0)
     }
 
     // Whether the transaction can make the call and get the reply.

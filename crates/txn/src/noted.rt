@@ -1,4 +1,5 @@
 // The records that were written, which only clauses read.
+use calls::{Call, Reply};
 use records::Record;
 use std::snapshot::Snapshot;
 
@@ -7,4 +8,13 @@ use std::snapshot::Snapshot;
 pub(crate) enum Noted {
     Start,
     After(Snapshot<Noted>, Snapshot<Record>),
+    // the record of a call, by its parts
+    Called(
+        Snapshot<Noted>,
+        Snapshot<u64>,
+        Snapshot<u8>,
+        Snapshot<Call>,
+        Snapshot<Reply>,
+        Snapshot<Option<Call>>,
+    ),
 }

@@ -1,15 +1,15 @@
 // The records that wait for a block.
-ghost use Rattle.std.specs.Prelude.{◌≡◌, ◌+◌, ◌<◌, ◌≤◌, ◌^◌, [], ◌∷◌, ◌++◌, ◌↔◌, IsTrue, length, OnOk, IsOkUnless};
+ghost use Rattle.std.specs.Prelude.{◌≡◌, ◌+◌, ◌<◌, ◌≤◌, ◌^◌, [], ◌∷◌, ◌++◌, ◌↔◌, IsTrue, length, OnOk, IfSome, IsOkUnless};
 ghost use Rattle.records.specs.Acts.{places};
-ghost use Rattle.records.specs.Records.{spelled, Fits};
+ghost use Rattle.records.specs.Records.{call_record, spelled, Fits, FitsCall, FitsReply};
 ghost use Rattle.txn.specs.Waits.{waiting, Suits, HasRoomFor};
 ghost use Rattle.txn.specs.Books.{CutsOff};
 
 use crate::block::Outbox;
 use crate::draft::{Draft, Handed};
-use calls::Refusal;
 use calls::limits::MAX_BODY;
-use records::{Record, encoded_len};
+use calls::{Call, Refusal, Reply};
+use records::{Record, call_len, encoded_len};
 use std::alloc::Global;
 use std::collections::VecDeque;
 use std::marker::Model;
@@ -100,6 +100,35 @@ impl Pending {
             return;
         }
         self.spare.push(entry);
+        let filled = mem::replace(&mut self.spare, Draft::new(self.alloc));
+        let filled = mem::replace(&mut self.last, filled);
+        self.full.push_back_reserved(filled);
+    }
+
+    // Writes the record of a call behind the others, from its parts. It takes no memory.
+    pub(crate) fn push_call(
+        &mut self,
+        number: u64,
+        at: u8,
+        asked: &Call,
+        answer: &Reply,
+        back: &Option<Call>,
+    )
+        requires asked { FitsCall asked.now }
+        requires answer { FitsReply answer.now }
+        requires back { IfSome back.now FitsCall }
+        requires room { HasRoomFor self.old (length (spelled (Record.Call (call_record number at asked.now answer.now back.now)))) }
+        requires few { length (waiting self.old) < 2 ^ 32 }
+        ensures records { waiting self.new ≡ waiting self.old ++ Record.Call (call_record number at asked.now answer.now back.now) ∷ [] }
+        ensures handed { self.new.handed ≡ self.old.handed }
+    {
+        let fits = self.fits(call_len(asked, answer, back.as_ref()));
+        self.count += 1;
+        if fits {
+            self.last.push_call(number, at, asked, answer, back);
+            return;
+        }
+        self.spare.push_call(number, at, asked, answer, back);
         let filled = mem::replace(&mut self.spare, Draft::new(self.alloc));
         let filled = mem::replace(&mut self.last, filled);
         self.full.push_back_reserved(filled);

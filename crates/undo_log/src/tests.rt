@@ -149,3 +149,21 @@ fn calls_come_out_from_the_newest_on(rt: HostRuntime) -> Result<(), Fail> {
     assert!(rt; live.pop(1).is_none());
     check_shown(&rt, &live, "2 SetAdd(20);1 later Bump(4);")
 }
+
+#[test]
+fn the_least_is_found_and_all_are_counted(rt: HostRuntime) -> Result<(), Fail> {
+    let mut live = Live::new(rt.alloc());
+    assert_eq!(rt; live.least(), None);
+    enter(&mut live, 7)?;
+    enter(&mut live, 3)?;
+    enter(&mut live, 9)?;
+    assert_eq!(rt; live.least(), Some(3));
+    live.remove(3);
+    assert_eq!(rt; live.least(), Some(7));
+    push_call(&mut live, 7, added(10))?;
+    push_later(&mut live, 9, bump(5))?;
+    assert_eq!(rt; live.len(), 2);
+    live.remove(7);
+    assert_eq!(rt; live.len(), 1);
+    Ok(())
+}

@@ -1,35 +1,26 @@
-use Rattle.std.proofs.Common.{◌<◌, ◌+◌, length, refl, sym, subst}
+use Rattle.std.proofs.Common.{◌<◌, length, refl, sym, subst, arith}
 use Rattle.records.specs.declared.record.Record.{Record}
 use Rattle.records.specs.Short.{AreShort}
-use Rattle.undo_log.specs.Entries.{event_of}
 use Rattle.undo_log.specs.Logs.{Lives}
 use Rattle.txn.specs.Machine.{BackRow}
-use Rattle.txn.specs.Books.{AppendsTo}
+use Rattle.txn.specs.Books.{BookState, AppendsTo}
 use Rattle.txn.specs.Views.{book_of}
 use Rattle.txn.specs.Waits.{HasRoomFor}
 use Rattle.txn.proofs.BookLaws.{BookLaws, book_laws}
+use Rattle.txn.proofs.BookLemmas.{mark_length, recorded}
 use Rattle.txn.proofs.Kept.{back_keeps, fall_keeps}
-use Rattle.txn.proofs.Upheld.{back_room}
-use Rattle.txn.proofs.Steps.{back_can, back_settles}
-use Rattle.txn.proofs.BookLemmas.{mark_length}
-use Rattle.txn.proofs.Undone.{back_done, fall_done}
+use Rattle.txn.proofs.Steps.{back_settles}
 use Rattle.txn.proofs.book.Book.back.Given.{Over}
 use Rattle.txn.proofs.book.Book.back.Goals as goal
 
 pub push-requires-clause-room : goal.push-requires-clause-room
 push-requires-clause-room g c = subst (HasRoomFor c.reserve.new.self) (mark_length c.args.number) c.in_ok-reserve.ensures.room
 
--- the step that was taken
-step : (g : Over) (c : goal.Joined-undone g) → let i = c.self.inside in
-    let old = book_of i.parts i.needs i.live i.pending i.wear i.places i.next in
-    let new = book_of c.undo.new.parts i.needs c.fall-2.new.self c.push.new.self (i.wear + 1) i.places i.next in
-    BackRow g.B.Boosted.answers g.B.Boosted.leaves g.B.Boosted.inverse old.state c.args.number new.state × AppendsTo old (Record.Back c.args.number) new
-step g c =
-    let i = c.self.inside in
-    back_done g.B.Boosted.answers g.B.Boosted.leaves g.B.Boosted.inverse i.parts i.needs i.live i.pending i.wear i.places i.next c.args.number (event_of c.in-Some.newest.now) c.undo.new.parts c.pop-undone.new.self c.fall-2.new.self c.reserve.new.self c.push.new.self c.pop-undone.result
-    (subst (λ b. Lives b.state.live c.args.number) (sym c.self.view_is) c.in_ok-check_live.ensures.ok) (subst (λ b. length b.pending < 16384) (sym c.self.view_is) c.in_ok-check_backlog.ensures.ok)
-    c.in-Some.ensures.found c.in_ok-undo.ensures.ok c.pop-undone.ensures.found c.pop-undone.ensures.none c.pop-undone.ensures.live c.fall-2.ensures.live c.fall-2.ensures.entries
-    c.in_ok-reserve.ensures.records c.in_ok-reserve.ensures.handed c.push.ensures.records c.push.ensures.handed
+pub fall-requires-clause-live : goal.fall-requires-clause-live
+fall-requires-clause-live g c = subst (λ (b : BookState _). Lives b.state.live c.args.number) (sym c.self.view_is) c.in_ok-check_live.ensures.ok
+
+pub back-requires-clause-live : goal.back-requires-clause-live
+back-requires-clause-live g c = subst (λ (b : BookState _). Lives b.state.live c.args.number) (sym c.self.view_is) c.in_ok-check_live.ensures.ok
 
 -- the laws of the collections
 laws : (g : Over) → BookLaws g.B.Boosted.answers g.B.Boosted.leaves g.B.Parts.makes g.B.Boosted.need g.B.Boosted.inverse g.B.Parts.names g.B.Boosted.within (λ s. AreShort (g.B.Coded.collections s))
@@ -40,29 +31,22 @@ laws g =
     g.met.B.Parts.makes_named g.met.B.Parts.makes_before_calls g.met.B.Parts.makes_keep_deferred g.met.B.Parts.makes_keep_within g.met.B.Coded.answers_as_told g.met.B.Coded.leaves_as_told g.met.B.Coded.makes_as_told
     g.met.B.Coded.within_as_told g.met.B.Coded.inverse_as_told g.met.B.Coded.after_as_told
 
-pub undo-requires-clause-askable : goal.undo-requires-clause-askable
-undo-requires-clause-askable g c =
-    (back_can g.B.Boosted.answers g.B.Boosted.leaves g.B.Parts.makes g.B.Boosted.need g.B.Boosted.inverse (laws g).rules _ c.self.invariant.upheld.holds c.args.number (event_of c.in-Some.newest.now) _ c.in-Some.ensures.found.1).0
-
-pub undo-requires-clause-undoes : goal.undo-requires-clause-undoes
-undo-requires-clause-undoes g c =
-    (back_can g.B.Boosted.answers g.B.Boosted.leaves g.B.Parts.makes g.B.Boosted.need g.B.Boosted.inverse (laws g).rules _ c.self.invariant.upheld.holds c.args.number (event_of c.in-Some.newest.now) _ c.in-Some.ensures.found.1).1
-
-pub undo-requires-clause-room : goal.undo-requires-clause-room
-undo-requires-clause-room g c = back_room g.B.Boosted.answers g.B.Boosted.leaves g.B.Parts.makes g.B.Boosted.need g.B.Boosted.inverse g.B.Boosted.belongs g.B.Parts.names g.B.Boosted.within (λ s. AreShort (g.B.Coded.collections s)) (laws g) _ c.self.invariant.upheld c.args.number (event_of c.in-Some.newest.now) _ c.in-Some.ensures.found.1
+-- the step that was taken
+step : (g : Over) (c : goal.Joined-this g) → let i = c.self.inside in
+    let old = book_of i.machine i.pending i.places i.next in
+    BackRow g.B.Boosted.answers g.B.Boosted.leaves g.B.Boosted.inverse old.state c.args.number c.back.new.self × AppendsTo old (Record.Back c.args.number) (book_of c.back.new.self c.push.new.self i.places i.next)
+step g c =
+    let i = c.self.inside in
+    let written = recorded i.machine i.pending i.places i.next (Record.Back c.args.number) c.back.new.self c.reserve.new.self c.push.new.self i.places i.next
+    (subst (λ b. length b.pending < 16384) (sym c.self.view_is) c.in_ok-check_backlog.ensures.ok)
+    c.in_ok-reserve.ensures.records c.in_ok-reserve.ensures.handed c.push.ensures.records c.push.ensures.handed (omega arith) in
+    (c.in_ok-back.ensures.ok, record { appends = written; next = refl })
 
 pub invariant_of-self : goal.invariant_of-self
-invariant_of-self g c =
-    let i = c.self.inside in
-    fall_keeps g.B.Boosted.answers g.B.Boosted.leaves g.B.Parts.makes g.B.Boosted.need g.B.Boosted.inverse g.B.Boosted.belongs g.B.Parts.names g.B.Boosted.within (λ s. AreShort (g.B.Coded.collections s)) (laws g) _ c.self.invariant c.args.number
-    (book_of i.parts i.needs c.fall.new.self i.pending i.wear i.places i.next)
-    (fall_done i.parts i.needs i.live i.wear c.args.number c.fall.new.self (subst (λ b. Lives b.state.live c.args.number) (sym c.self.view_is) c.in_ok-check_live.ensures.ok) c.in_default.ensures.none c.fall.ensures.live c.fall.ensures.entries)
-    refl
+invariant_of-self g c = fall_keeps g.B.Boosted.answers g.B.Boosted.leaves g.B.Parts.makes g.B.Boosted.need g.B.Boosted.inverse g.B.Boosted.belongs g.B.Parts.names g.B.Boosted.within (λ s. AreShort (g.B.Coded.collections s)) (laws g) _ c.self.invariant c.args.number _ c.fall.ensures refl
 
 pub invariant_of-self-2 : goal.invariant_of-self-2
-invariant_of-self-2 g c =
-    let done = step g c in
-    back_keeps g.B.Boosted.answers g.B.Boosted.leaves g.B.Parts.makes g.B.Boosted.need g.B.Boosted.inverse g.B.Boosted.belongs g.B.Parts.names g.B.Boosted.within (λ s. AreShort (g.B.Coded.collections s)) (laws g) _ c.self.invariant c.args.number _ done.0 done.1
+invariant_of-self-2 g c = let done = step g c in back_keeps g.B.Boosted.answers g.B.Boosted.leaves g.B.Parts.makes g.B.Boosted.need g.B.Boosted.inverse g.B.Boosted.belongs g.B.Parts.names g.B.Boosted.within (λ s. AreShort (g.B.Coded.collections s)) (laws g) _ c.self.invariant c.args.number _ done.0 done.1
 
 pub returns-clause-answer : goal.returns-clause-answer
 returns-clause-answer g c = rw (← c.self.view_is) (step g c)

@@ -2,12 +2,11 @@ use Rattle.std.proofs.Common.{◌<◌, ◌+◌, length, refl, sym, subst, arith}
 use Rattle.records.specs.declared.record.Record.{Record}
 use Rattle.records.specs.Short.{AreShort}
 use Rattle.txn.specs.Machine.{IsRunning, CommitRow}
-use Rattle.txn.specs.Books.{AppendsTo}
+use Rattle.txn.specs.Books.{BookState, AppendsTo}
 use Rattle.txn.specs.Views.{book_of}
 use Rattle.txn.specs.Waits.{HasRoomFor}
 use Rattle.txn.proofs.BookLaws.{BookLaws, book_laws}
 use Rattle.txn.proofs.BookLemmas.{mark_length, recorded}
-use Rattle.txn.proofs.Rows.{left_row}
 use Rattle.txn.proofs.Kept.{commit_keeps}
 use Rattle.txn.proofs.Steps.{commit_settles}
 use Rattle.txn.proofs.book.Book.commit.Given.{Over}
@@ -15,6 +14,9 @@ use Rattle.txn.proofs.book.Book.commit.Goals as goal
 
 pub push-requires-clause-room : goal.push-requires-clause-room
 push-requires-clause-room g c = subst (HasRoomFor c.reserve.new.self) (mark_length c.args.number) c.in_ok-reserve.ensures.room
+
+pub commit-requires : goal.commit-requires
+commit-requires g c = subst (λ (b : BookState _). IsRunning b.state c.args.number) (sym c.self.view_is) c.in_ok-check_running.ensures.ok
 
 -- the laws of the collections
 laws : (g : Over) → BookLaws g.B.Boosted.answers g.B.Boosted.leaves g.B.Parts.makes g.B.Boosted.need g.B.Boosted.inverse g.B.Parts.names g.B.Boosted.within (λ s. AreShort (g.B.Coded.collections s))
@@ -27,17 +29,14 @@ laws g =
 
 -- the step that was taken
 step : (g : Over) (c : goal.After-self-1 g) → let i = c.self.inside in
-    let old = book_of i.parts i.needs i.live i.pending i.wear i.places i.next in
-    let new = book_of i.parts c.give_up.new.self c.remove.new.self c.push.new.self i.wear (i.places + 1) i.next in
-    CommitRow old.state c.args.number new.state × AppendsTo old (Record.Commit c.args.number) new
+    let old = book_of i.machine i.pending i.places i.next in
+    CommitRow old.state c.args.number c.commit.new.self × AppendsTo old (Record.Commit c.args.number) (book_of c.commit.new.self c.push.new.self (i.places + 1) i.next)
 step g c =
     let i = c.self.inside in
-    let left = left_row i.parts i.needs i.live i.wear c.args.number c.give_up.new.self c.remove.new.self c.remove.ensures.live c.remove.ensures.entries c.give_up.ensures.holds in
-    let written =
-    recorded i.parts i.needs i.live i.pending i.wear i.places i.next (Record.Commit c.args.number) i.parts c.give_up.new.self c.remove.new.self c.reserve.new.self c.push.new.self i.wear (i.places + 1) i.next
+    let written = recorded i.machine i.pending i.places i.next (Record.Commit c.args.number) c.commit.new.self c.reserve.new.self c.push.new.self (i.places + 1) i.next
     (subst (λ b. length b.pending < 16384) (sym c.self.view_is) c.in_ok-check_backlog.ensures.ok)
     c.in_ok-reserve.ensures.records c.in_ok-reserve.ensures.handed c.push.ensures.records c.push.ensures.handed (omega arith) in
-    (record { running = subst (λ b. IsRunning b.state c.args.number) (sym c.self.view_is) c.in_ok-check_running.ensures.ok; left = left }, record { appends = written; next = refl })
+    (c.commit.ensures, record { appends = written; next = refl })
 
 pub invariant_of-self-2 : goal.invariant_of-self-2
 invariant_of-self-2 g c = commit_keeps g.B.Boosted.answers g.B.Boosted.leaves g.B.Parts.makes g.B.Boosted.need g.B.Boosted.inverse g.B.Boosted.belongs g.B.Parts.names g.B.Boosted.within (λ s. AreShort (g.B.Coded.collections s)) (laws g) _ c.self.invariant c.args.number _ (step g c).0 (step g c).1

@@ -19,4 +19,4 @@ pub invariant_of-self : goal.invariant_of-self
 invariant_of-self g c =
     let i = c.self.inside in
     cut_keeps g.B.Boosted.answers g.B.Boosted.leaves g.B.Parts.makes g.B.Boosted.need g.B.Boosted.inverse g.B.Boosted.belongs g.B.Parts.names g.B.Boosted.within (λ s. AreShort (g.B.Coded.collections s)) (laws g) _ c.self.invariant _ _ _ _
-    (book_of i.parts i.needs i.live c.cut.new.self i.wear i.places i.next) (c.cut.ensures, refl)
+    (book_of i.machine c.cut.new.self i.places i.next) (c.cut.ensures, refl)

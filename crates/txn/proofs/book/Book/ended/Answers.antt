@@ -1,27 +1,23 @@
-use Rattle.std.proofs.Common.{◌<◌, length, refl, sym, ◌∙◌, subst, arith}
+use Rattle.std.proofs.Common.{◌<◌, length, refl, sym, subst, arith}
 use Rattle.records.specs.declared.record.Record.{Record}
 use Rattle.records.specs.Short.{AreShort}
-use Rattle.undo_log.specs.Entries.{HasNoCall}
 use Rattle.undo_log.specs.Logs.{Lives}
 use Rattle.txn.specs.Machine.{EndedRow}
-use Rattle.txn.specs.Books.{AppendsTo}
+use Rattle.txn.specs.Books.{BookState, AppendsTo}
 use Rattle.txn.specs.Views.{book_of}
 use Rattle.txn.specs.Waits.{HasRoomFor}
 use Rattle.txn.proofs.BookLaws.{BookLaws, book_laws}
-use Rattle.txn.proofs.BookLemmas.{mark_length, recorded, some_call, none_found, one_found}
-use Rattle.txn.proofs.Rows.{left_row}
+use Rattle.txn.proofs.BookLemmas.{mark_length, recorded}
 use Rattle.txn.proofs.Kept.{ended_keeps}
 use Rattle.txn.proofs.Steps.{ended_settles}
 use Rattle.txn.proofs.book.Book.ended.Given.{Over}
 use Rattle.txn.proofs.book.Book.ended.Goals as goal
 
-pub returns-then-is_some-clause-answer : goal.returns-then-is_some-clause-answer
-returns-then-is_some-clause-answer g c =
-    let found = one_found c.newest.result _ (sym c.is_some.ensures ∙ c.if-is_some.true) c.newest.ensures.found in
-    (refl, (c.in_ok-check_live.ensures.ok, λ none. some_call c.args.number c.self.inside.live.entries _ found.1 (subst (λ b. HasNoCall c.args.number b.state.entries) (sym c.self.view_is) none)))
-
 pub push-requires-clause-room : goal.push-requires-clause-room
 push-requires-clause-room g c = subst (HasRoomFor c.reserve.new.self) (mark_length c.args.number) c.in_ok-reserve.ensures.room
+
+pub ended-requires-clause-live : goal.ended-requires-clause-live
+ended-requires-clause-live g c = subst (λ (b : BookState _). Lives b.state.live c.args.number) (sym c.self.view_is) c.in_ok-check_live.ensures.ok
 
 -- the laws of the collections
 laws : (g : Over) → BookLaws g.B.Boosted.answers g.B.Boosted.leaves g.B.Parts.makes g.B.Boosted.need g.B.Boosted.inverse g.B.Parts.names g.B.Boosted.within (λ s. AreShort (g.B.Coded.collections s))
@@ -34,17 +30,14 @@ laws g =
 
 -- the step that was taken
 step : (g : Over) (c : goal.Joined-this g) → let i = c.self.inside in
-    let old = book_of i.parts i.needs i.live i.pending i.wear i.places i.next in
-    let new = book_of i.parts c.give_up.new.self c.remove.new.self c.push.new.self i.wear i.places i.next in
-    EndedRow old.state c.args.number new.state × AppendsTo old (Record.Ended c.args.number) new
+    let old = book_of i.machine i.pending i.places i.next in
+    EndedRow old.state c.args.number c.ended.new.self × AppendsTo old (Record.Ended c.args.number) (book_of c.ended.new.self c.push.new.self i.places i.next)
 step g c =
     let i = c.self.inside in
-    let left = left_row i.parts i.needs i.live i.wear c.args.number c.give_up.new.self c.remove.new.self c.remove.ensures.live c.remove.ensures.entries c.give_up.ensures.holds in
-    let written =
-    recorded i.parts i.needs i.live i.pending i.wear i.places i.next (Record.Ended c.args.number) i.parts c.give_up.new.self c.remove.new.self c.reserve.new.self c.push.new.self i.wear i.places i.next
+    let written = recorded i.machine i.pending i.places i.next (Record.Ended c.args.number) c.ended.new.self c.reserve.new.self c.push.new.self i.places i.next
     (subst (λ b. length b.pending < 16384) (sym c.self.view_is) c.in_ok-check_backlog.ensures.ok)
     c.in_ok-reserve.ensures.records c.in_ok-reserve.ensures.handed c.push.ensures.records c.push.ensures.handed (omega arith) in
-    (record { live = subst (λ b. Lives b.state.live c.args.number) (sym c.self.view_is) c.in_ok-check_live.ensures.ok; undone = none_found c.newest.result _ (sym c.is_some.ensures ∙ c.if-is_some.false) c.newest.ensures.none; left = left }, record { appends = written; next = refl })
+    (c.ended.ensures, record { appends = written; next = refl })
 
 pub invariant_of-self-2 : goal.invariant_of-self-2
 invariant_of-self-2 g c = ended_keeps g.B.Boosted.answers g.B.Boosted.leaves g.B.Parts.makes g.B.Boosted.need g.B.Boosted.inverse g.B.Boosted.belongs g.B.Parts.names g.B.Boosted.within (λ s. AreShort (g.B.Coded.collections s)) (laws g) _ c.self.invariant c.args.number _ (step g c).0 (step g c).1

@@ -1,4 +1,4 @@
-use Rattle.std.proofs.Common.{◌<◌, ◌+◌, ◌^◌, sym, subst, arith}
+use Rattle.std.proofs.Common.{◌<◌, ◌^◌, sym, subst, arith}
 use Rattle.records.specs.declared.record.Record.{Record}
 use Rattle.records.specs.Short.{AreShort}
 use Rattle.txn.specs.Machine.{BeginRow}
@@ -7,7 +7,6 @@ use Rattle.txn.specs.Views.{book_of}
 use Rattle.txn.specs.Waits.{HasRoomFor}
 use Rattle.txn.proofs.BookLaws.{BookLaws, book_laws}
 use Rattle.txn.proofs.BookLemmas.{mark_length, recorded}
-use Rattle.txn.proofs.Rows.{begun_is}
 use Rattle.txn.proofs.Kept.{enter_keeps}
 use Rattle.txn.proofs.Upheld.{enter_room}
 use Rattle.txn.proofs.book.Book.enter.Given.{Over}
@@ -25,24 +24,26 @@ laws g =
     g.met.B.Parts.makes_named g.met.B.Parts.makes_before_calls g.met.B.Parts.makes_keep_deferred g.met.B.Parts.makes_keep_within g.met.B.Coded.answers_as_told g.met.B.Coded.leaves_as_told g.met.B.Coded.makes_as_told
     g.met.B.Coded.within_as_told g.met.B.Coded.inverse_as_told g.met.B.Coded.after_as_told
 
+pub begin-requires-clause-can : goal.begin-requires-clause-can
+begin-requires-clause-can g c = (subst (λ b. CanEnter b c.args.number) (sym c.self.view_is) c.in_ok-check_enter.ensures.ok).begins
+
+pub begin-requires-clause-room : goal.begin-requires-clause-room
+begin-requires-clause-room g c =
+    let can = subst (λ b. CanEnter b c.args.number) (sym c.self.view_is) c.in_ok-check_enter.ensures.ok in
+    let room = enter_room g.B.Boosted.answers g.B.Boosted.leaves g.B.Parts.makes g.B.Boosted.need g.B.Boosted.inverse g.B.Boosted.belongs g.B.Parts.names g.B.Boosted.within (λ s. AreShort (g.B.Coded.collections s)) (laws g) c.self.inside.machine c.self.invariant.upheld can.unworn in
+    omega arith
+
 -- the step that was taken
-step : (g : Over) (c : goal.After-self-2-1 g) → let i = c.self.inside in
-    let old = book_of i.parts i.needs i.live i.pending i.wear i.places i.next in
-    let new = book_of i.parts i.needs c.enter.new.self c.push.new.self (i.wear + 1) i.places c.max-self-inside.result in
-    BeginRow old.state c.args.number new.state × (i.wear < 2 ^ 61) × Appends old (Record.Begin c.args.number) new
+step : (g : Over) (c : goal.After-self-1 g) → let i = c.self.inside in
+    let old = book_of i.machine i.pending i.places i.next in
+    BeginRow old.state c.args.number c.begin.new.self × (old.state.wear < 2 ^ 61) × Appends old (Record.Begin c.args.number) (book_of c.begin.new.self c.push.new.self i.places c.max-self-inside.result)
 step g c =
     let i = c.self.inside in
-    let old = book_of i.parts i.needs i.live i.pending i.wear i.places i.next in
+    let old = book_of i.machine i.pending i.places i.next in
     let can : CanEnter old c.args.number = subst (λ b. CanEnter b c.args.number) (sym c.self.view_is) c.in_ok-check_enter.ensures.ok in
-    let row : BeginRow old.state c.args.number _ = record {
-      can = can.begins;
-      room = enter_room g.B.Boosted.answers g.B.Boosted.leaves g.B.Parts.makes g.B.Boosted.need g.B.Boosted.inverse g.B.Boosted.belongs g.B.Parts.names g.B.Boosted.within (λ s. AreShort (g.B.Coded.collections s)) (laws g) old.state c.self.invariant.upheld can.unworn;
-      is = begun_is i.parts i.needs i.live i.wear c.args.number c.enter.new.self c.in_ok-enter.ensures.live c.in_ok-enter.ensures.entries;
-    } in
-    let written =
-    recorded i.parts i.needs i.live i.pending i.wear i.places i.next (Record.Begin c.args.number) i.parts i.needs c.enter.new.self c.reserve.new.self c.push.new.self (i.wear + 1) i.places c.max-self-inside.result can.room
+    let written = recorded i.machine i.pending i.places i.next (Record.Begin c.args.number) c.begin.new.self c.reserve.new.self c.push.new.self i.places c.max-self-inside.result can.room
     c.in_ok-reserve.ensures.records c.in_ok-reserve.ensures.handed c.push.ensures.records c.push.ensures.handed (omega arith) in
-    (row, can.unworn, written)
+    (c.in_ok-begin.ensures.ok, can.unworn, written)
 
 pub invariant_of-self-2 : goal.invariant_of-self-2
 invariant_of-self-2 g c = enter_keeps g.B.Boosted.answers g.B.Boosted.leaves g.B.Parts.makes g.B.Boosted.need g.B.Boosted.inverse g.B.Boosted.belongs g.B.Parts.names g.B.Boosted.within (λ s. AreShort (g.B.Coded.collections s)) (laws g) _ c.self.invariant c.args.number _ (step g c).0 (step g c).2 c.max-self-inside.ensures

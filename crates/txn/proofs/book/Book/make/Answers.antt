@@ -8,7 +8,7 @@ use Rattle.txn.specs.Books.{AppendsTo}
 use Rattle.txn.specs.Views.{book_of}
 use Rattle.txn.specs.Waits.{waiting}
 use Rattle.txn.proofs.BookLaws.{BookLaws, book_laws}
-use Rattle.txn.proofs.BookLemmas.{make_done, make_refused, reserved_same}
+use Rattle.txn.proofs.BookLemmas.{recorded, make_refused, reserved_same}
 use Rattle.txn.proofs.Kept.{make_keeps}
 use Rattle.txn.proofs.Steps.{make_settles}
 use Rattle.txn.proofs.book.Book.make.Given.{Over}
@@ -25,17 +25,15 @@ laws g =
 
 -- the step that was taken
 step : (g : Over) (c : goal.After-self-1 g) → let i = c.self.inside in
-    let old = book_of i.parts i.needs i.live i.pending i.wear i.places i.next in
-    let new = book_of c.make.new.self i.needs i.live c.push.new.self i.wear (i.places + 1) i.next in
-    MakeRow g.B.Parts.names g.B.Parts.makes old.state c.args.name.now c.args.kind new.state × AppendsTo old (Record.Make c.args.kind c.args.name.now) new
+    let old = book_of i.machine i.pending i.places i.next in
+    MakeRow g.B.Parts.names g.B.Parts.makes old.state c.args.name.now c.args.kind c.make.new.self × AppendsTo old (Record.Make c.args.kind c.args.name.now) (book_of c.make.new.self c.push.new.self (i.places + 1) i.next)
 step g c =
     let i = c.self.inside in
-    let made = c.in_ok-at.ensures.ok in
     let same = c.new-spelled.ensures ∙ c.in_ok-to_string.ensures.ok in
-    let written : waiting c.push.new.self ≡ waiting c.reserve.new.self ++ Record.Make c.args.kind c.args.name.now ∷ [] = subst (λ v. waiting c.push.new.self ≡ waiting c.reserve.new.self ++ Record.Make c.args.kind v ∷ []) same c.push.ensures.records in
-    make_done g.B.Parts.names g.B.Parts.makes g.met.B.Parts.makes_named i.parts i.needs i.live i.pending i.wear i.places i.next c.args.name.now c.args.kind c.make.new.self c.in_ok-at.at c.reserve.new.self c.push.new.self
-    made.0 made.1 (omega (arith, c.if-prove.false)) made.2 (subst (λ b. length b.pending < 16384) (sym c.self.view_is) c.in_ok-check_backlog.ensures.ok)
-    c.in_ok-reserve.ensures.records c.in_ok-reserve.ensures.handed written c.push.ensures.handed
+    let put : waiting c.push.new.self ≡ waiting c.reserve.new.self ++ Record.Make c.args.kind c.args.name.now ∷ [] = subst (λ v. waiting c.push.new.self ≡ waiting c.reserve.new.self ++ Record.Make c.args.kind v ∷ []) same c.push.ensures.records in
+    let written = recorded i.machine i.pending i.places i.next (Record.Make c.args.kind c.args.name.now) c.make.new.self c.reserve.new.self c.push.new.self (i.places + 1) i.next
+    (subst (λ b. length b.pending < 16384) (sym c.self.view_is) c.in_ok-check_backlog.ensures.ok) c.in_ok-reserve.ensures.records c.in_ok-reserve.ensures.handed put c.push.ensures.handed (omega arith) in
+    (c.in_ok-make.ensures.ok, record { appends = written; next = refl })
 
 pub returns-clause-answer : goal.returns-clause-answer
 returns-clause-answer g c = rw (← c.self.view_is) ((step g c).0, (step g c).1, refl)
@@ -46,10 +44,10 @@ invariant_of-self-2 g c = make_keeps g.B.Boosted.answers g.B.Boosted.leaves g.B.
 pub returns-clause-settled : goal.returns-clause-settled
 returns-clause-settled g c = rw (← c.self.view_is) (λ d w. make_settles g.B.Boosted.answers g.B.Boosted.leaves g.B.Parts.makes g.B.Boosted.need g.B.Boosted.inverse (laws g).rules _ c.self.invariant.upheld.holds g.B.Parts.names c.args.name.now c.args.kind _ d (step g c).0 w)
 
-pub returns-in_err-at-clause-answer : goal.returns-in_err-at-clause-answer
-returns-in_err-at-clause-answer g c =
+pub returns-in_err-make-clause-answer : goal.returns-in_err-make-clause-answer
+returns-in_err-make-clause-answer g c =
     let i = c.self.inside in
-    let p = err_from_is_err_and c.from_residual-in_err-at.result c.from_residual-in_err-at.ensures.1 in
-    let same = reserved_same i.parts c.make.new.self i.needs i.live i.pending c.reserve.new.self i.wear i.places i.next c.in_err-at.ensures.as_before c.in_ok-reserve.ensures.records c.in_ok-reserve.ensures.handed ∙ c.self.view_is in
-    let refused = subst (λ b. making.MakeRefused (g.B.Parts.names b.state.now) c.args.name.now c.in_err-at.field-0.0) c.self.view_is c.in_err-at.ensures.err in
-    rw (p.1, p.2) (same, make_refused (g.B.Parts.names c.args.self.now.state.now) c.args.self.now c.args.name.now c.in_err-at.field-0.0 c.in_ok-check_backlog.ensures.ok refused)
+    let p = err_from_is_err_and c.from_residual-in_err-make.result c.from_residual-in_err-make.ensures.1 in
+    let same = reserved_same i.machine c.make.new.self i.pending c.reserve.new.self i.places i.next c.in_err-make.ensures.same c.in_ok-reserve.ensures.records c.in_ok-reserve.ensures.handed ∙ c.self.view_is in
+    let refused = subst (λ b. making.MakeRefused (g.B.Parts.names b.state.now) c.args.name.now c.in_err-make.field-0.0) c.self.view_is c.in_err-make.ensures.err in
+    rw (p.1, p.2) (same, make_refused (g.B.Parts.names c.args.self.now.state.now) c.args.self.now c.args.name.now c.in_err-make.field-0.0 c.in_ok-check_backlog.ensures.ok refused)

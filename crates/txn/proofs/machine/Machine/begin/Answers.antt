@@ -22,9 +22,15 @@ laws g =
 step : (g : Over) (c : goal.After-self-1 g) → let i = c.self.inside in BeginRow (state_of i.parts i.needs i.live i.wear) c.args.number (state_of i.parts i.needs c.enter.new.self (i.wear + 1))
 step g c =
     let i = c.self.inside in
-    let can = subst (λ (s : State _). CanBegin s c.args.number × HasRoomFor s 0) (sym c.self.view_is) (c.can_begin.ensures.0 c.if-not-can_begin.false) in
-    let room = can.1 in
-    record { can = can.0; room = omega arith; is = begun_is i.parts i.needs i.live i.wear c.args.number c.enter.new.self c.in_ok-enter.ensures.live c.in_ok-enter.ensures.entries }
+    let room = subst (λ (s : State _). HasRoomFor s 0) (sym c.self.view_is) c.requires.room in
+    record {
+      can = subst (λ (s : State _). CanBegin s c.args.number) (sym c.self.view_is) c.requires.can;
+      room = omega arith;
+      is = begun_is i.parts i.needs i.live i.wear c.args.number c.enter.new.self c.in_ok-enter.ensures.live c.in_ok-enter.ensures.entries;
+    }
 
 pub invariant_of-self-2 : goal.invariant_of-self-2
 invariant_of-self-2 g c = begin_upheld g.B.Boosted.answers g.B.Boosted.leaves g.B.Parts.makes g.B.Boosted.need g.B.Boosted.inverse g.B.Boosted.belongs g.B.Parts.names g.B.Boosted.within (λ s. AreShort (g.B.Coded.collections s)) (laws g) _ c.self.invariant c.args.number _ (step g c)
+
+pub returns-clause-ok : goal.returns-clause-ok
+returns-clause-ok g c = rw (← c.self.view_is) (step g c)

@@ -1,13 +1,9 @@
-use Rattle.std.proofs.Common.{◌≡◌, length, sym, ◌∙◌, subst, ap, arith}
-use Rattle.calls.specs.Names.{IsName}
-use Rattle.catalog.specs.Making as making
+use Rattle.std.proofs.Common.{arith}
 use Rattle.records.specs.Short.{AreShort}
 use Rattle.txn.specs.Views.{state_of}
 use Rattle.txn.proofs.BookLaws.{BookLaws, book_laws}
-use Rattle.txn.specs.Machine.{State, MakeRow, Steps}
-use Rattle.txn.specs.Machines.{IsUpheld}
-use Rattle.txn.specs.Sound.{IsSound}
-use Rattle.txn.proofs.Rows.{made_row, make_stuck}
+use Rattle.txn.specs.Machine.{MakeRow}
+use Rattle.txn.proofs.Rows.{made_row}
 use Rattle.txn.proofs.Upheld.{make_upheld}
 use Rattle.txn.proofs.machine.Machine.make.Given.{Over}
 use Rattle.txn.proofs.machine.Machine.make.Goals as goal
@@ -25,23 +21,11 @@ laws g =
 step : (g : Over) (c : goal.Else-prove g) → let i = c.self.inside in MakeRow g.B.Parts.names g.B.Parts.makes (state_of i.parts i.needs i.live i.wear) c.args.name.now c.args.kind (state_of c.make.new.self i.needs i.live i.wear)
 step g c =
     let i = c.self.inside in
-    let made = subst (λ n. IsName n × (c.in-Ok.at ≡ length (g.B.Parts.names i.parts)) × g.B.Parts.makes i.parts n c.args.kind c.make.new.self) c.as_str.ensures c.in-Ok.ensures.ok in
-    made_row g.B.Parts.names g.B.Parts.makes g.met.B.Parts.makes_named i.parts i.needs i.live i.wear c.args.name.now c.args.kind c.make.new.self c.in-Ok.at made.0 made.1 (omega (arith, c.if-prove.false)) made.2
-
--- nothing changed where it was refused
-same : (g : Over) (c : goal.After-unmade g) → let i = c.self.inside in state_of c.make.new.self i.needs i.live i.wear ≡ c.args.self.now
-same g c = let i = c.self.inside in ap (λ v. state_of v i.needs i.live i.wear) c.in-Err.ensures.as_before ∙ c.self.view_is
-
-pub invariant_of-self : goal.invariant_of-self
-invariant_of-self g c = subst (IsUpheld g.B.Parts.names g.B.Boosted.within (λ s. AreShort (g.B.Coded.collections s)) (IsSound g.B.Boosted.answers g.B.Boosted.leaves g.B.Parts.makes g.B.Boosted.need g.B.Boosted.inverse)) (c.self.view_is ∙ sym (same g c)) c.self.invariant
+    let made = c.in_ok-at.ensures.ok in
+    made_row g.B.Parts.names g.B.Parts.makes g.met.B.Parts.makes_named i.parts i.needs i.live i.wear c.args.name.now c.args.kind c.make.new.self c.in_ok-at.at made.0 made.1 (omega (arith, c.if-prove.false)) made.2
 
 pub invariant_of-self-2 : goal.invariant_of-self-2
 invariant_of-self-2 g c = make_upheld g.B.Boosted.answers g.B.Boosted.leaves g.B.Parts.makes g.B.Boosted.need g.B.Boosted.inverse g.B.Boosted.belongs g.B.Parts.names g.B.Boosted.within (λ s. AreShort (g.B.Coded.collections s)) (laws g) _ c.self.invariant c.args.name.now c.args.kind _ (step g c)
 
-pub returns : goal.returns
-returns g c = rw (← c.self.view_is) (step g c)
-
-pub returns-in-Err : goal.returns-in-Err
-returns-in-Err g c =
-    let refused = subst (λ (s : State _). making.MakeRefused (g.B.Parts.names s.now) c.args.name.now c.in-Err.refusal) c.self.view_is (subst (λ n. making.MakeRefused (g.B.Parts.names c.self.inside.parts) n c.in-Err.refusal) c.as_str.ensures c.in-Err.ensures.err) in
-    rw c.unmade.ensures (make_stuck g.B.Parts.names g.B.Parts.makes (Steps g.B.Boosted.answers g.B.Boosted.leaves g.B.Boosted.belongs g.B.Parts.names g.B.Parts.makes g.B.Boosted.need g.B.Boosted.inverse) c.args.self.now _ c.args.name.now c.args.kind c.in-Err.refusal (λ v row. row) (same g c) refused)
+pub returns-clause-ok : goal.returns-clause-ok
+returns-clause-ok g c = rw (← c.self.view_is) (step g c)

@@ -1,0 +1,27 @@
+use Rattle.std.proofs.Common.{[], ◌∷◌, ◌++◌, length, arith, ap, ◌∙◌}
+use Rattle.records.specs.declared.record.Record.{Record}
+use Rattle.records.specs.Records.{call_record, spelling}
+use Rattle.txn.proofs.PendingLemmas.{call_size, counted_more, counted_next}
+use Rattle.txn.proofs.pending.Pending.push_call.Goals as goal
+
+pub invariant_of-self : goal.invariant_of-self
+invariant_of-self c =
+    let a = c.args in
+    let fits = c.fits-fits.ensures.0 c.if-fits.true in
+    let len = call_size a.number a.at a.asked.now a.answer.now _ a.back.now c.call_len.result c.call_len.ensures.len c.as_ref.ensures.value in
+    counted_more _ c.push_call.new.self (Record.Call (call_record a.number a.at a.asked.now a.answer.now a.back.now)) c.self.inside.count c.self.invariant c.push_call.ensures
+    (omega (arith, fits, ap (λ w. length (spelling w.last.records)) c.self.view_is, len))
+
+pub invariant_of-self-2 : goal.invariant_of-self-2
+invariant_of-self-2 c =
+    let a = c.args in
+    let entry : Record = Record.Call (call_record a.number a.at a.asked.now a.answer.now a.back.now) in
+    let full = c.self.inside.full.items in
+    let seen = ap (λ w. length (spelling w.last.records)) c.self.view_is in
+    let len = call_size a.number a.at a.asked.now a.answer.now _ a.back.now c.call_len.result c.call_len.ensures.len c.as_ref.ensures.value in
+    counted_next _ _ _ _ _ entry c.self.inside.count c.self.invariant
+    (c.push_back_reserved.ensures.items ∙ ap (λ v. full ++ v ∷ []) c.replace-filled-2.ensures.value)
+    (ap (λ d. d.records) c.replace-filled-2.ensures.after ∙ ap (λ d. d.records) c.replace-filled.ensures.value ∙ c.push_call-2.ensures ∙ ap (λ l. l ++ entry ∷ []) c.self.invariant.unused)
+    (ap (λ d. d.records) c.replace-filled.ensures.after ∙ c.new.ensures)
+    (omega (arith, len, c.call_len.ensures.bound))
+    (λ suits. let yes = c.fits-fits.ensures.1 (omega (arith, suits, seen, len)) in let no' = c.if-fits.false in cc)
