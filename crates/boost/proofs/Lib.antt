@@ -3,5 +3,7 @@ pub mod ScriptLines
 pub mod ScriptPhrases
 pub mod ScriptWords
 pub mod ScriptOperations
-pub mod AbortLemmas
-pub mod TurnLemmas
+pub mod Stepping
+pub mod ClientLemmas
+pub mod RequestLemmas
+pub mod OpenLemmas

@@ -1,15 +1,18 @@
 -- What a text asks for is told by its first words.
-use Rattle.std.proofs.Common.{◌≡◌, ◌≢◌, ℕ, zero, suc, ◌<◌, length, List, [], ◌∷◌, ◌++◌, get_or, All, sym, subst, ◌∙◌, ap, arith, codes, Option, Some, None, Result, Ok, Err, Bool, false}
+use Rattle.std.proofs.Common.{◌≡◌, ◌≢◌, ℕ, zero, suc, ◌<◌, length, List, [], ◌∷◌, ◌++◌, get_or, All, ℤ, sym, subst, ◌∙◌, ap, arith, codes, Option, Some, None, Result, Ok, Err, Bool, false}
 use Rattle.std.specs.Prelude.{IfOk, MatchOption, IsTrue, ◌↔◌}
+use Rattle.std.specs.Int.{w64}
+use Rattle.std.specs.Int.RustNames.{FitsSigned}
 use Rattle.std.specs.List.{AllByRecursion}
 use Rattle.std.proofs.lemmas.Bool.{true≢false}
 use Rattle.std.proofs.lemmas.List.{append_cancel_left}
+use Rattle.calls.specs.declared.call.Call.{Call}
 use Rattle.calls.specs.declared.kind.Kind.{Kind}
 use Rattle.boost.specs.declared.script.action.Operation.{Operation}
 use Rattle.boost.specs.declared.script.action.Request.{Request}
 use Rattle.boost.specs.declared.script.action.Action.{Action}
-use Rattle.boost.specs.ScriptTexts.{IsWord, IsClient, CanBeDone, kind_text, operation_text, request_text, IsRequestOf, IsMakeOf, IsCallOf, IsClientLine, IsLineOf}
-use Rattle.std.specs.Fmt.{decimal}
+use Rattle.boost.specs.ScriptTexts.{IsWord, IsClient, CanBeDone, kind_text, operation_text, request_text, IsRequestOf, IsMakeOf, IsCallOf, IsLaterOf, IsClientLine, IsLineOf}
+use Rattle.std.specs.Fmt.{decimal, signed_decimal}
 use Rattle.boost.proofs.ScriptWords.{not_whole, decimal_whole, same_split}
 
 -- ---- calls
@@ -29,6 +32,34 @@ call_is_back text front back (Request.Call name o) e first none is =
     let parts = same_split 32 name (operation_text o) front back (sym is.2 ∙ e) is.0.whole first in
     none o is.1 (sym parts.1)
 call_is_back text front back r e first none is = is
+
+-- ---- bumps that are put off
+
+abbrev bump_of : ℤ → Operation
+bump_of n = Operation.Call (Call.Bump n)
+
+-- what is found behind the word bump is found in the whole text
+pub bump_gives : {E : Type 0} (r : Result (Option ℤ) E) (text rest : List ℕ) → text ≡ codes "bump " ++ rest
+    → IfOk r (λ found. MatchOption found ((n : ℤ) → FitsSigned w64 n → rest ≡ signed_decimal n → ⊥) (λ n. FitsSigned w64 n × (rest ≡ signed_decimal n)))
+    → IfOk r (λ found. MatchOption found ((n : ℤ) → FitsSigned w64 n → text ≡ operation_text (bump_of n) → ⊥) (λ n. FitsSigned w64 n × (text ≡ operation_text (bump_of n))))
+bump_gives (Ok None) text rest e none = λ n fits is. none n fits (append_cancel_left (codes "bump ") rest (signed_decimal n) (sym e ∙ is))
+bump_gives (Ok (Some n)) text rest e is = (is.0, e ∙ ap (λ (t : List ℕ). codes "bump " ++ t) is.1)
+bump_gives (Err why) text rest e h = tt
+
+-- what is put off is said as a call of the same bump is
+pub no_later_without_space : (text : List ℕ) (r : Request) → All (λ b. b ≢ 32) text → IsLaterOf r text → ⊥
+no_later_without_space text (Request.Later name n) whole is = no_call_without_space text (Request.Call name (bump_of n)) whole is
+no_later_without_space text r whole is = is
+
+pub later_name_is_front : (text front back : List ℕ) (r : Request) → text ≡ front ++ 32 ∷ back → All (λ b. b ≢ 32) front → IsLaterOf r text → IsWord front
+later_name_is_front text front back (Request.Later name n) e first is = name_is_front text front back (Request.Call name (bump_of n)) e first is
+later_name_is_front text front back r e first is = absurd is
+
+pub bump_is_back : (text front back : List ℕ) (r : Request) → text ≡ front ++ 32 ∷ back → All (λ b. b ≢ 32) front → ((n : ℤ) → FitsSigned w64 n → back ≡ operation_text (bump_of n) → ⊥) → IsLaterOf r text → ⊥
+bump_is_back text front back (Request.Later name n) e first none is =
+    let parts = same_split 32 name (operation_text (bump_of n)) front back (sym is.2 ∙ e) is.0.whole first in
+    none n is.1 (sym parts.1)
+bump_is_back text front back r e first none is = is
 
 -- ---- makings
 
@@ -76,6 +107,7 @@ pub request_is_call : (text rest : List ℕ) (r : Request) → text ≡ codes "c
 request_is_call text rest (Request.Make kind name) e is = let h : ◌≡◌ {A = ℕ} 99 109 = ap first (sym e ∙ is.is) in absurd (omega arith)
 request_is_call text rest Request.Begin e is = let h : ◌≡◌ {A = ℕ} 99 98 = ap first (sym e ∙ is.is) in absurd (omega arith)
 request_is_call text rest (Request.Call name o) e is = (is.said.0, is.said.1, append_cancel_left (codes "call ") rest (name ++ 32 ∷ operation_text o) (sym e ∙ is.is))
+request_is_call text rest (Request.Later name n) e is = let h : ◌≡◌ {A = ℕ} 99 108 = ap first (sym e ∙ is.is) in absurd (omega arith)
 request_is_call text rest Request.Commit e is = let h : ◌≡◌ {A = ℕ} 97 111 = ap second (sym e ∙ is.is) in absurd (omega arith)
 request_is_call text rest Request.Abort e is = let h : ◌≡◌ {A = ℕ} 99 97 = ap first (sym e ∙ is.is) in absurd (omega arith)
 request_is_call text rest Request.Kept e is = let h : ◌≡◌ {A = ℕ} 99 107 = ap first (sym e ∙ is.is) in absurd (omega arith)
@@ -84,11 +116,26 @@ pub call_is_request : (text rest : List ℕ) (r : Request) → text ≡ codes "c
 call_is_request text rest (Request.Call name o) e is = record { said = (is.0, is.1); is = e ∙ ap (λ (t : List ℕ). codes "call " ++ t) is.2 }
 call_is_request text rest r e is = absurd is
 
+-- behind the word later stands a bump and nothing else
+request_is_later : (text rest : List ℕ) (r : Request) → text ≡ codes "later " ++ rest → IsRequestOf r text → IsLaterOf r rest
+request_is_later text rest (Request.Make kind name) e is = let h : ◌≡◌ {A = ℕ} 108 109 = ap first (sym e ∙ is.is) in absurd (omega arith)
+request_is_later text rest Request.Begin e is = let h : ◌≡◌ {A = ℕ} 108 98 = ap first (sym e ∙ is.is) in absurd (omega arith)
+request_is_later text rest (Request.Call name o) e is = let h : ◌≡◌ {A = ℕ} 108 99 = ap first (sym e ∙ is.is) in absurd (omega arith)
+request_is_later text rest (Request.Later name n) e is = (is.said.0, is.said.1, append_cancel_left (codes "later ") rest (name ++ 32 ∷ operation_text (bump_of n)) (sym e ∙ is.is))
+request_is_later text rest Request.Commit e is = let h : ◌≡◌ {A = ℕ} 108 99 = ap first (sym e ∙ is.is) in absurd (omega arith)
+request_is_later text rest Request.Abort e is = let h : ◌≡◌ {A = ℕ} 108 97 = ap first (sym e ∙ is.is) in absurd (omega arith)
+request_is_later text rest Request.Kept e is = let h : ◌≡◌ {A = ℕ} 108 107 = ap first (sym e ∙ is.is) in absurd (omega arith)
+
+later_is_request : (text rest : List ℕ) (r : Request) → text ≡ codes "later " ++ rest → IsLaterOf r rest → IsRequestOf r text
+later_is_request text rest (Request.Later name n) e is = record { said = (is.0, is.1); is = e ∙ ap (λ (t : List ℕ). codes "later " ++ t) is.2 }
+later_is_request text rest r e is = absurd is
+
 -- behind the word make stands a making and nothing else
 request_is_make : (text rest : List ℕ) (r : Request) → text ≡ codes "make " ++ rest → IsRequestOf r text → IsMakeOf r rest
 request_is_make text rest (Request.Make kind name) e is = (is.said, append_cancel_left (codes "make ") rest (kind_text kind ++ 32 ∷ name) (sym e ∙ is.is))
 request_is_make text rest Request.Begin e is = let h : ◌≡◌ {A = ℕ} 109 98 = ap first (sym e ∙ is.is) in absurd (omega arith)
 request_is_make text rest (Request.Call name o) e is = let h : ◌≡◌ {A = ℕ} 109 99 = ap first (sym e ∙ is.is) in absurd (omega arith)
+request_is_make text rest (Request.Later name n) e is = let h : ◌≡◌ {A = ℕ} 109 108 = ap first (sym e ∙ is.is) in absurd (omega arith)
 request_is_make text rest Request.Commit e is = let h : ◌≡◌ {A = ℕ} 109 99 = ap first (sym e ∙ is.is) in absurd (omega arith)
 request_is_make text rest Request.Abort e is = let h : ◌≡◌ {A = ℕ} 109 97 = ap first (sym e ∙ is.is) in absurd (omega arith)
 request_is_make text rest Request.Kept e is = let h : ◌≡◌ {A = ℕ} 109 107 = ap first (sym e ∙ is.is) in absurd (omega arith)
@@ -98,13 +145,14 @@ make_is_request text rest (Request.Make kind name) e is = record { said = is.0; 
 make_is_request text rest r e is = absurd is
 
 pub no_request : (text : List ℕ) (r : Request) → (text ≡ codes "begin" → ⊥) → (text ≡ codes "commit" → ⊥) → (text ≡ codes "abort" → ⊥) → (text ≡ codes "kept" → ⊥)
-    → ((rest : List ℕ) → text ≡ codes "call " ++ rest → ⊥) → ((rest : List ℕ) → text ≡ codes "make " ++ rest → ⊥) → IsRequestOf r text → ⊥
-no_request text (Request.Make kind name) b c a k l m is = m (kind_text kind ++ 32 ∷ name) is.is
-no_request text Request.Begin b c a k l m is = b is.is
-no_request text (Request.Call name o) b c a k l m is = l (name ++ 32 ∷ operation_text o) is.is
-no_request text Request.Commit b c a k l m is = c is.is
-no_request text Request.Abort b c a k l m is = a is.is
-no_request text Request.Kept b c a k l m is = k is.is
+    → ((rest : List ℕ) → text ≡ codes "call " ++ rest → ⊥) → ((rest : List ℕ) → text ≡ codes "later " ++ rest → ⊥) → ((rest : List ℕ) → text ≡ codes "make " ++ rest → ⊥) → IsRequestOf r text → ⊥
+no_request text (Request.Make kind name) b c a k l p m is = m (kind_text kind ++ 32 ∷ name) is.is
+no_request text Request.Begin b c a k l p m is = b is.is
+no_request text (Request.Call name o) b c a k l p m is = l (name ++ 32 ∷ operation_text o) is.is
+no_request text (Request.Later name n) b c a k l p m is = p (name ++ 32 ∷ operation_text (bump_of n)) is.is
+no_request text Request.Commit b c a k l p m is = c is.is
+no_request text Request.Abort b c a k l p m is = a is.is
+no_request text Request.Kept b c a k l p m is = k is.is
 
 -- what is found behind the word call is found in the whole text
 pub called_gives : {E : Type 0} (r : Result (Option Request) E) (text rest : List ℕ) → text ≡ codes "call " ++ rest
@@ -113,6 +161,14 @@ pub called_gives : {E : Type 0} (r : Result (Option Request) E) (text rest : Lis
 called_gives (Ok None) text rest e none = λ q is. none q (request_is_call text rest q e is)
 called_gives (Ok (Some q)) text rest e is = call_is_request text rest q e is
 called_gives (Err why) text rest e h = tt
+
+-- what is found behind the word later is found in the whole text
+pub put_off_gives : {E : Type 0} (r : Result (Option Request) E) (text rest : List ℕ) → text ≡ codes "later " ++ rest
+    → IfOk r (λ found. MatchOption found ((q : Request) → IsLaterOf q rest → ⊥) (λ q. IsLaterOf q rest))
+    → IfOk r (λ found. MatchOption found ((q : Request) → IsRequestOf q text → ⊥) (λ q. IsRequestOf q text))
+put_off_gives (Ok None) text rest e none = λ q is. none q (request_is_later text rest q e is)
+put_off_gives (Ok (Some q)) text rest e is = later_is_request text rest q e is
+put_off_gives (Err why) text rest e h = tt
 
 -- what is found behind the word make is found in the whole text
 pub made_gives : {E : Type 0} (r : Result (Option Request) E) (text rest : List ℕ) → text ≡ codes "make " ++ rest

@@ -1,7 +1,9 @@
 pub mod ScriptTexts
 pub mod Scripts
 pub mod Arguments
+pub mod Plays
 pub mod Clients
 pub mod Turns
+pub mod Requests
 pub mod Commands
 pub mod Failures

@@ -119,6 +119,7 @@ abbrev pub request_text : Request → List ℕ
 request_text (Request.Make kind name) = codes "make " ++ (kind_text kind ++ 32 ∷ name)
 request_text Request.Begin = codes "begin"
 request_text (Request.Call name o) = codes "call " ++ (name ++ 32 ∷ operation_text o)
+request_text (Request.Later name by) = codes "later " ++ (name ++ 32 ∷ operation_text (Operation.Call (Call.Bump by)))
 request_text Request.Commit = codes "commit"
 request_text Request.Abort = codes "abort"
 request_text Request.Kept = codes "kept"
@@ -138,6 +139,7 @@ abbrev pub CanBeAsked : Request → Type 0
 CanBeAsked (Request.Make kind name) = IsWord name
 CanBeAsked Request.Begin = Unit {0}
 CanBeAsked (Request.Call name o) = IsWord name × CanBeDone o
+CanBeAsked (Request.Later name by) = IsWord name × FitsSigned w64 by
 CanBeAsked Request.Commit = Unit {0}
 CanBeAsked Request.Abort = Unit {0}
 CanBeAsked Request.Kept = Unit {0}
@@ -160,6 +162,11 @@ IsMakeOf r text = ⊥
 abbrev pub IsCallOf : Request → List ℕ → Type 0
 IsCallOf (Request.Call name o) text = IsWord name × CanBeDone o × (text ≡ name ++ 32 ∷ operation_text o)
 IsCallOf r text = ⊥
+
+-- the text, behind the word later, asks for this bump
+abbrev pub IsLaterOf : Request → List ℕ → Type 0
+IsLaterOf (Request.Later name by) text = IsWord name × FitsSigned w64 by × (text ≡ name ++ 32 ∷ operation_text (Operation.Call (Call.Bump by)))
+IsLaterOf r text = ⊥
 
 -- the text, behind the letter c, asks for this
 abbrev pub IsClientLine : Action → List ℕ → Type 0

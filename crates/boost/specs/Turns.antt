@@ -1,18 +1,22 @@
 -- A turn of the committer: a block is handed over, and one is brought to the disk.
-use Rattle.std.specs.Prelude.{◌≡◌, ℕ, ◌+◌, ◌<◌, ◌≤◌, Bool, List, length, Result}
+use Rattle.std.specs.Prelude.{◌≡◌, Bool, [], ◌++◌, Result, Ok, Err}
 use Rattle.calls.specs.declared.refusal.Refusal.{Refusal}
-use Rattle.disk_model.specs.Disk.{Rises}
-use Rattle.gate_block.specs.Area.{size_of, position_of}
-use Rattle.txn.specs.declared.block.Block.{Block}
-use Rattle.txn.specs.Books.{BookState, CutAnswers}
 use Rattle.checkpoint.specs.declared.turn.Turn.{Turn}
-use Rattle.checkpoint.specs.Keepers.{KeeperState, queue, TurnAnswers}
+use Rattle.world.specs.declared.steps.Step.{Step}
+use Rattle.world.specs.declared.steps.Answer.{Answer}
+use Rattle.world.specs.Pasts.{Past}
+use Rattle.boost.specs.Plays.{Tries}
 
--- what a keeper's turn answers and leaves, of the blocks that waited and of those that wait
-abbrev pub Brings : {D : Type 0} → (D → ℕ) → List Block → KeeperState D → Result Turn Refusal → List Block → KeeperState D → Type 0
-Brings count waiting k r waits l =
-    TurnAnswers (queue k.held waiting) k.failed k.mark (λ b. size_of k.area < position_of k.area + length b.bytes.items) ((l.area ≡ k.area) × (l.disk ≡ k.disk)) (Rises (count k.disk) (count l.disk)) r waits l.held l.mark l.failed
+-- that there was no room for a block is passed over
+abbrev pub passing : Result Bool Refusal → Result (Unit {0}) Refusal
+passing (Ok handed) = Ok tt
+passing (Err Refusal.NotNow) = Ok tt
+passing (Err e) = Err e
 
--- A block of the records that are pending is handed over, unless four wait; then the keeper takes its turn, of which this is the answer.
-abbrev pub Turns : {S D : Type 0} → (D → ℕ) → BookState S → List Block → KeeperState D → Result Turn Refusal → BookState S → List Block → KeeperState D → Type 0
-Turns count b waiting k r c waits l = (cut : Result Bool Refusal) × (between : List Block) × CutAnswers b waiting (4 ≤ length waiting) cut between c × Brings count between k r waits l
+abbrev pub TurnsAs : Result (Unit {0}) Refusal → Result Turn Refusal → Past → Type 0
+TurnsAs (Ok done) r steps = Tries Step.Turn Answer.Turned r steps
+TurnsAs (Err e) r steps = (r ≡ Err e) × (steps ≡ [])
+
+-- A block is handed over, unless there is no room for one; then the keeper takes its turn, of which this is the result.
+abbrev pub Turns : Result Turn Refusal → Past → Type 0
+Turns r steps = (cut : Result Bool Refusal) × (first last : Past) × Tries Step.Cut Answer.Cut cut first × TurnsAs (passing cut) r last × (steps ≡ first ++ last)

@@ -1,6 +1,11 @@
 // What the program does for a command, on any disk.
-ghost use Rattle.std.specs.Prelude.{◌≡◌, ◌⊎◌, ℕ, OnOk, IfErr};
-ghost use Rattle.disk_model.specs.Disk.{ReadsOnly};
+ghost use Rattle.std.specs.Prelude.{◌≡◌, ◌⊎◌, ℕ, List, [], OnOk, IfOk, IfErr};
+ghost use Rattle.calls.specs.Contents.{Collection};
+ghost use Rattle.disk_model.specs.Disk.{ReadsOnly, IsAtRest};
+ghost use Rattle.recovery.specs.Journals.{StandsFor};
+ghost use Rattle.recovery.specs.Openings.{KeepsContent};
+ghost use Rattle.world.specs.Worlds.{HasPast};
+ghost use Rattle.boost.specs.Plays.{parts};
 ghost use Rattle.boost.specs.declared.commands.failure.Failure.{Failure};
 ghost use Rattle.boost.specs.Commands.{IsPlay, IsCheck, IsDemo, IsUnderstood, IsOfStore, IsWhyUnplayed, IsWhyUndone, IsNotUnderstoodAt, status_of};
 
@@ -9,12 +14,12 @@ mod committer;
 mod failure;
 mod player;
 mod showing;
+mod steps;
 mod stored_run;
 mod texts;
 
 use crate::arguments::Task;
 use crate::script::{Line, parse};
-use crate::transit::Transit;
 use calls::Refusal;
 use disk_model::Disk;
 pub use failure::Failure;
@@ -24,6 +29,7 @@ use showing::{show_collections, show_counts};
 use std::alloc::Global;
 use std::io::{BufWriter, Write};
 use stored_run::demo;
+use world::World;
 
 /// Carries a command out on a disk, and answers the status of the program with the disk.
 ///
@@ -130,13 +136,16 @@ fn play_script<D: Disk, O: Write>(
     }
 }
 
-// The player of a store that is opened.
-fn open_player<D: Disk>(alloc: Global, disk: D) -> Result<Player<D>, (Refusal, D)> {
-    let Ok(transit) = Transit::new(alloc) else {
-        return Err((Refusal::NoMemory, disk));
-    };
+// The player of a store that is opened. Where the disk is at rest and reads true, the past of its world begins with the
+// content of the store, and a stop at any moment of the opening leaves that content.
+fn open_player<D: Disk>(alloc: Global, disk: D) -> Result<Player<D>, (Refusal, D)>
+    ensures past { (content : List Collection) → StandsFor (D.seen disk) content → IsAtRest D.seen D.may_leave disk →
+        IfOk result (λ player. D.is_honest player.world.keeper.disk → HasPast D.seen D.may_leave content [] (parts player.world)) }
+    ensures kept { IfOk result (λ player. D.is_honest player.world.keeper.disk → KeepsContent D.seen D.may_leave D.moment D.left_since disk player.world.keeper.disk) }
+    ensures kept_in_refusal { IfErr result (λ x. D.is_honest x.1 → KeepsContent D.seen D.may_leave D.moment D.left_since disk x.1) }
+{
     let (book, keeper) = open(alloc, disk)?;
-    Ok(Player::new(book, keeper, transit))
+    Ok(Player::new(World::new(alloc, book, keeper)?))
 }
 
 // Runs lines on the store of a disk.
@@ -150,7 +159,7 @@ fn play_lines<D: Disk, O: Write>(
 {
     match open_player(alloc, disk) {
         Ok(mut player) => {
-            let done = player.play_lines(lines, out);
+            let done = player.play_lines(alloc, lines, out);
             (done, player.into_disk())
         }
         Err((refusal, disk)) => (Err(Failure::Refused(refusal)), disk),

@@ -4,7 +4,6 @@
 mod arguments;
 mod commands;
 mod script;
-mod transit;
 
 pub use arguments::{Task, command};
 pub use commands::{Failure, report, run};

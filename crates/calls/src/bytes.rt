@@ -1,5 +1,5 @@
 // A value of a map.
-ghost use Rattle.std.specs.Prelude.{◌≡◌, IfOk};
+ghost use Rattle.std.specs.Prelude.{◌≡◌, ◌↔◌, IsTrue, IfOk};
 
 use std::alloc::AllocError;
 use std::marker::Model;
@@ -24,6 +24,13 @@ impl Bytes {
         ensures { result ≡ items.items }
     {
         Bytes { items }
+    }
+
+    /// Whether the bytes are the same. It takes no memory.
+    pub fn is_same(&self, other: &Bytes) -> bool
+        ensures { IsTrue result ↔ self.now ≡ other.now }
+    {
+        self.as_slice() == other.as_slice()
     }
 
     /// The same bytes once more. Refused only for want of memory.

@@ -1,5 +1,5 @@
 // What a collection can be asked.
-ghost use Rattle.std.specs.Prelude.{◌≡◌, IfOk};
+ghost use Rattle.std.specs.Prelude.{◌≡◌, ◌↔◌, IsTrue, IfOk};
 
 use crate::{Bytes, Kind};
 use std::alloc::AllocError;
@@ -55,6 +55,33 @@ impl Call {
             Call::QueueAdd(_, _) | Call::Take | Call::Least | Call::Pluck(_, _) => Kind::Queue,
             Call::Bump(_) | Call::Read => Kind::Counter,
             Call::Draw | Call::Release(_) | Call::Free(_) => Kind::Pool,
+        }
+    }
+
+    /// Whether the calls are the same. It takes no memory.
+    pub fn is_same(&self, other: &Call) -> bool
+        ensures { IsTrue result ↔ self.now ≡ other.now }
+    {
+        match (self, other) {
+            (Call::Contains(x), Call::Contains(y))
+            | (Call::SetAdd(x), Call::SetAdd(y))
+            | (Call::SetRemove(x), Call::SetRemove(y))
+            | (Call::Get(x), Call::Get(y))
+            | (Call::MapRemove(x), Call::MapRemove(y))
+            | (Call::Ceiling(x), Call::Ceiling(y))
+            | (Call::Release(x), Call::Release(y))
+            | (Call::Free(x), Call::Free(y)) => x == y,
+            (Call::QueueAdd(p, g), Call::QueueAdd(q, h)) | (Call::Pluck(p, g), Call::Pluck(q, h)) =>
+                p == q && g == h,
+            (Call::Put(key, value), Call::Put(other_key, other_value)) => {
+                key == other_key && value.is_same(other_value)
+            }
+            (Call::Bump(by), Call::Bump(other_by)) => by == other_by,
+            (Call::Take, Call::Take)
+            | (Call::Least, Call::Least)
+            | (Call::Read, Call::Read)
+            | (Call::Draw, Call::Draw) => true,
+            _ => false,
         }
     }
 

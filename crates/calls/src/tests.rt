@@ -49,6 +49,16 @@ fn kinds_print_their_names(rt: HostRuntime) -> Result<(), Fail> {
 }
 
 #[test]
+fn calls_are_compared(rt: HostRuntime) -> Result<(), Fail> {
+    let put = Call::Put(3, Bytes::new([1u8, 2].to_vec(rt.alloc())?));
+    assert!(rt; put.is_same(&put.copy()?));
+    let other = Call::Put(3, Bytes::new([1u8, 3].to_vec(rt.alloc())?));
+    assert!(rt; !put.is_same(&other));
+    assert!(rt; !put.is_same(&Call::MapRemove(3)));
+    Ok(())
+}
+
+#[test]
 fn values_and_names_are_copied(rt: HostRuntime) -> Result<(), Fail> {
     let value = Bytes::new([1u8, 2].to_vec(rt.alloc())?);
     let copy = value.copy()?;

@@ -1,18 +1,23 @@
 -- A keeper as contracts see it: what it answers, and what it leaves.
-use Rattle.std.specs.Prelude.{◌≡◌, ◌⊎◌, ℕ, ◌+◌, ◌*◌, max, Bool, true, false, List, [], ◌∷◌, length, Option, Some, None, Result, Ok, Err}
+use Rattle.std.specs.Prelude.{◌≡◌, ◌⊎◌, ℕ, ◌+◌, ◌*◌, ◌<◌, max, Bool, true, false, List, [], ◌∷◌, length, Option, Some, None, IfSome, Result, Ok, Err}
 use Rattle.calls.specs.declared.refusal.Refusal.{Refusal}
 use Rattle.gate_block.specs.declared.area.Area.{Area}
 use Rattle.gate_block.specs.Area.{has_failed, base_of, size_of}
 use Rattle.txn.specs.declared.block.Block.{Block}
 use Rattle.checkpoint.specs.declared.turn.Turn.{Turn}
+use Rattle.checkpoint.specs.declared.laying.Laying.{Laying}
+use Rattle.checkpoint.specs.Imaging.{IsLaidBeside}
 
--- A disk with its area in use, the place up to which commits are kept, a block that did not fit, and whether the disk has failed.
+-- A disk with its area in use, the place up to which commits are kept, a block that was held back, whether the disk has failed, the position up
+-- to which the image of the area in use covers the records, and the image in progress.
 pub record KeeperState (D : Type 0) : Type 0 where
   pub disk : D
   pub area : Area
   pub mark : ℕ
   pub held : Option Block
   pub failed : Bool
+  pub covered : ℕ
+  pub image : Option Laying
 
 -- The area is one of the two of a disk of so many bytes, which stand behind its head, one behind the other.
 pub record IsOneOfTwo (area : Area) (bytes : ℕ) : Type 0 where
@@ -21,30 +26,52 @@ pub record IsOneOfTwo (area : Area) (bytes : ℕ) : Type 0 where
 
 -- what holds of every keeper
 pub record IsKeeper {D : Type 0} (seen : D → List ℕ) (k : KeeperState D) : Type 0 where
-  pub same : k.failed ≡ has_failed k.area
+  pub fine : k.failed ≡ false → has_failed k.area ≡ false
   pub one : IsOneOfTwo k.area (length (seen k.disk))
+  pub beside : IfSome k.image (λ w. IsLaidBeside k.area k.failed w)
 
 -- Nothing was brought to the disk yet.
 pub record IsFresh {D : Type 0} (k : KeeperState D) : Type 0 where
   pub unmarked : k.mark ≡ 0
   pub holds_none : k.held ≡ None
   pub fine : k.failed ≡ false
+  pub covers_none : k.covered ≡ 0
+  pub no_image : k.image ≡ None
 
 -- the blocks that a keeper brings to the disk: the one that it holds, and those that wait
 abbrev pub queue : Option Block → List Block → List Block
 queue None waiting = waiting
 queue (Some b) waiting = b ∷ waiting
 
--- When a block is brought to the disk, and when not: it is kept; it does not fit, is held, and nothing else changed; or the disk fails.
-abbrev pub BringAnswers : Block → ℕ → Type 0 → Type 0 → Type 0 → Result Turn Refusal → Option Block → ℕ → Bool → Type 0
-BringAnswers block mark is_full is_same is_risen (Ok (Turn.Kept place)) held next failed = (place ≡ max mark block.place) × (next ≡ place) × (held ≡ None) × (failed ≡ false)
-BringAnswers block mark is_full is_same is_risen (Ok Turn.Idle) held next failed = ⊥
-BringAnswers block mark is_full is_same is_risen (Err Refusal.Full) held next failed = is_full × is_same × (held ≡ Some block) × (next ≡ mark) × (failed ≡ false)
-BringAnswers block mark is_full is_same is_risen (Err Refusal.Fault) held next failed = is_risen × (held ≡ None) × (next ≡ mark) × (failed ≡ true)
-BringAnswers block mark is_full is_same is_risen (Err e) held next failed = ⊥
+-- the block ends past the image in progress
+abbrev pub IsPast : Option Laying → ℕ → Type 0
+IsPast None end = ⊥
+IsPast (Some w) end = w.image.end < end
+
+-- When a block is appended, and when not: it is kept; it does not fit, is held, and nothing else changed; or the disk fails.
+abbrev pub AppendAnswers : Block → ℕ → Type 0 → Type 0 → Type 0 → Result Turn Refusal → Option Block → ℕ → Bool → Type 0
+AppendAnswers block mark is_full is_same is_risen (Ok (Turn.Kept place)) held next failed = (place ≡ max mark block.place) × (next ≡ place) × (held ≡ None) × (failed ≡ false) × ¬ is_full
+AppendAnswers block mark is_full is_same is_risen (Err Refusal.Full) held next failed = is_full × is_same × (held ≡ Some block) × (next ≡ mark) × (failed ≡ false)
+AppendAnswers block mark is_full is_same is_risen (Err Refusal.Fault) held next failed = is_risen × (held ≡ None) × (next ≡ mark) × (failed ≡ true) × ¬ is_full
+AppendAnswers block mark is_full is_same is_risen r held next failed = ⊥
+
+-- A block that the image of the area in use covers is let go, with nothing else changed; one that is past the image in progress is held, with
+-- nothing else changed; each other one is appended.
+abbrev pub BringAnswers : Block → ℕ → Type 0 → Type 0 → Type 0 → Type 0 → Type 0 → Result Turn Refusal → Option Block → ℕ → Bool → Type 0
+BringAnswers block mark is_covered is_past is_full is_same is_risen (Ok Turn.Held) held next failed = ¬ is_covered × is_past × is_same × (held ≡ Some block) × (next ≡ mark) × (failed ≡ false)
+BringAnswers block mark is_covered is_past is_full is_same is_risen (Ok (Turn.Kept place)) held next failed =
+    (is_covered × is_same × (place ≡ max mark block.place) × (next ≡ place) × (held ≡ None) × (failed ≡ false))
+    ⊎ (¬ is_covered × ¬ is_past × AppendAnswers block mark is_full is_same is_risen (Ok (Turn.Kept place)) held next failed)
+BringAnswers block mark is_covered is_past is_full is_same is_risen r held next failed = ¬ is_covered × ¬ is_past × AppendAnswers block mark is_full is_same is_risen r held next failed
 
 -- What a turn answers, of the blocks q that it found, and what it leaves: waiting, held, mark, failed.
-abbrev pub TurnAnswers : List Block → Bool → ℕ → (Block → Type 0) → Type 0 → Type 0 → Result Turn Refusal → List Block → Option Block → ℕ → Bool → Type 0
-TurnAnswers q failed mark is_full is_same is_risen (Err Refusal.Failed) waiting held next fails = (failed ≡ true) × is_same × (queue held waiting ≡ q) × (next ≡ mark) × (fails ≡ true)
-TurnAnswers q failed mark is_full is_same is_risen (Ok Turn.Idle) waiting held next fails = (failed ≡ false) × (q ≡ []) × is_same × (queue held waiting ≡ []) × (next ≡ mark) × (fails ≡ false)
-TurnAnswers q failed mark is_full is_same is_risen r waiting held next fails = (failed ≡ false) × ((b : Block) × (q ≡ b ∷ waiting) × BringAnswers b mark (is_full b) is_same is_risen r held next fails)
+abbrev pub TurnAnswers : List Block → Bool → ℕ → (Block → Type 0) → (Block → Type 0) → (Block → Type 0) → Type 0 → Type 0 → Result Turn Refusal → List Block → Option Block → ℕ → Bool → Type 0
+TurnAnswers q failed mark is_covered is_past is_full is_same is_risen (Err Refusal.Failed) waiting held next fails = (failed ≡ true) × is_same × (queue held waiting ≡ q) × (next ≡ mark) × (fails ≡ true)
+TurnAnswers q failed mark is_covered is_past is_full is_same is_risen (Ok Turn.Idle) waiting held next fails = (failed ≡ false) × (q ≡ []) × is_same × (queue held waiting ≡ []) × (next ≡ mark) × (fails ≡ false)
+TurnAnswers q failed mark is_covered is_past is_full is_same is_risen r waiting held next fails =
+    (failed ≡ false) × ((b : Block) × (q ≡ b ∷ waiting) × BringAnswers b mark (is_covered b) (is_past b) (is_full b) is_same is_risen r held next fails)
+
+-- where the turn kept a block
+abbrev pub OnKept : Result Turn Refusal → Type 0 → Type 0
+OnKept (Ok (Turn.Kept place)) P = P
+OnKept r P = Unit {0}

@@ -1,1 +1,3 @@
+pub mod ImageAnswers
+pub mod Imaging
 pub mod Keepers

@@ -1,23 +1,29 @@
-// The keeper: brings blocks to the disk, in their order.
-ghost use Rattle.std.specs.Prelude.{◌≡◌, ◌<◌, ◌+◌, ℕ, List, ◌++◌, ◌∷◌, [], length, OnOk, IfSome, IfNone, false, None};
-ghost use Rattle.disk_model.specs.Disk.{LeavesOnly, Rises};
-ghost use Rattle.gate_block.specs.Row.{IsBlockOf};
-ghost use Rattle.gate_block.specs.Area.{has_failed, base_of, size_of, position_of, IsReady, LeavesBlocks};
+// The keeper: brings blocks to the disk, in their order, and writes images.
+ghost use Rattle.std.specs.Prelude.{◌≡◌, ◌≢◌, ◌↔◌, ◌<◌, ◌≤◌, ◌+◌, max, ℕ, List, ◌++◌, ◌∷◌, [], length, OnOk, IfSome, IfNone, IsTrue, Some, None, false};
+ghost use Rattle.disk_model.specs.Disk.{Torn, IsAtRest, LeavesOnly, Rises};
+ghost use Rattle.gate_block.specs.Row.{IsBlockOf, SameOutside};
+ghost use Rattle.gate_block.specs.Area.{has_failed, base_of, size_of, position_of, IsReady, LeavesBlocks, LeavesElsewhere};
 ghost use Rattle.txn.specs.declared.block.Block.{Block};
-ghost use Rattle.checkpoint.specs.Keepers.{KeeperState, IsOneOfTwo, queue, BringAnswers, TurnAnswers};
+ghost use Rattle.checkpoint.specs.declared.laying.Laying.{Laying};
+ghost use Rattle.checkpoint.specs.Imaging.{IsLaidBeside, HasPiece, IsWritten, IsBeingLaid, IsRooted, LeavesRoot, PicksWhole, bodies_of, left_of, picked, pieces_left};
+ghost use Rattle.checkpoint.specs.Keepers.{KeeperState, IsOneOfTwo, IsPast, OnKept, queue, AppendAnswers, BringAnswers, TurnAnswers};
+ghost use Rattle.checkpoint.specs.ImageAnswers.{BeginAnswers, PieceAnswers, PickAnswers, FlipAnswers};
 
 use crate::inbox::Inbox;
+use crate::laying::{Laying, is_too_long, other_area};
+use crate::root::pick_area;
 use crate::turn::Turn;
 use calls::Refusal;
 use disk_model::Disk;
 use gate_block::Area;
 use std::marker::Model;
-use txn::Block;
+use txn::{Block, Image};
 
-/// A disk with its area in use, the mark, and a block that did not fit.
+/// A disk with its area in use, the mark, a block that was held back, the position up to which the image of the area
+/// covers the records, and the image in progress.
 ///
-/// The area is one of the two of the disk, and the keeper has failed exactly where the area has. Contracts see the
-/// keeper as a `KeeperState`.
+/// The area is one of the two of the disk, and the image goes into the other one. Contracts see the keeper as a
+/// `KeeperState`.
 #[derive(Drop)]
 pub struct Keeper<D: Disk> {
     disk: D,
@@ -25,6 +31,8 @@ pub struct Keeper<D: Disk> {
     mark: u64,
     held: Option<Block>,
     failed: bool,
+    covered: u64,
+    image: Option<Laying>,
 }
 
 impl<D: Disk> Model for Keeper<D> {
@@ -32,18 +40,18 @@ impl<D: Disk> Model for Keeper<D> {
 
     ghost Value = { KeeperState D };
 
-    ghost view = { λ k. record { disk = k.disk; area = k.area; mark = k.mark; held = k.held; failed = k.failed } };
+    ghost view = { λ k. record { disk = k.disk; area = k.area; mark = k.mark; held = k.held; failed = k.failed; covered = k.covered; image = k.image } };
 
-    ghost invariant = { λ k. IsKeeper D.seen (record { disk = k.disk; area = k.area; mark = k.mark; held = k.held; failed = k.failed }) };
+    ghost invariant = { λ k. IsKeeper D.seen (record { disk = k.disk; area = k.area; mark = k.mark; held = k.held; failed = k.failed; covered = k.covered; image = k.image }) };
 }
 
 impl<D: Disk> Keeper<D> {
-    /// A keeper of an area in use, with nothing held and the mark 0. The area has not failed, and is one of the two of
-    /// the disk.
+    /// A keeper of an area in use, with nothing held, the mark 0 and no image in progress; the image of the area covers
+    /// no block that is brought to it. The area has not failed, and is one of the two of the disk.
     pub fn new(disk: D, area: Area) -> Self
         requires fine { has_failed area ≡ false }
         requires one { IsOneOfTwo area (length (D.seen disk)) }
-        ensures { result ≡ record { disk = disk; area = area; mark = 0; held = None; failed = false } }
+        ensures { result ≡ record { disk = disk; area = area; mark = 0; held = None; failed = false; covered = 0; image = None } }
     {
         Self {
             disk,
@@ -51,21 +59,26 @@ impl<D: Disk> Keeper<D> {
             mark: 0,
             held: None,
             failed: false,
+            covered: 0,
+            image: None,
         }
     }
 
-    /// How many pieces of an image are not yet written: none, where no image is in progress. No image is written yet.
+    /// How many pieces of the image are not yet written: none, where no image is in progress.
     pub fn left(&self) -> Option<u64>
-        ensures { result ≡ None }
+        ensures { result ≡ pieces_left self.now.image }
     {
-        None
+        match &self.image {
+            Some(laying) => Some(laying.image.blocks.len() as u64),
+            None => None,
+        }
     }
 
-    // Brings a block to the disk.
-    fn bring(&mut self, block: Block) -> Result<Turn, Refusal>
+    // Appends a block to the area in use.
+    fn append(&mut self, block: Block) -> Result<Turn, Refusal>
         requires held { self.old.held ≡ None }
         requires failed { self.old.failed ≡ false }
-        ensures answer { BringAnswers block self.old.mark
+        ensures answer { AppendAnswers block self.old.mark
             (size_of self.old.area < position_of self.old.area + length block.bytes.items)
             ((self.new.area ≡ self.old.area) × (self.new.disk ≡ self.old.disk))
             (Rises (D.fault_count self.old.disk) (D.fault_count self.new.disk))
@@ -77,9 +90,12 @@ impl<D: Disk> Keeper<D> {
             IsReady D.seen D.may_leave self.old.area self.old.disk bodies →
             LeavesOnly D.moment D.left_since self.old.disk self.new.disk
             (LeavesBlocks (D.may_leave self.old.disk) self.old.area bodies body) }
+        ensures elsewhere { SameOutside (base_of self.old.area) (size_of self.old.area)
+            (D.seen self.old.disk) (D.seen self.new.disk) }
         ensures base { base_of self.new.area ≡ base_of self.old.area }
         ensures size { size_of self.new.area ≡ size_of self.old.area }
-        ensures length { length (D.seen self.new.disk) ≡ length (D.seen self.old.disk) }
+        ensures covered { self.new.covered ≡ self.old.covered }
+        ensures image { self.new.image ≡ self.old.image }
     {
         match self.area.append(&mut self.disk, block.bytes.as_slice()) {
             Ok(()) => {
@@ -99,22 +115,63 @@ impl<D: Disk> Keeper<D> {
         }
     }
 
+    // Lets a block go that the image of the area in use covers, holds one that is past the image in progress, and
+    // appends each other one.
+    fn bring(&mut self, block: Block) -> Result<Turn, Refusal>
+        requires held { self.old.held ≡ None }
+        requires failed { self.old.failed ≡ false }
+        ensures answer { BringAnswers block self.old.mark
+            (block.end ≤ self.old.covered) (IsPast self.old.image block.end)
+            (size_of self.old.area < position_of self.old.area + length block.bytes.items)
+            ((self.new.area ≡ self.old.area) × (self.new.disk ≡ self.old.disk))
+            (Rises (D.fault_count self.old.disk) (D.fault_count self.new.disk))
+            result self.new.held self.new.mark self.new.failed }
+        ensures kept { (bodies : List (List ℕ)) (body : List ℕ) → IsBlockOf body block.bytes.items →
+            self.old.covered < block.end →
+            IsReady D.seen D.may_leave self.old.area self.old.disk bodies →
+            OnKept result (IsReady D.seen D.may_leave self.new.area self.new.disk (bodies ++ body ∷ [])) }
+        ensures any_moment { (bodies : List (List ℕ)) (body : List ℕ) → IsBlockOf body block.bytes.items →
+            IsReady D.seen D.may_leave self.old.area self.old.disk bodies →
+            LeavesOnly D.moment D.left_since self.old.disk self.new.disk
+            (LeavesBlocks (D.may_leave self.old.disk) self.old.area bodies body) }
+        ensures elsewhere { SameOutside (base_of self.old.area) (size_of self.old.area)
+            (D.seen self.old.disk) (D.seen self.new.disk) }
+        ensures base { base_of self.new.area ≡ base_of self.old.area }
+        ensures size { size_of self.new.area ≡ size_of self.old.area }
+        ensures covered { self.new.covered ≡ self.old.covered }
+        ensures image { self.new.image ≡ self.old.image }
+    {
+        if block.end <= self.covered {
+            self.mark = self.mark.max(block.place);
+            return Ok(Turn::Kept(self.mark));
+        }
+        if is_past(&self.image, block.end) {
+            self.held = Some(block);
+            return Ok(Turn::Held);
+        }
+        self.append(block)
+    }
+
     /// Brings the held block, or else the next one, to the disk. Answers Idle where there is none, or that all commits
-    /// up to a place are kept, which is the mark then. It takes no memory and copies no block.
+    /// up to a place are kept, which is the mark then. A block that the image of the area in use covers is let go, as it
+    /// is kept by that, and no device is called. While an image is in progress, a block that ends past it is held, which
+    /// is answered, and each other one goes into the area in use. It takes no memory and copies no block.
     ///
     /// Refused Failed after a Fault, with everything as before; Full where the block does not fit, and then it is held;
     /// Fault where the disk failed, and then the keeper has failed.
     pub fn turn<I: Inbox>(&mut self, inbox: &mut I) -> Result<Turn, Refusal>
         ensures answer { TurnAnswers (queue self.old.held (I.waiting inbox.old)) self.old.failed self.old.mark
+            (λ b. b.end ≤ self.old.covered) (λ b. IsPast self.old.image b.end)
             (λ b. size_of self.old.area < position_of self.old.area + length b.bytes.items)
             ((self.new.area ≡ self.old.area) × (self.new.disk ≡ self.old.disk))
             (Rises (D.fault_count self.old.disk) (D.fault_count self.new.disk))
             result (I.waiting inbox.new) self.new.held self.new.mark self.new.failed }
-        // The block that is brought is behind the others, once it is kept.
+        // The block that is brought is behind the others, once it is kept, unless the image of the area covers it.
         ensures kept { (bodies : List (List ℕ)) (body : List ℕ) (b : Block) (rest : List Block) →
             queue self.old.held (I.waiting inbox.old) ≡ b ∷ rest → IsBlockOf body b.bytes.items →
+            self.old.covered < b.end →
             IsReady D.seen D.may_leave self.old.area self.old.disk bodies →
-            OnOk result (IsReady D.seen D.may_leave self.new.area self.new.disk (bodies ++ body ∷ [])) }
+            OnKept result (IsReady D.seen D.may_leave self.new.area self.new.disk (bodies ++ body ∷ [])) }
         // A stop at any moment of the turn leaves the blocks from before it, with that one or without.
         ensures any_moment { (bodies : List (List ℕ)) (body : List ℕ) (b : Block) (rest : List Block) →
             self.old.failed ≡ false →
@@ -122,8 +179,15 @@ impl<D: Disk> Keeper<D> {
             IsReady D.seen D.may_leave self.old.area self.old.disk bodies →
             LeavesOnly D.moment D.left_since self.old.disk self.new.disk
             (LeavesBlocks (D.may_leave self.old.disk) self.old.area bodies body) }
+        ensures elsewhere { SameOutside (base_of self.old.area) (size_of self.old.area)
+            (D.seen self.old.disk) (D.seen self.new.disk) }
+        // What was laid of an image stays.
+        ensures laid { (w : Laying) (bodies : List (List ℕ)) → self.old.image ≡ Some w →
+            IsBeingLaid w (D.seen self.old.disk) bodies → IsBeingLaid w (D.seen self.new.disk) bodies }
         ensures base { base_of self.new.area ≡ base_of self.old.area }
         ensures size { size_of self.new.area ≡ size_of self.old.area }
+        ensures covered { self.new.covered ≡ self.old.covered }
+        ensures image { self.new.image ≡ self.old.image }
         ensures length { length (D.seen self.new.disk) ≡ length (D.seen self.old.disk) }
     {
         if self.failed {
@@ -135,12 +199,156 @@ impl<D: Disk> Keeper<D> {
         }
     }
 
+    /// Begins to write an image into the area that is not in use. No device is called, and no block copied.
+    ///
+    /// Refusals, in this order, each with everything as before: Failed after a Fault; Imaging where an image is in
+    /// progress; Full where the blocks, with a closed gate behind the last, need more bytes than an area has.
+    pub fn begin_image(&mut self, image: Image) -> Result<(), Refusal>
+        ensures answer { BeginAnswers self.old image self.new result }
+        // All of it is left.
+        ensures begun { (w : Laying) → self.new.image ≡ Some w →
+            OnOk result (IsBeingLaid w (D.seen self.new.disk) (bodies_of image.blocks.items)) }
+    {
+        if self.failed {
+            return Err(Refusal::Failed);
+        }
+        if self.image.is_some() {
+            return Err(Refusal::Imaging);
+        }
+        if is_too_long(&image, self.area.size()) {
+            return Err(Refusal::Full);
+        }
+        let area = other_area(&self.area, self.disk.size());
+        self.image = Some(Laying { area, image });
+        Ok(())
+    }
+
+    /// Writes the next block of the image, in one write and without a sync, and answers whether another one is left. It
+    /// takes no memory.
+    ///
+    /// A stop at any moment of the call leaves each byte outside the image's area, and so the area in use, as a stop could
+    /// have left it before.
+    ///
+    /// Refused Failed after a Fault, with everything as before; Fault where the disk failed, and then the keeper has
+    /// failed, and the block is not written.
+    pub fn image_piece(&mut self) -> Result<bool, Refusal>
+        requires piece { HasPiece self.old.image }
+        ensures answer { PieceAnswers self.old (Rises (D.fault_count self.old.disk) (D.fault_count self.new.disk)) self.new result }
+        ensures laid { (w v : Laying) (bodies : List (List ℕ)) → self.old.image ≡ Some w → self.new.image ≡ Some v →
+            IsBeingLaid w (D.seen self.old.disk) bodies →
+            OnOk result (IsBeingLaid v (D.seen self.new.disk) bodies) }
+        // The blocks of the area in use are kept.
+        ensures kept { (bodies : List (List ℕ)) → IsReady D.seen D.may_leave self.old.area self.old.disk bodies →
+            IsReady D.seen D.may_leave self.new.area self.new.disk bodies }
+        ensures any_moment { (w : Laying) → self.old.image ≡ Some w →
+            LeavesOnly D.moment D.left_since self.old.disk self.new.disk
+            (LeavesElsewhere (D.may_leave self.old.disk) w.area) }
+        ensures elsewhere { (w : Laying) → self.old.image ≡ Some w →
+            SameOutside (base_of w.area) (size_of w.area) (D.seen self.old.disk) (D.seen self.new.disk) }
+    {
+        if self.failed {
+            return Err(Refusal::Failed);
+        }
+        match &mut self.image {
+            Some(laying) => {
+                let written = laying.lay_next(&mut self.disk);
+                self.failed = written.is_err();
+                written
+            }
+            None => unreachable!(),
+        }
+    }
+
+    /// Makes the image the store, and answers the mark then, which is at least the image's place. What was written is
+    /// synced, and then the root byte is written, whose lowest bit picks the area, and synced. The area that was in use is
+    /// out of use then.
+    ///
+    /// A stop at any moment of the call leaves what it could have left before; or what a read gave before, with any root
+    /// byte.
+    ///
+    /// Refused Failed after a Fault, and then Unfinished where no image is in progress or pieces of it remain, both with
+    /// everything as before; Fault where the disk failed, and then the keeper has failed, and no image is in progress.
+    pub fn flip(&mut self) -> Result<u64, Refusal>
+        ensures answer { FlipAnswers self.old (Rises (D.fault_count self.old.disk) (D.fault_count self.new.disk)) self.new result }
+        // The area in use holds the blocks of the image, and the root byte picks it.
+        ensures kept { (w : Laying) (bodies : List (List ℕ)) → self.old.image ≡ Some w → bodies ≢ [] →
+            IsBeingLaid w (D.seen self.old.disk) bodies →
+            OnOk result (IsReady D.seen D.may_leave self.new.area self.new.disk bodies) }
+        ensures picks { OnOk result (picked (size_of self.new.area) (D.seen self.new.disk) ≡ base_of self.new.area) }
+        ensures durable { OnOk result (IsAtRest D.seen D.may_leave self.new.disk) }
+        // Nothing else changes.
+        ensures root { Torn 512 1 (D.seen self.old.disk) (D.seen self.new.disk) }
+        ensures any_moment { LeavesOnly D.moment D.left_since self.old.disk self.new.disk
+            (LeavesRoot (D.may_leave self.old.disk) (D.seen self.old.disk)) }
+        // So a stop leaves a root byte that picks one of two whole areas: the old one as it was, or the image's.
+        ensures any_moment_whole { (w : Laying) (bodies : List (List ℕ)) → self.old.image ≡ Some w → left_of w ≡ [] → bodies ≢ [] →
+            IsBeingLaid w (D.seen self.old.disk) bodies →
+            IsRooted D.seen D.may_leave self.old.area self.old.disk →
+            LeavesOnly D.moment D.left_since self.old.disk self.new.disk
+            (PicksWhole self.old.area (D.seen self.old.disk) w.area bodies) }
+    {
+        if self.failed {
+            return Err(Refusal::Failed);
+        }
+        match take_written(&mut self.image) {
+            Some(laying) => self.pick(laying),
+            None => Err(Refusal::Unfinished),
+        }
+    }
+
+    // Makes the area of an image that is all written the one in use.
+    fn pick(&mut self, laying: Laying) -> Result<u64, Refusal>
+        requires fine { self.old.failed ≡ false }
+        requires none { self.old.image ≡ None }
+        requires beside { IsLaidBeside self.old.area false laying }
+        ensures answer { PickAnswers self.old laying (Rises (D.fault_count self.old.disk) (D.fault_count self.new.disk)) self.new result }
+        ensures picks { OnOk result (picked (size_of self.new.area) (D.seen self.new.disk) ≡ base_of self.new.area) }
+        ensures durable { OnOk result (IsAtRest D.seen D.may_leave self.new.disk) }
+        ensures root { Torn 512 1 (D.seen self.old.disk) (D.seen self.new.disk) }
+        ensures any_moment { LeavesOnly D.moment D.left_since self.old.disk self.new.disk
+            (LeavesRoot (D.may_leave self.old.disk) (D.seen self.old.disk)) }
+    {
+        if pick_area(&mut self.disk, laying.area.base()).is_err() {
+            self.failed = true;
+            return Err(Refusal::Fault);
+        }
+        self.area = laying.area;
+        self.covered = laying.image.end;
+        self.mark = self.mark.max(laying.image.place);
+        Ok(self.mark)
+    }
+
     /// The disk, at any time. No device is called.
     pub fn into_disk(self) -> D
         ensures { result ≡ self.disk }
     {
         let Self { disk, .. } = self;
         disk
+    }
+}
+
+// Whether a block that ends there is past the image in progress.
+fn is_past(image: &Option<Laying>, end: u64) -> bool
+    ensures { IsTrue result ↔ IsPast image.now end }
+{
+    match image {
+        Some(laying) => end > laying.image.end,
+        None => false,
+    }
+}
+
+// Takes the image out, where none of its pieces is left.
+fn take_written(image: &mut Option<Laying>) -> Option<Laying>
+    ensures some { IfSome result (λ w. (image.old ≡ Some w) × (left_of w ≡ []) × (image.new ≡ None)) }
+    ensures none { IfNone result (IsWritten image.old → ⊥) }
+    ensures stays { IfNone result (image.new ≡ image.old) }
+{
+    match image.take() {
+        Some(laying) if laying.has_more() => {
+            *image = Some(laying);
+            None
+        }
+        taken => taken,
     }
 }
 

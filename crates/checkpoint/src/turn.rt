@@ -7,4 +7,6 @@ pub enum Turn {
     Idle,
     /// All commits up to this place are kept: it is the mark.
     Kept(u64),
+    /// The block is held until the image in progress is the store: it is past that image.
+    Held,
 }

@@ -1,5 +1,6 @@
 mod Append
 pub mod Facts
+mod Laying
 pub mod Parts
 mod Reading
 pub mod Rows

@@ -3,6 +3,13 @@ use Rattle.std.specs.Prelude.{◌≡◌, ℕ, Bool, true, false, Result, Ok, Err
 use Rattle.calls.specs.declared.refusal.Refusal.{Refusal}
 use Rattle.gate_block.specs.declared.read_error.ReadError.{ReadError}
 
+-- when a block has its place at the next gate, and why not
+abbrev pub IsPlaceAnswer : Bool → Type 0 → Result (Unit {0}) Refusal → Type 0
+IsPlaceAnswer failed is_full (Ok done) = (failed ≡ false) × ¬ is_full
+IsPlaceAnswer failed is_full (Err Refusal.Full) = (failed ≡ false) × is_full
+IsPlaceAnswer failed is_full (Err Refusal.Failed) = failed ≡ true
+IsPlaceAnswer failed is_full (Err other) = ⊥
+
 -- when each answer of an append comes, and whether the area has failed before and after it
 abbrev pub IsAppendAnswer : Bool → Bool → Type 0 → Type 0 → Result (Unit {0}) Refusal → Type 0
 IsAppendAnswer failed fails is_full is_risen (Ok done) = (failed ≡ false) × (fails ≡ false) × ¬ is_full

@@ -1,5 +1,5 @@
 -- What an area holds, and what a stop may leave of it.
-use Rattle.std.specs.Prelude.{◌≡◌, ◌⊎◌, ℕ, ◌+◌, Bool, List, [], ◌∷◌, ◌++◌, length, Option, None, Some, Vec}
+use Rattle.std.specs.Prelude.{◌≡◌, ◌≢◌, ◌⊎◌, ℕ, ◌+◌, Bool, List, [], ◌∷◌, ◌++◌, length, Option, None, Some, Vec}
 use Rattle.std.specs.declared.alloc.Global.{Global}
 use Rattle.disk_model.specs.Disk.{IsAtRest}
 use Rattle.gate_block.specs.declared.area.Area.{Area}
@@ -35,6 +35,12 @@ pub record IsReady {D : Type 0} (seen : D → List ℕ) (may_leave : D → List 
 pub record HoldsRow {D : Type 0} (seen : D → List ℕ) (may_leave : D → List ℕ → Type 0) (area : Area) (disk : D) (bodies : List (List ℕ)) : Type 0 where
   pub holds : IsRow bodies (bytes_of area (seen disk))
   pub at_rest : IsAtRest seen may_leave disk
+
+-- The blocks of these bodies were laid one after another from the area's start on, with a closed gate behind them, and its position is behind them.
+-- Where there is none, anything may stand there.
+pub record IsLaid (area : Area) (disk : List ℕ) (bodies : List (List ℕ)) : Type 0 where
+  pub position : position_of area ≡ length (row bodies)
+  pub holds : bodies ≢ [] → IsRow bodies (bytes_of area disk)
 
 -- a stop leaves each byte outside the area as it might have left it before
 abbrev pub LeavesElsewhere : (List ℕ → Type 0) → Area → List ℕ → Type 0

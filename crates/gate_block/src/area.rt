@@ -25,8 +25,8 @@ pub struct Area {
 impl Area {
     ghost use Rattle.disk_model.specs.Disk.{LeavesOnly, ReadsOnly, Rises, HasCause};
     ghost use Rattle.gate_block.specs.Row.{row, IsRow, IsBlockOf, SameOutside, Finds};
-    ghost use Rattle.gate_block.specs.Answers.{IsAppendAnswer, IsNextAnswer, IsReadError};
-    ghost use Rattle.gate_block.specs.Area.{base_of, size_of, position_of, has_failed, IsReady, HoldsRow, LeavesBlocks, LeavesElsewhere, bytes_of, body_in, IsDamage};
+    ghost use Rattle.gate_block.specs.Answers.{IsPlaceAnswer, IsAppendAnswer, IsNextAnswer, IsReadError};
+    ghost use Rattle.gate_block.specs.Area.{base_of, size_of, position_of, has_failed, IsReady, IsLaid, HoldsRow, LeavesBlocks, LeavesElsewhere, bytes_of, body_in, IsDamage};
 
     /// The area of so many bytes from the base on, whose next gate stands at that position of it. It has not failed.
     pub fn start(base: u64, size: u64, position: u64) -> Area
@@ -43,6 +43,33 @@ impl Area {
             position,
             failed: false,
         }
+    }
+
+    /// Where on the disk it begins.
+    pub fn base(&self) -> u64
+        ensures { result ≡ base_of self.now }
+    {
+        self.base
+    }
+
+    /// How many bytes it has.
+    pub fn size(&self) -> u64
+        ensures { result ≡ size_of self.now }
+    {
+        self.size
+    }
+
+    // Whether a block has its place at the next gate: refused Failed and then Full, as `append` says.
+    fn check_place(&self, block: &[u8]) -> Result<(), Refusal>
+        ensures { IsPlaceAnswer (has_failed self.now) (size_of self.now < position_of self.now + length block.now) result }
+    {
+        if self.failed {
+            return Err(Refusal::Failed);
+        }
+        if block.len() as u64 > self.size - self.position {
+            return Err(Refusal::Full);
+        }
+        Ok(())
     }
 
     // Writes a block behind its closed gate, and then opens the gate.
@@ -112,13 +139,47 @@ impl Area {
         ensures honest { D.is_honest disk.new → D.is_honest disk.old }
         ensures faults { D.fault_count disk.old ≤ D.fault_count disk.new }
     {
-        if self.failed {
-            return Err(Refusal::Failed);
-        }
-        if block.len() as u64 > self.size - self.position {
-            return Err(Refusal::Full);
-        }
+        self.check_place(block)?;
         if self.write_block(disk, block).is_err() {
+            self.failed = true;
+            return Err(Refusal::Fault);
+        }
+        self.position += block.len() as u64 - 1;
+        Ok(())
+    }
+
+    /// Lays a block at the next gate, with its gate open and the closed gate behind it, over whatever stands there. It is
+    /// one write, and no sync: the block is kept once the disk is synced.
+    ///
+    /// At `Ok` a read gives the blocks that were laid so far, the new one last, and the closed gate behind them. A stop at
+    /// any moment of the call leaves each byte outside the area as a stop could have left it before. It takes no memory.
+    ///
+    /// Refusals, in this order: `Failed` where the area has failed, and `Full` where the block ends behind the area's
+    /// end, both with everything as before; then `Fault`, after which the area has failed.
+    pub fn lay<D: Disk>(&mut self, disk: &mut D, block: &[u8]) -> Result<(), Refusal>
+        requires block { (body : List ℕ) × IsBlockOf body block.now }
+        requires disk { base_of self.old + size_of self.old ≤ length (D.seen disk.old) }
+        ensures answer { IsAppendAnswer (has_failed self.old) (has_failed self.new)
+            (size_of self.old < position_of self.old + length block.now)
+            (Rises (D.fault_count disk.old) (D.fault_count disk.new)) result }
+        ensures failed { IsErrOf result Refusal.Failed → (self.new ≡ self.old) × (disk.new ≡ disk.old) }
+        ensures full { IsErrOf result Refusal.Full → (self.new ≡ self.old) × (disk.new ≡ disk.old) }
+        ensures base { base_of self.new ≡ base_of self.old }
+        ensures size { size_of self.new ≡ size_of self.old }
+        ensures position { OnOk result (position_of self.new + 1 ≡ position_of self.old + length block.now) }
+        ensures position_err { OnErr result (position_of self.new ≡ position_of self.old) }
+        ensures laid { (bodies : List (List ℕ)) (body : List ℕ) → IsBlockOf body block.now →
+            IsLaid self.old (D.seen disk.old) bodies →
+            OnOk result (IsLaid self.new (D.seen disk.new) (bodies ++ body ∷ [])) }
+        ensures any_moment_elsewhere { LeavesOnly D.moment D.left_since disk.old disk.new
+            (LeavesElsewhere (D.may_leave disk.old) self.old) }
+        ensures elsewhere { SameOutside (base_of self.old) (size_of self.old)
+            (D.seen disk.old) (D.seen disk.new) }
+        ensures honest { D.is_honest disk.new → D.is_honest disk.old }
+        ensures faults { D.fault_count disk.old ≤ D.fault_count disk.new }
+    {
+        self.check_place(block)?;
+        if disk.write_at(self.base + self.position, block).is_err() {
             self.failed = true;
             return Err(Refusal::Fault);
         }

@@ -91,4 +91,43 @@ mod tests {
         assert_eq!(rt; disk.faults(), 1);
         Ok(())
     }
+
+    #[test]
+    fn a_block_is_laid_over_what_stood_there(rt: HostRuntime) -> Result<(), Fail> {
+        let alloc = rt.alloc();
+        let mut disk = MemDisk::new(alloc, 16)?;
+        assert!(rt; disk.write_at(4, &[0xA7; 12]).is_ok());
+        assert!(rt; disk.sync().is_ok());
+        let mut area = Area::start(4, 12, 0);
+        assert!(rt; area.lay(&mut disk, &BLOCK).is_ok());
+        assert!(rt; matches!(area.lay(&mut disk, &BLOCK), Err(Refusal::Full)));
+        let mut all = [0; 16];
+        assert!(rt; disk.read_at(0, &mut all).is_ok());
+        assert_eq!(rt;
+            all,
+            [
+                0, 0, 0, 0, 0xA7, 0, 0, 0, 2, 5, 6, 0, 0xA7, 0xA7, 0xA7, 0xA7
+            ]
+        );
+        // no sync reached it
+        let mut torn = disk.stop(&[(4, 9), (12, 9)]);
+        assert!(rt; torn.read_at(0, &mut all).is_ok());
+        assert_eq!(rt;
+            all,
+            [0, 0, 0, 0, 9, 0, 0, 0, 2, 5, 6, 0, 0xA7, 0xA7, 0xA7, 0xA7]
+        );
+        Ok(())
+    }
+
+    #[test]
+    fn a_fault_in_a_lay_fails_the_area(rt: HostRuntime) -> Result<(), Fail> {
+        let alloc = rt.alloc();
+        let mut disk = MemDisk::new(alloc, 16)?;
+        let mut area = Area::start(4, 12, 0);
+        disk.fail_at(1);
+        assert!(rt; matches!(area.lay(&mut disk, &BLOCK), Err(Refusal::Fault)));
+        assert!(rt; matches!(area.lay(&mut disk, &BLOCK), Err(Refusal::Failed)));
+        assert_eq!(rt; disk.faults(), 1);
+        Ok(())
+    }
 }

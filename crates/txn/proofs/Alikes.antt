@@ -1,5 +1,5 @@
 -- Steps from states that are alike lead to states that are alike.
-use Rattle.std.proofs.Common.{◌≡◌, ℕ, ◌+◌, inl, inr, ⊎_elim, false, true, Option, Result, Ok, Err, List, [], ◌∷◌, ◌++◌, map, refl, sym, ◌∙◌, ap, subst}
+use Rattle.std.proofs.Common.{◌≡◌, ℕ, ◌+◌, inl, inr, ⊎_elim, false, true, Option, Result, Ok, Err, List, [], ◌∷◌, ◌++◌, length, map, refl, sym, ◌∙◌, ap, subst}
 use Rattle.std.specs.Prelude.{◌↔◌, Contains, Bool}
 use Rattle.std.specs.FinMap as maps
 use Rattle.std.proofs.lemmas.List.Elements.{All-contains, Contains-get_or}
@@ -8,7 +8,7 @@ use Rattle.calls.specs.declared.call.Call.{Call}
 use Rattle.calls.specs.declared.reply.Reply.{Reply}
 use Rattle.calls.specs.declared.need.Need.{Need}
 use Rattle.calls.specs.declared.refusal.Refusal.{Refusal}
-use Rattle.calls.specs.Transactions.{Event, Entry, Asked, Leads, calls_of, others}
+use Rattle.calls.specs.Transactions.{Event, Entry, Asked, PutOff, Leads, calls_of, laters_of, own, others}
 use Rattle.abstract_locks.specs.declared.table.Hold.{Hold}
 use Rattle.abstract_locks.specs.Holds.{hold, Blocks, IsClear, IsAdded, IsGivenUp}
 use Rattle.undo_log.specs.Logs.{fallen}
@@ -20,6 +20,7 @@ use Rattle.txn.specs.Sound.{IsSound}
 use Rattle.txn.specs.Theory.Rules.{RuleLaws}
 use Rattle.txn.specs.Theory.Collections.{collection_rules}
 use Rattle.txn.proofs.Undone.{newest_once}
+use Rattle.txn.proofs.Running.{leads_once}
 use Rattle.txn.proofs.Steps as steps
 
 -- ---- needs in another order
@@ -76,11 +77,6 @@ module _ {S : Type 0} where
       ∙ ap (λ v. let t : State S = record { now = s.now; live = s.live; entries = s.entries; holds = u.holds; wear = v } in t) like.wear
 
 module _ {S : Type 0} (answers : S → ℕ → Call → Reply → Type 0) (leaves : S → ℕ → Call → Reply → S) where
-  -- Calls one after another have one end.
-  leads_once : (es : List Event) (c s t : S) → Leads (Does answers leaves) es c s → Leads (Does answers leaves) es c t → s ≡ t
-  leads_once [] c s t w v = sym w ∙ v
-  leads_once (e ∷ es) c s t w v = leads_once es w.0 s t w.2 (subst (λ m. Leads (Does answers leaves) es m t) (v.1.1 ∙ sym w.1.1) v.2)
-
   module _ (belongs : S → ℕ → Call → Type 0) (names : S → List (List ℕ)) (makes : S → List ℕ → Kind → S → Type 0) (need : Call → Reply → Need) (inverse : Call → Reply → Option Call) where
     abbrev Takes : State S → Record → State S → Type 0
     Takes s r t = Steps answers leaves belongs names makes need inverse s r t
@@ -110,7 +106,7 @@ module _ {S : Type 0} (answers : S → ℕ → Call → Reply → Type 0) (leave
             asked = row.can.asked;
             few = row.can.few;
             answered = row.can.answered;
-            at_once = row.can.at_once;
+            once = row.can.once;
             clear = clear_there hs s.holds same c.number c.collection (need c.call c.reply) row.can.clear;
           };
           room = row.room;
@@ -119,7 +115,27 @@ module _ {S : Type 0} (answers : S → ℕ → Call → Reply → Type 0) (leave
         },
         alike_self v,
       )
-      taken_there (Record.Commit n) v row = (v, record { running = running_there n row.running; left = out_there n v row.left }, alike_self v)
+      taken_there (Record.Later l) v row = (
+        v,
+        record {
+          can = record {
+            running = running_there l.number row.can.running;
+            put_off = row.can.put_off;
+            few = row.can.few;
+            ready = row.can.ready;
+            clear = clear_there hs s.holds same l.number l.collection (need l.call Reply.Done) row.can.clear;
+          };
+          room = row.room;
+          holds = added_there hs s.holds same v.holds (hold l.number l.collection (need l.call Reply.Done)) row.holds;
+          is = row.is;
+        },
+        alike_self v,
+      )
+      taken_there (Record.Commit n) v row = (
+        v,
+        record { running = running_there n row.running; next = row.next; runs = row.runs; left = record { holds = left_there hs s.holds same v.holds n row.left.holds; is = row.left.is } },
+        alike_self v,
+      )
       taken_there (Record.Back n) v row =
           let t : State S = record s { now = row.next; live = fallen s.live n; entries = row.rest; wear = s.wear + 1 } in
           (t, record { live = row.live; call = row.call; rest = row.rest; newest = row.newest; next = row.next; undoes = row.undoes; is = refl }, subst (λ x. Alike x t) (sym row.is) (same_alike t hs s.holds same))
@@ -149,7 +165,7 @@ module _ {S : Type 0} (answers : S → ℕ → Call → Reply → Type 0) (leave
           let calls : List (ℕ × Entry) → List Event = λ es. calls_of (map (λ e. e.1) es) in
           let there : Leads (Does answers leaves) (calls a.rest) sound.content a.next = subst (λ (x : State S). Leads (Does answers leaves) (calls x.entries) sound.content x.now) a.is first in
           let here : Leads (Does answers leaves) (calls b.rest) sound.content b.next = subst (λ (x : State S). Leads (Does answers leaves) (calls x.entries) sound.content x.now) b.is second in
-          let nexts : a.next ≡ b.next = leads_once (calls a.rest) sound.content a.next b.next there (subst (λ l. Leads (Does answers leaves) (calls l) sound.content b.next) (sym rests) here) in
+          let nexts : a.next ≡ b.next = leads_once answers leaves (calls a.rest) sound.content a.next b.next there (subst (λ l. Leads (Does answers leaves) (calls l) sound.content b.next) (sym rests) here) in
           a.is
           ∙ ap (λ v. let x : State S = record { now = v; live = fallen s.live n; entries = a.rest; holds = s.holds; wear = s.wear + 1 } in x) nexts
           ∙ ap (λ v. let x : State S = record { now = b.next; live = fallen s.live n; entries = v; holds = s.holds; wear = s.wear + 1 } in x) rests
@@ -166,7 +182,15 @@ module _ {S : Type 0} (answers : S → ℕ → Call → Reply → Type 0) (leave
           let called : List Hold → State S = λ hs. record { now = leaves s.now e.at e.call e.reply; live = s.live; entries = s.entries ++ (c.number, Asked e) ∷ []; holds = hs; wear = s.wear + 1 } in
           subst (λ x. Alike x w) (sym a.is) (subst (λ x. Alike (called t.holds) x) (sym b.is)
           (same_alike (called t.holds) t.holds w.holds (added_same s.holds t.holds w.holds (hold c.number e.at (need e.call e.reply)) a.holds b.holds)))
-      step_once (Record.Commit n) t w a b = out_once n t w a.left b.left
+      step_once (Record.Later l) t w a b =
+          let put : List Hold → State S = λ hs. record { now = s.now; live = s.live; entries = s.entries ++ (l.number, PutOff l.collection l.call) ∷ []; holds = hs; wear = s.wear + 1 } in
+          subst (λ x. Alike x w) (sym a.is) (subst (λ x. Alike (put t.holds) x) (sym b.is)
+          (same_alike (put t.holds) t.holds w.holds (added_same s.holds t.holds w.holds (hold l.number l.collection (need l.call Reply.Done)) a.holds b.holds)))
+      step_once (Record.Commit n) t w a b =
+          let nexts : a.next ≡ b.next = leads_once answers leaves (laters_of (own n s.entries)) s.now a.next b.next a.runs b.runs in
+          let out : S → List Hold → State S = λ now hs. record { now = now; live = maps.remove s.live n; entries = others n s.entries; holds = hs; wear = s.wear + length (laters_of (own n s.entries)) } in
+          subst (λ x. Alike x w) (sym a.left.is) (subst (λ x. Alike (out a.next t.holds) x) (sym b.left.is)
+          (subst (λ v. Alike (out a.next t.holds) (out v w.holds)) nexts (same_alike (out a.next t.holds) t.holds w.holds (left_same s.holds t.holds w.holds n a.left.holds b.left.holds))))
       step_once (Record.Back n) t w a b = same_state t w (back_once n t w a b)
       step_once (Record.Ended n) t w a b = out_once n t w a.left b.left
       step_once other t w a b = absurd a

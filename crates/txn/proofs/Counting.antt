@@ -1,11 +1,15 @@
 -- How many entries so many live transactions have at most.
-use Rattle.std.proofs.Common.{◌≡◌, ℕ, suc, ◌+◌, ◌*◌, ◌≤◌, ◌==◌, Bool, true, false, not, cond, nat_lt, Less, Equal, Greater, ◌||◌, inl, inr, ⊎_elim, List, [], ◌∷◌, length, refl, sym, ◌∙◌, ap, subst, arith, eqb-true}
+use Rattle.std.proofs.Common.{◌≡◌, ℕ, suc, ◌+◌, ◌*◌, ◌≤◌, ◌==◌, Bool, true, false, not, cond, nat_lt, Less, Equal, Greater, ◌||◌, inl, inr, ⊎_elim, List, [], ◌∷◌, map, length, refl, sym, ◌∙◌, ap, subst, arith, eqb-true}
 use Rattle.std.specs.List.{AllByRecursion, list_any}
 use Rattle.std.specs.Ordering.{is_eq, nat_cmp, eq_by_cmp}
 use Rattle.std.specs.FinMap as maps
 use Rattle.std.proofs.lemmas.Bool.{cases_eq}
-use Rattle.std.proofs.lemmas.List.{length-map}
-use Rattle.calls.specs.Transactions.{Entry, own}
+use Rattle.std.proofs.lemmas.List.{length-map, length-append}
+use Rattle.calls.specs.declared.call.Call.{Call}
+use Rattle.calls.specs.declared.reply.Reply.{Reply}
+use Rattle.calls.specs.Laters.{left_by}
+use Rattle.calls.specs.Transactions.{Event, Entry, Asked, PutOff, own, others, laters_of}
+use Rattle.calls.proofs.LaterLaws.{leaves_one}
 use Rattle.undo_log.specs.Logs.{Statuses, Lives}
 use Rattle.boosted.specs.Runs as runs
 use Rattle.boosted.proofs.Each.{weaker, differ, not_true}
@@ -22,6 +26,22 @@ one_more false e mine theirs = omega arith
 pub parted : (n : ℕ) (es : List (ℕ × Entry)) → length es ≡ length (runs.own number n es) + length (runs.others number n es)
 parted n [] = refl
 parted n (e ∷ es) = ap suc (parted n es) ∙ sym (one_more (e.0 == n) e (runs.own number n es) (runs.others number n es))
+
+-- how many a number has, and all others
+pub own_and_others : (n : ℕ) (es : List (ℕ × Entry)) → length es ≡ length (own n es) + length (others n es)
+own_and_others n es = let all = parted n es in let mine = length-map (runs.own number n es) (λ e. e.1) in omega arith
+
+-- An entry puts off one call at most.
+pub few_laters : (es : List Entry) → length (laters_of es) ≤ length es
+few_laters [] = omega arith
+few_laters (Asked e ∷ es) =
+    let later : Call → Event = λ c. record { at = e.at; call = c; reply = Reply.Done } in
+    let both = length-append (map later (left_by e.call e.reply)) (laters_of es) in
+    let same = length-map (left_by e.call e.reply) later in
+    let one = leaves_one e.call e.reply in
+    let more = few_laters es in
+    omega arith
+few_laters (PutOff at c ∷ es) = let more = few_laters es in omega arith
 
 count : (ks : List ℕ) (es : List (ℕ × Entry)) → AllByRecursion (λ e. Has ks e.0) es → ((n : ℕ) → length (runs.own number n es) ≤ 1024) → length es ≤ length ks * 1024
 count [] [] inside few = omega arith

@@ -14,14 +14,15 @@ use Rattle.boosted.proofs.Each.{each_append, each_back}
 use Rattle.records.specs.declared.record.Record.{Record}
 use Rattle.records.specs.Acts.{places}
 use Rattle.records.specs.Records.{IsRecord, IsNumber}
-use Rattle.txn.specs.Machine.{State, IsLeft, BeginRow, CommitRow, EndedRow, FallRow, MakeRow, CallRow, BackRow}
-use Rattle.txn.specs.Books.{BookState, opened, Appends, AppendsTo, CutAnswers, record_of, IsKept}
+use Rattle.records.proofs.CallRecords.{later_is_record}
+use Rattle.txn.specs.Machine.{State, BeginRow, CommitRow, EndedRow, FallRow, MakeRow, CallRow, LaterRow, BackRow}
+use Rattle.txn.specs.Books.{BookState, opened, Appends, AppendsTo, CutAnswers, record_of, later_record, IsKept}
 use Rattle.txn.specs.Machines.{IsUpheld}
 use Rattle.txn.specs.declared.block.Block.{Block}
 use Rattle.txn.specs.Sound.{IsSound}
 use Rattle.txn.proofs.Statuses.{nobody, lives_more, lives_fewer}
 use Rattle.txn.proofs.BookLaws.{BookLaws}
-use Rattle.txn.proofs.Upheld.{make_names, make_upheld, begin_upheld, call_names, call_upheld, commit_upheld, ended_upheld, fallen_lives, back_names, back_upheld, fall_upheld, resting_upheld}
+use Rattle.txn.proofs.Upheld.{make_names, make_upheld, begin_upheld, call_names, call_upheld, later_names, later_upheld, commit_names, commit_upheld, ended_upheld, fallen_lives, back_names, back_upheld, fall_upheld, resting_upheld}
 use Rattle.txn.proofs.Sizes.{append_length, len_begun, len_fallen, len_left, pushed_length, places_append, one_place}
 
 -- the records of a transaction's number
@@ -121,23 +122,35 @@ module _ {S : Type 0} (answers : S → ℕ → Call → Reply → Type 0) (leave
         (call_upheld answers leaves makes need inverse belongs names within short laws b.state kept.upheld n e c.state row)
         (λ k there. subst (λ (v : State S). Lives v.live k) row.is there) (omega arith)
 
-    -- a transaction is over
-    left_keeps : (r : Record) (n : ℕ) (c : BookState S) → Lives b.state.live n → IsLeft b.state n c.state → AppendsTo b r c → IsRecord None r → IsUpheld names within short Sound c.state → Kept c
-    left_keeps r n c lives left to is_record upheld =
-        let fewer = len_left b.state.live n lives in
-        let live = ap (λ (v : State S). maps.len v.live) left.is in
-        let wear = ap (λ (v : State S). v.wear) left.is in
-        let same_names = ap (λ (v : State S). length (names v.now)) left.is in
-        keep_next r c to is_record upheld (λ k there. ((lives_fewer b.state.live n k).1 (subst (λ (v : State S). Lives v.live k) left.is there)).0) (omega arith)
+    pub later_keeps : (n at : ℕ) (call : Call) (c : BookState S) → LaterRow answers leaves belongs need b.state n at call c.state → AppendsTo b (later_record n at call) c → at < 256 → Kept c
+    later_keeps n at call c row to few =
+        let live = ap (λ (v : State S). maps.len v.live) row.is in
+        let wear = ap (λ (v : State S). v.wear) row.is in
+        let same_names = later_names answers leaves makes need inverse belongs names within short laws b.state kept.upheld n at call c.state row in
+        keep_next (later_record n at call) c to (later_is_record None n at call (kept.upheld.numbers n row.can.running.live) few row.can.put_off.1)
+        (later_upheld answers leaves makes need inverse belongs names within short laws b.state kept.upheld n at call c.state row)
+        (λ k there. subst (λ (v : State S). Lives v.live k) row.is there) (omega arith)
 
-    pub commit_keeps : (n : ℕ) (c : BookState S) → CommitRow b.state n c.state → AppendsTo b (Record.Commit n) c → Kept c
+    -- a transaction is over
+    left_keeps : (r : Record) (n : ℕ) (c : BookState S) → Lives b.state.live n → c.state.live ≡ maps.remove b.state.live n → b.state.wear ≤ c.state.wear → length (names c.state.now) ≡ length (names b.state.now) →
+        AppendsTo b r c → IsRecord None r → IsUpheld names within short Sound c.state → Kept c
+    left_keeps r n c lives left wear same_names to is_record upheld =
+        let fewer = len_left b.state.live n lives in
+        let live = ap (λ l. maps.len l) left in
+        keep_next r c to is_record upheld (λ k there. ((lives_fewer b.state.live n k).1 (subst (λ l. Lives l k) left there)).0) (omega arith)
+
+    pub commit_keeps : (n : ℕ) (c : BookState S) → CommitRow answers leaves b.state n c.state → AppendsTo b (Record.Commit n) c → Kept c
     commit_keeps n c row to =
-        left_keeps (Record.Commit n) n c row.running.live row.left to (commit_is_record n (kept.upheld.numbers n row.running.live))
+        let wear = ap (λ (v : State S). v.wear) row.left.is in
+        left_keeps (Record.Commit n) n c row.running.live (ap (λ (v : State S). v.live) row.left.is) (omega arith)
+        (commit_names answers leaves makes need inverse belongs names within short laws b.state kept.upheld n c.state row) to (commit_is_record n (kept.upheld.numbers n row.running.live))
         (commit_upheld answers leaves makes need inverse belongs names within short laws b.state kept.upheld n c.state row)
 
     pub ended_keeps : (n : ℕ) (c : BookState S) → EndedRow b.state n c.state → AppendsTo b (Record.Ended n) c → Kept c
     ended_keeps n c row to =
-        left_keeps (Record.Ended n) n c row.live row.left to (ended_is_record n (kept.upheld.numbers n row.live))
+        let is = row.left.is in
+        let wear = ap (λ (v : State S). v.wear) is in
+        left_keeps (Record.Ended n) n c row.live (ap (λ (v : State S). v.live) is) (omega arith) (ap (λ (v : State S). length (names v.now)) is) to (ended_is_record n (kept.upheld.numbers n row.live))
         (ended_upheld answers leaves makes need inverse belongs names within short laws b.state kept.upheld n c.state row)
 
     pub back_keeps : (n : ℕ) (c : BookState S) → BackRow answers leaves inverse b.state n c.state → AppendsTo b (Record.Back n) c → Kept c

@@ -1,6 +1,8 @@
 pub mod Theory
 pub mod Statuses
 pub mod Owned
+pub mod Going
+pub mod Running
 pub mod Shown
 pub mod Steps
 pub mod Counting

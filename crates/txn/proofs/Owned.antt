@@ -1,6 +1,6 @@
 -- Entries with their numbers, as the theory has them.
 use Rattle.std.proofs.Common.{◌≡◌, ℕ, ◌==◌, Bool, true, false, not, cond, List, [], ◌∷◌, ◌++◌, map, refl, ◌∙◌, ap}
-use Rattle.std.specs.List.{filter, AllByRecursion}
+use Rattle.std.specs.List.{filter}
 use Rattle.std.proofs.lemmas.List.{map-append}
 use Rattle.calls.specs.declared.call.Call.{Call}
 use Rattle.calls.specs.declared.reply.Reply.{Reply}
@@ -9,11 +9,11 @@ use Rattle.calls.specs.Transactions as transactions
 use Rattle.calls.specs.Transactions.{Leads, Event, Entry, Asked, PutOff, calls_of, laters_of, own}
 use Rattle.undo_log.specs.Entries as log
 use Rattle.boosted.specs.Runs as runs
-use Rattle.boosted.proofs.Each.{each_filter, differ}
+use Rattle.boosted.proofs.Each.{differ}
 use Rattle.txn.specs.Theory.Journal as journal
 use Rattle.txn.specs.Theory.Machine as theory
 use Rattle.txn.specs.Theory.Collections.{later_of}
-use Rattle.txn.specs.Sound.{owned, all_owned, IsAtOnce}
+use Rattle.txn.specs.Sound.{owned, all_owned}
 
 abbrev pub owner : ℕ × Event → ℕ
 owner e = e.0
@@ -67,17 +67,9 @@ own_owned n es = filter_owned (λ m. m == n) es
 pub others_owned : (n : ℕ) (es : List (ℕ × Entry)) → runs.others (journal.asker owner) n (all_owned es) ≡ all_owned (transactions.others n es)
 others_owned n es = filter_owned (λ m. not (m == n)) es
 
--- nothing is put off where each entry is a call that leaves nothing
-no_left : (e : ℕ × Event) (cs : List Call) → cs ≡ [] → map (later_of e) cs ≡ []
-no_left e cs none = ap (map (later_of e)) none
-
-at_once_laters : (es : List (ℕ × Entry)) → AllByRecursion (λ e. IsAtOnce e.1) es → journal.laters left (all_owned es) ≡ []
-at_once_laters [] a = refl
-at_once_laters ((n, Asked e) ∷ es) a = ap (λ l. l ++ journal.laters left (all_owned es)) (no_left (n, e) (left_by e.call e.reply) a.0) ∙ at_once_laters es a.1
-at_once_laters ((n, PutOff at c) ∷ es) a = absurd a.0
-
-pub nothing_later : (n : ℕ) (es : List (ℕ × Entry)) → AllByRecursion (λ e. IsAtOnce e.1) es → journal.laters left (runs.own (journal.asker owner) n (all_owned es)) ≡ []
-nothing_later n es a = ap (journal.laters left) (own_owned n es) ∙ at_once_laters (filter (λ e. e.0 == n) es) (each_filter (λ e. IsAtOnce e.1) (λ e. e.0 == n) es a)
+-- what one number put off
+pub own_laters : (n : ℕ) (os : List (journal.Entry (ℕ × Event))) (es : List (ℕ × Entry)) → os ≡ all_owned es → journal.laters left (runs.own (journal.asker owner) n os) ≡ journal.laters left (all_owned (filter (λ e. e.0 == n) es))
+own_laters n os es is = ap (λ l. journal.laters left (runs.own (journal.asker owner) n l)) is ∙ ap (journal.laters left) (own_owned n es)
 
 -- a number without a call
 none_by : (n k : ℕ) (b : Bool) (e : Event) (us : List (ℕ × Entry)) → (k == n) ≡ b → calls_of (map (λ e. e.1) (cond b ((k, Asked e) ∷ us) us)) ≡ [] → (k ≡ n → ⊥) × (calls_of (map (λ e. e.1) us) ≡ [])

@@ -9,7 +9,7 @@ use Rattle.calls.specs.declared.reply.Reply.{Reply}
 use Rattle.calls.specs.declared.need.Need.{Need}
 use Rattle.calls.specs.declared.refusal.Refusal.{Refusal}
 use Rattle.calls.specs.Contents.{Collection, AnswersAt, after_at}
-use Rattle.calls.specs.Transactions.{Entry, Asked, Leads, Transaction, Whole, Act, Makes, Serial, own, others, gather, commits, committed_after, committed}
+use Rattle.calls.specs.Transactions.{Entry, Asked, PutOff, Leads, Transaction, Whole, Act, Makes, Serial, laters_of, own, others, gather, commits, committed_after, committed}
 use Rattle.boosted.proofs.Each.{weaker}
 use Rattle.boosted.proofs.Runs.{Leads-append}
 use Rattle.undo_log.specs.Logs.{Statuses, Lives, Falls, fallen}
@@ -17,8 +17,8 @@ use Rattle.records.specs.declared.record.Record.{Record}
 use Rattle.records.specs.Acts.{event_of, acts_of_record, acts_of}
 use Rattle.txn.specs.Machine.{State, IsSettled, IsRunning, IsLeft, BeginRow, FallRow, Steps}
 use Rattle.txn.specs.Machines.{resting}
-use Rattle.txn.specs.Books.{BookState, record_of}
-use Rattle.txn.specs.Histories.{Step, Make, Enter, Ask, Commit, Back, Ended, Cut, acts_of_step, RunsWhole, Acts, IsLegal, ComesTo}
+use Rattle.txn.specs.Books.{BookState, record_of, later_record}
+use Rattle.txn.specs.Histories.{Step, Make, Enter, Ask, Later, Commit, Back, Ended, Cut, acts_of_step, RunsWhole, Acts, IsLegal, ComesTo}
 use Rattle.txn.specs.Sound.{IsSound}
 use Rattle.txn.specs.Theory.Rules.{RuleLaws}
 use Rattle.txn.specs.Theory.Collections.{collection_rules}
@@ -120,6 +120,12 @@ module _ {S : Type 0} (answers : S → ℕ → Call → Reply → Type 0) (leave
     same_entries t live entries n run =
         tells n (record { live = subst (λ v. Lives v n) live run.live; standing = λ falls. run.standing (subst (λ v. Falls v n) (sym live) falls) }) ∙ sym (ap (own n) entries)
 
+    -- a number asks for one thing more
+    tells_asked : (n : ℕ) (x : Entry) (t : State S) → t.live ≡ s.live → t.entries ≡ s.entries ++ (n, x) ∷ [] → Tells (es ++ (n, x) ∷ []) t
+    tells_asked n x t live entries k run =
+        let before = tells k (record { live = subst (λ v. Lives v k) live run.live; standing = λ falls. run.standing (subst (λ v. Falls v k) (sym live) falls) }) in
+        own_append k es ((n, x) ∷ []) ∙ ap (λ l. l ++ own k ((n, x) ∷ [])) before ∙ sym (own_append k s.entries ((n, x) ∷ [])) ∙ sym (ap (own k) entries)
+
     -- a number falls
     tells_fallen : (n : ℕ) (t : State S) → Lives s.live n → t.live ≡ fallen s.live n → ((k : ℕ) → (n ≡ k → ⊥) → own k s.entries ≡ own k t.entries) → Tells es t
     tells_fallen n t lives live_is rest k run =
@@ -148,25 +154,26 @@ module _ {S : Type 0} (answers : S → ℕ → Call → Reply → Type 0) (leave
           runs = refl;
           settled = steps.begin_settles answers leaves makes need inverse laws s sound n t d row settled;
         }
-    one_step (Record.Call c) t row =
-        let n = c.number in
-        let e = event_of c in
-        let before : (k : ℕ) → IsRunning t k → own k es ≡ own k s.entries = λ k run. tells k (record {
-          live = subst (λ v. Lives v k) (ap (λ v. v.live) row.is) run.live;
-          standing = λ falls. run.standing (subst (λ v. Falls v k) (sym (ap (λ v. v.live) row.is)) falls);
-        }) in
-        record {
-          sound = steps.call_sound answers leaves makes need inverse laws s sound belongs n e t row;
-          tells = λ k run. own_append k es ((n, Asked e) ∷ []) ∙ ap (λ l. l ++ own k ((n, Asked e) ∷ [])) (before k run) ∙ sym (own_append k s.entries ((n, Asked e) ∷ [])) ∙ sym (ap (λ v. own k v.entries) row.is);
-          content = d;
-          runs = refl;
-          settled = steps.call_settles answers leaves makes need inverse laws s sound belongs n e t d row settled;
-        }
+    one_step (Record.Call c) t row = record {
+      sound = steps.call_sound answers leaves makes need inverse laws s sound belongs c.number (event_of c) t row;
+      tells = tells_asked c.number (Asked (event_of c)) t (ap (λ v. v.live) row.is) (ap (λ v. v.entries) row.is);
+      content = d;
+      runs = refl;
+      settled = steps.call_settles answers leaves makes need inverse laws s sound belongs c.number (event_of c) t d row settled;
+    }
+    one_step (Record.Later l) t row = record {
+      sound = steps.later_sound answers leaves makes need inverse laws s sound belongs l.number l.collection l.call t row;
+      tells = tells_asked l.number (PutOff l.collection l.call) t (ap (λ v. v.live) row.is) (ap (λ v. v.entries) row.is);
+      content = d;
+      runs = refl;
+      settled = steps.later_settles answers leaves makes need inverse laws s sound belongs l.number l.collection l.call t d row settled;
+    }
     one_step (Record.Commit n) t row =
         let run = steps.commit_settles answers leaves makes need inverse laws s sound n t d row settled in
+        let done = record s { now = row.next; wear = s.wear + length (laters_of (own n s.entries)) } in
         record {
           sound = steps.commit_sound answers leaves makes need inverse laws s sound n t row;
-          tells = λ k running. tells_left s es tells n k t row.left running;
+          tells = λ k running. tells_left done es (same_entries done refl refl) n k t row.left running;
           content = run.0;
           runs = (run.0, subst (λ l. RunsWhole answers leaves makes d (Whole l) run.0) (sym (tells n row.running)) run.1, refl);
           settled = run.2;
@@ -231,6 +238,8 @@ module _ {S : Type 0} (answers : S → ℕ → Call → Reply → Type 0) (leave
     one (Enter n (Err e)) c acts = refused c acts.0
     one (Ask n at call (Ok reply)) c acts = recorded (record_of inverse n (record { at = at; call = call; reply = reply })) c acts.0 (ap (λ v. v.places) acts.2.appends.is)
     one (Ask n at call (Err e)) c acts = refused c acts.0
+    one (Later n at call (Ok done)) c acts = recorded (later_record n at call) c acts.0 (ap (λ v. v.places) acts.2.appends.is)
+    one (Later n at call (Err e)) c acts = refused c acts.0
     one (Commit n (Ok place)) c acts = recorded (Record.Commit n) c acts.0 (ap (λ v. v.places) acts.1.appends.is)
     one (Commit n (Err e)) c acts = refused c acts.0
     one (Back n (Ok true)) c acts = recorded (Record.Back n) c acts.0 (ap (λ v. v.places) acts.1.appends.is)

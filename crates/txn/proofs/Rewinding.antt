@@ -10,7 +10,7 @@ use Rattle.calls.specs.declared.kind.Kind.{Kind}
 use Rattle.calls.specs.declared.call.Call.{Call}
 use Rattle.calls.specs.declared.reply.Reply.{Reply}
 use Rattle.calls.specs.declared.need.Need.{Need}
-use Rattle.calls.specs.Transactions.{Entry, Asked, PutOff, own, calls_of}
+use Rattle.calls.specs.Transactions.{Entry, Asked, PutOff, own, calls_of, laters_of}
 use Rattle.undo_log.specs.Logs.{Lives}
 use Rattle.records.specs.declared.record.Record.{Record}
 use Rattle.txn.specs.Machine.{State, IsLeft, BackRow, Steps}
@@ -94,19 +94,22 @@ module _ {S : Type 0} (answers : S → ℕ → Call → Reply → Type 0) (leave
       let fewer = rest_length s.entries new.before (n, Asked row.call) new.after row.rest new.is new.rest_is in
       omega arith
 
--- how much a record wears
-abbrev pub worn_by : Record → ℕ
-worn_by (Record.Begin n) = 1
-worn_by (Record.Call c) = 1
-worn_by (Record.Back n) = 1
-worn_by other = 0
+-- how much a record wears: a commit by each call that was put off
+abbrev pub worn_by : List (ℕ × Entry) → Record → ℕ
+worn_by es (Record.Begin n) = 1
+worn_by es (Record.Call c) = 1
+worn_by es (Record.Later l) = 1
+worn_by es (Record.Commit n) = length (laters_of (own n es))
+worn_by es (Record.Back n) = 1
+worn_by es other = 0
 
 pub step_wear : {S : Type 0} (answers : S → ℕ → Call → Reply → Type 0) (leaves : S → ℕ → Call → Reply → S) (belongs : S → ℕ → Call → Type 0) (names : S → List (List ℕ)) (makes : S → List ℕ → Kind → S → Type 0) (need : Call → Reply → Need) (inverse : Call → Reply → Option Call)
-    (s : State S) (r : Record) (t : State S) → Steps answers leaves belongs names makes need inverse s r t → t.wear ≡ s.wear + worn_by r
+    (s : State S) (r : Record) (t : State S) → Steps answers leaves belongs names makes need inverse s r t → t.wear ≡ s.wear + worn_by s.entries r
 step_wear answers leaves belongs names makes need inverse s (Record.Make kind name) t row = let is = ap (λ v. v.wear) row.is in omega arith
 step_wear answers leaves belongs names makes need inverse s (Record.Begin n) t row = ap (λ v. v.wear) row.is
 step_wear answers leaves belongs names makes need inverse s (Record.Call c) t row = ap (λ v. v.wear) row.is
-step_wear answers leaves belongs names makes need inverse s (Record.Commit n) t row = let is = ap (λ v. v.wear) row.left.is in omega arith
+step_wear answers leaves belongs names makes need inverse s (Record.Later l) t row = ap (λ v. v.wear) row.is
+step_wear answers leaves belongs names makes need inverse s (Record.Commit n) t row = ap (λ v. v.wear) row.left.is
 step_wear answers leaves belongs names makes need inverse s (Record.Back n) t row = ap (λ v. v.wear) row.is
 step_wear answers leaves belongs names makes need inverse s (Record.Ended n) t row = let is = ap (λ v. v.wear) row.left.is in omega arith
 step_wear answers leaves belongs names makes need inverse s other t row = absurd row

@@ -1,7 +1,7 @@
 -- Each row of the machine is a row of the theory's machine.
-use Rattle.std.proofs.Common.{◌≡◌, ℕ, ◌==◌, not, ◌⊎◌, inl, inr, ⊎_elim, Option, true, false, List, [], ◌∷◌, ◌++◌, map, refl, sym, ◌∙◌, ap, subst}
+use Rattle.std.proofs.Common.{◌≡◌, ℕ, ◌==◌, not, ◌⊎◌, inl, inr, ⊎_elim, Option, true, false, List, [], ◌∷◌, ◌++◌, refl, sym, ◌∙◌, ap, subst}
 use Rattle.std.specs.Prelude.{◌↔◌, Contains}
-use Rattle.std.specs.List.{AllByRecursion}
+use Rattle.std.specs.List.{filter, AllByRecursion}
 use Rattle.std.specs.FinMap as maps
 use Rattle.std.proofs.lemmas.List.{map-append}
 use Rattle.std.proofs.lemmas.List.Elements.{All-contains}
@@ -9,23 +9,25 @@ use Rattle.calls.specs.declared.kind.Kind.{Kind}
 use Rattle.calls.specs.declared.call.Call.{Call}
 use Rattle.calls.specs.declared.reply.Reply.{Reply}
 use Rattle.calls.specs.declared.need.Need.{Need}
-use Rattle.calls.specs.Transactions.{Event, Asked, Leads}
+use Rattle.calls.specs.Needs.{Conflict}
+use Rattle.calls.specs.Transactions.{Event, Asked, PutOff, Leads}
 use Rattle.abstract_locks.specs.declared.table.Hold.{Hold}
-use Rattle.abstract_locks.specs.Holds.{hold, Blocks}
+use Rattle.abstract_locks.specs.Holds.{hold, Blocks, IsClear}
 use Rattle.undo_log.specs.Logs.{Lives, Falls, fallen}
 use Rattle.boosted.specs.Runs as runs
 use Rattle.boosted.specs.Shape as shape
 use Rattle.boosted.proofs.Each.{differ, not_true}
-use Rattle.txn.specs.Machine.{State, IsLeft, BeginRow, CommitRow, EndedRow, FallRow, MakeRow, CallRow, BackRow}
+use Rattle.txn.specs.Machine.{State, Does, IsLeft, BeginRow, CommitRow, EndedRow, FallRow, MakeRow, CallRow, LaterRow, BackRow}
 use Rattle.txn.specs.Theory.Rules.{Rules, Has, Lacks}
 use Rattle.txn.specs.Theory.Journal as journal
 use Rattle.txn.specs.Theory.Machine as theory
 use Rattle.txn.specs.Theory.Images.{FallsRow}
-use Rattle.txn.specs.Theory.Collections.{collection_rules, later_of}
-use Rattle.txn.specs.Sound.{owned, all_owned, Shows, IsAtOnce}
+use Rattle.txn.specs.Theory.Collections.{collection_rules}
+use Rattle.txn.specs.Sound.{owned, all_owned, Shows}
 use Rattle.txn.proofs.Theory.Lists.{every, filter_has, has_filter, has_left, has_right, append_has, without_has, has_without, kept_true}
 use Rattle.txn.proofs.Statuses.{fallen_is, lives_more, falls_more, falls_fresh, lives_fewer, falls_fewer}
-use Rattle.txn.proofs.Owned.{owner, others_owned, nothing_later, no_call, newest_call}
+use Rattle.txn.proofs.Owned.{owner, left, leads_back, laters_are, own_laters, others_owned, no_call, newest_call}
+use Rattle.txn.proofs.Going.{left_once}
 
 module _ {S : Type 0} (s : State S) (m : theory.State S (ℕ × Event) Hold) (shows : Shows s m) (n : ℕ) where
   -- one number more falls
@@ -103,6 +105,10 @@ module _ {S : Type 0} (answers : S → ℕ → Call → Reply → Type 0) (leave
           ((more h).0 i),
     )
 
+    -- no need that another number holds is in the way
+    clear_here : (n at : ℕ) (want : Need) → IsClear s.holds n at want → AllByRecursion (λ k. (k.owner ≡ n → ⊥) → k.at ≡ at → Conflict k.need want → ⊥) m.needs
+    clear_here n at want clear = every _ m.needs (λ k held other same conflict. All-contains (λ h. Blocks n at want h → ⊥) s.holds k clear ((shows.needs k).0 held) (other, same, conflict))
+
     pub call_follows : (belongs : S → ℕ → Call → Type 0) (n : ℕ) (e : Event) (t : State S) → CallRow answers leaves belongs need s n e t → Follows m (journal.Call (n, e)) t
     call_follows belongs n e t row =
         let added = hold n e.at (need e.call e.reply) in
@@ -119,17 +125,41 @@ module _ {S : Type 0} (answers : S → ℕ → Call → Reply → Type 0) (leave
             live = (shows.live n).1 row.can.running.live;
             running = λ h. row.can.running.standing ((shows.falling n).0 h);
             asked = row.can.asked.1;
-            clear = every _ m.needs (λ k held other same conflict. All-contains (λ h. Blocks n e.at (need e.call e.reply) h → ⊥) s.holds k row.can.clear ((shows.needs k).0 held) (other, same, conflict));
-            once = subst (AllByRecursion (Lacks (theory.left_of rules n m.entries))) (sym (ap (map (later_of (n, e))) row.can.at_once)) tt;
+            clear = clear_here n e.at (need e.call e.reply) row.can.clear;
+            once = subst (λ l. AllByRecursion (Lacks (theory.left_of rules n l)) (left (n, e))) (sym shows.entries) (left_once s.entries n e row.can.once);
             next = leaves s.now e.at e.call e.reply;
             does = subst (λ v. shape.Does answers leaves v e.at e.call e.reply (leaves s.now e.at e.call e.reply)) (sym shows.now) (row.can.answered, refl);
             is = refl;
           },
         )
 
-    left_shows : (n : ℕ) (t : State S) → IsLeft s n t → Shows t (theory.ended_at rules m.now n m)
-    left_shows n t left = subst (λ v. Shows v (theory.ended_at rules m.now n m)) (sym left.is) (record {
-      now = shows.now;
+    pub later_follows : (belongs : S → ℕ → Call → Type 0) (n at : ℕ) (call : Call) (t : State S) → LaterRow answers leaves belongs need s n at call t → Follows m (journal.Later (n, record { at = at; call = call; reply = Reply.Done })) t
+    later_follows belongs n at call t row =
+        let d : Event = record { at = at; call = call; reply = Reply.Done } in
+        let added = hold n at (need call Reply.Done) in
+        subst (Follows m (journal.Later (n, d))) (sym row.is) (
+          record { now = m.now; entries = m.entries ++ journal.PutOff (n, d) ∷ []; live = m.live; falling = m.falling; needs = m.needs ++ added ∷ [] },
+          record {
+            now = shows.now;
+            entries = ap (λ l. l ++ journal.PutOff (n, d) ∷ []) shows.entries ∙ sym (map-append (λ e. owned e.0 e.1) s.entries ((n, PutOff at call) ∷ []));
+            live = shows.live;
+            falling = shows.falling;
+            needs = needs_more t.holds added row.holds;
+          },
+          record {
+            live = (shows.live n).1 row.can.running.live;
+            running = λ h. row.can.running.standing ((shows.falling n).0 h);
+            put_off = (row.can.put_off.1, refl);
+            ready = (leaves s.now at call Reply.Done, subst (λ v. shape.Does answers leaves v at call Reply.Done (leaves s.now at call Reply.Done)) (sym shows.now) (row.can.ready, refl));
+            clear = clear_here n at (need call Reply.Done) row.can.clear;
+            is = refl;
+          },
+        )
+
+    -- a transaction is taken out, and what is there now is another content
+    left_shows : (n : ℕ) (next : S) (wear : ℕ) (t : State S) → IsLeft (record s { now = next; wear = wear }) n t → Shows t (theory.ended_at rules next n m)
+    left_shows n next wear t left = subst (λ v. Shows v (theory.ended_at rules next n m)) (sym left.is) (record {
+      now = refl;
       entries = ap (runs.others (journal.asker owner) n) shows.entries ∙ others_owned n s.entries;
       live = live_left s m shows n;
       falling = falling_left s m shows n;
@@ -139,24 +169,25 @@ module _ {S : Type 0} (answers : S → ℕ → Call → Reply → Type 0) (leave
       );
     })
 
-    pub commit_follows : (n : ℕ) (t : State S) → AllByRecursion (λ e. IsAtOnce e.1) s.entries → CommitRow s n t → Follows m (journal.Commit n) t
-    commit_follows n t at_once row =
-        let none : theory.laters_of rules n m.entries ≡ [] = ap (theory.laters_of rules n) shows.entries ∙ nothing_later n s.entries at_once in (
-          theory.ended_at rules m.now n m,
-          left_shows n t row.left,
-          record {
-            live = (shows.live n).1 row.running.live;
-            running = λ h. row.running.standing ((shows.falling n).0 h);
-            next = m.now;
-            does = subst (λ l. Leads rules.does l m.now m.now) (sym none) refl;
-            is = refl;
-          },
-        )
+    pub commit_follows : (n : ℕ) (t : State S) → CommitRow answers leaves s n t → Follows m (journal.Commit n) t
+    commit_follows n t row = (
+      theory.ended_at rules row.next n m,
+      left_shows n row.next _ t row.left,
+      record {
+        live = (shows.live n).1 row.running.live;
+        running = λ h. row.running.standing ((shows.falling n).0 h);
+        next = row.next;
+        does = subst (λ v. Leads rules.does (theory.laters_of rules n m.entries) v row.next) (sym shows.now) (subst (λ l. Leads rules.does l s.now row.next) (sym (own_laters n m.entries s.entries shows.entries))
+            (leads_back (λ e. e.1) (Does answers leaves) (journal.laters left (all_owned (filter (λ e. e.0 == n) s.entries))) s.now row.next
+            (subst (λ l. Leads (Does answers leaves) l s.now row.next) (sym (laters_are (filter (λ e. e.0 == n) s.entries))) row.runs)));
+        is = refl;
+      },
+    )
 
     pub ended_follows : (n : ℕ) (t : State S) → EndedRow s n t → Follows m (journal.Ended n) t
     ended_follows n t row = (
       theory.ended_at rules m.now n m,
-      left_shows n t row.left,
+      subst (λ v. Shows t (theory.ended_at rules v n m)) (sym shows.now) (left_shows n s.now s.wear t row.left),
       record { live = (shows.live n).1 row.live; undone = subst (theory.HasNoCall owner n) (sym shows.entries) (no_call n s.entries row.undone); is = refl },
     )
 

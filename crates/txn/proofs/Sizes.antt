@@ -11,7 +11,7 @@ use Rattle.boosted.specs.Runs as runs
 use Rattle.records.specs.declared.record.Record.{Record}
 use Rattle.records.specs.Acts.{places}
 use Rattle.txn.proofs.Theory.Lists.{not_same, own_others_same, own_others_other}
-use Rattle.txn.proofs.Counting.{number, parted}
+use Rattle.txn.proofs.Counting.{number}
 use Rattle.txn.proofs.Statuses.{nobody, fallen_is}
 
 not_lives : (b : Bool) → (b ≡ true → ⊥) → b ≡ false
@@ -40,9 +40,6 @@ own_length n es = length-map (runs.own number n es) (λ e. e.1)
 pub append_length : {X : Type 0} (xs ys : List X) → length (xs ++ ys) ≡ length xs + length ys
 append_length [] ys = omega arith
 append_length (x ∷ xs) ys = let more = append_length xs ys in omega arith
-
-pub others_shorter : (n : ℕ) (es : List (ℕ × Entry)) → length (others n es) ≤ length es
-others_shorter n es = let all = parted n es in omega arith
 
 pub own_of_others : (n k : ℕ) (es : List (ℕ × Entry)) → length (own k (others n es)) ≤ length (own k es)
 own_of_others n k es =

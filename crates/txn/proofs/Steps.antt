@@ -6,30 +6,32 @@ use Rattle.calls.specs.declared.kind.Kind.{Kind}
 use Rattle.calls.specs.declared.call.Call.{Call}
 use Rattle.calls.specs.declared.reply.Reply.{Reply}
 use Rattle.calls.specs.declared.need.Need.{Need}
-use Rattle.calls.specs.Inverses.{Askable}
-use Rattle.calls.specs.Transactions.{Event, Entry, Asked, PutOff, Leads, Whole, calls_of, own, others}
+use Rattle.calls.specs.Inverses.{Askable, Disposable}
+use Rattle.calls.specs.Transactions.{Event, Entry, Asked, PutOff, Leads, Whole, calls_of, laters_of, own}
 use Rattle.abstract_locks.specs.declared.table.Hold.{Hold}
 use Rattle.undo_log.specs.Entries as log
 use Rattle.undo_log.specs.Logs.{Lives}
 use Rattle.boosted.specs.Runs as runs
 use Rattle.boosted.specs.Shape as shape
-use Rattle.boosted.proofs.Each.{weaker, each_append, each_rest, each_filter}
-use Rattle.txn.specs.Machine.{State, Does, IsSettled, BeginRow, CommitRow, EndedRow, FallRow, MakeRow, CallRow, BackRow}
+use Rattle.boosted.proofs.Each.{weaker}
+use Rattle.txn.specs.Machine.{State, Does, IsRunning, IsSettled, BeginRow, CommitRow, EndedRow, FallRow, MakeRow, CallRow, LaterRow, BackRow}
 use Rattle.txn.specs.Histories.{RunsWhole}
-use Rattle.txn.specs.Sound.{all_owned, Shows, IsAtOnce, IsSound}
+use Rattle.txn.specs.Sound.{all_owned, Shows, IsSound}
 use Rattle.txn.specs.Theory.Rules.{Rules, RuleLaws, Has}
 use Rattle.txn.specs.Theory.Journal as journal
 use Rattle.txn.specs.Theory.Machine as theory
 use Rattle.txn.specs.Theory.Theorems.{idle}
 use Rattle.txn.specs.Theory.Images.{FallsRow}
 use Rattle.txn.specs.Theory.Collections.{collection_rules}
+use Rattle.txn.proofs.Theory.Lists.{each_map}
+use Rattle.txn.proofs.Theory.Derived.{laters_late}
 use Rattle.txn.proofs.Theory.Serial as serial
 use Rattle.txn.proofs.Theory.Undo.{newest_undone, nothing}
 use Rattle.txn.proofs.Theory.Whole.{idle_sound}
 use Rattle.txn.proofs.Statuses.{nobody}
 use Rattle.txn.proofs.Theory.Stands.{falls_sound}
-use Rattle.txn.proofs.Owned.{owner, leads_map, leads_back, calls_are, laters_are, own_owned, newest_call}
-use Rattle.txn.proofs.Shown.{Follows, make_follows, begin_follows, call_follows, commit_follows, ended_follows, back_follows, fall_follows}
+use Rattle.txn.proofs.Owned.{owner, left, leads_map, leads_back, calls_are, laters_are, own_owned, own_laters, newest_call}
+use Rattle.txn.proofs.Shown.{Follows, make_follows, begin_follows, call_follows, later_follows, commit_follows, ended_follows, back_follows, fall_follows}
 
 module _ {S : Type 0} (answers : S → ℕ → Call → Reply → Type 0) (leaves : S → ℕ → Call → Reply → S) (makes : S → List ℕ → Kind → S → Type 0) (need : Call → Reply → Need) (inverse : Call → Reply → Option Call) (laws : RuleLaws (collection_rules answers leaves makes need inverse)) where
   abbrev rules : Rules S (ℕ × Event) (List ℕ × Kind) Hold
@@ -40,9 +42,6 @@ module _ {S : Type 0} (answers : S → ℕ → Call → Reply → Type 0) (leave
 
   abbrev Settled : State S → S → Type 0
   Settled s c = IsSettled answers leaves s c
-
-  abbrev AtOnce : State S → Type 0
-  AtOnce s = AllByRecursion (λ e. IsAtOnce e.1) s.entries
 
   -- What the state settles at, its picture does, and the other way round.
   settled_there : (s : State S) (m : theory.State S (ℕ × Event) Hold) (c : S) → Shows s m → Settled s c → theory.IsSettled rules m c
@@ -62,10 +61,10 @@ module _ {S : Type 0} (answers : S → ℕ → Call → Reply → Type 0) (leave
 
   module _ (s : State S) (sound : Sound s) where
     -- the step's state is sound
-    goes : (r : journal.Record (ℕ × Event) (List ℕ × Kind)) (t : State S) → Follows answers leaves makes need inverse sound.machine r t → AtOnce t → Sound t
-    goes r t follows at_once =
+    goes : (r : journal.Record (ℕ × Event) (List ℕ × Kind)) (t : State S) → Follows answers leaves makes need inverse sound.machine r t → Sound t
+    goes r t follows =
         let step = serial.step_settles laws r sound.machine follows.0 sound.content sound.sound (settled_there s sound.machine sound.content sound.shows sound.settled) follows.2 in
-        record { machine = follows.0; shows = follows.1; sound = step.0; content = step.1.0; settled = settled_here t follows.0 step.1.0 follows.1 step.1.2; at_once = at_once }
+        record { machine = follows.0; shows = follows.1; sound = step.0; content = step.1.0; settled = settled_here t follows.0 step.1.0 follows.1 step.1.2 }
 
     -- the settled content moves as the step commits
     moves : (r : journal.Record (ℕ × Event) (List ℕ × Kind)) (t : State S) (c : S) → Follows answers leaves makes need inverse sound.machine r t → Settled s c →
@@ -81,7 +80,7 @@ module _ {S : Type 0} (answers : S → ℕ → Call → Reply → Type 0) (leave
         subst (Settled t) (sym (subst (λ l. journal.Serial rules l c moved.0) none moved.1)) moved.2
 
     pub make_sound : (names : S → List (List ℕ)) (name : List ℕ) (kind : Kind) (t : State S) → MakeRow names makes s name kind t → Sound t
-    make_sound names name kind t row = goes (journal.Make (name, kind)) t (make_follows answers leaves makes need inverse s sound.machine sound.shows names name kind t row) (subst AtOnce (sym row.is) sound.at_once)
+    make_sound names name kind t row = goes (journal.Make (name, kind)) t (make_follows answers leaves makes need inverse s sound.machine sound.shows names name kind t row)
 
     pub make_settles : (names : S → List (List ℕ)) (name : List ℕ) (kind : Kind) (t : State S) (c : S) → MakeRow names makes s name kind t → Settled s c → (d : S) × makes c name kind d × Settled t d
     make_settles names name kind t c row w =
@@ -89,24 +88,45 @@ module _ {S : Type 0} (answers : S → ℕ → Call → Reply → Type 0) (leave
         (moved.0, subst (makes c name kind) moved.1.2 moved.1.1, moved.2)
 
     pub begin_sound : (n : ℕ) (t : State S) → BeginRow s n t → Sound t
-    begin_sound n t row = goes (journal.Begin n) t (begin_follows answers leaves makes need inverse s sound.machine sound.shows n t row) (subst AtOnce (sym row.is) sound.at_once)
+    begin_sound n t row = goes (journal.Begin n) t (begin_follows answers leaves makes need inverse s sound.machine sound.shows n t row)
 
     pub begin_settles : (n : ℕ) (t : State S) (c : S) → BeginRow s n t → Settled s c → Settled t c
     begin_settles n t c row w = stays (journal.Begin n) t c refl (begin_follows answers leaves makes need inverse s sound.machine sound.shows n t row) w
 
     pub call_sound : (belongs : S → ℕ → Call → Type 0) (n : ℕ) (e : Event) (t : State S) → CallRow answers leaves belongs need s n e t → Sound t
-    call_sound belongs n e t row =
-        goes (journal.Call (n, e)) t (call_follows answers leaves makes need inverse s sound.machine sound.shows belongs n e t row)
-        (subst AtOnce (sym row.is) (each_append (λ e. IsAtOnce e.1) s.entries ((n, Asked e) ∷ []) sound.at_once (row.can.at_once, tt)))
+    call_sound belongs n e t row = goes (journal.Call (n, e)) t (call_follows answers leaves makes need inverse s sound.machine sound.shows belongs n e t row)
 
     pub call_settles : (belongs : S → ℕ → Call → Type 0) (n : ℕ) (e : Event) (t : State S) (c : S) → CallRow answers leaves belongs need s n e t → Settled s c → Settled t c
     call_settles belongs n e t c row w = stays (journal.Call (n, e)) t c refl (call_follows answers leaves makes need inverse s sound.machine sound.shows belongs n e t row) w
 
-    others_at_once : (n : ℕ) → AllByRecursion (λ e. IsAtOnce e.1) (others n s.entries)
-    others_at_once n = each_filter (λ e. IsAtOnce e.1) _ s.entries sound.at_once
+    pub later_sound : (belongs : S → ℕ → Call → Type 0) (n at : ℕ) (call : Call) (t : State S) → LaterRow answers leaves belongs need s n at call t → Sound t
+    later_sound belongs n at call t row = goes (journal.Later (n, record { at = at; call = call; reply = Reply.Done })) t (later_follows answers leaves makes need inverse s sound.machine sound.shows belongs n at call t row)
 
-    pub commit_sound : (n : ℕ) (t : State S) → CommitRow s n t → Sound t
-    commit_sound n t row = goes (journal.Commit n) t (commit_follows answers leaves makes need inverse s sound.machine sound.shows n t sound.at_once row) (subst AtOnce (sym row.left.is) (others_at_once n))
+    pub later_settles : (belongs : S → ℕ → Call → Type 0) (n at : ℕ) (call : Call) (t : State S) (c : S) → LaterRow answers leaves belongs need s n at call t → Settled s c → Settled t c
+    later_settles belongs n at call t c row w = stays (journal.Later (n, record { at = at; call = call; reply = Reply.Done })) t c refl (later_follows answers leaves makes need inverse s sound.machine sound.shows belongs n at call t row) w
+
+    -- what one number put off, as the theory has it
+    laters_there : (n : ℕ) → theory.laters_of rules n sound.machine.entries ≡ journal.laters left (all_owned (filter (λ e. e.0 == n) s.entries))
+    laters_there n = own_laters n sound.machine.entries s.entries sound.shows.entries
+
+    -- What a transaction put off can run in a commit.
+    pub laters_disposable : (n : ℕ) → AllByRecursion (λ e. Disposable e.call × (e.reply ≡ Reply.Done)) (laters_of (own n s.entries))
+    laters_disposable n =
+        subst (AllByRecursion (λ e. Disposable e.call × (e.reply ≡ Reply.Done))) (laters_are (filter (λ e. e.0 == n) s.entries))
+        (each_map (λ e. e.1) (λ e. Disposable e.call × (e.reply ≡ Reply.Done)) (journal.laters left (all_owned (filter (λ e. e.0 == n) s.entries)))
+        (subst (AllByRecursion rules.late) (laters_there n) (laters_late laws sound.machine sound.sound n)))
+
+    -- What a running transaction put off can always run.
+    pub commit_can : (n : ℕ) → IsRunning s n → (next : S) × Leads (Does answers leaves) (laters_of (own n s.entries)) s.now next
+    commit_can n running =
+        let fs = filter (λ e. e.0 == n) s.entries in
+        let row = (serial.commits_run laws sound.machine sound.content n sound.sound (settled_there s sound.machine sound.content sound.shows sound.settled) ((sound.shows.live n).1 running.live) (λ h. running.standing ((sound.shows.falling n).0 h))).1 in
+        let there : Leads rules.does (journal.laters left (all_owned fs)) s.now row.next =
+        subst (λ v. Leads rules.does (journal.laters left (all_owned fs)) v row.next) sound.shows.now (subst (λ l. Leads rules.does l sound.machine.now row.next) (laters_there n) row.does) in
+        (row.next, subst (λ l. Leads (Does answers leaves) l s.now row.next) (laters_are fs) (leads_map (λ e. e.1) (Does answers leaves) (journal.laters left (all_owned fs)) s.now row.next there))
+
+    pub commit_sound : (n : ℕ) (t : State S) → CommitRow answers leaves s n t → Sound t
+    commit_sound n t row = goes (journal.Commit n) t (commit_follows answers leaves makes need inverse s sound.machine sound.shows n t row)
 
     -- the entries of one number, as the theory has them, run as the transaction says
     whole_here : (n : ℕ) (c d : S) → journal.RunsWhole rules c (journal.Whole (runs.own (journal.asker owner) n sound.machine.entries)) d → RunsWhole answers leaves makes c (Whole (own n s.entries)) d
@@ -119,23 +139,19 @@ module _ {S : Type 0} (answers : S → ℕ → Call → Reply → Type 0) (leave
           subst (λ l. Leads (Does answers leaves) l run.0 d) (laters_are fs) (leads_map (λ e. e.1) (Does answers leaves) (journal.laters rules.leaves (all_owned fs)) run.0 d run.2),
         )
 
-    pub commit_settles : (n : ℕ) (t : State S) (c : S) → CommitRow s n t → Settled s c → (d : S) × RunsWhole answers leaves makes c (Whole (own n s.entries)) d × Settled t d
+    pub commit_settles : (n : ℕ) (t : State S) (c : S) → CommitRow answers leaves s n t → Settled s c → (d : S) × RunsWhole answers leaves makes c (Whole (own n s.entries)) d × Settled t d
     commit_settles n t c row w =
-        let moved = moves (journal.Commit n) t c (commit_follows answers leaves makes need inverse s sound.machine sound.shows n t sound.at_once row) w in
+        let moved = moves (journal.Commit n) t c (commit_follows answers leaves makes need inverse s sound.machine sound.shows n t row) w in
         (moved.0, subst (RunsWhole answers leaves makes c (Whole (own n s.entries))) moved.1.2 (whole_here n c moved.1.0 moved.1.1), moved.2)
 
     pub ended_sound : (n : ℕ) (t : State S) → EndedRow s n t → Sound t
-    ended_sound n t row = goes (journal.Ended n) t (ended_follows answers leaves makes need inverse s sound.machine sound.shows n t row) (subst AtOnce (sym row.left.is) (others_at_once n))
+    ended_sound n t row = goes (journal.Ended n) t (ended_follows answers leaves makes need inverse s sound.machine sound.shows n t row)
 
     pub ended_settles : (n : ℕ) (t : State S) (c : S) → EndedRow s n t → Settled s c → Settled t c
     ended_settles n t c row w = stays (journal.Ended n) t c refl (ended_follows answers leaves makes need inverse s sound.machine sound.shows n t row) w
 
-    rest_at_once : (n : ℕ) (x : Event) (rest : List (ℕ × Entry)) → log.IsNewestCall n s.entries x rest → AllByRecursion (λ e. IsAtOnce e.1) rest
-    rest_at_once n x rest new =
-        subst (AllByRecursion (λ e. IsAtOnce e.1)) (sym new.rest_is) (each_rest (λ e. IsAtOnce e.1) new.before (n, Asked x) new.after (subst (AllByRecursion (λ e. IsAtOnce e.1)) new.is sound.at_once))
-
     pub back_sound : (n : ℕ) (t : State S) → BackRow answers leaves inverse s n t → Sound t
-    back_sound n t row = goes (journal.Back n) t (back_follows answers leaves makes need inverse s sound.machine sound.shows n t row) (subst AtOnce (sym row.is) (rest_at_once n row.call row.rest row.newest))
+    back_sound n t row = goes (journal.Back n) t (back_follows answers leaves makes need inverse s sound.machine sound.shows n t row)
 
     pub back_settles : (n : ℕ) (t : State S) (c : S) → BackRow answers leaves inverse s n t → Settled s c → Settled t c
     back_settles n t c row w = stays (journal.Back n) t c refl (back_follows answers leaves makes need inverse s sound.machine sound.shows n t row) w
@@ -159,7 +175,6 @@ module _ {S : Type 0} (answers : S → ℕ → Call → Reply → Type 0) (leave
           sound = falls_sound laws sound.machine n follows.0 sound.sound follows.2;
           content = sound.content;
           settled = falls_there n t sound.content follows.0 follows.1 follows.2 sound.settled;
-          at_once = subst AtOnce (sym row.is) sound.at_once;
         }
 
     pub fall_settles : (n : ℕ) (t : State S) (c : S) → FallRow s n t → Settled s c → Settled t c
@@ -190,7 +205,6 @@ module _ {S : Type 0} (answers : S → ℕ → Call → Reply → Type 0) (leave
     sound = idle_sound laws now;
     content = now;
     settled = refl;
-    at_once = tt;
   }
 
   -- nothing is asked for, and what is there now is the settled content.

@@ -1,27 +1,36 @@
 -- Every row of the machine leaves what holds of every state.
-use Rattle.std.proofs.Common.{◌≡◌, ℕ, ◌+◌, ◌*◌, ◌<◌, ◌≤◌, ◌^◌, Bool, false, true, Option, Some, None, MatchOption, ◌⊎◌, ⊎_elim, List, [], ◌∷◌, ◌++◌, length, sym, ◌∙◌, ap, subst, arith}
+use Rattle.std.proofs.Common.{◌≡◌, ℕ, ◌+◌, ◌*◌, ◌<◌, ◌≤◌, ◌^◌, Bool, false, true, Option, Some, None, MatchOption, ◌⊎◌, ⊎_elim, List, [], ◌∷◌, ◌++◌, length, refl, sym, ◌∙◌, ap, subst, arith}
+use Rattle.std.specs.List.{AllByRecursion}
 use Rattle.std.specs.FinMap as maps
 use Rattle.std.specs.Ordering.{nat_cmp}
 use Rattle.calls.specs.declared.kind.Kind.{Kind}
 use Rattle.calls.specs.declared.call.Call.{Call}
 use Rattle.calls.specs.declared.reply.Reply.{Reply}
 use Rattle.calls.specs.declared.need.Need.{Need}
-use Rattle.calls.specs.Transactions.{Event, Entry, Asked, own}
+use Rattle.calls.specs.Inverses.{IsShort, Disposable}
+use Rattle.calls.specs.Transactions.{Event, Entry, Asked, PutOff, Leads, laters_of, own}
 use Rattle.undo_log.specs.Logs.{Lives, fallen}
-use Rattle.undo_log.specs.Entries.{HasNoCall, IsNewestCall}
+use Rattle.undo_log.specs.Entries.{IsNewestCall}
 use Rattle.boosted.specs.Shape as shape
 use Rattle.boosted.specs.Shape.{HasRoom}
-use Rattle.boosted.proofs.Each.{each_append}
+use Rattle.boosted.proofs.Each.{weaker, each_append}
 use Rattle.records.specs.Records.{IsNumber}
-use Rattle.txn.specs.Machine.{State, IsRunning, IsLeft, BeginRow, CommitRow, EndedRow, FallRow, MakeRow, CallRow, BackRow}
-use Rattle.txn.specs.Machines.{resting, IsShortEntry, IsUpheld}
+use Rattle.txn.specs.Machine.{State, Does, IsRunning, IsLeft, BeginRow, CommitRow, EndedRow, FallRow, MakeRow, CallRow, LaterRow, BackRow}
+use Rattle.txn.specs.Machines.{resting, IsShortEntry, IsUpheld, CanRun}
 use Rattle.txn.specs.Sound.{IsSound}
 use Rattle.txn.proofs.Statuses.{nobody, lives_more, lives_fewer, fallen_is}
 use Rattle.txn.proofs.BookLaws.{BookLaws}
 use Rattle.txn.proofs.Steps as steps
+use Rattle.txn.proofs.Running.{run_within}
 use Rattle.txn.proofs.Spelled.{short_left, short_rest, short_newest, undone_short}
-use Rattle.txn.proofs.Counting.{few_entries}
-use Rattle.txn.proofs.Sizes.{len_begun, len_fallen, len_left, others_shorter, own_of_others, own_pushed, own_of_rest, rest_length, pushed_length}
+use Rattle.txn.proofs.Counting.{few_entries, own_and_others, few_laters}
+use Rattle.txn.proofs.Sizes.{len_begun, len_fallen, len_left, own_of_others, own_pushed, own_of_rest, rest_length, pushed_length}
+
+-- what can run in a commit puts no value
+disposable_short : (c : Call) → Disposable c → IsShort c
+disposable_short (Call.Bump n) late = tt
+disposable_short (Call.Free x) late = tt
+disposable_short c late = absurd late
 
 module _ {S : Type 0} (answers : S → ℕ → Call → Reply → Type 0) (leaves : S → ℕ → Call → Reply → S) (makes : S → List ℕ → Kind → S → Type 0) (need : Call → Reply → Need) (inverse : Call → Reply → Option Call)
     (belongs : S → ℕ → Call → Type 0) (names : S → List (List ℕ)) (within : S → ℕ → Type 0) (short : S → Type 0) (laws : BookLaws answers leaves makes need inverse names within short) where
@@ -30,6 +39,17 @@ module _ {S : Type 0} (answers : S → ℕ → Call → Reply → Type 0) (leave
 
   abbrev pub Upheld : State S → Type 0
   Upheld s = IsUpheld names within short Sound s
+
+  -- ---- what laters leave
+
+  laters_names : (es : List Event) (s t : S) → Leads (Does answers leaves) es s t → length (names t) ≡ length (names s)
+  laters_names [] s t runs = ap (λ v. length (names v)) (sym runs)
+  laters_names (e ∷ es) s t runs = laters_names es runs.0 t runs.2 ∙ ap (λ v. length (names v)) runs.1.1 ∙ ap length (laws.runs_keep_names s e.at e.call e.reply runs.1.0)
+
+  laters_short : (es : List Event) (s t : S) → AllByRecursion (λ e. Disposable e.call × (e.reply ≡ Reply.Done)) es → Leads (Does answers leaves) es s t → short s → short t
+  laters_short [] s t late runs spells = subst short runs spells
+  laters_short (e ∷ es) s t late runs spells =
+      laters_short es runs.0 t late.1 runs.2 (subst short (sym runs.1.1) (laws.short_runs s e.at e.call e.reply spells runs.1.0 (disposable_short e.call late.0.0)))
 
   module _ (s : State S) (upheld : Upheld s) where
     -- No more entries than 1024 for each of the 64 that may be live.
@@ -109,33 +129,89 @@ module _ {S : Type 0} (answers : S → ℕ → Call → Reply → Type 0) (leave
           holds = subst Sound row.is (steps.call_sound answers leaves makes need inverse laws.rules s upheld.holds belongs n e t row);
         })
 
-    -- a transaction is over
-    left_upheld : (n : ℕ) (t : State S) → Lives s.live n → IsLeft s n t → Sound t → Upheld t
-    left_upheld n t lives left sound =
+    pub later_names : (n at : ℕ) (call : Call) (t : State S) → LaterRow answers leaves belongs need s n at call t → length (names t.now) ≡ length (names s.now)
+    later_names n at call t row = ap (λ (v : State S). length (names v.now)) row.is
+
+    pub later_upheld : (n at : ℕ) (call : Call) (t : State S) → LaterRow answers leaves belongs need s n at call t → Upheld t
+    later_upheld n at call t row =
+        let room = row.room in
+        let longer = pushed_length s.entries (n, PutOff at call) in
+        subst Upheld (sym row.is) (record {
+          few_live = upheld.few_live;
+          few_calls = λ k. own_pushed n k (PutOff at call) s.entries row.can.few (upheld.few_calls k);
+          few_names = upheld.few_names;
+          reached = laws.wears_more s.now s.wear upheld.reached;
+          unworn = omega arith;
+          numbers = upheld.numbers;
+          spells = upheld.spells;
+          replies = each_append (λ e. IsShortEntry e.1) s.entries ((n, PutOff at call) ∷ []) upheld.replies (tt, tt);
+          holds = subst Sound row.is (steps.later_sound answers leaves makes need inverse laws.rules s upheld.holds belongs n at call t row);
+        })
+
+    -- A transaction is over. What it put off wore by no more than its entries count, so each entry that is left may still be undone.
+    left_upheld : (n : ℕ) (next : S) (more : ℕ) (t : State S) → Lives s.live n → within next (s.wear + more) → more ≤ length (own n s.entries) → length (names next) ≡ length (names s.now) → short next →
+        IsLeft (record s { now = next; wear = s.wear + more }) n t → Sound t → Upheld t
+    left_upheld n next more t lives reached less same_names spells left sound =
         let fewer = len_left s.live n lives in
         let few_live = upheld.few_live in
-        let shorter = others_shorter n s.entries in
+        let few_names = upheld.few_names in
+        let all = own_and_others n s.entries in
         let unworn = upheld.unworn in
         subst Upheld (sym left.is) (record {
           few_live = omega arith;
           few_calls = λ k. let less = own_of_others n k s.entries in let few = upheld.few_calls k in omega arith;
-          few_names = upheld.few_names;
-          reached = upheld.reached;
+          few_names = omega arith;
+          reached = reached;
           unworn = omega arith;
           numbers = λ k there. upheld.numbers k ((lives_fewer s.live n k).1 there).0;
-          spells = upheld.spells;
+          spells = spells;
           replies = short_left s.entries upheld.replies n;
           holds = subst Sound left.is sound;
         })
 
-    pub commit_upheld : (n : ℕ) (t : State S) → CommitRow s n t → Upheld t
-    commit_upheld n t row = left_upheld n t row.running.live row.left (steps.commit_sound answers leaves makes need inverse laws.rules s upheld.holds n t row)
+    -- what a transaction put off leaves
+    after_laters : (n : ℕ) (next : S) → Leads (Does answers leaves) (laters_of (own n s.entries)) s.now next →
+        within next (s.wear + length (laters_of (own n s.entries))) × (length (names next) ≡ length (names s.now)) × short next
+    after_laters n next runs =
+        let late = steps.laters_disposable answers leaves makes need inverse laws.rules s upheld.holds n in (
+          run_within answers leaves within laws.wears (laters_of (own n s.entries)) s.now next s.wear runs upheld.reached,
+          laters_names (laters_of (own n s.entries)) s.now next runs,
+          laters_short (laters_of (own n s.entries)) s.now next late runs upheld.spells,
+        )
+
+    -- There is room in the wear for all that a transaction put off.
+    pub commit_fits : (n : ℕ) → s.wear + length (laters_of (own n s.entries)) ≤ 2 ^ 61 + 65536
+    commit_fits n =
+        let few = few_laters (own n s.entries) in
+        let all = own_and_others n s.entries in
+        let unworn = upheld.unworn in
+        omega arith
+
+    -- What a running transaction put off can run.
+    pub commit_ready : (n : ℕ) → IsRunning s n → CanRun answers leaves within (laters_of (own n s.entries)) s.now
+    commit_ready n running =
+        let can = steps.commit_can answers leaves makes need inverse laws.rules s upheld.holds n running in
+        record {
+          next = can.0;
+          runs = can.1;
+          late = weaker (λ e. Disposable e.call × (e.reply ≡ Reply.Done)) (λ e. Disposable e.call) (λ e late. late.0) (laters_of (own n s.entries)) (steps.laters_disposable answers leaves makes need inverse laws.rules s upheld.holds n);
+          wear = s.wear;
+          reached = upheld.reached;
+          room = commit_fits n;
+        }
+
+    pub commit_names : (n : ℕ) (t : State S) → CommitRow answers leaves s n t → length (names t.now) ≡ length (names s.now)
+    commit_names n t row = ap (λ (v : State S). length (names v.now)) row.left.is ∙ (after_laters n row.next row.runs).1
+
+    pub commit_upheld : (n : ℕ) (t : State S) → CommitRow answers leaves s n t → Upheld t
+    commit_upheld n t row =
+        let after = after_laters n row.next row.runs in
+        left_upheld n row.next (length (laters_of (own n s.entries))) t row.running.live after.0 (few_laters (own n s.entries)) after.1 after.2 row.left (steps.commit_sound answers leaves makes need inverse laws.rules s upheld.holds n t row)
 
     pub ended_upheld : (n : ℕ) (t : State S) → EndedRow s n t → Upheld t
-    ended_upheld n t row = left_upheld n t row.live row.left (steps.ended_sound answers leaves makes need inverse laws.rules s upheld.holds n t row)
-
-    pub done_upheld : (n : ℕ) (t : State S) → Lives s.live n → IsRunning s n ⊎ HasNoCall n s.entries → IsLeft s n t → Upheld t
-    done_upheld n t lives done left = ⊎_elim (λ running. commit_upheld n t (record { running = running; left = left })) (λ undone. ended_upheld n t (record { live = lives; undone = undone; left = left })) done
+    ended_upheld n t row =
+        left_upheld n s.now 0 t row.live (subst (within s.now) (omega arith) upheld.reached) (omega arith) refl upheld.spells (subst (λ w. IsLeft (record s { wear = w }) n t) (omega arith) row.left)
+        (steps.ended_sound answers leaves makes need inverse laws.rules s upheld.holds n t row)
 
     -- who lives once a number falls lived before
     pub fallen_lives : (n k : ℕ) → Lives s.live n → Lives (fallen s.live n) k → Lives s.live k
@@ -200,7 +276,7 @@ module _ {S : Type 0} (answers : S → ℕ → Call → Reply → Type 0) (leave
     pub enter_room : s.wear < 2 ^ 61 → s.wear + 1 + length s.entries ≤ 2 ^ 61 + 65536
     enter_room unworn = let few = few_asked in let live = upheld.few_live in omega arith
 
-    -- for one call more,
+    -- for one call more, or for one that is put off,
     pub call_room : (n at : ℕ) (call : Call) → IsRunning s n → length (own n s.entries) < 1024 → s.wear < 2 ^ 61 → (s.wear + 1 + (length s.entries + 1) ≤ 2 ^ 61 + 65536) × HasRoom within s.now
     call_room n at call running few unworn =
         let e : Event = record { at = at; call = call; reply = Reply.Done } in

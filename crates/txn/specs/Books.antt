@@ -8,18 +8,17 @@ use Rattle.calls.specs.declared.reply.Reply.{Reply}
 use Rattle.calls.specs.declared.need.Need.{Need}
 use Rattle.calls.specs.declared.refusal.Refusal.{Refusal}
 use Rattle.calls.specs.Names.{IsName}
-use Rattle.calls.specs.Laters.{left_by}
 use Rattle.calls.specs.Transactions.{Event, own}
 use Rattle.abstract_locks.specs.Holds.{IsBusy}
 use Rattle.undo_log.specs.Entries.{HasNoCall}
 use Rattle.undo_log.specs.Logs.{Lives, Falls}
-use Rattle.boosted.specs.Shape.{CanAsk, AskRefused}
+use Rattle.boosted.specs.Shape.{CanAsk, CanDefer, AskRefused, DeferRefused}
 use Rattle.catalog.specs.Making as making
 use Rattle.gate_block.specs.Row.{IsBlockOf}
 use Rattle.records.specs.declared.record.Record.{Record}
 use Rattle.records.specs.Acts.{places}
 use Rattle.records.specs.Records.{call_record, spelled, spelling, IsRecord, IsNumber}
-use Rattle.txn.specs.Machine.{State, IsRunning, CanBegin, BeginRow, CommitRow, EndedRow, FallRow, MakeRow, CallRow, BackRow}
+use Rattle.txn.specs.Machine.{State, IsRunning, GoesTwice, CanBegin, BeginRow, CommitRow, EndedRow, FallRow, MakeRow, CallRow, LaterRow, BackRow}
 use Rattle.txn.specs.Machines.{resting, IsUpheld}
 use Rattle.txn.specs.declared.block.Block.{Block}
 
@@ -99,34 +98,39 @@ EnterAnswers b n (Err e) c = (c ≡ b) × EnterRefused b n e
 
 -- ---- calls
 
--- The running transaction can ask for the call, and has room for it.
-pub record IsOpen {S : Type 0} (belongs : S → ℕ → Call → Type 0) (b : BookState S) (n at : ℕ) (call : Call) : Type 0 where
+-- The running transaction can have what it asks for, and has room for it.
+pub record IsOpen {S : Type 0} (ask : Type 0) (b : BookState S) (n : ℕ) : Type 0 where
   pub running : IsRunning b.state n
-  pub asked : CanAsk belongs b.state.now at call
+  pub asked : ask
   pub unworn : b.state.wear < 2 ^ 61
   pub few : length (own n b.state.entries) < 1024
   pub room : length b.pending < 16384
 
-module _ {S : Type 0} (answers : S → ℕ → Call → Reply → Type 0) (belongs : S → ℕ → Call → Type 0) where
-  -- The call would leave something to the commit, which no call may do yet.
-  abbrev pub WouldLeave : BookState S → (at : ℕ) → Call → Type 0
-  WouldLeave b at call = (reply : Reply) × answers b.state.now at call reply × (left_by call reply ≡ [] → ⊥)
+-- It is not running, or has no room for what it can ask, and is refused so.
+abbrev pub OpenRefused : {S : Type 0} → (ask : Type 0) → BookState S → ℕ → Refusal → Type 0
+OpenRefused ask b n Refusal.NoSuchTxn = Lives b.state.live n → ⊥
+OpenRefused ask b n Refusal.Falling = Falls b.state.live n
+OpenRefused ask b n Refusal.Worn = IsRunning b.state n × ask × (2 ^ 61 ≤ b.state.wear)
+OpenRefused ask b n Refusal.TooManyCalls = IsRunning b.state n × ask × (b.state.wear < 2 ^ 61) × (1024 ≤ length (own n b.state.entries))
+OpenRefused ask b n Refusal.Backlog = IsRunning b.state n × ask × (b.state.wear < 2 ^ 61) × (length (own n b.state.entries) < 1024) × IsFull b
+OpenRefused ask b n e = ⊥
 
-  -- The book refuses the call so,
+module _ {S : Type 0} (answers : S → ℕ → Call → Reply → Type 0) (belongs : S → ℕ → Call → Type 0) where
+  -- A call that the transaction has room for is refused so: what it would leave is going already, or another transaction holds a need in its way.
   abbrev pub AskedInVain : (Call → Reply → Need) → BookState S → (n at : ℕ) → Call → Refusal → Type 0
-  AskedInVain need b n at call Refusal.NoSuchTxn = Lives b.state.live n → ⊥
-  AskedInVain need b n at call Refusal.Falling = Falls b.state.live n
-  AskedInVain need b n at call Refusal.Worn = IsRunning b.state n × CanAsk belongs b.state.now at call × (2 ^ 61 ≤ b.state.wear)
-  AskedInVain need b n at call Refusal.TooManyCalls = IsRunning b.state n × CanAsk belongs b.state.now at call × (b.state.wear < 2 ^ 61) × (1024 ≤ length (own n b.state.entries))
-  AskedInVain need b n at call Refusal.Backlog = IsRunning b.state n × CanAsk belongs b.state.now at call × (b.state.wear < 2 ^ 61) × (length (own n b.state.entries) < 1024) × IsFull b
-  AskedInVain need b n at call Refusal.BadArg = IsOpen belongs b n at call × WouldLeave b at call
-  AskedInVain need b n at call (Refusal.Busy m) = IsOpen belongs b n at call × ((reply : Reply) × answers b.state.now at call reply × (left_by call reply ≡ []) × IsBusy b.state.holds n at (need call reply) m)
-  AskedInVain need b n at call Refusal.NoMemory = IsOpen belongs b n at call
+  AskedInVain need b n at call Refusal.AlreadyGoing =
+      (reply : Reply) × answers b.state.now at call reply × GoesTwice b.state.entries n (record { at = at; call = call; reply = reply })
+  AskedInVain need b n at call (Refusal.Busy m) =
+      (reply : Reply) × answers b.state.now at call reply × (GoesTwice b.state.entries n (record { at = at; call = call; reply = reply }) → ⊥) × IsBusy b.state.holds n at (need call reply) m
+  AskedInVain need b n at call Refusal.NoMemory = Unit {0}
   AskedInVain need b n at call e = ⊥
 
-  -- or, for a transaction that is running, as the collections do.
+  -- The book refuses the call so: for a transaction that is running as the collections do, and for one that has room as above.
   abbrev pub CallRefused : (S → ℕ → Call → Refusal → Type 0) → (Call → Reply → Need) → BookState S → (n at : ℕ) → Call → Refusal → Type 0
-  CallRefused misplaced need b n at call e = AskedInVain need b n at call e ⊎ (IsRunning b.state n × AskRefused belongs misplaced b.state.now at call e)
+  CallRefused misplaced need b n at call e =
+      OpenRefused (CanAsk belongs b.state.now at call) b n e ⊎
+      ((IsRunning b.state n × AskRefused belongs misplaced b.state.now at call e) ⊎
+      (IsOpen (CanAsk belongs b.state.now at call) b n × AskedInVain need b n at call e))
 
 -- a call's record
 abbrev pub record_of : (Call → Reply → Option Call) → ℕ → Event → Record
@@ -138,6 +142,32 @@ module _ {S : Type 0} (answers : S → ℕ → Call → Reply → Type 0) (leave
       CallRow answers leaves belongs need b.state n (record { at = at; call = call; reply = reply }) c.state × (b.state.wear < 2 ^ 61) ×
       AppendsTo b (record_of inverse n (record { at = at; call = call; reply = reply })) c
   CallAnswers misplaced b n at call (Err e) c = (c ≡ b) × CallRefused answers belongs misplaced need b n at call e
+
+-- ---- calls that are put off
+
+-- the record of a call that is put off
+abbrev pub later_record : (number collection : ℕ) → Call → Record
+later_record n at call = Record.Later (record { number = n; collection = at; call = call })
+
+module _ {S : Type 0} (belongs : S → ℕ → Call → Type 0) where
+  -- A call that could be put off is refused so, where the transaction has room for it.
+  abbrev pub PutOffInVain : (Call → Reply → Need) → BookState S → (n at : ℕ) → Call → Refusal → Type 0
+  PutOffInVain need b n at call (Refusal.Busy m) = IsBusy b.state.holds n at (need call Reply.Done) m
+  PutOffInVain need b n at call Refusal.NoMemory = Unit {0}
+  PutOffInVain need b n at call e = ⊥
+
+  -- The book refuses to put the call off so: for a transaction that is running as the collections do, and for one that has room as above.
+  abbrev pub LaterRefused : (S → ℕ → Call → Refusal → Type 0) → (Call → Reply → Need) → BookState S → (n at : ℕ) → Call → Refusal → Type 0
+  LaterRefused misplaced need b n at call e =
+      OpenRefused (CanDefer belongs b.state.now at call) b n e ⊎
+      ((IsRunning b.state n × DeferRefused belongs misplaced b.state.now at call e) ⊎
+      (IsOpen (CanDefer belongs b.state.now at call) b n × PutOffInVain need b n at call e))
+
+abbrev pub LaterAnswers : {S : Type 0} → (S → ℕ → Call → Reply → Type 0) → (S → ℕ → Call → Reply → S) → (S → ℕ → Call → Type 0) → (Call → Reply → Need) → (S → ℕ → Call → Refusal → Type 0) →
+    BookState S → (n at : ℕ) → Call → Result (Unit {0}) Refusal → BookState S → Type 0
+LaterAnswers answers leaves belongs need misplaced b n at call (Ok done) c =
+    LaterRow answers leaves belongs need b.state n at call c.state × (b.state.wear < 2 ^ 61) × AppendsTo b (later_record n at call) c
+LaterAnswers answers leaves belongs need misplaced b n at call (Err e) c = (c ≡ b) × LaterRefused belongs misplaced need b n at call e
 
 -- ---- the ends of a transaction
 
@@ -152,9 +182,9 @@ CommitRefused b n Refusal.NoSuchTxn = Lives b.state.live n → ⊥
 CommitRefused b n Refusal.Falling = Falls b.state.live n
 CommitRefused b n e = IsRunning b.state n × AppendRefused b e
 
-abbrev pub CommitAnswers : {S : Type 0} → BookState S → ℕ → Result ℕ Refusal → BookState S → Type 0
-CommitAnswers b n (Ok place) c = CommitRow b.state n c.state × AppendsTo b (Record.Commit n) c × (place ≡ c.places)
-CommitAnswers b n (Err e) c = (c ≡ b) × CommitRefused b n e
+abbrev pub CommitAnswers : {S : Type 0} → (S → ℕ → Call → Reply → Type 0) → (S → ℕ → Call → Reply → S) → BookState S → ℕ → Result ℕ Refusal → BookState S → Type 0
+CommitAnswers answers leaves b n (Ok place) c = CommitRow answers leaves b.state n c.state × AppendsTo b (Record.Commit n) c × (place ≡ c.places)
+CommitAnswers answers leaves b n (Err e) c = (c ≡ b) × CommitRefused b n e
 
 abbrev pub BackRefused : {S : Type 0} → BookState S → ℕ → Refusal → Type 0
 BackRefused b n Refusal.NoSuchTxn = Lives b.state.live n → ⊥

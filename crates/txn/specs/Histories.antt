@@ -7,9 +7,9 @@ use Rattle.calls.specs.declared.reply.Reply.{Reply}
 use Rattle.calls.specs.declared.need.Need.{Need}
 use Rattle.calls.specs.declared.refusal.Refusal.{Refusal}
 use Rattle.calls.specs.Contents.{Collection}
-use Rattle.calls.specs.Transactions.{Leads, Asked, Transaction, Whole, Made, calls_of, laters_of, Act, Begins, Asks, Commits, Creates, committed, Serial}
+use Rattle.calls.specs.Transactions.{Leads, Asked, PutOff, Transaction, Whole, Made, calls_of, laters_of, Act, Begins, Asks, Commits, Creates, committed, Serial}
 use Rattle.txn.specs.Machine.{State, Does}
-use Rattle.txn.specs.Books.{BookState, MakeAnswers, EnterAnswers, CallAnswers, CommitAnswers, BackAnswers, EndedAnswers, CutAnswers}
+use Rattle.txn.specs.Books.{BookState, MakeAnswers, EnterAnswers, CallAnswers, LaterAnswers, CommitAnswers, BackAnswers, EndedAnswers, CutAnswers}
 use Rattle.txn.specs.declared.block.Block.{Block}
 
 -- A step of a book, with its answer.
@@ -17,6 +17,7 @@ pub data Step : Type 0 where
   Make : (name : List ℕ) → Kind → Result ℕ Refusal → Step
   Enter : (number : ℕ) → Result (Unit {0}) Refusal → Step
   Ask : (number at : ℕ) → calls.Call → Result Reply Refusal → Step
+  Later : (number at : ℕ) → calls.Call → Result (Unit {0}) Refusal → Step
   Commit : (number : ℕ) → Result ℕ Refusal → Step
   Back : (number : ℕ) → Result Bool Refusal → Step
   Ended : (number : ℕ) → Result (Unit {0}) Refusal → Step
@@ -27,6 +28,7 @@ abbrev pub acts_of_step : Step → List Act
 acts_of_step (Make name kind (Ok place)) = Creates name kind ∷ []
 acts_of_step (Enter n (Ok done)) = Begins n ∷ []
 acts_of_step (Ask n at call (Ok reply)) = Asks n (Asked (record { at = at; call = call; reply = reply })) ∷ []
+acts_of_step (Later n at call (Ok done)) = Asks n (PutOff at call) ∷ []
 acts_of_step (Commit n (Ok place)) = Commits n ∷ []
 acts_of_step step = []
 
@@ -46,7 +48,8 @@ module _ {S : Type 0} (answers : S → ℕ → calls.Call → Reply → Type 0) 
     Acts b (Make name kind a) c = MakeAnswers names makes b name kind a c
     Acts b (Enter n a) c = EnterAnswers b n a c
     Acts b (Ask n at call a) c = CallAnswers answers leaves belongs need inverse misplaced b n at call a c
-    Acts b (Commit n a) c = CommitAnswers b n a c
+    Acts b (Later n at call a) c = LaterAnswers answers leaves belongs need misplaced b n at call a c
+    Acts b (Commit n a) c = CommitAnswers answers leaves b n a c
     Acts b (Back n a) c = BackAnswers answers leaves inverse b n a c
     Acts b (Ended n a) c = EndedAnswers b n a c
     Acts b (Cut a) c = (waiting waits : List Block) × CutAnswers b waiting (Unit {0}) a waits c

@@ -2,14 +2,18 @@
 use Rattle.std.specs.Prelude.{◌≡◌, ℕ, ◌+◌, ◌≤◌, ◌^◌, ◌↔◌, List, [], length, Contains, Bool, true, false, Result, Ok, Err}
 use Rattle.std.specs.FinMap as maps
 use Rattle.std.specs.List.{AllByRecursion}
+use Rattle.calls.specs.declared.call.Call.{Call}
+use Rattle.calls.specs.declared.reply.Reply.{Reply}
 use Rattle.calls.specs.declared.refusal.Refusal.{Refusal}
-use Rattle.calls.specs.Transactions.{Entry, Asked, PutOff, own}
+use Rattle.calls.specs.Inverses.{Disposable}
+use Rattle.calls.specs.Laters.{left_by}
+use Rattle.calls.specs.Transactions.{Event, Entry, Asked, PutOff, Leads, own}
 use Rattle.abstract_locks.specs.declared.table.Hold.{Hold}
 use Rattle.undo_log.specs.Logs.{Lives}
 use Rattle.records.specs.declared.record.Record.{Record}
 use Rattle.records.specs.Records.{IsNumber}
 use Rattle.records.specs.Short.{IsShortReply}
-use Rattle.txn.specs.Machine.{State}
+use Rattle.txn.specs.Machine.{State, Does}
 
 -- a state with no live transaction
 abbrev pub resting : {S : Type 0} → S → (wear : ℕ) → State S
@@ -35,6 +39,22 @@ module _ {S : Type 0} (names : S → List (List ℕ)) (within : S → ℕ → Ty
     pub spells : short s.now
     pub replies : AllByRecursion (λ e. IsShortEntry e.1) s.entries
     pub holds : sound s
+
+-- ---- what is put off to a commit
+
+-- What was asked for leaves the call at the place to the commit.
+abbrev pub IsLeftBy : Entry → (at : ℕ) → Call → Type 0
+IsLeftBy (Asked x) at c = (x.at ≡ at) × Contains (left_by x.call x.reply) c
+IsLeftBy (PutOff place d) at c = ⊥
+
+-- The calls can be made from the content one after another: each may run in a commit, and there is room in the wear for all.
+pub record CanRun {S : Type 0} (answers : S → ℕ → Call → Reply → Type 0) (leaves : S → ℕ → Call → Reply → S) (within : S → ℕ → Type 0) (es : List Event) (s : S) : Type 0 where
+  pub next : S
+  pub runs : Leads (Does answers leaves) es s next
+  pub late : AllByRecursion (λ e. Disposable e.call) es
+  pub wear : ℕ
+  pub reached : within s wear
+  pub room : wear + length es ≤ 2 ^ 61 + 65536
 
 -- ---- repeating a record
 

@@ -1,11 +1,9 @@
 -- What holds of every state that the machine reaches, in the words of the theory.
-use Rattle.std.specs.Prelude.{◌≡◌, ℕ, ◌↔◌, Option, List, [], map, Contains}
-use Rattle.std.specs.List.{AllByRecursion}
+use Rattle.std.specs.Prelude.{◌≡◌, ℕ, ◌↔◌, Option, List, map, Contains}
 use Rattle.calls.specs.declared.kind.Kind.{Kind}
 use Rattle.calls.specs.declared.call.Call.{Call}
 use Rattle.calls.specs.declared.reply.Reply.{Reply}
 use Rattle.calls.specs.declared.need.Need.{Need}
-use Rattle.calls.specs.Laters.{left_by}
 use Rattle.calls.specs.Transactions.{Event, Entry, Asked, PutOff}
 use Rattle.abstract_locks.specs.declared.table.Hold.{Hold}
 use Rattle.undo_log.specs.Logs.{Lives, Falls}
@@ -31,17 +29,11 @@ pub record Shows {S : Type 0} (s : State S) (m : theory.State S (ℕ × Event) H
   pub falling : (n : ℕ) → Has m.falling n ↔ Falls s.live n
   pub needs : (h : Hold) → Has m.needs h ↔ Contains s.holds h
 
--- A call that leaves nothing to the commit.
-abbrev pub IsAtOnce : Entry → Type 0
-IsAtOnce (Asked e) = left_by e.call e.reply ≡ []
-IsAtOnce (PutOff at c) = ⊥
-
 module _ {S : Type 0} (answers : S → ℕ → Call → Reply → Type 0) (leaves : S → ℕ → Call → Reply → S) (makes : S → List ℕ → Kind → S → Type 0) (need : Call → Reply → Need) (inverse : Call → Reply → Option Call) where
-  -- The state is sound as the theory's machine has it, there is a content without the live transactions, and nothing is put off to a commit.
+  -- The state is sound as the theory's machine has it, and there is a content without the live transactions.
   pub record IsSound (s : State S) : Type 0 where
     pub machine : theory.State S (ℕ × Event) Hold
     pub shows : Shows s machine
     pub sound : theory.IsSound (collection_rules answers leaves makes need inverse) machine
     pub content : S
     pub settled : IsSettled answers leaves s content
-    pub at_once : AllByRecursion (λ e. IsAtOnce e.1) s.entries

@@ -1,6 +1,9 @@
 // Blocks on their way to the disk.
 ghost use Rattle.std.specs.Prelude.{◌≡◌, List, ◌++◌, ◌∷◌, [], OnOk, OnErr, IfErr};
+ghost use Rattle.std.specs.List.{All};
 ghost use Rattle.txn.specs.Wholes.{IsWhole};
+
+use std::collections::VecDeque;
 
 /// A whole block: an open gate, the length, the body, a closed gate. `end` is the position after its last record,
 /// counted since the store was opened, and `place` the count of commits and makes up to there.
@@ -10,6 +13,16 @@ pub struct Block {
     pub end: u64,
     pub place: u64,
     ghost whole: { IsWhole bytes.items },
+}
+
+/// Whole blocks that hold an image of a book. `end` is the position after the last record that it covers, counted since
+/// the store was opened, and `place` the count of commits and makes up to there.
+#[derive(Drop, Debug)]
+pub struct Image {
+    pub blocks: VecDeque<Vec<u8>>,
+    pub end: u64,
+    pub place: u64,
+    ghost whole: { All (λ b. IsWhole b.items) blocks.items },
 }
 
 /// Where a book hands its blocks to.

@@ -5,11 +5,14 @@ ghost use Rattle.calls.specs.Names.{IsName};
 ghost use Rattle.calls.specs.Transactions.{Whole, own};
 ghost use Rattle.undo_log.specs.Entries.{event_of};
 ghost use Rattle.undo_log.specs.Logs.{Lives};
+ghost use Rattle.abstract_locks.specs.Holds.{IsClear};
+ghost use Rattle.calls.specs.declared.reply.Reply.{Reply};
+ghost use Rattle.boosted.specs.Shape.{CanAsk, CanDefer};
 ghost use Rattle.catalog.specs.Making.{IsPlaceOf, FindRefused};
 ghost use Rattle.records.specs.Records.{FitsCall, FitsReply};
 ghost use Rattle.records.specs.Short.{AreShort, IsShortReply};
 ghost use Rattle.txn.specs.Machine.{IsRunning, IsSettled};
-ghost use Rattle.txn.specs.Books.{opened, IsKept, IsOpen, IsFull, RunRefused, CanEnter, EnterRefused, CallRefused, MakeAnswers, EnterAnswers, CallAnswers, CommitAnswers, BackAnswers, EndedAnswers, CutAnswers};
+ghost use Rattle.txn.specs.Books.{opened, later_record, IsKept, IsOpen, IsFull, RunRefused, OpenRefused, CanEnter, EnterRefused, CallRefused, LaterRefused, MakeAnswers, EnterAnswers, CallAnswers, LaterAnswers, CommitAnswers, BackAnswers, EndedAnswers, CutAnswers};
 ghost use Rattle.txn.specs.Histories.{RunsWhole};
 ghost use Rattle.txn.specs.Sound.{IsSound};
 
@@ -19,10 +22,10 @@ use crate::pending::Pending;
 use calls::limits::{MAX_CALLS, MAX_LIVE, MAX_PENDING, NUMBER_END};
 use calls::{Call, Kind, Name, Refusal, Reply, check_name};
 use catalog::Parts;
-use records::{Coded, Record, call_len, fits_call, fits_reply};
+use records::{Coded, LaterRecord, Record, call_len, encoded_len, fits_call, fits_reply};
 use std::alloc::Global;
 use std::marker::Model;
-use undo_log::Logged;
+use undo_log::{Later, Logged};
 
 // The bytes of a record of a transaction's number alone, and of one of a making but for the name.
 const MARK_LEN: usize = 9;
@@ -154,16 +157,17 @@ impl<B: Parts + Coded> Book<B> {
     /// The transaction's call on a collection, made at once under the need that it has with its reply.
     ///
     /// NoSuchTxn, Falling, NoSuchCollection, WrongKind, BadArg for a call that no client can ask, TooLong, Worn,
-    /// TooManyCalls at 1,024 calls, Backlog, NoMemory in the look-up, BadArg for a call that would leave something to
-    /// the commit, Busy with the least other transaction that holds a need in the way, NoMemory.
+    /// TooManyCalls at 1,024 calls and laters, Backlog, NoMemory in the look-up, AlreadyGoing where the transaction left
+    /// to its commit already what this call would leave, Busy with the least other transaction that holds a need in the
+    /// way, NoMemory.
     pub fn call(&mut self, number: u64, col: u8, call: &Call) -> Result<Reply, Refusal>
         ensures answer { CallAnswers B.answers B.leaves B.belongs B.need B.inverse B.misplaced self.old number col call.now result self.new }
         ensures settled { (c : B) → IsSettled B.answers B.leaves self.old.state c → IsSettled B.answers B.leaves self.new.state c }
     {
         self.check_call(number, col, call)?;
         let reply = self.machine.parts().look(col, call)?;
-        if B::after(call, &reply).is_some() {
-            return Err(Refusal::BadArg);
+        if self.machine.goes_twice(number, col, call, &reply) {
+            return Err(Refusal::AlreadyGoing);
         }
         let need = B::need(call, &reply);
         self.machine.test(number, col, &need)?;
@@ -176,12 +180,33 @@ impl<B: Parts + Coded> Book<B> {
         Ok(reply)
     }
 
-    /// Commits the transaction: all that it asked for stays, and its needs go. Answers the count of commits and makes
-    /// since the book was opened, this one included.
+    /// Puts the call off to the transaction's commit, under the need that it has with the reply Done. Until then it shows
+    /// in no reply, not even to its own transaction.
+    ///
+    /// NoSuchTxn, Falling, NoSuchCollection, WrongKind, BadArg for a call that cannot be put off, Worn, TooManyCalls at
+    /// 1,024 calls and laters, Backlog, Busy with the least other transaction that holds a need in the way, NoMemory.
+    pub fn later(&mut self, number: u64, col: u8, call: &Call) -> Result<(), Refusal>
+        ensures answer { LaterAnswers B.answers B.leaves B.belongs B.need B.misplaced self.old number col call.now result self.new }
+        ensures settled { (c : B) → IsSettled B.answers B.leaves self.old.state c → IsSettled B.answers B.leaves self.new.state c }
+    {
+        self.check_later(number, col, call)?;
+        let need = B::need(call, &Reply::Done);
+        self.machine.test(number, col, &need)?;
+        let put = Later {
+            at: col,
+            call: call.copy()?,
+        };
+        let entry = later_record(number, col, call)?;
+        self.put_off(number, put, &entry)
+    }
+
+    /// Commits the transaction: what it put off, and what its calls left, runs in the order asked, all that it asked for
+    /// stays, and its needs go. Answers the count of commits and makes since the book was opened, this one included.
+    /// Nothing that was put off can refuse it.
     ///
     /// NoSuchTxn, Falling, Backlog, NoMemory.
     pub fn commit(&mut self, number: u64) -> Result<u64, Refusal>
-        ensures answer { CommitAnswers self.old number result self.new }
+        ensures answer { CommitAnswers B.answers B.leaves self.old number result self.new }
         ensures settled { OnOk result ((c : B) → IsSettled B.answers B.leaves self.old.state c →
             (d : B) × RunsWhole B.answers B.leaves B.makes c (Whole (own number self.old.state.entries)) d × IsSettled B.answers B.leaves self.new.state d) }
     {
@@ -214,7 +239,7 @@ impl<B: Parts + Coded> Book<B> {
         Ok(true)
     }
 
-    /// Ends a transaction whose calls are all undone: its needs go.
+    /// Ends a transaction whose calls are all undone: its needs go, and what it put off is never run.
     ///
     /// NoSuchTxn, Unfinished where a call is not undone, Backlog, NoMemory.
     pub fn ended(&mut self, number: u64) -> Result<(), Refusal>
@@ -241,6 +266,21 @@ impl<B: Parts + Coded> Book<B> {
         ensures settled { (c : B) → IsSettled B.answers B.leaves self.old.state c → IsSettled B.answers B.leaves self.new.state c }
     {
         self.pending.cut(out)
+    }
+
+    // Puts a call off under its record.
+    fn put_off(&mut self, number: u64, put: Later, entry: &Record) -> Result<(), Refusal>
+        requires open { IsOpen (CanDefer B.belongs self.old.state.now put.at put.call) self.old number }
+        requires clear { IsClear self.old.state.holds number put.at (B.need put.call Reply.Done) }
+        requires entry { entry.now ≡ later_record number put.at put.call }
+        ensures answer { LaterAnswers B.answers B.leaves B.belongs B.need B.misplaced self.old number put.at put.call result self.new }
+        ensures settled { (c : B) → IsSettled B.answers B.leaves self.old.state c → IsSettled B.answers B.leaves self.new.state c }
+    {
+        prove!(put.at <= u8::MAX);
+        self.pending.reserve(encoded_len(entry))?;
+        self.machine.later(number, put)?;
+        self.pending.push(entry);
+        Ok(())
     }
 
     // Whether a record more may wait.
@@ -300,11 +340,30 @@ impl<B: Parts + Coded> Book<B> {
 
     // Whether the transaction can ask for the call, and has room for it.
     fn check_call(&self, number: u64, col: u8, call: &Call) -> Result<(), Refusal>
-        ensures ok { OnOk result (IsOpen B.belongs self.now number col call.now) }
+        ensures ok { OnOk result (IsOpen (CanAsk B.belongs self.now.state.now col call.now) self.now number) }
         ensures err { IfErr result (CallRefused B.answers B.belongs B.misplaced B.need self.now number col call.now) }
     {
         self.check_running(number)?;
         self.machine.parts().askable(col, call)?;
+        self.check_room(number)
+    }
+
+    // Whether the transaction can put the call off, and has room for it.
+    fn check_later(&self, number: u64, col: u8, call: &Call) -> Result<(), Refusal>
+        ensures ok { OnOk result (IsOpen (CanDefer B.belongs self.now.state.now col call.now) self.now number) }
+        ensures err { IfErr result (LaterRefused B.belongs B.misplaced B.need self.now number col call.now) }
+    {
+        self.check_running(number)?;
+        self.machine.parts().deferrable(col, call)?;
+        self.check_room(number)
+    }
+
+    // Whether the running transaction has room for what it can ask.
+    fn check_room(&self, number: u64) -> Result<(), Refusal>
+        requires { IsRunning self.now.state number }
+        ensures ok { OnOk result (IsOpen (Unit {0}) self.now number) }
+        ensures err { IfErr result (OpenRefused (Unit {0}) self.now number) }
+    {
         if self.machine.wear() >= NUMBER_END {
             return Err(Refusal::Worn);
         }
@@ -344,4 +403,16 @@ fn inverse<B: Parts + Coded>(call: &Call, reply: &Reply) -> Result<Option<Call>,
         prove!(fits_call(back));
     }
     Ok(back)
+}
+
+// The record of a call that is put off.
+fn later_record(number: u64, at: u8, call: &Call) -> Result<Record, Refusal>
+    ensures ok { IfOk result (λ entry. entry ≡ later_record number at call.now) }
+    ensures refusal { IsOkUnless result Refusal.NoMemory }
+{
+    Ok(Record::Later(LaterRecord {
+        number,
+        collection: at,
+        call: call.copy()?,
+    }))
 }

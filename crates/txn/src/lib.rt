@@ -5,6 +5,7 @@ mod block;
 mod book;
 mod draft;
 mod history;
+mod laters;
 mod machine;
 mod noted;
 mod pending;
@@ -12,7 +13,7 @@ mod pending;
 mod tests;
 mod undoing;
 
-pub use block::{Block, Outbox};
+pub use block::{Block, Image, Outbox};
 pub use book::Book;
 pub use history::{crash, images, one_history, recovery};
 pub use machine::Machine;

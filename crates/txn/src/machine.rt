@@ -1,32 +1,33 @@
 // The machine over records: the same steps as the book's, of records that stand already.
-ghost use Rattle.std.specs.Prelude.{◌≡◌, ◌↔◌, ℕ, ◌+◌, ◌<◌, ◌≤◌, ◌^◌, ◌⊎◌, [], false, None, List, IsTrue, IfSome, IfNone, IfErr, Ok, OnOk, OnErr, IsOkUnless, length};
+ghost use Rattle.std.specs.Prelude.{◌≡◌, ◌↔◌, ℕ, ◌+◌, ◌<◌, ◌≤◌, ◌^◌, [], false, None, List, IsTrue, IfSome, IfNone, IfErr, Ok, OnOk, OnErr, IsOkUnless, length};
 ghost use Rattle.std.specs.FinMap as maps;
 ghost use Rattle.calls.specs.Names.{IsName};
-ghost use Rattle.calls.specs.Transactions.{Leads, Serial, committed, own};
+ghost use Rattle.calls.specs.Transactions.{Leads, Serial, committed, own, others};
 ghost use Rattle.undo_log.specs.Entries as logs;
 ghost use Rattle.undo_log.specs.Entries.{HasNoCall};
 ghost use Rattle.catalog.specs.Making as making;
 ghost use Rattle.undo_log.specs.Logs.{Lives, IsLeastLive};
 ghost use Rattle.boosted.specs.Shape.{CanAsk};
-ghost use Rattle.abstract_locks.specs.Holds.{IsClear, IsBusyRefusal};
-ghost use Rattle.calls.specs.Laters.{left_by};
+ghost use Rattle.calls.specs.declared.reply.Reply.{Reply};
+ghost use Rattle.abstract_locks.specs.Holds.{IsClear, IsBusyRefusal, IsGivenUp};
 ghost use Rattle.records.specs.declared.record.Record.{Record};
 ghost use Rattle.records.specs.Acts.{acts_of, event_of};
 ghost use Rattle.records.specs.Records.{IsRecord, IsNumber};
 ghost use Rattle.records.specs.Short.{AreShort};
-ghost use Rattle.txn.specs.Machine.{IsRunning, IsLeft, CanBegin, BeginRow, CommitRow, EndedRow, FallRow, MakeRow, CanCall, CallRow, BackRow, Steps};
+ghost use Rattle.txn.specs.Machine.{IsRunning, CanBegin, BeginRow, CommitRow, EndedRow, FallRow, MakeRow, CanCall, CallRow, CanPutOff, LaterRow, GoesTwice, BackRow, Steps};
 ghost use Rattle.txn.specs.Machines.{resting, unmade, HasRoomFor, IsUpheld, StepAnswers, RepeatAnswers};
 ghost use Rattle.txn.specs.Sound.{IsSound};
 
+use crate::laters::{is_going, run_laters};
 use crate::undoing::undo;
 use abstract_locks::NeedTable;
 use calls::limits::{MAX_CALLS, MAX_LIVE, MAX_WEAR};
 use calls::{Call, Kind, Name, Need, Refusal, Reply};
 use catalog::Parts;
-use records::{CallRecord, Coded, Record};
+use records::{CallRecord, Coded, LaterRecord, Record};
 use std::alloc::Global;
 use std::marker::Model;
-use undo_log::{Live, Logged};
+use undo_log::{Later, Live, Logged};
 
 /// The collections with the live transactions on them: the state that records lead to, one step a record.
 ///
@@ -84,7 +85,7 @@ impl<B: Parts + Coded> Machine<B> {
         &self.parts
     }
 
-    /// How often anything was entered, called or undone.
+    /// How often anything was entered, called, put off, run in a commit or undone.
     pub fn wear(&self) -> u64
         ensures { result ≡ self.now.wear }
     {
@@ -123,7 +124,7 @@ impl<B: Parts + Coded> Machine<B> {
     }
 
     /// Takes the record's step, where it is one from here, and answers true; false, with nothing changed, where it is
-    /// none. A step that leaves something to the commit is none.
+    /// none.
     ///
     /// NoMemory leaves all as before.
     pub fn repeat(&mut self, entry: Record) -> Result<bool, Refusal>
@@ -160,7 +161,8 @@ impl<B: Parts + Coded> Machine<B> {
         requires undone { HasNoCall number self.old.entries }
         ensures { EndedRow self.old number self.new }
     {
-        self.leave(number);
+        let live = &mut self.live;
+        take_out(live, &mut self.needs, number);
     }
 
     /// The collections, where the machine is no more needed.
@@ -221,12 +223,36 @@ impl<B: Parts + Coded> Machine<B> {
         Ok(())
     }
 
-    // Commits a transaction: what it asked for stays done, and its needs go.
+    // Puts the call off to the commit of the transaction, and notes it. NoMemory leaves all as before.
+    pub(crate) fn later(&mut self, number: u64, put: Later) -> Result<(), Refusal>
+        requires can { CanPutOff B.answers B.leaves B.belongs B.need self.old number put.at put.call }
+        requires room { HasRoomFor self.old 1 }
+        ensures ok { OnOk result (LaterRow B.answers B.leaves B.belongs B.need self.old number put.at put.call self.new) }
+        ensures same { OnErr result (self.new ≡ self.old) }
+        ensures refusal { IsOkUnless result Refusal.NoMemory }
+    {
+        self.needs.reserve(put.at)?;
+        self.live.reserve(number)?;
+        let need = B::need(&put.call, &Reply::Done);
+        if self.needs.ask(number, put.at, need).is_err() {
+            unreachable!();
+        }
+        self.live.push_later(number, put);
+        self.wear += 1;
+        Ok(())
+    }
+
+    // Commits a transaction: what it put off runs, in the order asked. All that it asked for stays done, and its needs
+    // go. It takes no memory.
     pub(crate) fn commit(&mut self, number: u64)
         requires { IsRunning self.old number }
-        ensures { CommitRow self.old number self.new }
+        ensures { CommitRow B.answers B.leaves self.old number self.new }
     {
-        self.leave(number);
+        let entries = self.live.in_order().as_slice();
+        let ran = run_laters(&mut self.parts, entries, number);
+        self.wear += ran;
+        let live = &mut self.live;
+        take_out(live, &mut self.needs, number);
     }
 
     // Makes a transaction falling of which nothing is left to undo.
@@ -252,11 +278,21 @@ impl<B: Parts + Coded> Machine<B> {
         self.live.is_live(number) && !self.live.is_falling(number)
     }
 
-    // How many calls of the transaction are not undone.
+    // How many calls of the transaction are not undone, those that it put off counted too.
     pub(crate) fn count_calls(&self, number: u64) -> usize
         ensures { result ≡ length (own number self.now.entries) }
     {
         self.live.count(number)
+    }
+
+    // Whether what the call, answered so, leaves to the commit is going already.
+    pub(crate) fn goes_twice(&self, number: u64, at: u8, call: &Call, reply: &Reply) -> bool
+        ensures { IsTrue result ↔ GoesTwice self.now.entries number (record { at = at; call = call.now; reply = reply.now }) }
+    {
+        match B::after(call, reply) {
+            Some(left) => is_going::<B>(self.live.in_order().as_slice(), number, at, &left),
+            None => false,
+        }
     }
 
     // Whether no other transaction holds a need in the way: Busy with the least that does.
@@ -276,6 +312,7 @@ impl<B: Parts + Coded> Machine<B> {
             Record::Make(kind, name) => self.repeat_make(kind, &name),
             Record::Begin(number) => self.repeat_begin(number),
             Record::Call(called) => self.repeat_call(called),
+            Record::Later(later) => self.repeat_later(later),
             Record::Commit(number) => Ok(self.repeat_commit(number)),
             Record::Back(number) => self.repeat_back(number),
             Record::Ended(number) => Ok(self.repeat_ended(number)),
@@ -327,6 +364,25 @@ impl<B: Parts + Coded> Machine<B> {
         Ok(true)
     }
 
+    fn repeat_later(&mut self, later: LaterRecord) -> Result<bool, Refusal>
+        ensures { StepAnswers (Steps B.answers B.leaves B.belongs B.names B.makes B.need B.inverse) self.old (Record.Later later) result self.new }
+    {
+        if !self.can_put_off(&later) {
+            return Ok(false);
+        }
+        let LaterRecord {
+            number,
+            collection,
+            call,
+        } = later;
+        let put = Later {
+            at: collection,
+            call,
+        };
+        self.later(number, put)?;
+        Ok(true)
+    }
+
     fn repeat_commit(&mut self, number: u64) -> bool
         ensures { StepAnswers (Steps B.answers B.leaves B.belongs B.names B.makes B.need B.inverse) self.old (Record.Commit number) (Ok result) self.new }
     {
@@ -357,16 +413,6 @@ impl<B: Parts + Coded> Machine<B> {
         true
     }
 
-    // Takes a transaction out, with what it asked for and its needs.
-    fn leave(&mut self, number: u64)
-        requires live { Lives self.old.live number }
-        requires done { IsRunning self.old number ⊎ HasNoCall number self.old.entries }
-        ensures { IsLeft self.old number self.new }
-    {
-        self.live.remove(number);
-        self.needs.give_up(number);
-    }
-
     // Whether the wear has room for one step more, behind which there are so many more calls to undo.
     fn has_room(&self, more: usize) -> bool
         requires { more ≤ 1 }
@@ -395,20 +441,29 @@ impl<B: Parts + Coded> Machine<B> {
         ensures { IsTrue result ↔ (IsRunning self.now called.now.number × CanAsk B.belongs self.now.now called.now.collection called.now.call ×
             (length (own called.now.number self.now.entries) < 1024) × HasRoomFor self.now 1) }
     {
-        self.is_running(called.number)
-            && self.parts.askable(called.collection, &called.call).is_ok()
-            && self.live.count(called.number) < MAX_CALLS
-            && self.has_room(1)
+        self.has_place(called.number) && self.parts.askable(called.collection, &called.call).is_ok()
     }
 
-    // Whether the call can get the reply, at once, with no other transaction in the way.
+    // Whether one call more of the transaction can be noted.
+    fn has_place(&self, number: u64) -> bool
+        ensures { IsTrue result ↔ (IsRunning self.now number × (length (own number self.now.entries) < 1024) × HasRoomFor self.now 1) }
+    {
+        self.is_running(number) && self.count_calls(number) < MAX_CALLS && self.has_room(1)
+    }
+
+    // Whether the call can get the reply, leaves nothing that is going already, and has no other transaction in the way.
     fn is_answered(&self, called: &CallRecord) -> bool
-        ensures { IsTrue result ↔ (B.answers self.now.now called.now.collection called.now.call called.now.reply × (left_by called.now.call called.now.reply ≡ []) ×
+        ensures { IsTrue result ↔ (B.answers self.now.now called.now.collection called.now.call called.now.reply × (GoesTwice self.now.entries called.now.number (event_of called.now) → ⊥) ×
             IsClear self.now.holds called.now.number called.now.collection (B.need called.now.call called.now.reply)) }
     {
         self.parts
             .fits(called.collection, &called.call, &called.reply)
-            && leaves_nothing::<B>(&called.call, &called.reply)
+            && !self.goes_twice(
+                called.number,
+                called.collection,
+                &called.call,
+                &called.reply,
+            )
             && self.is_clear(called)
     }
 
@@ -419,6 +474,25 @@ impl<B: Parts + Coded> Machine<B> {
         let need = B::need(&called.call, &called.reply);
         self.needs
             .test(called.number, called.collection, &need)
+            .is_ok()
+    }
+
+    // Whether the transaction can put the call off.
+    fn can_put_off(&self, later: &LaterRecord) -> bool
+        ensures { IsTrue result ↔ (CanPutOff B.answers B.leaves B.belongs B.need self.now later.now.number later.now.collection later.now.call × HasRoomFor self.now 1) }
+    {
+        self.has_place(later.number)
+            && self.parts.deferrable(later.collection, &later.call).is_ok()
+            && self.is_clear_later(later)
+    }
+
+    // Whether no other transaction holds a need that is in the way of the call to be put off.
+    fn is_clear_later(&self, later: &LaterRecord) -> bool
+        ensures { IsTrue result ↔ IsClear self.now.holds later.now.number later.now.collection (B.need later.now.call Reply.Done) }
+    {
+        let need = B::need(&later.call, &Reply::Done);
+        self.needs
+            .test(later.number, later.collection, &need)
             .is_ok()
     }
 }
@@ -433,9 +507,12 @@ fn unmade(refusal: Refusal) -> Result<bool, Refusal>
     }
 }
 
-// Whether the call, answered so, leaves nothing to the commit.
-fn leaves_nothing<B: Parts + Coded>(call: &Call, reply: &Reply) -> bool
-    ensures { IsTrue result ↔ (left_by call.now reply.now ≡ []) }
+// Takes a transaction out, with what it asked for and its needs.
+fn take_out(live: &mut Live, needs: &mut NeedTable, number: u64)
+    ensures live { live.new.live ≡ maps.remove live.old.live number }
+    ensures entries { live.new.entries ≡ others number live.old.entries }
+    ensures holds { IsGivenUp needs.old.holds needs.new.holds number }
 {
-    B::after(call, reply).is_none()
+    live.remove(number);
+    needs.give_up(number);
 }

@@ -7,4 +7,5 @@ pub mod WorldLemmas
 pub mod TurnLemmas
 pub mod StepLemmas
 pub mod PlayLemmas
+pub mod AnswerLemmas
 pub mod Begins

@@ -16,6 +16,7 @@ step_acts : (s : Step) (a : Answer) → acts_of_step s a ≡ acts_of (records_of
 step_acts (Step.Make name kind) (Answer.Placed place) = refl
 step_acts (Step.Enter n) Answer.Entered = refl
 step_acts (Step.Call n at call) (Answer.Replied reply) = refl
+step_acts (Step.Later n at call) Answer.PutOff = refl
 step_acts (Step.Commit n) (Answer.Placed place) = refl
 step_acts (Step.Back n) (Answer.Backed true) = refl
 step_acts (Step.Ended n) Answer.Ended = refl

@@ -22,6 +22,12 @@ zip-push [] (b ∷ ys) x y e = absurd (omega arith)
 zip-push (a ∷ xs) [] x y e = absurd (omega arith)
 zip-push (a ∷ xs) (b ∷ ys) x y e = ap (λ l. (a, b) ∷ l) (zip-push xs ys x y (omega arith))
 
+-- the steps so far with their answers, and one more
+pub zip-more : (steps : List Step) (answers more : List Answer) (i : ℕ) (x : Step) (a : Answer) → length answers ≡ i → i < length steps → x ≡ get_or steps i x → more ≡ answers ++ a ∷ [] → zip (take (i + 1) steps) more ≡ zip (take i steps) answers ++ (x, a) ∷ []
+zip-more steps answers more i x a count inside at is =
+    let size : length (take i steps) ≡ length answers = omega (arith, length-take-le i steps (omega (arith, inside)), count) in
+    (λ j. zip ((take_more steps i x inside ∙ ap (λ y. take i steps ++ y ∷ []) (sym at)) j) (is j)) ∙ zip-push (take i steps) answers x a size
+
 module _ {D : Type 0} (seen : D → List ℕ) (may_leave : D → List ℕ → Type 0) (moment : D → ℕ) (left_since : D → ℕ → List ℕ → Type 0) (start : List Collection) (past : Past) (w : Parts D) (had : HasPast seen may_leave start past w) where
   -- what was acknowledged at first is among the first of what is committed later
   known : (more : Past) (m : ℕ) → w.mark ≤ m → IsPrefix (acknowledged past) (take m (committed_in (past ++ more)))
@@ -71,9 +77,7 @@ module _ {D : Type 0} (seen : D → List ℕ) (may_leave : D → List ℕ → Ty
       → ((start : List Collection) (past : Past) → HasPast seen may_leave start past now → LeavesOnly moment left_since now.disk next.disk (Yields start (past ++ (x, a) ∷ []) (take now.mark (committed_in past))))
       → SoFar seen may_leave moment left_since first next steps more (i + 1) room_next
   so_far_goes_on now next answers more i room room_next x a so_far inside at is fits marks goes leaves =
-      let size : length (take i steps) ≡ length answers = omega (arith, length-take-le i steps (omega (arith, inside)), so_far.count) in
-      let pairs : zip (take (i + 1) steps) more ≡ zip (take i steps) answers ++ (x, a) ∷ [] =
-      (λ j. zip ((take_more steps i x inside ∙ ap (λ y. take i steps ++ y ∷ []) (sym at)) j) (is j)) ∙ zip-push (take i steps) answers x a size in
+      let pairs = zip-more steps answers more i x a so_far.count inside at is in
       record {
         count = omega (arith, ap length is, length-append answers (a ∷ []), so_far.count);
         fits = fits;

@@ -1,5 +1,5 @@
 -- Each step of a world leads its past on, and at each moment of it a stop yields what is known.
-use Rattle.std.proofs.Common.{◌≡◌, ℕ, ◌≤◌, max, Bool, true, false, List, [], ◌∷◌, ◌++◌, length, map, take, refl, sym, ◌∙◌, ap, subst, arith, Option, Some, None, Result, Ok, Err, OnOk}
+use Rattle.std.proofs.Common.{◌≡◌, ℕ, ◌≤◌, ◌<◌, max, Bool, true, false, List, [], ◌∷◌, ◌++◌, length, map, take, ⊎_elim, refl, sym, ◌∙◌, ap, subst, arith, Option, Some, None, Result, Ok, Err}
 use Rattle.std.specs.List.{AllByRecursion}
 use Rattle.calls.specs.declared.refusal.Refusal.{Refusal}
 use Rattle.calls.specs.Contents.{Collection}
@@ -18,17 +18,18 @@ use Rattle.records.specs.declared.record.Record.{Record}
 use Rattle.records.specs.Records.{spelling, IsRecord, call_record}
 use Rattle.records.specs.Acts.{places}
 use Rattle.calls.specs.Inverses.{inverse_of}
-use Rattle.txn.specs.Books.{Appends, MakeAnswers, EnterAnswers, CallAnswers, CommitAnswers, BackAnswers, EndedAnswers}
+use Rattle.txn.specs.Books.{Appends, MakeAnswers, EnterAnswers, CallAnswers, LaterAnswers, CommitAnswers, BackAnswers, EndedAnswers, later_record}
 use Rattle.recovery.specs.Steps.{Steps}
 use Rattle.recovery.specs.Journals.{records_in}
-use Rattle.checkpoint.specs.Keepers.{queue, TurnAnswers}
+use Rattle.checkpoint.specs.declared.laying.Laying.{Laying}
+use Rattle.checkpoint.specs.Keepers.{IsPast, OnKept, queue, TurnAnswers}
 use Rattle.world.specs.Pasts.{BookState, Past, committed_in, records_of_step, told, BookStep, CoreStep, turn_answer, mark_behind}
 use Rattle.world.specs.Crash.{Yields}
 use Rattle.world.specs.Worlds.{Carries, IsInUse, Trails, Parts, HasPast}
 use Rattle.world.proofs.PastLemmas.{committed_in-append, prefix_trans}
 use Rattle.world.proofs.TrailLemmas.{falls_on}
 use Rattle.world.proofs.WorldLemmas.{goes_on, stays, hands_over}
-use Rattle.world.proofs.TurnLemmas.{block_is, is_kept, is_faulted, moment_yields}
+use Rattle.world.proofs.TurnLemmas.{block_is, ends_late, is_kept, is_faulted, moment_yields}
 
 -- what is yielded of a past is yielded of more of it
 pub yields_on : (start : List Collection) (past more : Past) (known : List Transaction) (c : List ℕ) → Yields start past known c → Yields start (past ++ more) known c
@@ -72,6 +73,8 @@ module _ {D : Type 0} (seen : D → List ℕ) (may_leave : D → List ℕ → Ty
   core_past (Step.Call n at call, Answer.Replied reply) t waits good step =
       grows (Step.Call n at call) (Answer.Replied reply) (Record.Call (call_record n at call reply (inverse_of call reply))) t waits step.0 refl refl step.0.0 step.0.2.appends good step.1
   core_past (Step.Call n at call, Answer.Refused e) t waits good step = unchanged (Step.Call n at call) (Answer.Refused e) t waits step.0 step.0.0 step.1 refl (omega arith)
+  core_past (Step.Later n at call, Answer.PutOff) t waits good step = grows (Step.Later n at call) Answer.PutOff (later_record n at call) t waits step.0 refl refl step.0.0 step.0.2.appends good step.1
+  core_past (Step.Later n at call, Answer.Refused e) t waits good step = unchanged (Step.Later n at call) (Answer.Refused e) t waits step.0 step.0.0 step.1 refl (omega arith)
   core_past (Step.Commit n, Answer.Placed place) t waits good step = grows (Step.Commit n) (Answer.Placed place) (Record.Commit n) t waits step.0 refl refl step.0.0 step.0.1.appends good step.1
   core_past (Step.Commit n, Answer.Refused e) t waits good step = unchanged (Step.Commit n) (Answer.Refused e) t waits step.0 step.0.0 step.1 refl (omega arith)
   core_past (Step.Back n, Answer.Backed true) t waits good step = grows (Step.Back n) (Answer.Backed true) (Record.Back n) t waits step.0 refl refl step.0.0 step.0.1.appends good step.1
@@ -101,10 +104,10 @@ module _ {D : Type 0} (seen : D → List ℕ) (may_leave : D → List ℕ → Ty
       LeavesOnly moment left_since w.disk w.disk (Yields start (past ++ x ∷ []) (take w.mark (committed_in past)))
   quiet moment left_since only_now x = started moment left_since w.disk _ (λ c left. yields_on start past (x ∷ []) (take w.mark (committed_in past)) c (had.stop c (only_now c left)))
 
-  module _ (moment : D → ℕ) (left_since : D → ℕ → List ℕ → Type 0) (disk : D) (area : Area) (is_full : Block → Type 0) (is_risen : Type 0) (base_same : base_of area ≡ base_of w.area) (size_same : size_of area ≡ size_of w.area) (size_kept : length (seen disk) ≡ length (seen w.disk))
+  module _ (moment : D → ℕ) (left_since : D → ℕ → List ℕ → Type 0) (disk : D) (area : Area) (covered : ℕ) (image : Option Laying) (covers_none : covered ≡ 0) (no_image : image ≡ None) (is_full : Block → Type 0) (is_risen : Type 0) (base_same : base_of area ≡ base_of w.area) (size_same : size_of area ≡ size_of w.area) (size_kept : length (seen disk) ≡ length (seen w.disk))
       (only_now : (c : List ℕ) → left_since w.disk (moment w.disk) c → may_leave w.disk c) (counts_now : (t : ℕ) (c : List ℕ) → t ≤ moment disk → may_leave disk c → left_since disk t c) where
     abbrev pub Kept : Result Turn Refusal → Type 0
-    Kept r = (bodies : List (List ℕ)) (body : List ℕ) (b : Block) (rest : List Block) → w.waiting ≡ b ∷ rest → IsBlockOf body b.bytes.items → IsReady seen may_leave w.area w.disk bodies → OnOk r (IsReady seen may_leave area disk (bodies ++ body ∷ []))
+    Kept r = (bodies : List (List ℕ)) (body : List ℕ) (b : Block) (rest : List Block) → w.waiting ≡ b ∷ rest → IsBlockOf body b.bytes.items → covered < b.end → IsReady seen may_leave w.area w.disk bodies → OnKept r (IsReady seen may_leave area disk (bodies ++ body ∷ []))
 
     abbrev pub Moments : Type 0
     Moments = (bodies : List (List ℕ)) (body : List ℕ) (b : Block) (rest : List Block) → w.failed ≡ false → w.waiting ≡ b ∷ rest → IsBlockOf body b.bytes.items → IsReady seen may_leave w.area w.disk bodies →
@@ -114,6 +117,10 @@ module _ {D : Type 0} (seen : D → List ℕ) (may_leave : D → List ℕ → Ty
     Turned r waits mark fails =
         HasPast seen may_leave start (past ++ (Step.Turn, turn_answer r) ∷ []) (record { book = w.book; disk = disk; area = area; failed = fails; waiting = waits; mark = mark })
         × LeavesOnly moment left_since w.disk disk (Yields start (past ++ (Step.Turn, turn_answer r) ∷ []) (take w.mark (committed_in past)))
+
+    -- no image is in progress, so no block is past it
+    none_past : (end : ℕ) → IsPast image end → ⊥
+    none_past end = subst (λ i. IsPast i end → ⊥) (sym no_image) (λ past_it. past_it)
 
     -- a turn that changes nothing
     idle_turn : (r : Result Turn Refusal) (waits : List Block) (mark : ℕ) (fails : Bool) → BookStep w.book (Step.Turn, turn_answer r) w.book → records_of_step Step.Turn (turn_answer r) ≡ [] → told Step.Turn (turn_answer r) ≡ 0 →
@@ -130,6 +137,10 @@ module _ {D : Type 0} (seen : D → List ℕ) (may_leave : D → List ℕ → Ty
     module _ (b : Block) (waiting : List Block) (first : w.waiting ≡ b ∷ waiting) (fine : w.failed ≡ false) (moments : Moments) where
       found : (rs : List Record) × ((rest : List (List Record)) × (had.handed ≡ rs ∷ rest))
       found = head_carried (length (records_in had.kept)) (places (records_in had.kept)) b waiting had.handed (subst (λ q. Carries (length (records_in had.kept)) (places (records_in had.kept)) q had.handed) first had.carried)
+
+      -- and none is covered
+      late : covered < b.end
+      late = omega (arith, covers_none, ends_late seen may_leave start past w had b waiting first found.0 found.1.0 found.1.1)
 
       in_use : IsInUse seen may_leave w.area w.disk (had.old ++ had.kept)
       in_use = had.in_use fine
@@ -148,7 +159,7 @@ module _ {D : Type 0} (seen : D → List ℕ) (may_leave : D → List ℕ → Ty
       kept_turn : (mark : ℕ) → mark ≡ max w.mark b.place → Kept (Ok (Turn.Kept mark)) → Turned (Ok (Turn.Kept mark)) waiting mark false
       kept_turn mark mark_is kept = (
         is_kept seen may_leave start past w had b waiting first found.0 found.1.0 found.1.1 in_use disk area base_same size_same size_kept now mark mark_is
-            (kept (map spelling (had.old ++ had.kept)) (spelling found.0) b waiting first (block_is seen may_leave start past w had b waiting first found.0 found.1.0 found.1.1) in_use.ready),
+            (kept (map spelling (had.old ++ had.kept)) (spelling found.0) b waiting first (block_is seen may_leave start past w had b waiting first found.0 found.1.0 found.1.1) late in_use.ready),
         each_moment (Step.Turn, Answer.Turned (Turn.Kept mark)),
       )
 
@@ -159,7 +170,7 @@ module _ {D : Type 0} (seen : D → List ℕ) (may_leave : D → List ℕ → Ty
       )
 
     -- whatever a turn answers
-    pub turn_past : (r : Result Turn Refusal) (waiting : List Block) (held : Option Block) (mark : ℕ) (fails : Bool) → TurnAnswers w.waiting w.failed w.mark is_full ((area ≡ w.area) × (disk ≡ w.disk)) is_risen r waiting held mark fails → Kept r → Moments →
+    pub turn_past : (r : Result Turn Refusal) (waiting : List Block) (held : Option Block) (mark : ℕ) (fails : Bool) → TurnAnswers w.waiting w.failed w.mark (λ b. b.end ≤ covered) (λ b. IsPast image b.end) is_full ((area ≡ w.area) × (disk ≡ w.disk)) is_risen r waiting held mark fails → Kept r → Moments →
         Turned r (queue held waiting) mark fails
     turn_past (Ok Turn.Idle) waiting held mark fails a kept moments =
         idle_turn (Ok Turn.Idle) (queue held waiting) mark fails refl refl refl a.2.0 a.2.1 (a.3 ∙ sym a.1) a.4 (a.5 ∙ sym a.0)
@@ -167,44 +178,50 @@ module _ {D : Type 0} (seen : D → List ℕ) (may_leave : D → List ℕ → Ty
         idle_turn (Err Refusal.Failed) (queue held waiting) mark fails refl refl refl a.1.0 a.1.1 a.2 a.3 (a.4 ∙ sym a.0)
     turn_past (Ok (Turn.Kept place)) waiting held mark fails a kept moments =
         let b = a.1.0 in
-        let brought = a.1.2 in
+        ⊎_elim (λ dropped. absurd (omega (arith, dropped.0, late b waiting a.1.1 a.0 moments)))
+        (λ appended.
+        let brought = appended.2 in
         let here = kept_turn b waiting a.1.1 a.0 moments place brought.0 kept in
         subst (λ f. Turned (Ok (Turn.Kept place)) (queue held waiting) mark f) (sym brought.3)
-        (subst (λ h. Turned (Ok (Turn.Kept place)) (queue h waiting) mark false) (sym brought.2) (subst (λ m. Turned (Ok (Turn.Kept place)) waiting m false) (sym brought.1) here))
+        (subst (λ h. Turned (Ok (Turn.Kept place)) (queue h waiting) mark false) (sym brought.2) (subst (λ m. Turned (Ok (Turn.Kept place)) waiting m false) (sym brought.1) here)))
+        a.1.2
+    turn_past (Ok Turn.Held) waiting held mark fails a kept moments = absurd (none_past a.1.0.end a.1.2.1)
     turn_past (Err Refusal.Full) waiting held mark fails a kept moments =
-        let brought = a.1.2 in
+        let brought = a.1.2.2 in
         idle_turn (Err Refusal.Full) (queue held waiting) mark fails refl refl refl brought.1.0 brought.1.1 (ap (λ h. queue h waiting) brought.2 ∙ sym a.1.1) brought.3 (brought.4 ∙ sym a.0)
     turn_past (Err Refusal.Fault) waiting held mark fails a kept moments =
         let b = a.1.0 in
-        let brought = a.1.2 in
+        let brought = a.1.2.2 in
         let here = fault_turn b waiting a.1.1 a.0 moments Refusal.Fault in
         subst (λ f. Turned (Err Refusal.Fault) (queue held waiting) mark f) (sym brought.3)
         (subst (λ h. Turned (Err Refusal.Fault) (queue h waiting) mark true) (sym brought.1) (subst (λ m. Turned (Err Refusal.Fault) waiting m true) (sym brought.2) here))
-    turn_past (Err e) waiting held mark fails a kept moments = absurd a.1.2
+    turn_past (Err e) waiting held mark fails a kept moments = absurd a.1.2.2
 
     -- the same where the keeper's mark is the world's
     pub turned_past : (marked : ℕ) → w.mark ≡ marked → (r : Result Turn Refusal) (waiting : List Block) (held : Option Block) (mark : ℕ) (fails : Bool) →
-        TurnAnswers w.waiting w.failed marked is_full ((area ≡ w.area) × (disk ≡ w.disk)) is_risen r waiting held mark fails → Kept r → Moments → Turned r (queue held waiting) mark fails
+        TurnAnswers w.waiting w.failed marked (λ b. b.end ≤ covered) (λ b. IsPast image b.end) is_full ((area ≡ w.area) × (disk ≡ w.disk)) is_risen r waiting held mark fails → Kept r → Moments → Turned r (queue held waiting) mark fails
     turned_past marked same r waiting held mark fails a kept moments =
-        turn_past r waiting held mark fails (subst (λ m. TurnAnswers w.waiting w.failed m is_full ((area ≡ w.area) × (disk ≡ w.disk)) is_risen r waiting held mark fails) (sym same) a) kept moments
+        turn_past r waiting held mark fails (subst (λ m. TurnAnswers w.waiting w.failed m (λ b. b.end ≤ covered) (λ b. IsPast image b.end) is_full ((area ≡ w.area) × (disk ≡ w.disk)) is_risen r waiting held mark fails) (sym same) a) kept moments
 
 -- a turn's mark does not fall
-pub mark_rises : (q waiting : List Block) (failed fails : Bool) (m mark : ℕ) (is_full : Block → Type 0) (is_same is_risen : Type 0) (r : Result Turn Refusal) (held : Option Block) → TurnAnswers q failed m is_full is_same is_risen r waiting held mark fails → m ≤ mark
-mark_rises q waiting failed fails m mark is_full is_same is_risen (Ok Turn.Idle) held a = omega (arith, a.4)
-mark_rises q waiting failed fails m mark is_full is_same is_risen (Ok (Turn.Kept place)) held a = omega (arith, a.1.2.0, a.1.2.1)
-mark_rises q waiting failed fails m mark is_full is_same is_risen (Err Refusal.Failed) held a = omega (arith, a.3)
-mark_rises q waiting failed fails m mark is_full is_same is_risen (Err Refusal.Full) held a = omega (arith, a.1.2.3)
-mark_rises q waiting failed fails m mark is_full is_same is_risen (Err Refusal.Fault) held a = omega (arith, a.1.2.2)
-mark_rises q waiting failed fails m mark is_full is_same is_risen (Err e) held a = absurd a.1.2
+pub mark_rises : (q waiting : List Block) (failed fails : Bool) (m mark : ℕ) (is_covered is_past is_full : Block → Type 0) (is_same is_risen : Type 0) (r : Result Turn Refusal) (held : Option Block) → TurnAnswers q failed m is_covered is_past is_full is_same is_risen r waiting held mark fails → m ≤ mark
+mark_rises q waiting failed fails m mark is_covered is_past is_full is_same is_risen (Ok Turn.Idle) held a = omega (arith, a.4)
+mark_rises q waiting failed fails m mark is_covered is_past is_full is_same is_risen (Ok (Turn.Kept place)) held a = ⊎_elim (λ x. omega (arith, x.2, x.3)) (λ x. omega (arith, x.2.0, x.2.1)) a.1.2
+mark_rises q waiting failed fails m mark is_covered is_past is_full is_same is_risen (Ok Turn.Held) held a = omega (arith, a.1.2.4)
+mark_rises q waiting failed fails m mark is_covered is_past is_full is_same is_risen (Err Refusal.Failed) held a = omega (arith, a.3)
+mark_rises q waiting failed fails m mark is_covered is_past is_full is_same is_risen (Err Refusal.Full) held a = omega (arith, a.1.2.2.3)
+mark_rises q waiting failed fails m mark is_covered is_past is_full is_same is_risen (Err Refusal.Fault) held a = omega (arith, a.1.2.2.2)
+mark_rises q waiting failed fails m mark is_covered is_past is_full is_same is_risen (Err e) held a = absurd a.1.2.2
 
 -- the keeper's mark is the one that its turns told
-pub mark_is : (q waiting : List Block) (failed fails : Bool) (m mark : ℕ) (is_full : Block → Type 0) (is_same is_risen : Type 0) (r : Result Turn Refusal) (held : Option Block) → TurnAnswers q failed m is_full is_same is_risen r waiting held mark fails → mark_behind m r ≡ mark
-mark_is q waiting failed fails m mark is_full is_same is_risen (Ok Turn.Idle) held a = sym a.4
-mark_is q waiting failed fails m mark is_full is_same is_risen (Ok (Turn.Kept place)) held a = sym a.1.2.1
-mark_is q waiting failed fails m mark is_full is_same is_risen (Err Refusal.Failed) held a = sym a.3
-mark_is q waiting failed fails m mark is_full is_same is_risen (Err Refusal.Full) held a = sym a.1.2.3
-mark_is q waiting failed fails m mark is_full is_same is_risen (Err Refusal.Fault) held a = sym a.1.2.2
-mark_is q waiting failed fails m mark is_full is_same is_risen (Err e) held a = absurd a.1.2
+pub mark_is : (q waiting : List Block) (failed fails : Bool) (m mark : ℕ) (is_covered is_past is_full : Block → Type 0) (is_same is_risen : Type 0) (r : Result Turn Refusal) (held : Option Block) → TurnAnswers q failed m is_covered is_past is_full is_same is_risen r waiting held mark fails → mark_behind m r ≡ mark
+mark_is q waiting failed fails m mark is_covered is_past is_full is_same is_risen (Ok Turn.Idle) held a = sym a.4
+mark_is q waiting failed fails m mark is_covered is_past is_full is_same is_risen (Ok (Turn.Kept place)) held a = ⊎_elim (λ x. sym x.3) (λ x. sym x.2.1) a.1.2
+mark_is q waiting failed fails m mark is_covered is_past is_full is_same is_risen (Ok Turn.Held) held a = sym a.1.2.4
+mark_is q waiting failed fails m mark is_covered is_past is_full is_same is_risen (Err Refusal.Failed) held a = sym a.3
+mark_is q waiting failed fails m mark is_covered is_past is_full is_same is_risen (Err Refusal.Full) held a = sym a.1.2.2.3
+mark_is q waiting failed fails m mark is_covered is_past is_full is_same is_risen (Err Refusal.Fault) held a = sym a.1.2.2.2
+mark_is q waiting failed fails m mark is_covered is_past is_full is_same is_risen (Err e) held a = absurd a.1.2.2
 
 -- a block that the keeper holds stays before those in transit
 pub core_held : (held : Option Block) (s t : BookState) (transit left : List Block) (mark : ℕ) (x : Step × Answer) → CoreStep s transit mark x t left → CoreStep s (queue held transit) mark x t (queue held left)

@@ -1,5 +1,5 @@
 -- The state to which a book's records lead trails the book's: only who falls with nothing left to undo may differ.
-use Rattle.std.proofs.Common.{◌≡◌, ℕ, ◌==◌, ◌+◌, ◌⊎◌, inl, inr, ⊎_elim, Option, true, false, List, [], ◌∷◌, ◌++◌, map, refl, sym, ◌∙◌, ap, subst, arith}
+use Rattle.std.proofs.Common.{◌≡◌, ℕ, ◌==◌, ◌+◌, ◌⊎◌, inl, inr, ⊎_elim, Option, true, false, List, [], ◌∷◌, ◌++◌, length, map, refl, sym, ◌∙◌, ap, subst, arith}
 use Rattle.std.specs.Prelude.{◌↔◌}
 use Rattle.std.specs.FinMap as maps
 use Rattle.std.proofs.lemmas.Bool.{cases_eq}
@@ -9,14 +9,14 @@ use Rattle.calls.specs.declared.call.Call.{Call}
 use Rattle.calls.specs.declared.reply.Reply.{Reply}
 use Rattle.calls.specs.declared.need.Need.{Need}
 use Rattle.calls.specs.Contents.{Collection, AnswersAt, after_at}
-use Rattle.calls.specs.Transactions.{Event, Entry, Asked, own, others, calls_of, Makes}
+use Rattle.calls.specs.Transactions.{Event, Entry, Asked, PutOff, own, others, calls_of, laters_of, Makes}
 use Rattle.calls.specs.Needs.{need_of}
 use Rattle.calls.specs.Inverses.{inverse_of}
 use Rattle.catalog.specs.Places.{Belongs}
 use Rattle.catalog.specs.Making.{names_of}
 use Rattle.undo_log.specs.Entries.{HasNoCall}
 use Rattle.undo_log.specs.Logs.{Statuses, Lives, Falls, fallen}
-use Rattle.txn.specs.Machine.{IsRunning, IsLeft, BeginRow, CommitRow, EndedRow, FallRow, MakeRow, CallRow, BackRow}
+use Rattle.txn.specs.Machine.{IsRunning, IsLeft, BeginRow, CommitRow, EndedRow, FallRow, MakeRow, CallRow, LaterRow, BackRow}
 use Rattle.txn.proofs.Statuses.{fallen_is, lives_more, falls_more, falls_fresh, lives_fewer, falls_fewer}
 use Rattle.txn.proofs.Sizes.{len_begun, len_fallen, len_left}
 use Rattle.txn.proofs.Theory.Lists.{own_others_other, own_without}
@@ -95,7 +95,7 @@ module _ (b : State) (l : Statuses) (tr : Trails (with_live l b) b) where
   call_trails n e t row =
       let can = row.can in (
         record {
-          can = record { running = runs n can.running; asked = can.asked; few = can.few; answered = can.answered; at_once = can.at_once; clear = can.clear };
+          can = record { running = runs n can.running; asked = can.asked; few = can.few; answered = can.answered; once = can.once; clear = can.clear };
           room = row.room;
           holds = row.holds;
           is = ap (with_live l) row.is;
@@ -104,6 +104,24 @@ module _ (b : State) (l : Statuses) (tr : Trails (with_live l b) b) where
             let other : k ≡ n → ⊥ = λ same. can.running.standing (subst (Falls b.live) same falls) in
             subst (λ v. HasNoCall k v.entries) (sym row.is) (still_none k b.entries (b.entries ++ (n, Asked e) ∷ []) (push_own n k (Asked e) b.entries other) none)),
       )
+
+  later_trails : (n at : ℕ) (call : Call) (t : State) → LaterRow AnswersAt after_at Belongs need_of b n at call t → LaterRow AnswersAt after_at Belongs need_of (with_live l b) n at call (with_live l t) × Trails (with_live l t) t
+  later_trails n at call t row =
+      let can = row.can in (
+        record {
+          can = record { running = runs n can.running; put_off = can.put_off; few = can.few; ready = can.ready; clear = can.clear };
+          room = row.room;
+          holds = row.holds;
+          is = ap (with_live l) row.is;
+        },
+        stays t (ap (λ v. v.live) row.is) (λ k falls none.
+            let other : k ≡ n → ⊥ = λ same. can.running.standing (subst (Falls b.live) same falls) in
+            subst (λ v. HasNoCall k v.entries) (sym row.is) (still_none k b.entries (b.entries ++ (n, PutOff at call) ∷ []) (push_own n k (PutOff at call) b.entries other) none)),
+      )
+
+  -- what it put off runs
+  ran_trails : (now : List Collection) (wear : ℕ) → Trails (with_live l (record b { now = now; wear = wear })) (record b { now = now; wear = wear })
+  ran_trails now wear = record { is = refl; few = tr.few; lives = tr.lives; falls = tr.falls; undone = tr.undone }
 
   -- a transaction goes
   left_trails : (n : ℕ) (t : State) → Lives b.live n → IsLeft b n t → IsLeft (with_live l b) n (with_live (maps.remove l n) t) × Trails (with_live (maps.remove l n) t) t
@@ -188,9 +206,11 @@ with_trails : (b : State) (l : Statuses) → Trails (with_live l b) b → (r : R
 with_trails b l tr (Record.Make kind name) t row = let went = make_trails b l tr name kind t row in (with_live l t, went.0, went.1)
 with_trails b l tr (Record.Begin n) t row = let went = begin_trails b l tr n t row in (with_live (maps.insert l n false) t, went.0, went.1)
 with_trails b l tr (Record.Call c) t row = let went = call_trails b l tr c.number (event_of c) t row in (with_live l t, went.0, went.1)
+with_trails b l tr (Record.Later c) t row = let went = later_trails b l tr c.number c.collection c.call t row in (with_live l t, went.0, went.1)
 with_trails b l tr (Record.Commit n) t row =
-    let went = left_trails b l tr n t row.running.live row.left in
-    (with_live (maps.remove l n) t, record { running = runs b l tr n row.running; left = went.0 }, went.1)
+    let wear = b.wear + length (laters_of (own n b.entries)) in
+    let went = left_trails (record b { now = row.next; wear = wear }) l (ran_trails b l tr row.next wear) n t row.running.live row.left in
+    (with_live (maps.remove l n) t, record { running = runs b l tr n row.running; next = row.next; runs = row.runs; left = went.0 }, went.1)
 with_trails b l tr (Record.Back n) t row = let went = back_trails b l tr n t row in (with_live (fallen l n) t, went.0, went.1)
 with_trails b l tr (Record.Ended n) t row =
     let went = left_trails b l tr n t row.live row.left in

@@ -50,6 +50,11 @@ outside_headed area d c same headed =
       picks = ap (λ r. 4096 + size_of area * (r % 2)) root ∙ headed.picks;
     }
 
+-- a block carries a record, so it ends behind the start
+some_end : (end place : ℕ) (b : Block) (rs : List Record) → IsCarried end place b rs → 1 ≤ b.end
+some_end end place b [] is = absurd (omega (arith, is.block.fits.not_empty))
+some_end end place b (r ∷ rs) is = omega (arith, is.end_is)
+
 -- the records of a stage behind others
 module _ {D : Type 0} (seen : D → List ℕ) (may_leave : D → List ℕ → Type 0) (start : List Collection) (past : Past) (w : Parts D) (had : HasPast seen may_leave start past w)
     (b : Block) (waiting : List Block) (first_is : w.waiting ≡ b ∷ waiting) (rs : List Record) (handed : List (List Record)) (handed_is : had.handed ≡ rs ∷ handed) where
@@ -75,6 +80,9 @@ module _ {D : Type 0} (seen : D → List ℕ) (may_leave : D → List ℕ → Ty
 
   pub block_is : IsBlockOf (spelling rs) b.bytes.items
   block_is = carried.0.block
+
+  pub ends_late : 1 ≤ b.end
+  ends_late = some_end (length (records_in had.kept)) (places (records_in had.kept)) b rs carried.0
 
   pub places_now : places (records_in (had.kept ++ rs ∷ [])) ≡ b.place
   places_now = ap places kept_records ∙ places_append (records_in had.kept) rs ∙ sym carried.0.place_is

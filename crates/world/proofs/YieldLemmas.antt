@@ -38,6 +38,7 @@ journal_record : (r : Record) (s t : State) → Steps s r t → IsJournalRecord 
 journal_record (Record.Make kind name) s t row = tt
 journal_record (Record.Begin n) s t row = tt
 journal_record (Record.Call c) s t row = tt
+journal_record (Record.Later l) s t row = tt
 journal_record (Record.Commit n) s t row = tt
 journal_record (Record.Back n) s t row = tt
 journal_record (Record.Ended n) s t row = tt

@@ -1,8 +1,8 @@
 -- Pasts: steps with their answers; what they have committed, and what was acknowledged.
 use Rattle.std.specs.Prelude.{◌≡◌, ℕ, ◌+◌, ◌<◌, ◌≤◌, ◌^◌, max, true, false, List, [], ◌∷◌, ◌++◌, take, Result, Ok, Err}
-use Rattle.std.specs.List.{flat_map}
+use Rattle.std.specs.List.{flat_map, AllByRecursion}
 use Rattle.calls.specs.Contents.{Collection, AnswersAt, after_at}
-use Rattle.calls.specs.Transactions.{Transaction, Act, Begins, Asks, Commits, Creates, Asked, committed, Leads, Makes}
+use Rattle.calls.specs.Transactions.{Transaction, Act, Begins, Asks, Commits, Creates, Asked, PutOff, committed, Leads, Makes}
 use Rattle.calls.specs.Needs.{need_of}
 use Rattle.calls.specs.Inverses.{inverse_of}
 use Rattle.calls.specs.declared.refusal.Refusal.{Refusal}
@@ -25,6 +25,7 @@ abbrev pub acts_of_step : Step → Answer → List Act
 acts_of_step (Step.Make name kind) (Answer.Placed place) = Creates name kind ∷ []
 acts_of_step (Step.Enter n) Answer.Entered = Begins n ∷ []
 acts_of_step (Step.Call n at call) (Answer.Replied reply) = Asks n (Asked (record { at = at; call = call; reply = reply })) ∷ []
+acts_of_step (Step.Later n at call) Answer.PutOff = Asks n (PutOff at call) ∷ []
 acts_of_step (Step.Commit n) (Answer.Placed place) = Commits n ∷ []
 acts_of_step s a = []
 
@@ -54,6 +55,7 @@ abbrev pub records_of_step : Step → Answer → List Record
 records_of_step (Step.Make name kind) (Answer.Placed place) = Record.Make kind name ∷ []
 records_of_step (Step.Enter n) Answer.Entered = Record.Begin n ∷ []
 records_of_step (Step.Call n at call) (Answer.Replied reply) = Record.Call (call_record n at call reply (inverse_of call reply)) ∷ []
+records_of_step (Step.Later n at call) Answer.PutOff = books.later_record n at call ∷ []
 records_of_step (Step.Commit n) (Answer.Placed place) = Record.Commit n ∷ []
 records_of_step (Step.Back n) (Answer.Backed true) = Record.Back n ∷ []
 records_of_step (Step.Ended n) Answer.Ended = Record.Ended n ∷ []
@@ -74,8 +76,10 @@ BookStep s (Step.Enter n, Answer.Entered) t = books.EnterAnswers s n (Ok tt) t
 BookStep s (Step.Enter n, Answer.Refused e) t = books.EnterAnswers s n (Err e) t
 BookStep s (Step.Call n at call, Answer.Replied reply) t = books.CallAnswers AnswersAt after_at Belongs need_of inverse_of Misplaced s n at call (Ok reply) t
 BookStep s (Step.Call n at call, Answer.Refused e) t = books.CallAnswers AnswersAt after_at Belongs need_of inverse_of Misplaced s n at call (Err e) t
-BookStep s (Step.Commit n, Answer.Placed place) t = books.CommitAnswers s n (Ok place) t
-BookStep s (Step.Commit n, Answer.Refused e) t = books.CommitAnswers s n (Err e) t
+BookStep s (Step.Later n at call, Answer.PutOff) t = books.LaterAnswers AnswersAt after_at Belongs need_of Misplaced s n at call (Ok tt) t
+BookStep s (Step.Later n at call, Answer.Refused e) t = books.LaterAnswers AnswersAt after_at Belongs need_of Misplaced s n at call (Err e) t
+BookStep s (Step.Commit n, Answer.Placed place) t = books.CommitAnswers AnswersAt after_at s n (Ok place) t
+BookStep s (Step.Commit n, Answer.Refused e) t = books.CommitAnswers AnswersAt after_at s n (Err e) t
 BookStep s (Step.Back n, Answer.Backed undone) t = books.BackAnswers AnswersAt after_at inverse_of s n (Ok undone) t
 BookStep s (Step.Back n, Answer.Refused e) t = books.BackAnswers AnswersAt after_at inverse_of s n (Err e) t
 BookStep s (Step.Ended n, Answer.Ended) t = books.EndedAnswers s n (Ok tt) t
@@ -110,6 +114,34 @@ IsDraw next a after = ⊥
 abbrev pub Draws : ℕ → Step × Answer → ℕ → Type 0
 Draws next (Step.Draw, a) after = IsDraw next a after
 Draws next x after = after ≡ next
+
+-- Each step has answers of its own, and may be refused; a look is never refused.
+abbrev pub IsAnswerOf : Step → Answer → Type 0
+IsAnswerOf Step.Draw (Answer.Drawn n) = Unit {0}
+IsAnswerOf Step.Draw (Answer.Refused e) = Unit {0}
+IsAnswerOf (Step.Make name kind) (Answer.Placed place) = Unit {0}
+IsAnswerOf (Step.Make name kind) (Answer.Refused e) = Unit {0}
+IsAnswerOf (Step.Enter n) Answer.Entered = Unit {0}
+IsAnswerOf (Step.Enter n) (Answer.Refused e) = Unit {0}
+IsAnswerOf (Step.Call n at call) (Answer.Replied reply) = Unit {0}
+IsAnswerOf (Step.Call n at call) (Answer.Refused e) = Unit {0}
+IsAnswerOf (Step.Later n at call) Answer.PutOff = Unit {0}
+IsAnswerOf (Step.Later n at call) (Answer.Refused e) = Unit {0}
+IsAnswerOf (Step.Commit n) (Answer.Placed place) = Unit {0}
+IsAnswerOf (Step.Commit n) (Answer.Refused e) = Unit {0}
+IsAnswerOf (Step.Back n) (Answer.Backed undone) = Unit {0}
+IsAnswerOf (Step.Back n) (Answer.Refused e) = Unit {0}
+IsAnswerOf (Step.Ended n) Answer.Ended = Unit {0}
+IsAnswerOf (Step.Ended n) (Answer.Refused e) = Unit {0}
+IsAnswerOf Step.Cut (Answer.Cut handed) = Unit {0}
+IsAnswerOf Step.Cut (Answer.Refused e) = Unit {0}
+IsAnswerOf Step.Turn (Answer.Turned turn) = Unit {0}
+IsAnswerOf Step.Turn (Answer.Refused e) = Unit {0}
+IsAnswerOf Step.Look (Answer.Marked mark) = Unit {0}
+IsAnswerOf s a = ⊥
+
+abbrev pub AreAnswered : Past → Type 0
+AreAnswered past = AllByRecursion (λ x. IsAnswerOf x.0 x.1) past
 
 -- how a turn's result stands in a past
 abbrev pub turn_answer : Result Turn Refusal → Answer

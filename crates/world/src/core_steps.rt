@@ -52,6 +52,15 @@ fn call(book: &mut Book<Catalog>, number: u64, collection: u8, call: &Call) -> A
     }
 }
 
+fn later(book: &mut Book<Catalog>, number: u64, collection: u8, call: &Call) -> Answer
+    ensures { BookStep book.old (Step.Later number collection call.now, result) book.new }
+{
+    match book.later(number, collection, call) {
+        Ok(()) => Answer::PutOff,
+        Err(refusal) => Answer::Refused(refusal),
+    }
+}
+
 fn commit(book: &mut Book<Catalog>, number: u64) -> Answer
     ensures { BookStep book.old (Step.Commit number, result) book.new }
 {
@@ -105,6 +114,7 @@ fn take_one(
         Step::Make(name, kind) => make(book, name, *kind),
         Step::Enter(number) => enter(book, *number),
         Step::Call(number, collection, asked) => call(book, *number, *collection, asked),
+        Step::Later(number, collection, asked) => later(book, *number, *collection, asked),
         Step::Commit(number) => commit(book, *number),
         Step::Back(number) => back(book, *number),
         Step::Ended(number) => ended(book, *number),

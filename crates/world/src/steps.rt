@@ -13,7 +13,9 @@ pub enum Step {
     Enter(u64),
     /// A call of a live transaction on a collection.
     Call(u64, u8, Call),
-    /// Commits a live transaction.
+    /// A call that a live transaction puts off to its commit.
+    Later(u64, u8, Call),
+    /// Commits a live transaction: what it put off runs.
     Commit(u64),
     /// Undoes the newest call of a live transaction.
     Back(u64),
@@ -35,6 +37,8 @@ pub enum Answer {
     Placed(u64),
     Entered,
     Replied(Reply),
+    /// The call will run at the commit.
+    PutOff,
     /// Whether a call was undone.
     Backed(bool),
     Ended,

@@ -106,6 +106,42 @@ fn steps_are_answered(rt: HostRuntime) -> Result<(), Fail> {
     )
 }
 
+#[test]
+fn what_is_put_off_runs_at_the_commit(rt: HostRuntime) -> Result<(), Fail> {
+    let mut world = world_on(rt.alloc(), made(rt.alloc())?)?;
+    let asked = [
+        make(rt.alloc())?,
+        Step::Enter(1),
+        Step::Enter(2),
+        Step::Later(1, 0, Call::Bump(5)),
+        Step::Call(1, 0, Call::Read),
+        Step::Call(2, 0, Call::Read),
+        Step::Later(2, 0, Call::Read),
+    ];
+    check_steps(
+        &rt,
+        &mut world,
+        &asked,
+        "[Placed(1), Entered, Entered, PutOff, Replied(Total(0)), Refused(Busy(1)), Refused(BadArg)]",
+    )?;
+    let ended = [
+        Step::Commit(1),
+        Step::Call(2, 0, Call::Read),
+        Step::Later(2, 0, Call::Bump(1)),
+        Step::Back(2),
+        Step::Back(2),
+        Step::Ended(2),
+        Step::Enter(3),
+        Step::Call(3, 0, Call::Read),
+    ];
+    check_steps(
+        &rt,
+        &mut world,
+        &ended,
+        "[Placed(2), Replied(Total(5)), PutOff, Backed(true), Backed(false), Ended, Entered, Replied(Total(5))]",
+    )
+}
+
 // A commit that is handed over, on a disk whose device call of this number fails, and what is kept of it.
 fn kept_by(alloc: Global, call: u64) -> Result<(MemDisk, bool), Fail> {
     let mut disk = made(alloc)?;

@@ -1,10 +1,11 @@
 // The core as a list of steps.
-ghost use Rattle.std.specs.Prelude.{◌≡◌, ◌≤◌, ℕ, List, ◌++◌, ◌∷◌, [], take, length, IfOk, IfErr, OnErr, IsOkUnless};
+ghost use Rattle.std.specs.Prelude.{◌≡◌, ◌≤◌, ℕ, List, ◌++◌, ◌∷◌, [], take, length, None, IfOk, IfErr, OnErr, IsOkUnless};
 ghost use Rattle.std.specs.List.{zip};
 ghost use Rattle.calls.specs.Contents.{Collection};
+ghost use Rattle.calls.specs.Transactions.{Leads};
 ghost use Rattle.disk_model.specs.Disk.{LeavesOnly};
 ghost use Rattle.world.specs.declared.steps.Step.{Step};
-ghost use Rattle.world.specs.Pasts.{Past, committed_in, acknowledged, turn_answer, mark_behind};
+ghost use Rattle.world.specs.Pasts.{Past, committed_in, acknowledged, turn_answer, mark_behind, IsAnswerOf, AreAnswered, Draws};
 ghost use Rattle.world.specs.Crash.{Yields};
 ghost use Rattle.checkpoint.specs.Keepers.{IsFresh};
 ghost use Rattle.recovery.specs.Openings.{IsOpened, IsReadyStore};
@@ -29,6 +30,8 @@ pub struct World<D: Disk> {
     mark: u64,
     next: u64,
     ghost marked: { mark ≡ keeper.mark },
+    ghost covers_none: { keeper.covered ≡ 0 },
+    ghost no_image: { keeper.image ≡ None },
 }
 
 impl<D: Disk> World<D> {
@@ -82,6 +85,8 @@ impl<D: Disk> World<D> {
             LeavesOnly D.moment D.left_since self.old.keeper.disk self.new.keeper.disk
             (Yields start (past ++ (Step.Turn, result) ∷ []) (take self.old.mark (committed_in past))) }
         ensures mark { self.old.mark ≤ self.new.mark }
+        ensures own { IsAnswerOf Step.Turn result }
+        ensures drawn { self.new.next ≡ self.old.next }
     {
         let turned = self.keeper.turn(&mut self.transit);
         self.mark = mark_after(self.mark, &turned);
@@ -98,6 +103,8 @@ impl<D: Disk> World<D> {
             LeavesOnly D.moment D.left_since self.old.keeper.disk self.new.keeper.disk
             (Yields start (past ++ (step.now, result) ∷ []) (take self.old.mark (committed_in past))) }
         ensures mark { self.old.mark ≤ self.new.mark }
+        ensures own { IsAnswerOf step.now result }
+        ensures drawn { Draws self.old.next (step.now, result) self.new.next }
     {
         match step {
             Step::Turn => self.turn(),
@@ -117,7 +124,8 @@ impl<D: Disk> World<D> {
 /// For every past that the world has, it afterwards has that past followed by the steps with their answers. Whatever a
 /// stop at any moment since the call began might have left, also within a device write, is sound and stands for a
 /// content that some beginning of the committed transactions gives, each run whole, one after another, with the replies
-/// that its client got; and that beginning holds all that was acknowledged before.
+/// that its client got; and that beginning holds all that was acknowledged before. Each step is answered in its own way
+/// or refused, and the draws among them give the next numbers, one after another.
 ///
 /// Refused only for want of memory, with no step taken.
 pub fn play<D: Disk>(
@@ -133,6 +141,8 @@ pub fn play<D: Disk>(
         IfOk result (λ answers. LeavesOnly D.moment D.left_since world.old.keeper.disk world.new.keeper.disk
         (Yields start (past ++ zip steps.now answers.items) (acknowledged past))) }
     ensures each { IfOk result (λ answers. length answers.items ≡ length steps.now) }
+    ensures own { IfOk result (λ answers. AreAnswered (zip steps.now answers.items)) }
+    ensures drawn { IfOk result (λ answers. Leads Draws (zip steps.now answers.items) world.old.next world.new.next) }
     ensures only { IsOkUnless result Refusal.NoMemory }
     ensures err { OnErr result (world.new ≡ world.old) }
 {

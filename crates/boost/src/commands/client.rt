@@ -1,15 +1,17 @@
 // What a script's client does, one request at a time.
-ghost use Rattle.std.specs.Prelude.{◌≡◌, IfOk, OnErr, Some, MatchOption, IsTrue, ◌↔◌, ◌≤◌};
-ghost use Rattle.txn.specs.Books.{MakeAnswers};
 ghost use Rattle.boost.specs.declared.commands.client.Client.{Client};
-ghost use Rattle.boost.specs.Clients.{Begins, Enters, Calls, Commits, UndoesAll, Ends, Aborts, AskedFor};
+ghost use Rattle.boost.specs.Plays.{Runs};
+ghost use Rattle.boost.specs.Clients.{Makes, Begins, Enters, AsksFor, PutsOff, Calls, Commits, UndoesAll, Ends, Aborts, AskedFor, Looks};
 
+use crate::commands::steps;
 use crate::script::Operation;
-use calls::limits::{MAX_CALLS, NUMBER_END};
+use boosted::Boosted;
+use calls::limits::MAX_CALLS;
 use calls::{Call, Kind, Name, Refusal, Reply};
-use catalog::Parts;
-use records::Coded;
-use txn::Book;
+use catalog::Catalog;
+use disk_model::Disk;
+use std::alloc::Global;
+use world::World;
 
 /// A client's open transaction: its number, and whether the book knows it.
 #[derive(Clone, Copy, Debug)]
@@ -19,6 +21,9 @@ pub struct Begun {
 }
 
 /// A client of a script: its open transaction, if any, and the place of what it last committed or made.
+///
+/// Each request takes steps of a world. NoMemory can stand in the place of each of its steps, where memory for the
+/// answer is wanting: then that step is not taken, and the client is as before it.
 #[derive(Clone, Copy, Debug)]
 pub struct Client {
     pub begun: Option<Begun>,
@@ -32,18 +37,18 @@ impl Client {
         ticket: None,
     };
 
-    /// Makes a collection, as `Book::make` does. Its place is the client's ticket then; a refusal leaves all as before.
-    pub fn make<B: Parts + Coded>(
+    /// Makes a collection, as `Book::make` does. Its place is the client's ticket then; a refusal leaves the client as
+    /// before.
+    pub fn make<D: Disk>(
         &mut self,
-        book: &mut Book<B>,
+        alloc: Global,
+        world: &mut World<D>,
         kind: Kind,
-        name: &Name,
+        name: Name,
     ) -> Result<u64, Refusal>
-        ensures answer { MakeAnswers B.names B.makes book.old name.now kind result book.new }
-        ensures ticket { IfOk result (λ place. self.new ≡ record { begun = self.old.begun; ticket = Some place }) }
-        ensures err { OnErr result (self.new ≡ self.old) }
+        ensures { Runs world.old (λ steps. Makes self.old name kind result steps self.new) world.new }
     {
-        let place = book.make(name.as_str(), kind)?;
+        let place = steps::make(alloc, world, name, kind)?;
         self.ticket = Some(place);
         Ok(place)
     }
@@ -52,17 +57,13 @@ impl Client {
     /// the commit.
     ///
     /// AlreadyLive where one is open, then Worn where the next number is 2^61; both leave all as before.
-    pub fn begin(&mut self, next: &mut u64) -> Result<u64, Refusal>
-        ensures { Begins self.old next.old result self.new next.new }
+    pub fn begin<D: Disk>(&mut self, alloc: Global, world: &mut World<D>) -> Result<u64, Refusal>
+        ensures { Runs world.old (λ steps. Begins self.old result steps self.new) world.new }
     {
         if self.begun.is_some() {
             return Err(Refusal::AlreadyLive);
         }
-        if *next >= NUMBER_END {
-            return Err(Refusal::Worn);
-        }
-        let number = *next;
-        *next += 1;
+        let number = steps::draw(alloc, world)?;
         self.begun = Some(Begun {
             number,
             is_entered: false,
@@ -71,19 +72,21 @@ impl Client {
     }
 
     // The number of the open transaction, which the book knows then.
-    fn enter<B: Parts + Coded>(&mut self, book: &mut Book<B>) -> Result<u64, Refusal>
-        ensures { Enters self.old book.old result self.new book.new }
+    fn enter<D: Disk>(&mut self, alloc: Global, world: &mut World<D>) -> Result<u64, Refusal>
+        ensures { Runs world.old (λ steps. Enters self.old result steps self.new) world.new }
     {
-        let Some(Begun { number, is_entered }) = self.begun else {
+        let Some(begun) = self.begun else {
             return Err(Refusal::NoSuchTxn);
         };
-        if !is_entered {
-            book.enter(number)?;
-            self.begun = Some(Begun {
-                number,
-                is_entered: true,
-            });
+        let number = begun.number;
+        if begun.is_entered {
+            return Ok(number);
         }
+        steps::enter(alloc, world, number)?;
+        self.begun = Some(Begun {
+            number,
+            is_entered: true,
+        });
         Ok(number)
     }
 
@@ -91,29 +94,48 @@ impl Client {
     ///
     /// NoSuchTxn where no transaction is open; where the book does not know it yet, the refusals of `Book::enter`; then
     /// those of `Book::find`, and of `Book::call`. The transaction stays open.
-    pub fn call<B: Parts + Coded>(
+    pub fn call<D: Disk>(
         &mut self,
-        book: &mut Book<B>,
+        alloc: Global,
+        world: &mut World<D>,
         name: &Name,
         operation: Operation,
     ) -> Result<Reply, Refusal>
-        ensures { Calls B.answers B.leaves B.belongs B.need B.inverse B.misplaced B.names self.old book.old name.now operation result self.new book.new }
+        ensures { Calls self.old world.old name.now (AsksFor operation) result self.new world.new }
     {
-        let number = self.enter(book)?;
-        let collection = book.find(name.as_str())?;
-        let call = call_of(book.parts(), collection, operation);
-        book.call(number, collection, &call)
+        let number = self.enter(alloc, world)?;
+        let collection = world.book().find(name.as_str())?;
+        let call = call_of(world.book().parts(), collection, operation);
+        steps::call(alloc, world, number, collection, call)
+    }
+
+    /// Puts a bump of the counter of the name off to the commit.
+    ///
+    /// NoSuchTxn where no transaction is open; where the book does not know it yet, the refusals of `Book::enter`; then
+    /// those of `Book::find`, and of `Book::later`. The transaction stays open.
+    pub fn later<D: Disk>(
+        &mut self,
+        alloc: Global,
+        world: &mut World<D>,
+        name: &Name,
+        by: i64,
+    ) -> Result<(), Refusal>
+        ensures { Calls self.old world.old name.now (PutsOff by) result self.new world.new }
+    {
+        let number = self.enter(alloc, world)?;
+        let collection = world.book().find(name.as_str())?;
+        steps::later(alloc, world, number, collection, Call::Bump(by))
     }
 
     /// Commits the open transaction, which is none then. Its place is the client's ticket.
     ///
     /// NoSuchTxn where no transaction is open; where the book does not know it yet, the refusals of `Book::enter`; then
     /// those of `Book::commit`. At a refusal the transaction stays open.
-    pub fn commit<B: Parts + Coded>(&mut self, book: &mut Book<B>) -> Result<u64, Refusal>
-        ensures { Commits self.old book.old result self.new book.new }
+    pub fn commit<D: Disk>(&mut self, alloc: Global, world: &mut World<D>) -> Result<u64, Refusal>
+        ensures { Runs world.old (λ steps. Commits self.old result steps self.new) world.new }
     {
-        let number = self.enter(book)?;
-        let place = book.commit(number)?;
+        let number = self.enter(alloc, world)?;
+        let place = steps::commit(alloc, world, number)?;
         *self = Client {
             begun: None,
             ticket: Some(place),
@@ -126,34 +148,41 @@ impl Client {
     ///
     /// NoSuchTxn where no transaction is open, then the refusals of `Book::back` and `Book::ended`. At a refusal the
     /// transaction stays open.
-    pub fn abort<B: Parts + Coded>(&mut self, book: &mut Book<B>) -> Result<(), Refusal>
-        ensures { Aborts B.answers B.leaves B.inverse self.old book.old result self.new book.new }
+    pub fn abort<D: Disk>(&mut self, alloc: Global, world: &mut World<D>) -> Result<(), Refusal>
+        ensures { Runs world.old (λ steps. Aborts self.old result steps self.new) world.new }
     {
         let Some(begun) = self.begun else {
             return Err(Refusal::NoSuchTxn);
         };
         if begun.is_entered {
-            undo(book, begun.number)?;
+            undo(alloc, world, begun.number)?;
         }
         self.begun = None;
         Ok(())
     }
 
-    /// Whether the mark has reached the client's ticket, if it has one.
-    pub fn is_kept(&self, mark: u64) -> Option<bool>
-        ensures { MatchOption result (self.now.ticket ≡ None) (λ kept. MatchOption self.now.ticket ⊥ (λ ticket. IsTrue kept ↔ (ticket ≤ mark))) }
+    /// Whether the mark has reached the client's ticket, if it has one: then it looks at the mark.
+    pub fn is_kept<D: Disk>(
+        &self,
+        alloc: Global,
+        world: &mut World<D>,
+    ) -> Result<Option<bool>, Refusal>
+        ensures { Runs world.old (Looks self.now.ticket result) world.new }
     {
-        let ticket = self.ticket?;
-        Some(ticket <= mark)
+        let Some(ticket) = self.ticket else {
+            return Ok(None);
+        };
+        let mark = steps::look(alloc, world)?;
+        Ok(Some(ticket <= mark))
     }
 }
 
 // Undoes the calls of a transaction, the newest first: it has at most so many.
-fn undo_all<B: Parts + Coded>(book: &mut Book<B>, number: u64) -> Result<(), Refusal>
-    ensures { UndoesAll B.answers B.leaves B.inverse number book.old result book.new }
+fn undo_all<D: Disk>(alloc: Global, world: &mut World<D>, number: u64) -> Result<(), Refusal>
+    ensures { Runs world.old (UndoesAll number result) world.new }
 {
     for _ in 0..=MAX_CALLS {
-        if !book.back(number)? {
+        if !steps::back(alloc, world, number)? {
             return Ok(());
         }
     }
@@ -161,22 +190,22 @@ fn undo_all<B: Parts + Coded>(book: &mut Book<B>, number: u64) -> Result<(), Ref
 }
 
 // Undoes the calls of a transaction, and ends it.
-fn undo<B: Parts + Coded>(book: &mut Book<B>, number: u64) -> Result<(), Refusal>
-    ensures { Ends B.answers B.leaves B.inverse number book.old result book.new }
+fn undo<D: Disk>(alloc: Global, world: &mut World<D>, number: u64) -> Result<(), Refusal>
+    ensures { Runs world.old (Ends number result) world.new }
 {
-    undo_all(book, number)?;
-    book.ended(number)
+    undo_all(alloc, world, number)?;
+    steps::end(alloc, world, number)
 }
 
 // The call that is asked for. A removal is one of a map where a client can ask for that, and else one of a set.
-fn call_of<B: Parts>(parts: &B, collection: u8, operation: Operation) -> Call
-    ensures { AskedFor B.belongs parts.now collection operation result }
+fn call_of(catalog: &Catalog, collection: u8, operation: Operation) -> Call
+    ensures { AskedFor catalog.now collection operation result }
 {
     match operation {
         Operation::Call(call) => call,
         Operation::Remove(key) => {
             let call = Call::MapRemove(key);
-            match parts.askable(collection, &call) {
+            match catalog.askable(collection, &call) {
                 Ok(()) => call,
                 Err(_) => Call::SetRemove(key),
             }

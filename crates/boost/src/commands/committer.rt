@@ -1,35 +1,32 @@
 // A turn of the committer.
 ghost use Rattle.std.specs.Prelude.{◌≡◌};
-ghost use Rattle.boost.specs.Turns.{Turns};
+ghost use Rattle.boost.specs.Plays.{Runs};
+ghost use Rattle.boost.specs.Turns.{Turns, passing};
 
-use crate::transit::Transit;
+use crate::commands::steps;
 use calls::Refusal;
-use catalog::Parts;
-use checkpoint::{Keeper, Turn};
+use checkpoint::Turn;
 use disk_model::Disk;
-use records::Coded;
-use txn::Book;
+use std::alloc::Global;
+use world::World;
 
-/// Hands a block over where there is room for one, and brings the next one to the disk. The mark is that of the keeper.
+/// Hands a block over where there is room for one, and brings the next one to the disk.
 ///
-/// The refusals of `Keeper::turn`. That there was no room for a block is passed over.
-pub fn turn<B: Parts + Coded, D: Disk>(
-    book: &mut Book<B>,
-    transit: &mut Transit,
-    keeper: &mut Keeper<D>,
-    mark: &mut u64,
-) -> Result<Turn, Refusal>
-    requires { mark.old ≡ keeper.old.mark }
-    ensures answer { Turns D.fault_count book.old transit.old.blocks.items keeper.old result book.new transit.new.blocks.items keeper.new }
-    ensures mark { mark.new ≡ keeper.new.mark }
+/// The refusals of `Keeper::turn`. That there was no room for a block is passed over. NoMemory where memory for the
+/// answer of one of the two steps is wanting, and then that step is not taken.
+pub fn turn<D: Disk>(alloc: Global, world: &mut World<D>) -> Result<Turn, Refusal>
+    ensures { Runs world.old (Turns result) world.new }
 {
-    match book.cut(transit) {
-        Ok(_) | Err(Refusal::NotNow) => {}
-        Err(refusal) => return Err(refusal),
+    passed(steps::cut(alloc, world))?;
+    steps::bring(alloc, world)
+}
+
+// That there was no room for a block is passed over.
+fn passed(cut: Result<bool, Refusal>) -> Result<(), Refusal>
+    ensures { result ≡ passing cut }
+{
+    match cut {
+        Ok(_) | Err(Refusal::NotNow) => Ok(()),
+        Err(refusal) => Err(refusal),
     }
-    let turn = keeper.turn(transit)?;
-    if let Turn::Kept(place) = turn {
-        *mark = place;
-    }
-    Ok(turn)
 }

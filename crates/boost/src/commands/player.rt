@@ -1,121 +1,134 @@
 // A script's clients and its committer, line by line.
-ghost use Rattle.std.specs.Prelude.{◌≡◌, ◌<◌, IfErr};
+ghost use Rattle.std.specs.Prelude.{◌≡◌, All, IfErr};
 ghost use Rattle.boost.specs.Commands.{IsOfStore};
+ghost use Rattle.boost.specs.Plays.{IsPlayed};
+ghost use Rattle.boost.specs.Requests.{Obeys, Acts, Answers, PlaysLines, nobody, said_kept};
 
 use crate::commands::client::Client;
 use crate::commands::committer::turn;
 use crate::commands::failure::Failure;
 use crate::commands::texts::Said;
 use crate::script::{Action, Line, Request};
-use crate::transit::Transit;
 use calls::Refusal;
-use catalog::Catalog;
-use checkpoint::Keeper;
 use disk_model::Disk;
+use std::alloc::Global;
 use std::io::Write;
-use txn::Book;
+use world::World;
 
 // A script has so many clients.
 const CLIENTS: usize = 64;
 
-/// A book and its keeper, the blocks between them, and what the clients of a script have from line to line.
+/// A world, and what the clients of a script have from line to line.
 #[derive(Drop)]
 pub struct Player<D: Disk> {
-    book: Book<Catalog>,
-    keeper: Keeper<D>,
-    transit: Transit,
-    // the place up to which commits are kept
-    mark: u64,
-    // the next number to draw
-    next: u64,
+    world: World<D>,
     clients: [Client; CLIENTS],
-    ghost marked: { mark ≡ keeper.mark },
 }
 
 impl<D: Disk> Player<D> {
-    /// Before the first line, with nothing in transit and nothing kept.
-    pub fn new(book: Book<Catalog>, keeper: Keeper<D>, transit: Transit) -> Self
-        requires { keeper.mark ≡ 0 }
+    /// Before the first line.
+    pub fn new(world: World<D>) -> Self
+        ensures world { result.world ≡ world }
+        ensures clients { All (λ client. client ≡ nobody) result.clients }
     {
-        let next = book.next();
         Self {
-            book,
-            keeper,
-            transit,
-            mark: 0,
-            next,
+            world,
             clients: [Client::NEW; CLIENTS],
         }
     }
 
     /// The disk. No device is called.
-    pub fn into_disk(self) -> D {
-        let Self { keeper, .. } = self;
-        keeper.into_disk()
+    pub fn into_disk(self) -> D
+        ensures { result ≡ self.world.keeper.disk }
+    {
+        let Self { world, .. } = self;
+        world.into_disk()
     }
 
-    /// Carries lines out, and prints for each its number and its answer.
+    /// Carries lines out, and prints for each its number and its answer. All that they do to the world is to take steps:
+    /// each past of it goes on with them, and whatever a stop at any moment since might have left is what that yields.
     pub fn play_lines<O: Write>(
         &mut self,
+        alloc: Global,
         lines: Vec<Line>,
         out: &mut O,
     ) -> Result<(), Failure<'static>>
-        ensures { IfErr result IsOfStore }
+        ensures why { IfErr result IsOfStore }
+        ensures plays { IsPlayed self.old.world self.new.world }
+        ensures lines { PlaysLines self.old.clients self.old.world lines.items result self.new.clients self.new.world }
     {
         for Line { number, what } in lines {
-            let said = self.answer(what);
-            writeln!(out, "{number}: {said}")?;
+            let said = self.answer(alloc, what);
+            write_line(out, number, said)?;
         }
         Ok(())
     }
 
     // What a line answers.
-    fn answer(&mut self, action: Action) -> Said {
-        let said = match action {
-            Action::Turn => self.turn(),
-            // clients are numbered from 1 to 64
-            Action::Client(number, request) => self.obey(usize::from(number) % CLIENTS, request),
-        };
-        match said {
+    fn answer(&mut self, alloc: Global, action: Action) -> Said
+        ensures { Answers self.old.clients self.old.world action result self.new.clients self.new.world }
+    {
+        match self.act(alloc, action) {
             Ok(said) => said,
             Err(refusal) => Said::Refused(refusal),
         }
     }
 
-    // Carries a client's request out.
-    fn obey(&mut self, client: usize, request: Request) -> Result<Said, Refusal>
-        requires { client < 64 }
+    // Does what a line asks for.
+    fn act(&mut self, alloc: Global, action: Action) -> Result<Said, Refusal>
+        ensures { Acts self.old.clients self.old.world action result self.new.clients self.new.world }
     {
-        let client = &mut self.clients[client];
-        let book = &mut self.book;
-        let said = match request {
-            Request::Make(kind, name) => Said::Placed(client.make(book, kind, &name)?),
-            Request::Begin => Said::Begun(client.begin(&mut self.next)?),
-            Request::Call(name, operation) => Said::Replied(client.call(book, &name, operation)?),
-            Request::Commit => Said::Placed(client.commit(book)?),
-            Request::Abort => {
-                client.abort(book)?;
-                Said::Aborted
+        match action {
+            Action::Turn => Ok(Said::Turned(turn(alloc, &mut self.world)?)),
+            // clients are numbered from 1 to 64
+            Action::Client(number, request) => {
+                let client = &mut self.clients[usize::from(number) % CLIENTS];
+                obey(alloc, &mut self.world, client, request)
             }
-            Request::Kept => said_of(client.is_kept(self.mark)),
-        };
-        Ok(said)
+        }
     }
+}
 
-    fn turn(&mut self) -> Result<Said, Refusal> {
-        let Self {
-            book,
-            keeper,
-            transit,
-            mark,
-            ..
-        } = self;
-        Ok(Said::Turned(turn(book, transit, keeper, mark)?))
+// Prints a line's number and its answer.
+fn write_line<O: Write>(out: &mut O, number: u64, said: Said) -> Result<(), Failure<'static>>
+    ensures { IfErr result IsOfStore }
+{
+    writeln!(out, "{number}: {said}")?;
+    Ok(())
+}
+
+// Carries a client's request out.
+fn obey<D: Disk>(
+    alloc: Global,
+    world: &mut World<D>,
+    client: &mut Client,
+    request: Request,
+) -> Result<Said, Refusal>
+    ensures { Obeys client.old world.old request result client.new world.new }
+{
+    match request {
+        Request::Make(kind, name) => Ok(Said::Placed(client.make(alloc, world, kind, name)?)),
+        Request::Begin => Ok(Said::Begun(client.begin(alloc, world)?)),
+        Request::Call(name, operation) => {
+            Ok(Said::Replied(client.call(alloc, world, &name, operation)?))
+        }
+        Request::Later(name, by) => {
+            client.later(alloc, world, &name, by)?;
+            Ok(Said::PutOff)
+        }
+        Request::Commit => Ok(Said::Placed(client.commit(alloc, world)?)),
+        Request::Abort => {
+            client.abort(alloc, world)?;
+            Ok(Said::Aborted)
+        }
+        Request::Kept => Ok(said_of(client.is_kept(alloc, world)?)),
     }
 }
 
 // What is said of a client's ticket.
-fn said_of(kept: Option<bool>) -> Said {
+fn said_of(kept: Option<bool>) -> Said
+    ensures { result ≡ said_kept kept }
+{
     match kept {
         None => Said::NoTicket,
         Some(true) => Said::Kept,

@@ -11,6 +11,8 @@ pub enum Said {
     /// The number of the transaction that begins.
     Begun(u64),
     Replied(Reply),
+    /// The call will run at the commit.
+    PutOff,
     /// The transaction was taken back.
     Aborted,
     /// The client's ticket is kept.
@@ -29,12 +31,14 @@ impl fmt::Display for Said {
             Said::Placed(place) => write!(f, "place {place}"),
             Said::Begun(number) => write!(f, "begun {number}"),
             Said::Replied(reply) => write_reply(f, reply),
+            Said::PutOff => write!(f, "done"),
             Said::Aborted => write!(f, "aborted"),
             Said::Kept => write!(f, "kept"),
             Said::NotYet => write!(f, "not yet"),
             Said::NoTicket => write!(f, "no ticket"),
             Said::Turned(Turn::Idle) => write!(f, "idle"),
             Said::Turned(Turn::Kept(place)) => write!(f, "kept {place}"),
+            Said::Turned(Turn::Held) => write!(f, "held"),
             Said::Refused(refusal) => {
                 let number = refusal.number();
                 write!(f, "refused {number} {refusal}")

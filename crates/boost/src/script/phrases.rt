@@ -1,13 +1,17 @@
 // What a line asks for.
-ghost use Rattle.std.specs.Prelude.{◌≡◌, IfOk, MatchOption};
+ghost use Rattle.std.specs.Prelude.{◌≡◌, ℤ, IfOk, MatchOption};
+ghost use Rattle.std.specs.Int.{w64};
+ghost use Rattle.std.specs.Int.RustNames.{FitsSigned};
+ghost use Rattle.calls.specs.declared.call.Call.{Call};
 ghost use Rattle.calls.specs.declared.kind.Kind.{Kind};
+ghost use Rattle.boost.specs.declared.script.action.Operation.{Operation};
 ghost use Rattle.boost.specs.declared.script.action.Request.{Request};
 ghost use Rattle.boost.specs.declared.script.action.Action.{Action};
-ghost use Rattle.boost.specs.ScriptTexts.{IsRequestOf, IsLineOf, IsClientLine, IsMakeOf, IsCallOf, kind_text};
+ghost use Rattle.boost.specs.ScriptTexts.{IsRequestOf, IsLineOf, IsClientLine, IsMakeOf, IsCallOf, IsLaterOf, kind_text, operation_text};
 
 use crate::script::action::{Action, Request};
 use crate::script::operations::operation;
-use crate::script::words::{behind, client, same, split_at_byte, word};
+use crate::script::words::{behind, client, number, same, split_at_byte, word};
 use calls::Kind;
 use std::alloc::{AllocError, Global};
 
@@ -23,6 +27,33 @@ fn called(alloc: Global, text: &[u8]) -> Result<Option<Request>, AllocError>
     };
     match operation(alloc, back)? {
         Some(asked) => Ok(Some(Request::Call(name, asked))),
+        None => Ok(None),
+    }
+}
+
+// By how much a bump is.
+fn bump(alloc: Global, text: &[u8]) -> Result<Option<i64>, AllocError>
+    ensures { IfOk result (λ found. MatchOption found ((n : ℤ) → FitsSigned w64 n → text.now ≡ operation_text (Operation.Call (Call.Bump n)) → ⊥)
+        (λ n. FitsSigned w64 n × (text.now ≡ operation_text (Operation.Call (Call.Bump n))))) }
+{
+    match behind(text, b"bump ") {
+        Some(rest) => number(alloc, rest),
+        None => Ok(None),
+    }
+}
+
+// What stands behind the word later.
+fn put_off(alloc: Global, text: &[u8]) -> Result<Option<Request>, AllocError>
+    ensures { IfOk result (λ found. MatchOption found ((r : Request) → IsLaterOf r text.now → ⊥) (λ r. IsLaterOf r text.now)) }
+{
+    let Some((front, back)) = split_at_byte(text, b' ') else {
+        return Ok(None);
+    };
+    let Some(name) = word(alloc, front)? else {
+        return Ok(None);
+    };
+    match bump(alloc, back)? {
+        Some(by) => Ok(Some(Request::Later(name, by))),
         None => Ok(None),
     }
 }
@@ -75,6 +106,9 @@ fn request(alloc: Global, text: &[u8]) -> Result<Option<Request>, AllocError>
     }
     if let Some(rest) = behind(text, b"call ") {
         return called(alloc, rest);
+    }
+    if let Some(rest) = behind(text, b"later ") {
+        return put_off(alloc, rest);
     }
     match behind(text, b"make ") {
         Some(rest) => made(alloc, rest),

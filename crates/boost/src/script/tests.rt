@@ -29,6 +29,18 @@ fn says_bump(line: Option<&Line>, number: u64, text: &str, by: i64) -> bool {
     }
 }
 
+fn says_later(line: Option<&Line>, number: u64, text: &str, by: i64) -> bool {
+    match line {
+        Some(
+            Line {
+                number: n,
+                what: Action::Client(1, Request::Later(name, m)),
+            },
+        ) => *n == number && name.as_str() == text && *m == by,
+        _ => false,
+    }
+}
+
 #[test]
 fn reads_each_line(rt: HostRuntime) -> Result<(), Fail> {
     let lines = parse(rt.alloc(), FIRST)?;
@@ -105,7 +117,7 @@ fn takes_any_word_as_a_name(rt: HostRuntime) -> Result<(), Fail> {
 
 #[test]
 fn refuses_each_line_that_it_does_not_know(rt: HostRuntime) {
-    let bad: [&[u8]; 58] = [
+    let bad: [&[u8]; 72] = [
         b"c1 call hits bump 01",
         b"c1 call hits bump -0",
         b"c1 call hits bump +1",
@@ -136,6 +148,20 @@ fn refuses_each_line_that_it_does_not_know(rt: HostRuntime) {
         b"c1 call m put 1 0g",
         b"c1 call q pluck 1 2",
         b"c1 call p free 1",
+        b"c1 later n read",
+        b"c1 later n bump",
+        b"c1 later n bump ",
+        b"c1 later n bump 01",
+        b"c1 later n bump -0",
+        b"c1 later n bump +1",
+        b"c1 later n bump 9223372036854775808",
+        b"c1 later n bump 1 ",
+        b"c1 later n bump  1",
+        b"c1 later  n bump 1",
+        b"c1 later n  bump 1",
+        b"c1 later n",
+        b"c1 later bump 1",
+        b"c1 laters n bump 1",
         b"c1 abort now",
         b"c1 call  bump 1",
         b"c1 call hits  bump 1",
@@ -250,6 +276,17 @@ fn reads_each_operation_without_a_key(rt: HostRuntime) -> Result<(), Fail> {
     assert!(rt; matches!(asked(&lines, 11), Some(Operation::Call(Call::Read))));
     assert!(rt; matches!(asked(&lines, 12), Some(Operation::Call(Call::Draw))));
     assert!(rt; matches!(asked(&lines, 13), Some(Operation::Call(Call::Release(7)))));
+    Ok(())
+}
+
+#[test]
+fn reads_bumps_that_are_put_off(rt: HostRuntime) -> Result<(), Fail> {
+    let script = b"c1 later n bump 5\nc1 later a.b bump -9223372036854775808\nc1 later n bump 0\n";
+    let lines = parse(rt.alloc(), script)?;
+    assert_eq!(rt; lines.len(), 3);
+    assert!(rt; says_later(lines.get(0), 1, "n", 5));
+    assert!(rt; says_later(lines.get(1), 2, "a.b", i64::MIN));
+    assert!(rt; says_later(lines.get(2), 3, "n", 0));
     Ok(())
 }
 

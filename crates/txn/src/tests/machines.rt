@@ -21,8 +21,10 @@ const NO_CALL: &str = "01 02 01 6e 0d 0000000000000001 \
     02 0000000000000001 00 0d 07 00000000000000000000000000000004 00 \
     02 0000000000000001 01 01 0000000000000007 02 00";
 
-// a later, the ends of a number that is not live, an end before the call is undone; and what stands in images alone.
-const NO_END: &str = "03 0000000000000001 00 0c 0000000000000005 \
+// laters of a number that is not live and on another kind, the ends of a number that is not live, an end before the call
+// is undone; and what stands in images alone.
+const NO_END: &str =
+    "03 0000000000000003 00 0c 0000000000000005 03 0000000000000001 01 0c 0000000000000005 \
     04 0000000000000003 05 0000000000000003 06 0000000000000003 06 0000000000000001 \
     07 01 01 73 09 0000000000000001 00 0c 0000000000000005 00 0c fffffffffffffffb \
     0b 0000000000000001 0000000000000000 0c";
@@ -30,6 +32,15 @@ const NO_END: &str = "03 0000000000000001 00 0c 0000000000000005 \
 // Once the call of the first is undone: it is falling, and no call is left.
 const FALLING: &str = "02 0000000000000001 00 0c 0000000000000005 00 0c fffffffffffffffb \
     04 0000000000000001 05 0000000000000001";
+
+// The first puts a bump off; it is undone; it draws an identifier, and gives it back.
+const LATER: &str = "03 0000000000000001 00 0c 0000000000000003";
+
+const ABORT: &str = "05 0000000000000001 06 0000000000000001";
+
+const DRAW: &str = "02 0000000000000001 02 0e 08 0000000000000000 10 0000000000000000";
+
+const RELEASE: &str = "02 0000000000000001 02 0f 0000000000000000 09 00";
 
 fn digit(byte: u8) -> Option<u8> {
     match byte {
@@ -93,6 +104,15 @@ fn check_held(
     Ok(())
 }
 
+fn check_pool(
+    rt: &(impl Abort + AllocGlobal),
+    machine: &Machine<Catalog>,
+    wanted: &str,
+) -> Result<(), Fail> {
+    assert_eq!(rt; shown(rt.alloc(), machine.parts(), 2)?.as_str(), wanted);
+    Ok(())
+}
+
 #[test]
 fn records_are_repeated(rt: HostRuntime) -> Result<(), Fail> {
     let mut machine = empty_machine(rt.alloc(), 0);
@@ -121,15 +141,56 @@ fn what_is_no_step_changes_nothing(rt: HostRuntime) -> Result<(), Fail> {
 }
 
 #[test]
-fn what_leaves_a_later_is_no_step(rt: HostRuntime) -> Result<(), Fail> {
+fn a_later_runs_at_the_commit(rt: HostRuntime) -> Result<(), Fail> {
     let mut machine = empty_machine(rt.alloc(), 0);
     check_repeated(&rt, &mut machine, START, true)?;
-    let draw = "02 0000000000000001 02 0e 08 0000000000000000 10 0000000000000000";
-    let queued = "02 0000000000000001 02 0f 0000000000000000 09 00";
+    check_repeated(&rt, &mut machine, LATER, true)?;
+    check_held(&rt, &machine, "[Number(5)]", "[Element(7)]")?;
+    assert_eq!(rt; machine.wear(), 5);
+    check_repeated(&rt, &mut machine, "04 0000000000000001", true)?;
+    check_held(&rt, &machine, "[Number(8)]", "[Element(7)]")?;
+    assert_eq!(rt; machine.wear(), 6);
+    Ok(())
+}
+
+#[test]
+fn an_abort_drops_a_later(rt: HostRuntime) -> Result<(), Fail> {
+    let mut machine = empty_machine(rt.alloc(), 0);
+    check_repeated(&rt, &mut machine, START, true)?;
+    check_repeated(&rt, &mut machine, LATER, true)?;
+    check_repeated(&rt, &mut machine, ABORT, true)?;
+    check_held(&rt, &machine, "[Number(0)]", "[Element(7)]")
+}
+
+#[test]
+fn a_queued_release_frees_at_the_commit(rt: HostRuntime) -> Result<(), Fail> {
+    let mut machine = empty_machine(rt.alloc(), 0);
+    check_repeated(&rt, &mut machine, START, true)?;
+    check_repeated(&rt, &mut machine, DRAW, true)?;
+    check_repeated(&rt, &mut machine, RELEASE, true)?;
+    // the same once more, and an identifier that is not taken
+    check_repeated(&rt, &mut machine, RELEASE, false)?;
     let absent = "02 0000000000000001 02 0f 0000000000000001 0a 00";
-    check_repeated(&rt, &mut machine, draw, true)?;
-    check_repeated(&rt, &mut machine, queued, false)?;
-    check_repeated(&rt, &mut machine, absent, true)
+    check_repeated(&rt, &mut machine, absent, true)?;
+    check_pool(&rt, &machine, "[Element(0)]")?;
+    check_repeated(&rt, &mut machine, "04 0000000000000001", true)?;
+    check_pool(&rt, &machine, "[]")
+}
+
+#[test]
+fn an_abort_drops_a_queued_release(rt: HostRuntime) -> Result<(), Fail> {
+    let mut machine = empty_machine(rt.alloc(), 0);
+    check_repeated(&rt, &mut machine, START, true)?;
+    check_repeated(&rt, &mut machine, DRAW, true)?;
+    check_repeated(
+        &rt,
+        &mut machine,
+        "04 0000000000000001 0d 0000000000000001",
+        true,
+    )?;
+    check_repeated(&rt, &mut machine, RELEASE, true)?;
+    check_repeated(&rt, &mut machine, ABORT, true)?;
+    check_pool(&rt, &machine, "[Element(0)]")
 }
 
 #[test]

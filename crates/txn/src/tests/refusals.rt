@@ -73,9 +73,24 @@ fn check_refused(
     Ok(())
 }
 
-// Bumps of the transaction 1, up to the most that it may ask for.
+// A call that is not put off, on any collection.
+fn check_later_refused(
+    rt: &(impl Abort + AllocGlobal),
+    book: &mut Book<Catalog>,
+    at: u8,
+    call: Call,
+    wanted: Refusal,
+) -> Result<(), Fail> {
+    let before = content(rt.alloc(), book)?;
+    assert_eq!(rt; book.later(1, at, &call), Err(wanted));
+    assert_eq!(rt; content(rt.alloc(), book)?.as_str(), before.as_str());
+    Ok(())
+}
+
+// Bumps of the transaction 1, the first put off, up to the most that it may ask for.
 fn bump_often(book: &mut Book<Catalog>) -> Result<(), Refusal> {
-    for _ in 0..1_024 {
+    book.later(1, 0, &Call::Bump(1))?;
+    for _ in 1..1_024 {
         book.call(1, 0, &Call::Bump(1))?;
     }
     Ok(())
@@ -86,7 +101,8 @@ fn a_transaction_asks_for_1024_calls(rt: HostRuntime) -> Result<(), Fail> {
     let mut book = book_of(rt.alloc(), "n", Kind::Counter)?;
     bump_often(&mut book)?;
     check_refused(&rt, &mut book, 0, Call::Bump(1), Refusal::TooManyCalls)?;
-    check_shown(&rt, &book, "[Number(1024)]")?;
+    check_later_refused(&rt, &mut book, 0, Call::Bump(1), Refusal::TooManyCalls)?;
+    check_shown(&rt, &book, "[Number(1023)]")?;
     assert_eq!(rt; book.back(1), Ok(true));
     check_step_refused(&rt, &mut book, Step::Commit, 1, Refusal::Falling)?;
     check_call(&rt, &mut book, 2, Call::Bump(1), Ok(Reply::Done))
@@ -122,6 +138,7 @@ fn numbers_lie_below_the_end(rt: HostRuntime) -> Result<(), Fail> {
 fn who_is_not_live_is_refused(rt: HostRuntime) -> Result<(), Fail> {
     let mut book = book_of(rt.alloc(), "n", Kind::Counter)?;
     check_call(&rt, &mut book, 9, Call::Read, Err(Refusal::NoSuchTxn))?;
+    assert_eq!(rt; book.later(9, 0, &Call::Bump(1)), Err(Refusal::NoSuchTxn));
     check_step_refused(&rt, &mut book, Step::Commit, 9, Refusal::NoSuchTxn)?;
     check_step_refused(&rt, &mut book, Step::Back, 9, Refusal::NoSuchTxn)?;
     check_step_refused(&rt, &mut book, Step::Ended, 9, Refusal::NoSuchTxn)?;
@@ -136,6 +153,7 @@ fn who_falls_is_undone_to_the_end(rt: HostRuntime) -> Result<(), Fail> {
     check_step_refused(&rt, &mut book, Step::Ended, 1, Refusal::Unfinished)?;
     assert_eq!(rt; book.back(1), Ok(true));
     check_refused(&rt, &mut book, 0, Call::Bump(1), Refusal::Falling)?;
+    check_later_refused(&rt, &mut book, 0, Call::Bump(1), Refusal::Falling)?;
     check_step_refused(&rt, &mut book, Step::Commit, 1, Refusal::Falling)?;
     check_step_refused(&rt, &mut book, Step::Ended, 1, Refusal::Unfinished)?;
     check_shown(&rt, &book, "[Number(5)]")
@@ -156,6 +174,7 @@ fn at_most_16384_records_wait(rt: HostRuntime) -> Result<(), Fail> {
     fill_backlog(&mut book)?;
     check_step_refused(&rt, &mut book, Step::Enter, 9_000, Refusal::Backlog)?;
     check_refused(&rt, &mut book, 0, Call::Bump(1), Refusal::Backlog)?;
+    check_later_refused(&rt, &mut book, 0, Call::Bump(1), Refusal::Backlog)?;
     check_step_refused(&rt, &mut book, Step::Commit, 1, Refusal::Backlog)?;
     check_step_refused(&rt, &mut book, Step::Back, 1, Refusal::Backlog)?;
     check_step_refused(&rt, &mut book, Step::Ended, 1, Refusal::Backlog)?;
@@ -173,11 +192,32 @@ fn calls_that_no_client_makes_are_refused(rt: HostRuntime) -> Result<(), Fail> {
 }
 
 #[test]
-fn a_call_leaves_nothing_to_the_commit(rt: HostRuntime) -> Result<(), Fail> {
+fn what_is_going_is_not_left_again(rt: HostRuntime) -> Result<(), Fail> {
     let mut book = book_of(rt.alloc(), "p", Kind::Pool)?;
     check_call(&rt, &mut book, 1, Call::Draw, Ok(Reply::Id(0)))?;
-    check_refused(&rt, &mut book, 0, Call::Release(0), Refusal::BadArg)?;
+    check_call(&rt, &mut book, 1, Call::Release(0), Ok(Reply::Queued))?;
+    check_refused(&rt, &mut book, 0, Call::Release(0), Refusal::AlreadyGoing)?;
+    check_call(&rt, &mut book, 1, Call::Release(1), Ok(Reply::Absent))?;
     check_call(&rt, &mut book, 1, Call::Release(1), Ok(Reply::Absent))
+}
+
+#[test]
+fn only_bumps_are_put_off(rt: HostRuntime) -> Result<(), Fail> {
+    let mut book = book_of(rt.alloc(), "n", Kind::Counter)?;
+    check_later_refused(&rt, &mut book, 0, Call::Read, Refusal::BadArg)?;
+    check_later_refused(&rt, &mut book, 0, Call::Bump(i64::MIN), Refusal::BadArg)?;
+    check_later_refused(&rt, &mut book, 0, Call::Draw, Refusal::WrongKind)?;
+    check_later_refused(&rt, &mut book, 1, Call::Bump(5), Refusal::NoSuchCollection)
+}
+
+#[test]
+fn a_reader_keeps_what_is_put_off_away(rt: HostRuntime) -> Result<(), Fail> {
+    let mut book = book_of(rt.alloc(), "n", Kind::Counter)?;
+    check_call(&rt, &mut book, 2, Call::Read, Ok(Reply::Total(0)))?;
+    check_later_refused(&rt, &mut book, 0, Call::Bump(5), Refusal::Busy(2))?;
+    assert_eq!(rt; book.commit(2), Ok(2));
+    assert_eq!(rt; book.later(1, 0, &Call::Bump(5)), Ok(()));
+    Ok(())
 }
 
 #[test]
@@ -190,15 +230,15 @@ fn a_long_value_is_refused(rt: HostRuntime) -> Result<(), Fail> {
 }
 
 // A book of one collection that is worn but for so many steps.
-fn nearly_worn(alloc: Global, left: u8) -> Result<Book<Catalog>, Refusal> {
+fn nearly_worn(alloc: Global, left: u8, kind: Kind) -> Result<Book<Catalog>, Refusal> {
     let mut book = Book::new(alloc, Catalog::new(alloc), 1, END - u64::from(left));
-    book.make("s", Kind::Set)?;
+    book.make("c", kind)?;
     Ok(book)
 }
 
 #[test]
 fn a_worn_book_only_ends_transactions(rt: HostRuntime) -> Result<(), Fail> {
-    let mut book = nearly_worn(rt.alloc(), 3)?;
+    let mut book = nearly_worn(rt.alloc(), 3, Kind::Set)?;
     book.enter(1)?;
     book.enter(2)?;
     check_call(&rt, &mut book, 1, Call::SetAdd(7), Ok(Reply::Yes))?;
@@ -209,6 +249,16 @@ fn a_worn_book_only_ends_transactions(rt: HostRuntime) -> Result<(), Fail> {
     assert_eq!(rt; book.ended(1), Ok(()));
     assert_eq!(rt; book.commit(2), Ok(2));
     check_shown(&rt, &book, "[]")
+}
+
+#[test]
+fn a_worn_book_runs_what_was_put_off(rt: HostRuntime) -> Result<(), Fail> {
+    let mut book = nearly_worn(rt.alloc(), 2, Kind::Counter)?;
+    book.enter(1)?;
+    assert_eq!(rt; book.later(1, 0, &Call::Bump(5)), Ok(()));
+    check_later_refused(&rt, &mut book, 0, Call::Bump(5), Refusal::Worn)?;
+    assert_eq!(rt; book.commit(1), Ok(2));
+    check_shown(&rt, &book, "[Number(5)]")
 }
 
 #[test]

@@ -90,3 +90,70 @@ fn a_key_that_is_not_there_keeps_others_off(rt: HostRuntime) -> Result<(), Fail>
     let put = Call::Put(u64::MAX, value(rt.alloc(), 1)?);
     check_call(&rt, &mut book, 2, put, Err(Refusal::Busy(1)))
 }
+
+// A counter to which the transaction 1 puts a bump off.
+fn put_off(rt: &(impl Abort + AllocGlobal)) -> Result<Book<Catalog>, Fail> {
+    let mut book = book_of(rt.alloc(), "n", Kind::Counter)?;
+    assert_eq!(rt; book.later(1, 0, &Call::Bump(5)), Ok(()));
+    check_call(rt, &mut book, 1, Call::Read, Ok(Reply::Total(0)))?;
+    check_call(rt, &mut book, 2, Call::Read, Err(Refusal::Busy(1)))?;
+    Ok(book)
+}
+
+#[test]
+fn what_is_put_off_shows_at_the_commit(rt: HostRuntime) -> Result<(), Fail> {
+    let mut book = put_off(&rt)?;
+    assert_eq!(rt; book.commit(1), Ok(2));
+    check_call(&rt, &mut book, 2, Call::Read, Ok(Reply::Total(5)))
+}
+
+#[test]
+fn what_is_put_off_is_dropped_by_an_abort(rt: HostRuntime) -> Result<(), Fail> {
+    let mut book = put_off(&rt)?;
+    assert_eq!(rt; book.back(1), Ok(true));
+    assert_eq!(rt; book.back(1), Ok(false));
+    assert_eq!(rt; book.ended(1), Ok(()));
+    check_call(&rt, &mut book, 2, Call::Read, Ok(Reply::Total(0)))
+}
+
+#[test]
+fn bumps_are_put_off_side_by_side(rt: HostRuntime) -> Result<(), Fail> {
+    let mut book = put_off(&rt)?;
+    assert_eq!(rt; book.commit(1), Ok(2));
+    assert_eq!(rt; book.later(2, 0, &Call::Bump(-1)), Ok(()));
+    check_call(&rt, &mut book, 3, Call::Bump(7), Ok(Reply::Done))?;
+    check_shown(&rt, &book, "[Number(12)]")?;
+    assert_eq!(rt; book.commit(2), Ok(3));
+    check_shown(&rt, &book, "[Number(11)]")
+}
+
+// An identifier that was drawn, and that the transaction 2 gives back.
+fn given_back(rt: &(impl Abort + AllocGlobal)) -> Result<Book<Catalog>, Fail> {
+    let mut book = book_of(rt.alloc(), "p", Kind::Pool)?;
+    check_call(rt, &mut book, 1, Call::Draw, Ok(Reply::Id(0)))?;
+    assert_eq!(rt; book.commit(1), Ok(2));
+    check_call(rt, &mut book, 2, Call::Release(0), Ok(Reply::Queued))?;
+    let again = Err(Refusal::AlreadyGoing);
+    check_call(rt, &mut book, 2, Call::Release(0), again)?;
+    check_call(rt, &mut book, 3, Call::Release(0), Err(Refusal::Busy(2)))?;
+    check_shown(rt, &book, "[Element(0)]")?;
+    Ok(book)
+}
+
+#[test]
+fn what_is_given_back_is_free_at_the_commit(rt: HostRuntime) -> Result<(), Fail> {
+    let mut book = given_back(&rt)?;
+    assert_eq!(rt; book.commit(2), Ok(3));
+    check_shown(&rt, &book, "[]")?;
+    check_call(&rt, &mut book, 3, Call::Draw, Ok(Reply::Id(0)))
+}
+
+#[test]
+fn what_is_given_back_stays_taken_in_an_abort(rt: HostRuntime) -> Result<(), Fail> {
+    let mut book = given_back(&rt)?;
+    assert_eq!(rt; book.back(2), Ok(true));
+    assert_eq!(rt; book.back(2), Ok(false));
+    assert_eq!(rt; book.ended(2), Ok(()));
+    check_shown(&rt, &book, "[Element(0)]")?;
+    check_call(&rt, &mut book, 3, Call::Release(0), Ok(Reply::Queued))
+}

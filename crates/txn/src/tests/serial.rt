@@ -16,11 +16,13 @@ enum What {
     Take,
     Least,
     Bump,
+    Later,
     Read,
     Draw,
+    Release,
 }
 
-const WHATS: [What; 13] = [
+const WHATS: [What; 15] = [
     What::Contains,
     What::SetAdd,
     What::SetRemove,
@@ -32,8 +34,10 @@ const WHATS: [What; 13] = [
     What::Take,
     What::Least,
     What::Bump,
+    What::Later,
     What::Read,
     What::Draw,
+    What::Release,
 ];
 
 #[derive(Clone, Copy)]
@@ -55,10 +59,11 @@ enum Told {
     Item(u64),
     Total(i128),
     Id(u64),
-    Other,
+    Queued,
+    Absent,
 }
 
-// A call that a transaction made.
+// A call that a transaction made, or a bump that it put off.
 #[derive(Clone, Copy)]
 struct Made {
     number: u64,
@@ -66,14 +71,14 @@ struct Made {
     told: Told,
 }
 
-// A set, a map of values of one byte and a queue, by key; a counter; and the identifiers that were drawn.
+// A set, a map of values of one byte and a queue, by key; a counter; and the identifiers that are taken.
 #[derive(Drop)]
 struct Plain {
     elements: [bool; 8],
     values: [Option<u8>; 8],
     copies: [u64; 8],
     total: i128,
-    drawn: Vec<u64>,
+    taken: Vec<u64>,
 }
 
 impl Plain {
@@ -83,7 +88,7 @@ impl Plain {
             values: [None; 8],
             copies: [0; 8],
             total: 0,
-            drawn: Vec::new(alloc),
+            taken: Vec::new(alloc),
         }
     }
 
@@ -155,9 +160,31 @@ impl Plain {
         let Told::Id(id) = told else {
             return Ok(false);
         };
-        let fresh = !self.drawn.contains(&id);
-        self.drawn.push(id)?;
+        let fresh = !self.taken.contains(&id);
+        self.taken.push(id)?;
         Ok(fresh)
+    }
+
+    // What the pool answers where an identifier is to go.
+    fn releases(&self, key: u8) -> Told {
+        if self.taken.contains(&(key as u64)) {
+            Told::Queued
+        } else {
+            Told::Absent
+        }
+    }
+
+    fn bump(&mut self, key: u8) {
+        self.total = self.total.wrapping_add(key as i128);
+    }
+
+    // Does at the commit what the call left to it, or what was put off.
+    fn settle(&mut self, ask: Ask, told: Told) {
+        match (ask.what, told) {
+            (What::Later, _) => self.bump(ask.key),
+            (What::Release, Told::Queued) => self.taken.retain(|id| *id != ask.key as u64),
+            _ => {}
+        }
     }
 
     // Whether the call is answered so, and makes it.
@@ -174,11 +201,13 @@ impl Plain {
                 Ok(self.of_queue(ask.what, ask.key) == told)
             }
             What::Bump => {
-                self.total = self.total.wrapping_add(ask.key as i128);
+                self.bump(ask.key);
                 Ok(told == Told::Done)
             }
+            What::Later => Ok(told == Told::Done),
             What::Read => Ok(told == Told::Total(self.total)),
             What::Draw => self.gives(told),
+            What::Release => Ok(self.releases(ask.key) == told),
         }
     }
 }
@@ -206,7 +235,8 @@ fn told_of(reply: &Reply) -> Told {
         Reply::Item(priority, _) => Told::Item(*priority),
         Reply::Total(total) => Told::Total(*total),
         Reply::Id(id) => Told::Id(*id),
-        _ => Told::Other,
+        Reply::Queued => Told::Queued,
+        Reply::Absent => Told::Absent,
     }
 }
 
@@ -216,8 +246,8 @@ fn place_of(what: What) -> u8 {
         What::Contains | What::SetAdd | What::SetRemove => 0,
         What::Get | What::Put | What::MapRemove | What::Ceiling => 1,
         What::QueueAdd | What::Take | What::Least => 2,
-        What::Bump | What::Read => 3,
-        What::Draw => 4,
+        What::Bump | What::Later | What::Read => 3,
+        What::Draw | What::Release => 4,
     }
 }
 
@@ -239,9 +269,10 @@ fn call_of(alloc: Global, ask: Ask) -> Result<Call, Fail> {
         What::QueueAdd => Ok(Call::QueueAdd(key, 0)),
         What::Take => Ok(Call::Take),
         What::Least => Ok(Call::Least),
-        What::Bump => Ok(Call::Bump(key as i64)),
+        What::Bump | What::Later => Ok(Call::Bump(key as i64)),
         What::Read => Ok(Call::Read),
         What::Draw => Ok(Call::Draw),
+        What::Release => Ok(Call::Release(key)),
     }
 }
 
@@ -262,7 +293,7 @@ impl Numbers {
     }
 
     fn ask(&mut self) -> Ask {
-        let what = WHATS[(self.below(13) % 13) as usize];
+        let what = WHATS[(self.below(15) % 15) as usize];
         let key = self.below(8);
         let value = self.below(255);
         Ask { what, key, value }
@@ -298,15 +329,42 @@ impl Run {
         })
     }
 
+    // What the book answers.
+    fn asked(
+        &mut self,
+        alloc: Global,
+        number: u64,
+        ask: Ask,
+    ) -> Result<Result<Told, Refusal>, Fail> {
+        let call = call_of(alloc, ask)?;
+        let at = place_of(ask.what);
+        if let What::Later = ask.what {
+            return Ok(self.book.later(number, at, &call).map(|_| Told::Done));
+        }
+        Ok(
+            self.book
+                .call(number, at, &call)
+                .map(|reply| told_of(&reply)),
+        )
+    }
+
+    // Whether the transaction released the identifier before.
+    fn is_going(&self, number: u64, ask: Ask) -> bool {
+        matches!(ask.what, What::Release)
+            && self.made.iter().any(|made| {
+                made.number == number && made.ask.key == ask.key && made.told == Told::Queued
+            })
+    }
+
     // Whether the answer of a call is one that may come.
     fn call(&mut self, alloc: Global, number: u64, ask: Ask) -> Result<bool, Fail> {
-        let call = call_of(alloc, ask)?;
-        match self.book.call(number, place_of(ask.what), &call) {
-            Ok(reply) => {
-                let told = told_of(&reply);
+        let going = self.is_going(number, ask);
+        match self.asked(alloc, number, ask)? {
+            Ok(told) => {
                 self.made.push(Made { number, ask, told })?;
-                Ok(true)
+                Ok(!going)
             }
+            Err(Refusal::AlreadyGoing) => Ok(going),
             Err(refusal) => Ok(matches!(refusal, Refusal::Busy(_) | Refusal::NoSuchTxn)),
         }
     }
@@ -322,6 +380,15 @@ impl Run {
         Ok(agree)
     }
 
+    // Runs what the transaction put off, or left to its commit, on the plain store.
+    fn settle(&mut self, number: u64) {
+        for made in &self.made {
+            if made.number == number {
+                self.plain.settle(made.ask, made.told);
+            }
+        }
+    }
+
     fn forget(&mut self, number: u64) {
         self.made.retain(|made| made.number != number);
     }
@@ -331,6 +398,7 @@ impl Run {
             return Ok(true);
         }
         let agree = self.agrees(number)?;
+        self.settle(number);
         self.forget(number);
         self.committed = self.committed.wrapping_add(1);
         Ok(agree)
@@ -388,7 +456,13 @@ fn check_end(rt: &(impl Abort + AllocGlobal), run: &mut Run) -> Result<(), Fail>
     }
     run.cut(rt.alloc())?;
     run.book.enter(100)?;
-    for what in [What::Contains, What::Get, What::Least, What::Read] {
+    for what in [
+        What::Contains,
+        What::Get,
+        What::Least,
+        What::Read,
+        What::Release,
+    ] {
         for key in 0..8 {
             assert!(rt;
                 run.call(

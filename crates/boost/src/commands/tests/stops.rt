@@ -1,152 +1,218 @@
 // Runs that are stopped at each call of the disk, and opened again.
+use super::plain::{Ask, Plain, What, write_ask};
 use super::*;
 
-// A script, and what its store shows after each place.
+// A line of a script: whose it is, and what it asks for.
+#[derive(Clone, Copy)]
+struct Told {
+    client: u8,
+    did: Did,
+}
+
+#[derive(Clone, Copy)]
+enum Did {
+    Make,
+    Begin,
+    Ask(Ask),
+    Commit,
+    Abort,
+    // what changes no content
+    Other,
+}
+
+// A script, and what its lines ask for.
 #[derive(Drop)]
 struct Story {
     script: String,
+    lines: Vec<Told>,
+}
+
+// A call of a client's open transaction, with its answer.
+#[derive(Drop)]
+struct Asked {
+    client: u8,
+    ask: Ask,
+    said: String,
+}
+
+// What a script's lines led to: the store beside, the calls of the open transactions, and what is shown after each place.
+#[derive(Drop)]
+struct Replay {
+    plain: Plain,
+    asked: Vec<Asked>,
     shown: Vec<String>,
 }
 
-// A call of a client's open transaction: the client, the counter, and by how much.
-#[derive(Clone, Copy)]
-struct Bumped {
-    client: u8,
-    letter: u8,
-    by: i64,
-}
-
-// What a script's lines led to so far: the counters, the calls of the open transactions, and whose these are.
-#[derive(Drop)]
-struct Replay {
-    totals: Vec<(u8, i128)>,
-    calls: Vec<Bumped>,
-    open: Vec<u8>,
-}
-
 impl Replay {
-    fn has(&self, letter: u8) -> bool {
-        self.totals.iter().any(|total| total.0 == letter)
+    fn new(alloc: Global) -> Result<Self, Fail> {
+        let mut shown = Vec::new(alloc);
+        shown.push(String::new(alloc))?;
+        Ok(Self {
+            plain: Plain::new(),
+            asked: Vec::new(alloc),
+            shown,
+        })
     }
 
-    fn is_open(&self, client: u8) -> bool {
-        self.open.iter().any(|other| *other == client)
-    }
-
-    fn commit(&mut self, client: u8) {
-        for call in self.calls.iter() {
-            if call.client != client {
-                continue;
-            }
-            for total in self.totals.iter_mut() {
-                if total.0 == call.letter {
-                    total.1 = total.1.saturating_add(i128::from(call.by));
-                }
-            }
-        }
-        self.close(client);
+    // A place more.
+    fn place(&mut self, alloc: Global) -> Result<(), Fail> {
+        self.shown.push(self.plain.text(alloc)?)?;
+        Ok(())
     }
 
     fn close(&mut self, client: u8) {
-        self.calls.retain(|call| call.client != client);
-        self.open.retain(|other| *other != client);
+        self.asked.retain(|asked| asked.client != client);
     }
 
-    fn text(&self, alloc: Global) -> Result<String, Fail> {
-        let mut text = String::new(alloc);
-        for (letter, total) in self.totals.iter() {
-            let name = char::from(*letter);
-            write!(text, "counter {name}\n  {total}\n")?;
+    // Runs a client's transaction whole on the store beside. Answers whether that answers each call so.
+    fn commit(&mut self, alloc: Global, client: u8) -> Result<bool, Fail> {
+        let mut agree = true;
+        for asked in &self.asked {
+            if asked.client == client {
+                agree &= self.plain.agrees(alloc, asked.ask, asked.said.as_str())?;
+            }
         }
-        Ok(text)
+        for asked in &self.asked {
+            if asked.client == client {
+                self.plain.run_later(asked.ask, asked.said.as_str());
+            }
+        }
+        self.close(client);
+        self.place(alloc)?;
+        Ok(agree)
+    }
+
+    // A line that was not refused, with its answer. Answers whether it may be answered so.
+    fn take(&mut self, alloc: Global, line: Told, said: &str) -> Result<bool, Fail> {
+        match line.did {
+            Did::Make => {
+                self.plain.make();
+                self.place(alloc)?;
+            }
+            Did::Begin => self.close(line.client),
+            Did::Ask(ask) => {
+                let said = String::from_str(alloc, said)?;
+                self.asked.push(Asked {
+                    client: line.client,
+                    ask,
+                    said,
+                })?;
+            }
+            Did::Commit => return self.commit(alloc, line.client),
+            Did::Abort => self.close(line.client),
+            Did::Other => {}
+        }
+        Ok(true)
     }
 }
 
-// Adds a client's line to the script, and to the replay what it leads to. Answers whether it has a place.
-fn add_line(script: &mut String, replay: &mut Replay, numbers: &mut Numbers) -> Result<bool, Fail> {
+// Adds a line to the story.
+fn add_line(story: &mut Story, numbers: &mut Numbers) -> Result<(), Fail> {
     let client = [1, 2, 64][(numbers.below(3) % 3) as usize];
-    let letter = [b'a', b'b', b'c'][(numbers.below(3) % 3) as usize];
-    let name = char::from(letter);
-    match numbers.below(12) {
+    let script = &mut story.script;
+    let did = match numbers.below(24) {
         0 => {
-            write!(script, "c{client} make counter {name}\n")?;
-            if replay.has(letter) {
-                return Ok(false);
-            }
-            replay.totals.push((letter, 0))?;
-            Ok(true)
+            write!(script, "c{client} make counter z\n")?;
+            Did::Make
         }
-        1 | 2 => {
+        1..=3 => {
             write!(script, "c{client} begin\n")?;
-            if !replay.is_open(client) {
-                replay.open.push(client)?;
-            }
-            Ok(false)
+            Did::Begin
         }
-        3..=6 => {
-            let by = i64::from(numbers.byte()) * 9 - 1_000;
-            write!(script, "c{client} call {name} bump {by}\n")?;
-            if replay.is_open(client) && replay.has(letter) {
-                replay.calls.push(Bumped { client, letter, by })?;
-            }
-            Ok(false)
-        }
-        7 | 8 => {
+        4..=6 => {
             write!(script, "c{client} commit\n")?;
-            let is_place = replay.is_open(client);
-            replay.commit(client);
-            Ok(is_place)
+            Did::Commit
         }
-        9 => {
+        7 => {
             write!(script, "c{client} abort\n")?;
-            replay.close(client);
-            Ok(false)
+            Did::Abort
+        }
+        8 | 9 => {
+            write!(script, "turn\n")?;
+            Did::Other
         }
         10 => {
-            write!(script, "turn\n")?;
-            Ok(false)
+            write!(script, "c{client} kept\n")?;
+            Did::Other
         }
         _ => {
-            write!(script, "c{client} kept\n")?;
-            Ok(false)
+            let ask = Ask::new(numbers);
+            write!(script, "c{client} ")?;
+            write_ask(script, ask)?;
+            Did::Ask(ask)
         }
-    }
+    };
+    story.lines.push(Told { client, did })?;
+    Ok(())
 }
 
-fn make_story(alloc: Global, numbers: &mut Numbers) -> Result<Story, Fail> {
-    let mut replay = Replay {
-        totals: Vec::new(alloc),
-        calls: Vec::new(alloc),
-        open: Vec::new(alloc),
-    };
-    let mut script = String::from_str(
+// Five collections, two open transactions of which one has called, and so many lines behind them.
+fn make_story(alloc: Global, numbers: &mut Numbers, count: u32) -> Result<Story, Fail> {
+    let script = String::from_str(
         alloc,
-        "c1 make counter a\nc1 begin\nc2 begin\nc2 call a bump 1000000\nturn\n",
+        "c1 make set s\nc1 make map m\nc1 make queue q\nc1 make counter n\nc1 make pool p\nc1 begin\nc2 begin\nc2 call n bump 3\nturn\n",
     )?;
-    replay.totals.push((b'a', 0))?;
-    replay.open.push(1)?;
-    replay.open.push(2)?;
-    replay.calls.push(Bumped {
+    let mut lines = Vec::new(alloc);
+    for _ in 0..5 {
+        lines.push(Told {
+            client: 1,
+            did: Did::Make,
+        })?;
+    }
+    for client in 1..=2 {
+        lines.push(Told {
+            client,
+            did: Did::Begin,
+        })?;
+    }
+    let ask = Ask {
+        what: What::Bump,
+        key: 0,
+        by: 3,
+    };
+    lines.push(Told {
         client: 2,
-        letter: b'a',
-        by: 1_000_000,
+        did: Did::Ask(ask),
     })?;
-    let mut shown = Vec::new(alloc);
-    shown.push(String::new(alloc))?;
-    shown.push(replay.text(alloc)?)?;
-    for _ in 0..24 {
-        if add_line(&mut script, &mut replay, numbers)? {
-            shown.push(replay.text(alloc)?)?;
+    lines.push(Told {
+        client: 1,
+        did: Did::Other,
+    })?;
+    let mut story = Story { script, lines };
+    for _ in 0..count {
+        add_line(&mut story, numbers)?;
+    }
+    story.script.push_str("turn\nturn\n")?;
+    Ok(story)
+}
+
+// What is shown after each place of the story, by the answers of a run that nothing stopped.
+fn shown_by_place(rt: &(impl AllocGlobal + Abort), story: &Story) -> Result<Vec<String>, Fail> {
+    let alloc = rt.alloc();
+    let ran = play_on(alloc, fresh(alloc)?, story.script.as_str().as_bytes());
+    let mut replay = Replay::new(alloc)?;
+    let mut lines = story.lines.iter();
+    for text in ran.out().lines() {
+        let Some((number, said)) = text.split_once(": ") else {
+            continue;
+        };
+        let Some(line) = lines.next() else {
+            break;
+        };
+        if !said.starts_with("refused") {
+            let script = &story.script;
+            let agree = replay.take(alloc, *line, said)?;
+            assert!(rt; agree, "{script}{number}: {said}");
         }
     }
-    script.push_str("turn\nturn\n")?;
-    Ok(Story { script, shown })
+    let Replay { shown, .. } = replay;
+    Ok(shown)
 }
 
 // Each byte at which a run may have written, with this value.
 fn all_as(alloc: Global, value: u8) -> Result<Vec<(u64, u8)>, Fail> {
     let mut pick = Vec::new(alloc);
-    for at in (0..520).chain(4_096..6_144) {
+    for at in (0..520).chain(4_096..10_240) {
         pick.push((at, value))?;
     }
     Ok(pick)
@@ -166,23 +232,22 @@ fn picks(alloc: Global) -> Result<[Vec<(u64, u8)>; 4], Fail> {
 fn check_stopped(
     rt: &(impl AllocGlobal + Abort),
     story: &Story,
+    shown: &Vec<String>,
     said: &str,
     disk: MemDisk,
 ) -> Result<(), Fail> {
     let alloc = rt.alloc();
     let (kept, placed) = (last(said, ": kept "), last(said, ": place "));
-    let shown = show_on(alloc, disk);
-    assert_eq!(rt; (shown.status, shown.err()), (0, ""));
-    let committed = story.shown.iter().take(placed.saturating_add(1)).skip(kept);
+    let ran = show_on(alloc, disk);
+    assert_eq!(rt; (ran.status, ran.err()), (0, ""));
+    let committed = shown.iter().take(placed.saturating_add(1)).skip(kept);
     let script = &story.script;
-    let found = committed
-        .filter(|text| text.as_str() == shown.out())
-        .count();
+    let found = committed.filter(|text| text.as_str() == ran.out()).count();
     assert!(rt; found > 0, "{script}{said}");
-    let before = String::from_str(alloc, shown.out())?;
-    let more = play_on(alloc, shown.disk, b"c1 make counter z\nturn");
+    let before = String::from_str(alloc, ran.out())?;
+    let more = play_on(alloc, ran.disk, b"c1 make counter y\nturn");
     assert_eq!(rt; more.out(), "1: place 1\n2: kept 1\n");
-    let now = format!(in alloc; "{before}counter z\n  0\n")?;
+    let now = format!(in alloc; "{before}counter y\n  0\n")?;
     assert_eq!(rt; show_on(alloc, more.disk).out(), now.as_str());
     Ok(())
 }
@@ -191,6 +256,7 @@ fn check_stopped(
 fn stop_at(
     rt: &(impl AllocGlobal + Abort),
     story: &Story,
+    shown: &Vec<String>,
     k: u64,
     pick: &[(u64, u8)],
 ) -> Result<bool, Fail> {
@@ -200,16 +266,17 @@ fn stop_at(
     let played = play_on(alloc, disk, story.script.as_str().as_bytes());
     let is_reached = played.disk.faults() > 0;
     let said = String::from_str(alloc, played.out())?;
-    check_stopped(rt, story, said.as_str(), played.disk.stop(pick))?;
+    check_stopped(rt, story, shown, said.as_str(), played.disk.stop(pick))?;
     Ok(is_reached)
 }
 
 // Runs a story with a failure at each call of the disk in turn. Answers how many calls it makes.
 fn stop_everywhere(rt: &(impl AllocGlobal + Abort), story: &Story) -> Result<u64, Fail> {
     let picks = picks(rt.alloc())?;
+    let shown = shown_by_place(rt, story)?;
     for k in 1..1_000 {
         for pick in picks.iter() {
-            if !stop_at(rt, story, k, pick.as_slice())? {
+            if !stop_at(rt, story, &shown, k, pick.as_slice())? {
                 return Ok(k - 1);
             }
         }
@@ -217,13 +284,37 @@ fn stop_everywhere(rt: &(impl AllocGlobal + Abort), story: &Story) -> Result<u64
     Ok(1_000)
 }
 
+// Stops a story at each call of the disk.
+fn check_stops(rt: &(impl AllocGlobal + Abort), state: u64) -> Result<(), Fail> {
+    let mut numbers = Numbers { state };
+    let story = make_story(rt.alloc(), &mut numbers, 40)?;
+    let calls = stop_everywhere(rt, &story)?;
+    assert!(rt; calls >= 10 && calls < 1_000, "{calls} calls");
+    Ok(())
+}
+
 #[test]
 fn a_stop_at_any_call_keeps_what_was_acknowledged(rt: HostRuntime) -> Result<(), Fail> {
-    let mut numbers = Numbers { state: 5 };
-    for _ in 0..3 {
-        let story = make_story(rt.alloc(), &mut numbers)?;
-        let calls = stop_everywhere(&rt, &story)?;
-        assert!(rt; calls >= 10 && calls < 1_000, "{calls} calls");
+    check_stops(&rt, 5)
+}
+
+#[test]
+fn a_stop_at_any_call_of_a_second_story_does(rt: HostRuntime) -> Result<(), Fail> {
+    check_stops(&rt, 6)
+}
+
+#[test]
+fn a_stop_at_any_call_of_a_third_story_does(rt: HostRuntime) -> Result<(), Fail> {
+    check_stops(&rt, 8)
+}
+
+#[test]
+fn what_commits_can_be_run_one_after_another(rt: HostRuntime) -> Result<(), Fail> {
+    let mut numbers = Numbers { state: 9 };
+    for _ in 0..12 {
+        let story = make_story(rt.alloc(), &mut numbers, 250)?;
+        let shown = shown_by_place(&rt, &story)?;
+        assert!(rt; shown.len() > 15);
     }
     Ok(())
 }

@@ -1,6 +1,7 @@
 use Rattle.std.proofs.Common.{vec_capacity}
 use Rattle.world.specs.Worlds.{parts_of}
 use Rattle.world.proofs.PlayLemmas.{SoFar}
+use Rattle.world.proofs.AnswerLemmas.{Told}
 use Rattle.world.proofs.world.play.Given as goal
 
 abbrev pub invariant-loop-step : goal.invariant-loop-step
@@ -9,3 +10,4 @@ invariant-loop-step g l =
     (parts_of l.fn.world.book l.fn.world.keeper l.fn.world.transit.blocks.items l.fn.world.mark)
     (parts_of l.world.book l.world.keeper l.world.transit.blocks.items l.world.mark)
     l.steps l.answers.items l.step-index (vec_capacity l.answers)
+    × Told l.fn.world.next l.world.next l.steps l.answers.items l.step-index

@@ -1,6 +1,12 @@
-use Rattle.std.proofs.Common.{sym, ◌∙◌}
-use Rattle.boost.proofs.TurnLemmas.{refused_mark}
+use Rattle.std.proofs.lemmas.Result.{err_from_is_err_and}
+use Rattle.std.proofs.Common.{sym}
+use Rattle.boost.proofs.ClientLemmas.{turn_not_cut, turn_brings}
 use Rattle.boost.proofs.commands.committer.turn.Goals as goal
 
-pub returns-in_err-turn-clause-mark : goal.returns-in_err-turn-clause-mark
-returns-in_err-turn-clause-mark g c = c.requires ∙ sym (refused_mark _ _ _ _ _ _ _ _ _ _ _ c.in_err-turn.ensures.answer)
+pub returns-in_err-passed : goal.returns-in_err-passed
+returns-in_err-passed g c =
+    let p = err_from_is_err_and c.from_residual.result c.from_residual.ensures.1 in
+    rw (p.1, p.2) (turn_not_cut c.args.world.now c.cut.new.world c.cut.result c.cut.ensures c.in_err-passed.field-0.0 (sym c.in_err-passed.ensures))
+
+pub returns : goal.returns
+returns g c = turn_brings c.args.world.now c.cut.new.world c.cut.result c.cut.ensures c.bring.result c.bring.new.world (sym c.in_ok-passed.ensures) c.bring.ensures

@@ -1,12 +1,9 @@
-use Rattle.std.proofs.Common.{◌≡◌, ◌∷◌, [], ◌++◌, length, false, ap, sym, ◌∙◌, arith, Result, Ok, Err, OnOk, List, ℕ}
+use Rattle.std.proofs.Common.{◌≡◌, ◌∷◌, [], ◌++◌, length, false, ap, sym, ◌∙◌, arith, List, ℕ}
 use Rattle.std.specs.Result.{is_err}
 use Rattle.gate_block.specs.Area.{bytes_of, HoldsRow}
+use Rattle.gate_block.proofs.Laying.{use_ok}
 use Rattle.gate_block.proofs.Rows.{length-row_push}
 use Rattle.gate_block.proofs.area.Area.append.Goals as goal
-
-use_ok : {T E : Type 0} (P : Type 0) (r : Result T E) → is_err r ≡ false → OnOk r P → P
-use_ok P (Ok x) e p = p
-use_ok P (Err x) e p = cc
 
 pub returns-clause-kept : goal.returns-clause-kept
 returns-clause-kept g c = λ bodies body is ready.

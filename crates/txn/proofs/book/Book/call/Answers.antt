@@ -1,10 +1,10 @@
 use Rattle.std.proofs.Common.{◌≡◌, ◌++◌, ◌∷◌, [], refl, sym, ◌∙◌, subst, arith}
-use Rattle.std.specs.Option.{is_some}
 use Rattle.records.specs.declared.record.Record.{Record}
 use Rattle.records.specs.Records.{call_record}
 use Rattle.records.specs.Short.{AreShort}
 use Rattle.abstract_locks.specs.Holds.{IsClear}
 use Rattle.calls.specs.Transactions.{Event}
+use Rattle.boosted.specs.Shape.{CanAsk}
 use Rattle.txn.specs.Machine.{CanCall, CallRow}
 use Rattle.txn.specs.Books.{AppendsTo, IsOpen, record_of}
 use Rattle.txn.specs.Views.{book_of}
@@ -14,7 +14,7 @@ use Rattle.txn.proofs.BookLemmas.{recorded}
 use Rattle.txn.proofs.Kept.{call_keeps}
 use Rattle.txn.proofs.Upheld.{call_room}
 use Rattle.txn.proofs.Steps.{call_settles}
-use Rattle.txn.proofs.Asked.{is_record, at_once}
+use Rattle.txn.proofs.Asked.{is_record}
 use Rattle.txn.proofs.book.Book.call.Given.{Over}
 use Rattle.txn.proofs.book.Book.call.Goals as goal
 
@@ -32,25 +32,24 @@ inverse-requires-clause-short g c = (c.in_ok-check_call.ensures.ok.asked.2, (law
 
 pub call-requires-clause-can : goal.call-requires-clause-can
 call-requires-clause-can g c =
-    let asked = subst (λ b. IsOpen g.B.Boosted.belongs b c.args.number c.args.col c.args.call.now) (sym c.self.view_is) c.in_ok-check_call.ensures.ok in
-    let some : c.is_some.result ≡ is_some c.after.result = c.is_some.ensures in
+    let asked = subst (λ b. IsOpen (CanAsk g.B.Boosted.belongs b.state.now c.args.col c.args.call.now) b c.args.number) (sym c.self.view_is) c.in_ok-check_call.ensures.ok in
     subst (λ e. CanCall g.B.Boosted.answers g.B.Boosted.leaves g.B.Boosted.belongs g.B.Boosted.need c.self.inside.machine c.args.number e) (sym c.in_ok-asked.ensures.ok) (record {
       running = asked.running;
       asked = asked.asked;
       few = asked.few;
       answered = subst (λ s. g.B.Boosted.answers s c.args.col c.args.call.now c.in_ok-reply.reply) c.parts.ensures c.in_ok-reply.ensures.ok;
-      at_once = at_once g.B.Boosted.after g.met.B.Coded.after_as_told c.args.call.now c.in_ok-reply.reply c.after.result c.after.ensures (sym some ∙ c.if-is_some.false);
+      once = λ twice. let yes = c.goes_twice.ensures.1 twice in let no' = c.if-goes_twice.false in cc;
       clear = subst (λ k. IsClear c.self.inside.machine.holds c.args.number c.args.col k) c.need-need.ensures c.in_ok-test.ensures.clear;
     })
 
 pub call-requires-clause-room : goal.call-requires-clause-room
 call-requires-clause-room g c =
-    let asked = subst (λ b. IsOpen g.B.Boosted.belongs b c.args.number c.args.col c.args.call.now) (sym c.self.view_is) c.in_ok-check_call.ensures.ok in
+    let asked = subst (λ b. IsOpen (CanAsk g.B.Boosted.belongs b.state.now c.args.col c.args.call.now) b c.args.number) (sym c.self.view_is) c.in_ok-check_call.ensures.ok in
     (call_room g.B.Boosted.answers g.B.Boosted.leaves g.B.Parts.makes g.B.Boosted.need g.B.Boosted.inverse g.B.Boosted.belongs g.B.Parts.names g.B.Boosted.within (λ s. AreShort (g.B.Coded.collections s)) (laws g) c.self.inside.machine c.self.invariant.upheld c.args.number c.args.col c.args.call.now asked.running asked.few asked.unworn).0
 
 -- the call can be asked for, and gets the reply
-asks : (g : Over) (c : goal.Joined-back-7 g) → IsOpen g.B.Boosted.belongs (book_of c.self.inside.machine c.self.inside.pending c.self.inside.places c.self.inside.next) c.args.number c.args.col c.args.call.now
-asks g c = subst (λ b. IsOpen g.B.Boosted.belongs b c.args.number c.args.col c.args.call.now) (sym c.self.view_is) c.in_ok-check_call.ensures.ok
+asks : (g : Over) (c : goal.Joined-back-7 g) → let i = c.self.inside in IsOpen (CanAsk g.B.Boosted.belongs i.machine.now c.args.col c.args.call.now) (book_of i.machine i.pending i.places i.next) c.args.number
+asks g c = subst (λ b. IsOpen (CanAsk g.B.Boosted.belongs b.state.now c.args.col c.args.call.now) b c.args.number) (sym c.self.view_is) c.in_ok-check_call.ensures.ok
 
 answered : (g : Over) (c : goal.Joined-back-7 g) → g.B.Boosted.answers c.self.inside.machine.now c.args.col c.args.call.now c.in_ok-reply.reply
 answered g c = subst (λ s. g.B.Boosted.answers s c.args.col c.args.call.now c.in_ok-reply.reply) c.parts.ensures c.in_ok-reply.ensures.ok

@@ -30,7 +30,7 @@ laws g =
 -- the step that was taken
 step : (g : Over) (c : goal.After-self-1 g) → let i = c.self.inside in
     let old = book_of i.machine i.pending i.places i.next in
-    CommitRow old.state c.args.number c.commit.new.self × AppendsTo old (Record.Commit c.args.number) (book_of c.commit.new.self c.push.new.self (i.places + 1) i.next)
+    CommitRow g.B.Boosted.answers g.B.Boosted.leaves old.state c.args.number c.commit.new.self × AppendsTo old (Record.Commit c.args.number) (book_of c.commit.new.self c.push.new.self (i.places + 1) i.next)
 step g c =
     let i = c.self.inside in
     let written = recorded i.machine i.pending i.places i.next (Record.Commit c.args.number) c.commit.new.self c.reserve.new.self c.push.new.self (i.places + 1) i.next

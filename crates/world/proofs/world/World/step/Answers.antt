@@ -1,5 +1,6 @@
 use Rattle.checkpoint.specs.Keepers.{queue}
 use Rattle.world.proofs.StepLemmas.{core_past, core_held, quiet}
+use Rattle.world.proofs.AnswerLemmas.{core_answered}
 use Rattle.world.proofs.world.World.step.Goals as goal
 
 pub returns-in-Turn-clause-any_moment : goal.returns-in-Turn-clause-any_moment
@@ -10,3 +11,6 @@ returns-in_default-clause-past g c = λ start past had. core_past g.D.Disk.seen 
 
 pub returns-in_default-clause-any_moment : goal.returns-in_default-clause-any_moment
 returns-in_default-clause-any_moment g c = λ start past had. quiet g.D.Disk.seen g.D.Disk.may_leave start past _ had g.D.Disk.moment g.D.Disk.left_since (g.met.D.Disk.only_now c.args.self.now.keeper.disk) (c.args.step.now, c.take.result)
+
+pub returns-in_default-clause-own : goal.returns-in_default-clause-own
+returns-in_default-clause-own g c = core_answered c.args.self.now.book c.args.self.now.transit.blocks.items c.args.self.now.mark (c.args.step.now, c.take.result) c.take.new.book c.take.new.transit.blocks.items c.take.ensures.core

@@ -1,19 +1,24 @@
-use Rattle.std.proofs.Common.{Ok, Err, refl, subst}
 use Rattle.std.proofs.lemmas.Result.{err_from_is_err_and}
-use Rattle.boost.specs.Clients.{AskedFor}
+use Rattle.calls.specs.Names.{IsName}
+use Rattle.catalog.specs.Making.{names_of, IsPlaceOf, FindRefused}
+use Rattle.boost.specs.Clients.{AskedFor, AsksFor}
+use Rattle.boost.proofs.ClientLemmas.{call_not_entered, call_not_found, call_asked}
 use Rattle.boost.proofs.commands.client.Client.call.Goals as goal
 
 pub returns-in_err-number : goal.returns-in_err-number
 returns-in_err-number g c =
     let p = err_from_is_err_and c.from_residual.result c.from_residual.ensures.1 in
-    rw (p.1, p.2) (Err c.in_err-number.field-0.0, _, c.in_err-number.ensures, (refl, refl))
+    rw (p.1, p.2) (call_not_entered c.args.self.now c.args.world.now c.args.name.now (AsksFor c.args.operation) c.enter.new.self c.enter.new.world c.in_err-number.field-0.0 (g.met.D.Disk.only_now c.enter.new.world.keeper.disk) c.in_err-number.ensures)
 
 pub returns-in_err-collection : goal.returns-in_err-collection
 returns-in_err-collection g c =
     let p = err_from_is_err_and c.from_residual-in_err-collection.result c.from_residual-in_err-collection.ensures.1 in
-    rw (p.1, p.2) (Ok c.in_ok-number.number, _, c.in_ok-number.ensures, (Err c.in_err-collection.field-0.0, rw c.as_str.ensures at c.in_err-collection.ensures.err, (refl, refl)))
+    let refused : FindRefused (names_of c.enter.new.world.book.state.now) c.args.name.now c.in_err-collection.field-0.0 = rw (c.as_str.ensures, c.book.ensures) at c.in_err-collection.ensures.err in
+    rw (p.1, p.2) (call_not_found c.args.self.now c.args.world.now c.args.name.now (AsksFor c.args.operation) c.enter.new.self c.enter.new.world c.in_ok-number.number c.in_err-collection.field-0.0 (g.met.D.Disk.only_now c.enter.new.world.keeper.disk) c.in_ok-number.ensures refused)
 
 pub returns : goal.returns
 returns g c =
-    let asked = subst (λ s. AskedFor g.B.Boosted.belongs s c.in_ok-collection.collection c.args.operation c.call_of-call.result) c.parts.ensures c.call_of-call.ensures in
-    (Ok c.in_ok-number.number, _, c.in_ok-number.ensures, (Ok c.in_ok-collection.collection, rw c.as_str.ensures at c.in_ok-collection.ensures.ok, (c.call_of-call.result, asked, c.call.ensures.answer)))
+    let found : IsName c.args.name.now × IsPlaceOf (names_of c.enter.new.world.book.state.now) c.args.name.now c.in_ok-collection.collection = rw (c.as_str.ensures, c.book.ensures) at c.in_ok-collection.ensures.ok in
+    let asked : AskedFor c.enter.new.world.book.state.now c.in_ok-collection.collection c.args.operation c.call_of-call.result = rw (c.parts.ensures, c.book-2.ensures) at c.call_of-call.ensures in
+    let ran = c.call.ensures in
+    call_asked c.args.self.now c.args.world.now c.args.name.now (AsksFor c.args.operation) c.enter.new.self c.enter.new.world c.in_ok-number.number c.in_ok-collection.collection c.call.result c.call.new.world c.in_ok-number.ensures found (ran.0, (c.call_of-call.result, asked, ran.1), ran.2)

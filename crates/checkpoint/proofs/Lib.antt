@@ -1,0 +1,4 @@
+pub mod Apart
+mod Blocks
+mod Flipping
+mod Turning

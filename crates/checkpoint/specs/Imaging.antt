@@ -1,0 +1,80 @@
+-- An image on its way into the area that is not in use, and how it becomes the store.
+use Rattle.std.specs.Prelude.{◌≡◌, ◌⊎◌, ℕ, ◌+◌, ◌*◌, ◌%◌, ◌<◌, ◌≤◌, Bool, false, List, [], ◌++◌, length, map, get_or, Option, Some, None, Vec}
+use Rattle.std.specs.Option.{IsSomeAnd}
+use Rattle.std.specs.declared.alloc.Global.{Global}
+use Rattle.disk_model.specs.Disk.{Torn}
+use Rattle.gate_block.specs.declared.area.Area.{Area}
+use Rattle.gate_block.specs.Row.{row, IsRow}
+use Rattle.gate_block.specs.Area.{has_failed, base_of, size_of, position_of, bytes_of, IsLaid}
+use Rattle.txn.specs.Wholes.{body_of}
+use Rattle.checkpoint.specs.declared.laying.Laying.{Laying}
+
+-- The other one of the two areas of a disk, which has the same size. They begin at 4096 and behind the first one, so the sum tells which is which.
+pub record IsOther (area other : Area) : Type 0 where
+  pub size : size_of other ≡ size_of area
+  pub base : base_of area + base_of other ≡ 8192 + size_of area
+
+-- the bodies of whole blocks
+abbrev pub bodies_of : List (Vec ℕ Global) → List (List ℕ)
+bodies_of blocks = map (λ b. body_of b.items) blocks
+
+-- the blocks, with a closed gate behind the last, need more than so many bytes
+abbrev pub IsTooLong : ℕ → List (Vec ℕ Global) → Type 0
+IsTooLong size blocks = size < length (row (bodies_of blocks)) + 1
+
+-- the blocks of an image that are not yet written
+abbrev pub left_of : Laying → List (Vec ℕ Global)
+left_of w = w.image.blocks.items
+
+-- An image is laid into the other area, which has room for what is left of it.
+pub record IsLaidBeside (area : Area) (failed : Bool) (w : Laying) : Type 0 where
+  pub other : IsOther area w.area
+  pub fine : failed ≡ false → has_failed w.area ≡ false
+  pub room : position_of w.area + length (row (bodies_of (left_of w))) < size_of w.area
+
+-- These are the bodies of an image: its first blocks were laid in the area, and the others are left.
+pub record IsBeingLaid (w : Laying) (disk : List ℕ) (bodies : List (List ℕ)) : Type 0 where
+  pub laid : List (List ℕ)
+  pub stands : IsLaid w.area disk laid
+  pub all : laid ++ bodies_of (left_of w) ≡ bodies
+
+-- an image that goes into the same part of the disk, and has the same end and place
+pub record IsSameImage (w v : Laying) : Type 0 where
+  pub base : base_of v.area ≡ base_of w.area
+  pub size : size_of v.area ≡ size_of w.area
+  pub end : v.image.end ≡ w.image.end
+  pub place : v.image.place ≡ w.image.place
+
+-- how many pieces are left, where an image is in progress
+abbrev pub pieces_left : Option Laying → Option ℕ
+pieces_left None = None
+pieces_left (Some w) = Some (length (left_of w))
+
+-- an image is in progress, and a piece of it is left
+abbrev pub HasPiece : Option Laying → Type 0
+HasPiece image = IsSomeAnd (pieces_left image) (λ n. 1 ≤ n)
+
+-- all pieces of the image in progress are written
+abbrev pub IsWritten : Option Laying → Type 0
+IsWritten None = ⊥
+IsWritten (Some w) = left_of w ≡ []
+
+-- where the area begins that the root byte picks, of two of this size: its lowest bit tells
+abbrev pub picked : ℕ → List ℕ → ℕ
+picked size bytes = 4096 + size * (get_or bytes 512 0 % 2)
+
+-- The root byte picks the area, and a stop now leaves of both what a read gives.
+pub record IsRooted {D : Type 0} (seen : D → List ℕ) (may_leave : D → List ℕ → Type 0) (area : Area) (disk : D) : Type 0 where
+  pub picks : picked (size_of area) (seen disk) ≡ base_of area
+  pub root_at_rest : (c : List ℕ) → may_leave disk c → get_or c 512 0 ≡ get_or (seen disk) 512 0
+  pub area_at_rest : (c : List ℕ) → may_leave disk c → bytes_of area c ≡ bytes_of area (seen disk)
+
+-- a stop leaves what it might have left before, or what a read gave before, with any root byte
+abbrev pub LeavesRoot : (List ℕ → Type 0) → List ℕ → List ℕ → Type 0
+LeavesRoot before seen c = before c ⊎ Torn 512 1 seen c
+
+-- The root byte picks the area that was in use, which has the bytes from before, or the image's, which has all blocks of the image.
+abbrev pub PicksWhole : Area → List ℕ → Area → List (List ℕ) → List ℕ → Type 0
+PicksWhole area before other bodies c =
+    ((picked (size_of area) c ≡ base_of area) × (bytes_of area c ≡ bytes_of area before))
+    ⊎ ((picked (size_of area) c ≡ base_of other) × IsRow bodies (bytes_of other c))

@@ -1,0 +1,47 @@
+// The root byte, which picks the area in use.
+ghost use Rattle.std.specs.Prelude.{◌≡◌, ◌≤◌, ◌⊎◌, ◌+◌, ℕ, length, OnOk};
+ghost use Rattle.disk_model.specs.Disk.{Torn, WasTorn, IsAtRest, LeavesOnly, HasCause};
+ghost use Rattle.checkpoint.specs.Imaging.{LeavesRoot, picked};
+
+use disk_model::{Disk, Fault, write_and_sync};
+
+/// Where the areas begin.
+pub const AREAS_AT: u64 = 4096;
+
+// Where the root byte stands.
+const ROOT_AT: u64 = 512;
+
+/// Makes the root byte pick the area that begins there, behind all that was written before: the disk is synced first,
+/// and then the byte is written and synced.
+pub fn pick_area<D: Disk>(disk: &mut D, base: u64) -> Result<(), Fault>
+    requires { 513 ≤ length (D.seen disk.old) }
+    ensures picks { OnOk result ((size : ℕ) → (base ≡ 4096) ⊎ (base ≡ 4096 + size) → picked size (D.seen disk.new) ≡ base) }
+    ensures durable { OnOk result (IsAtRest D.seen D.may_leave disk.new) }
+    ensures root { Torn 512 1 (D.seen disk.old) (D.seen disk.new) }
+    ensures any_moment { LeavesOnly D.moment D.left_since disk.old disk.new
+        (LeavesRoot (D.may_leave disk.old) (D.seen disk.old)) }
+    ensures cause { HasCause (D.fault_count disk.old) (D.fault_count disk.new) result }
+{
+    disk.sync()?;
+    write_root(disk, base)
+}
+
+// Writes the root byte that picks the area that begins there, and syncs it.
+fn write_root<D: Disk>(disk: &mut D, base: u64) -> Result<(), Fault>
+    requires { 513 ≤ length (D.seen disk.old) }
+    ensures picks { OnOk result ((size : ℕ) → (base ≡ 4096) ⊎ (base ≡ 4096 + size) → picked size (D.seen disk.new) ≡ base) }
+    ensures durable { OnOk result (IsAtRest D.seen D.may_leave disk.new) }
+    ensures root { Torn 512 1 (D.seen disk.old) (D.seen disk.new) }
+    ensures any_moment { LeavesOnly D.moment D.left_since disk.old disk.new (WasTorn 512 1 (D.may_leave disk.old)) }
+    ensures cause { HasCause (D.fault_count disk.old) (D.fault_count disk.new) result }
+{
+    write_and_sync(disk, ROOT_AT, &[root_byte(base)])
+}
+
+// The root byte that picks the area that begins there.
+fn root_byte(base: u64) -> u8
+    ensures first { base ≡ 4096 → result ≡ 0 }
+    ensures second { (base ≡ 4096 → ⊥) → result ≡ 1 }
+{
+    if base == AREAS_AT { 0 } else { 1 }
+}

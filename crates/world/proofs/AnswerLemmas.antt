@@ -1,0 +1,55 @@
+-- Each step is answered in its own way, and its draws go on, one step after another.
+use Rattle.std.proofs.Common.{◌≡◌, ℕ, ◌+◌, ◌<◌, List, [], ◌∷◌, ◌++◌, length, take, get_or, refl, sym, subst, Result, Ok, Err}
+use Rattle.std.specs.List.{zip}
+use Rattle.calls.specs.Transactions.{Leads}
+use Rattle.calls.specs.declared.refusal.Refusal.{Refusal}
+use Rattle.checkpoint.specs.declared.turn.Turn.{Turn}
+use Rattle.txn.specs.declared.block.Block.{Block}
+use Rattle.world.specs.declared.steps.Step.{Step}
+use Rattle.world.specs.declared.steps.Answer.{Answer}
+use Rattle.world.specs.Pasts.{Past, BookState, CoreStep, Draws, IsAnswerOf, AreAnswered, turn_answer}
+use Rattle.recovery.proofs.Lists.{leads_push, all_append}
+use Rattle.world.proofs.PlayLemmas.{zip-more}
+
+pub core_answered : (s : BookState) (waiting : List Block) (mark : ℕ) (x : Step × Answer) (t : BookState) (waits : List Block) → CoreStep s waiting mark x t waits → IsAnswerOf x.0 x.1
+core_answered s waiting mark (Step.Draw, Answer.Drawn n) t waits step = tt
+core_answered s waiting mark (Step.Draw, Answer.Refused e) t waits step = tt
+core_answered s waiting mark (Step.Make name kind, Answer.Placed place) t waits step = tt
+core_answered s waiting mark (Step.Make name kind, Answer.Refused e) t waits step = tt
+core_answered s waiting mark (Step.Enter n, Answer.Entered) t waits step = tt
+core_answered s waiting mark (Step.Enter n, Answer.Refused e) t waits step = tt
+core_answered s waiting mark (Step.Call n at call, Answer.Replied reply) t waits step = tt
+core_answered s waiting mark (Step.Call n at call, Answer.Refused e) t waits step = tt
+core_answered s waiting mark (Step.Later n at call, Answer.PutOff) t waits step = tt
+core_answered s waiting mark (Step.Later n at call, Answer.Refused e) t waits step = tt
+core_answered s waiting mark (Step.Commit n, Answer.Placed place) t waits step = tt
+core_answered s waiting mark (Step.Commit n, Answer.Refused e) t waits step = tt
+core_answered s waiting mark (Step.Back n, Answer.Backed undone) t waits step = tt
+core_answered s waiting mark (Step.Back n, Answer.Refused e) t waits step = tt
+core_answered s waiting mark (Step.Ended n, Answer.Ended) t waits step = tt
+core_answered s waiting mark (Step.Ended n, Answer.Refused e) t waits step = tt
+core_answered s waiting mark (Step.Cut, Answer.Cut handed) t waits step = tt
+core_answered s waiting mark (Step.Cut, Answer.Refused e) t waits step = tt
+core_answered s waiting mark (Step.Look, Answer.Marked m) t waits step = tt
+core_answered s waiting mark (Step.Turn, a) t waits step = absurd step
+core_answered s waiting mark x t waits step = absurd step.0
+
+pub turn_answered : (r : Result Turn Refusal) → IsAnswerOf Step.Turn (turn_answer r)
+turn_answered (Ok turn) = tt
+turn_answered (Err e) = tt
+
+-- the steps so far are answered in their own ways, and draw from the first number up to the next
+pub record Told (first next : ℕ) (steps : List Step) (answers : List Answer) (i : ℕ) : Type 0 where
+  pub own : AreAnswered (zip (take i steps) answers)
+  pub drawn : Leads Draws (zip (take i steps) answers) first next
+
+pub told_starts : (first : ℕ) (steps : List Step) (answers : List Answer) → Told first first steps answers 0
+told_starts first steps answers = record { own = tt; drawn = refl }
+
+pub told_goes_on : (first mid next : ℕ) (steps : List Step) (answers more : List Answer) (i : ℕ) (x : Step) (a : Answer) → Told first mid steps answers i → length answers ≡ i → i < length steps → x ≡ get_or steps i x → more ≡ answers ++ a ∷ [] → IsAnswerOf x a → Draws mid (x, a) next → Told first next steps more (i + 1)
+told_goes_on first mid next steps answers more i x a told count inside at is own draws =
+    let pairs = zip-more steps answers more i x a count inside at is in
+    record {
+      own = subst AreAnswered (sym pairs) (all_append (λ y. IsAnswerOf y.0 y.1) (zip (take i steps) answers) ((x, a) ∷ []) told.own (own, tt));
+      drawn = subst (λ l. Leads Draws l first next) (sym pairs) (leads_push Draws (zip (take i steps) answers) (x, a) first mid next told.drawn draws);
+    }
