@@ -7,7 +7,7 @@ use Rattle.checkpoint.specs.declared.turn.Turn.{Turn}
 use Rattle.txn.specs.declared.block.Block.{Block}
 use Rattle.world.specs.declared.steps.Step.{Step}
 use Rattle.world.specs.declared.steps.Answer.{Answer}
-use Rattle.world.specs.Pasts.{Past, BookState, CoreStep, Draws, IsAnswerOf, AreAnswered, turn_answer}
+use Rattle.world.specs.Pasts.{BookState, CoreStep, Draws, IsAnswerOf, AreAnswered, turn_answer}
 use Rattle.recovery.proofs.Lists.{leads_push, all_append}
 use Rattle.world.proofs.PlayLemmas.{zip-more}
 

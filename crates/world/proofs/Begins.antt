@@ -1,12 +1,12 @@
 -- The past of a world begins with the store that was opened.
-use Rattle.std.proofs.Common.{◌≡◌, ⊎_elim, ℕ, ◌+◌, ◌*◌, ◌%◌, ◌≤◌, ◌<◌, Bool, false, List, [], ◌∷◌, ◌++◌, Option, None, length, map, get_or, refl, sym, ◌∙◌, ap, subst, arith}
-use Rattle.std.specs.Prelude.{Contains, ◌↔◌}
+use Rattle.std.proofs.Common.{◌≡◌, ⊎_elim, ℕ, ◌+◌, ◌*◌, ◌%◌, ◌≤◌, ◌<◌, Bool, false, List, [], ◌∷◌, ◌++◌, None, length, map, get_or, refl, sym, ◌∙◌, ap, subst, arith}
+use Rattle.std.specs.Prelude.{Contains}
 use Rattle.std.specs.List.{AllByRecursion}
 use Rattle.std.specs.FinMap as maps
 use Rattle.std.proofs.lemmas.Bool.{cases_eq}
 use Rattle.std.proofs.lemmas.List.{append-nil}
-use Rattle.calls.specs.Contents.{Collection, AnswersAt, after_at}
-use Rattle.calls.specs.Transactions.{Event, Makes}
+use Rattle.calls.specs.Contents.{AnswersAt, after_at}
+use Rattle.calls.specs.Transactions.{Makes}
 use Rattle.calls.specs.Needs.{need_of}
 use Rattle.calls.specs.Inverses.{inverse_of}
 use Rattle.catalog.specs.Places.{Belongs, Misplaced}
@@ -29,14 +29,14 @@ use Rattle.txn.proofs.Played as played
 use Rattle.txn.proofs.Steps as steps
 use Rattle.txn.proofs.Statuses.{nobody}
 use Rattle.checkpoint.specs.Keepers.{KeeperState, IsFresh, queue}
-use Rattle.recovery.specs.Journals.{IsHeader, base_in_use, records_in}
+use Rattle.recovery.specs.Journals.{records_in}
 use Rattle.recovery.specs.Steps.{State, Steps, Repeats, empty_state}
 use Rattle.recovery.specs.Repetitions.{next_from}
 use Rattle.recovery.specs.Openings.{IsOpened, IsReadyStore}
 use Rattle.recovery.proofs.Lists.{leads_append, flat_map-append, all_append}
 use Rattle.recovery.proofs.UndoRecords.{blocks_hold}
 use Rattle.world.specs.Pasts.{BookState}
-use Rattle.world.specs.Worlds.{IsBase, IsHeaded, IsInUse, Trails, Parts, HasPast, parts_of}
+use Rattle.world.specs.Worlds.{IsBase, IsHeaded, HasPast, parts_of}
 use Rattle.world.proofs.CatalogLaws.{laws}
 use Rattle.world.proofs.TrailLemmas.{trails_self}
 use Rattle.world.proofs.YieldLemmas.{yields, holds_row, spelt}

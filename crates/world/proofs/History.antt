@@ -1,5 +1,5 @@
 -- How many transactions records commit.
-use Rattle.std.proofs.Common.{◌≡◌, ℕ, ◌+◌, List, [], ◌∷◌, ◌++◌, length, refl, ap, arith, length-append}
+use Rattle.std.proofs.Common.{◌≡◌, ℕ, List, [], ◌∷◌, length, refl, ap, arith, length-append}
 use Rattle.calls.specs.Transactions.{Entry, committed_after}
 use Rattle.records.specs.declared.record.Record.{Record}
 use Rattle.records.specs.Acts.{acts_of_record, acts_of, places}

@@ -18,7 +18,7 @@ use Rattle.records.specs.declared.record.Record.{Record}
 use Rattle.records.specs.Records.{spelling, IsRecord, call_record}
 use Rattle.records.specs.Acts.{places}
 use Rattle.calls.specs.Inverses.{inverse_of}
-use Rattle.txn.specs.Books.{Appends, MakeAnswers, EnterAnswers, CallAnswers, LaterAnswers, CommitAnswers, BackAnswers, EndedAnswers, later_record}
+use Rattle.txn.specs.Books.{Appends, later_record}
 use Rattle.recovery.specs.Steps.{Steps}
 use Rattle.recovery.specs.Journals.{records_in}
 use Rattle.checkpoint.specs.declared.laying.Laying.{Laying}

@@ -1,13 +1,10 @@
 -- The state to which a book's records lead trails the book's: only who falls with nothing left to undo may differ.
-use Rattle.std.proofs.Common.{◌≡◌, ℕ, ◌==◌, ◌+◌, ◌⊎◌, inl, inr, ⊎_elim, Option, true, false, List, [], ◌∷◌, ◌++◌, length, map, refl, sym, ◌∙◌, ap, subst, arith}
+use Rattle.std.proofs.Common.{◌≡◌, ℕ, ◌+◌, inl, inr, ⊎_elim, true, false, List, [], ◌∷◌, ◌++◌, length, map, refl, sym, ◌∙◌, ap, subst, arith}
 use Rattle.std.specs.Prelude.{◌↔◌}
 use Rattle.std.specs.FinMap as maps
-use Rattle.std.proofs.lemmas.Bool.{cases_eq}
 use Rattle.std.proofs.lemmas.List.{append-nil}
 use Rattle.calls.specs.declared.kind.Kind.{Kind}
 use Rattle.calls.specs.declared.call.Call.{Call}
-use Rattle.calls.specs.declared.reply.Reply.{Reply}
-use Rattle.calls.specs.declared.need.Need.{Need}
 use Rattle.calls.specs.Contents.{Collection, AnswersAt, after_at}
 use Rattle.calls.specs.Transactions.{Event, Entry, Asked, PutOff, own, others, calls_of, laters_of, Makes}
 use Rattle.calls.specs.Needs.{need_of}
@@ -16,7 +13,7 @@ use Rattle.catalog.specs.Places.{Belongs}
 use Rattle.catalog.specs.Making.{names_of}
 use Rattle.undo_log.specs.Entries.{HasNoCall}
 use Rattle.undo_log.specs.Logs.{Statuses, Lives, Falls, fallen}
-use Rattle.txn.specs.Machine.{IsRunning, IsLeft, BeginRow, CommitRow, EndedRow, FallRow, MakeRow, CallRow, LaterRow, BackRow}
+use Rattle.txn.specs.Machine.{IsRunning, IsLeft, BeginRow, FallRow, MakeRow, CallRow, LaterRow, BackRow}
 use Rattle.txn.proofs.Statuses.{fallen_is, lives_more, falls_more, falls_fresh, lives_fewer, falls_fewer}
 use Rattle.txn.proofs.Sizes.{len_begun, len_fallen, len_left}
 use Rattle.txn.proofs.Theory.Lists.{own_others_other, own_without}

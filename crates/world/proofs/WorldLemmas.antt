@@ -1,5 +1,5 @@
 -- One step more of a world: its past goes on.
-use Rattle.std.proofs.Common.{◌≡◌, ℕ, ◌+◌, ◌≤◌, ◌<◌, true, List, [], ◌∷◌, ◌++◌, length, take, drop, refl, sym, ◌∙◌, ap, subst, arith, append_assoc, length-append, None}
+use Rattle.std.proofs.Common.{◌≡◌, ℕ, ◌+◌, ◌≤◌, true, List, [], ◌∷◌, ◌++◌, length, take, sym, ◌∙◌, ap, subst, arith, append_assoc, length-append, None}
 use Rattle.std.specs.List.{AllByRecursion}
 use Rattle.std.proofs.lemmas.List.{append-nil}
 use mathlib.Core.List.{IsPrefix}
@@ -11,7 +11,7 @@ use Rattle.world.specs.declared.steps.Answer.{Answer}
 use Rattle.records.specs.declared.record.Record.{Record}
 use Rattle.records.specs.Records.{IsRecord}
 use Rattle.records.specs.Acts.{places}
-use Rattle.recovery.specs.Steps.{State, Steps, Repeats}
+use Rattle.recovery.specs.Steps.{Steps, Repeats}
 use Rattle.txn.specs.Books.{Appends, HandsOver, opened}
 use Rattle.txn.specs.Machines.{resting}
 use Rattle.recovery.specs.Journals.{records_in}
