@@ -7,3 +7,4 @@ pub mod Stepping
 pub mod ClientLemmas
 pub mod RequestLemmas
 pub mod OpenLemmas
+pub mod EffectLemmas

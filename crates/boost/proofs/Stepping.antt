@@ -17,11 +17,12 @@ use Rattle.world.specs.declared.world.World.{World}
 use Rattle.world.specs.Pasts.{Past, committed_in, greatest_told, acknowledged, IsAnswerOf, Draws}
 use Rattle.world.specs.Crash.{Yields}
 use Rattle.world.specs.Worlds.{HasPast}
+use Rattle.world.specs.Moves.{Moves}
 use Rattle.world.proofs.PastLemmas.{committed_in-append, prefix_take, take-longer}
 use Rattle.world.proofs.WorldLemmas.{yields_fewer, mark_few}
 use Rattle.world.proofs.StepLemmas.{yields_on}
 use Rattle.world.proofs.PlayLemmas.{play_starts}
-use Rattle.boost.specs.Plays.{parts, Plays, Runs, alone, IsOutcome, Asks, TakesOne, Gives}
+use Rattle.boost.specs.Plays.{parts, whole, Plays, Runs, alone, IsOutcome, Asks, TakesOne, Gives}
 
 -- more of a past tells no less
 told_more : (past more : Past) → greatest_told past ≤ greatest_told (past ++ more)
@@ -48,6 +49,8 @@ module _ {D : Type 0} {g : Ghosts D} where
     any_moment = λ start past had. play_starts g.seen g.may_leave g.moment g.left_since start past (parts w) had only_now;
     own = tt;
     drawn = refl;
+    moves = refl;
+    honest = λ h. h;
   }
 
   -- steps, and then others
@@ -64,6 +67,8 @@ module _ {D : Type 0} {g : Ghosts D} where
         subst (λ p. LeavesOnly g.moment g.left_since old.keeper.disk new.keeper.disk (Yields start p (acknowledged past))) (append_assoc past xs ys) whole;
     own = all_append (λ x. IsAnswerOf x.0 x.1) xs ys first.own second.own;
     drawn = leads_append Draws xs ys old.next mid.next new.next first.drawn second.drawn;
+    moves = leads_append (Moves g.fault_count) xs ys (whole old) (whole mid) (whole new) first.moves second.moves;
+    honest = λ h. first.honest (second.honest h);
   }
 
   -- no step was taken, for want of memory

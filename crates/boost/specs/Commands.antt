@@ -6,9 +6,17 @@ use Rattle.boost.specs.declared.script.line.Line.{Line}
 use Rattle.boost.specs.declared.script.line.ScriptError.{ScriptError}
 use Rattle.boost.specs.Scripts.{IsScriptOf, IsWhy}
 
+abbrev pub IsFormat : Task → Type 0
+IsFormat (Task.Format disk area) = Unit {0}
+IsFormat task = ⊥
+
 abbrev pub IsPlay : Task → Type 0
 IsPlay (Task.Play disk script) = Unit {0}
 IsPlay task = ⊥
+
+abbrev pub IsShow : Task → Type 0
+IsShow (Task.Show disk) = Unit {0}
+IsShow task = ⊥
 
 abbrev pub IsCheck : Task → Type 0
 IsCheck (Task.Check disk) = Unit {0}

@@ -7,3 +7,4 @@ pub mod Turns
 pub mod Requests
 pub mod Commands
 pub mod Failures
+pub mod Effects

@@ -11,10 +11,15 @@ use Rattle.world.specs.declared.world.World.{World}
 use Rattle.world.specs.Pasts.{Past, acknowledged, AreAnswered, Draws}
 use Rattle.world.specs.Crash.{Yields}
 use Rattle.world.specs.Worlds.{Parts, HasPast, parts_of}
+use Rattle.world.specs.Moves.{Whole, whole_of, Moves}
 
 -- the parts of a world that its past speaks of
 abbrev pub parts : {D : Type 0} {g : Ghosts D} → World D g → Parts D
 parts w = parts_of w.book w.keeper w.transit.blocks.items w.mark
+
+-- all that a world is
+abbrev pub whole : {D : Type 0} {g : Ghosts D} → World D g → Whole D
+whole w = whole_of w.book w.keeper w.transit.blocks.items w.mark w.next
 
 -- The steps lead from one world to another: each past goes on with them.
 abbrev pub Takes : {D : Type 0} {g : Ghosts D} → World D g → Past → World D g → Type 0
@@ -28,12 +33,15 @@ Keeps {D} {g} old steps new =
     LeavesOnly g.moment g.left_since old.keeper.disk new.keeper.disk (Yields start (past ++ steps) (acknowledged past))
 
 -- The steps are played: each past of the world goes on with them, and a stop at any moment since leaves what the crash theorem says. Each is
--- answered in its own way, and the draws among them give the next numbers.
+-- answered as the book, the keeper or the mark answers it there, in its own way, and the draws among them give the next numbers. Where the disk read
+-- true up to now, it did so before.
 pub record Plays {D : Type 0} {g : Ghosts D} (old : World D g) (steps : Past) (new : World D g) : Type 0 where
   pub takes : Takes old steps new
   pub any_moment : Keeps old steps new
   pub own : AreAnswered steps
   pub drawn : Leads Draws steps old.next new.next
+  pub moves : Leads (Moves g.fault_count) steps (whole old) (whole new)
+  pub honest : g.is_honest new.keeper.disk → g.is_honest old.keeper.disk
 
 -- steps of which this is said are played
 abbrev pub Runs : {D : Type 0} {g : Ghosts D} → World D g → (Past → Type 0) → World D g → Type 0

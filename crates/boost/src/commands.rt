@@ -1,13 +1,15 @@
 // What the program does for a command, on any disk.
 ghost use Rattle.std.specs.Prelude.{◌≡◌, ◌⊎◌, ℕ, List, [], OnOk, IfOk, IfErr};
 ghost use Rattle.calls.specs.Contents.{Collection};
-ghost use Rattle.disk_model.specs.Disk.{ReadsOnly, IsAtRest};
+ghost use Rattle.disk_model.specs.Disk.{ReadsOnly, IsAtRest, LeavesOnly};
 ghost use Rattle.recovery.specs.Journals.{StandsFor};
 ghost use Rattle.recovery.specs.Openings.{KeepsContent};
+ghost use Rattle.recovery.specs.Formats.{IsEmptyStore, IsFormatting};
 ghost use Rattle.world.specs.Worlds.{HasPast};
 ghost use Rattle.boost.specs.Plays.{parts};
+ghost use Rattle.boost.specs.Effects.{KeepsPlaying};
 ghost use Rattle.boost.specs.declared.commands.failure.Failure.{Failure};
-ghost use Rattle.boost.specs.Commands.{IsPlay, IsCheck, IsDemo, IsUnderstood, IsOfStore, IsWhyUnplayed, IsWhyUndone, IsNotUnderstoodAt, status_of};
+ghost use Rattle.boost.specs.Commands.{IsFormat, IsPlay, IsShow, IsCheck, IsDemo, IsUnderstood, IsOfStore, IsWhyUnplayed, IsWhyUndone, IsNotUnderstoodAt, status_of};
 
 mod client;
 mod committer;
@@ -39,7 +41,10 @@ use world::World;
 /// and journal records the store has, and writes nothing. Demo runs a stored script on a disk in memory of its own and
 /// prints what Play does, and then what Show does: it touches neither the disk nor the script.
 ///
-/// Play and Show open the store: transactions that have not ended are undone, and that is written to the disk.
+/// Play and Show open the store: transactions that have not ended are undone, and that is written to the disk. On a disk
+/// at rest that reads true and whose bytes are sound, a stop at any moment of a Show leaves the content, and one of a
+/// Play a beginning of what its steps committed; a Format leaves an empty store, at rest, and a stop in it what
+/// `recovery::format` says.
 ///
 /// The status is 0 where the command was done, lines of the script that were refused among it; else a text goes to
 /// `err`, as `Failure` says: 3 for a script with a line that is not understood, of which no line is run and for
@@ -60,6 +65,11 @@ pub fn run<D: Disk, O: Write, E: Write>(
     ensures only_read { IsCheck task.now → ReadsOnly D.seen D.may_leave D.moment D.left_since disk result.1 }
     ensures stored_run { IsDemo task.now → result.1 ≡ disk }
     ensures silent { (result.0 ≡ 0) ⊎ (result.0 ≡ 4) → err.new ≡ err.old }
+    ensures formatted { result.0 ≡ 0 → IsFormat task.now → IsEmptyStore (D.seen result.1) × IsAtRest D.seen D.may_leave result.1 }
+    ensures formatting { IsFormat task.now → IsAtRest D.seen D.may_leave disk →
+        LeavesOnly D.moment D.left_since disk result.1 (IsFormatting (D.seen disk)) }
+    ensures played { IsPlay task.now → D.is_honest result.1 → KeepsPlaying D.seen D.may_leave D.moment D.left_since disk result.1 }
+    ensures shown { IsShow task.now → D.is_honest result.1 → KeepsContent D.seen D.may_leave D.moment D.left_since disk result.1 }
 {
     match carry_out(alloc, task, disk, script, out) {
         (Ok(()), disk) => (0, disk),
@@ -92,26 +102,55 @@ fn carry_out<D: Disk, O: Write>(
     ensures why { IfErr result.0 (IsWhyUndone task.now script.now (result.1 ≡ disk)) }
     ensures only_read { IsCheck task.now → ReadsOnly D.seen D.may_leave D.moment D.left_since disk result.1 }
     ensures stored_run { IsDemo task.now → result.1 ≡ disk }
+    ensures formatted { OnOk result.0 (IsFormat task.now → IsEmptyStore (D.seen result.1) × IsAtRest D.seen D.may_leave result.1) }
+    ensures formatting { IsFormat task.now → IsAtRest D.seen D.may_leave disk →
+        LeavesOnly D.moment D.left_since disk result.1 (IsFormatting (D.seen disk)) }
+    ensures played { IsPlay task.now → D.is_honest result.1 → KeepsPlaying D.seen D.may_leave D.moment D.left_since disk result.1 }
+    ensures shown { IsShow task.now → D.is_honest result.1 → KeepsContent D.seen D.may_leave D.moment D.left_since disk result.1 }
 {
     let Ok(mut out) = BufWriter::new(alloc, out) else {
         return (Err(Failure::Refused(Refusal::NoMemory)), disk);
     };
-    let (done, disk) = match task {
-        Task::Format { area, .. } => format_disk(disk, *area),
-        Task::Play { .. } => play_script(alloc, disk, script, &mut out),
-        Task::Show { .. } => show(alloc, disk, &mut out),
-        Task::Check { .. } => check(alloc, disk, &mut out),
-        Task::Demo => (demo(alloc, &mut out), disk),
-    };
+    let (done, disk) = perform(alloc, task, disk, script, &mut out);
     match out.flush() {
         Ok(()) => (done, disk),
         Err(_) => (Err(Failure::Unwritten), disk),
     }
 }
 
+// Does what a command asks for.
+fn perform<D: Disk, O: Write>(
+    alloc: Global,
+    task: &Task,
+    disk: D,
+    script: &[u8],
+    out: &mut O,
+) -> (Result<(), Failure<'static>>, D)
+    ensures understood { OnOk result.0 (IsPlay task.now → IsUnderstood script.now) }
+    ensures why { IfErr result.0 (IsWhyUndone task.now script.now (result.1 ≡ disk)) }
+    ensures only_read { IsCheck task.now → ReadsOnly D.seen D.may_leave D.moment D.left_since disk result.1 }
+    ensures stored_run { IsDemo task.now → result.1 ≡ disk }
+    ensures formatted { OnOk result.0 (IsFormat task.now → IsEmptyStore (D.seen result.1) × IsAtRest D.seen D.may_leave result.1) }
+    ensures formatting { IsFormat task.now → IsAtRest D.seen D.may_leave disk →
+        LeavesOnly D.moment D.left_since disk result.1 (IsFormatting (D.seen disk)) }
+    ensures played { IsPlay task.now → D.is_honest result.1 → KeepsPlaying D.seen D.may_leave D.moment D.left_since disk result.1 }
+    ensures shown { IsShow task.now → D.is_honest result.1 → KeepsContent D.seen D.may_leave D.moment D.left_since disk result.1 }
+{
+    match task {
+        Task::Format { area, .. } => format_disk(disk, *area),
+        Task::Play { .. } => play_script(alloc, disk, script, out),
+        Task::Show { .. } => show(alloc, disk, out),
+        Task::Check { .. } => check(alloc, disk, out),
+        Task::Demo => (demo(alloc, out), disk),
+    }
+}
+
 // Makes the disk an empty store.
 fn format_disk<D: Disk>(disk: D, area: u64) -> (Result<(), Failure<'static>>, D)
-    ensures { IfErr result.0 IsOfStore }
+    ensures why { IfErr result.0 IsOfStore }
+    ensures formatted { OnOk result.0 (IsEmptyStore (D.seen result.1) × IsAtRest D.seen D.may_leave result.1) }
+    ensures formatting { IsAtRest D.seen D.may_leave disk →
+        LeavesOnly D.moment D.left_since disk result.1 (IsFormatting (D.seen disk)) }
 {
     let mut disk = disk;
     match format(&mut disk, area) {
@@ -129,6 +168,7 @@ fn play_script<D: Disk, O: Write>(
 ) -> (Result<(), Failure<'static>>, D)
     ensures understood { OnOk result.0 (IsUnderstood script.now) }
     ensures why { IfErr result.0 (IsWhyUnplayed script.now (result.1 ≡ disk)) }
+    ensures played { D.is_honest result.1 → KeepsPlaying D.seen D.may_leave D.moment D.left_since disk result.1 }
 {
     match parse(alloc, script) {
         Ok(lines) => play_lines(alloc, disk, lines, out),
@@ -155,7 +195,8 @@ fn play_lines<D: Disk, O: Write>(
     lines: Vec<Line>,
     out: &mut O,
 ) -> (Result<(), Failure<'static>>, D)
-    ensures { IfErr result.0 IsOfStore }
+    ensures why { IfErr result.0 IsOfStore }
+    ensures played { D.is_honest result.1 → KeepsPlaying D.seen D.may_leave D.moment D.left_since disk result.1 }
 {
     match open_player(alloc, disk) {
         Ok(mut player) => {
@@ -168,7 +209,8 @@ fn play_lines<D: Disk, O: Write>(
 
 // Prints the content of the store of a disk.
 fn show<D: Disk, O: Write>(alloc: Global, disk: D, out: &mut O) -> (Result<(), Failure<'static>>, D)
-    ensures { IfErr result.0 IsOfStore }
+    ensures why { IfErr result.0 IsOfStore }
+    ensures shown { D.is_honest result.1 → KeepsContent D.seen D.may_leave D.moment D.left_since disk result.1 }
 {
     match open(alloc, disk) {
         Ok((book, keeper)) => {

@@ -1,5 +1,5 @@
 -- What the laws of a boosted collection say.
-use Rattle.std.specs.Prelude.{◌≡◌, ℕ, ◌+◌, ◌<◌, ◌^◌, ◌⊎◌, Option, MatchOption, List}
+use Rattle.std.specs.Prelude.{◌≡◌, ℕ, ◌+◌, ◌≤◌, ◌^◌, ◌⊎◌, Option, MatchOption, List}
 use Rattle.std.specs.List.{AllByRecursion}
 use Rattle.calls.specs.declared.call.Call.{Call}
 use Rattle.calls.specs.declared.reply.Reply.{Reply}
@@ -16,7 +16,7 @@ use Rattle.calls.specs.Inverses.{Askable, IsShort, Deferrable, Disposable}
 
 -- The content is within a number to which no run leaves its range.
 abbrev pub HasRoom : {S : Type 0} → (S → ℕ → Type 0) → S → Type 0
-HasRoom within s = (n : ℕ) × within s n × (n < 2 ^ 61 + 65536)
+HasRoom within s = (n : ℕ) × within s n × (n ≤ 2 ^ 61 + 65536)
 
 -- The calls are at two places, or their needs do not conflict.
 abbrev pub Apart : {A : Type 0} → (Call → Reply → Need) → A → Call → Reply → A → Call → Reply → Type 0

@@ -11,10 +11,10 @@ use Rattle.calls.specs.Inverses.{inverse_of, Undoes}
 same_end : (s m n : ℤ) → (s +ℤ m) +ℤ n ≡ (s +ℤ n) +ℤ m
 same_end s m n = omega (arith, ints)
 
-back_again : (s n : ℤ) → s ≡ (s +ℤ n) +ℤ neg_ℤ n
+pub back_again : (s n : ℤ) → s ≡ (s +ℤ n) +ℤ neg_ℤ n
 back_again s n = omega (arith, ints)
 
-neg_step : (n : ℤ) → IsStep n → IsStep (neg_ℤ n)
+pub neg_step : (n : ℤ) → IsStep n → IsStep (neg_ℤ n)
 neg_step n h = record { above = omega (arith, ints); below = omega (arith, ints) }
 
 pub counter_starts : IsWithin (pos 0) 0

@@ -7,6 +7,7 @@ pub mod QueueLaws
 pub mod MapLaws
 pub mod PoolLaws
 pub mod Product
+pub mod UndoneLaws
 pub mod Looks
 pub mod LaterLaws
 pub mod Conflicts

@@ -20,19 +20,19 @@ off_key : (p k : ℕ) → (p < k) ⊎ (k < p) → p ≡ k → ⊥
 off_key p k d e = ⊎_elim (λ l. omega arith) (λ l. omega arith) d
 
 -- a value put, and what was there put back
-put_back : (s : Table) (k : ℕ) (v o : List ℕ) → get s k ≡ Some o → s ≡ insert (insert s k v) k o
+pub put_back : (s : Table) (k : ℕ) (v o : List ℕ) → get s k ≡ Some o → s ≡ insert (insert s k v) k o
 put_back s k v o h = same s _ (λ p. ⊎_elim
     (λ (e : p ≡ k). ap (get s) e ∙ h ∙ sym (get_insert (insert s k v) k o p e))
     (λ (e : p ≡ k → ⊥). sym (get_insert_other (insert s k v) k o p e ∙ get_insert_other s k v p e))
     (cases_eq p k))
 
-put_remove : (s : Table) (k : ℕ) (v : List ℕ) → get s k ≡ None → s ≡ remove (insert s k v) k
+pub put_remove : (s : Table) (k : ℕ) (v : List ℕ) → get s k ≡ None → s ≡ remove (insert s k v) k
 put_remove s k v h = same s _ (λ p. ⊎_elim
     (λ (e : p ≡ k). ap (get s) e ∙ h ∙ sym (get_remove (insert s k v) k p e))
     (λ (e : p ≡ k → ⊥). sym (get_remove_other (insert s k v) k p e ∙ get_insert_other s k v p e))
     (cases_eq p k))
 
-remove_put : (s : Table) (k : ℕ) (o : List ℕ) → get s k ≡ Some o → s ≡ insert (remove s k) k o
+pub remove_put : (s : Table) (k : ℕ) (o : List ℕ) → get s k ≡ Some o → s ≡ insert (remove s k) k o
 remove_put s k o h = same s _ (λ p. ⊎_elim
     (λ (e : p ≡ k). ap (get s) e ∙ h ∙ sym (get_insert (remove s k) k o p e))
     (λ (e : p ≡ k → ⊥). sym (get_insert_other (remove s k) k o p e ∙ get_remove_other s k p e))

@@ -21,7 +21,7 @@ add_remove s x h = same s _ (λ p. ⊎_elim
     (λ (e : p ≡ x → ⊥). sym (in_remove_other (insert s x) x p e ∙ in_insert_other s x p e))
     (cases_eq p x))
 
-remove_add : (s : NumberSet) (x : ℕ) → contains s x ≡ true → s ≡ insert (remove s x) x
+pub remove_add : (s : NumberSet) (x : ℕ) → contains s x ≡ true → s ≡ insert (remove s x) x
 remove_add s x h = same s _ (λ p. ⊎_elim
     (λ (e : p ≡ x). ap (contains s) e ∙ h ∙ sym (in_insert (remove s x) x p e))
     (λ (e : p ≡ x → ⊥). sym (in_insert_other (remove s x) x p e ∙ in_remove_other s x p e))

@@ -18,6 +18,15 @@ inverse_of (Call.Bump n) Reply.Done = Some (Call.Bump (neg_ℤ n))
 inverse_of Call.Draw (Reply.Id x) = Some (Call.Free x)
 inverse_of c r = None
 
+-- What the inverse of a call is answered where it takes back what the call did, answered so.
+abbrev pub undone_by : Call → Reply → Reply
+undone_by (Call.SetAdd x) Reply.Yes = Reply.Yes
+undone_by (Call.SetRemove x) Reply.Yes = Reply.Yes
+undone_by (Call.Put k v) Reply.Nothing = Reply.Value v
+undone_by (Call.Put k v) (Reply.Value o) = Reply.Value v
+undone_by (Call.MapRemove k) (Reply.Value o) = Reply.Nothing
+undone_by c r = Reply.Done
+
 -- What a call did, answered so, is taken back: its inverse leads from t to s. Where there is none, nothing changed.
 abbrev pub Undoes : {C : Type 0} → (C → Call → Reply → C → Type 0) → (Call → Reply → Option Call) → C → Call → Reply → C → Type 0
 Undoes does inverse t c r s = MatchOption (inverse c r) (s ≡ t) (λ back. (reply : Reply) × does t back reply s)

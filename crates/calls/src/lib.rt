@@ -14,6 +14,7 @@ mod refusal;
 mod reply;
 #[cfg(test)]
 mod tests;
+mod undoing;
 
 pub use bytes::Bytes;
 pub use call::Call;
@@ -24,3 +25,4 @@ pub use name::Name;
 pub use need::{Mode, Need};
 pub use refusal::Refusal;
 pub use reply::Reply;
+pub use undoing::undone_by;

@@ -1,5 +1,5 @@
 -- What the entries of a catalog stand for: at a place, after a change at a place, and by name.
-use Rattle.std.proofs.Common.{◌⊎◌, inl, inr, ⊎_elim, ◌≡◌, ℕ, zero, suc, ◌<◌, ◌≤◌, Bool, true, false, true≢false, Option, Some, None, List, [], ◌∷◌, ◌++◌, length, map, is_some, slice_get, position, get_or, Contains, refl, sym, ◌∙◌, ap, subst, arith}
+use Rattle.std.proofs.Common.{◌⊎◌, inl, inr, ⊎_elim, ◌≡◌, ℕ, zero, suc, ◌<◌, ◌≤◌, Bool, true, false, true≢false, Option, Some, None, List, [], ◌∷◌, ◌++◌, length, map, is_some, slice_get, position, get_or, Contains, refl, sym, ◌∙◌, ap, subst, arith, length-append}
 use Rattle.std.specs.Prelude.{string_bytes}
 use Rattle.std.specs.List.{AllByRecursion, IsDistinct}
 use Rattle.std.specs.Map.{keys_of, values_of, lookup}
@@ -19,12 +19,13 @@ use Rattle.indexmap.proofs.MapLemmas.{absent_from_lookup, insert_entry-absent}
 use Rattle.calls.specs.declared.call.Call.{Call}
 use Rattle.calls.specs.declared.reply.Reply.{Reply}
 use Rattle.calls.specs.declared.refusal.Refusal.{Refusal}
+use Rattle.calls.specs.Names.{IsName}
 use Rattle.calls.specs.Inverses.{Askable}
 use Rattle.calls.specs.Items.{kind_of_content}
 use Rattle.boosted.specs.Kinds.{IsOf}
 use Rattle.calls.specs.Contents.{Content, Answers, after, Collection, AnswersAt, after_at}
 use Rattle.catalog.specs.declared.holding.Holding.{Holding}
-use Rattle.catalog.specs.Holdings.{content_of, collections_of}
+use Rattle.catalog.specs.Holdings.{content_of, collections_of, AreNamed}
 use Rattle.catalog.specs.Making.{names_of, IsPlaceOf, IsFree, AreDistinct}
 use Rattle.catalog.specs.Places.{At, Belongs, Misplaced, content_at, Reaches, IsWithin}
 
@@ -259,3 +260,25 @@ shown_at P s es i at e seen place there h = rw (← seen, ← place) (go es i th
     go [] j t = absurd (cc)
     go (f ∷ fs) zero t = let same : e ≡ f = cc in subst (λ v. P (record { name = string_bytes v.0; content = content_of v.1 })) same h
     go (f ∷ fs) (suc j) t = go fs j t
+
+-- Each entry's name is a good one, also after a change at a place,
+pub named_at : (es : List Entry) (i : ℕ) (e : Entry) → AreNamed (collections_of es) → Some e ≡ slice_get es i → IsName (string_bytes e.0)
+named_at [] i e named t = absurd (cc)
+named_at (f ∷ es) zero e named t = let same : e ≡ f = cc in subst (λ v. IsName (string_bytes v.0)) (sym same) named.0
+named_at (f ∷ es) (suc i) e named t = named_at es i e named.1 t
+
+pub named_after : (es : List Entry) (i : ℕ) (h : Holding) → AreNamed (collections_of es) → AreNamed (collections_of (set_value_at es i h))
+named_after [] i h named = tt
+named_after (e ∷ es) zero h named = named
+named_after (e ∷ es) (suc i) h named = (named.0, named_after es i h named.1)
+
+-- or with one more behind the others, of which there are at most 256.
+pub few_more : (s : List Collection) (x : Collection) (es : List Entry) → collections_of es ≡ s ++ x ∷ [] → length (names_of s) < 256 → length es ≤ 256
+few_more s x es is few = omega (arith, few, length-map s (λ (x : Collection). x.name), ap length is, length-append s (x ∷ []), length-collections_of es)
+
+pub named_more : (s : List Collection) (x : Collection) (t : List Collection) → AreNamed s → IsName x.name → t ≡ s ++ x ∷ [] → AreNamed t
+named_more s x t named good is = subst AreNamed (sym is) (more s named)
+  where
+    more : (ys : List Collection) → AreNamed ys → AreNamed (ys ++ x ∷ [])
+    more [] named = (good, tt)
+    more (y ∷ ys) named = (named.0, more ys named.1)

@@ -1,5 +1,5 @@
 -- Items are in order exactly where they are those of a content, which then is what they fill.
-use Rattle.std.proofs.Common.{◌≡◌, ℕ, zero, suc, ◌<◌, ◌≤◌, ◌⊎◌, ◌&&◌, true, false, replicate, List, [], ◌∷◌, ◌++◌, map, refl, sym, ◌∙◌, ap, subst, inl, inr, ⊎_elim, arith}
+use Rattle.std.proofs.Common.{◌≡◌, ◌↔◌, ◌-◌, length, get_or, take, drop, take-append-drop, ℕ, zero, suc, ◌<◌, ◌≤◌, ◌⊎◌, ◌&&◌, true, false, replicate, List, [], ◌∷◌, ◌++◌, map, refl, sym, ◌∙◌, ap, subst, inl, inr, ⊎_elim, arith}
 use Rattle.std.proofs.Common.{Ordering, Less, Equal, Greater}
 use Rattle.std.specs.Prelude.{T}
 use Rattle.std.specs.List.{AllByRecursion}
@@ -10,7 +10,10 @@ use Rattle.std.specs.Cmp.{ranked, nat_cmp_is}
 use Rattle.std.specs.FinMap as maps
 use Rattle.std.specs.FinMap.Entries.{is_sorted, below_all}
 use Rattle.std.specs.FinSet as sets
-use Rattle.std.proofs.lemmas.Bool.{cases_lt}
+use Rattle.std.proofs.lemmas.Bool.{cases_lt, ltb-false}
+use Rattle.std.proofs.lemmas.List.{drop_all}
+use Rattle.std.proofs.Math.Seq.{drop-cons}
+use Rattle.std.proofs.Math.Dec.{ltb}
 use Rattle.calls.specs.declared.kind.Kind.{Kind}
 use Rattle.calls.specs.declared.item.Item.{Item}
 use Rattle.calls.specs.Bags.{pair_cmp}
@@ -18,7 +21,7 @@ use Rattle.calls.specs.Contents.{Content, InSet, InMap, InQueue, InCounter, InPo
 use Rattle.calls.specs.Items.{kind_of_content}
 use Rattle.collections.specs.Items.{bag_from, IsRising}
 use Rattle.catalog.specs.Shows.{ListsContent, pair_item}
-use Rattle.catalog.specs.Loading.{AreItems, Rise, AreInOrder, with_item, filled}
+use Rattle.catalog.specs.Loading.{AreItems, Precedes, IsItemOf, Rise, AreInOrder, Follows, with_item, filled}
 use Rattle.catalog.proofs.Listings.{entry_item, entry_items, spread, pair_items}
 
 -- ---- items that are filled in from the last to the first
@@ -273,3 +276,75 @@ items_from_order kind items h = (filled (empty kind) items, kind_filled kind ite
 
 pub order_from_items : (kind : Kind) (items : List Item) → AreItems kind items → AreInOrder kind items
 order_from_items kind items k = subst (λ n. AreInOrder n items) k.1 (listed_in_order k.0 items k.2)
+
+-- ---- one item more
+
+-- An item behind another is one of the kind.
+last_is_item : (kind : Kind) (x y : Item) → Precedes kind x y → IsItemOf kind y
+last_is_item Kind.Set (Item.Element x) (Item.Element y) p = tt
+last_is_item Kind.Map (Item.Entry k v) (Item.Entry j w) p = tt
+last_is_item Kind.Queue (Item.Pair p g) (Item.Pair q h) b = tt
+last_is_item Kind.Pool (Item.Element x) (Item.Element y) p = tt
+last_is_item kind x y p = absurd p
+
+rise_push : (kind : Kind) (first : Item) (front : List Item) (last i : Item) → Rise kind first (front ++ last ∷ []) → Precedes kind last i → Rise kind first ((front ++ last ∷ []) ++ i ∷ [])
+rise_push kind first [] last i rise next = (rise.0, (next, last_is_item kind last i next))
+rise_push kind first (x ∷ front) last i rise next = (rise.0, rise_push kind x front last i rise.1 next)
+
+rise_pop : (kind : Kind) (first : Item) (front : List Item) (last i : Item) → Rise kind first ((front ++ last ∷ []) ++ i ∷ []) → Precedes kind last i
+rise_pop kind first [] last i rise = rise.1.0
+rise_pop kind first (x ∷ front) last i rise = rise_pop kind x front last i rise.1
+
+in_order_rise : (kind : Kind) (x : Item) (xs : List Item) → AreInOrder kind (x ∷ xs) → Rise kind x xs
+in_order_rise Kind.Set x xs h = h
+in_order_rise Kind.Map x xs h = h
+in_order_rise Kind.Queue x xs h = h
+in_order_rise Kind.Counter x xs h = h
+in_order_rise Kind.Pool x xs h = h
+
+rise_in_order : (kind : Kind) (x : Item) (xs : List Item) → Rise kind x xs → AreInOrder kind (x ∷ xs)
+rise_in_order Kind.Set x xs h = h
+rise_in_order Kind.Map x xs h = h
+rise_in_order Kind.Queue x xs h = h
+rise_in_order Kind.Counter x xs h = h
+rise_in_order Kind.Pool x xs h = h
+
+-- Behind items in order one more is in order where it may stand behind the last.
+pub follows_last : (kind : Kind) (front : List Item) (last i : Item) → AreInOrder kind (front ++ last ∷ []) → Precedes kind last i ↔ Follows kind (front ++ last ∷ []) i
+follows_last kind [] last i h = (
+  λ p. rise_in_order kind last (i ∷ []) (p, last_is_item kind last i p),
+  λ f. (in_order_rise kind last (i ∷ []) f).0,
+)
+follows_last kind (x ∷ front) last i h = (
+  λ p. rise_in_order kind x ((front ++ last ∷ []) ++ i ∷ []) (rise_push kind x front last i (in_order_rise kind x (front ++ last ∷ []) h) p),
+  λ f. rise_pop kind x front last i (in_order_rise kind x ((front ++ last ∷ []) ++ i ∷ []) f),
+)
+
+pub follows_none : (kind : Kind) (i : Item) → IsItemOf kind i ↔ Follows kind [] i
+follows_none kind i = (λ h. rise_in_order kind i [] h, λ h. in_order_rise kind i [] h)
+
+-- A list with a last element is what stands before it, and it.
+ends_with : {X : Type 0} (xs : List X) (last : X) → 0 < length xs → ((d : X) → last ≡ get_or xs (length xs - 1) d) → (front : List X) × (xs ≡ front ++ last ∷ [])
+ends_with xs last some is =
+    let n : ℕ = length xs - 1 in
+    let inside : n < length xs = omega arith in
+    let none : drop (suc n) xs ≡ [] = drop_all (suc n) xs (omega arith) in
+    let tail : drop n xs ≡ last ∷ [] = drop-cons xs n last inside ∙ ap (λ l. get_or xs n last ∷ l) none ∙ ap (λ x. x ∷ []) (sym (is last)) in
+    (take n xs, sym (take-append-drop n xs) ∙ ap (λ l. take n xs ++ l) tail)
+
+empty_of : {X : Type 0} (xs : List X) → length xs ≡ 0 → xs ≡ []
+empty_of [] e = refl
+empty_of (x ∷ xs) e = absurd (omega (arith, e))
+
+-- The same, where the last item was looked up.
+pub follows_at_end : (kind : Kind) (items : List Item) (last i : Item) → 0 < length items → ((d : Item) → last ≡ get_or items (length items - 1) d) → (items ≡ []) ⊎ AreInOrder kind items → Precedes kind last i ↔ Follows kind items i
+follows_at_end kind items last i some is known =
+    let split = ends_with items last some is in
+    let order : AreInOrder kind items = ⊎_elim (λ (e : items ≡ []). absurd (omega (arith, some, ap length e))) (λ h. h) known in
+    subst (λ l. Precedes kind last i ↔ Follows kind l i) (sym split.1) (follows_last kind split.0 last i (subst (AreInOrder kind) split.1 order))
+
+-- The same, where there is none.
+pub follows_nothing : (kind : Kind) (items : List Item) (i : Item) → false ≡ ltb 0 (length items) → IsItemOf kind i ↔ Follows kind items i
+follows_nothing kind items i none =
+    let empty : length items ≡ 0 = omega (arith, ltb-false 0 (length items) (sym none)) in
+    subst (λ l. IsItemOf kind i ↔ Follows kind l i) (sym (empty_of items empty)) (follows_none kind i)

@@ -57,6 +57,10 @@ AreInOrder Kind.Counter [] = ⊥
 AreInOrder kind [] = Unit {0}
 AreInOrder kind (x ∷ xs) = Rise kind x xs
 
+-- The item may come behind these: with it they are in order.
+abbrev pub Follows : Kind → List Item → Item → Type 0
+Follows kind items i = AreInOrder kind (items ++ i ∷ [])
+
 -- The content with the item put into it, if it is one of its kind.
 abbrev pub with_item : Content → Item → Content
 with_item (InSet s) (Item.Element x) = InSet (sets.insert s x)

@@ -5,6 +5,7 @@ use Rattle.std.specs.List.Sorted.{IsStrictlySortedBy}
 use Rattle.std.specs.Ordering.{nat_cmp}
 use Rattle.calls.specs.declared.item.Item.{Item}
 use Rattle.calls.specs.declared.refusal.Refusal.{Refusal}
+use Rattle.calls.specs.Names.{IsName}
 use Rattle.calls.specs.Sets.{NumberSet}
 use Rattle.calls.specs.Contents.{Content, InSet, InPool, Collection}
 use Rattle.calls.specs.Items.{items_of, kind_of_content}
@@ -27,8 +28,9 @@ ListsContent items (InSet s) = ListsSet items s
 ListsContent items (InPool s) = ListsSet items s
 ListsContent items c = items ≡ items_of c
 
--- The name, the kind and the items of the collection are shown.
+-- The name, which is a good one, the kind and the items of the collection are shown.
 pub record Shows (x : Collection) (shown : Shown) : Type 0 where
+  pub good : IsName shown.name
   pub named : shown.name ≡ x.name
   pub of_kind : shown.kind ≡ kind_of_content x.content
   pub holds : ListsContent shown.items.items x.content

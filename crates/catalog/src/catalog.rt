@@ -2,6 +2,7 @@
 ghost use Rattle.std.specs.Prelude.{◌≡◌, ◌≤◌, ◌↔◌, [], ◌∷◌, ◌++◌, false, IsTrue, length, string_bytes, refl, IfOk, IsOk, IfErr, OnOk, OnErr, IsOkUnless};
 ghost use Rattle.std.specs.Option.{option_map};
 ghost use Rattle.calls.specs.Contents.{AnswersAt, after_at};
+ghost use Rattle.calls.specs.Names.{IsName};
 ghost use Rattle.calls.specs.Transactions.{Makes};
 ghost use Rattle.calls.specs.Inverses.{Disposable};
 ghost use Rattle.boosted.specs.Shape.{HasRoom};
@@ -38,11 +39,11 @@ impl Model for Catalog {
 
     ghost coded = { catalog_code };
 
-    ghost use Rattle.catalog.specs.Holdings.{collections_of};
+    ghost use Rattle.catalog.specs.Holdings.{collections_of, AreNamed};
 
     ghost view = { λ catalog. collections_of catalog.collections.entries };
 
-    ghost invariant = { λ catalog. index_map_len catalog.collections ≤ 256 };
+    ghost invariant = { λ catalog. (index_map_len catalog.collections ≤ 256) × AreNamed (collections_of catalog.collections.entries) };
 }
 
 impl Catalog {
@@ -156,7 +157,7 @@ impl Catalog {
         Ok(true)
     }
 
-    /// The name, the kind and the items of the collection at the place, the items in their order.
+    /// The name, which is a good one, the kind and the items of the collection at the place, the items in their order.
     ///
     /// NoSuchCollection where there is none, then NoMemory.
     pub fn show(&self, col: u8) -> Result<Shown, Refusal>
@@ -172,6 +173,7 @@ impl Catalog {
 
 // What is shown of a collection.
 fn shown_of(name: &String, holding: &Holding) -> Result<Shown, AllocError>
+    requires { IsName (string_bytes name.now) }
     ensures { IfOk result (λ shown. Shows (record { name = string_bytes name.now; content = content_of holding.now }) shown) }
 {
     let text = name.clone()?;

@@ -13,6 +13,6 @@ mod tests;
 
 pub use catalog::Catalog;
 pub use holding::Holding;
-pub use loading::one_content;
+pub use loading::{follows, one_content};
 pub use parts::Parts;
 pub use shown::Shown;

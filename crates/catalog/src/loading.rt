@@ -1,11 +1,11 @@
 // Collections of given items.
-ghost use Rattle.std.specs.Prelude.{◌≡◌, ◌↔◌, List, IsTrue, IfOk, OnOk, OnErr, IsOkUnless};
+ghost use Rattle.std.specs.Prelude.{◌≡◌, ◌↔◌, ◌⊎◌, List, [], IsTrue, IfOk, OnOk, OnErr, IsOkUnless};
 ghost use Rattle.calls.specs.declared.item.Item.{Item};
 ghost use Rattle.calls.specs.Contents.{Content, empty};
 ghost use Rattle.calls.specs.Items.{kind_of_content};
 ghost use Rattle.catalog.specs.Holdings.{content_of};
 ghost use Rattle.catalog.specs.Shows.{ListsContent};
-ghost use Rattle.catalog.specs.Loading.{AreItems, Precedes, IsItemOf, Rise, AreInOrder, with_item, filled};
+ghost use Rattle.catalog.specs.Loading.{AreItems, Precedes, IsItemOf, Rise, AreInOrder, Follows, with_item, filled};
 
 use crate::Holding;
 use calls::{Item, Kind, Refusal};
@@ -41,6 +41,17 @@ fn rise(kind: Kind, first: &Item, rest: &[Item]) -> bool
         last = item;
     }
     is_item_of(kind, last)
+}
+
+/// Whether the item may come behind these, of which there is none or which are in order: it looks at the last alone.
+pub fn follows(kind: Kind, items: &[Item], item: &Item) -> bool
+    requires { (items.now ≡ []) ⊎ AreInOrder kind items.now }
+    ensures { IsTrue result ↔ Follows kind items.now item.now }
+{
+    match items.last() {
+        None => is_item_of(kind, item),
+        Some(last) => precedes(kind, last, item),
+    }
 }
 
 fn precedes(kind: Kind, first: &Item, second: &Item) -> bool

@@ -96,6 +96,7 @@ impl<D: Disk> Keeper<D> {
         ensures size { size_of self.new.area ≡ size_of self.old.area }
         ensures covered { self.new.covered ≡ self.old.covered }
         ensures image { self.new.image ≡ self.old.image }
+        ensures honest { D.is_honest self.new.disk → D.is_honest self.old.disk }
     {
         match self.area.append(&mut self.disk, block.bytes.as_slice()) {
             Ok(()) => {
@@ -140,6 +141,7 @@ impl<D: Disk> Keeper<D> {
         ensures size { size_of self.new.area ≡ size_of self.old.area }
         ensures covered { self.new.covered ≡ self.old.covered }
         ensures image { self.new.image ≡ self.old.image }
+        ensures honest { D.is_honest self.new.disk → D.is_honest self.old.disk }
     {
         if block.end <= self.covered {
             self.mark = self.mark.max(block.place);
@@ -189,6 +191,7 @@ impl<D: Disk> Keeper<D> {
         ensures covered { self.new.covered ≡ self.old.covered }
         ensures image { self.new.image ≡ self.old.image }
         ensures length { length (D.seen self.new.disk) ≡ length (D.seen self.old.disk) }
+        ensures honest { D.is_honest self.new.disk → D.is_honest self.old.disk }
     {
         if self.failed {
             return Err(Refusal::Failed);
@@ -245,6 +248,7 @@ impl<D: Disk> Keeper<D> {
             (LeavesElsewhere (D.may_leave self.old.disk) w.area) }
         ensures elsewhere { (w : Laying) → self.old.image ≡ Some w →
             SameOutside (base_of w.area) (size_of w.area) (D.seen self.old.disk) (D.seen self.new.disk) }
+        ensures honest { D.is_honest self.new.disk → D.is_honest self.old.disk }
     {
         if self.failed {
             return Err(Refusal::Failed);
@@ -286,6 +290,7 @@ impl<D: Disk> Keeper<D> {
             IsRooted D.seen D.may_leave self.old.area self.old.disk →
             LeavesOnly D.moment D.left_since self.old.disk self.new.disk
             (PicksWhole self.old.area (D.seen self.old.disk) w.area bodies) }
+        ensures honest { D.is_honest self.new.disk → D.is_honest self.old.disk }
     {
         if self.failed {
             return Err(Refusal::Failed);
@@ -307,6 +312,7 @@ impl<D: Disk> Keeper<D> {
         ensures root { Torn 512 1 (D.seen self.old.disk) (D.seen self.new.disk) }
         ensures any_moment { LeavesOnly D.moment D.left_since self.old.disk self.new.disk
             (LeavesRoot (D.may_leave self.old.disk) (D.seen self.old.disk)) }
+        ensures honest { D.is_honest self.new.disk → D.is_honest self.old.disk }
     {
         if pick_area(&mut self.disk, laying.area.base()).is_err() {
             self.failed = true;

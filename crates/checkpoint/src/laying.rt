@@ -45,6 +45,7 @@ impl Laying {
             (LeavesElsewhere (D.may_leave disk.old) self.old.area) }
         ensures elsewhere { SameOutside (base_of self.old.area) (size_of self.old.area)
             (D.seen disk.old) (D.seen disk.new) }
+        ensures honest { D.is_honest disk.new → D.is_honest disk.old }
     {
         let image = &mut self.image;
         self.area.lay(disk, image.blocks[0].as_slice())?;

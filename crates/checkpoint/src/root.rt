@@ -21,6 +21,7 @@ pub fn pick_area<D: Disk>(disk: &mut D, base: u64) -> Result<(), Fault>
     ensures any_moment { LeavesOnly D.moment D.left_since disk.old disk.new
         (LeavesRoot (D.may_leave disk.old) (D.seen disk.old)) }
     ensures cause { HasCause (D.fault_count disk.old) (D.fault_count disk.new) result }
+    ensures honest { D.is_honest disk.new → D.is_honest disk.old }
 {
     disk.sync()?;
     write_root(disk, base)
@@ -34,6 +35,7 @@ fn write_root<D: Disk>(disk: &mut D, base: u64) -> Result<(), Fault>
     ensures root { Torn 512 1 (D.seen disk.old) (D.seen disk.new) }
     ensures any_moment { LeavesOnly D.moment D.left_since disk.old disk.new (WasTorn 512 1 (D.may_leave disk.old)) }
     ensures cause { HasCause (D.fault_count disk.old) (D.fault_count disk.new) result }
+    ensures honest { D.is_honest disk.new → D.is_honest disk.old }
 {
     write_and_sync(disk, ROOT_AT, &[root_byte(base)])
 }

@@ -4,3 +4,4 @@ pub mod Acts
 pub mod Told
 pub mod Short
 pub mod Reached
+pub mod Images

@@ -35,6 +35,10 @@ module _ {S : Type 0} (collections : S → List Collection) where
   abbrev pub WithinAsTold : (S → ℕ → Type 0) → Type 0
   WithinAsTold within = (s : S) (n : ℕ) → within s n ↔ IsWithin (collections s) n
 
+  -- Contents that tell of the same collections are the same.
+  abbrev pub TellsApart : Type 0
+  TellsApart = (s t : S) → collections s ≡ collections t → s ≡ t
+
 -- What a call needs, its inverse and what it leaves are those of the kinds.
 abbrev pub NeedAsTold : (Call → Reply → Need) → Type 0
 NeedAsTold need = (c : Call) (r : Reply) → need c r ≡ need_of c r

@@ -5,7 +5,7 @@ ghost use Rattle.catalog.specs.Places.{At};
 ghost use Rattle.catalog.specs.Shows.{Shows, ShowRefused};
 ghost use Rattle.catalog.specs.Making.{IsNew};
 ghost use Rattle.catalog.specs.Loading.{AreItems, Loads, LoadRefused};
-ghost use Rattle.records.specs.Told.{NamesAsTold, AnswersAsTold, LeavesAsTold, MakesAsTold, WithinAsTold, NeedAsTold, InverseAsTold, AfterAsTold};
+ghost use Rattle.records.specs.Told.{NamesAsTold, AnswersAsTold, LeavesAsTold, MakesAsTold, WithinAsTold, TellsApart, NeedAsTold, InverseAsTold, AfterAsTold};
 
 use calls::{Item, Kind, Refusal};
 use catalog::{Catalog, Parts, Shown};
@@ -16,7 +16,7 @@ pub trait Coded: Parts {
     /// The content, as named collections in the order of making.
     ghost collections: { Self → List Collection };
 
-    /// The name, the kind and the items of the collection at the place, the items in their order.
+    /// The name, which is a good one, the kind and the items of the collection at the place, the items in their order.
     ///
     /// NoSuchCollection where there is none, then NoMemory.
     fn shown(&self, at: u8) -> Result<Shown, Refusal>
@@ -52,6 +52,9 @@ pub trait Coded: Parts {
     /// What so many runs can reach is what they can reach of the collections.
     ghost within_as_told: { WithinAsTold collections Self.within };
 
+    /// Contents that tell of the same collections are the same.
+    ghost told_apart: { TellsApart collections };
+
     /// What a call needs, its inverse and what it leaves to the commit are those of the five kinds.
     ghost need_as_told: { NeedAsTold Self.need };
 
@@ -82,6 +85,8 @@ impl Coded for Catalog {
     ghost makes_as_told = { λ s t name kind m. m };
 
     ghost within_as_told = { λ s n. (λ w. w, λ w. w) };
+
+    ghost told_apart = { λ s t e. e };
 
     ghost need_as_told = { λ c r. refl };
 

@@ -1,9 +1,9 @@
 // What has a spelling.
 ghost use Rattle.std.specs.Prelude.{◌↔◌, ◌≤◌, length, IsTrue};
 ghost use Rattle.calls.specs.Inverses.{IsShort};
-ghost use Rattle.records.specs.Records.{IsValue, FitsCall, FitsReply};
+ghost use Rattle.records.specs.Records.{IsValue, FitsCall, FitsReply, FitsItem};
 ghost use Rattle.calls.specs.Counters.{IsWithin};
-ghost use Rattle.records.specs.Short.{IsShortReply};
+ghost use Rattle.records.specs.Short.{IsShortReply, IsShortItem};
 ghost use Rattle.records.specs.Reached.{IsReached};
 
 use calls::limits::MAX_VALUE;
@@ -54,6 +54,19 @@ pub fn fits_reply(reply: &Reply) -> bool
         Reply::Done | Reply::No | Reply::Yes | Reply::Nothing | Reply::Queued | Reply::Absent => {
             true
         }
+    }
+}
+
+/// Whether the item has a spelling, which it has exactly where its value, if it has one, has at most 256 bytes.
+pub fn fits_item(item: &Item) -> bool
+    ensures fits { IsTrue result ↔ FitsItem item.now }
+    ensures short { IsTrue result ↔ IsShortItem item.now }
+{
+    match *item {
+        Item::Entry(_key, ref value) => fits_value(value),
+        Item::Pair(_priority, _tag) => true,
+        Item::Element(_x) => true,
+        Item::Number(_total) => true,
     }
 }
 

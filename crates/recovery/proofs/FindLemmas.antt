@@ -1,5 +1,5 @@
 -- Why a store could not be read, from why its head or its area could not be.
-use Rattle.std.proofs.Common.{◌≡◌, ◌⊎◌, ℕ, ◌+◌, ◌*◌, List, map, sym, ◌∙◌, ap, subst, Result, Ok, Err}
+use Rattle.std.proofs.Common.{◌≡◌, ◌⊎◌, ℕ, ◌+◌, ◌*◌, List, map, refl, sym, ◌∙◌, ap, subst, Result, Ok, Err}
 use Rattle.std.specs.Result.{IfErr}
 use Rattle.calls.specs.declared.refusal.Refusal.{Refusal}
 use Rattle.gate_block.specs.declared.area.Area.{Area}
@@ -10,13 +10,14 @@ use Rattle.records.specs.declared.record.Record.{Record}
 use Rattle.records.specs.Records.{spelling}
 use Rattle.recovery.specs.Journals.{IsHeader, base_in_use}
 use Rattle.recovery.specs.Heads.{IsHeadRefusal}
-use Rattle.recovery.specs.Steps.{State, IsSound}
+use Rattle.recovery.specs.Steps.{State}
+use Rattle.recovery.specs.Reading.{IsSound}
 use Rattle.recovery.specs.Loading.{IsLoaded}
 use Rattle.recovery.specs.declared.report.Report.{Report}
 use Rattle.recovery.specs.Finding.{IsStored, IsFound}
 use Rattle.recovery.specs.Openings.{AreSound, IsFirstFault, IsSpoilt, IsDamagedAt, IsLoadRefusal, IsFindRefusal, IsOpenRefusal, IsRead, IsReport}
 use Rattle.recovery.proofs.LoadLemmas.{Spoils}
-use Rattle.recovery.proofs.OpenLemmas.{one_size, by_block}
+use Rattle.recovery.proofs.OpenLemmas.{one_size}
 
 -- sound bytes hold blocks that an opening takes
 sound_blocks : (bytes : List ℕ) (size base : ℕ) → IsHeader size bytes → base ≡ base_in_use size bytes → IsSound bytes → (blocks : List (List Record)) × AreSound base size bytes blocks
@@ -26,9 +27,10 @@ sound_blocks bytes size base header picks sound =
     let there : part (base_in_use sound.holds.size bytes) sound.holds.size bytes ≡ part base size bytes = ap (λ b. part b sound.holds.size bytes) at ∙ ap (λ n. part base n bytes) same in (
       sound.blocks,
       record {
-        read = by_block sound.blocks sound.good;
-        row_is = subst (λ b. IsRow (map spelling sound.blocks) b) there sound.holds.row;
-        accepted = record { journal = sound.journal; is = sound.is; end = sound.end; repeats = sound.repeats };
+        next = sound.next;
+        end = sound.end;
+        count = sound.count;
+        is_read = record { good = sound.good; row_is = subst (λ b. IsRow (map spelling sound.blocks) b) there sound.holds.row; accepted = sound.accepted };
       },
     )
 
@@ -84,10 +86,11 @@ reported is_honest bytes area room undone next records report found true_read =
       size = size_of area;
       header = stored.header;
       blocks = stored.loaded.blocks;
-      journal = stored.loaded.journal;
+      next = next;
       state = found.state;
-      is_read = subst (λ k. IsRead k (size_of area) bytes stored.loaded.blocks stored.loaded.journal found.state) stored.picks stored.loaded.is_read;
+      count = report.records;
+      is_read = subst (λ k. IsRead k (size_of area) bytes stored.loaded.blocks next found.state report.records) stored.picks stored.loaded.is_read;
       collections = found.collections;
       unfinished = found.unfinished;
-      records = stored.loaded.counted;
+      records = refl;
     }

@@ -1,7 +1,6 @@
 -- What the writes of a format leave.
 use Rattle.std.proofs.Common.{◌≡◌, ◌≢◌, ◌⊎◌, inl, inr, ℕ, ◌+◌, ◌-◌, ◌*◌, ◌%◌, ◌≤◌, List, [], ◌∷◌, ◌++◌, length, take, drop, get_or, codes, refl, sym, ◌∙◌, ap, subst, arith, append_assoc}
 use Rattle.std.specs.Prelude.{Result, Ok, Err, OnOk, None}
-use Rattle.std.specs.List.{AllByRecursion}
 use Rattle.std.specs.Int.{w64, to_be_bytes}
 use Rattle.std.proofs.lemmas.List.{take-append-drop, take-take, drop-take, drop-drop, get_or-drop, get_or-take}
 use Rattle.std.proofs.lemmas.Bool.{cases_eq}
@@ -11,9 +10,10 @@ use Rattle.disk_model.proofs.Walk.{started, goes_on, and_then, weaker}
 use Rattle.gate_block.specs.Row.{IsRow, part, row}
 use Rattle.gate_block.proofs.Parts.{written_there}
 use Rattle.records.specs.declared.record.Record.{Record}
-use Rattle.records.specs.Records.{spelling, number, IsRecord}
+use Rattle.records.specs.Records.{spelling, number, AreRecords}
 use Rattle.recovery.specs.Journals.{Holds, IsHeader, base_in_use, area_in_use}
 use Rattle.recovery.specs.Steps.{empty_state}
+use Rattle.recovery.specs.Reading.{InCollections, InJournal, AreAccepted}
 use Rattle.recovery.specs.Heads.{HasNoHeader}
 use Rattle.recovery.specs.Formats.{empty_area, IsFilled, IsEmptyStore, IsRoomFor, IsFormatting}
 
@@ -124,15 +124,18 @@ module _ (area : ℕ) (old new : List ℕ) (room : IsRoomFor area (length old)) 
         all_fit = (record { not_empty = omega (arith, image_length); short = omega (arith, image_length) }, tt);
       }
 
-  good : AllByRecursion (IsRecord None) (Record.Marks 1 0 ∷ (Record.ImageEnd ∷ []))
+  good : AreRecords None (Record.Marks 1 0 ∷ (Record.ImageEnd ∷ []))
   good = (record { fits = (omega arith, omega arith); suits = tt; sound = (omega arith, omega arith) }, (record { fits = tt; suits = tt; sound = tt }, tt))
+
+  empty_accepted : AreAccepted (Record.Marks 1 0 ∷ (Record.ImageEnd ∷ [])) 1 empty_state 0
+  empty_accepted = (InCollections 1 empty_state None, (omega arith, refl), (InJournal 1 empty_state 0, (empty_state, refl, (([], refl), refl)), refl))
 
   pub empty_store : IsEmptyStore new
   empty_store =
       let blocks : List (List Record) = (Record.Marks 1 0 ∷ (Record.ImageEnd ∷ [])) ∷ [] in
       let holds : Holds new blocks = record { size = area; header = header; row = row_there; spelt = ((good.0.fits, good.0.suits), ((good.1.0.fits, good.1.0.suits), tt)) } in
       record {
-        sound = record { blocks = blocks; holds = holds; good = good; journal = []; is = refl; end = empty_state; repeats = refl };
+        sound = record { blocks = blocks; holds = holds; good = good; next = 1; end = empty_state; count = 0; accepted = empty_accepted };
         stands = record {
           blocks = blocks;
           holds = holds;
@@ -140,9 +143,12 @@ module _ (area : ℕ) (old new : List ℕ) (room : IsRoomFor area (length old)) 
           journal = [];
           split = refl;
           all_journal = tt;
+          next = 1;
+          wear = 0;
           shown = [];
+          numbers = [];
           live = [];
-          is_image = record { next = 1; wear = 0; numbers = []; all_live = tt; is = refl };
+          is_image = record { told = []; tells = refl; rise = tt; all_live = tt; is = refl };
           start = [];
           leads = refl;
           serial = refl;

@@ -1,28 +1,16 @@
--- Records that have a spelling one behind another: those of a journal behind the image of nothing have, and blocks of one spelling are
--- the same.
-use Rattle.std.proofs.Common.{◌≡◌, List, [], ◌∷◌, ◌++◌, length, map, Option, None, refl, sym, ◌∙◌, ap, subst, arith, length-append}
-use Rattle.std.specs.List.{AllByRecursion}
+-- Records that have a spelling one behind another: blocks of one spelling are the same.
+use Rattle.std.proofs.Common.{◌≡◌, List, [], ◌∷◌, ◌++◌, length, map, Option, refl, sym, ◌∙◌, ap, subst, arith, length-append}
 use Rattle.calls.specs.declared.kind.Kind.{Kind}
 use Rattle.records.specs.declared.record.Record.{Record}
-use Rattle.records.specs.Records.{spelled, spelling, IsRecord, named_by}
+use Rattle.records.specs.Records.{spelled, spelling, AreRecords, named_by}
 use Rattle.records.proofs.RecordLengths.{spelled-positive}
 use Rattle.records.proofs.RecordLaws.{one_fitting}
-use Rattle.recovery.specs.Journals.{records_in, AreSpelt, IsJournalRecord}
+use Rattle.recovery.specs.Journals.{records_in, AreSpelt}
 
--- a record of a journal names no collection
-names_none : (r : Record) (last : Option Kind) → IsJournalRecord r → named_by last r ≡ last
-names_none (Record.Name kind name) last in_journal = absurd in_journal
-names_none r last in_journal = refl
-
-journal_spelt : (rs : List Record) → AllByRecursion (IsRecord None) rs → AllByRecursion IsJournalRecord rs → AreSpelt None rs
-journal_spelt [] good in_journal = tt
-journal_spelt (r ∷ rs) good in_journal = ((good.0.fits, good.0.suits), subst (λ last. AreSpelt last rs) (sym (names_none r None in_journal.0)) (journal_spelt rs good.1 in_journal.1))
-
--- the image of nothing, and a journal behind it
-pub opened_spelt : (rs journal : List Record) → rs ≡ Record.Marks 1 0 ∷ (Record.ImageEnd ∷ journal) → AllByRecursion (IsRecord None) rs → AllByRecursion IsJournalRecord journal → AreSpelt None rs
-opened_spelt rs journal is good in_journal =
-    let parts : AllByRecursion (IsRecord None) (Record.Marks 1 0 ∷ (Record.ImageEnd ∷ journal)) = subst (AllByRecursion (IsRecord None)) is good in
-    subst (AreSpelt None) (sym is) ((parts.0.fits, parts.0.suits), ((parts.1.0.fits, parts.1.0.suits), journal_spelt journal parts.1.1 in_journal))
+-- Records that may stand one behind another have a spelling so.
+pub records_spelt : (last : Option Kind) (rs : List Record) → AreRecords last rs → AreSpelt last rs
+records_spelt last [] good = tt
+records_spelt last (r ∷ rs) good = ((good.0.fits, good.0.suits), records_spelt (named_by last r) rs good.1)
 
 -- A record has a byte at least, so only the empty list of records is spelled by no bytes.
 pub not_empty : (r : Record) (rs : List Record) → spelling (r ∷ rs) ≡ [] → ⊥

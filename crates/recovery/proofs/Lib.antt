@@ -6,6 +6,11 @@ pub mod UndoRecords
 pub mod AppendLemmas
 pub mod Walks
 pub mod UndoLemmas
+pub mod CatalogLaws
+pub mod Parts
+pub mod OneImage
+pub mod Contents
+pub mod ReadLemmas
 pub mod RepeatLemmas
 pub mod LoadLemmas
 pub mod OpenLemmas

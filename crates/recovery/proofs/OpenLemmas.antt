@@ -1,10 +1,9 @@
 -- A store that was found: what its opening gives, and what a stop in it leaves.
 use Rattle.std.proofs.Common.{◌≡◌, inl, inr, ℕ, ◌+◌, ◌*◌, ◌%◌, ◌<◌, ◌≤◌, List, [], ◌∷◌, ◌++◌, length, take, drop, get_or, map, refl, sym, ◌∙◌, ap, subst, arith, append_assoc, length-append, None}
 use Rattle.std.proofs.lemmas.List.{append-nil, map-append, take-take, drop-take, get_or-take}
-use Rattle.std.specs.List.{flat_map, AllByRecursion}
-use Rattle.std.specs.FinMap as maps
+use Rattle.std.specs.List.{AllByRecursion}
 use Rattle.calls.specs.Contents.{Collection}
-use Rattle.calls.specs.Transactions.{Transaction, Whole, Made, Event, Leads, Does, RunsWhole, Serial, calls_of, laters_of, committed}
+use Rattle.calls.specs.Transactions.{Serial, committed}
 use Rattle.disk_model.specs.Disk.{ReadsOnly, IsAtRest, LeavesOnly}
 use Rattle.disk_model.proofs.Walk.{and_then, reads_rest}
 use Rattle.gate_block.specs.declared.area.Area.{Area}
@@ -13,68 +12,23 @@ use Rattle.gate_block.specs.Area.{base_of, size_of, position_of, bytes_of}
 use Rattle.gate_block.proofs.Facts.{row-append}
 use Rattle.gate_block.proofs.Unique.{row_unique}
 use Rattle.records.specs.declared.record.Record.{Record}
-use Rattle.records.specs.Records.{spelling, IsRecord}
-use Rattle.records.specs.Acts.{acts_of, acts_of_record}
+use Rattle.records.specs.Records.{spelling, IsRecord, AreRecords}
+use Rattle.records.specs.Acts.{acts_of}
 use Rattle.txn.specs.Books.{BookState, opened}
-use Rattle.recovery.specs.Journals.{AreSpelt, Holds, IsHeader, StandsFor, IsLiveRecord, IsJournalRecord, base_in_use, area_in_use, collection_records, live_entries, records_in}
-use Rattle.recovery.specs.Steps.{State, Steps, Repeats, IsSound, empty_state}
+use Rattle.recovery.specs.Journals.{Holds, IsHeader, StandsFor, IsJournalRecord, base_in_use, area_in_use, records_in}
+use Rattle.recovery.specs.Steps.{State, Steps, Repeats}
+use Rattle.recovery.specs.Reading.{Unread, InJournal, Reads, AreAccepted, IsSound, last_named}
 use Rattle.recovery.specs.Repetitions.{AreRead}
 use Rattle.recovery.specs.Undoing.{Undo, IsUndoRecord, AreBlocksOf, blocks_len}
 use Rattle.recovery.specs.Appending.{IsAt, HoldsFirst, IsAppended}
 use Rattle.recovery.specs.Finding.{IsStored}
 use Rattle.recovery.specs.Openings.{IsRead, IsOpened, HasNoRoom, KeepsContent}
-use Rattle.recovery.proofs.Lists.{leads_append, leads_split, leads_exact, flat_map-append, all_append, all_first, all_last}
-use Rattle.recovery.proofs.Grammar.{opened_spelt, same_blocks}
+use Rattle.recovery.proofs.Lists.{leads_append, leads_split, flat_map-append, all_append, all_first, all_last}
+use Rattle.recovery.proofs.Grammar.{records_spelt, same_blocks}
+use Rattle.recovery.proofs.RepeatLemmas.{records_append, read_records}
+use Rattle.recovery.proofs.Parts.{journal_reads}
+use Rattle.recovery.proofs.Contents.{acts_of-append, content_behind}
 use Rattle.recovery.proofs.UndoRecords.{undo_records_read, undo_acts, undo_journal, blocks_hold, in_blocks, rows_len}
-
--- ---- transactions run whole have one end
-
-call_exact : (e : Event) (s t u : List Collection) → Does s e t → Does s e u → t ≡ u
-call_exact e s t u a b = a.1 ∙ sym b.1
-
-whole_exact : (x : Transaction) (s t u : List Collection) → RunsWhole s x t → RunsWhole s x u → t ≡ u
-whole_exact (Whole es) s t u a b =
-    let middle : b.0 ≡ a.0 = leads_exact Does call_exact (calls_of es) s b.0 a.0 b.1 a.1 in
-    leads_exact Does call_exact (laters_of es) a.0 t u a.2 (subst (λ m. Leads Does (laters_of es) m u) middle b.2)
-whole_exact (Made name kind) s t u a b = a.is ∙ sym b.is
-
-serial_exact : (xs : List Transaction) (s t u : List Collection) → Serial xs s t → Serial xs s u → t ≡ u
-serial_exact xs s t u = leads_exact RunsWhole whole_exact xs s t u
-
--- ---- an image that ends at once shows nothing
-
-no_live : (live : List Record) (journal rest : List Record) → AllByRecursion IsLiveRecord live → Record.ImageEnd ∷ journal ≡ (live ++ Record.ImageEnd ∷ []) ++ rest → live ≡ []
-no_live [] journal rest all e = refl
-no_live (r ∷ live) journal rest all e =
-    let same : r ≡ Record.ImageEnd = cc in
-    absurd (subst IsLiveRecord same all.0)
-
-no_image : (shown : List Collection) (numbers : List ℕ) (live journal rest : List Record) (next wear : ℕ) → AllByRecursion IsLiveRecord live
-    → Record.Marks 1 0 ∷ (Record.ImageEnd ∷ journal) ≡ (Record.Marks next wear ∷ (flat_map collection_records shown ++ (map Record.Begin numbers ++ (live ++ Record.ImageEnd ∷ [])))) ++ rest → (shown ≡ []) × (live ≡ [])
-no_image (x ∷ shown) numbers live journal rest next wear all e = absurd cc
-no_image [] (n ∷ numbers) live journal rest next wear all e = absurd cc
-no_image [] [] live journal rest next wear all e =
-    let behind : Record.ImageEnd ∷ journal ≡ (live ++ Record.ImageEnd ∷ []) ++ rest = cc in
-    (refl, no_live live journal rest all behind)
-
-starts_empty : (live : List Record) (start shown : List Collection) → live ≡ [] → shown ≡ [] → Leads Does (calls_of (live_entries live)) start shown → start ≡ []
-starts_empty live start shown none empty leads = let same : start ≡ shown = subst (λ l. Leads Does (calls_of (live_entries l)) start shown) none leads in same ∙ empty
-
--- ---- records that are repeated stand in a journal
-
-step_journal : (r : Record) (s t : State) → Steps s r t → IsJournalRecord r
-step_journal (Record.Make kind name) s t step = tt
-step_journal (Record.Call c) s t step = tt
-step_journal (Record.Later l) s t step = tt
-step_journal (Record.Commit n) s t step = tt
-step_journal (Record.Back n) s t step = tt
-step_journal (Record.Ended n) s t step = tt
-step_journal (Record.Begin n) s t step = tt
-step_journal r s t step = absurd step
-
-repeats_journal : (rs : List Record) (s t : State) → Repeats rs s t → AllByRecursion IsJournalRecord rs
-repeats_journal [] s t run = tt
-repeats_journal (r ∷ rs) s t run = (step_journal r s run.0 run.1, repeats_journal rs run.0 t run.2)
 
 -- ---- a head that nothing changed
 
@@ -112,13 +66,6 @@ one_size n m bytes a b = omega (arith, a.whole, b.whole)
 pub records_in-append : (front back : List (List Record)) → records_in (front ++ back) ≡ records_in front ++ records_in back
 records_in-append front back = flat_map-append (λ rs. rs) front back
 
-acts_of-append : (xs ys : List Record) → acts_of (xs ++ ys) ≡ acts_of xs ++ acts_of ys
-acts_of-append xs ys = flat_map-append acts_of_record xs ys
-
-all_in : (blocks : List (List Record)) → AllByRecursion AreRead blocks → AreRead (records_in blocks)
-all_in [] read = tt
-all_in (b ∷ blocks) read = all_append (IsRecord None) b (records_in blocks) read.0 (all_in blocks read.1)
-
 pub by_block : (blocks : List (List Record)) → AreRead (records_in blocks) → AllByRecursion AreRead blocks
 by_block [] read = tt
 by_block (rs ∷ blocks) read = (all_first (IsRecord None) rs (records_in blocks) read, by_block blocks (all_last (IsRecord None) rs (records_in blocks) read))
@@ -129,21 +76,11 @@ module _ (old : List ℕ) (area : Area) (state : State) (next count : ℕ) (stor
   abbrev blocks : List (List Record)
   blocks = stored.loaded.blocks
 
-  abbrev journal : List Record
-  journal = stored.loaded.journal
-
-  abbrev read : IsRead (base_of area) (size_of area) old blocks journal state
+  abbrev read : IsRead (base_of area) (size_of area) old blocks next state count
   read = stored.loaded.is_read
 
   pub stands_there : IsAt area old (map spelling blocks)
   stands_there = record { row_is = read.row_is; position = stored.loaded.position }
-
-  -- the records behind those that were there lead on
-  whole_run : Repeats (journal ++ records) empty_state undone
-  whole_run = leads_append Steps journal records empty_state state undone read.repeats undo.leads
-
-  good : AreRead (records_in blocks)
-  good = all_in blocks read.read
 
   pub opens : (after : Area) (new : List ℕ) (book : BookState (List Collection)) → IsAppended records area after old new → book ≡ opened undone.now next undone.wear → IsOpened old book after new
   opens after new book appended book_is =
@@ -152,13 +89,14 @@ module _ (old : List ℕ) (area : Area) (state : State) (next count : ℕ) (stor
         header = subst (λ k. IsHeader k old) (sym n) stored.header;
         picks = b ∙ stored.picks ∙ ap (λ k. base_in_use k old) (sym n);
         blocks = blocks;
-        journal = journal;
+        next = next;
         state = state;
-        is_read = subst (λ k. IsRead k (size_of after) old blocks journal state) (sym b) (subst (λ k. IsRead (base_of area) k old blocks journal state) (sym n) read);
+        count = count;
+        is_read = subst (λ k. IsRead k (size_of after) old blocks next state count) (sym b) (subst (λ k. IsRead (base_of area) k old blocks next state count) (sym n) read);
         undoing = records;
         undone = undone;
         undo = undo;
-        book_is = book_is ∙ ap (λ k. opened undone.now k undone.wear) stored.loaded.next;
+        book_is = book_is;
         written = appended.written;
         in_blocks = appended.in_blocks;
         read_too = by_block appended.written (subst AreRead (sym (blocks_hold records appended.written appended.in_blocks)) (undo_records_read records marks));
@@ -180,12 +118,13 @@ module _ (old : List ℕ) (area : Area) (state : State) (next count : ℕ) (stor
   pub has_no_room : size_of area ≤ position_of area + blocks_len (length records) → HasNoRoom old
   has_no_room over =
       let written = in_blocks records in
-      let at : IsRead (base_in_use (size_of area) old) (size_of area) old blocks journal state = subst (λ k. IsRead k (size_of area) old blocks journal state) stored.picks read in record {
+      let at : IsRead (base_in_use (size_of area) old) (size_of area) old blocks next state count = subst (λ k. IsRead k (size_of area) old blocks next state count) stored.picks read in record {
         size = size_of area;
         header = stored.header;
         blocks = blocks;
-        journal = journal;
+        next = next;
         state = state;
+        count = count;
         is_read = at;
         undoing = records;
         undone = undone;
@@ -204,11 +143,11 @@ module _ (old : List ℕ) (area : Area) (state : State) (next count : ℕ) (stor
             );
       }
 
-  spelt : (front : List (List Record)) → AllByRecursion IsUndoRecord (records_in front) → AreSpelt None (records_in (blocks ++ front))
-  spelt front undo_front =
-      opened_spelt (records_in (blocks ++ front)) (journal ++ records_in front) (records_in-append blocks front ∙ ap (λ l. l ++ records_in front) read.is)
-      (subst AreRead (sym (records_in-append blocks front)) (all_append (IsRecord None) (records_in blocks) (records_in front) good (undo_records_read (records_in front) undo_front)))
-      (all_append IsJournalRecord journal (records_in front) (repeats_journal journal empty_state state read.repeats) (undo_journal (records_in front) undo_front))
+  -- undoing's records behind them
+  good : (front : List (List Record)) → AllByRecursion IsUndoRecord (records_in front) → AreRecords None (records_in (blocks ++ front))
+  good front undo_front =
+      subst (AreRecords None) (sym (records_in-append blocks front))
+      (records_append None (records_in blocks) (records_in front) read.good (read_records (last_named None (records_in blocks)) (records_in front) (undo_records_read (records_in front) undo_front)))
 
   -- the blocks that were loaded are those that the bytes hold
   same_held : (held : List (List Record)) → Holds old held → blocks ≡ held
@@ -216,21 +155,12 @@ module _ (old : List ℕ) (area : Area) (state : State) (next count : ℕ) (stor
       let size : holds.size ≡ size_of area = one_size holds.size (size_of area) old holds.header stored.header in
       let there : area_in_use holds.size old ≡ part (base_of area) (size_of area) old = ap (λ n. area_in_use n old) size ∙ ap (λ b. part b (size_of area) old) (sym stored.picks) in
       let bodies : map spelling blocks ≡ map spelling held = row_unique (map spelling blocks) (map spelling held) (part (base_of area) (size_of area) old) read.row_is (subst (λ b. IsRow (map spelling held) b) there holds.row) in
-      let none : records_in (blocks ++ []) ≡ records_in blocks = ap records_in (append-nil blocks) in
-      same_blocks None blocks held (subst (AreSpelt None) none (spelt [] tt)) holds.spelt bodies
+      same_blocks None blocks held (records_spelt None (records_in blocks) read.good) holds.spelt bodies
 
   -- the content that the bytes stand for is what the records lead to
-  pub content_is : (content : List Collection) → StandsFor old content → ((rs : List Record) → Repeats rs empty_state undone → undone.live ≡ maps.empty → Serial (committed (acts_of rs)) [] undone.now) → undone.now ≡ content
-  content_is content stands history =
-      let same : blocks ≡ stands.blocks = same_held stands.blocks stands.holds in
-      let parts : Record.Marks 1 0 ∷ (Record.ImageEnd ∷ journal) ≡ stands.image ++ stands.journal = sym read.is ∙ ap records_in same ∙ stands.split in
-      let none = no_image stands.shown stands.is_image.numbers stands.live journal stands.journal stands.is_image.next stands.is_image.wear stands.is_image.all_live (parts ∙ ap (λ i. i ++ stands.journal) stands.is_image.is) in
-      let start : stands.start ≡ [] = starts_empty stands.live stands.start stands.shown none.1 none.0 stands.leads in
-      let acts : committed (acts_of (records_in stands.blocks)) ≡ committed (acts_of journal) = ap (λ b. committed (acts_of (records_in b))) (sym same) ∙ ap (λ rs. committed (acts_of rs)) read.is in
-      let stood : Serial (committed (acts_of journal)) [] content = subst (λ s. Serial (committed (acts_of journal)) s content) start (subst (λ xs. Serial xs stands.start content) acts stands.serial) in
-      let silent : acts_of (journal ++ records) ≡ acts_of journal = acts_of-append journal records ∙ ap (λ l. acts_of journal ++ l) (undo_acts records marks) ∙ append-nil (acts_of journal) in
-      let run : Serial (committed (acts_of journal)) [] undone.now = subst (λ a. Serial (committed a) [] undone.now) silent (history (journal ++ records) whole_run undo.over) in
-      serial_exact (committed (acts_of journal)) [] undone.now content run stood
+  pub content_is : (content : List Collection) → StandsFor old content → undone.now ≡ content
+  content_is content stands =
+      content_behind (records_in blocks) next state count read.accepted records undone undo.leads undo.over (undo_acts records marks) old content stands (ap records_in (same_held stands.blocks stands.holds))
 
   -- what a stop leaves while the records are written is sound, and stands for the same content
   module _ (c : List ℕ) (holds : HoldsFirst area old (map spelling blocks) records c) where
@@ -250,19 +180,22 @@ module _ (old : List ℕ) (area : Area) (state : State) (next count : ℕ) (stor
       row =
           subst (λ b. IsRow (map spelling (blocks ++ front)) (part b (size_of area) c)) (stored.picks ∙ sym (picks_same (base_of area) (size_of area) (size_of area) old c far holds.elsewhere))
           (subst (λ l. IsRow l (bytes_of area c)) (sym (map-append spelling blocks front)) holds.row_is);
-      spelt = spelt front undo_front;
+      spelt = records_spelt None (records_in (blocks ++ front)) (good front undo_front);
     }
 
     pub stop_sound : IsSound c
     stop_sound =
-        let split = leads_split Steps (records_in front) holds.more state undone (subst (λ l. Repeats l state undone) holds.is undo.leads) in record {
+        let split = leads_split Steps (records_in front) holds.more state undone (subst (λ l. Repeats l state undone) holds.is undo.leads) in
+        let more = journal_reads (records_in front) next state split.0 count split.1 in record {
           blocks = blocks ++ front;
           holds = holds_all;
-          good = subst AreRead (sym (records_in-append blocks front)) (all_append (IsRecord None) (records_in blocks) (records_in front) good (undo_records_read (records_in front) undo_front));
-          journal = journal ++ records_in front;
-          is = records_in-append blocks front ∙ ap (λ l. l ++ records_in front) read.is;
+          good = good front undo_front;
+          next = more.0;
           end = split.0;
-          repeats = leads_append Steps journal (records_in front) empty_state state split.0 read.repeats split.1;
+          count = more.1;
+          accepted =
+              subst (λ l. AreAccepted l more.0 split.0 more.1) (sym (records_in-append blocks front))
+              (leads_append Reads (records_in blocks) (records_in front) Unread (InJournal next state count) (InJournal more.0 split.0 more.1) read.accepted more.2);
         }
 
     pub stop_stands : (content : List Collection) → StandsFor old content → StandsFor c content
@@ -277,7 +210,10 @@ module _ (old : List ℕ) (area : Area) (state : State) (next count : ℕ) (stor
           journal = stands.journal ++ records_in front;
           split = all ∙ ap (λ l. l ++ records_in front) stands.split ∙ append_assoc stands.image stands.journal (records_in front);
           all_journal = all_append IsJournalRecord stands.journal (records_in front) stands.all_journal (undo_journal (records_in front) undo_front);
+          next = stands.next;
+          wear = stands.wear;
           shown = stands.shown;
+          numbers = stands.numbers;
           live = stands.live;
           is_image = stands.is_image;
           start = stands.start;

@@ -14,7 +14,8 @@ use Rattle.txn.proofs.Statuses.{nobody, fallen_is, lives_more, lives_fewer}
 use Rattle.txn.proofs.Sizes.{len_fallen, len_left}
 use Rattle.txn.proofs.Theory.Lists.{own_others_other}
 use Rattle.recovery.specs.Steps.{State, Steps, Repeats}
-use Rattle.recovery.specs.Undoing.{Rise, Undo, IsOver, IsUndoRecord, undo_of, undo_records}
+use Rattle.records.specs.Images.{Rise}
+use Rattle.recovery.specs.Undoing.{Undo, IsOver, IsUndoRecord, undo_of, undo_records}
 use Rattle.recovery.proofs.Lists.{leads_append, leads_push, flat_map-append, all_append}
 
 -- ---- the entries of one number

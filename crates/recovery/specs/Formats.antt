@@ -7,7 +7,7 @@ use Rattle.gate_block.specs.Row.{row}
 use Rattle.records.specs.declared.record.Record.{Record}
 use Rattle.records.specs.Records.{spelling}
 use Rattle.recovery.specs.Journals.{StandsFor}
-use Rattle.recovery.specs.Steps.{IsSound}
+use Rattle.recovery.specs.Reading.{IsSound}
 use Rattle.recovery.specs.Heads.{HasNoHeader}
 
 -- a disk of so many bytes has room for two areas of this size, and no more

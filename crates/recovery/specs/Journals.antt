@@ -5,12 +5,12 @@ use Rattle.std.specs.List.{flat_map, AllByRecursion}
 use Rattle.std.specs.Int.{w64, to_be_bytes}
 use Rattle.calls.specs.declared.kind.Kind.{Kind}
 use Rattle.calls.specs.Contents.{Collection}
-use Rattle.calls.specs.Transactions.{Leads, Does, Entry, Asked, PutOff, calls_of, Serial, committed}
+use Rattle.calls.specs.Transactions.{Leads, Does, calls_of, Serial, committed}
 use Rattle.gate_block.specs.Row.{IsRow, part}
 use Rattle.records.specs.declared.record.Record.{Record}
-use Rattle.calls.specs.Items.{items_of, kind_of_content}
 use Rattle.records.specs.Records.{spelling, Fits, Suits, named_by}
-use Rattle.records.specs.Acts.{event_of, acts_of}
+use Rattle.records.specs.Acts.{acts_of}
+use Rattle.records.specs.Images.{IsImage, owned_entries}
 
 -- The head of a disk whose areas have this size: eight letters, an open gate, the size.
 pub record IsHeader (size : ℕ) (bytes : List ℕ) : Type 0 where
@@ -44,29 +44,6 @@ pub record Holds (bytes : List ℕ) (blocks : List (List Record)) : Type 0 where
   pub row : IsRow (map spelling blocks) (area_in_use size bytes)
   pub spelt : AreSpelt None (records_in blocks)
 
-abbrev pub collection_records : Collection → List Record
-collection_records x = Record.Name (kind_of_content x.content) x.name ∷ map Record.Item (items_of x.content)
-
--- a call, or one that was put off, of a transaction that was live when the image was taken
-abbrev pub IsLiveRecord : Record → Type 0
-IsLiveRecord (Record.LiveCall c) = Unit {0}
-IsLiveRecord (Record.LiveLater l) = Unit {0}
-IsLiveRecord r = ⊥
-
-abbrev pub live_entries : List Record → List Entry
-live_entries [] = []
-live_entries (Record.LiveCall c ∷ rs) = Asked (event_of c) ∷ live_entries rs
-live_entries (Record.LiveLater l ∷ rs) = PutOff l.collection l.call ∷ live_entries rs
-live_entries (r ∷ rs) = live_entries rs
-
--- The records are an image: the marks, the collections with their items, the numbers that were live, what these had asked for, the end.
-pub record IsImage (rs : List Record) (content : List Collection) (live : List Record) : Type 0 where
-  pub next : ℕ
-  pub wear : ℕ
-  pub numbers : List ℕ
-  pub all_live : AllByRecursion IsLiveRecord live
-  pub is : rs ≡ Record.Marks next wear ∷ (flat_map collection_records content ++ (map Record.Begin numbers ++ (live ++ Record.ImageEnd ∷ [])))
-
 -- what stands in a journal, behind an image
 abbrev pub IsJournalRecord : Record → Type 0
 IsJournalRecord (Record.Make kind name) = Unit {0}
@@ -87,9 +64,12 @@ pub record StandsFor (bytes : List ℕ) (content : List Collection) : Type 0 whe
   pub journal : List Record
   pub split : records_in blocks ≡ image ++ journal
   pub all_journal : AllByRecursion IsJournalRecord journal
+  pub next : ℕ
+  pub wear : ℕ
   pub shown : List Collection
+  pub numbers : List ℕ
   pub live : List Record
-  pub is_image : IsImage image shown live
+  pub is_image : IsImage next wear shown numbers live image
   pub start : List Collection
-  pub leads : Leads Does (calls_of (live_entries live)) start shown
+  pub leads : Leads Does (calls_of (map (λ e. e.1) (owned_entries live))) start shown
   pub serial : Serial (committed (acts_of (records_in blocks))) start content

@@ -1,47 +1,50 @@
 -- What an opening finds, what it writes, and why it is refused.
-use Rattle.std.specs.Prelude.{◌≡◌, ◌≢◌, [], ◌++◌, ℕ, ◌+◌, ◌<◌, false, List, ◌∷◌, length, drop, get_or, map}
+use Rattle.std.specs.Prelude.{◌≡◌, ◌≢◌, [], ◌++◌, ℕ, ◌+◌, ◌<◌, false, List, length, drop, get_or, map, None}
 use Rattle.std.specs.List.{AllByRecursion}
 use Rattle.std.specs.FinMap as maps
 use Rattle.calls.specs.declared.refusal.Refusal.{Refusal}
 use Rattle.calls.specs.Contents.{Collection}
+use Rattle.calls.specs.Transactions.{Leads}
 use Rattle.disk_model.specs.Disk.{IsAtRest, LeavesOnly}
 use Rattle.gate_block.specs.declared.area.Area.{Area}
 use Rattle.gate_block.specs.Row.{row, IsRow, StandsAt, SameOutside, part}
 use Rattle.gate_block.specs.Area.{base_of, size_of, position_of, has_failed, IsReady}
 use Rattle.records.specs.declared.record.Record.{Record}
-use Rattle.records.specs.Records.{spelling}
+use Rattle.records.specs.Records.{spelling, AreRecords}
 use Rattle.txn.specs.Books.{BookState, opened}
 use Rattle.recovery.specs.declared.report.Report.{Report}
 use Rattle.recovery.specs.Journals.{IsHeader, StandsFor, base_in_use, area_in_use, records_in}
-use Rattle.recovery.specs.Steps.{State, Repeats, IsSound, empty_state}
-use Rattle.recovery.specs.Repetitions.{AreRead, IsAccepted, next_from}
+use Rattle.recovery.specs.Steps.{State}
+use Rattle.recovery.specs.Reading.{Progress, Unread, Reads, last_named, AreAccepted, IsSound}
+use Rattle.recovery.specs.Repetitions.{AreRead}
 use Rattle.recovery.specs.Undoing.{Undo, AreBlocksOf}
 
--- The area is a row of these blocks, of the empty image and the journal, which leads to the state.
-pub record IsRead (base size : ℕ) (bytes : List ℕ) (blocks : List (List Record)) (journal : List Record) (state : State) : Type 0 where
-  pub read : AllByRecursion AreRead blocks
+-- The area is a row of these blocks, of an image and a journal of so many records, which lead to the state; the number is above every number that
+-- they enter.
+pub record IsRead (base size : ℕ) (bytes : List ℕ) (blocks : List (List Record)) (next : ℕ) (state : State) (count : ℕ) : Type 0 where
+  pub good : AreRecords None (records_in blocks)
   pub row_is : IsRow (map spelling blocks) (part base size bytes)
-  pub is : records_in blocks ≡ Record.Marks 1 0 ∷ (Record.ImageEnd ∷ journal)
-  pub repeats : Repeats journal empty_state state
+  pub accepted : AreAccepted (records_in blocks) next state count
 
 -- Blocks that an opening takes: those of an accepted image and journal.
 pub record AreSound (base size : ℕ) (bytes : List ℕ) (blocks : List (List Record)) : Type 0 where
-  pub read : AllByRecursion AreRead blocks
-  pub row_is : IsRow (map spelling blocks) (part base size bytes)
-  pub accepted : IsAccepted (records_in blocks)
+  pub next : ℕ
+  pub end : State
+  pub count : ℕ
+  pub is_read : IsRead base size bytes blocks next end count
 
--- At this place of the disk stands the first fault of an area. Before it stand whole blocks, of records with which an accepted image and journal
--- begin. There the gate is open, and no block stands with which these go on; or it is closed, and what stands before it is not accepted.
+-- At this place of the disk stands the first fault of an area. Before it stand whole blocks, whose records are read. There the gate is open, and no
+-- block stands with which the reading goes on; or it is closed, and the image has not ended.
 pub record IsFirstFault (base : ℕ) (area : List ℕ) (place : ℕ) : Type 0 where
   pub blocks : List (List Record)
-  pub read : AllByRecursion AreRead blocks
+  pub good : AreRecords None (records_in blocks)
   pub position : ℕ
   pub behind : position ≡ length (row (map spelling blocks))
   pub stood : area ≡ row (map spelling blocks) ++ drop position area
   pub place_is : place ≡ base + position
-  pub begins : (more : List Record) × IsAccepted (records_in blocks ++ more)
-  pub no_block : (group more : List Record) → AreRead group → StandsAt area position (spelling group) → IsAccepted (records_in blocks ++ (group ++ more)) → ⊥
-  pub no_end : get_or area position 0 ≢ 167 → IsAccepted (records_in blocks) → ⊥
+  pub begins : (p : Progress) × Leads Reads (records_in blocks) Unread p
+  pub no_block : (group : List Record) → AreRecords (last_named None (records_in blocks)) group → StandsAt area position (spelling group) → (p : Progress) → Leads Reads (records_in blocks ++ group) Unread p → ⊥
+  pub no_end : get_or area position 0 ≢ 167 → (next : ℕ) (s : State) (count : ℕ) → AreAccepted (records_in blocks) next s count → ⊥
 
 -- Why an area could not be loaded: for want of memory, for a counted fault, or for damage at the place.
 abbrev pub IsLoadRefusal : Type 0 → (ℕ → Type 0) → Refusal → Type 0
@@ -68,13 +71,14 @@ pub record IsOpened (old : List ℕ) (book : BookState (List Collection)) (area 
   pub header : IsHeader (size_of area) old
   pub picks : base_of area ≡ base_in_use (size_of area) old
   pub blocks : List (List Record)
-  pub journal : List Record
+  pub next : ℕ
   pub state : State
-  pub is_read : IsRead (base_of area) (size_of area) old blocks journal state
+  pub count : ℕ
+  pub is_read : IsRead (base_of area) (size_of area) old blocks next state count
   pub undoing : List Record
   pub undone : State
   pub undo : Undo state undoing undone
-  pub book_is : book ≡ opened undone.now (next_from 1 journal) undone.wear
+  pub book_is : book ≡ opened undone.now next undone.wear
   pub written : List (List Record)
   pub in_blocks : AreBlocksOf undoing written
   pub read_too : AllByRecursion AreRead written
@@ -94,9 +98,10 @@ pub record HasNoRoom (bytes : List ℕ) : Type 0 where
   pub size : ℕ
   pub header : IsHeader size bytes
   pub blocks : List (List Record)
-  pub journal : List Record
+  pub next : ℕ
   pub state : State
-  pub is_read : IsRead (base_in_use size bytes) size bytes blocks journal state
+  pub count : ℕ
+  pub is_read : IsRead (base_in_use size bytes) size bytes blocks next state count
   pub undoing : List Record
   pub undone : State
   pub undo : Undo state undoing undone
@@ -126,9 +131,10 @@ pub record IsReport (bytes : List ℕ) (report : Report) : Type 0 where
   pub size : ℕ
   pub header : IsHeader size bytes
   pub blocks : List (List Record)
-  pub journal : List Record
+  pub next : ℕ
   pub state : State
-  pub is_read : IsRead (base_in_use size bytes) size bytes blocks journal state
+  pub count : ℕ
+  pub is_read : IsRead (base_in_use size bytes) size bytes blocks next state count
   pub collections : report.collections ≡ length state.now
   pub unfinished : report.unfinished ≡ maps.len state.live
-  pub records : report.records ≡ length journal
+  pub records : report.records ≡ count

@@ -1,17 +1,13 @@
 -- The losers, transactions that were live when the store stopped, and the records of their undoing.
 use Rattle.std.specs.Prelude.{◌≡◌, ℕ, ◌+◌, ◌*◌, ◌/◌, ◌<◌, ◌↔◌, List, [], ◌∷◌, ◌++◌, length, take, drop, replicate, Contains}
-use Rattle.std.specs.List.{flat_map, AllByRecursion}
+use Rattle.std.specs.List.{flat_map}
 use Rattle.std.specs.FinMap as maps
 use Rattle.calls.specs.Transactions.{Entry, own, calls_of}
 use Rattle.undo_log.specs.Logs.{Statuses, Lives}
 use Rattle.records.specs.declared.record.Record.{Record}
 use Rattle.records.specs.Records.{IsNumber}
+use Rattle.records.specs.Images.{Rise}
 use Rattle.recovery.specs.Steps.{State, Repeats}
-
--- each number is below all that come behind it
-abbrev pub Rise : List ℕ → Type 0
-Rise [] = Unit {0}
-Rise (n ∷ ns) = AllByRecursion (λ m. n < m) ns × Rise ns
 
 -- The numbers are those of the live transactions, rising.
 pub record Losers (numbers : List ℕ) (live : Statuses) : Type 0 where

@@ -7,7 +7,7 @@ ghost use Rattle.recovery.specs.Finding.{IsFound};
 
 use crate::head::area_in_use;
 use crate::loading::{Loaded, load};
-use crate::repetition::Repetition;
+use crate::repetition::Repeated;
 use crate::report::Report;
 use crate::undoing::undo_all;
 use calls::Refusal;
@@ -46,16 +46,15 @@ pub fn find<D: Disk>(alloc: Global, disk: &mut D) -> Result<Found, Refusal>
 {
     let (base, size) = area_in_use(disk)?;
     let Loaded {
-        repetition,
+        repeated,
         area,
         place,
     } = load(alloc, disk, base, size)?;
-    let Repetition {
+    let Repeated {
         mut machine,
         next,
         count,
-        ..
-    } = repetition;
+    } = repeated;
     let report = Report {
         collections: machine.parts().len(),
         unfinished: machine.count_live(),

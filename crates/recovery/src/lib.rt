@@ -8,8 +8,10 @@ mod head;
 mod inspecting;
 mod loading;
 mod opening;
+mod reading;
 mod repetition;
 mod report;
+mod stage;
 #[cfg(test)]
 mod tests;
 mod undoing;

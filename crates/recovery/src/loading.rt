@@ -5,7 +5,7 @@ ghost use Rattle.gate_block.specs.Area.{base_of, size_of, position_of, has_faile
 ghost use Rattle.recovery.specs.Openings.{IsLoadRefusal, IsSpoilt};
 ghost use Rattle.recovery.specs.Loading.{IsLoaded};
 
-use crate::repetition::Repetition;
+use crate::repetition::{Repeated, Repetition};
 use calls::Refusal;
 use disk_model::Disk;
 use gate_block::Area;
@@ -14,13 +14,13 @@ use std::alloc::Global;
 /// An area whose blocks were read, and what their records lead to.
 #[derive(Drop)]
 pub struct Loaded {
-    pub repetition: Repetition,
+    pub repeated: Repeated,
     pub area: Area,
     /// Where on the disk its next gate stands.
     pub place: u64,
 }
 
-/// Repeats the records of all blocks of an area, one block at a time.
+/// Reads the records of all blocks of an area, one block at a time.
 ///
 /// Refused NoMemory, Fault where the disk failed, and Damaged with the position of the gate of the block in which the
 /// first damage stands.
@@ -29,7 +29,7 @@ pub fn load<D: Disk>(alloc: Global, disk: &mut D, base: u64, size: u64) -> Resul
     requires fits { base + size < 2 ^ 63 }
     requires disk { base + size ≤ length (D.seen disk.old) }
     ensures loaded { IfOk result (λ x. D.is_honest disk.new →
-        IsLoaded base size (D.seen disk.old) x.repetition.machine x.repetition.next x.repetition.count (position_of x.area)) }
+        IsLoaded base size (D.seen disk.old) x.repeated.machine x.repeated.next x.repeated.count (position_of x.area)) }
     ensures area { IfOk result (λ x. (base_of x.area ≡ base) × (size_of x.area ≡ size) × (has_failed x.area ≡ false)) }
     ensures place { IfOk result (λ x. x.place ≡ base + position_of x.area) }
     ensures refused { IfErr result (IsLoadRefusal (Rises (D.fault_count disk.old) (D.fault_count disk.new))
@@ -39,15 +39,15 @@ pub fn load<D: Disk>(alloc: Global, disk: &mut D, base: u64, size: u64) -> Resul
     ensures faults { D.fault_count disk.old ≤ D.fault_count disk.new }
 {
     let mut area = Area::start(base, size, 0);
-    let mut repetition = Repetition::new(alloc);
+    let mut repetition = Repetition::new();
     let mut place = base;
     while let Some(body) = area.next_block(alloc, disk)? {
-        repetition.repeat_body(alloc, body.as_slice(), place)?;
+        repetition = repetition.read_body(alloc, body.as_slice(), place)?;
         place += 5 + body.len() as u64;
     }
-    repetition.check_whole(place)?;
+    let repeated = repetition.finish(place)?;
     Ok(Loaded {
-        repetition,
+        repeated,
         area,
         place,
     })

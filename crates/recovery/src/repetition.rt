@@ -1,30 +1,36 @@
-// The records of an area, repeated one after another.
-ghost use Rattle.std.specs.Prelude.{◌≡◌, ◌≤◌, ◌<◌, ◌+◌, ◌^◌, ℕ, max, List, ◌++◌, ◌∷◌, [], length, OnOk, IfErr, None, IsTrue, ◌↔◌};
+// The records of an area, read one after another: an image, and a journal behind it.
+ghost use Rattle.std.specs.Prelude.{◌≡◌, ◌≤◌, ◌<◌, ◌+◌, ◌^◌, ℕ, List, ◌++◌, length, IfOk, IfErr, Option, None};
+ghost use Rattle.calls.specs.declared.kind.Kind.{Kind};
+ghost use Rattle.calls.specs.Transactions.{Leads};
 ghost use Rattle.records.specs.declared.record.Record.{Record};
-ghost use Rattle.records.specs.Records.{spelling, IsRecord};
-ghost use Rattle.txn.specs.Machines.{Alike};
-ghost use Rattle.recovery.specs.Steps.{State, Steps};
-ghost use Rattle.recovery.specs.Repetitions.{next_after};
+ghost use Rattle.records.specs.Records.{spelling, IsRecord, AreRecords, named_by};
+ghost use Rattle.recovery.specs.declared.stage.Stage.{Stage};
+ghost use Rattle.recovery.specs.Steps.{State};
+ghost use Rattle.recovery.specs.Reading.{Progress, Unread, InJournal, Reads, AreAccepted, last_named};
+ghost use Rattle.recovery.specs.Repetitions.{LeadsTo, Takes, IsStuck, IsDamageOr, IsSomeRecord, IsFit, progress_of, count_of, number_behind};
 
-use calls::Refusal;
+use crate::stage::Stage;
+use calls::{Kind, Refusal};
 use catalog::Catalog;
 use records::{Record, decode};
 use std::alloc::Global;
 use txn::Machine;
 
-/// What stands next in an area: an image of marks and an end, and a journal behind it.
-#[derive(Clone, Copy, Debug, PartialEq, Eq)]
-pub enum Part {
-    Marks,
-    End,
-    Journal,
-}
-
 /// What the records so far lead to.
 #[derive(Drop)]
 pub struct Repetition {
+    pub stage: Stage,
+    /// A number above every number that was entered.
+    pub next: u64,
+    /// The kind that was named last.
+    pub kind: Option<Kind>,
+    ghost bound: { (1 ≤ next) × (next ≤ 2 ^ 61) },
+}
+
+/// What a whole area leads to.
+#[derive(Drop)]
+pub struct Repeated {
     pub machine: Machine<Catalog>,
-    pub part: Part,
     /// A number above every number that was entered.
     pub next: u64,
     /// How many records of the journal were repeated.
@@ -33,126 +39,97 @@ pub struct Repetition {
 }
 
 impl Repetition {
-    ghost use Rattle.recovery.specs.Repetitions.{Reached, AreRead, IsAccepted, IsDamageOr, IsStuck};
-
     /// Before the first record.
-    pub fn new(alloc: Global) -> Self
-        ensures { Reached [] result.part result.machine result.next result.count }
+    pub fn new() -> Self
+        ensures stage { result.stage ≡ Stage.Unread }
+        ensures kind { result.kind ≡ None }
     {
         Self {
-            machine: Machine::new(alloc, Catalog::new(alloc), 0),
-            part: Part::Marks,
+            stage: Stage::Unread,
             next: 1,
-            count: 0,
+            kind: None,
         }
     }
 
-    /// Repeats the records of a block's body, one behind another. Refused Damaged with the place that was handed in, or
+    /// Reads the records of a block's body, one behind another. Refused Damaged with the place that was handed in, or
     /// NoMemory.
-    pub fn repeat_body(&mut self, alloc: Global, body: &[u8], place: u64) -> Result<(), Refusal>
-        requires { self.old.count + length body.now < 2 ^ 64 }
-        ensures ok { (rs : List Record) → Reached rs self.old.part self.old.machine self.old.next self.old.count →
-            OnOk result ((group : List Record) × AreRead group × (body.now ≡ spelling group)
-            × Reached (rs ++ group) self.new.part self.new.machine self.new.next self.new.count) }
-        ensures few { OnOk result (self.new.count ≤ self.old.count + length body.now) }
-        ensures err { IfErr result (IsDamageOr place ((rs group more : List Record) →
-            Reached rs self.old.part self.old.machine self.old.next self.old.count →
-            AreRead group → body.now ≡ spelling group → IsAccepted (rs ++ (group ++ more)) → ⊥)) }
+    pub fn read_body(self, alloc: Global, body: &[u8], place: u64) -> Result<Self, Refusal>
+        requires fit { IsFit self.stage }
+        requires few { count_of self.stage + length body.now < 2 ^ 64 }
+        ensures ok { IfOk result (λ now. (rs : List Record) → LeadsTo rs (progress_of self.stage self.next) →
+            (group : List Record) × AreRecords self.kind group × (body.now ≡ spelling group) × (now.kind ≡ last_named self.kind group)
+            × LeadsTo (rs ++ group) (progress_of now.stage now.next)) }
+        ensures fit { IfOk result (λ now. IsFit now.stage) }
+        ensures few { IfOk result (λ now. count_of now.stage ≤ count_of self.stage + length body.now) }
+        ensures err { IfErr result (IsDamageOr place ((rs group : List Record) → LeadsTo rs (progress_of self.stage self.next) →
+            AreRecords self.kind group → body.now ≡ spelling group → (q : Progress) → Leads Reads (rs ++ group) Unread q → ⊥)) }
     {
+        let mut so_far = self;
         let mut rest = body;
         while !rest.is_empty() {
-            let (entry, behind) = decode(alloc, rest, None, place)?;
-            self.take(entry, place)?;
+            let (entry, behind) = decode(alloc, rest, so_far.kind, place)?;
+            so_far = so_far.take(alloc, entry, place)?;
             rest = behind;
         }
-        Ok(())
+        Ok(so_far)
     }
 
-    /// Refused Damaged with the place where no image stood whole.
-    pub fn check_whole(&self, place: u64) -> Result<(), Refusal>
-        ensures ok { OnOk result (self.now.part ≡ Part.Journal) }
-        ensures err { IfErr result (IsDamageOr place ((rs : List Record) →
-            Reached rs self.now.part self.now.machine self.now.next self.now.count → IsAccepted rs → ⊥)) }
+    /// What the area leads to. Refused Damaged with the place where no image stood whole.
+    pub fn finish(self, place: u64) -> Result<Repeated, Refusal>
+        ensures ok { IfOk result (λ all. progress_of self.stage self.next ≡ InJournal all.next all.machine all.count) }
+        ensures err { IfErr result (IsDamageOr place ((rs : List Record) → LeadsTo rs (progress_of self.stage self.next) →
+            (next : ℕ) (s : State) (count : ℕ) → AreAccepted rs next s count → ⊥)) }
     {
-        match self.part {
-            Part::Journal => Ok(()),
+        let Self { stage, next, .. } = self;
+        match stage {
+            Stage::Journal(machine, count) => Ok(Repeated {
+                machine,
+                next,
+                count,
+            }),
             _ => Err(Refusal::Damaged(place)),
         }
     }
 
-    // Repeats one record of an area.
-    fn take(&mut self, entry: Record, place: u64) -> Result<(), Refusal>
-        requires good { IsRecord None entry }
-        requires few { self.old.count + 1 < 2 ^ 64 }
-        ensures ok { (rs : List Record) → Reached rs self.old.part self.old.machine self.old.next self.old.count →
-            OnOk result (Reached (rs ++ entry ∷ []) self.new.part self.new.machine self.new.next self.new.count) }
-        ensures few { OnOk result (self.new.count ≤ self.old.count + 1) }
-        ensures err { IfErr result (IsDamageOr place ((rs more : List Record) →
-            Reached rs self.old.part self.old.machine self.old.next self.old.count → IsAccepted (rs ++ entry ∷ more) → ⊥)) }
+    // Reads one record of an area.
+    fn take(self, alloc: Global, entry: Record, place: u64) -> Result<Self, Refusal>
+        requires fit { IsFit self.stage }
+        requires good { IsRecord self.kind entry }
+        requires few { count_of self.stage + 1 < 2 ^ 64 }
+        ensures ok { IfOk result (λ now. Takes (progress_of self.stage self.next) entry (progress_of now.stage now.next)) }
+        ensures kind { IfOk result (λ now. now.kind ≡ named_by self.kind entry) }
+        ensures fit { IfOk result (λ now. IsFit now.stage) }
+        ensures few { IfOk result (λ now. count_of now.stage ≤ count_of self.stage + 1) }
+        ensures err { IfErr result (IsDamageOr place (IsStuck (progress_of self.stage self.next) entry)) }
     {
-        match self.part {
-            Part::Marks => {
-                if !is_first(&entry) {
-                    return Err(Refusal::Damaged(place));
-                }
-                self.part = Part::End;
-                Ok(())
-            }
-            Part::End => {
-                if !is_end(&entry) {
-                    return Err(Refusal::Damaged(place));
-                }
-                self.part = Part::Journal;
-                Ok(())
-            }
-            Part::Journal => self.repeat(entry, place),
-        }
-    }
-
-    // Repeats one record of a journal.
-    fn repeat(&mut self, entry: Record, place: u64) -> Result<(), Refusal>
-        requires good { IsRecord None entry }
-        requires few { self.old.count + 1 < 2 ^ 64 }
-        ensures ok { OnOk result (Steps self.old.machine entry self.new.machine) }
-        ensures alike { OnOk result ((u v : State) → Alike u self.old.machine → Steps u entry v → Alike v self.new.machine) }
-        ensures next { OnOk result (self.new.next ≡ next_after self.old.next entry) }
-        ensures count { OnOk result (self.new.count ≡ self.old.count + 1) }
-        ensures part { self.new.part ≡ self.old.part }
-        ensures err { IfErr result (IsDamageOr place (IsStuck self.old.machine entry)) }
-    {
-        let next = number_after(self.next, &entry);
-        if !self.machine.repeat(entry)? {
-            return Err(Refusal::Damaged(place));
-        }
-        self.next = next;
-        self.count += 1;
-        Ok(())
+        let Self { stage, next, kind } = self;
+        let next = number_after(next, &entry);
+        let kind = kind_after(kind, &entry);
+        let stage = stage.read(alloc, entry, place)?;
+        Ok(Self { stage, next, kind })
     }
 }
 
 // A number above the record's, where it enters one, and above those before.
 fn number_after(next: u64, entry: &Record) -> u64
-    requires good { IsRecord None entry.now }
+    requires good { IsSomeRecord entry.now }
     requires bound { (1 ≤ next) × (next ≤ 2 ^ 61) }
-    ensures is { result ≡ next_after next entry.now }
+    ensures is { result ≡ number_behind next entry.now }
     ensures bound { (1 ≤ result) × (result ≤ 2 ^ 61) }
 {
     match entry {
+        Record::Marks { next, .. } => *next,
         Record::Begin(number) => next.max(number + 1),
         _ => next,
     }
 }
 
-// Whether the record is the marks of an empty image.
-fn is_first(entry: &Record) -> bool
-    ensures { IsTrue result ↔ (entry.now ≡ Record.Marks 1 0) }
+// The kind named last, behind the record.
+fn kind_after(kind: Option<Kind>, entry: &Record) -> Option<Kind>
+    ensures { result ≡ named_by kind entry.now }
 {
-    matches!(entry, Record::Marks { next: 1, wear: 0 })
-}
-
-// Whether the record ends an image.
-fn is_end(entry: &Record) -> bool
-    ensures { IsTrue result ↔ (entry.now ≡ Record.ImageEnd) }
-{
-    matches!(entry, Record::ImageEnd)
+    match entry {
+        Record::Name(kind, _) => Some(*kind),
+        _ => kind,
+    }
 }

@@ -30,10 +30,10 @@ abbrev pub SameHolds : List Hold → List Hold → Type 0
 SameHolds hs ks = (h : Hold) → Contains hs h ↔ Contains ks h
 
 module _ (hs ks : List Hold) (same : SameHolds hs ks) where
-  clear_there : (n at : ℕ) (need : Need) → IsClear hs n at need → IsClear ks n at need
+  pub clear_there : (n at : ℕ) (need : Need) → IsClear hs n at need → IsClear ks n at need
   clear_there n at need clear k d below = All-contains (λ h. Blocks n at need h → ⊥) hs _ clear ((same _).1 (Contains-get_or ks k d below))
 
-  added_there : (new : List Hold) (added : Hold) → IsAdded hs new added → IsAdded ks new added
+  pub added_there : (new : List Hold) (added : Hold) → IsAdded hs new added → IsAdded ks new added
   added_there new added more h = (
     λ i. ⊎_elim (λ (k : Contains hs h). inl ((same h).0 k)) (λ (e : h ≡ added). inr e) ((more h).0 i),
     λ i. ⊎_elim (λ (k : Contains ks h). (more h).1 (inl ((same h).1 k))) (λ (e : h ≡ added). (more h).1 (inr e)) i,
@@ -42,7 +42,7 @@ module _ (hs ks : List Hold) (same : SameHolds hs ks) where
   left_there : (new : List Hold) (n : ℕ) → IsGivenUp hs new n → IsGivenUp ks new n
   left_there new n given h = (λ i. let k = (given h).0 i in ((same h).0 k.0, k.1), λ i. (given h).1 ((same h).1 i.0, i.1))
 
-added_same : (old a b : List Hold) (added : Hold) → IsAdded old a added → IsAdded old b added → SameHolds a b
+pub added_same : (old a b : List Hold) (added : Hold) → IsAdded old a added → IsAdded old b added → SameHolds a b
 added_same old a b added m k h = (λ i. (k h).1 ((m h).0 i), λ i. (m h).1 ((k h).0 i))
 
 left_same : (old a b : List Hold) (n : ℕ) → IsGivenUp old a n → IsGivenUp old b n → SameHolds a b
@@ -50,10 +50,10 @@ left_same old a b n m k h = (λ i. (k h).1 ((m h).0 i), λ i. (m h).1 ((k h).0 i
 
 module _ {S : Type 0} where
   -- the same state with other needs
-  abbrev with_holds : State S → List Hold → State S
+  abbrev pub with_holds : State S → List Hold → State S
   with_holds s hs = record s { holds = hs }
 
-  same_alike : (s : State S) (hs ks : List Hold) → SameHolds hs ks → Alike (with_holds s hs) (with_holds s ks)
+  pub same_alike : (s : State S) (hs ks : List Hold) → SameHolds hs ks → Alike (with_holds s hs) (with_holds s ks)
   same_alike s hs ks same = record { now = refl; live = refl; entries = refl; holds = same; wear = refl }
 
   pub alike_self : (s : State S) → Alike s s
@@ -69,7 +69,7 @@ module _ {S : Type 0} where
   }
 
   -- a state alike has the same parts, but for its needs
-  alike_is : (u s : State S) → Alike u s → u ≡ with_holds s u.holds
+  pub alike_is : (u s : State S) → Alike u s → u ≡ with_holds s u.holds
   alike_is u s like =
       ap (λ v. let t : State S = record { now = v; live = u.live; entries = u.entries; holds = u.holds; wear = u.wear } in t) like.now
       ∙ ap (λ v. let t : State S = record { now = s.now; live = v; entries = u.entries; holds = u.holds; wear = u.wear } in t) like.live

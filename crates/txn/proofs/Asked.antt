@@ -1,6 +1,6 @@
 -- A call that is made: its record, and the book behind it.
-use Rattle.std.proofs.Common.{◌≡◌, ℕ, ◌<◌, Option, None, false, Result, Ok, Err, OnOk, List}
-use Rattle.std.specs.Result.{is_err}
+use Rattle.std.proofs.Common.{◌≡◌, ℕ, ◌<◌, Option, None, true, false, Result, Ok, Err, OnOk, List}
+use Rattle.std.specs.Result.{is_err, IsOk}
 use Rattle.calls.specs.declared.call.Call.{Call}
 use Rattle.calls.specs.declared.reply.Reply.{Reply}
 use Rattle.calls.specs.Contents.{Collection, AnswersAt}
@@ -19,3 +19,8 @@ is_record inverse told n at s c r number few asked answered call reply = rw (tol
 pub use_ok : {T E : Type 0} (P : Type 0) (r : Result T E) → is_err r ≡ false → OnOk r P → P
 use_ok P (Ok x) e p = p
 use_ok P (Err x) e p = cc
+
+-- What is done is not refused.
+pub not_err : {T E : Type 0} (r : Result T E) → is_err r ≡ true → IsOk r → ⊥
+not_err (Ok x) e ok = cc
+not_err (Err x) e ok = cc

@@ -5,11 +5,13 @@ use Rattle.calls.specs.declared.call.Call.{Call}
 use Rattle.calls.specs.declared.reply.Reply.{Reply}
 use Rattle.calls.specs.declared.need.Need.{Need}
 use Rattle.calls.specs.Contents.{Collection}
-use Rattle.calls.specs.Inverses.{IsShort}
+use Rattle.calls.specs.Inverses.{Askable, IsShort}
 use Rattle.boosted.specs.Shape.{Does, IsExact, GoesBack, Commutes, MovesLeft, Wears, DeferredStaysReady, LeavesDisposable, LeavesNeed, LeavesReady, StaysPastCalls, StaysPastLaters}
 use Rattle.catalog.specs.Making.{RunsKeepNames, DeferredIsOther, MakesOne, MakesNamed, MakesBeforeCalls, MakesKeepDeferred, MakesKeepWithin}
 use Rattle.records.specs.Short.{AreShort, IsShortReply}
 use Rattle.records.specs.Told.{AnswersAsTold, LeavesAsTold, MakesAsTold, WithinAsTold, InverseAsTold, AfterAsTold}
+use Rattle.records.specs.Records.{Pairs}
+use Rattle.records.proofs.CallRecords.{answered_pairs}
 use Rattle.records.proofs.ShortValues as values
 use Rattle.txn.specs.Theory.Rules.{RuleLaws}
 use Rattle.txn.specs.Theory.Collections.{collection_rules}
@@ -28,6 +30,7 @@ pub record BookLaws {S : Type 0} (answers : S → ℕ → Call → Reply → Typ
   pub short_runs : (s : S) (at : ℕ) (c : Call) (r : Reply) → short s → answers s at c r → IsShort c → short (leaves s at c r)
   pub short_makes : (s t : S) (name : List ℕ) (kind : Kind) → makes s name kind t → short s → short t
   pub short_replies : (s : S) (at : ℕ) (c : Call) (r : Reply) → short s → answers s at c r → IsShortReply r
+  pub paired : (s : S) (at : ℕ) (c : Call) (r : Reply) → Askable c → answers s at c r → Pairs c r
   pub short_inverse : (c : Call) (r : Reply) (back : Call) → IsShortReply r → inverse c r ≡ Some back → IsShort back
 
 module _ {S : Type 0} (answers : S → ℕ → Call → Reply → Type 0) (leaves : S → ℕ → Call → Reply → S) (makes : S → List ℕ → Kind → S → Type 0) (need : Call → Reply → Need) (inverse : Call → Reply → Option Call)
@@ -69,5 +72,6 @@ module _ {S : Type 0} (answers : S → ℕ → Call → Reply → Type 0) (leave
     short_runs = λ s at c r is answered short_call. subst AreShort (sym (leaves_as_told s at c r answered)) (values.short_after (collections s) at c r is ((answers_as_told s at c r).0 answered) short_call);
     short_makes = λ s t name kind made is. values.short_made (collections s) (collections t) name kind (makes_as_told s t name kind made) is;
     short_replies = λ s at c r is answered. values.short_reply (collections s) at c r is ((answers_as_told s at c r).0 answered);
+    paired = λ s at c r asked answered. answered_pairs (collections s) at c r asked ((answers_as_told s at c r).0 answered);
     short_inverse = λ c r back is same. values.short_inverse c r back is (sym (inverse_as_told c r) ∙ same);
   }

@@ -1,5 +1,5 @@
 -- Every step of a book leaves what holds of every book.
-use Rattle.std.proofs.Common.{◌≡◌, ℕ, ◌+◌, ◌*◌, ◌<◌, ◌≤◌, ◌^◌, max, false, Option, None, ⊎_elim, Bool, true, Result, Ok, Err, List, [], ◌∷◌, ◌++◌, length, refl, sym, ◌∙◌, ap, subst, arith}
+use Rattle.std.proofs.Common.{◌≡◌, ℕ, ◌+◌, ◌*◌, ◌<◌, ◌≤◌, ◌^◌, ◌⊎◌, inl, inr, ◌↔◌, Contains, max, false, Option, None, ⊎_elim, Bool, true, Result, Ok, Err, List, [], ◌∷◌, ◌++◌, length, refl, sym, ◌∙◌, ap, subst, arith}
 use Rattle.std.specs.List.{AllByRecursion}
 use Rattle.std.specs.FinMap as maps
 use Rattle.std.specs.Ordering.{nat_cmp}
@@ -62,6 +62,7 @@ module _ {S : Type 0} (answers : S → ℕ → Call → Reply → Type 0) (leave
         subst Kept (sym appends.is) (record {
           records = each_append (IsRecord None) b.pending (r ∷ []) kept.records (is_record, tt);
           few_pending = omega arith;
+          frozen = λ f there. let kept_in = kept.frozen f there in let low = kept_in.0 in let high = kept_in.1 in (low, omega arith);
           upheld = keeps.upheld;
           below = keeps.below;
           next = keeps.next_fits;
@@ -173,6 +174,7 @@ module _ {S : Type 0} (answers : S → ℕ → Call → Reply → Type 0) (leave
         subst Kept (sym is) (record {
           records = kept.records;
           few_pending = kept.few_pending;
+          frozen = kept.frozen;
           upheld = fall_upheld answers leaves makes need inverse belongs names within short laws b.state kept.upheld n c.state row;
           below = λ k there. kept.below k (fallen_lives answers leaves makes need inverse belongs names within short laws b.state kept.upheld n k row.live (subst (λ (v : State S). Lives v.live k) row.is there));
           next = kept.next;
@@ -182,8 +184,9 @@ module _ {S : Type 0} (answers : S → ℕ → Call → Reply → Type 0) (leave
         })
 
     -- The first pending records are handed over.
-    pub handed_keeps : (first rest : List Record) → b.pending ≡ first ++ rest → Kept (record b { pending = rest; end = b.end + length first; place = b.place + places first })
-    handed_keeps first rest are =
+    pub handed_keeps : (first rest : List Record) (left : List ℕ) → b.pending ≡ first ++ rest → ((f : ℕ) → Contains left f → Contains b.freezes f × (b.end + length first < f)) →
+        Kept (record b { pending = rest; freezes = left; end = b.end + length first; place = b.place + places first })
+    handed_keeps first rest left are behind =
         let parts = ap length are ∙ append_length first rest in
         let pending = kept.few_pending in
         let positions = kept.positions in
@@ -193,6 +196,7 @@ module _ {S : Type 0} (answers : S → ℕ → Call → Reply → Type 0) (leave
         record {
           records = each_back (IsRecord None) first rest (subst (AllByRecursion (IsRecord None)) are kept.records);
           few_pending = omega arith;
+          frozen = λ f there. let above = (behind f there).1 in let high = (kept.frozen f (behind f there).0).1 in (above, omega arith);
           upheld = kept.upheld;
           below = kept.below;
           next = kept.next;
@@ -202,22 +206,38 @@ module _ {S : Type 0} (answers : S → ℕ → Call → Reply → Type 0) (leave
         }
 
     -- the book with other records pending, and others handed over
-    with_pending : (c : BookState S) (pending : List Record) (end place : ℕ) → c ≡ record b { pending = c.pending; end = c.end; place = c.place } → c.pending ≡ pending → c.end ≡ end → c.place ≡ place →
-        c ≡ record b { pending = pending; end = end; place = place }
-    with_pending c pending end place is pending_is end_is place_is =
+    with_pending : (c : BookState S) (pending : List Record) (left : List ℕ) (end place : ℕ) → c ≡ record b { pending = c.pending; freezes = c.freezes; end = c.end; place = c.place } → c.pending ≡ pending → c.freezes ≡ left → c.end ≡ end → c.place ≡ place →
+        c ≡ record b { pending = pending; freezes = left; end = end; place = place }
+    with_pending c pending left end place is pending_is left_is end_is place_is =
         is
-        ∙ ap (λ v. record b { pending = v; end = c.end; place = c.place }) pending_is
-        ∙ ap (λ v. record b { pending = pending; end = v; place = c.place }) end_is
-        ∙ ap (λ v. record b { pending = pending; end = end; place = v }) place_is
+        ∙ ap (λ v. record b { pending = v; freezes = c.freezes; end = c.end; place = c.place }) pending_is
+        ∙ ap (λ v. record b { pending = pending; freezes = v; end = c.end; place = c.place }) left_is
+        ∙ ap (λ v. record b { pending = pending; freezes = left; end = v; place = c.place }) end_is
+        ∙ ap (λ v. record b { pending = pending; freezes = left; end = end; place = v }) place_is
 
     pub cut_keeps : (waiting : List Block) (full : Type 0) (result : Result Bool Refusal) (waits : List Block) (c : BookState S) → CutAnswers b waiting full result waits c → Kept c
     cut_keeps waiting full (Ok true) waits c cut =
         let hands = cut.0.2 in
-        subst Kept (sym (with_pending c c.pending (b.end + length hands.first) (b.place + places hands.first) cut.1 refl (cut.0.3 ∙ hands.ends) (cut.0.4 ∙ hands.commits)))
-        (handed_keeps hands.first c.pending hands.are)
-    cut_keeps waiting full (Ok false) waits c cut = subst Kept (sym (with_pending c b.pending b.end b.place cut.1 cut.0.2 cut.0.3 cut.0.4)) kept
-    cut_keeps waiting full (Err Refusal.NotNow) waits c cut = subst Kept (sym (with_pending c b.pending b.end b.place cut.1 cut.0.2 cut.0.3 cut.0.4)) kept
+        subst Kept (sym (with_pending c c.pending c.freezes (b.end + length hands.first) (b.place + places hands.first) cut.1 refl refl (cut.0.3 ∙ hands.ends) (cut.0.4 ∙ hands.commits)))
+        (handed_keeps hands.first c.pending c.freezes hands.are (λ f there. let left = (cut.0.5 f).0 there in let behind = left.1 in let end = hands.ends in (left.0, omega arith)))
+    cut_keeps waiting full (Ok false) waits c cut = subst Kept (sym (with_pending c b.pending b.freezes b.end b.place cut.1 cut.0.2 cut.0.5 cut.0.3 cut.0.4)) kept
+    cut_keeps waiting full (Err Refusal.NotNow) waits c cut = subst Kept (sym (with_pending c b.pending b.freezes b.end b.place cut.1 cut.0.2 cut.0.5 cut.0.3 cut.0.4)) kept
     cut_keeps waiting full (Err other) waits c cut = absurd cut.0
+
+    -- A freeze leaves all but that one may stand behind the records that wait.
+    pub freeze_keeps : (c : BookState S) → c ≡ record b { freezes = c.freezes } → ((f : ℕ) → Contains c.freezes f ↔ (Contains b.freezes f ⊎ ((f ≡ b.end + length b.pending) × (0 < length b.pending)))) → Kept c
+    freeze_keeps c is stands =
+        subst Kept (sym is) (record {
+          records = kept.records;
+          few_pending = kept.few_pending;
+          frozen = λ f there. elim ((stands f).0 there) [ inl before ↦ kept.frozen f before | inr now ↦ let at = now.0 in let some = now.1 in (omega arith, omega arith) ];
+          upheld = kept.upheld;
+          below = kept.below;
+          next = kept.next;
+          positions = kept.positions;
+          placed = kept.placed;
+          counted = kept.counted;
+        })
 
   -- A book that was opened.
   pub opened_kept : (now : S) (next wear : ℕ) → within now wear → wear ≤ 2 ^ 61 + 65536 → (1 ≤ next) × (next ≤ 2 ^ 61) → length (names now) ≤ 256 → short now → Kept (opened now next wear)
@@ -226,6 +246,7 @@ module _ {S : Type 0} (answers : S → ℕ → Call → Reply → Type 0) (leave
       record {
         records = tt;
         few_pending = omega arith;
+        frozen = λ f there. let none = there.1 in absurd (omega arith);
         upheld = resting_upheld answers leaves makes need inverse belongs names within short laws now wear reached unworn few spells;
         below = λ n lives. absurd (nobody n lives);
         next = fits;

@@ -22,3 +22,9 @@ pub mod Undone
 pub mod Asked
 pub mod Alikes
 pub mod Rewinding
+pub mod Packed
+pub mod Frozen
+pub mod TakenBack
+pub mod LoadAlikes
+pub mod Loaded
+pub mod LoadRows

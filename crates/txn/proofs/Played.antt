@@ -18,7 +18,7 @@ use Rattle.records.specs.Acts.{event_of, acts_of_record, acts_of}
 use Rattle.txn.specs.Machine.{State, IsSettled, IsRunning, IsLeft, BeginRow, FallRow, Steps}
 use Rattle.txn.specs.Machines.{resting}
 use Rattle.txn.specs.Books.{BookState, record_of, later_record}
-use Rattle.txn.specs.Histories.{Step, Make, Enter, Ask, Later, Commit, Back, Ended, Cut, acts_of_step, RunsWhole, Acts, IsLegal, ComesTo}
+use Rattle.txn.specs.Histories.{Step, Make, Enter, Ask, Later, Commit, Back, Ended, Cut, Freeze, acts_of_step, RunsWhole, Acts, IsLegal, ComesTo}
 use Rattle.txn.specs.Sound.{IsSound}
 use Rattle.txn.specs.Theory.Rules.{RuleLaws}
 use Rattle.txn.specs.Theory.Collections.{collection_rules}
@@ -231,35 +231,40 @@ module _ {S : Type 0} (answers : S → ℕ → Call → Reply → Type 0) (leave
     refused : (c : BookState S) → c ≡ b → IsBookPlayed es [] b d c
     refused c is = subst (IsBookPlayed es [] b d) (sym is) (unheard b (stays es b.state sound tells d settled) refl)
 
-    one : (step : Step) (c : BookState S) → Acts answers leaves makes belongs misplaced names need inverse b step c → IsBookPlayed es (acts_of_step step) b d c
-    one (Make name kind (Ok place)) c acts = recorded (Record.Make kind name) c acts.0 (ap (λ v. v.places) acts.1.appends.is)
-    one (Make name kind (Err e)) c acts = refused c acts.0
-    one (Enter n (Ok done)) c acts = recorded (Record.Begin n) c acts.0 (ap (λ v. v.places) acts.2.is)
-    one (Enter n (Err e)) c acts = refused c acts.0
-    one (Ask n at call (Ok reply)) c acts = recorded (record_of inverse n (record { at = at; call = call; reply = reply })) c acts.0 (ap (λ v. v.places) acts.2.appends.is)
-    one (Ask n at call (Err e)) c acts = refused c acts.0
-    one (Later n at call (Ok done)) c acts = recorded (later_record n at call) c acts.0 (ap (λ v. v.places) acts.2.appends.is)
-    one (Later n at call (Err e)) c acts = refused c acts.0
-    one (Commit n (Ok place)) c acts = recorded (Record.Commit n) c acts.0 (ap (λ v. v.places) acts.1.appends.is)
-    one (Commit n (Err e)) c acts = refused c acts.0
-    one (Back n (Ok true)) c acts = recorded (Record.Back n) c acts.0 (ap (λ v. v.places) acts.1.appends.is)
-    one (Back n (Ok false)) c acts = unheard c (one_fall es b.state sound tells d settled n c.state acts.0) (ap (λ v. v.places) acts.2)
-    one (Back n (Err e)) c acts = refused c acts.0
-    one (Ended n (Ok done)) c acts = recorded (Record.Ended n) c acts.0 (ap (λ v. v.places) acts.1.appends.is)
-    one (Ended n (Err e)) c acts = refused c acts.0
-    one (Cut a) c acts =
+    one : (collections : S → List Collection) (step : Step) (c : BookState S) → Acts answers leaves makes belongs misplaced names need inverse collections b step c → IsBookPlayed es (acts_of_step step) b d c
+    one collections (Make name kind (Ok place)) c acts = recorded (Record.Make kind name) c acts.0 (ap (λ v. v.places) acts.1.appends.is)
+    one collections (Make name kind (Err e)) c acts = refused c acts.0
+    one collections (Enter n (Ok done)) c acts = recorded (Record.Begin n) c acts.0 (ap (λ v. v.places) acts.2.is)
+    one collections (Enter n (Err e)) c acts = refused c acts.0
+    one collections (Ask n at call (Ok reply)) c acts = recorded (record_of inverse n (record { at = at; call = call; reply = reply })) c acts.0 (ap (λ v. v.places) acts.2.appends.is)
+    one collections (Ask n at call (Err e)) c acts = refused c acts.0
+    one collections (Later n at call (Ok done)) c acts = recorded (later_record n at call) c acts.0 (ap (λ v. v.places) acts.2.appends.is)
+    one collections (Later n at call (Err e)) c acts = refused c acts.0
+    one collections (Commit n (Ok place)) c acts = recorded (Record.Commit n) c acts.0 (ap (λ v. v.places) acts.1.appends.is)
+    one collections (Commit n (Err e)) c acts = refused c acts.0
+    one collections (Back n (Ok true)) c acts = recorded (Record.Back n) c acts.0 (ap (λ v. v.places) acts.1.appends.is)
+    one collections (Back n (Ok false)) c acts = unheard c (one_fall es b.state sound tells d settled n c.state acts.0) (ap (λ v. v.places) acts.2)
+    one collections (Back n (Err e)) c acts = refused c acts.0
+    one collections (Ended n (Ok done)) c acts = recorded (Record.Ended n) c acts.0 (ap (λ v. v.places) acts.1.appends.is)
+    one collections (Ended n (Err e)) c acts = refused c acts.0
+    one collections (Cut a) c acts =
         let is = acts.2.1 in
         unheard c (subst (IsPlayed es [] d) (sym (ap (λ v. v.state) is)) (stays es b.state sound tells d settled)) (ap (λ v. v.places) is)
+    one collections (Freeze (Ok image)) c acts =
+        let is = acts.1 in
+        unheard c (subst (IsPlayed es [] d) (sym (ap (λ v. v.state) is)) (stays es b.state sound tells d settled)) (ap (λ v. v.places) is)
+    one collections (Freeze (Err Refusal.NoMemory)) c acts = refused c acts
+    one collections (Freeze (Err e)) c acts = absurd acts
 
   -- A history leads the settled content on by the transactions that it commits, each run whole, one after another.
-  all_played : (steps : List Step) (es : List (ℕ × Entry)) (b c : BookState S) (d : S) → Sound b.state → Tells es b.state → Settled b.state d → IsLegal answers leaves makes belongs misplaced names need inverse b steps c →
+  all_played : (collections : S → List Collection) (steps : List Step) (es : List (ℕ × Entry)) (b c : BookState S) (d : S) → Sound b.state → Tells es b.state → Settled b.state d → IsLegal answers leaves makes belongs misplaced names need inverse collections b steps c →
       IsBookPlayed es (flat_map acts_of_step steps) b d c
-  all_played [] es b c d sound tells settled legal = subst (IsBookPlayed es [] b d) legal (unheard es b sound tells d settled b (stays es b.state sound tells d settled) refl)
-  all_played (step ∷ steps) es b c d sound tells settled legal =
+  all_played collections [] es b c d sound tells settled legal = subst (IsBookPlayed es [] b d) legal (unheard es b sound tells d settled b (stays es b.state sound tells d settled) refl)
+  all_played collections (step ∷ steps) es b c d sound tells settled legal =
       let acts = acts_of_step step in
       let rest = flat_map acts_of_step steps in
-      let first = one es b sound tells d settled step legal.0 legal.1 in
-      let more = all_played steps (gathered es acts) legal.0 c first.played.content first.played.sound first.played.tells first.played.settled legal.2 in
+      let first = one es b sound tells d settled collections step legal.0 legal.1 in
+      let more = all_played collections steps (gathered es acts) legal.0 c first.played.content first.played.sound first.played.tells first.played.settled legal.2 in
       let count = ap length (committed_append acts rest es) ∙ append_length (committed_after es acts) (committed_after (gathered es acts) rest) in
       let places_first = first.places in
       let places_more = more.places in
@@ -270,13 +275,13 @@ module _ {S : Type 0} (answers : S → ℕ → Call → Reply → Type 0) (leave
       (leaves_as_told : (s : S) (at : ℕ) (c : Call) (r : Reply) → answers s at c r → collections (leaves s at c r) ≡ after_at (collections s) at c r)
       (makes_as_told : (s t : S) (name : List ℕ) (kind : Kind) → makes s name kind t → Makes (collections s) name kind (collections t)) where
     -- What a history of a book comes to in which no transaction was live.
-    pub history : (steps : List Step) (b c : BookState S) → Sound b.state → b.state.live ≡ maps.empty → IsLegal answers leaves makes belongs misplaced names need inverse b steps c →
+    pub history : (steps : List Step) (b c : BookState S) → Sound b.state → b.state.live ≡ maps.empty → IsLegal answers leaves makes belongs misplaced names need inverse collections b steps c →
         ComesTo (λ v. Sound v.state) collections (IsSettled answers leaves) b steps c
     history steps b c sound empty legal =
         let none = none_live answers leaves makes need inverse laws b.state sound sound.content empty sound.settled in
         let settled : Settled b.state b.state.now = subst (Settled b.state) none.1 sound.settled in
         let tells : Tells [] b.state = λ n run. sym (ap (own n) none.0) in
-        let all = all_played steps [] b c b.state.now sound tells settled legal in
+        let all = all_played collections steps [] b c b.state.now sound tells settled legal in
         let played = all.played in
         record {
           is_kept = played.sound;

@@ -46,13 +46,13 @@ module _ {S : Type 0} (s : State S) (m : theory.State S (ℕ × Event) Hold) (sh
     λ h. ⊎_elim inl (λ (f : Falls s.live k). inr ((shows.falling k).1 f)) ((falls_more s.live n k).1 (subst (λ v. Falls v k) (fallen_is s.live n live) h)),
   )
 
-  live_begun : (k : ℕ) → Has (n ∷ m.live) k ↔ Lives (maps.insert s.live n false) k
+  pub live_begun : (k : ℕ) → Has (n ∷ m.live) k ↔ Lives (maps.insert s.live n false) k
   live_begun k = (
     λ h. (lives_more s.live n false k).0 (⊎_elim inl (λ (l : Has m.live k). inr ((shows.live k).0 l)) h),
     λ h. ⊎_elim inl (λ (l : Lives s.live k). inr ((shows.live k).1 l)) ((lives_more s.live n false k).1 h),
   )
 
-  falling_begun : (Lives s.live n → ⊥) → (k : ℕ) → Has m.falling k ↔ Falls (maps.insert s.live n false) k
+  pub falling_begun : (Lives s.live n → ⊥) → (k : ℕ) → Has m.falling k ↔ Falls (maps.insert s.live n false) k
   falling_begun fresh k = (
     λ h. (falls_fresh s.live n fresh k).0 ((shows.falling k).0 h),
     λ h. (shows.falling k).1 ((falls_fresh s.live n fresh k).1 h),
@@ -93,7 +93,7 @@ module _ {S : Type 0} (answers : S → ℕ → Call → Reply → Type 0) (leave
       record { fresh = λ h. row.can.fresh ((shows.live n).0 h); is = refl },
     )
 
-    needs_more : (holds : List Hold) (added : Hold) → ((h : Hold) → Contains holds h ↔ (Contains s.holds h ⊎ (h ≡ added))) → (h : Hold) → Has (m.needs ++ added ∷ []) h ↔ Contains holds h
+    pub needs_more : (holds : List Hold) (added : Hold) → ((h : Hold) → Contains holds h ↔ (Contains s.holds h ⊎ (h ≡ added))) → (h : Hold) → Has (m.needs ++ added ∷ []) h ↔ Contains holds h
     needs_more holds added more h = (
       λ i. ⊎_elim
           (λ (k : Has m.needs h). (more h).1 (inl ((shows.needs h).0 k)))
@@ -106,7 +106,7 @@ module _ {S : Type 0} (answers : S → ℕ → Call → Reply → Type 0) (leave
     )
 
     -- no need that another number holds is in the way
-    clear_here : (n at : ℕ) (want : Need) → IsClear s.holds n at want → AllByRecursion (λ k. (k.owner ≡ n → ⊥) → k.at ≡ at → Conflict k.need want → ⊥) m.needs
+    pub clear_here : (n at : ℕ) (want : Need) → IsClear s.holds n at want → AllByRecursion (λ k. (k.owner ≡ n → ⊥) → k.at ≡ at → Conflict k.need want → ⊥) m.needs
     clear_here n at want clear = every _ m.needs (λ k held other same conflict. All-contains (λ h. Blocks n at want h → ⊥) s.holds k clear ((shows.needs k).0 held) (other, same, conflict))
 
     pub call_follows : (belongs : S → ℕ → Call → Type 0) (n : ℕ) (e : Event) (t : State S) → CallRow answers leaves belongs need s n e t → Follows m (journal.Call (n, e)) t

@@ -1,4 +1,4 @@
--- No step leaves a value, or an entry with a reply, that is too long to be spelled.
+-- No step leaves a value that is too long to be spelled, or an entry that nobody can ask for.
 use Rattle.std.proofs.Common.{◌≡◌, ℕ, ◌==◌, not, Option, Some, None, MatchOption, List, ◌∷◌, refl, sym, subst}
 use Rattle.std.specs.List.{AllByRecursion}
 use Rattle.calls.specs.declared.call.Call.{Call}
@@ -9,20 +9,20 @@ use Rattle.undo_log.specs.Entries.{IsNewestCall}
 use Rattle.boosted.specs.Shape.{Does, Undoes}
 use Rattle.boosted.proofs.Each.{each_back, each_filter, each_rest}
 use Rattle.records.specs.Short.{IsShortReply}
-use Rattle.txn.specs.Machines.{IsShortEntry}
+use Rattle.txn.specs.Machines.{IsAskedEntry}
 
-abbrev AreShort : List (ℕ × Entry) → Type 0
-AreShort es = AllByRecursion (λ e. IsShortEntry e.1) es
+abbrev AreAsked : List (ℕ × Entry) → Type 0
+AreAsked es = AllByRecursion (λ e. IsAskedEntry e.1) es
 
-module _ (es : List (ℕ × Entry)) (are : AllByRecursion (λ e. IsShortEntry e.1) es) where
-  pub short_left : (n : ℕ) → AllByRecursion (λ e. IsShortEntry e.1) (others n es)
-  short_left n = each_filter (λ e. IsShortEntry e.1) (λ e. not (e.0 == n)) es are
+module _ (es : List (ℕ × Entry)) (are : AllByRecursion (λ e. IsAskedEntry e.1) es) where
+  pub asked_left : (n : ℕ) → AllByRecursion (λ e. IsAskedEntry e.1) (others n es)
+  asked_left n = each_filter (λ e. IsAskedEntry e.1) (λ e. not (e.0 == n)) es are
 
-  pub short_rest : (n : ℕ) (x : Event) (rest : List (ℕ × Entry)) → IsNewestCall n es x rest → AllByRecursion (λ e. IsShortEntry e.1) rest
-  short_rest n x rest new = subst AreShort (sym new.rest_is) (each_rest (λ e. IsShortEntry e.1) new.before (n, Asked x) new.after (subst AreShort new.is are))
+  pub asked_rest : (n : ℕ) (x : Event) (rest : List (ℕ × Entry)) → IsNewestCall n es x rest → AllByRecursion (λ e. IsAskedEntry e.1) rest
+  asked_rest n x rest new = subst AreAsked (sym new.rest_is) (each_rest (λ e. IsAskedEntry e.1) new.before (n, Asked x) new.after (subst AreAsked new.is are))
 
   pub short_newest : (n : ℕ) (x : Event) (rest : List (ℕ × Entry)) → IsNewestCall n es x rest → IsShortReply x.reply
-  short_newest n x rest new = (each_back (λ e. IsShortEntry e.1) new.before ((n, Asked x) ∷ new.after) (subst AreShort new.is are)).0
+  short_newest n x rest new = let newest = each_back (λ e. IsAskedEntry e.1) new.before ((n, Asked x) ∷ new.after) (subst AreAsked new.is are) in newest.0.3
 
 module _ {S : Type 0} (answers : S → ℕ → Call → Reply → Type 0) (leaves : S → ℕ → Call → Reply → S) (inverse : Call → Reply → Option Call) (short : S → Type 0)
     (short_runs : (s : S) (at : ℕ) (c : Call) (r : Reply) → short s → answers s at c r → IsShort c → short (leaves s at c r))

@@ -1,5 +1,5 @@
 -- Every row of the machine leaves what holds of every state.
-use Rattle.std.proofs.Common.{◌≡◌, ℕ, ◌+◌, ◌*◌, ◌<◌, ◌≤◌, ◌^◌, Bool, false, true, Option, Some, None, MatchOption, ◌⊎◌, ⊎_elim, List, [], ◌∷◌, ◌++◌, length, refl, sym, ◌∙◌, ap, subst, arith}
+use Rattle.std.proofs.Common.{◌≡◌, ℕ, ◌+◌, ◌*◌, ◌<◌, ◌≤◌, ◌^◌, Bool, false, true, Option, Some, None, MatchOption, ⊎_elim, List, [], ◌∷◌, ◌++◌, length, refl, sym, ◌∙◌, ap, subst, arith}
 use Rattle.std.specs.List.{AllByRecursion}
 use Rattle.std.specs.FinMap as maps
 use Rattle.std.specs.Ordering.{nat_cmp}
@@ -16,13 +16,13 @@ use Rattle.boosted.specs.Shape.{HasRoom}
 use Rattle.boosted.proofs.Each.{weaker, each_append}
 use Rattle.records.specs.Records.{IsNumber}
 use Rattle.txn.specs.Machine.{State, Does, IsRunning, IsLeft, BeginRow, CommitRow, EndedRow, FallRow, MakeRow, CallRow, LaterRow, BackRow}
-use Rattle.txn.specs.Machines.{resting, IsShortEntry, IsUpheld, CanRun}
+use Rattle.txn.specs.Machines.{resting, IsAskedEntry, IsUpheld, CanRun}
 use Rattle.txn.specs.Sound.{IsSound}
 use Rattle.txn.proofs.Statuses.{nobody, lives_more, lives_fewer, fallen_is}
 use Rattle.txn.proofs.BookLaws.{BookLaws}
 use Rattle.txn.proofs.Steps as steps
 use Rattle.txn.proofs.Running.{run_within}
-use Rattle.txn.proofs.Spelled.{short_left, short_rest, short_newest, undone_short}
+use Rattle.txn.proofs.Spelled.{asked_left, asked_rest, short_newest, undone_short}
 use Rattle.txn.proofs.Counting.{few_entries, own_and_others, few_laters}
 use Rattle.txn.proofs.Sizes.{len_begun, len_fallen, len_left, own_of_others, own_pushed, own_of_rest, rest_length, pushed_length}
 
@@ -77,7 +77,7 @@ module _ {S : Type 0} (answers : S → ℕ → Call → Reply → Type 0) (leave
           unworn = upheld.unworn;
           numbers = upheld.numbers;
           spells = laws.short_makes s.now row.next name kind row.made upheld.spells;
-          replies = upheld.replies;
+          asked = upheld.asked;
           holds = subst Sound row.is (steps.make_sound answers leaves makes need inverse laws.rules s upheld.holds names name kind t row);
         })
 
@@ -101,7 +101,7 @@ module _ {S : Type 0} (answers : S → ℕ → Call → Reply → Type 0) (leave
           unworn = room;
           numbers = begun_numbers n row.can.number;
           spells = upheld.spells;
-          replies = upheld.replies;
+          asked = upheld.asked;
           holds = subst Sound row.is (steps.begin_sound answers leaves makes need inverse laws.rules s upheld.holds n t row);
         })
 
@@ -125,7 +125,7 @@ module _ {S : Type 0} (answers : S → ℕ → Call → Reply → Type 0) (leave
           unworn = omega arith;
           numbers = upheld.numbers;
           spells = laws.short_runs s.now e.at e.call e.reply upheld.spells row.can.answered row.can.asked.2;
-          replies = each_append (λ e. IsShortEntry e.1) s.entries ((n, Asked e) ∷ []) upheld.replies (laws.short_replies s.now e.at e.call e.reply upheld.spells row.can.answered, tt);
+          asked = each_append (λ e. IsAskedEntry e.1) s.entries ((n, Asked e) ∷ []) upheld.asked ((row.can.asked.1, row.can.asked.2, laws.paired s.now e.at e.call e.reply row.can.asked.1 row.can.answered, laws.short_replies s.now e.at e.call e.reply upheld.spells row.can.answered), tt);
           holds = subst Sound row.is (steps.call_sound answers leaves makes need inverse laws.rules s upheld.holds belongs n e t row);
         })
 
@@ -144,7 +144,7 @@ module _ {S : Type 0} (answers : S → ℕ → Call → Reply → Type 0) (leave
           unworn = omega arith;
           numbers = upheld.numbers;
           spells = upheld.spells;
-          replies = each_append (λ e. IsShortEntry e.1) s.entries ((n, PutOff at call) ∷ []) upheld.replies (tt, tt);
+          asked = each_append (λ e. IsAskedEntry e.1) s.entries ((n, PutOff at call) ∷ []) upheld.asked (row.can.put_off.1, tt);
           holds = subst Sound row.is (steps.later_sound answers leaves makes need inverse laws.rules s upheld.holds belongs n at call t row);
         })
 
@@ -165,7 +165,7 @@ module _ {S : Type 0} (answers : S → ℕ → Call → Reply → Type 0) (leave
           unworn = omega arith;
           numbers = λ k there. upheld.numbers k ((lives_fewer s.live n k).1 there).0;
           spells = spells;
-          replies = short_left s.entries upheld.replies n;
+          asked = asked_left s.entries upheld.asked n;
           holds = subst Sound left.is sound;
         })
 
@@ -251,8 +251,8 @@ module _ {S : Type 0} (answers : S → ℕ → Call → Reply → Type 0) (leave
           reached = undone_within (inverse x.call x.reply) x.at s.now row.next s.wear row.undoes upheld.reached;
           unworn = omega arith;
           numbers = λ k there. upheld.numbers k (fallen_lives n k row.live there);
-          spells = undone_short answers leaves inverse short laws.short_runs laws.short_inverse x s.now row.next (short_newest s.entries upheld.replies n x row.rest new) upheld.spells row.undoes;
-          replies = short_rest s.entries upheld.replies n x row.rest new;
+          spells = undone_short answers leaves inverse short laws.short_runs laws.short_inverse x s.now row.next (short_newest s.entries upheld.asked n x row.rest new) upheld.spells row.undoes;
+          asked = asked_rest s.entries upheld.asked n x row.rest new;
           holds = subst Sound row.is (steps.back_sound answers leaves makes need inverse laws.rules s upheld.holds n t row);
         })
 
@@ -268,7 +268,7 @@ module _ {S : Type 0} (answers : S → ℕ → Call → Reply → Type 0) (leave
           unworn = upheld.unworn;
           numbers = λ k there. upheld.numbers k (fallen_lives n k row.live there);
           spells = upheld.spells;
-          replies = upheld.replies;
+          asked = upheld.asked;
           holds = subst Sound row.is (steps.fall_sound answers leaves makes need inverse laws.rules s upheld.holds n t row);
         })
 
@@ -306,6 +306,6 @@ module _ {S : Type 0} (answers : S → ℕ → Call → Reply → Type 0) (leave
         unworn = omega arith;
         numbers = λ n lives. absurd (nobody n lives);
         spells = spells;
-        replies = tt;
+        asked = tt;
         holds = steps.opened_sound answers leaves makes need inverse laws.rules now wear;
       }

@@ -1,5 +1,5 @@
 -- A book: the state that its records lead to, and the records that wait for a block.
-use Rattle.std.specs.Prelude.{◌≡◌, ℕ, ◌+◌, ◌*◌, ◌<◌, ◌≤◌, ◌^◌, ◌⊎◌, max, Bool, true, false, List, [], ◌∷◌, ◌++◌, length, Option, None, Result, Ok, Err}
+use Rattle.std.specs.Prelude.{◌≡◌, ℕ, ◌+◌, ◌*◌, ◌<◌, ◌≤◌, ◌^◌, ◌⊎◌, ◌↔◌, max, Bool, true, false, List, [], ◌∷◌, ◌++◌, length, Contains, Option, None, Result, Ok, Err}
 use Rattle.std.specs.FinMap as maps
 use Rattle.std.specs.List.{AllByRecursion}
 use Rattle.calls.specs.declared.kind.Kind.{Kind}
@@ -26,6 +26,8 @@ pub record BookState (S : Type 0) : Type 0 where
   pub state : State S
   -- the records of the steps that were not handed over yet, in order
   pub pending : List Record
+  -- the positions, counted as end is, that no block may cross: a freeze stood there, and records from before it still wait
+  pub freezes : List ℕ
   -- how many records were handed over, and how many of these commit something
   pub end : ℕ
   pub place : ℕ
@@ -39,6 +41,7 @@ abbrev pub opened : {S : Type 0} → S → (next wear : ℕ) → BookState S
 opened now next wear = record {
   state = resting now wear;
   pending = [];
+  freezes = [];
   end = 0;
   place = 0;
   places = 0;
@@ -206,32 +209,36 @@ EndedAnswers b n (Err e) c = (c ≡ b) × EndedRefused b n e
 
 -- ---- handing records over
 
--- The first of the records, as many as fit, are handed over as one block, and rest is left.
-pub record HandsOver (pending : List Record) (end place : ℕ) (block : Block) (rest : List Record) : Type 0 where
+-- The first of the records, as many as fit and as come before the next freeze, are handed over as one block, and rest is left.
+pub record HandsOver (pending : List Record) (freezes : List ℕ) (end place : ℕ) (block : Block) (rest : List Record) : Type 0 where
   pub first : List Record
   pub are : pending ≡ first ++ rest
   pub some : 0 < length first
   pub bytes : IsBlockOf (spelling first) block.bytes.items
-  -- the next one would not have fitted
-  pub most : (r : Record) (behind : List Record) → rest ≡ r ∷ behind → 65535 < length (spelling first) + length (spelled r)
+  -- the next one would not have fitted, or a freeze stood between
+  pub most : (r : Record) (behind : List Record) → rest ≡ r ∷ behind → (65535 < length (spelling first) + length (spelled r)) ⊎ Contains freezes block.end
+  -- no record of it comes from behind a freeze
+  pub apart : (f : ℕ) → Contains freezes f → block.end ≤ f
   pub ends : block.end ≡ end + length first
   pub commits : block.place ≡ place + places first
 
--- What a cut answers of the records that are pending, and of how many were handed over before: one block goes behind those that wait in the outbox, or
--- nothing where nothing is pending. A refusal leaves all.
-abbrev pub CutsOff : (pending : List Record) (end place : ℕ) → List Block → Type 0 → Result Bool Refusal → List Block → (rest : List Record) (end_then place_then : ℕ) → Type 0
-CutsOff pending end place waiting full (Ok true) waits rest end_then place_then =
-    (block : Block) × (waits ≡ waiting ++ block ∷ []) × HandsOver pending end place block rest × (end_then ≡ block.end) × (place_then ≡ block.place)
-CutsOff pending end place waiting full (Ok false) waits rest end_then place_then =
-    (pending ≡ []) × (waits ≡ waiting) × (rest ≡ pending) × (end_then ≡ end) × (place_then ≡ place)
-CutsOff pending end place waiting full (Err Refusal.NotNow) waits rest end_then place_then =
-    full × (waits ≡ waiting) × (rest ≡ pending) × (end_then ≡ end) × (place_then ≡ place) × (0 < length pending)
-CutsOff pending end place waiting full (Err e) waits rest end_then place_then = ⊥
+-- What a cut answers of the records that are pending, of the freezes that stood between them, and of how many were handed over before: one block goes
+-- behind those that wait in the outbox, and the freezes behind its end are left; or nothing where nothing is pending. A refusal leaves all.
+abbrev pub CutsOff : (pending : List Record) (freezes : List ℕ) (end place : ℕ) → List Block → Type 0 → Result Bool Refusal → List Block → (rest : List Record) (freezes_then : List ℕ) (end_then place_then : ℕ) → Type 0
+CutsOff pending freezes end place waiting full (Ok true) waits rest freezes_then end_then place_then =
+    (block : Block) × (waits ≡ waiting ++ block ∷ []) × HandsOver pending freezes end place block rest × (end_then ≡ block.end) × (place_then ≡ block.place) ×
+    ((f : ℕ) → Contains freezes_then f ↔ (Contains freezes f × (block.end < f)))
+CutsOff pending freezes end place waiting full (Ok false) waits rest freezes_then end_then place_then =
+    (pending ≡ []) × (waits ≡ waiting) × (rest ≡ pending) × (end_then ≡ end) × (place_then ≡ place) × (freezes_then ≡ freezes)
+CutsOff pending freezes end place waiting full (Err Refusal.NotNow) waits rest freezes_then end_then place_then =
+    full × (waits ≡ waiting) × (rest ≡ pending) × (end_then ≡ end) × (place_then ≡ place) × (freezes_then ≡ freezes) × (0 < length pending)
+CutsOff pending freezes end place waiting full (Err e) waits rest freezes_then end_then place_then = ⊥
 
 -- The same of a book, whose state stays.
 abbrev pub CutAnswers : {S : Type 0} → BookState S → List Block → Type 0 → Result Bool Refusal → List Block → BookState S → Type 0
 CutAnswers b waiting full result waits c =
-    CutsOff b.pending b.end b.place waiting full result waits c.pending c.end c.place × (c ≡ record b { pending = c.pending; end = c.end; place = c.place })
+    CutsOff b.pending b.freezes b.end b.place waiting full result waits c.pending c.freezes c.end c.place ×
+    (c ≡ record b { pending = c.pending; freezes = c.freezes; end = c.end; place = c.place })
 
 -- ---- what holds of every book
 
@@ -240,6 +247,8 @@ module _ {S : Type 0} (names : S → List (List ℕ)) (within : S → ℕ → Ty
   pub record IsKept (b : BookState S) : Type 0 where
     pub records : AllByRecursion (IsRecord None) b.pending
     pub few_pending : length b.pending ≤ 16384
+    -- each freeze stands behind a record that waits
+    pub frozen : (f : ℕ) → Contains b.freezes f → (b.end < f) × (f ≤ b.end + length b.pending)
     pub upheld : IsUpheld names within short sound b.state
     pub below : (n : ℕ) → Lives b.state.live n → n < b.next
     pub next : (1 ≤ b.next) × (b.next ≤ 2 ^ 61)

@@ -10,7 +10,9 @@ use Rattle.calls.specs.Contents.{Collection}
 use Rattle.calls.specs.Transactions.{Leads, Asked, PutOff, Transaction, Whole, Made, calls_of, laters_of, Act, Begins, Asks, Commits, Creates, committed, Serial}
 use Rattle.txn.specs.Machine.{State, Does}
 use Rattle.txn.specs.Books.{BookState, MakeAnswers, EnterAnswers, CallAnswers, LaterAnswers, CommitAnswers, BackAnswers, EndedAnswers, CutAnswers}
+use Rattle.txn.specs.Freezing.{FreezeAnswers}
 use Rattle.txn.specs.declared.block.Block.{Block}
+use Rattle.txn.specs.declared.block.Image.{Image}
 
 -- A step of a book, with its answer.
 pub data Step : Type 0 where
@@ -22,6 +24,7 @@ pub data Step : Type 0 where
   Back : (number : ℕ) → Result Bool Refusal → Step
   Ended : (number : ℕ) → Result (Unit {0}) Refusal → Step
   Cut : Result Bool Refusal → Step
+  Freeze : Result Image Refusal → Step
 
 -- What a step says of transactions. A refused one says nothing.
 abbrev pub acts_of_step : Step → List Act
@@ -42,7 +45,7 @@ module _ {S : Type 0} (answers : S → ℕ → calls.Call → Reply → Type 0) 
   RunsWhole s (Whole es) t = (m : S) × Leads (Does answers leaves) (calls_of es) s m × Leads (Does answers leaves) (laters_of es) m t
   RunsWhole s (Made name kind) t = makes s name kind t
 
-  module _ (belongs : S → ℕ → calls.Call → Type 0) (misplaced : S → ℕ → calls.Call → Refusal → Type 0) (names : S → List (List ℕ)) (need : calls.Call → Reply → Need) (inverse : calls.Call → Reply → Option calls.Call) where
+  module _ (belongs : S → ℕ → calls.Call → Type 0) (misplaced : S → ℕ → calls.Call → Refusal → Type 0) (names : S → List (List ℕ)) (need : calls.Call → Reply → Need) (inverse : calls.Call → Reply → Option calls.Call) (collections : S → List Collection) where
     -- The step leads from one book to another: one row of the histories of an object of one thread.
     abbrev pub Acts : BookState S → Step → BookState S → Type 0
     Acts b (Make name kind a) c = MakeAnswers names makes b name kind a c
@@ -53,6 +56,7 @@ module _ {S : Type 0} (answers : S → ℕ → calls.Call → Reply → Type 0) 
     Acts b (Back n a) c = BackAnswers answers leaves inverse b n a c
     Acts b (Ended n a) c = EndedAnswers b n a c
     Acts b (Cut a) c = (waiting waits : List Block) × CutAnswers b waiting (Unit {0}) a waits c
+    Acts b (Freeze a) c = FreezeAnswers collections inverse b a c
 
     -- The history leads from one book to another, step by step.
     abbrev pub IsLegal : BookState S → List Step → BookState S → Type 0

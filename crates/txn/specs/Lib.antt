@@ -2,6 +2,7 @@ pub mod Theory
 pub mod Wholes
 pub mod Machine
 pub mod Machines
+pub mod Loading
 pub mod Sound
 pub mod Books
 pub mod Histories
@@ -9,3 +10,5 @@ pub mod Drafts
 pub mod Offers
 pub mod Waits
 pub mod Views
+pub mod Freezing
+pub mod Packings

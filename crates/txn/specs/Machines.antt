@@ -5,13 +5,13 @@ use Rattle.std.specs.List.{AllByRecursion}
 use Rattle.calls.specs.declared.call.Call.{Call}
 use Rattle.calls.specs.declared.reply.Reply.{Reply}
 use Rattle.calls.specs.declared.refusal.Refusal.{Refusal}
-use Rattle.calls.specs.Inverses.{Disposable}
+use Rattle.calls.specs.Inverses.{Askable, IsShort, Disposable, Deferrable}
 use Rattle.calls.specs.Laters.{left_by}
 use Rattle.calls.specs.Transactions.{Event, Entry, Asked, PutOff, Leads, own}
 use Rattle.abstract_locks.specs.declared.table.Hold.{Hold}
 use Rattle.undo_log.specs.Logs.{Lives}
 use Rattle.records.specs.declared.record.Record.{Record}
-use Rattle.records.specs.Records.{IsNumber}
+use Rattle.records.specs.Records.{IsNumber, Pairs}
 use Rattle.records.specs.Short.{IsShortReply}
 use Rattle.txn.specs.Machine.{State, Does}
 
@@ -21,10 +21,11 @@ resting now wear = record { now = now; live = maps.empty; entries = []; holds = 
 
 -- ---- what holds of every state
 
--- No value in the reply to a call is too long to be spelled.
-abbrev pub IsShortEntry : Entry → Type 0
-IsShortEntry (Asked e) = IsShortReply e.reply
-IsShortEntry (PutOff at c) = Unit {0}
+-- It may stand among what was asked for: a call that a client can ask for, with a reply that it has, neither with a value too long to be spelled; or a call
+-- that a client can put off.
+abbrev pub IsAskedEntry : Entry → Type 0
+IsAskedEntry (Asked e) = Askable e.call × IsShort e.call × Pairs e.call e.reply × IsShortReply e.reply
+IsAskedEntry (PutOff at c) = Deferrable c
 
 -- short: no value in the collections is too long to be spelled. sound: what holds of every state that the machine reaches, in the words of the theory.
 module _ {S : Type 0} (names : S → List (List ℕ)) (within : S → ℕ → Type 0) (short : S → Type 0) (sound : State S → Type 0) where
@@ -37,7 +38,7 @@ module _ {S : Type 0} (names : S → List (List ℕ)) (within : S → ℕ → Ty
     pub unworn : s.wear + length s.entries ≤ 2 ^ 61 + 65536
     pub numbers : (n : ℕ) → Lives s.live n → IsNumber n
     pub spells : short s.now
-    pub replies : AllByRecursion (λ e. IsShortEntry e.1) s.entries
+    pub asked : AllByRecursion (λ e. IsAskedEntry e.1) s.entries
     pub holds : sound s
 
 -- ---- what is put off to a commit

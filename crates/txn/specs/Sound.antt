@@ -37,3 +37,9 @@ module _ {S : Type 0} (answers : S → ℕ → Call → Reply → Type 0) (leave
     pub sound : theory.IsSound (collection_rules answers leaves makes need inverse) machine
     pub content : S
     pub settled : IsSettled answers leaves s content
+
+  -- The state is sound as the theory's machine has it. Nothing is said of a content without the live transactions.
+  pub record IsLoaded (s : State S) : Type 0 where
+    pub machine : theory.State S (ℕ × Event) Hold
+    pub shows : Shows s machine
+    pub sound : theory.IsSound (collection_rules answers leaves makes need inverse) machine

@@ -4,7 +4,7 @@ use Rattle.abstract_locks.specs.Holds.{Holdings}
 use Rattle.undo_log.specs.Logs.{Log}
 use Rattle.txn.specs.Machine.{State}
 use Rattle.txn.specs.Books.{BookState}
-use Rattle.txn.specs.Waits.{Waiting, waiting}
+use Rattle.txn.specs.Waits.{Waiting, waiting, freezes}
 
 -- the state of a machine
 abbrev pub state_of : {S : Type 0} → S → Holdings → Log → (wear : ℕ) → State S
@@ -15,6 +15,7 @@ abbrev pub book_of : {S : Type 0} → State S → Waiting → (places next : ℕ
 book_of state w places next = record {
   state = state;
   pending = waiting w;
+  freezes = freezes w;
   end = w.handed.end;
   place = w.handed.place;
   places = places;

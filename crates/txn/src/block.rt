@@ -15,8 +15,8 @@ pub struct Block {
     ghost whole: { IsWhole bytes.items },
 }
 
-/// Whole blocks that hold an image of a book. `end` is the position after the last record that it covers, counted since
-/// the store was opened, and `place` the count of commits and makes up to there.
+/// Whole blocks that hold an image of a book, as `Book::freeze` answers it. `end` is the position after the last record
+/// that it covers, counted since the store was opened, and `place` the count of commits and makes up to there.
 #[derive(Drop, Debug)]
 pub struct Image {
     pub blocks: VecDeque<Vec<u8>>,

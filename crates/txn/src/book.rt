@@ -13,10 +13,12 @@ ghost use Rattle.records.specs.Records.{FitsCall, FitsReply};
 ghost use Rattle.records.specs.Short.{AreShort, IsShortReply};
 ghost use Rattle.txn.specs.Machine.{IsRunning, IsSettled};
 ghost use Rattle.txn.specs.Books.{opened, later_record, IsKept, IsOpen, IsFull, RunRefused, OpenRefused, CanEnter, EnterRefused, CallRefused, LaterRefused, MakeAnswers, EnterAnswers, CallAnswers, LaterAnswers, CommitAnswers, BackAnswers, EndedAnswers, CutAnswers};
+ghost use Rattle.txn.specs.Freezing.{FreezeAnswers};
 ghost use Rattle.txn.specs.Histories.{RunsWhole};
 ghost use Rattle.txn.specs.Sound.{IsSound};
 
-use crate::block::Outbox;
+use crate::block::{Image, Outbox};
+use crate::freezing::image_blocks;
 use crate::machine::Machine;
 use crate::pending::Pending;
 use calls::limits::{MAX_CALLS, MAX_LIVE, MAX_PENDING, NUMBER_END};
@@ -257,8 +259,8 @@ impl<B: Parts + Coded> Book<B> {
         Ok(())
     }
 
-    /// Hands the first pending records over as one block, as many whole ones as fit in 65,535 bytes, and answers true;
-    /// false where nothing is pending. No record is copied, and no memory is taken.
+    /// Hands the first pending records over as one block, as many whole ones as fit in 65,535 bytes and as come before the
+    /// next freeze, and answers true; false where nothing is pending. No record is copied, and no memory is taken.
     ///
     /// NotNow, only where a record waits and the outbox is full.
     pub fn cut<O: Outbox>(&mut self, out: &mut O) -> Result<bool, Refusal>
@@ -266,6 +268,27 @@ impl<B: Parts + Coded> Book<B> {
         ensures settled { (c : B) → IsSettled B.answers B.leaves self.old.state c → IsSettled B.answers B.leaves self.new.state c }
     {
         self.pending.cut(out)
+    }
+
+    /// An image of the book as it is now: what the collections hold, the live transactions, and what these asked for, but
+    /// for what a falling one put off. It marks the position behind the last record, which the image covers too: no block
+    /// that `cut` hands over from now on holds records from both sides of it. Nothing else is changed.
+    ///
+    /// It takes time and memory in proportion to what the collections hold, of which the image is one copy; beside it the
+    /// items of one collection at a time are copied.
+    ///
+    /// NoMemory, which changes nothing.
+    pub fn freeze(&mut self) -> Result<Image, Refusal>
+        ensures answer { FreezeAnswers B.collections B.inverse self.old result self.new }
+        ensures settled { (c : B) → IsSettled B.answers B.leaves self.old.state c → IsSettled B.answers B.leaves self.new.state c }
+    {
+        let blocks = image_blocks(self.alloc, &self.machine, self.next)?;
+        self.pending.seal()?;
+        Ok(Image {
+            blocks,
+            end: self.pending.position(),
+            place: self.places,
+        })
     }
 
     // Puts a call off under its record.
@@ -387,7 +410,7 @@ fn logged(at: u8, call: &Call, reply: &Reply) -> Result<Logged, Refusal>
 }
 
 // The call that takes back what the call did, answered so. All three have a spelling.
-fn inverse<B: Parts + Coded>(call: &Call, reply: &Reply) -> Result<Option<Call>, Refusal>
+pub(crate) fn inverse<B: Parts + Coded>(call: &Call, reply: &Reply) -> Result<Option<Call>, Refusal>
     requires askable { Askable call.now }
     requires short { IsShort call.now × IsShortReply reply.now }
     ensures ok { IfOk result (λ back. back ≡ B.inverse call.now reply.now) }

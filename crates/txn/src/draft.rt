@@ -1,6 +1,7 @@
 // A block in the making.
 ghost use Rattle.std.specs.Prelude.{◌≡◌, ◌+◌, ◌≤◌, ◌<◌, ◌^◌, [], ◌∷◌, ◌++◌, ◌↔◌, IsTrue, length, drop, ◌-◌, vec_len, vec_capacity, OnOk, OnErr, IfSome, IfErr, IsOkUnless};
 ghost use Rattle.std.specs.Int.{w32, to_be_bytes};
+ghost use Rattle.gate_block.specs.Row.{IsBlockOf};
 ghost use Rattle.txn.specs.Drafts.{HasPlace};
 ghost use Rattle.txn.specs.Offers.{IsOffered};
 ghost use Rattle.records.specs.Acts.{places};
@@ -135,6 +136,16 @@ impl Draft {
         ensures { result ≡ length self.now.records }
     {
         self.count
+    }
+
+    // The records as one whole block. It takes no memory.
+    pub(crate) fn into_block(self) -> Vec<u8>
+        requires some { 0 < length self.records }
+        requires short { length (spelling self.records) ≤ 65535 }
+        ensures { IsBlockOf (spelling self.records) result.items }
+    {
+        let Self { bytes, .. } = self;
+        closed(bytes)
     }
 
     // Hands the records over as one block, behind those that wait in the outbox, and counts them. Where the outbox is

@@ -18,7 +18,7 @@ use records::Coded;
 /// what they hold without the live transactions, each run whole, one after another, with the replies that were got.
 pub fn one_history<B: Parts + Coded>(_parts: &B)
     ensures { (steps : List Step) (b c : BookState B) → IsSound B.answers B.leaves B.makes B.need B.inverse b.state → b.state.live ≡ maps.empty →
-        IsLegal B.answers B.leaves B.makes B.belongs B.misplaced B.names B.need B.inverse b steps c →
+        IsLegal B.answers B.leaves B.makes B.belongs B.misplaced B.names B.need B.inverse B.collections b steps c →
         ComesTo (λ v. IsSound B.answers B.leaves B.makes B.need B.inverse v.state) B.collections (IsSettled B.answers B.leaves) b steps c }
 {}
 

@@ -4,11 +4,15 @@
 mod block;
 mod book;
 mod draft;
+mod freezing;
 mod history;
 mod laters;
+mod loader;
 mod machine;
 mod noted;
+mod packing;
 mod pending;
+mod redoing;
 #[cfg(test)]
 mod tests;
 mod undoing;
@@ -16,4 +20,5 @@ mod undoing;
 pub use block::{Block, Image, Outbox};
 pub use book::Book;
 pub use history::{crash, images, one_history, recovery};
+pub use loader::Loader;
 pub use machine::Machine;

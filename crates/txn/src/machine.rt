@@ -17,6 +17,7 @@ ghost use Rattle.records.specs.Short.{AreShort};
 ghost use Rattle.txn.specs.Machine.{IsRunning, CanBegin, BeginRow, CommitRow, EndedRow, FallRow, MakeRow, CanCall, CallRow, CanPutOff, LaterRow, GoesTwice, BackRow, Steps};
 ghost use Rattle.txn.specs.Machines.{resting, unmade, HasRoomFor, IsUpheld, StepAnswers, RepeatAnswers};
 ghost use Rattle.txn.specs.Sound.{IsSound};
+ghost use Rattle.txn.specs.Views.{state_of};
 
 use crate::laters::{is_going, run_laters};
 use crate::undoing::undo;
@@ -179,6 +180,19 @@ impl<B: Parts + Coded> Machine<B> {
         parts
     }
 
+    // The machine of its parts.
+    pub(crate) fn of_parts(parts: B, needs: NeedTable, live: Live, worn: u64) -> Self
+        requires { IsUpheld B.names B.within (λ s. AreShort (B.collections s)) (IsSound B.answers B.leaves B.makes B.need B.inverse) (state_of parts needs live worn) }
+        ensures { result ≡ state_of parts needs live worn }
+    {
+        Self {
+            parts,
+            needs,
+            live,
+            wear: worn,
+        }
+    }
+
     // Makes an empty collection at the end. The refusals of `Parts::make`, each of which leaves all as before.
     pub(crate) fn make(&mut self, name: &str, kind: Kind) -> Result<(), Refusal>
         ensures ok { OnOk result (MakeRow B.names B.makes self.old name.now kind self.new) }
@@ -262,6 +276,14 @@ impl<B: Parts + Coded> Machine<B> {
         ensures { FallRow self.old number self.new }
     {
         self.live.fall(number);
+    }
+
+    // The live transactions, and what they asked for.
+    pub(crate) fn live(&self) -> &Live
+        ensures live { result.now.live ≡ self.now.live }
+        ensures entries { result.now.entries ≡ self.now.entries }
+    {
+        &self.live
     }
 
     // Whether the transaction is live.
@@ -498,7 +520,7 @@ impl<B: Parts + Coded> Machine<B> {
 }
 
 // What is answered of a making that was refused: it is no step, unless memory alone was wanted.
-fn unmade(refusal: Refusal) -> Result<bool, Refusal>
+pub(crate) fn unmade(refusal: Refusal) -> Result<bool, Refusal>
     ensures { result ≡ unmade refusal }
 {
     match refusal {

@@ -1,8 +1,8 @@
 // The records that wait for a block.
-ghost use Rattle.std.specs.Prelude.{◌≡◌, ◌+◌, ◌<◌, ◌≤◌, ◌^◌, [], ◌∷◌, ◌++◌, ◌↔◌, IsTrue, length, OnOk, IfSome, IsOkUnless};
+ghost use Rattle.std.specs.Prelude.{◌≡◌, ℕ, ◌+◌, ◌<◌, ◌≤◌, ◌^◌, ◌⊎◌, [], ◌∷◌, ◌++◌, ◌↔◌, IsTrue, length, Contains, OnOk, OnErr, IfSome, IsOkUnless};
 ghost use Rattle.records.specs.Acts.{places};
 ghost use Rattle.records.specs.Records.{call_record, spelled, Fits, FitsCall, FitsReply};
-ghost use Rattle.txn.specs.Waits.{waiting, Suits, HasRoomFor};
+ghost use Rattle.txn.specs.Waits.{waiting, freezes, Suits, HasRoomFor};
 ghost use Rattle.txn.specs.Books.{CutsOff};
 
 use crate::block::Outbox;
@@ -15,12 +15,19 @@ use std::collections::VecDeque;
 use std::marker::Model;
 use std::mem;
 
+/// A block into which no more records go: the next one did not fit, or a freeze sealed it.
+#[derive(Drop)]
+pub(crate) struct Filled {
+    draft: Draft,
+    sealed: bool,
+}
+
 /// The records that wait for a block, each spelled once into the block in which it will be handed over.
 #[derive(Drop)]
 pub(crate) struct Pending {
     alloc: Global,
-    // blocks that the next record did not fit in, the one that is filled now, and room for one more
-    full: VecDeque<Draft>,
+    // blocks into which no more records go, the one that is filled now, and room for one more
+    full: VecDeque<Filled>,
     last: Draft,
     spare: Draft,
     // how many records they are
@@ -43,6 +50,7 @@ impl Pending {
     // No record. It takes no memory.
     pub(crate) fn new(alloc: Global) -> Self
         ensures records { waiting result ≡ [] }
+        ensures freezes { freezes result ≡ [] }
         ensures handed { result.handed ≡ record { end = 0; place = 0 } }
     {
         Self {
@@ -75,6 +83,7 @@ impl Pending {
         requires { len ≤ 65535 }
         ensures room { OnOk result (HasRoomFor self.new len) }
         ensures records { waiting self.new ≡ waiting self.old }
+        ensures freezes { freezes self.new ≡ freezes self.old }
         ensures handed { self.new.handed ≡ self.old.handed }
         ensures refusal { IsOkUnless result Refusal.NoMemory }
     {
@@ -91,6 +100,7 @@ impl Pending {
         requires room { HasRoomFor self.old (length (spelled entry.now)) }
         requires few { length (waiting self.old) < 2 ^ 32 }
         ensures records { waiting self.new ≡ waiting self.old ++ entry.now ∷ [] }
+        ensures freezes { freezes self.new ≡ freezes self.old }
         ensures handed { self.new.handed ≡ self.old.handed }
     {
         let fits = self.fits(encoded_len(entry));
@@ -100,9 +110,12 @@ impl Pending {
             return;
         }
         self.spare.push(entry);
-        let filled = mem::replace(&mut self.spare, Draft::new(self.alloc));
-        let filled = mem::replace(&mut self.last, filled);
-        self.full.push_back_reserved(filled);
+        let next = mem::replace(&mut self.spare, Draft::new(self.alloc));
+        let draft = mem::replace(&mut self.last, next);
+        self.full.push_back_reserved(Filled {
+            draft,
+            sealed: false,
+        });
     }
 
     // Writes the record of a call behind the others, from its parts. It takes no memory.
@@ -120,6 +133,7 @@ impl Pending {
         requires room { HasRoomFor self.old (length (spelled (Record.Call (call_record number at asked.now answer.now back.now)))) }
         requires few { length (waiting self.old) < 2 ^ 32 }
         ensures records { waiting self.new ≡ waiting self.old ++ Record.Call (call_record number at asked.now answer.now back.now) ∷ [] }
+        ensures freezes { freezes self.new ≡ freezes self.old }
         ensures handed { self.new.handed ≡ self.old.handed }
     {
         let fits = self.fits(call_len(asked, answer, back.as_ref()));
@@ -129,23 +143,56 @@ impl Pending {
             return;
         }
         self.spare.push_call(number, at, asked, answer, back);
-        let filled = mem::replace(&mut self.spare, Draft::new(self.alloc));
-        let filled = mem::replace(&mut self.last, filled);
-        self.full.push_back_reserved(filled);
+        let next = mem::replace(&mut self.spare, Draft::new(self.alloc));
+        let draft = mem::replace(&mut self.last, next);
+        self.full.push_back_reserved(Filled {
+            draft,
+            sealed: false,
+        });
     }
 
-    // Hands the first records over as one block, as many as fit in it. Answers whether there was one. NotNow where the
-    // outbox is full leaves the records.
+    // The position after the last record, counted since the store was opened.
+    pub(crate) fn position(&self) -> u64
+        requires { self.now.handed.end + length (waiting self.now) < 2 ^ 64 }
+        ensures { result ≡ self.now.handed.end + length (waiting self.now) }
+    {
+        self.handed.end + self.count as u64
+    }
+
+    // Seals the block that is filled now, where there is a record in it: no later one goes into it. NoMemory changes
+    // nothing.
+    pub(crate) fn seal(&mut self) -> Result<(), Refusal>
+        ensures records { waiting self.new ≡ waiting self.old }
+        ensures handed { self.new.handed ≡ self.old.handed }
+        ensures sealed { OnOk result ((f : ℕ) → Contains (freezes self.new) f ↔ (Contains (freezes self.old) f ⊎ ((f ≡ self.old.handed.end + length (waiting self.old)) × (0 < length (waiting self.old))))) }
+        ensures same { OnErr result (freezes self.new ≡ freezes self.old) }
+        ensures refusal { IsOkUnless result Refusal.NoMemory }
+    {
+        if self.last.is_empty() {
+            return Ok(());
+        }
+        self.full.reserve(1)?;
+        let draft = mem::replace(&mut self.last, Draft::new(self.alloc));
+        self.full.push_back_reserved(Filled {
+            draft,
+            sealed: true,
+        });
+        Ok(())
+    }
+
+    // Hands the first records over as one block, as many as fit in it and as come before the next freeze. Answers whether
+    // there was one. NotNow where the outbox is full leaves the records.
     pub(crate) fn cut<O: Outbox>(&mut self, out: &mut O) -> Result<bool, Refusal>
         requires end { self.old.handed.end + length (waiting self.old) < 2 ^ 64 }
         requires place { self.old.handed.place + places (waiting self.old) < 2 ^ 64 }
-        ensures { CutsOff (waiting self.old) self.old.handed.end self.old.handed.place (O.waiting out.old) (O.is_full out.old) result
-            (O.waiting out.new) (waiting self.new) self.new.handed.end self.new.handed.place }
+        ensures { CutsOff (waiting self.old) (freezes self.old) self.old.handed.end self.old.handed.place (O.waiting out.old) (O.is_full out.old) result
+            (O.waiting out.new) (waiting self.new) (freezes self.new) self.new.handed.end self.new.handed.place }
     {
         if let Some(first) = self.full.pop_front() {
-            let count = first.count();
-            if let Err(first) = first.offer(&mut self.handed, out) {
-                self.full.push_front_reserved(first);
+            let Filled { draft, sealed } = first;
+            let count = draft.count();
+            if let Err(draft) = draft.offer(&mut self.handed, out) {
+                self.full.push_front_reserved(Filled { draft, sealed });
                 return Err(Refusal::NotNow);
             }
             self.count -= count;

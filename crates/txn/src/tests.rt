@@ -1,5 +1,7 @@
 // What clients are answered, step by step, which blocks are handed over, and a plain serial store beside the book.
 mod cuts;
+mod freezes;
+mod loads;
 mod machines;
 mod refusals;
 mod rows;

@@ -11,7 +11,7 @@ use Rattle.std.proofs.lemmas.List.Elements.{Contains-push, Contains-push_cases, 
 use Rattle.slab.specs.Slab.{Slab, get, Updates}
 use Rattle.calls.proofs.Points.{get_insert, get_insert_other, get_remove, get_remove_other}
 use Rattle.undo_log.specs.declared.live.Transaction.{Transaction}
-use Rattle.undo_log.specs.Logs.{Statuses, statuses, live_of, rooms_of, fallen, EachOnce, IsSlotOf, IsLeastLive, IsLeastSlot}
+use Rattle.undo_log.specs.Logs.{Statuses, statuses, live_of, rooms_of, fallen, EachOnce, IsSlotOf, Lives, IsLeastLive, IsLeastSlot, IsNextLive, IsNextSlot}
 
 abbrev Once : List (Option Transaction) → Type 0
 Once slots = (i j : ℕ) (t u : Transaction) → get_or slots i None ≡ Some t → get_or slots j None ≡ Some u → t.number ≡ u.number → i ≡ j
@@ -283,3 +283,47 @@ least_found s once (Some n) found = least_live s once n found
 pub least_none : (s : Slab Transaction) (least : Option ℕ) → IfNone least ((key : ℕ) (t : Transaction) → get s key ≡ Some t → ⊥) → IfNone least (live_of s.slots ≡ maps.empty)
 least_none s None none = none_in_slots s none
 least_none s (Some n) none = tt
+
+-- The number is not above the other, or the next so far is not above it.
+abbrev pub IsPassed : (after : ℕ) → Option ℕ → ℕ → Type 0
+IsPassed after next m = (m ≤ after) ⊎ Bounds next m
+
+-- A number above the other, that of a slot.
+abbrev pub IsAbove : Slab Transaction → (after n : ℕ) → Type 0
+IsAbove slots after n = (after < n) × ((k : ℕ) × IsSlotOf slots n k)
+
+pub passed_more : (after : ℕ) (next : Option ℕ) (m k : ℕ) → IsPassed after next k → IsPassed after (Some (option_map_or (min m) next m)) k
+passed_more after next m k (inl low) = inl low
+passed_more after next m k (inr bounds) = inr (bounds_more next m k bounds)
+
+-- what is passed is not above the other, or not below the next
+pub next_slot : (s : Slab Transaction) (after : ℕ) (next : Option ℕ) → ((k : ℕ) (t : Transaction) → get s k ≡ Some t → IsPassed after next t.number) → IfSome next (IsAbove s after) → IfSome next (IsNextSlot s after)
+next_slot s after None passed one = tt
+next_slot s after (Some n) passed one = record {
+  key = one.1.0;
+  there = one.1.1;
+  above = one.0;
+  least = λ k t there above. elim (passed k t there) [ inl low ↦ absurd (omega arith) | inr bounds ↦ bounds ];
+}
+
+pub no_next_slot : (s : Slab Transaction) (after : ℕ) (next : Option ℕ) → ((k : ℕ) (t : Transaction) → get s k ≡ Some t → IsPassed after next t.number) →
+    IfNone next ((key : ℕ) (t : Transaction) → get s key ≡ Some t → t.number ≤ after)
+no_next_slot s after None passed = λ k t there. elim (passed k t there) [ inl low ↦ low | inr bounds ↦ absurd bounds ]
+no_next_slot s after (Some n) passed = tt
+
+-- who lives is in a slot
+in_slot : (s : Slab Transaction) (P : ℕ → Type 0) (m : ℕ) → ((key : ℕ) (t : Transaction) → get s key ≡ Some t → P t.number) → (o : Option Bool) → maps.get (live_of s.slots) m ≡ o → is_some o ≡ true → P m
+in_slot s P m all None is lives = cc
+in_slot s P m all (Some b) is lives = let r = from_live s m b is in subst P r.3 (all r.0 r.1 r.2)
+
+pub next_found : (s : Slab Transaction) → EachOnce s → (after : ℕ) (next : Option ℕ) → IfSome next (IsNextSlot s after) → IfSome next (IsNextLive (live_of s.slots) after)
+next_found s once after None found = tt
+next_found s once after (Some n) found = record {
+  lives = ap is_some (slot_live s once n found.key found.there.0 found.there.1 found.there.2);
+  above = found.above;
+  least = λ m lives. in_slot s (λ k. after < k → n ≤ k) m found.least (maps.get (live_of s.slots) m) refl lives;
+}
+
+pub next_none : (s : Slab Transaction) (after : ℕ) (next : Option ℕ) → IfNone next ((key : ℕ) (t : Transaction) → get s key ≡ Some t → t.number ≤ after) → IfNone next ((n : ℕ) → Lives (live_of s.slots) n → n ≤ after)
+next_none s after None none = λ n lives. in_slot s (λ k. k ≤ after) n none (maps.get (live_of s.slots) n) refl lives
+next_none s after (Some n) none = tt

@@ -1,5 +1,5 @@
 -- The live transactions, which of them are falling, and what they asked for.
-use Rattle.std.specs.Prelude.{◌≡◌, ℕ, ◌≤◌, Bool, true, IsTrue, Option, Some, None, List, [], ◌∷◌, map, Contains, nat_lt, if◌then◌else◌}
+use Rattle.std.specs.Prelude.{◌≡◌, ℕ, ◌<◌, ◌≤◌, Bool, true, IsTrue, Option, Some, None, List, [], ◌∷◌, map, Contains, nat_lt, if◌then◌else◌}
 use Rattle.std.specs.Ordering.{nat_cmp}
 use Rattle.std.specs.FinMap as maps
 use Rattle.slab.specs.Slab.{Slab, get}
@@ -25,6 +25,12 @@ Lives live n = IsTrue (maps.contains_key live n)
 pub record IsLeastLive (live : Statuses) (n : ℕ) : Type 0 where
   pub lives : Lives live n
   pub least : (m : ℕ) → Lives live m → n ≤ m
+
+-- It is the least number above another that is live.
+pub record IsNextLive (live : Statuses) (after n : ℕ) : Type 0 where
+  pub lives : Lives live n
+  pub above : after < n
+  pub least : (m : ℕ) → Lives live m → after < m → n ≤ m
 
 abbrev pub IsLive : Log → ℕ → Type 0
 IsLive log n = Lives log.live n
@@ -75,3 +81,10 @@ pub record IsLeastSlot (slots : Slab Transaction) (n : ℕ) : Type 0 where
   pub key : ℕ
   pub there : IsSlotOf slots n key
   pub least : (key : ℕ) (t : Transaction) → get slots key ≡ Some t → n ≤ t.number
+
+-- It is the least number above another in the slots.
+pub record IsNextSlot (slots : Slab Transaction) (after n : ℕ) : Type 0 where
+  pub key : ℕ
+  pub there : IsSlotOf slots n key
+  pub above : after < n
+  pub least : (key : ℕ) (t : Transaction) → get slots key ≡ Some t → after < t.number → n ≤ t.number

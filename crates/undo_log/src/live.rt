@@ -1,12 +1,12 @@
 // The live transactions in the slots of a slab, and a plain list of what they asked for.
-ghost use Rattle.std.specs.Prelude.{◌≡◌, ◌↔◌, ℕ, List, [], ◌∷◌, ◌++◌, Some, false, min, IsTrue, IsOk, IsOkUnless, IfSome, IfNone, OnOk, OnErr, length, map, filter, ◌==◌};
+ghost use Rattle.std.specs.Prelude.{◌≡◌, ◌↔◌, ◌≤◌, ℕ, List, [], ◌∷◌, ◌++◌, Some, false, min, IsTrue, IsOk, IsOkUnless, IfSome, IfNone, OnOk, OnErr, length, map, filter, ◌==◌};
 ghost use Rattle.std.specs.FinMap as maps;
 ghost use Rattle.std.specs.Option.{option_map_or};
 ghost use Rattle.slab.specs.Slab.{get};
 ghost use Rattle.calls.specs.Transactions as transactions;
 ghost use Rattle.calls.specs.Transactions.{own, others, Asked, PutOff};
 ghost use Rattle.undo_log.specs.Entries.{event_of, owned_entry, HasNoCall, HasNewestCall, IsNewestCall, IsNewestPlace};
-ghost use Rattle.undo_log.specs.Logs.{Log, IsLive, IsFalling, HasRoom, KeepsRoom, fallen, live_of, EachOnce, IsSlotOf, IsLeastLive, IsLeastSlot};
+ghost use Rattle.undo_log.specs.Logs.{Log, IsLive, IsFalling, HasRoom, KeepsRoom, fallen, live_of, EachOnce, IsSlotOf, IsLeastLive, IsLeastSlot, IsNextLive, IsNextSlot, Lives};
 ghost use Rattle.undo_log.specs.declared.live.Transaction.{Transaction};
 
 use crate::{Entry, Later, Logged, Owned};
@@ -77,6 +77,14 @@ impl Live {
         ensures none { IfNone result (self.now.live ≡ maps.empty) }
     {
         least_of(&self.slots)
+    }
+
+    /// The least number above another that is live. It takes no memory.
+    pub fn next_live(&self, after: u64) -> Option<u64>
+        ensures found { IfSome result (IsNextLive self.now.live after) }
+        ensures none { IfNone result ((n : ℕ) → Lives self.now.live n → n ≤ after) }
+    {
+        next_of(&self.slots, after)
     }
 
     /// Whether the transaction is live.
@@ -247,6 +255,20 @@ fn least_of(slots: &Slab<Transaction>) -> Option<u64>
         least = Some(lesser(least, transaction.number));
     }
     least
+}
+
+// The least number above another in the slots.
+fn next_of(slots: &Slab<Transaction>, after: u64) -> Option<u64>
+    ensures found { IfSome result (IsNextSlot slots.now after) }
+    ensures none { IfNone result ((key : ℕ) (t : Transaction) → get slots.now key ≡ Some t → t.number ≤ after) }
+{
+    let mut next = None;
+    for (_, transaction) in slots.iter() {
+        if transaction.number > after {
+            next = Some(lesser(next, transaction.number));
+        }
+    }
+    next
 }
 
 // The lesser of the numbers.

@@ -9,6 +9,7 @@ use Rattle.world.specs.declared.steps.Step.{Step}
 use Rattle.world.specs.declared.steps.Answer.{Answer}
 use Rattle.world.specs.Pasts.{BookState, CoreStep, Draws, IsAnswerOf, AreAnswered, turn_answer}
 use Rattle.recovery.proofs.Lists.{leads_push, all_append}
+use Rattle.world.specs.Moves.{Whole, Moves}
 use Rattle.world.proofs.PlayLemmas.{zip-more}
 
 pub core_answered : (s : BookState) (waiting : List Block) (mark : ℕ) (x : Step × Answer) (t : BookState) (waits : List Block) → CoreStep s waiting mark x t waits → IsAnswerOf x.0 x.1
@@ -38,18 +39,24 @@ pub turn_answered : (r : Result Turn Refusal) → IsAnswerOf Step.Turn (turn_ans
 turn_answered (Ok turn) = tt
 turn_answered (Err e) = tt
 
--- the steps so far are answered in their own ways, and draw from the first number up to the next
-pub record Told (first next : ℕ) (steps : List Step) (answers : List Answer) (i : ℕ) : Type 0 where
+-- the steps so far are answered in their own ways, draw from the first number up to the next, and lead the world on; reads that were true stay so
+pub record Told {D : Type 0} (fault_count : D → ℕ) (is_honest : D → Type 0) (first now : Whole D) (steps : List Step) (answers : List Answer) (i : ℕ) : Type 0 where
   pub own : AreAnswered (zip (take i steps) answers)
-  pub drawn : Leads Draws (zip (take i steps) answers) first next
+  pub drawn : Leads Draws (zip (take i steps) answers) first.next now.next
+  pub moves : Leads (Moves fault_count) (zip (take i steps) answers) first now
+  pub honest : is_honest now.keeper.disk → is_honest first.keeper.disk
 
-pub told_starts : (first : ℕ) (steps : List Step) (answers : List Answer) → Told first first steps answers 0
-told_starts first steps answers = record { own = tt; drawn = refl }
+module _ {D : Type 0} (fault_count : D → ℕ) (is_honest : D → Type 0) (first : Whole D) (steps : List Step) where
+  pub told_starts : (answers : List Answer) → Told fault_count is_honest first first steps answers 0
+  told_starts answers = record { own = tt; drawn = refl; moves = refl; honest = λ h. h }
 
-pub told_goes_on : (first mid next : ℕ) (steps : List Step) (answers more : List Answer) (i : ℕ) (x : Step) (a : Answer) → Told first mid steps answers i → length answers ≡ i → i < length steps → x ≡ get_or steps i x → more ≡ answers ++ a ∷ [] → IsAnswerOf x a → Draws mid (x, a) next → Told first next steps more (i + 1)
-told_goes_on first mid next steps answers more i x a told count inside at is own draws =
-    let pairs = zip-more steps answers more i x a count inside at is in
-    record {
-      own = subst AreAnswered (sym pairs) (all_append (λ y. IsAnswerOf y.0 y.1) (zip (take i steps) answers) ((x, a) ∷ []) told.own (own, tt));
-      drawn = subst (λ l. Leads Draws l first next) (sym pairs) (leads_push Draws (zip (take i steps) answers) (x, a) first mid next told.drawn draws);
-    }
+  pub told_goes_on : (mid now : Whole D) (answers more : List Answer) (i : ℕ) (x : Step) (a : Answer) → Told fault_count is_honest first mid steps answers i → length answers ≡ i → i < length steps → x ≡ get_or steps i x → more ≡ answers ++ a ∷ []
+      → IsAnswerOf x a → Draws mid.next (x, a) now.next → Moves fault_count mid (x, a) now → (is_honest now.keeper.disk → is_honest mid.keeper.disk) → Told fault_count is_honest first now steps more (i + 1)
+  told_goes_on mid now answers more i x a told count inside at is own draws moves honest =
+      let pairs = zip-more steps answers more i x a count inside at is in
+      record {
+        own = subst AreAnswered (sym pairs) (all_append (λ y. IsAnswerOf y.0 y.1) (zip (take i steps) answers) ((x, a) ∷ []) told.own (own, tt));
+        drawn = subst (λ l. Leads Draws l first.next now.next) (sym pairs) (leads_push Draws (zip (take i steps) answers) (x, a) first.next mid.next now.next told.drawn draws);
+        moves = subst (λ l. Leads (Moves fault_count) l first now) (sym pairs) (leads_push (Moves fault_count) (zip (take i steps) answers) (x, a) first mid now told.moves moves);
+        honest = λ h. told.honest (honest h);
+      }

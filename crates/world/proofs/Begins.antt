@@ -18,7 +18,7 @@ use Rattle.gate_block.specs.declared.area.Area.{Area}
 use Rattle.gate_block.specs.Row.{IsRow}
 use Rattle.gate_block.specs.Area.{base_of, size_of, bytes_of, IsReady}
 use Rattle.records.specs.declared.record.Record.{Record}
-use Rattle.records.specs.Records.{spelling, IsRecord}
+use Rattle.records.specs.Records.{spelling, IsRecord, AreRecords}
 use Rattle.txn.specs.declared.block.Block.{Block}
 use Rattle.txn.specs.Machines.{resting}
 use Rattle.txn.specs.Books.{opened}
@@ -30,14 +30,18 @@ use Rattle.txn.proofs.Steps as steps
 use Rattle.txn.proofs.Statuses.{nobody}
 use Rattle.checkpoint.specs.Keepers.{KeeperState, IsFresh, queue}
 use Rattle.recovery.specs.Journals.{records_in}
-use Rattle.recovery.specs.Steps.{State, Steps, Repeats, empty_state}
-use Rattle.recovery.specs.Repetitions.{next_from}
+use Rattle.recovery.specs.Steps.{State}
+use Rattle.recovery.specs.Reading.{Unread, InJournal, Reads, AreAccepted, last_named}
+use Rattle.recovery.specs.Repetitions.{AreRead}
 use Rattle.recovery.specs.Openings.{IsOpened, IsReadyStore}
 use Rattle.recovery.proofs.Lists.{leads_append, flat_map-append, all_append}
 use Rattle.recovery.proofs.UndoRecords.{blocks_hold}
+use Rattle.recovery.proofs.CatalogLaws.{laws}
+use Rattle.recovery.proofs.RepeatLemmas.{records_append, read_records}
+use Rattle.recovery.proofs.Parts.{journal_reads}
+use Rattle.recovery.proofs.Contents.{sound_behind}
 use Rattle.world.specs.Pasts.{BookState}
 use Rattle.world.specs.Worlds.{IsBase, IsHeaded, HasPast, parts_of}
-use Rattle.world.proofs.CatalogLaws.{laws}
 use Rattle.world.proofs.TrailLemmas.{trails_self}
 use Rattle.world.proofs.YieldLemmas.{yields, holds_row, spelt}
 use Rattle.world.proofs.TurnLemmas.{outside_headed}
@@ -64,11 +68,9 @@ module _ (s : State) (sound : IsSound AnswersAt after_at Makes need_of inverse_o
       ∙ ap (λ es. let t : State = record { now = s.now; live = maps.empty; entries = es; holds = s.holds; wear = s.wear } in t) none.0
       ∙ ap (λ hs. let t : State = record { now = s.now; live = maps.empty; entries = []; holds = hs; wear = s.wear } in t) nothing_held
 
--- records that lead from the empty store to a state with no live transaction lead to one at rest
-run_at_rest : (rs : List Record) (t : State) → Repeats rs empty_state t → t.live ≡ maps.empty → Repeats rs empty_state (resting t.now t.wear)
-run_at_rest rs t run idle =
-    let all = played.all_repeated AnswersAt after_at Makes need_of inverse_of laws.rules Belongs Misplaced names_of rs [] empty_state t [] (steps.opened_sound AnswersAt after_at Makes need_of inverse_of laws.rules [] 0) (λ n running. refl) refl run in
-    subst (Repeats rs empty_state) (at_rest t all.sound idle) run
+all_in : (blocks : List (List Record)) → AllByRecursion AreRead blocks → AreRead (records_in blocks)
+all_in [] read = tt
+all_in (b ∷ blocks) read = all_append (IsRecord None) b (records_in blocks) read.0 (all_in blocks read.1)
 
 -- ---- the area lies in the disk
 
@@ -88,13 +90,25 @@ lies_inside base size len r base_is len_is =
 -- ---- the past begins
 
 module _ {D : Type 0} (seen : D → List ℕ) (may_leave : D → List ℕ → Type 0) (bytes : List ℕ) (book : BookState) (disk : D) (area : Area) (told : IsOpened bytes book area (seen disk)) (ready : IsReadyStore seen may_leave bytes book area disk) where
+  -- behind what was read the records of the undoing lead to a state at rest
+  rested : told.undone ≡ resting told.undone.now told.undone.wear
+  rested = at_rest told.undone (sound_behind (records_in told.blocks) told.next told.state told.count told.is_read.accepted told.undoing told.undone told.undo.leads) told.undo.over
+
   base : IsBase (told.blocks ++ told.written) told.undone.now told.undone.wear
-  base = record {
-    journal = told.journal ++ told.undoing;
-    is = flat_map-append (λ rs. rs) told.blocks told.written ∙ ap (λ l. l ++ records_in told.written) told.is_read.is ∙ ap (λ l. Record.Marks 1 0 ∷ (Record.ImageEnd ∷ (told.journal ++ l))) (blocks_hold told.undoing told.written told.in_blocks);
-    good = all_append (AllByRecursion (IsRecord None)) told.blocks told.written told.is_read.read told.read_too;
-    repeats = run_at_rest (told.journal ++ told.undoing) told.undone (leads_append Steps told.journal told.undoing empty_state told.state told.undone told.is_read.repeats told.undo.leads) told.undo.over;
-  }
+  base =
+      let more = journal_reads told.undoing told.next told.state told.undone told.count told.undo.leads in
+      let all : records_in (told.blocks ++ told.written) ≡ records_in told.blocks ++ told.undoing = flat_map-append (λ rs. rs) told.blocks told.written ∙ ap (λ l. records_in told.blocks ++ l) (blocks_hold told.undoing told.written told.in_blocks) in
+      record {
+        next = more.0;
+        count = more.1;
+        good =
+            subst (AreRecords None) (sym (flat_map-append (λ rs. rs) told.blocks told.written))
+            (records_append None (records_in told.blocks) (records_in told.written) told.is_read.good (read_records (last_named None (records_in told.blocks)) (records_in told.written) (all_in told.written told.read_too)));
+        accepted =
+            subst (λ l. AreAccepted l more.0 (resting told.undone.now told.undone.wear) more.1) (sym all)
+            (subst (λ v. AreAccepted (records_in told.blocks ++ told.undoing) more.0 v more.1) rested
+            (leads_append Reads (records_in told.blocks) told.undoing Unread (InJournal told.next told.state told.count) (InJournal more.0 told.undone more.1) told.is_read.accepted more.2));
+      }
 
   headed : IsHeaded area (seen disk)
   headed = outside_headed area bytes (seen disk) told.elsewhere (record { header = told.header; picks = sym told.picks })
@@ -105,9 +119,9 @@ module _ {D : Type 0} (seen : D → List ℕ) (may_leave : D → List ℕ → Ty
   none_more : (told.blocks ++ told.written) ++ [] ≡ told.blocks ++ told.written
   none_more = append-nil (told.blocks ++ told.written)
 
-  starts : HasPast seen may_leave told.undone.now [] (record { book = opened told.undone.now (next_from 1 told.journal) told.undone.wear; disk = disk; area = area; failed = false; waiting = []; mark = 0 })
+  starts : HasPast seen may_leave told.undone.now [] (record { book = opened told.undone.now told.next told.undone.wear; disk = disk; area = area; failed = false; waiting = []; mark = 0 })
   starts = record {
-    next = next_from 1 told.journal;
+    next = told.next;
     wear = told.undone.wear;
     legal = refl;
     trail = resting told.undone.now told.undone.wear;
@@ -144,6 +158,6 @@ pub past_begins : {D : Type 0} (seen : D → List ℕ) (may_leave : D → List �
 past_begins seen may_leave bytes book keeper transit fresh none told ready =
     let P : BookState → Bool → List Block → Type 0 = λ b f q. HasPast seen may_leave b.state.now [] (record { book = b; disk = keeper.disk; area = keeper.area; failed = f; waiting = q; mark = 0 }) in
     subst (λ b. P b keeper.failed (queue keeper.held transit)) (sym told.book_is)
-    (subst (λ f. P (opened told.undone.now (next_from 1 told.journal) told.undone.wear) f (queue keeper.held transit)) (sym fresh.fine)
-    (subst (λ q. P (opened told.undone.now (next_from 1 told.journal) told.undone.wear) false q) (sym (ap (λ h. queue h transit) fresh.holds_none ∙ none))
+    (subst (λ f. P (opened told.undone.now told.next told.undone.wear) f (queue keeper.held transit)) (sym fresh.fine)
+    (subst (λ q. P (opened told.undone.now told.next told.undone.wear) false q) (sym (ap (λ h. queue h transit) fresh.holds_none ∙ none))
     (starts seen may_leave bytes book keeper.disk keeper.area told ready)))

@@ -1,4 +1,3 @@
-pub mod CatalogLaws
 pub mod History
 pub mod PastLemmas
 pub mod TrailLemmas

@@ -18,7 +18,7 @@ use Rattle.records.specs.declared.record.Record.{Record}
 use Rattle.records.specs.Records.{spelling, IsRecord, call_record}
 use Rattle.records.specs.Acts.{places}
 use Rattle.calls.specs.Inverses.{inverse_of}
-use Rattle.txn.specs.Books.{Appends, later_record}
+use Rattle.txn.specs.Books.{Appends, CutAnswers, later_record}
 use Rattle.recovery.specs.Steps.{Steps}
 use Rattle.recovery.specs.Journals.{records_in}
 use Rattle.checkpoint.specs.declared.laying.Laying.{Laying}
@@ -47,6 +47,16 @@ yields_on start past more known c y =
 head_carried : (end place : ℕ) (b : Block) (waiting : List Block) (handed : List (List Record)) → Carries end place (b ∷ waiting) handed → (rs : List Record) × ((rest : List (List Record)) × (handed ≡ rs ∷ rest))
 head_carried end place b waiting [] carried = absurd carried
 head_carried end place b waiting (rs ∷ rest) carried = (rs, (rest, refl))
+
+-- a cut that is refused leaves the book and the blocks in transit
+uncut : (s t : BookState) (waiting waits : List Block) (e : Refusal) → CutAnswers s waiting (4 ≤ length waiting) (Err e) waits t → (t ≡ s) × (waits ≡ waiting)
+uncut s t waiting waits Refusal.NotNow step =
+    let cut = step.0 in (
+      step.1 ∙ ap (λ l. let v : BookState = record s { pending = l; freezes = t.freezes; end = t.end; place = t.place } in v) cut.2 ∙ ap (λ l. let v : BookState = record s { freezes = l; end = t.end; place = t.place } in v) cut.5
+          ∙ ap (λ n. let v : BookState = record s { end = n; place = t.place } in v) cut.3 ∙ ap (λ n. let v : BookState = record s { place = n } in v) cut.4,
+      cut.1,
+    )
+uncut s t waiting waits e step = absurd step.0
 
 module _ {D : Type 0} (seen : D → List ℕ) (may_leave : D → List ℕ → Type 0) (start : List Collection) (past : Past) (w : Parts D) (had : HasPast seen may_leave start past w) where
   grows : (s : Step) (a : Answer) (r : Record) (t : BookState) (waits : List Block) → BookStep w.book (s, a) t → records_of_step s a ≡ r ∷ [] → told s a ≡ 0 → Steps w.book.state r t.state → Appends w.book r t → AllByRecursion (IsRecord None) t.pending → waits ≡ w.waiting →
@@ -92,7 +102,9 @@ module _ {D : Type 0} (seen : D → List ℕ) (may_leave : D → List ℕ → Ty
   core_past (Step.Cut, Answer.Cut false) t waits good step =
       let cut = step.0 in
       quietly Step.Cut (Answer.Cut false) t waits (w.waiting, waits, step) refl (omega arith) cut.2 cut.3 cut.4 (subst (Trails had.trail) (sym (ap (λ (x : BookState). x.state) step.1)) had.trails) cut.1
-  core_past (Step.Cut, Answer.Refused e) t waits good step = unchanged Step.Cut (Answer.Refused e) t waits step.0 step.0 step.1 refl (omega arith)
+  core_past (Step.Cut, Answer.Refused e) t waits good step =
+      let same = uncut w.book t w.waiting waits e step in
+      unchanged Step.Cut (Answer.Refused e) t waits same.0 same.0 same.1 refl (omega arith)
   core_past (Step.Draw, Answer.Drawn n) t waits good step = unchanged Step.Draw (Answer.Drawn n) t waits step.0 step.0 step.1 refl (omega arith)
   core_past (Step.Draw, Answer.Refused e) t waits good step = unchanged Step.Draw (Answer.Refused e) t waits step.0 step.0 step.1 refl (omega arith)
   core_past (Step.Look, Answer.Marked m) t waits good step = unchanged Step.Look (Answer.Marked m) t waits step.0 step.0 step.2 refl (omega (arith, step.1))
@@ -226,8 +238,10 @@ mark_is q waiting failed fails m mark is_covered is_past is_full is_same is_rise
 -- a block that the keeper holds stays before those in transit
 pub core_held : (held : Option Block) (s t : BookState) (transit left : List Block) (mark : ℕ) (x : Step × Answer) → CoreStep s transit mark x t left → CoreStep s (queue held transit) mark x t (queue held left)
 core_held None s t transit left mark x step = step
-core_held (Some b) s t transit left mark (Step.Cut, Answer.Cut true) step = ((step.0.0, ap (λ l. b ∷ l) step.0.1, step.0.2, step.0.3, step.0.4), step.1)
-core_held (Some b) s t transit left mark (Step.Cut, Answer.Cut false) step = ((step.0.0, ap (λ l. b ∷ l) step.0.1, step.0.2, step.0.3, step.0.4), step.1)
+core_held (Some b) s t transit left mark (Step.Cut, Answer.Cut true) step = ((step.0.0, ap (λ l. b ∷ l) step.0.1, step.0.2, step.0.3, step.0.4, step.0.5), step.1)
+core_held (Some b) s t transit left mark (Step.Cut, Answer.Cut false) step = ((step.0.0, ap (λ l. b ∷ l) step.0.1, step.0.2, step.0.3, step.0.4, step.0.5), step.1)
+core_held (Some b) s t transit left mark (Step.Cut, Answer.Refused Refusal.NotNow) step = ((omega (arith, step.0.0), ap (λ l. b ∷ l) step.0.1, step.0.2, step.0.3, step.0.4, step.0.5, step.0.6), step.1)
+core_held (Some b) s t transit left mark (Step.Cut, Answer.Refused e) step = absurd step.0
 core_held (Some b) s t transit left mark (Step.Look, Answer.Marked m) step = (step.0, step.1, ap (λ l. b ∷ l) step.2)
 core_held (Some b) s t transit left mark (Step.Turn, a) step = absurd step
 core_held (Some b) s t transit left mark x step = (step.0, ap (λ l. b ∷ l) step.1)

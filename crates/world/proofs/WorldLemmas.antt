@@ -131,7 +131,7 @@ module _ {D : Type 0} (seen : D → List ℕ) (may_leave : D → List ℕ → Ty
       }
 
   -- a cut hands a block over
-  pub hands_over : (t : BookState) (b : Block) → BookStep w.book (Step.Cut, Answer.Cut true) t → HandsOver w.book.pending w.book.end w.book.place b t.pending → t.end ≡ b.end → t.place ≡ b.place → t.state ≡ w.book.state →
+  pub hands_over : (t : BookState) (b : Block) → BookStep w.book (Step.Cut, Answer.Cut true) t → HandsOver w.book.pending w.book.freezes w.book.end w.book.place b t.pending → t.end ≡ b.end → t.place ≡ b.place → t.state ≡ w.book.state →
       HasPast seen may_leave start (past ++ (Step.Cut, Answer.Cut true) ∷ []) (record w { book = t; waiting = w.waiting ++ b ∷ [] })
   hands_over t b step cut end_is place_is state_is =
       let rs : List Record = cut.first in

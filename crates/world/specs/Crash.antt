@@ -4,7 +4,7 @@ use mathlib.Core.List.{IsPrefix}
 use Rattle.calls.specs.Contents.{Collection}
 use Rattle.calls.specs.Transactions.{Transaction, Serial}
 use Rattle.recovery.specs.Journals.{StandsFor}
-use Rattle.recovery.specs.Steps.{IsSound}
+use Rattle.recovery.specs.Reading.{IsSound}
 use Rattle.world.specs.Pasts.{Past, committed_in}
 
 -- The bytes are sound, and stand for a content that some beginning of the committed transactions of the past gives, each run whole, one

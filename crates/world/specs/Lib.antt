@@ -1,3 +1,4 @@
 pub mod Pasts
 pub mod Crash
 pub mod Worlds
+pub mod Moves

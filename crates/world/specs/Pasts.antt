@@ -1,5 +1,5 @@
 -- Pasts: steps with their answers; what they have committed, and what was acknowledged.
-use Rattle.std.specs.Prelude.{◌≡◌, ℕ, ◌+◌, ◌<◌, ◌≤◌, ◌^◌, max, true, List, [], ◌∷◌, take, Result, Ok, Err}
+use Rattle.std.specs.Prelude.{◌≡◌, ℕ, ◌+◌, ◌<◌, ◌≤◌, ◌^◌, max, true, List, [], ◌∷◌, length, take, Result, Ok, Err}
 use Rattle.std.specs.List.{flat_map, AllByRecursion}
 use Rattle.calls.specs.Contents.{Collection, AnswersAt, after_at}
 use Rattle.calls.specs.Transactions.{Transaction, Act, Begins, Asks, Commits, Creates, Asked, PutOff, committed, Leads, Makes}
@@ -98,9 +98,11 @@ BookStep s x t = ⊥
 abbrev pub IsLegal : BookState → Past → BookState → Type 0
 IsLegal s past t = Leads BookStep past s t
 
--- A step other than a turn, with its answer, leads a book and the blocks in transit on; the mark is the one that a look answers.
+-- A step other than a turn, with its answer, leads a book and the blocks in transit on; the mark is the one that a look answers. No block is handed over
+-- where four wait.
 abbrev pub CoreStep : BookState → List Block → ℕ → Step × Answer → BookState → List Block → Type 0
 CoreStep s waiting mark (Step.Cut, Answer.Cut handed) t waits = books.CutAnswers s waiting (Unit {0}) (Ok handed) waits t
+CoreStep s waiting mark (Step.Cut, Answer.Refused e) t waits = books.CutAnswers s waiting (4 ≤ length waiting) (Err e) waits t
 CoreStep s waiting mark (Step.Look, Answer.Marked m) t waits = (t ≡ s) × (m ≡ mark) × (waits ≡ waiting)
 CoreStep s waiting mark (Step.Turn, a) t waits = ⊥
 CoreStep s waiting mark x t waits = BookStep s x t × (waits ≡ waiting)

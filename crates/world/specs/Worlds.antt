@@ -7,7 +7,7 @@ use Rattle.gate_block.specs.Row.{IsBlockOf}
 use Rattle.gate_block.specs.declared.area.Area.{Area}
 use Rattle.gate_block.specs.Area.{base_of, size_of, IsReady}
 use Rattle.records.specs.declared.record.Record.{Record}
-use Rattle.records.specs.Records.{spelling, IsRecord}
+use Rattle.records.specs.Records.{spelling, IsRecord, AreRecords}
 use Rattle.records.specs.Acts.{places}
 use Rattle.undo_log.specs.Entries.{HasNoCall}
 use Rattle.undo_log.specs.Logs.{Lives, Falls}
@@ -16,7 +16,8 @@ use Rattle.txn.specs.Machines.{resting}
 use Rattle.txn.specs.Books.{opened}
 use Rattle.checkpoint.specs.Keepers.{queue, KeeperState}
 use Rattle.recovery.specs.Journals.{IsHeader, base_in_use, records_in}
-use Rattle.recovery.specs.Steps.{State, Repeats, empty_state}
+use Rattle.recovery.specs.Steps.{State, Repeats}
+use Rattle.recovery.specs.Reading.{AreAccepted}
 use Rattle.world.specs.Pasts.{Past, BookState, records_of, IsLegal, committed_in, greatest_told}
 use Rattle.world.specs.Crash.{Yields}
 
@@ -40,12 +41,12 @@ Carries end place [] (rs ∷ rss) = ⊥
 Carries end place (b ∷ bs) [] = ⊥
 Carries end place (b ∷ bs) (rs ∷ rss) = IsCarried end place b rs × Carries (end + length rs) (place + places rs) bs rss
 
--- What an area held once its store was opened: the empty image, and a journal that leads from the empty store to one with no live transaction.
+-- What an area held once its store was opened: an image and a journal that are read, and lead to a state with no live transaction.
 pub record IsBase (blocks : List (List Record)) (start : List Collection) (wear : ℕ) : Type 0 where
-  pub journal : List Record
-  pub is : records_in blocks ≡ Record.Marks 1 0 ∷ (Record.ImageEnd ∷ journal)
-  pub good : AllByRecursion (AllByRecursion (IsRecord None)) blocks
-  pub repeats : Repeats journal empty_state (resting start wear)
+  pub next : ℕ
+  pub count : ℕ
+  pub good : AreRecords None (records_in blocks)
+  pub accepted : AreAccepted (records_in blocks) next (resting start wear) count
 
 -- The disk has this head, and its root picks the area.
 pub record IsHeaded (area : Area) (bytes : List ℕ) : Type 0 where

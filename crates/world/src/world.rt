@@ -10,6 +10,7 @@ ghost use Rattle.world.specs.Crash.{Yields};
 ghost use Rattle.checkpoint.specs.Keepers.{IsFresh};
 ghost use Rattle.recovery.specs.Openings.{IsOpened, IsReadyStore};
 ghost use Rattle.world.specs.Worlds.{HasPast, parts_of};
+ghost use Rattle.world.specs.Moves.{Moves, whole_of};
 
 use crate::core_steps;
 use crate::steps::{Answer, Step};
@@ -87,6 +88,9 @@ impl<D: Disk> World<D> {
         ensures mark { self.old.mark ≤ self.new.mark }
         ensures own { IsAnswerOf Step.Turn result }
         ensures drawn { self.new.next ≡ self.old.next }
+        ensures honest { D.is_honest self.new.keeper.disk → D.is_honest self.old.keeper.disk }
+        ensures moves { Moves D.fault_count (whole_of self.old.book self.old.keeper self.old.transit.blocks.items self.old.mark self.old.next) (Step.Turn, result)
+            (whole_of self.new.book self.new.keeper self.new.transit.blocks.items self.new.mark self.new.next) }
     {
         let turned = self.keeper.turn(&mut self.transit);
         self.mark = mark_after(self.mark, &turned);
@@ -105,6 +109,9 @@ impl<D: Disk> World<D> {
         ensures mark { self.old.mark ≤ self.new.mark }
         ensures own { IsAnswerOf step.now result }
         ensures drawn { Draws self.old.next (step.now, result) self.new.next }
+        ensures honest { D.is_honest self.new.keeper.disk → D.is_honest self.old.keeper.disk }
+        ensures moves { Moves D.fault_count (whole_of self.old.book self.old.keeper self.old.transit.blocks.items self.old.mark self.old.next) (step.now, result)
+            (whole_of self.new.book self.new.keeper self.new.transit.blocks.items self.new.mark self.new.next) }
     {
         match step {
             Step::Turn => self.turn(),
@@ -124,8 +131,9 @@ impl<D: Disk> World<D> {
 /// For every past that the world has, it afterwards has that past followed by the steps with their answers. Whatever a
 /// stop at any moment since the call began might have left, also within a device write, is sound and stands for a
 /// content that some beginning of the committed transactions gives, each run whole, one after another, with the replies
-/// that its client got; and that beginning holds all that was acknowledged before. Each step is answered in its own way
-/// or refused, and the draws among them give the next numbers, one after another.
+/// that its client got; and that beginning holds all that was acknowledged before. Each step is answered as the book, the
+/// keeper or the mark answers it there (`Moves`), in its own way or refused, and the draws among them give the next
+/// numbers, one after another.
 ///
 /// Refused only for want of memory, with no step taken.
 pub fn play<D: Disk>(
@@ -145,6 +153,10 @@ pub fn play<D: Disk>(
     ensures drawn { IfOk result (λ answers. Leads Draws (zip steps.now answers.items) world.old.next world.new.next) }
     ensures only { IsOkUnless result Refusal.NoMemory }
     ensures err { OnErr result (world.new ≡ world.old) }
+    ensures honest { D.is_honest world.new.keeper.disk → D.is_honest world.old.keeper.disk }
+    ensures moves { IfOk result (λ answers. Leads (Moves D.fault_count) (zip steps.now answers.items)
+        (whole_of world.old.book world.old.keeper world.old.transit.blocks.items world.old.mark world.old.next)
+        (whole_of world.new.book world.new.keeper world.new.transit.blocks.items world.new.mark world.new.next)) }
 {
     let mut answers = Vec::with_capacity(alloc, steps.len())?;
     for step in steps {

@@ -17,11 +17,11 @@ fn a_head_is_no_more(rt: HostRuntime) -> Result<(), Fail> {
     Ok(())
 }
 
-// The gate, the length, the marks and the end of the image.
+// The gate, the length, the marks with two numbers that are too great, and the end of the image.
 #[test]
 fn an_image_is_damaged(rt: HostRuntime) -> Result<(), Fail> {
-    for at in [4096, 4099, 4100, 4101, 4109, 4117, 4118] {
-        check_refused(&rt, changed(&rt, at, 2)?, Refusal::Damaged(4096));
+    for at in [4096, 4099, 4100, 4101, 4102, 4110, 4118] {
+        check_refused(&rt, changed(&rt, at, 33)?, Refusal::Damaged(4096));
     }
     check_refused(&rt, changed(&rt, 4119, 0xa7)?, Refusal::Damaged(4119));
     Ok(())

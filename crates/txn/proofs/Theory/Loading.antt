@@ -44,7 +44,7 @@ module _ {S E M N : Type 0} {rules : Rules S E M N} (laws : RuleLaws rules) wher
     fallers = sound.fallers;
   })
 
-  load_sound : (e : Entry E) (s t : State S E N) → IsSound rules s → LoadRow rules s e t → IsSound rules t
+  pub load_sound : (e : Entry E) (s t : State S E N) → IsSound rules s → LoadRow rules s e t → IsSound rules t
   load_sound (Asked x) s t sound row = load_asked x s t sound row
   load_sound (PutOff d) s t sound row = load_put d s t sound row
 

@@ -34,7 +34,7 @@ impl Outbox for Shelf {
 }
 
 // The bytes, each by two digits.
-fn spelled(alloc: Global, bytes: &[u8]) -> Result<String, Fail> {
+pub(crate) fn spelled(alloc: Global, bytes: &[u8]) -> Result<String, Fail> {
     let mut text = String::new(alloc);
     for byte in bytes {
         write!(&mut text, "{byte:02x}")?;
@@ -102,7 +102,11 @@ fn put_often(
     Ok(())
 }
 
-fn check_sizes(rt: &(impl Abort + AllocGlobal), shelf: &Shelf, wanted: &str) -> Result<(), Fail> {
+pub(crate) fn check_sizes(
+    rt: &(impl Abort + AllocGlobal),
+    shelf: &Shelf,
+    wanted: &str,
+) -> Result<(), Fail> {
     let mut sizes = String::new(rt.alloc());
     for block in &shelf.blocks {
         write!(&mut sizes, "{} {};", block.bytes.len(), block.end)?;

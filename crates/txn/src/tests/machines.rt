@@ -51,7 +51,7 @@ fn digit(byte: u8) -> Option<u8> {
 }
 
 // The bytes that a text spells, each by two digits.
-fn bytes_of(alloc: Global, text: &str) -> Result<Vec<u8>, Fail> {
+pub(super) fn bytes_of(alloc: Global, text: &str) -> Result<Vec<u8>, Fail> {
     let mut out = Vec::new(alloc);
     let mut high = None;
     for digit in text.as_bytes().iter().filter_map(|byte| digit(*byte)) {
@@ -67,7 +67,7 @@ fn bytes_of(alloc: Global, text: &str) -> Result<Vec<u8>, Fail> {
 }
 
 // Repeats the records that the text spells, at most ten.
-fn check_repeated(
+pub(super) fn check_repeated(
     rt: &(impl Abort + AllocGlobal),
     machine: &mut Machine<Catalog>,
     text: &str,

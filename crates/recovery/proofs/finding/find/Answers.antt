@@ -15,36 +15,36 @@ returns-in_err-base-clause-refused g c =
     rw (p.1, p.2)
     (head_find_refusal _ _ _ c.in_err-base.field-0.0 c.in_err-base.ensures.refused)
 
-pub returns-in_err-repetition-clause-refused : goal.returns-in_err-repetition-clause-refused
-returns-in_err-repetition-clause-refused g c =
-    let p = err_from_is_err_and c.from_residual-in_err-repetition.result c.from_residual-in_err-repetition.ensures.1 in
+pub returns-in_err-repeated-clause-refused : goal.returns-in_err-repeated-clause-refused
+returns-in_err-repeated-clause-refused g c =
+    let p = err_from_is_err_and c.from_residual-in_err-repeated.result c.from_residual-in_err-repeated.ensures.1 in
     rw (p.1, p.2)
-    (load_find_refusal _ _ _ (g.D.Disk.is_honest c.load.new.disk) (g.D.Disk.seen c.args.disk.now) c.in_ok-base.size c.in_ok-base.base c.in_err-repetition.field-0.0
+    (load_find_refusal _ _ _ (g.D.Disk.is_honest c.load.new.disk) (g.D.Disk.seen c.args.disk.now) c.in_ok-base.size c.in_ok-base.base c.in_err-repeated.field-0.0
     (rises_before _ _ _ c.area_in_use.ensures.faults c.load.ensures.faults)
     (λ true_read. c.in_ok-base.ensures.header (c.load.ensures.honest true_read))
-    (subst (λ b. IsLoadRefusal (Rises (g.D.Disk.fault_count c.area_in_use.new.disk) (g.D.Disk.fault_count c.load.new.disk)) (Spoils (g.D.Disk.is_honest c.load.new.disk) c.in_ok-base.base c.in_ok-base.size b) c.in_err-repetition.field-0.0)
-    c.area_in_use.ensures.reads.same c.in_err-repetition.ensures.refused))
+    (subst (λ b. IsLoadRefusal (Rises (g.D.Disk.fault_count c.area_in_use.new.disk) (g.D.Disk.fault_count c.load.new.disk)) (Spoils (g.D.Disk.is_honest c.load.new.disk) c.in_ok-base.base c.in_ok-base.size b) c.in_err-repeated.field-0.0)
+    c.area_in_use.ensures.reads.same c.in_err-repeated.ensures.refused))
 
 pub returns-clause-found : goal.returns-clause-found
 returns-clause-found g c =
-    let found = c.in_ok-repetition.field-0 in
-    let area = c.in_ok-repetition.ensures.area in
+    let found = c.in_ok-repeated.field-0 in
+    let area = c.in_ok-repeated.ensures.area in
     let old = g.D.Disk.seen c.args.disk.now in
     let base = c.in_ok-base.base in
     let size = c.in_ok-base.size in
     record {
-      state = found.repetition.machine;
+      state = found.repeated.machine;
       undo = c.in_ok-records.ensures.undo;
       marks = c.in_ok-records.ensures.records;
       stored = λ true_read.
           let header = c.in_ok-base.ensures.header (c.load.ensures.honest true_read) in
-          stored_there old found.area base size found.repetition.machine found.repetition.next found.repetition.count header.0 header.1 area.0 area.1
-          (subst (λ b. IsLoaded base size b found.repetition.machine found.repetition.next found.repetition.count (position_of found.area)) c.area_in_use.ensures.reads.same (c.in_ok-repetition.ensures.loaded true_read));
+          stored_there old found.area base size found.repeated.machine found.repeated.next found.repeated.count header.0 header.1 area.0 area.1
+          (subst (λ b. IsLoaded base size b found.repeated.machine found.repeated.next found.repeated.count (position_of found.area)) c.area_in_use.ensures.reads.same (c.in_ok-repeated.ensures.loaded true_read));
       placed = record {
         fine = area.2;
         one = one_of_two found.area base size (length old) area.0 area.1 c.in_ok-base.ensures.one.0 c.in_ok-base.ensures.one.1;
         small = omega (arith, area.1, c.in_ok-base.ensures.inside.1);
-        behind = omega (arith, area.1, c.in_ok-repetition.ensures.place, found.area.inside);
+        behind = omega (arith, area.1, c.in_ok-repeated.ensures.place, found.area.inside);
       };
       collections = c.len.ensures.len ∙ ap length c.parts.ensures;
       unfinished = c.count_live.ensures;

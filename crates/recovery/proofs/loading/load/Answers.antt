@@ -1,10 +1,10 @@
-use Rattle.std.proofs.Common.{◌≡◌, [], length, arith, refl, sym, subst, ap}
+use Rattle.std.proofs.Common.{◌≡◌, length, arith, sym, subst, ap}
 use Rattle.std.proofs.lemmas.Result.{err_from_is_err_and}
 use Rattle.std.proofs.Common.{MatchOption, Option, Vec, ℕ, List, ◌+◌, Some, ◌∙◌}
 use Rattle.std.specs.declared.alloc.Global.{Global}
 use Rattle.gate_block.specs.Row.{Finds, StandsAt}
 use Rattle.gate_block.specs.Area.{body_in}
-use Rattle.recovery.proofs.LoadLemmas.{none_yet, loading_starts, gate_refused, body_refused, loads_on, end_refused, loads}
+use Rattle.recovery.proofs.LoadLemmas.{loading_starts, gate_refused, body_refused, loads_on, end_refused, loads}
 use Rattle.recovery.proofs.loading.load.Goals as goal
 
 stands_there : (found : Option (Vec ℕ Global)) (v : Vec ℕ Global) (body bytes : List ℕ) (p : ℕ) → found ≡ Some v → body ≡ v.items → Finds bytes p (body_in found) → StandsAt bytes p body
@@ -19,33 +19,33 @@ returns-in_err-body-clause-refused g c =
     rw (p.1, p.2)
     (gate_refused c.loop-repetition.invariant c.next_block.new.disk c.next_block.ensures.reads c.next_block.ensures.honest c.next_block.ensures.faults (Option (Vec ℕ Global)) _ c.in_err-body.field-0.0 c.in_err-body.ensures.answer)
 
-pub returns-in_err-repeat_body-clause-refused : goal.returns-in_err-repeat_body-clause-refused
-returns-in_err-repeat_body-clause-refused g c =
-    let p = err_from_is_err_and c.from_residual-in_err-repeat_body.result c.from_residual-in_err-repeat_body.ensures.1 in
+pub returns-in_err-repetition-clause-refused : goal.returns-in_err-repetition-clause-refused
+returns-in_err-repetition-clause-refused g c =
+    let p = err_from_is_err_and c.from_residual-in_err-repetition.result c.from_residual-in_err-repetition.ensures.1 in
     rw (p.1, p.2)
-    (body_refused c.loop-repetition.invariant c.next_block.new.disk c.next_block.ensures.reads c.next_block.ensures.honest c.next_block.ensures.faults c.as_slice.result.now c.in_err-repeat_body.field-0.0
+    (body_refused c.loop-repetition.invariant c.next_block.new.disk c.next_block.ensures.reads c.next_block.ensures.honest c.next_block.ensures.faults c.as_slice.result.now c.in_err-repetition.field-0.0
     (λ true_read. stands_there c.in_ok-body.field-0 c.in-Some.body c.as_slice.result.now _ _ c.in-Some.is c.as_slice.ensures.value (c.in_ok-body.ensures.found true_read))
-    c.in_err-repeat_body.ensures.err)
+    c.in_err-repetition.ensures.err)
 
 pub loop-repetition-init : goal.loop-repetition-init
 loop-repetition-init g c =
-    loading_starts g.D.Disk.seen g.D.Disk.may_leave g.D.Disk.moment g.D.Disk.left_since g.D.Disk.is_honest g.D.Disk.fault_count c.args.disk.now c.args.base c.args.size c.start-area.result _ _ _ c.new-repetition.result.count
-    (g.met.D.Disk.only_now c.args.disk.now) c.start-area.ensures.base c.start-area.ensures.size c.start-area.ensures.position c.start-area.ensures.failed (none_yet [] c.new-repetition.result.part c.new-repetition.result.machine c.new-repetition.result.next c.new-repetition.result.count refl c.new-repetition.ensures) c.new-repetition.ensures
+    loading_starts g.D.Disk.seen g.D.Disk.may_leave g.D.Disk.moment g.D.Disk.left_since g.D.Disk.is_honest g.D.Disk.fault_count c.args.disk.now c.args.base c.args.size c.start-area.result _ _ _
+    (g.met.D.Disk.only_now c.args.disk.now) c.start-area.ensures.base c.start-area.ensures.size c.start-area.ensures.position c.start-area.ensures.failed c.new-repetition.ensures.kind c.new-repetition.ensures.stage
 
 pub loop-repetition-preserved : goal.loop-repetition-preserved
 loop-repetition-preserved g c =
-    loads_on c.loop-repetition.invariant c.next_block.new.disk c.next_block.ensures.reads c.next_block.ensures.honest c.next_block.ensures.faults c.next_block.new.self c.as_slice.result.now _ _ _ _ _
+    loads_on c.loop-repetition.invariant c.next_block.new.disk c.next_block.ensures.reads c.next_block.ensures.honest c.next_block.ensures.faults c.next_block.new.self c.as_slice.result.now _ _ _ _
     (λ true_read. stands_there c.in_ok-body.field-0 c.in-Some.body c.as_slice.result.now _ _ c.in-Some.is c.as_slice.ensures.value (c.in_ok-body.ensures.found true_read))
-    c.next_block.ensures.base c.next_block.ensures.size c.in_ok-body.ensures.answer.1 (position_there c.in_ok-body.field-0 c.in-Some.body c.as_slice.result.now _ _ c.in-Some.is c.as_slice.ensures.value c.in_ok-body.ensures.position) (omega (arith, c.len.ensures, ap length c.as_slice.ensures.value)) c.in_ok-repeat_body.ensures.ok c.in_ok-repeat_body.ensures.few
+    c.next_block.ensures.base c.next_block.ensures.size c.in_ok-body.ensures.answer.1 (position_there c.in_ok-body.field-0 c.in-Some.body c.as_slice.result.now _ _ c.in-Some.is c.as_slice.ensures.value c.in_ok-body.ensures.position) (omega (arith, c.len.ensures, ap length c.as_slice.ensures.value)) c.in_ok-repetition.ensures.ok c.in_ok-repetition.ensures.fit c.in_ok-repetition.ensures.few
 
-pub returns-in_err-check_whole-clause-refused : goal.returns-in_err-check_whole-clause-refused
-returns-in_err-check_whole-clause-refused g c =
-    let p = err_from_is_err_and c.from_residual-in_err-check_whole.result c.from_residual-in_err-check_whole.ensures.1 in
+pub returns-in_err-repeated-clause-refused : goal.returns-in_err-repeated-clause-refused
+returns-in_err-repeated-clause-refused g c =
+    let p = err_from_is_err_and c.from_residual-in_err-repeated.result c.from_residual-in_err-repeated.ensures.1 in
     rw (p.1, p.2)
-    (end_refused c.loop-repetition.invariant c.next_block.new.disk c.next_block.ensures.reads c.next_block.ensures.honest c.next_block.ensures.faults c.in_ok-body.field-0 c.in_err-check_whole.field-0.0
-    c.in_default.not-Some c.in_ok-body.ensures.found c.in_err-check_whole.ensures.err)
+    (end_refused c.loop-repetition.invariant c.next_block.new.disk c.next_block.ensures.reads c.next_block.ensures.honest c.next_block.ensures.faults c.in_ok-body.field-0 c.in_err-repeated.field-0.0
+    c.in_default.not-Some c.in_ok-body.ensures.found c.in_err-repeated.ensures.err)
 
 pub returns-clause-loaded : goal.returns-clause-loaded
 returns-clause-loaded g c =
     loads c.loop-repetition.invariant c.next_block.new.disk c.next_block.ensures.reads c.next_block.ensures.honest c.next_block.ensures.faults c.next_block.new.self c.in_ok-body.field-0
-    c.in_default.not-Some c.in_ok-body.ensures.found c.requires.disk (omega (arith, c.next_block.new.self.inside, c.next_block.ensures.size, c.loop-repetition.invariant.size_is)) c.in_ok-body.ensures.position c.in_ok-check_whole.ensures.ok
+    c.in_default.not-Some c.in_ok-body.ensures.found c.requires.disk (omega (arith, c.next_block.new.self.inside, c.next_block.ensures.size, c.loop-repetition.invariant.size_is)) c.in_ok-body.ensures.position _ _ _ c.in_ok-repeated.ensures.ok

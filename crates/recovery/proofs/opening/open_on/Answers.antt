@@ -1,11 +1,9 @@
-use Rattle.std.proofs.Common.{◌≡◌, ◌+◌, ◌<◌, ◌≤◌, ⊎_elim, ℕ, List, [], length, sym, ◌∙◌, ap, subst, arith, true≢false}
+use Rattle.std.proofs.Common.{◌≡◌, ◌+◌, ◌<◌, ◌≤◌, ⊎_elim, ℕ, List, length, sym, ◌∙◌, ap, subst, arith, true≢false}
 use Rattle.std.proofs.lemmas.Result.{err_from_is_err_and}
 use Rattle.calls.specs.Contents.{Collection}
-use Rattle.calls.specs.Transactions.{Serial, committed}
 use Rattle.disk_model.specs.Disk.{ReadsOnly}
 use Rattle.gate_block.specs.Area.{size_of, position_of}
 use Rattle.records.specs.declared.record.Record.{Record}
-use Rattle.records.specs.Acts.{acts_of}
 use Rattle.txn.specs.Books.{BookState, opened}
 use Rattle.recovery.specs.Undoing.{blocks_len}
 use Rattle.recovery.specs.Appending.{IsAppended}
@@ -73,7 +71,6 @@ returns-clause-content g c = λ content stands true_read.
     let parts : c.into_parts.result ≡ x.machine.now = c.into_parts.ensures.parts in
     ap (λ (b : BookState (List Collection)). b.state.now) c.new.ensures ∙ parts
     ∙ content_is (g.D.Disk.seen c.args.disk.now) x.area found.state x.next x.report.records (found.stored (c.append_all.ensures.honest true_read)) x.records.items x.machine found.undo found.marks content stands
-    (λ rs run none. subst (λ s. Serial (committed (acts_of rs)) [] s) parts (c.into_parts.ensures.history [] 0 rs run none))
 
 pub returns-clause-durable : goal.returns-clause-durable
 returns-clause-durable g c = λ true_read rest.

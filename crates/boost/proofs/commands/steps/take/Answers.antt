@@ -15,7 +15,7 @@ returns-in_err-answers-clause-taken g c =
 one : (g : Over) (c : goal.Joined-step-4 g) → Plays c.args.world.now ((c.args.step, c.in-Some.answer) ∷ []) c.play.new.world
 one g c =
     let done = c.in_ok-answers.ensures in
-    let played : Plays c.args.world.now (zip c.from_ref.result.now c.in_ok-answers.answers.items) c.play.new.world = record { takes = done.past; any_moment = done.any_moment; own = done.own; drawn = done.drawn } in
+    let played : Plays c.args.world.now (zip c.from_ref.result.now c.in_ok-answers.answers.items) c.play.new.world = record { takes = done.past; any_moment = done.any_moment; own = done.own; drawn = done.drawn; moves = done.moves; honest = done.honest } in
     one_played c.args.world.now c.play.new.world c.args.step c.in-Some.answer c.from_ref.result.now c.in_ok-answers.answers.items c.pop.new.self.items c.from_ref.ensures.value c.in-Some.ensures.items done.each played
 
 pub returns-clause-own : goal.returns-clause-own

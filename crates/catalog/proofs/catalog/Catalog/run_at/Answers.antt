@@ -2,7 +2,7 @@ use Rattle.std.proofs.Common.{sym, subst, ◌≤◌}
 use Rattle.std.proofs.lemmas.Result.{on_ok_weaker, on_err_weaker}
 use Rattle.indexmap.proofs.CallerLemmas.{index_map_len-with_value_at}
 use Rattle.catalog.specs.Holdings.{content_of}
-use Rattle.catalog.proofs.Entries.{answers_of, none_answers, within_at, value_at, none_there, ran_at, left_at}
+use Rattle.catalog.proofs.Entries.{answers_of, none_answers, within_at, value_at, none_there, ran_at, left_at, named_after}
 use Rattle.catalog.proofs.catalog.Catalog.run_at.Goals as goal
 
 pub run-requires-clause-can : goal.run-requires-clause-can
@@ -25,7 +25,10 @@ unreachable-requires c =
     (none_there _ c.self.inside.collections.entries c.self.view_is _ _ c.from.ensures c.in-None.ensures.value) c.requires.can
 
 pub invariant_of-self : goal.invariant_of-self
-invariant_of-self c = subst (λ n. n ≤ 256) (sym (index_map_len-with_value_at c.self.inside.collections c.from.result c.run.new.self)) c.self.invariant
+invariant_of-self c = (
+  subst (λ n. n ≤ 256) (sym (index_map_len-with_value_at c.self.inside.collections c.from.result c.run.new.self)) c.self.invariant.0,
+  named_after c.self.inside.collections.entries c.from.result c.run.new.self c.self.invariant.1,
+)
 
 pub returns-clause-ok : goal.returns-clause-ok
 returns-clause-ok c =

@@ -39,7 +39,7 @@ step g c =
     let i = c.self.inside in
     let written = recorded i.machine i.pending i.places i.next (Record.Back c.args.number) c.back.new.self c.reserve.new.self c.push.new.self i.places i.next
     (subst (λ b. length b.pending < 16384) (sym c.self.view_is) c.in_ok-check_backlog.ensures.ok)
-    c.in_ok-reserve.ensures.records c.in_ok-reserve.ensures.handed c.push.ensures.records c.push.ensures.handed (omega arith) in
+    c.in_ok-reserve.ensures.records c.in_ok-reserve.ensures.freezes c.in_ok-reserve.ensures.handed c.push.ensures.records c.push.ensures.freezes c.push.ensures.handed (omega arith) in
     (c.in_ok-back.ensures.ok, record { appends = written; next = refl })
 
 pub invariant_of-self : goal.invariant_of-self

@@ -1,4 +1,4 @@
-use Rattle.std.proofs.Common.{◌≡◌, ◌++◌, ◌∷◌, [], refl, sym, ◌∙◌, subst, arith}
+use Rattle.std.proofs.Common.{◌≡◌, ◌++◌, ◌∷◌, [], refl, sym, subst, arith}
 use Rattle.records.specs.declared.record.Record.{Record}
 use Rattle.records.specs.Records.{call_record}
 use Rattle.records.specs.Short.{AreShort}
@@ -68,7 +68,7 @@ step g c =
     let put : waiting c.push_call.new.self ≡ waiting c.reserve.new.self ++ entry ∷ [] =
     subst (λ b. waiting c.push_call.new.self ≡ waiting c.reserve.new.self ++ Record.Call (call_record c.args.number c.args.col c.args.call.now c.in_ok-reply.reply b) ∷ []) c.in_ok-back.ensures.ok c.push_call.ensures.records in
     let written = recorded i.machine i.pending i.places i.next entry c.call.new.self c.reserve.new.self c.push_call.new.self i.places i.next
-    (asks g c).room c.in_ok-reserve.ensures.records c.in_ok-reserve.ensures.handed put c.push_call.ensures.handed (omega arith) in (
+    (asks g c).room c.in_ok-reserve.ensures.records c.in_ok-reserve.ensures.freezes c.in_ok-reserve.ensures.handed put c.push_call.ensures.freezes c.push_call.ensures.handed (omega arith) in (
       subst (λ e. CallRow g.B.Boosted.answers g.B.Boosted.leaves g.B.Boosted.belongs g.B.Boosted.need i.machine c.args.number e c.call.new.self) c.in_ok-asked.ensures.ok c.in_ok-call.ensures.ok,
       record { appends = written; next = refl },
     )

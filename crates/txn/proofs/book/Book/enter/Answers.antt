@@ -42,7 +42,7 @@ step g c =
     let old = book_of i.machine i.pending i.places i.next in
     let can : CanEnter old c.args.number = subst (λ b. CanEnter b c.args.number) (sym c.self.view_is) c.in_ok-check_enter.ensures.ok in
     let written = recorded i.machine i.pending i.places i.next (Record.Begin c.args.number) c.begin.new.self c.reserve.new.self c.push.new.self i.places c.max-self-inside.result can.room
-    c.in_ok-reserve.ensures.records c.in_ok-reserve.ensures.handed c.push.ensures.records c.push.ensures.handed (omega arith) in
+    c.in_ok-reserve.ensures.records c.in_ok-reserve.ensures.freezes c.in_ok-reserve.ensures.handed c.push.ensures.records c.push.ensures.freezes c.push.ensures.handed (omega arith) in
     (c.in_ok-begin.ensures.ok, can.unworn, written)
 
 pub invariant_of-self-2 : goal.invariant_of-self-2

@@ -32,7 +32,7 @@ step g c =
     let same = c.new-spelled.ensures ∙ c.in_ok-to_string.ensures.ok in
     let put : waiting c.push.new.self ≡ waiting c.reserve.new.self ++ Record.Make c.args.kind c.args.name.now ∷ [] = subst (λ v. waiting c.push.new.self ≡ waiting c.reserve.new.self ++ Record.Make c.args.kind v ∷ []) same c.push.ensures.records in
     let written = recorded i.machine i.pending i.places i.next (Record.Make c.args.kind c.args.name.now) c.make.new.self c.reserve.new.self c.push.new.self (i.places + 1) i.next
-    (subst (λ b. length b.pending < 16384) (sym c.self.view_is) c.in_ok-check_backlog.ensures.ok) c.in_ok-reserve.ensures.records c.in_ok-reserve.ensures.handed put c.push.ensures.handed (omega arith) in
+    (subst (λ b. length b.pending < 16384) (sym c.self.view_is) c.in_ok-check_backlog.ensures.ok) c.in_ok-reserve.ensures.records c.in_ok-reserve.ensures.freezes c.in_ok-reserve.ensures.handed put c.push.ensures.freezes c.push.ensures.handed (omega arith) in
     (c.in_ok-make.ensures.ok, record { appends = written; next = refl })
 
 pub returns-clause-answer : goal.returns-clause-answer
@@ -48,6 +48,6 @@ pub returns-in_err-make-clause-answer : goal.returns-in_err-make-clause-answer
 returns-in_err-make-clause-answer g c =
     let i = c.self.inside in
     let p = err_from_is_err_and c.from_residual-in_err-make.result c.from_residual-in_err-make.ensures.1 in
-    let same = reserved_same i.machine c.make.new.self i.pending c.reserve.new.self i.places i.next c.in_err-make.ensures.same c.in_ok-reserve.ensures.records c.in_ok-reserve.ensures.handed ∙ c.self.view_is in
+    let same = reserved_same i.machine c.make.new.self i.pending c.reserve.new.self i.places i.next c.in_err-make.ensures.same c.in_ok-reserve.ensures.records c.in_ok-reserve.ensures.freezes c.in_ok-reserve.ensures.handed ∙ c.self.view_is in
     let refused = subst (λ b. making.MakeRefused (g.B.Parts.names b.state.now) c.args.name.now c.in_err-make.field-0.0) c.self.view_is c.in_err-make.ensures.err in
     rw (p.1, p.2) (same, make_refused (g.B.Parts.names c.args.self.now.state.now) c.args.self.now c.args.name.now c.in_err-make.field-0.0 c.in_ok-check_backlog.ensures.ok refused)

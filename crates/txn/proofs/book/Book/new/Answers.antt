@@ -19,6 +19,6 @@ laws g =
 
 pub invariant_of-result : goal.invariant_of-result
 invariant_of-result g c =
-    let is = opened_is c.args.parts c.new.result c.new-2.result c.args.wear c.args.next c.new.ensures c.new-2.ensures.records c.new-2.ensures.handed in
+    let is = opened_is c.args.parts c.new.result c.new-2.result c.args.wear c.args.next c.new.ensures c.new-2.ensures.records c.new-2.ensures.freezes c.new-2.ensures.handed in
     subst (IsKept g.B.Parts.names g.B.Boosted.within (λ s. AreShort (g.B.Coded.collections s)) (IsSound g.B.Boosted.answers g.B.Boosted.leaves g.B.Parts.makes g.B.Boosted.need g.B.Boosted.inverse)) (sym is)
     (opened_kept g.B.Boosted.answers g.B.Boosted.leaves g.B.Parts.makes g.B.Boosted.need g.B.Boosted.inverse g.B.Boosted.belongs g.B.Parts.names g.B.Boosted.within (λ s. AreShort (g.B.Coded.collections s)) (laws g) c.args.parts c.args.next c.args.wear c.requires.within c.requires.worn c.requires.next c.requires.few c.requires.short)

@@ -39,7 +39,7 @@ step g c =
     let put : waiting c.push.new.self ≡ waiting c.reserve.new.self ++ entry ∷ [] = subst (λ r. waiting c.push.new.self ≡ waiting c.reserve.new.self ++ r ∷ []) c.requires.entry c.push.ensures.records in
     let asked = subst (λ b. IsOpen (CanDefer g.B.Boosted.belongs b.state.now c.args.put.at c.args.put.call) b c.args.number) (sym c.self.view_is) c.requires.open in
     let written = recorded i.machine i.pending i.places i.next entry c.later.new.self c.reserve.new.self c.push.new.self i.places i.next
-    asked.room c.in_ok-reserve.ensures.records c.in_ok-reserve.ensures.handed put c.push.ensures.handed (omega arith) in
+    asked.room c.in_ok-reserve.ensures.records c.in_ok-reserve.ensures.freezes c.in_ok-reserve.ensures.handed put c.push.ensures.freezes c.push.ensures.handed (omega arith) in
     (c.in_ok-later.ensures.ok, record { appends = written; next = refl })
 
 pub invariant_of-self-2 : goal.invariant_of-self-2

@@ -2,13 +2,13 @@ use Rattle.std.proofs.Common.{◌≡◌, ◌<◌, [], length, arith, ap, ◌∙�
 use Rattle.records.specs.Acts.{places}
 use Rattle.txn.specs.Offers.{IsOffered}
 use Rattle.txn.specs.Waits.{waiting}
-use Rattle.txn.proofs.PendingLemmas.{first_places, first_over, last_over, none_long, some_long, none_waits}
+use Rattle.txn.proofs.PendingLemmas.{first_places, first_over, last_over, none_long, some_long}
 use Rattle.txn.proofs.pending.Pending.cut.Goals as goal
 
 pub offer-requires-clause-place : goal.offer-requires-clause-place
 offer-requires-clause-place g c =
     let seen = c.self.view_is in
-    omega (arith, c.requires.place, ap (λ w. places (waiting w)) seen, ap (λ w. w.handed.place) seen, first_places c.self.inside.full.items c.pop_front.new.self.items c.in-Some.first c.self.inside.last c.in-Some.ensures.items)
+    omega (arith, c.requires.place, ap (λ w. places (waiting w)) seen, ap (λ w. w.handed.place) seen, first_places c.self.inside.full.items c.pop_front.new.self.items c.in-Some.first c.self.inside.last.records c.in-Some.ensures.items)
 
 pub returns-in-Some : goal.returns-in-Some
 returns-in-Some g c = rw (← c.self.view_is) (first_over _ c.in-Some.first _ c.self.inside.count _ _ _ c.self.invariant c.in-Some.ensures.items c.in_default-offer.ensures.handed)
@@ -23,5 +23,5 @@ returns g c =
     let empty : c.replace-last.new.dest.records ≡ [] = ap (λ d. d.records) c.replace-last.ensures.after ∙ c.new.ensures in
     let some : 0 < length last.records = some_long last.records (λ e. let yes = c.is_empty.ensures.1 e in let no' = c.if-is_empty.false in cc) in
     rw (← c.self.view_is)
-    (last_over (record { full = c.self.inside.full.items; last = last; spare = c.self.inside.spare; most = 0; handed = c.self.inside.handed }) _ _ _ _ none some (none_waits after c.replace-last.new.dest left empty)
+    (last_over (record { full = c.self.inside.full.items; last = last; spare = c.self.inside.spare; most = 0; handed = c.self.inside.handed }) _ _ _ after c.replace-last.new.dest none some left empty
     (subst (λ rs. IsOffered rs c.self.inside.handed c.offer-2.new.handed (g.O.Outbox.waiting c.args.out.now) (g.O.Outbox.waiting c.offer-2.new.out)) same c.in_default-offer-2.ensures.handed))

@@ -1,7 +1,9 @@
-use Rattle.std.proofs.Common.{[], ◌∷◌, ◌++◌, length, arith, ap, ◌∙◌}
+use Rattle.std.proofs.Common.{[], ◌∷◌, ◌++◌, length, refl, arith, ap, ◌∙◌}
 use Rattle.records.specs.declared.record.Record.{Record}
 use Rattle.records.specs.Records.{call_record, spelling}
-use Rattle.txn.proofs.PendingLemmas.{call_size, counted_more, counted_next}
+use Rattle.std.specs.VecDeque.{deque_capacity}
+use Rattle.txn.specs.Waits.{Waiting, freezes}
+use Rattle.txn.proofs.PendingLemmas.{call_size, counted_more, counted_next, filled_ends}
 use Rattle.txn.proofs.pending.Pending.push_call.Goals as goal
 
 pub invariant_of-self : goal.invariant_of-self
@@ -16,12 +18,19 @@ pub invariant_of-self-2 : goal.invariant_of-self-2
 invariant_of-self-2 c =
     let a = c.args in
     let entry : Record = Record.Call (call_record a.number a.at a.asked.now a.answer.now a.back.now) in
-    let full = c.self.inside.full.items in
-    let seen = ap (λ w. length (spelling w.last.records)) c.self.view_is in
     let len = call_size a.number a.at a.asked.now a.answer.now _ a.back.now c.call_len.result c.call_len.ensures.len c.as_ref.ensures.value in
-    counted_next _ _ _ _ _ entry c.self.inside.count c.self.invariant
-    (c.push_back_reserved.ensures.items ∙ ap (λ v. full ++ v ∷ []) c.replace-filled-2.ensures.value)
-    (ap (λ d. d.records) c.replace-filled-2.ensures.after ∙ ap (λ d. d.records) c.replace-filled.ensures.value ∙ c.push_call-2.ensures ∙ ap (λ l. l ++ entry ∷ []) c.self.invariant.unused)
-    (ap (λ d. d.records) c.replace-filled.ensures.after ∙ c.new.ensures)
-    (omega (arith, len, c.call_len.ensures.bound))
+    let bound = c.call_len.ensures.bound in
+    let inside = c.self.inside in
+    let seen = ap (λ w. length (spelling w.last.records)) c.self.view_is in
+    let one = ap (λ d. d.records) c.replace-draft.ensures.after ∙ ap (λ d. d.records) c.replace-next.ensures.value ∙ c.push_call-2.ensures ∙ ap (λ l. l ++ entry ∷ []) c.self.invariant.unused in
+    let w : Waiting = record { full = inside.full.items; last = inside.last; spare = inside.spare; most = deque_capacity inside.full; handed = inside.handed } in
+    counted_next w _ _ c.replace-draft.new.dest c.replace-next.new.dest _ c.push_back_reserved.ensures.items (ap (λ d. d.records) c.replace-draft.ensures.value) entry inside.count c.self.invariant one
+    (ap (λ d. d.records) c.replace-next.ensures.after ∙ c.new.ensures)
+    (omega (arith, len, bound))
     (λ suits. let yes = c.fits-fits.ensures.1 (omega (arith, suits, seen, len)) in let no' = c.if-fits.false in cc)
+
+pub returns-clause-freezes : goal.returns-clause-freezes
+returns-clause-freezes c =
+    let inside = c.self.inside in
+    let w : Waiting = record { full = inside.full.items; last = inside.last; spare = inside.spare; most = deque_capacity inside.full; handed = inside.handed } in
+    filled_ends w _ _ c.replace-draft.new.dest c.replace-next.new.dest 0 c.push_back_reserved.ensures.items (ap (λ d. d.records) c.replace-draft.ensures.value) refl ∙ ap freezes c.self.view_is

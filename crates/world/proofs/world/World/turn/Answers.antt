@@ -1,4 +1,4 @@
-use Rattle.std.proofs.Common.{◌≡◌, ◌<◌, ◌≤◌, ◌+◌, length, ap, ◌∙◌, arith}
+use Rattle.std.proofs.Common.{◌≡◌, ◌<◌, ◌≤◌, ◌+◌, length, ap, ◌∙◌, refl, arith}
 use Rattle.disk_model.specs.Disk.{Rises}
 use Rattle.gate_block.specs.Area.{size_of, position_of}
 use Rattle.checkpoint.specs.Keepers.{IsPast, queue}
@@ -43,3 +43,13 @@ returns-clause-mark g c =
 
 pub returns-clause-own : goal.returns-clause-own
 returns-clause-own g c = rw c.answer_of.ensures (turn_answered c.turn-turned.result)
+
+pub returns-clause-moves : goal.returns-clause-moves
+returns-clause-moves g c = record {
+  turned = c.turn-turned.result;
+  answer = c.answer_of.ensures;
+  answers = c.turn-turned.ensures.answer;
+  book = refl;
+  mark = c.mark_after-self.ensures;
+  next = refl;
+}
