@@ -22,8 +22,6 @@ mod pool;
 mod queue;
 mod set;
 mod table;
-#[cfg(test)]
-mod tests;
 
 /// A collection, or many at their places, with calls that can be undone.
 pub trait Boosted: Drop {

@@ -12,8 +12,6 @@ mod name;
 mod need;
 mod refusal;
 mod reply;
-#[cfg(test)]
-mod tests;
 mod undoing;
 
 pub use bytes::Bytes;

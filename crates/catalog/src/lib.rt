@@ -8,8 +8,6 @@ mod loading;
 mod parts;
 mod product;
 mod shown;
-#[cfg(test)]
-mod tests;
 
 pub use catalog::Catalog;
 pub use holding::Holding;

@@ -13,8 +13,6 @@ mod inbox;
 mod keeper;
 mod laying;
 mod root;
-#[cfg(test)]
-mod tests;
 mod turn;
 
 pub use inbox::Inbox;

@@ -6,8 +6,6 @@ mod map;
 mod pool;
 mod queue;
 mod set;
-#[cfg(test)]
-mod tests;
 
 pub use counter::CounterCol;
 pub use map::MapCol;

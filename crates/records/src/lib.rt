@@ -19,5 +19,3 @@ pub use lengths::{call_len, encoded_len};
 pub use record::{CallRecord, LaterRecord, Record};
 pub use writing::{encode, encode_call};
 
-#[cfg(test)]
-mod tests;

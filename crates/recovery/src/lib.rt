@@ -12,8 +12,6 @@ mod reading;
 mod repetition;
 mod report;
 mod stage;
-#[cfg(test)]
-mod tests;
 mod undoing;
 
 pub use formatting::format;

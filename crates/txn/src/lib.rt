@@ -13,8 +13,6 @@ mod noted;
 mod packing;
 mod pending;
 mod redoing;
-#[cfg(test)]
-mod tests;
 mod undoing;
 
 pub use block::{Block, Image, Outbox};

@@ -3,8 +3,6 @@
 
 mod live;
 mod logged;
-#[cfg(test)]
-mod tests;
 
 pub use live::Live;
 pub use logged::{Entry, Later, Logged, Owned};

@@ -4,8 +4,6 @@
 
 mod core_steps;
 mod steps;
-#[cfg(test)]
-mod tests;
 mod transit;
 mod world;
 
