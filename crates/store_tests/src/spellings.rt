@@ -2,8 +2,6 @@
 ghost use Rattle.std.specs.Prelude.{IfOk};
 ghost use Rattle.calls.specs.Names.{IsName};
 
-mod recorded;
-
 use calls::{Call, Kind, Name, Refusal, Reply};
 use records::{CallRecord, Record, decode, encode};
 use std::alloc::{AllocError, Global};
