@@ -18,4 +18,3 @@ pub use fitting::{fits_call, fits_item, fits_reply, is_reached};
 pub use lengths::{call_len, encoded_len};
 pub use record::{CallRecord, LaterRecord, Record};
 pub use writing::{encode, encode_call};
-
