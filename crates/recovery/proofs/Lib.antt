@@ -15,3 +15,10 @@ pub mod RepeatLemmas
 pub mod LoadLemmas
 pub mod OpenLemmas
 pub mod FindLemmas
+pub mod LagLemmas
+pub mod FrozenItems
+pub mod FrozenNumbers
+pub mod FrozenKept
+pub mod FrozenCalls
+pub mod FrozenNames
+pub mod Frozen

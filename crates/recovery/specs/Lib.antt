@@ -2,6 +2,7 @@ pub mod Journals
 pub mod Heads
 pub mod Formats
 pub mod Steps
+pub mod Lagging
 pub mod Reading
 pub mod Repetitions
 pub mod Undoing

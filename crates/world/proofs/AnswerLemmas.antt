@@ -33,6 +33,9 @@ core_answered s waiting mark (Step.Cut, Answer.Cut handed) t waits step = tt
 core_answered s waiting mark (Step.Cut, Answer.Refused e) t waits step = tt
 core_answered s waiting mark (Step.Look, Answer.Marked m) t waits step = tt
 core_answered s waiting mark (Step.Turn, a) t waits step = absurd step
+core_answered s waiting mark (Step.Freeze, a) t waits step = absurd step
+core_answered s waiting mark (Step.Piece, a) t waits step = absurd step
+core_answered s waiting mark (Step.Flip, a) t waits step = absurd step
 core_answered s waiting mark x t waits step = absurd step.0
 
 pub turn_answered : (r : Result Turn Refusal) → IsAnswerOf Step.Turn (turn_answer r)

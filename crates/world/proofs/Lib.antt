@@ -1,10 +1,14 @@
 pub mod History
 pub mod PastLemmas
-pub mod TrailLemmas
+pub mod StandLemmas
 pub mod YieldLemmas
 pub mod WorldLemmas
+pub mod HeadLemmas
 pub mod TurnLemmas
 pub mod StepLemmas
+pub mod TurnSteps
 pub mod PlayLemmas
 pub mod AnswerLemmas
+pub mod FreezeLemmas
+pub mod FlipLemmas
 pub mod Begins

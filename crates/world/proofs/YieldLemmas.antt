@@ -1,10 +1,10 @@
--- What bytes that hold a base and blocks behind it yield.
-use Rattle.std.proofs.Common.{◌≡◌, ℕ, ◌≤◌, List, [], ◌∷◌, ◌++◌, length, map, take, drop, append_assoc, refl, sym, ◌∙◌, ap, subst, arith, None}
+-- What bytes that hold blocks of a past yield.
+use Rattle.std.proofs.Common.{◌≡◌, ℕ, ◌+◌, ◌≤◌, List, [], ◌++◌, length, map, take, drop, append_assoc, refl, sym, ◌∙◌, ap, subst, arith, None}
 use Rattle.std.proofs.lemmas.List.{take-append-drop}
 use Rattle.std.specs.List.{AllByRecursion}
 use mathlib.Core.List.{IsPrefix}
 use Rattle.calls.specs.Contents.{Collection, AnswersAt, after_at}
-use Rattle.calls.specs.Transactions.{Transaction, Serial, committed, committed_after, Entry, Makes}
+use Rattle.calls.specs.Transactions.{Transaction, Serial, committed, committed_after, Entry, Makes, Leads, calls_of}
 use Rattle.calls.specs.Needs.{need_of}
 use Rattle.calls.specs.Inverses.{inverse_of}
 use Rattle.catalog.specs.Places.{Belongs, Misplaced}
@@ -16,15 +16,17 @@ use Rattle.records.specs.declared.record.Record.{Record}
 use Rattle.records.specs.Records.{spelling, IsRecord, AreRecords}
 use Rattle.records.specs.Acts.{acts_of_record, acts_of, places}
 use Rattle.txn.specs.Machines.{resting}
+use Rattle.txn.specs.Machine.{IsSettled, Does}
 use Rattle.txn.proofs.Played as played
 use Rattle.txn.proofs.Played.{gathered, committed_append}
 use Rattle.txn.proofs.Steps as steps
 use Rattle.txn.proofs.Statuses.{nobody}
 use Rattle.txn.proofs.Told.{serial_told}
+use Rattle.txn.proofs.Sizes.{places_append}
 use Rattle.recovery.specs.Steps.{State, Steps, Repeats}
 use Rattle.recovery.specs.Reading.{Unread, InJournal, Reads, AreAccepted, IsSound, last_named}
 use Rattle.recovery.specs.Journals.{Holds, AreSpelt, records_in, StandsFor}
-use Rattle.recovery.proofs.Lists.{leads_append, leads_split, flat_map-append, all_first}
+use Rattle.recovery.proofs.Lists.{leads_append, flat_map-append, all_first, all_last}
 use Rattle.recovery.proofs.CatalogLaws.{laws}
 use Rattle.recovery.proofs.Grammar.{records_spelt}
 use Rattle.recovery.proofs.RepeatLemmas.{records_append, read_records}
@@ -33,7 +35,7 @@ use Rattle.recovery.proofs.Contents as image
 use Rattle.recovery.proofs.Contents.{parts, on_from_first}
 use Rattle.world.specs.Pasts.{Past, committed_in, records_of}
 use Rattle.world.specs.Crash.{Yields}
-use Rattle.world.specs.Worlds.{IsBase, IsHeaded}
+use Rattle.world.specs.Worlds.{IsLevel, StandIn, IsHeaded}
 use Rattle.world.proofs.History.{length-committed}
 use Rattle.world.proofs.PastLemmas.{committed_in-records, take-longer}
 
@@ -57,7 +59,7 @@ module _ (start : List Collection) (wear : ℕ) (rs : List Record) (t : State) (
       (steps.settles_once AnswersAt after_at Makes need_of inverse_of laws.rules t (comes es).content content (comes es).sound (comes es).settled (comes []).settled) (told es)
 
 -- the bytes hold the blocks of a row in the area that the head picks
-pub holds_row : (area : Area) (blocks : List (List Record)) (c : List ℕ) → IsHeaded area c → IsRow (map spelling blocks) (bytes_of area c) → AreSpelt None (records_in blocks) → Holds c blocks
+holds_row : (area : Area) (blocks : List (List Record)) (c : List ℕ) → IsHeaded area c → IsRow (map spelling blocks) (bytes_of area c) → AreSpelt None (records_in blocks) → Holds c blocks
 holds_row area blocks c headed row spelt = record {
   size = size_of area;
   header = headed.header;
@@ -65,72 +67,93 @@ holds_row area blocks c headed row spelt = record {
   spelt = spelt;
 }
 
-module _ (start : List Collection) (wear : ℕ) (old : List (List Record)) (base : IsBase old start wear) (kept : List (List Record)) (rest : List Record) (past : Past) (trail : State)
-    (repeats : Repeats (records_of past) (resting start wear) trail) (good : AllByRecursion (IsRecord None) (records_of past)) (records : records_of past ≡ records_in kept ++ rest) where
-  -- where the kept records lead
-  abbrev split : (m : State) × Repeats (records_in kept) (resting start wear) m × Repeats rest m trail
-  split = leads_split Steps (records_in kept) rest (resting start wear) trail (subst (λ rs. Repeats rs (resting start wear) trail) records repeats)
+-- where two states are level, they settle at the same contents
+level_settles : (u v : State) → IsLevel u v → (c : List Collection) → IsSettled AnswersAt after_at u c → IsSettled AnswersAt after_at v c
+level_settles u v level c settled =
+    subst (λ es. Leads (Does AnswersAt after_at) es c v.now) level.calls (subst (Leads (Does AnswersAt after_at) (calls_of (map (λ e. e.1) u.entries)) c) level.now settled)
 
-  abbrev base_parts : IsParts (records_in old) (resting start wear)
-  base_parts = parts (records_in old) base.next (resting start wear) base.count base.accepted
+module _ (start : List Collection) (wear : ℕ) (past : Past) (end : State) (blocks : List (List Record)) (covered : List Record) (stands : StandIn start wear (records_of past) end blocks covered)
+    (good : AllByRecursion (IsRecord None) (records_of past)) (kept : List (List Record)) (later : List Record) (split : stands.since ≡ records_in kept ++ later) where
+  -- where the kept records lead, from the start and from what the blocks are read up to
+  abbrev mid : (u v : State) × Repeats (records_in kept) stands.there u × Repeats (records_in kept) stands.base v × IsLevel u v
+  mid = stands.along (records_in kept) later split
 
-  run : Repeats (base_parts.journal ++ records_in kept) base_parts.first split.0
-  run = on_from_first (records_in old) base.next (resting start wear) base.count base.accepted (records_in kept) split.0 split.1
+  abbrev stored : List Record
+  stored = covered ++ records_in kept
 
-  is : records_in (old ++ kept) ≡ records_in old ++ records_in kept
-  is = flat_map-append (λ rs. rs) old kept
+  from_start : Repeats stored (resting start wear) mid.0
+  from_start = leads_append Steps covered (records_in kept) (resting start wear) stands.there mid.0 stands.led mid.2
 
-  all_good : AreRecords None (records_in (old ++ kept))
+  abbrev base_parts : IsParts (records_in blocks) stands.base
+  base_parts = parts (records_in blocks) stands.are_read.next stands.base stands.are_read.count stands.are_read.accepted
+
+  run : Repeats (base_parts.journal ++ records_in kept) base_parts.first mid.1
+  run = on_from_first (records_in blocks) stands.are_read.next stands.base stands.are_read.count stands.are_read.accepted (records_in kept) mid.1 mid.3
+
+  is : records_in (blocks ++ kept) ≡ records_in blocks ++ records_in kept
+  is = flat_map-append (λ rs. rs) blocks kept
+
+  records : records_of past ≡ stored ++ later
+  records = stands.split ∙ ap (λ l. covered ++ l) split ∙ sym (append_assoc covered (records_in kept) later)
+
+  kept_good : AllByRecursion (IsRecord None) (records_in kept)
+  kept_good = all_last (IsRecord None) covered (records_in kept) (all_first (IsRecord None) stored later (subst (AllByRecursion (IsRecord None)) records good))
+
+  all_good : AreRecords None (records_in (blocks ++ kept))
   all_good = subst (AreRecords None) (sym is)
-      (records_append None (records_in old) (records_in kept) base.good
-      (read_records (last_named None (records_in old)) (records_in kept) (all_first (IsRecord None) (records_in kept) rest (subst (AllByRecursion (IsRecord None)) records good))))
+      (records_append None (records_in blocks) (records_in kept) stands.are_read.good (read_records (last_named None (records_in blocks)) (records_in kept) kept_good))
 
-  pub spelt : AreSpelt None (records_in (old ++ kept))
-  spelt = records_spelt None (records_in (old ++ kept)) all_good
+  spelt : AreSpelt None (records_in (blocks ++ kept))
+  spelt = records_spelt None (records_in (blocks ++ kept)) all_good
 
-  is_sound : (c : List ℕ) → Holds c (old ++ kept) → IsSound c
+  is_sound : (c : List ℕ) → Holds c (blocks ++ kept) → IsSound c
   is_sound c holds =
-      let more = journal_reads (records_in kept) base.next (resting start wear) split.0 base.count split.1 in record {
-        blocks = old ++ kept;
+      let more = journal_reads (records_in kept) stands.are_read.next stands.base mid.1 stands.are_read.count mid.3 in record {
+        blocks = blocks ++ kept;
         holds = holds;
         good = all_good;
         next = more.0;
-        end = split.0;
+        end = mid.1;
         count = more.1;
         accepted =
-            subst (λ l. AreAccepted l more.0 split.0 more.1) (sym is)
-            (leads_append Reads (records_in old) (records_in kept) Unread (InJournal base.next (resting start wear) base.count) (InJournal more.0 split.0 more.1) base.accepted more.2);
+            subst (λ l. AreAccepted l more.0 mid.1 more.1) (sym is)
+            (leads_append Reads (records_in blocks) (records_in kept) Unread (InJournal stands.are_read.next stands.base stands.are_read.count) (InJournal more.0 mid.1 more.1) stands.are_read.accepted more.2);
       }
 
   abbrev now : List Collection
-  now = content start wear (records_in kept) split.0 split.1
+  now = content start wear stored mid.0 from_start
 
-  -- from the image on the records lead to the same content as from the base on
-  same_content : image.content (records_in old) (resting start wear) base_parts (base_parts.journal ++ records_in kept) split.0 run ≡ now
+  -- from the image on the records lead to the same content as from the start on
+  same_content : image.content (records_in blocks) stands.base base_parts (base_parts.journal ++ records_in kept) mid.1 run ≡ now
   same_content =
-      let last = comes start wear (records_in kept) split.0 split.1 [] in
-      steps.settles_once AnswersAt after_at Makes need_of inverse_of laws.rules split.0 (image.content (records_in old) (resting start wear) base_parts (base_parts.journal ++ records_in kept) split.0 run) now last.sound
-      (image.end_settled (records_in old) (resting start wear) base_parts (base_parts.journal ++ records_in kept) split.0 run) last.settled
+      let last = comes start wear stored mid.0 from_start [] in
+      steps.settles_once AnswersAt after_at Makes need_of inverse_of laws.rules mid.1 (image.content (records_in blocks) stands.base base_parts (base_parts.journal ++ records_in kept) mid.1 run) now
+      (image.end_sound (records_in blocks) stands.base base_parts (base_parts.journal ++ records_in kept) mid.1 run)
+      (image.end_settled (records_in blocks) stands.base base_parts (base_parts.journal ++ records_in kept) mid.1 run) (level_settles mid.0 mid.1 mid.4 now last.settled)
 
-  stands : (c : List ℕ) → Holds c (old ++ kept) → StandsFor c now
-  stands c holds = subst (StandsFor c) same_content
-      (image.stands_for (records_in old) (resting start wear) base_parts (base_parts.journal ++ records_in kept) split.0 run c (old ++ kept) holds
+  stands_for : (c : List ℕ) → Holds c (blocks ++ kept) → StandsFor c now
+  stands_for c holds = subst (StandsFor c) same_content
+      (image.stands_for (records_in blocks) stands.base base_parts (base_parts.journal ++ records_in kept) mid.1 run c (blocks ++ kept) holds
       (is ∙ ap (λ l. l ++ records_in kept) base_parts.is ∙ append_assoc base_parts.image base_parts.journal (records_in kept)))
 
-  -- with the records of a past behind the base, up to the blocks that are kept
-  pub yields : (m : ℕ) (c : List ℕ) → m ≤ places (records_in kept) → Holds c (old ++ kept) → Yields start past (take m (committed_in past)) c
+  -- bytes that hold the blocks with others behind them yield what is known
+  yields : (m : ℕ) (c : List ℕ) → m ≤ places covered + places (records_in kept) → Holds c (blocks ++ kept) → Yields start past (take m (committed_in past)) c
   yields m c few holds =
-      let ks : List Transaction = committed (acts_of (records_in kept)) in
-      let more = committed_after (gathered [] (acts_of (records_in kept))) (acts_of rest) in
+      let ks : List Transaction = committed (acts_of stored) in
+      let more = committed_after (gathered [] (acts_of stored)) (acts_of later) in
       let parts : committed_in past ≡ ks ++ more =
-      committed_in-records past ∙ ap (λ rs. committed (acts_of rs)) records ∙ ap committed (flat_map-append acts_of_record (records_in kept) rest) ∙ committed_append (acts_of (records_in kept)) (acts_of rest) [] in
-      let enough : m ≤ length ks = omega (arith, few, length-committed (records_in kept) []) in
+      committed_in-records past ∙ ap (λ rs. committed (acts_of rs)) records ∙ ap committed (flat_map-append acts_of_record stored later) ∙ committed_append (acts_of stored) (acts_of later) [] in
+      let enough : m ≤ length ks = omega (arith, few, length-committed stored [], places_append covered (records_in kept)) in
       record {
         sound = is_sound c holds;
         content = now;
-        stands = stands c holds;
+        stands = stands_for c holds;
         kept = ks;
         begins = (more, sym parts);
         holds = subst (λ l. IsPrefix l ks) (sym (ap (take m) parts ∙ take-longer ks more m enough)) (drop m ks, take-append-drop m ks);
-        serial = told_always start wear (records_in kept) split.0 split.1 [];
+        serial = told_always start wear stored mid.0 from_start [];
       }
+
+  -- the same of a row in the area that the head picks
+  pub row_yields : (area : Area) (m : ℕ) (c : List ℕ) → m ≤ places covered + places (records_in kept) → IsHeaded area c → IsRow (map spelling (blocks ++ kept)) (bytes_of area c) → Yields start past (take m (committed_in past)) c
+  row_yields area m c few headed row = yields m c few (holds_row area (blocks ++ kept) c headed row spelt)

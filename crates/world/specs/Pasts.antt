@@ -1,5 +1,5 @@
 -- Pasts: steps with their answers; what they have committed, and what was acknowledged.
-use Rattle.std.specs.Prelude.{◌≡◌, ℕ, ◌+◌, ◌<◌, ◌≤◌, ◌^◌, max, true, List, [], ◌∷◌, length, take, Result, Ok, Err}
+use Rattle.std.specs.Prelude.{◌≡◌, ℕ, ◌+◌, ◌<◌, ◌≤◌, ◌^◌, max, true, Bool, List, [], ◌∷◌, length, take, Result, Ok, Err}
 use Rattle.std.specs.List.{flat_map, AllByRecursion}
 use Rattle.calls.specs.Contents.{Collection, AnswersAt, after_at}
 use Rattle.calls.specs.Transactions.{Transaction, Act, Begins, Asks, Commits, Creates, Asked, PutOff, committed, Leads, Makes}
@@ -12,7 +12,9 @@ use Rattle.records.specs.declared.record.Record.{Record}
 use Rattle.records.specs.Records.{call_record}
 use Rattle.checkpoint.specs.declared.turn.Turn.{Turn}
 use Rattle.txn.specs.declared.block.Block.{Block}
+use Rattle.txn.specs.declared.block.Image.{Image}
 use Rattle.txn.specs.Books as books
+use Rattle.txn.specs.Freezing.{FreezeAnswers}
 use Rattle.world.specs.declared.steps.Step.{Step}
 use Rattle.world.specs.declared.steps.Answer.{Answer}
 
@@ -39,6 +41,7 @@ committed_in past = committed (acts_in past)
 -- up to which place a step told that commits are kept
 abbrev pub told : Step → Answer → ℕ
 told Step.Turn (Answer.Turned (Turn.Kept place)) = place
+told Step.Flip (Answer.Flipped place) = place
 told Step.Look (Answer.Marked place) = place
 told s a = 0
 
@@ -86,6 +89,12 @@ BookStep s (Step.Ended n, Answer.Ended) t = books.EndedAnswers s n (Ok tt) t
 BookStep s (Step.Ended n, Answer.Refused e) t = books.EndedAnswers s n (Err e) t
 BookStep s (Step.Cut, Answer.Cut handed) t = (waiting waits : List Block) × books.CutAnswers s waiting (Unit {0}) (Ok handed) waits t
 BookStep s (Step.Cut, Answer.Refused e) t = t ≡ s
+BookStep s (Step.Freeze, Answer.Frozen) t = (image : Image) × FreezeAnswers (λ v. v) inverse_of s (Ok image) t
+BookStep s (Step.Freeze, Answer.Refused e) t = (frozen : Result Image Refusal) × FreezeAnswers (λ v. v) inverse_of s frozen t
+BookStep s (Step.Piece, Answer.Laid more) t = t ≡ s
+BookStep s (Step.Piece, Answer.Refused e) t = t ≡ s
+BookStep s (Step.Flip, Answer.Flipped place) t = t ≡ s
+BookStep s (Step.Flip, Answer.Refused e) t = t ≡ s
 BookStep s (Step.Draw, Answer.Drawn n) t = t ≡ s
 BookStep s (Step.Draw, Answer.Refused e) t = t ≡ s
 BookStep s (Step.Turn, Answer.Turned turn) t = t ≡ s
@@ -98,13 +107,24 @@ BookStep s x t = ⊥
 abbrev pub IsLegal : BookState → Past → BookState → Type 0
 IsLegal s past t = Leads BookStep past s t
 
--- A step other than a turn, with its answer, leads a book and the blocks in transit on; the mark is the one that a look answers. No block is handed over
+-- The keeper takes the step, or takes part in it.
+abbrev pub CallsKeeper : Step → Type 0
+CallsKeeper Step.Turn = Unit {0}
+CallsKeeper Step.Freeze = Unit {0}
+CallsKeeper Step.Piece = Unit {0}
+CallsKeeper Step.Flip = Unit {0}
+CallsKeeper s = ⊥
+
+-- A step that calls no keeper, with its answer, leads a book and the blocks in transit on; the mark is the one that a look answers. No block is handed over
 -- where four wait.
 abbrev pub CoreStep : BookState → List Block → ℕ → Step × Answer → BookState → List Block → Type 0
 CoreStep s waiting mark (Step.Cut, Answer.Cut handed) t waits = books.CutAnswers s waiting (Unit {0}) (Ok handed) waits t
 CoreStep s waiting mark (Step.Cut, Answer.Refused e) t waits = books.CutAnswers s waiting (4 ≤ length waiting) (Err e) waits t
 CoreStep s waiting mark (Step.Look, Answer.Marked m) t waits = (t ≡ s) × (m ≡ mark) × (waits ≡ waiting)
 CoreStep s waiting mark (Step.Turn, a) t waits = ⊥
+CoreStep s waiting mark (Step.Freeze, a) t waits = ⊥
+CoreStep s waiting mark (Step.Piece, a) t waits = ⊥
+CoreStep s waiting mark (Step.Flip, a) t waits = ⊥
 CoreStep s waiting mark x t waits = BookStep s x t × (waits ≡ waiting)
 
 -- A draw gives the next number, and none gives it again; from 2 ^ 61 on it is refused. No other step draws.
@@ -139,6 +159,12 @@ IsAnswerOf Step.Cut (Answer.Cut handed) = Unit {0}
 IsAnswerOf Step.Cut (Answer.Refused e) = Unit {0}
 IsAnswerOf Step.Turn (Answer.Turned turn) = Unit {0}
 IsAnswerOf Step.Turn (Answer.Refused e) = Unit {0}
+IsAnswerOf Step.Freeze Answer.Frozen = Unit {0}
+IsAnswerOf Step.Freeze (Answer.Refused e) = Unit {0}
+IsAnswerOf Step.Piece (Answer.Laid more) = Unit {0}
+IsAnswerOf Step.Piece (Answer.Refused e) = Unit {0}
+IsAnswerOf Step.Flip (Answer.Flipped place) = Unit {0}
+IsAnswerOf Step.Flip (Answer.Refused e) = Unit {0}
 IsAnswerOf Step.Look (Answer.Marked mark) = Unit {0}
 IsAnswerOf s a = ⊥
 
@@ -154,3 +180,21 @@ turn_answer (Err e) = Answer.Refused e
 abbrev pub mark_behind : ℕ → Result Turn Refusal → ℕ
 mark_behind mark (Ok (Turn.Kept place)) = place
 mark_behind mark r = mark
+
+-- how the keeper's answer to a freeze, a piece and a flip stands in a past
+abbrev pub begun_answer : Result (Unit {0}) Refusal → Answer
+begun_answer (Ok done) = Answer.Frozen
+begun_answer (Err e) = Answer.Refused e
+
+abbrev pub piece_answer : Result Bool Refusal → Answer
+piece_answer (Ok more) = Answer.Laid more
+piece_answer (Err e) = Answer.Refused e
+
+abbrev pub flip_answer : Result ℕ Refusal → Answer
+flip_answer (Ok place) = Answer.Flipped place
+flip_answer (Err e) = Answer.Refused e
+
+-- the mark behind a flip
+abbrev pub mark_flipped : ℕ → Result ℕ Refusal → ℕ
+mark_flipped mark (Ok place) = place
+mark_flipped mark (Err e) = mark

@@ -1,10 +1,10 @@
-// The steps of a world other than a turn.
+// The steps of a world that call no keeper.
 ghost use Rattle.std.specs.Prelude.{◌≡◌, ℕ, None};
 ghost use Rattle.std.specs.List.{AllByRecursion};
 ghost use Rattle.records.specs.Records.{IsRecord};
 ghost use Rattle.world.specs.declared.steps.Step.{Step};
 ghost use Rattle.world.specs.declared.steps.Answer.{Answer};
-ghost use Rattle.world.specs.Pasts.{BookStep, CoreStep, IsDraw, Draws};
+ghost use Rattle.world.specs.Pasts.{BookStep, CallsKeeper, CoreStep, IsDraw, Draws};
 
 use crate::steps::{Answer, Step};
 use crate::transit::Transit;
@@ -97,7 +97,7 @@ fn cut(book: &mut Book<Catalog>, transit: &mut Transit) -> Answer
     }
 }
 
-// Takes a step other than a turn.
+// Takes a step that calls no keeper.
 fn take_one(
     book: &mut Book<Catalog>,
     transit: &mut Transit,
@@ -105,7 +105,7 @@ fn take_one(
     mark: u64,
     step: &Step,
 ) -> Answer
-    requires { step.now ≡ Step.Turn → ⊥ }
+    requires { CallsKeeper step.now → ⊥ }
     ensures core { CoreStep book.old transit.old.blocks.items mark (step.now, result) book.new transit.new.blocks.items }
     ensures drawn { Draws next.old (step.now, result) next.new }
 {
@@ -119,12 +119,12 @@ fn take_one(
         Step::Back(number) => back(book, *number),
         Step::Ended(number) => ended(book, *number),
         Step::Cut => cut(book, transit),
-        Step::Turn => unreachable!(),
+        Step::Turn | Step::Freeze | Step::Piece | Step::Flip => unreachable!(),
         Step::Look => Answer::Marked(mark),
     }
 }
 
-/// Takes a step other than a turn.
+/// Takes a step that calls no keeper.
 pub fn take(
     book: &mut Book<Catalog>,
     transit: &mut Transit,
@@ -132,7 +132,7 @@ pub fn take(
     mark: u64,
     step: &Step,
 ) -> Answer
-    requires { step.now ≡ Step.Turn → ⊥ }
+    requires { CallsKeeper step.now → ⊥ }
     ensures core { CoreStep book.old transit.old.blocks.items mark (step.now, result) book.new transit.new.blocks.items }
     ensures drawn { Draws next.old (step.now, result) next.new }
     ensures good { AllByRecursion (IsRecord None) book.new.pending }

@@ -25,6 +25,12 @@ pub enum Step {
     Cut,
     /// Brings a block to the disk.
     Turn,
+    /// Freezes the book, and begins to write its image into the area that is not in use.
+    Freeze,
+    /// Writes a block of the image in progress.
+    Piece,
+    /// Makes the image in progress the store.
+    Flip,
     /// Looks at the mark.
     Look,
 }
@@ -45,6 +51,12 @@ pub enum Answer {
     /// Whether a block was handed over.
     Cut(bool),
     Turned(Turn),
+    /// An image is in progress.
+    Frozen,
+    /// Whether a block of the image is left.
+    Laid(bool),
+    /// The image is the store, and so many commits are kept.
+    Flipped(u64),
     /// The mark: so many commits are kept.
     Marked(u64),
     Refused(Refusal),

@@ -1,12 +1,14 @@
 // The core as a list of steps.
-ghost use Rattle.std.specs.Prelude.{◌≡◌, ◌≤◌, ℕ, List, ◌++◌, ◌∷◌, [], take, length, None, IfOk, IfErr, OnErr, IsOkUnless};
+ghost use Rattle.std.specs.Prelude.{◌≡◌, ◌≤◌, ◌↔◌, IsTrue, ℕ, List, ◌++◌, ◌∷◌, [], take, length, IfOk, IfErr, OnErr, IsOkUnless};
 ghost use Rattle.std.specs.List.{zip};
+ghost use Rattle.std.specs.Option.{IsSomeAnd};
 ghost use Rattle.calls.specs.Contents.{Collection};
 ghost use Rattle.calls.specs.Transactions.{Leads};
 ghost use Rattle.disk_model.specs.Disk.{LeavesOnly};
 ghost use Rattle.world.specs.declared.steps.Step.{Step};
-ghost use Rattle.world.specs.Pasts.{Past, committed_in, acknowledged, turn_answer, mark_behind, IsAnswerOf, AreAnswered, Draws};
+ghost use Rattle.world.specs.Pasts.{Past, committed_in, acknowledged, turn_answer, begun_answer, piece_answer, flip_answer, mark_behind, mark_flipped, IsAnswerOf, AreAnswered, Draws};
 ghost use Rattle.world.specs.Crash.{Yields};
+ghost use Rattle.checkpoint.specs.Imaging.{pieces_left};
 ghost use Rattle.checkpoint.specs.Keepers.{IsFresh};
 ghost use Rattle.recovery.specs.Openings.{IsOpened, IsReadyStore};
 ghost use Rattle.world.specs.Worlds.{HasPast, parts_of};
@@ -31,8 +33,6 @@ pub struct World<D: Disk> {
     mark: u64,
     next: u64,
     ghost marked: { mark ≡ keeper.mark },
-    ghost covers_none: { keeper.covered ≡ 0 },
-    ghost no_image: { keeper.image ≡ None },
 }
 
 impl<D: Disk> World<D> {
@@ -68,6 +68,13 @@ impl<D: Disk> World<D> {
         &self.book
     }
 
+    /// How many blocks of the image in progress are not yet written: none, where no image is in progress. This is no step.
+    pub fn left(&self) -> Option<u64>
+        ensures { result ≡ pieces_left self.now.keeper.image }
+    {
+        self.keeper.left()
+    }
+
     /// The disk. No device is called.
     pub fn into_disk(self) -> D
         ensures { result ≡ self.keeper.disk }
@@ -97,6 +104,72 @@ impl<D: Disk> World<D> {
         answer_of(turned)
     }
 
+    // Freezes the book, and begins to write its image.
+    fn freeze(&mut self) -> Answer
+        ensures past { (start : List Collection) (past : Past) →
+            HasPast D.seen D.may_leave start past (parts_of self.old.book self.old.keeper self.old.transit.blocks.items self.old.mark) →
+            HasPast D.seen D.may_leave start (past ++ (Step.Freeze, result) ∷ []) (parts_of self.new.book self.new.keeper self.new.transit.blocks.items self.new.mark) }
+        ensures any_moment { (start : List Collection) (past : Past) →
+            HasPast D.seen D.may_leave start past (parts_of self.old.book self.old.keeper self.old.transit.blocks.items self.old.mark) →
+            LeavesOnly D.moment D.left_since self.old.keeper.disk self.new.keeper.disk
+            (Yields start (past ++ (Step.Freeze, result) ∷ []) (take self.old.mark (committed_in past))) }
+        ensures mark { self.old.mark ≤ self.new.mark }
+        ensures own { IsAnswerOf Step.Freeze result }
+        ensures drawn { self.new.next ≡ self.old.next }
+        ensures honest { D.is_honest self.new.keeper.disk → D.is_honest self.old.keeper.disk }
+        ensures moves { Moves D.fault_count (whole_of self.old.book self.old.keeper self.old.transit.blocks.items self.old.mark self.old.next) (Step.Freeze, result)
+            (whole_of self.new.book self.new.keeper self.new.transit.blocks.items self.new.mark self.new.next) }
+    {
+        self.book.upheld();
+        match self.book.freeze() {
+            Ok(image) => begun(self.keeper.begin_image(image)),
+            Err(refusal) => Answer::Refused(refusal),
+        }
+    }
+
+    // Writes a block of the image in progress, where one is left.
+    fn piece(&mut self) -> Answer
+        ensures past { (start : List Collection) (past : Past) →
+            HasPast D.seen D.may_leave start past (parts_of self.old.book self.old.keeper self.old.transit.blocks.items self.old.mark) →
+            HasPast D.seen D.may_leave start (past ++ (Step.Piece, result) ∷ []) (parts_of self.new.book self.new.keeper self.new.transit.blocks.items self.new.mark) }
+        ensures any_moment { (start : List Collection) (past : Past) →
+            HasPast D.seen D.may_leave start past (parts_of self.old.book self.old.keeper self.old.transit.blocks.items self.old.mark) →
+            LeavesOnly D.moment D.left_since self.old.keeper.disk self.new.keeper.disk
+            (Yields start (past ++ (Step.Piece, result) ∷ []) (take self.old.mark (committed_in past))) }
+        ensures mark { self.old.mark ≤ self.new.mark }
+        ensures own { IsAnswerOf Step.Piece result }
+        ensures drawn { self.new.next ≡ self.old.next }
+        ensures honest { D.is_honest self.new.keeper.disk → D.is_honest self.old.keeper.disk }
+        ensures moves { Moves D.fault_count (whole_of self.old.book self.old.keeper self.old.transit.blocks.items self.old.mark self.old.next) (Step.Piece, result)
+            (whole_of self.new.book self.new.keeper self.new.transit.blocks.items self.new.mark self.new.next) }
+    {
+        if is_some_left(self.keeper.left()) {
+            return laid(self.keeper.image_piece());
+        }
+        Answer::Refused(Refusal::Unfinished)
+    }
+
+    // Makes the image in progress the store.
+    fn flip(&mut self) -> Answer
+        ensures past { (start : List Collection) (past : Past) →
+            HasPast D.seen D.may_leave start past (parts_of self.old.book self.old.keeper self.old.transit.blocks.items self.old.mark) →
+            HasPast D.seen D.may_leave start (past ++ (Step.Flip, result) ∷ []) (parts_of self.new.book self.new.keeper self.new.transit.blocks.items self.new.mark) }
+        ensures any_moment { (start : List Collection) (past : Past) →
+            HasPast D.seen D.may_leave start past (parts_of self.old.book self.old.keeper self.old.transit.blocks.items self.old.mark) →
+            LeavesOnly D.moment D.left_since self.old.keeper.disk self.new.keeper.disk
+            (Yields start (past ++ (Step.Flip, result) ∷ []) (take self.old.mark (committed_in past))) }
+        ensures mark { self.old.mark ≤ self.new.mark }
+        ensures own { IsAnswerOf Step.Flip result }
+        ensures drawn { self.new.next ≡ self.old.next }
+        ensures honest { D.is_honest self.new.keeper.disk → D.is_honest self.old.keeper.disk }
+        ensures moves { Moves D.fault_count (whole_of self.old.book self.old.keeper self.old.transit.blocks.items self.old.mark self.old.next) (Step.Flip, result)
+            (whole_of self.new.book self.new.keeper self.new.transit.blocks.items self.new.mark self.new.next) }
+    {
+        let flipped = self.keeper.flip();
+        self.mark = mark_then(self.mark, &flipped);
+        flip_told(flipped)
+    }
+
     // Takes one step.
     fn step(&mut self, step: &Step) -> Answer
         ensures past { (start : List Collection) (past : Past) →
@@ -115,6 +188,9 @@ impl<D: Disk> World<D> {
     {
         match step {
             Step::Turn => self.turn(),
+            Step::Freeze => self.freeze(),
+            Step::Piece => self.piece(),
+            Step::Flip => self.flip(),
             _ => core_steps::take(
                 &mut self.book,
                 &mut self.transit,
@@ -183,5 +259,55 @@ fn answer_of(turned: Result<Turn, Refusal>) -> Answer
     match turned {
         Ok(turn) => Answer::Turned(turn),
         Err(refusal) => Answer::Refused(refusal),
+    }
+}
+
+// Whether a piece is left, of as many as are.
+fn is_some_left(left: Option<u64>) -> bool
+    ensures { IsTrue result ↔ IsSomeAnd left (λ n. 1 ≤ n) }
+{
+    match left {
+        Some(pieces) => pieces >= 1,
+        None => false,
+    }
+}
+
+// What the keeper answered of an image that was to begin, as an answer.
+fn begun(begun: Result<(), Refusal>) -> Answer
+    ensures { result ≡ begun_answer begun }
+{
+    match begun {
+        Ok(()) => Answer::Frozen,
+        Err(refusal) => Answer::Refused(refusal),
+    }
+}
+
+// What it answered of a piece.
+fn laid(laid: Result<bool, Refusal>) -> Answer
+    ensures { result ≡ piece_answer laid }
+{
+    match laid {
+        Ok(more) => Answer::Laid(more),
+        Err(refusal) => Answer::Refused(refusal),
+    }
+}
+
+// What it answered of a flip.
+fn flip_told(flipped: Result<u64, Refusal>) -> Answer
+    ensures { result ≡ flip_answer flipped }
+{
+    match flipped {
+        Ok(place) => Answer::Flipped(place),
+        Err(refusal) => Answer::Refused(refusal),
+    }
+}
+
+// The mark behind a flip.
+fn mark_then(mark: u64, flipped: &Result<u64, Refusal>) -> u64
+    ensures { result ≡ mark_flipped mark flipped.now }
+{
+    match flipped {
+        Ok(place) => *place,
+        Err(_) => mark,
     }
 }
