@@ -5,6 +5,7 @@ pub mod ScriptWords
 pub mod ScriptOperations
 pub mod Stepping
 pub mod ClientLemmas
+pub mod CheckpointLemmas
 pub mod RequestLemmas
 pub mod OpenLemmas
 pub mod EffectLemmas

@@ -28,6 +28,7 @@ module _ {D : Type 0} {g : Ghosts D} where
 
   pub acts_plays : (ks ls : List Client) (old new : World D g) (action : Action) (r : Result Said Refusal) → Acts ks old action r ls new → IsPlayed old new
   acts_plays ks ls old new Action.Turn r acts = (acts.3.0, acts.3.2)
+  acts_plays ks ls old new Action.Checkpoint r acts = (_, acts.3.whole)
   acts_plays ks ls old new (Action.Client n request) r acts = obeys_plays (get_or ks (n % 64) nobody) acts.0 old new request r acts.2
 
   pub answers_plays : (ks ls : List Client) (old new : World D g) (action : Action) (said : Said) → Answers ks old action said ls new → IsPlayed old new

@@ -198,25 +198,27 @@ request_is_back text front back (Action.Client n r) e first none is =
     none r (record { said = is.1; is = sym parts.1 })
 request_is_back text front back a e first none is = is
 
-line_is_client : (line rest : List ℕ) (a : Action) → line ≡ codes "c" ++ rest → IsLineOf a line → IsClientLine a rest
-line_is_client line rest (Action.Client n r) e is = (is.said.0, is.said.1, append_cancel_left (codes "c") rest (decimal n ++ 32 ∷ request_text r) (sym e ∙ is.is))
-line_is_client line rest Action.Turn e is = let h : ◌≡◌ {A = ℕ} 99 116 = ap first (sym e ∙ is.is) in absurd (omega arith)
+line_is_client : (line rest : List ℕ) (a : Action) → line ≡ codes "c" ++ rest → (line ≡ codes "checkpoint" → ⊥) → IsLineOf a line → IsClientLine a rest
+line_is_client line rest (Action.Client n r) e k is = (is.said.0, is.said.1, append_cancel_left (codes "c") rest (decimal n ++ 32 ∷ request_text r) (sym e ∙ is.is))
+line_is_client line rest Action.Turn e k is = let h : ◌≡◌ {A = ℕ} 99 116 = ap first (sym e ∙ is.is) in absurd (omega arith)
+line_is_client line rest Action.Checkpoint e k is = absurd (k is.is)
 
 client_is_line : (line rest : List ℕ) (a : Action) → line ≡ codes "c" ++ rest → IsClientLine a rest → IsLineOf a line
 client_is_line line rest (Action.Client n r) e is = record { said = (is.0, is.1); is = e ∙ ap (λ (t : List ℕ). codes "c" ++ t) is.2 }
 client_is_line line rest a e is = absurd is
 
 -- what is found behind the letter c is found in the whole line
-pub client_gives : {E : Type 0} (r : Result (Option Action) E) (line rest : List ℕ) → line ≡ codes "c" ++ rest
+pub client_gives : {E : Type 0} (r : Result (Option Action) E) (line rest : List ℕ) → line ≡ codes "c" ++ rest → (line ≡ codes "checkpoint" → ⊥)
     → IfOk r (λ found. MatchOption found ((a : Action) → IsClientLine a rest → ⊥) (λ a. IsClientLine a rest))
     → IfOk r (λ found. MatchOption found ((a : Action) → IsLineOf a line → ⊥) (λ a. IsLineOf a line))
-client_gives (Ok None) line rest e none = λ a is. none a (line_is_client line rest a e is)
-client_gives (Ok (Some a)) line rest e is = client_is_line line rest a e is
-client_gives (Err why) line rest e h = tt
+client_gives (Ok None) line rest e k none = λ a is. none a (line_is_client line rest a e k is)
+client_gives (Ok (Some a)) line rest e k is = client_is_line line rest a e is
+client_gives (Err why) line rest e k h = tt
 
-pub no_line : (line : List ℕ) (a : Action) → (line ≡ codes "turn" → ⊥) → ((rest : List ℕ) → line ≡ codes "c" ++ rest → ⊥) → IsLineOf a line → ⊥
-no_line line (Action.Client n r) t c is = c (decimal n ++ 32 ∷ request_text r) is.is
-no_line line Action.Turn t c is = t is.is
+pub no_line : (line : List ℕ) (a : Action) → (line ≡ codes "turn" → ⊥) → (line ≡ codes "checkpoint" → ⊥) → ((rest : List ℕ) → line ≡ codes "c" ++ rest → ⊥) → IsLineOf a line → ⊥
+no_line line (Action.Client n r) t k c is = c (decimal n ++ 32 ∷ request_text r) is.is
+no_line line Action.Turn t k c is = t is.is
+no_line line Action.Checkpoint t k c is = k is.is
 
 -- a test that failed
 pub denied : {P : Type 0} (b : Bool) → (IsTrue b ↔ P) → b ≡ false → P → ⊥

@@ -151,6 +151,21 @@ bring_own (Answer.Turned turn) own = (Ok turn, refl)
 bring_own (Answer.Refused e) own = (Err e, refl)
 bring_own a own = absurd own
 
+pub freeze_own : (a : Answer) → IsAnswerOf Step.Freeze a → IsOutcome (alone Answer.Frozen) a
+freeze_own Answer.Frozen own = (Ok tt, refl)
+freeze_own (Answer.Refused e) own = (Err e, refl)
+freeze_own a own = absurd own
+
+pub piece_own : (a : Answer) → IsAnswerOf Step.Piece a → IsOutcome Answer.Laid a
+piece_own (Answer.Laid more) own = (Ok more, refl)
+piece_own (Answer.Refused e) own = (Err e, refl)
+piece_own a own = absurd own
+
+pub flip_own : (a : Answer) → IsAnswerOf Step.Flip a → IsOutcome Answer.Flipped a
+flip_own (Answer.Flipped mark) own = (Ok mark, refl)
+flip_own (Answer.Refused e) own = (Err e, refl)
+flip_own a own = absurd own
+
 pub look_own : (a : Answer) → IsAnswerOf Step.Look a → IsOutcome Answer.Marked a
 look_own (Answer.Marked mark) own = (Ok mark, refl)
 look_own a own = absurd own

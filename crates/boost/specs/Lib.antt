@@ -4,6 +4,7 @@ pub mod Arguments
 pub mod Plays
 pub mod Clients
 pub mod Turns
+pub mod Checkpoints
 pub mod Requests
 pub mod Commands
 pub mod Failures

@@ -7,6 +7,7 @@ use Rattle.disk_model.specs.declared.disk.Disk.{Ghosts}
 use Rattle.world.specs.declared.world.World.{World}
 use Rattle.boost.specs.Plays.{Runs}
 use Rattle.boost.specs.Turns.{Turns}
+use Rattle.boost.specs.Checkpoints.{Checkpoints}
 use Rattle.boost.specs.Clients.{Makes, Begins, AsksFor, PutsOff, Calls, Commits, Aborts, Looks}
 use Rattle.boost.specs.declared.commands.client.Client.{Client}
 use Rattle.boost.specs.declared.commands.texts.Said.{Said}
@@ -46,9 +47,10 @@ Obeys k old Request.Kept r l new =
 abbrev pub nobody : Client
 nobody = record { begun = None; ticket = None }
 
--- A line's action is done: the committer takes a turn, or the client of the number, counted from 1 to 64, has its request carried out.
+-- A line's action is done: the committer takes a turn, an image is made the store, or the client of the number, counted from 1 to 64, has its request carried out.
 abbrev pub Acts : {D : Type 0} {g : Ghosts D} → List Client → World D g → Action → Result Said Refusal → List Client → World D g → Type 0
 Acts ks old Action.Turn r ls new = (turned : Result Turn Refusal) × (r ≡ telling Said.Turned turned) × (ls ≡ ks) × Runs old (Turns turned) new
+Acts ks old Action.Checkpoint r ls new = (flipped : Result ℕ Refusal) × (r ≡ telling Said.Flipped flipped) × (ls ≡ ks) × Checkpoints old flipped new
 Acts ks old (Action.Client n request) r ls new = (l : Client) × (ls ≡ slice_set ks (n % 64) l) × Obeys (get_or ks (n % 64) nobody) old request r l new
 
 -- what a line answers

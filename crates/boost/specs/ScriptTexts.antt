@@ -132,6 +132,7 @@ pub record IsClient (n : ℕ) : Type 0 where
 abbrev pub action_text : Action → List ℕ
 action_text (Action.Client client r) = codes "c" ++ (decimal client ++ 32 ∷ request_text r)
 action_text Action.Turn = codes "turn"
+action_text Action.Checkpoint = codes "checkpoint"
 
 -- ---- what can be said
 
@@ -147,6 +148,7 @@ CanBeAsked Request.Kept = Unit {0}
 abbrev pub CanBeSaid : Action → Type 0
 CanBeSaid (Action.Client client r) = IsClient client × CanBeAsked r
 CanBeSaid Action.Turn = Unit {0}
+CanBeSaid Action.Checkpoint = Unit {0}
 
 -- the text asks for this
 pub record IsRequestOf (r : Request) (text : List ℕ) : Type 0 where

@@ -11,6 +11,7 @@ ghost use Rattle.boost.specs.Effects.{KeepsPlaying};
 ghost use Rattle.boost.specs.declared.commands.failure.Failure.{Failure};
 ghost use Rattle.boost.specs.Commands.{IsFormat, IsPlay, IsShow, IsCheck, IsDemo, IsUnderstood, IsOfStore, IsWhyUnplayed, IsWhyUndone, IsNotUnderstoodAt, status_of};
 
+mod checkpointer;
 mod client;
 mod committer;
 mod failure;

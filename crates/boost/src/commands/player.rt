@@ -4,6 +4,7 @@ ghost use Rattle.boost.specs.Commands.{IsOfStore};
 ghost use Rattle.boost.specs.Plays.{IsPlayed};
 ghost use Rattle.boost.specs.Requests.{Obeys, Acts, Answers, PlaysLines, nobody, said_kept};
 
+use crate::commands::checkpointer::checkpoint;
 use crate::commands::client::Client;
 use crate::commands::committer::turn;
 use crate::commands::failure::Failure;
@@ -80,6 +81,7 @@ impl<D: Disk> Player<D> {
     {
         match action {
             Action::Turn => Ok(Said::Turned(turn(alloc, &mut self.world)?)),
+            Action::Checkpoint => Ok(Said::Flipped(checkpoint(alloc, &mut self.world)?)),
             // clients are numbered from 1 to 64
             Action::Client(number, request) => {
                 let client = &mut self.clients[usize::from(number) % CLIENTS];

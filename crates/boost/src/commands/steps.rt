@@ -115,6 +115,27 @@ pub fn bring<D: Disk>(alloc: Global, world: &mut World<D>) -> Result<Turn, Refus
     turned(take(alloc, world, Step::Turn))
 }
 
+/// Freezes the book, and begins to write its image.
+pub fn freeze<D: Disk>(alloc: Global, world: &mut World<D>) -> Result<(), Refusal>
+    ensures { Asks world.old Step.Freeze (alone Answer.Frozen) result world.new }
+{
+    frozen(take(alloc, world, Step::Freeze))
+}
+
+/// Writes a block of the image in progress, and answers whether another one is left.
+pub fn piece<D: Disk>(alloc: Global, world: &mut World<D>) -> Result<bool, Refusal>
+    ensures { Asks world.old Step.Piece Answer.Laid result world.new }
+{
+    laid(take(alloc, world, Step::Piece))
+}
+
+/// Makes the image in progress the store, and answers the mark.
+pub fn flip<D: Disk>(alloc: Global, world: &mut World<D>) -> Result<u64, Refusal>
+    ensures { Asks world.old Step.Flip Answer.Flipped result world.new }
+{
+    flipped(take(alloc, world, Step::Flip))
+}
+
 /// Looks at the mark.
 pub fn look<D: Disk>(alloc: Global, world: &mut World<D>) -> Result<u64, Refusal>
     ensures { Asks world.old Step.Look Answer.Marked result world.new }
@@ -225,6 +246,42 @@ fn turned(taken: Result<Answer, Refusal>) -> Result<Turn, Refusal>
 {
     match taken? {
         Answer::Turned(turn) => Ok(turn),
+        Answer::Refused(refusal) => Err(refusal),
+        _ => unreachable!(),
+    }
+}
+
+// That an image is in progress.
+fn frozen(taken: Result<Answer, Refusal>) -> Result<(), Refusal>
+    requires { IfOk taken (IsOutcome (alone Answer.Frozen)) }
+    ensures { Gives (alone Answer.Frozen) taken result }
+{
+    match taken? {
+        Answer::Frozen => Ok(()),
+        Answer::Refused(refusal) => Err(refusal),
+        _ => unreachable!(),
+    }
+}
+
+// Whether a block of the image is left.
+fn laid(taken: Result<Answer, Refusal>) -> Result<bool, Refusal>
+    requires { IfOk taken (IsOutcome Answer.Laid) }
+    ensures { Gives Answer.Laid taken result }
+{
+    match taken? {
+        Answer::Laid(more) => Ok(more),
+        Answer::Refused(refusal) => Err(refusal),
+        _ => unreachable!(),
+    }
+}
+
+// The mark that a flip was answered.
+fn flipped(taken: Result<Answer, Refusal>) -> Result<u64, Refusal>
+    requires { IfOk taken (IsOutcome Answer.Flipped) }
+    ensures { Gives Answer.Flipped taken result }
+{
+    match taken? {
+        Answer::Flipped(mark) => Ok(mark),
         Answer::Refused(refusal) => Err(refusal),
         _ => unreachable!(),
     }

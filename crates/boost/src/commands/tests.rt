@@ -1,6 +1,7 @@
 // What runs answer, on disks in memory and on files.
 mod any_disks;
 mod bad_scripts;
+mod checkpoints;
 mod clients;
 mod damage;
 mod files;

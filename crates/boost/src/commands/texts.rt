@@ -22,6 +22,8 @@ pub enum Said {
     /// The client has no ticket.
     NoTicket,
     Turned(Turn),
+    /// An image is the store, and so many commits are kept.
+    Flipped(u64),
     Refused(Refusal),
 }
 
@@ -39,6 +41,7 @@ impl fmt::Display for Said {
             Said::Turned(Turn::Idle) => write!(f, "idle"),
             Said::Turned(Turn::Kept(place)) => write!(f, "kept {place}"),
             Said::Turned(Turn::Held) => write!(f, "held"),
+            Said::Flipped(mark) => write!(f, "flipped {mark}"),
             Said::Refused(refusal) => {
                 let number = refusal.number();
                 write!(f, "refused {number} {refusal}")

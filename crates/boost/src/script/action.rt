@@ -36,4 +36,6 @@ pub enum Action {
     Client(u8, Request),
     /// The committer takes a turn.
     Turn,
+    /// An image of the store is written, and becomes the store.
+    Checkpoint,
 }

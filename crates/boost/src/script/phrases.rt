@@ -139,6 +139,9 @@ pub fn action(alloc: Global, line: &[u8]) -> Result<Option<Action>, AllocError>
     if same(line, b"turn") {
         return Ok(Some(Action::Turn));
     }
+    if same(line, b"checkpoint") {
+        return Ok(Some(Action::Checkpoint));
+    }
     match behind(line, b"c") {
         Some(rest) => of_client(alloc, rest),
         None => Ok(None),

@@ -117,7 +117,7 @@ fn takes_any_word_as_a_name(rt: HostRuntime) -> Result<(), Fail> {
 
 #[test]
 fn refuses_each_line_that_it_does_not_know(rt: HostRuntime) {
-    let bad: [&[u8]; 72] = [
+    let bad: [&[u8]; 77] = [
         b"c1 call hits bump 01",
         b"c1 call hits bump -0",
         b"c1 call hits bump +1",
@@ -187,6 +187,11 @@ fn refuses_each_line_that_it_does_not_know(rt: HostRuntime) {
         b"begin",
         b"c1",
         b"turn ",
+        b"checkpoint 1",
+        b"checkpoint ",
+        b"checkpoints",
+        b"heckpoint",
+        b"c1 checkpoint",
         b" ",
         b" # turn",
         b"\xff",
@@ -317,6 +322,31 @@ fn reads_what_a_client_asks(rt: HostRuntime) -> Result<(), Fail> {
             Some(Line {
                 number: 3,
                 what: Action::Client(64, Request::Kept)
+            })
+        )
+    );
+    Ok(())
+}
+
+#[test]
+fn reads_what_the_committer_does(rt: HostRuntime) -> Result<(), Fail> {
+    let lines = parse(rt.alloc(), b"checkpoint\n\nturn\n")?;
+    assert_eq!(rt; lines.len(), 2);
+    assert!(rt;
+        matches!(
+            lines.get(0),
+            Some(Line {
+                number: 1,
+                what: Action::Checkpoint
+            })
+        )
+    );
+    assert!(rt;
+        matches!(
+            lines.get(1),
+            Some(Line {
+                number: 3,
+                what: Action::Turn
             })
         )
     );

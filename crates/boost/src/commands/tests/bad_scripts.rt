@@ -27,7 +27,10 @@ fn no_line_is_run_of_a_script_that_is_not_understood(rt: HostRuntime) -> Result<
         (b"turn\nbegin\n", "boost: line 2: not understood\n"),
         (b"turn\nc1 make sets s\n", "boost: line 2: not understood\n"),
         (b"turn\nc65 begin\n", "boost: line 2: not understood\n"),
-        (b"turn\ncheckpoint\n", "boost: line 2: not understood\n"),
+        (
+            b"turn\ncheckpoint\ncheckpoint 1\n",
+            "boost: line 3: not understood\n",
+        ),
     ];
     for (script, said) in scripts {
         let mut disk = fresh(alloc)?;

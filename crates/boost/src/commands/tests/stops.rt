@@ -110,7 +110,7 @@ impl Replay {
 fn add_line(story: &mut Story, numbers: &mut Numbers) -> Result<(), Fail> {
     let client = [1, 2, 64][(numbers.below(3) % 3) as usize];
     let script = &mut story.script;
-    let did = match numbers.below(24) {
+    let did = match numbers.below(26) {
         0 => {
             write!(script, "c{client} make counter z\n")?;
             Did::Make
@@ -133,6 +133,10 @@ fn add_line(story: &mut Story, numbers: &mut Numbers) -> Result<(), Fail> {
         }
         10 => {
             write!(script, "c{client} kept\n")?;
+            Did::Other
+        }
+        11 | 12 => {
+            write!(script, "checkpoint\n")?;
             Did::Other
         }
         _ => {
@@ -182,7 +186,7 @@ fn make_story(alloc: Global, numbers: &mut Numbers, count: u32) -> Result<Story,
     for _ in 0..count {
         add_line(&mut story, numbers)?;
     }
-    story.script.push_str("turn\nturn\n")?;
+    story.script.push_str("turn\ncheckpoint\nturn\n")?;
     Ok(story)
 }
 
@@ -212,7 +216,7 @@ fn shown_by_place(rt: &(impl AllocGlobal + Abort), story: &Story) -> Result<Vec<
 // Each byte at which a run may have written, with this value.
 fn all_as(alloc: Global, value: u8) -> Result<Vec<(u64, u8)>, Fail> {
     let mut pick = Vec::new(alloc);
-    for at in (0..520).chain(4_096..10_240) {
+    for at in (0..520).chain(4_096..10_240).chain(69_632..75_776) {
         pick.push((at, value))?;
     }
     Ok(pick)
@@ -237,7 +241,8 @@ fn check_stopped(
     disk: MemDisk,
 ) -> Result<(), Fail> {
     let alloc = rt.alloc();
-    let (kept, placed) = (last(said, ": kept "), last(said, ": place "));
+    let kept = last(said, ": kept ").max(last(said, ": flipped "));
+    let placed = last(said, ": place ");
     let ran = show_on(alloc, disk);
     assert_eq!(rt; (ran.status, ran.err()), (0, ""));
     let committed = shown.iter().take(placed.saturating_add(1)).skip(kept);
