@@ -28,14 +28,15 @@ use Rattle.recovery.specs.Reading.{Unread, InJournal, Reads, AreAccepted, IsSoun
 use Rattle.recovery.specs.Journals.{Holds, AreSpelt, records_in, StandsFor}
 use Rattle.recovery.proofs.Lists.{leads_append, flat_map-append, all_first, all_last}
 use Rattle.recovery.proofs.CatalogLaws.{laws}
+use Rattle.recovery.proofs.LagLemmas.{lags_calls}
 use Rattle.recovery.proofs.Grammar.{records_spelt}
 use Rattle.recovery.proofs.RepeatLemmas.{records_append, read_records}
 use Rattle.recovery.proofs.Parts.{IsParts, journal_reads}
 use Rattle.recovery.proofs.Contents as image
 use Rattle.recovery.proofs.Contents.{parts, on_from_first}
 use Rattle.world.specs.Pasts.{Past, committed_in, records_of}
-use Rattle.world.specs.Crash.{Yields}
-use Rattle.world.specs.Worlds.{IsLevel, StandIn, IsHeaded}
+use Rattle.world.specs.Crash.{IsOneHistory, Yields}
+use Rattle.world.specs.Worlds.{IsLevel, StandIn, IsHeaded, Parts, HasPast}
 use Rattle.world.proofs.History.{length-committed}
 use Rattle.world.proofs.PastLemmas.{committed_in-records, take-longer}
 
@@ -157,3 +158,21 @@ module _ (start : List Collection) (wear : ℕ) (past : Past) (end : State) (blo
   -- the same of a row in the area that the head picks
   pub row_yields : (area : Area) (m : ℕ) (c : List ℕ) → m ≤ places covered + places (records_in kept) → IsHeaded area c → IsRow (map spelling (blocks ++ kept)) (bytes_of area c) → Yields start past (take m (committed_in past)) c
   row_yields area m c few headed row = yields m c few (holds_row area (blocks ++ kept) c headed row spelt)
+
+-- what a past has committed leads to what its book holds without the live transactions
+module _ {D : Type 0} (seen : D → List ℕ) (may_leave : D → List ℕ → Type 0) (start : List Collection) (past : Past) (w : Parts D) (had : HasPast seen may_leave start past w) where
+  abbrev trail : State
+  trail = had.stands.trail
+
+  all_run : Repeats (records_of past) (resting start had.wear) trail
+  all_run = subst (λ rs. Repeats rs (resting start had.wear) trail) (sym had.stands.split)
+      (leads_append Steps had.covered had.stands.since (resting start had.wear) had.stands.there trail had.stands.led had.stands.leads)
+
+  pub one_history : IsOneHistory start past w.book
+  one_history =
+      let last = comes start had.wear (records_of past) trail all_run [] in
+      record {
+        content = last.content;
+        settled = level_settles trail w.book.state (record { now = had.stands.trails.now; calls = lags_calls trail w.book.state had.stands.trails }) last.content last.settled;
+        serial = subst (λ ts. Serial ts start last.content) (sym (committed_in-records past)) (told_always start had.wear (records_of past) trail all_run []);
+      }

@@ -1,11 +1,19 @@
--- What a stop leaves of a store whose past is known.
+-- What a past comes to: in the book, and on the disk after a stop.
 use Rattle.std.specs.Prelude.{ℕ, List}
 use mathlib.Core.List.{IsPrefix}
-use Rattle.calls.specs.Contents.{Collection}
+use Rattle.calls.specs.Contents.{Collection, AnswersAt, after_at}
 use Rattle.calls.specs.Transactions.{Transaction, Serial}
+use Rattle.txn.specs.Machine.{IsSettled}
 use Rattle.recovery.specs.Journals.{StandsFor}
 use Rattle.recovery.specs.Reading.{IsSound}
-use Rattle.world.specs.Pasts.{Past, committed_in}
+use Rattle.world.specs.Pasts.{Past, BookState, committed_in}
+
+-- The committed transactions of the past, each run whole, one after another, with the replies that its client got, lead from the start to what the
+-- collections of the book hold without the live transactions.
+pub record IsOneHistory (start : List Collection) (past : Past) (book : BookState) : Type 0 where
+  pub content : List Collection
+  pub settled : IsSettled AnswersAt after_at book.state content
+  pub serial : Serial (committed_in past) start content
 
 -- The bytes are sound, and stand for a content that some beginning of the committed transactions of the past gives, each run whole, one
 -- after another, with the replies that its client got; and that beginning holds the transactions that are known.

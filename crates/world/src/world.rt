@@ -7,7 +7,7 @@ ghost use Rattle.calls.specs.Transactions.{Leads};
 ghost use Rattle.disk_model.specs.Disk.{LeavesOnly};
 ghost use Rattle.world.specs.declared.steps.Step.{Step};
 ghost use Rattle.world.specs.Pasts.{Past, committed_in, acknowledged, turn_answer, begun_answer, piece_answer, flip_answer, mark_behind, mark_flipped, IsAnswerOf, AreAnswered, Draws};
-ghost use Rattle.world.specs.Crash.{Yields};
+ghost use Rattle.world.specs.Crash.{IsOneHistory, Yields};
 ghost use Rattle.checkpoint.specs.Imaging.{pieces_left};
 ghost use Rattle.checkpoint.specs.Keepers.{IsFresh};
 ghost use Rattle.recovery.specs.Openings.{IsOpened, IsReadyStore};
@@ -204,8 +204,9 @@ impl<D: Disk> World<D> {
 
 /// Takes the steps in order, and answers each. The list of answers is reserved before the first step.
 ///
-/// For every past that the world has, it afterwards has that past followed by the steps with their answers. Whatever a
-/// stop at any moment since the call began might have left, also within a device write, is sound and stands for a
+/// For every past that the world has, it afterwards has that past followed by the steps with their answers. The committed
+/// transactions, each run whole, one after another, with the replies that its client got, lead from the start of the past
+/// to what the collections hold without the live transactions. Whatever a stop at any moment since the call began might have left, also within a device write, is sound and stands for a
 /// content that some beginning of the committed transactions gives, each run whole, one after another, with the replies
 /// that its client got; and that beginning holds all that was acknowledged before. Each step is answered as the book, the
 /// keeper or the mark answers it there (`Moves`), in its own way or refused, and the draws among them give the next
@@ -224,6 +225,9 @@ pub fn play<D: Disk>(
         HasPast D.seen D.may_leave start past (parts_of world.old.book world.old.keeper world.old.transit.blocks.items world.old.mark) →
         IfOk result (λ answers. LeavesOnly D.moment D.left_since world.old.keeper.disk world.new.keeper.disk
         (Yields start (past ++ zip steps.now answers.items) (acknowledged past))) }
+    ensures one_history { (start : List Collection) (past : Past) →
+        HasPast D.seen D.may_leave start past (parts_of world.old.book world.old.keeper world.old.transit.blocks.items world.old.mark) →
+        IfOk result (λ answers. IsOneHistory start (past ++ zip steps.now answers.items) world.new.book) }
     ensures each { IfOk result (λ answers. length answers.items ≡ length steps.now) }
     ensures own { IfOk result (λ answers. AreAnswered (zip steps.now answers.items)) }
     ensures drawn { IfOk result (λ answers. Leads Draws (zip steps.now answers.items) world.old.next world.new.next) }

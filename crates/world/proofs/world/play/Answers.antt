@@ -5,7 +5,9 @@ use Rattle.world.specs.declared.steps.Step.{Step}
 use Rattle.world.specs.declared.steps.Answer.{Answer}
 use Rattle.world.specs.Pasts.{AreAnswered, Draws}
 use Rattle.world.specs.Moves.{Moves, whole_of}
+use Rattle.world.specs.Worlds.{parts_of}
 use Rattle.calls.specs.Transactions.{Leads}
+use Rattle.world.proofs.YieldLemmas.{one_history}
 use Rattle.world.proofs.PlayLemmas.{so_far_starts, so_far_goes_on}
 use Rattle.world.proofs.AnswerLemmas.{told_starts, told_goes_on}
 use Rattle.world.proofs.world.play.Goals as goal
@@ -37,6 +39,10 @@ whole steps answers i le = ap (λ l. zip l answers) (take_all i steps le)
 
 pub returns-clause-past : goal.returns-clause-past
 returns-clause-past g c = λ start past had. rw (← whole c.args.steps.now c.loop-step.answers.items c.loop-step.step-index (omega (arith, c.loop-step-test.false))) (c.loop-step.invariant.0.past start past had)
+
+pub returns-clause-one_history : goal.returns-clause-one_history
+returns-clause-one_history g c = λ start past had.
+    one_history g.D.Disk.seen g.D.Disk.may_leave start _ (parts_of c.loop-step.world.book c.loop-step.world.keeper c.loop-step.world.transit.blocks.items c.loop-step.world.mark) (returns-clause-past g c start past had)
 
 pub returns-clause-any_moment : goal.returns-clause-any_moment
 returns-clause-any_moment g c = λ start past had. rw (← whole c.args.steps.now c.loop-step.answers.items c.loop-step.step-index (omega (arith, c.loop-step-test.false))) (c.loop-step.invariant.0.moments start past had)
