@@ -135,6 +135,14 @@ module _ (area : ℕ) (old new : List ℕ) (room : IsRoomFor area (length old)) 
       let blocks : List (List Record) = (Record.Marks 1 0 ∷ (Record.ImageEnd ∷ [])) ∷ [] in
       let holds : Holds new blocks = record { size = area; header = header; row = row_there; spelt = ((good.0.fits, good.0.suits), ((good.1.0.fits, good.1.0.suits), tt)) } in
       record {
+        area = area;
+        header = header;
+        filled = record {
+          letters = header.letters;
+          area_is = header.area;
+          root = kept_part 512 1 8 1 old new (inr (omega arith)) torn ∙ filled.root;
+          image = kept_part 4096 24 8 1 old new (inr (omega arith)) torn ∙ filled.image;
+        };
         sound = record { blocks = blocks; holds = holds; good = good; next = 1; end = empty_state; count = 0; accepted = empty_accepted };
         stands = record {
           blocks = blocks;

@@ -6,7 +6,7 @@ use Rattle.disk_model.specs.Disk.{Torn}
 use Rattle.gate_block.specs.Row.{row}
 use Rattle.records.specs.declared.record.Record.{Record}
 use Rattle.records.specs.Records.{spelling}
-use Rattle.recovery.specs.Journals.{StandsFor}
+use Rattle.recovery.specs.Journals.{IsHeader, StandsFor}
 use Rattle.recovery.specs.Reading.{IsSound}
 use Rattle.recovery.specs.Heads.{HasNoHeader}
 
@@ -34,8 +34,12 @@ pub record IsFilled (area : ℕ) (bytes : List ℕ) : Type 0 where
   pub root : take 1 (drop 512 bytes) ≡ 0 ∷ []
   pub image : take 24 (drop 4096 bytes) ≡ empty_area
 
--- The bytes are sound, and stand for a store with no collection.
+-- The bytes are those of a format: a head with an open gate, a root byte that picks the first area, and in it the image of nothing alone. They are
+-- sound, and stand for a store with no collection.
 pub record IsEmptyStore (bytes : List ℕ) : Type 0 where
+  pub area : ℕ
+  pub header : IsHeader area bytes
+  pub filled : IsFilled area bytes
   pub sound : IsSound bytes
   pub stands : StandsFor bytes []
 
