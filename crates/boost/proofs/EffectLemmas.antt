@@ -1,5 +1,5 @@
 -- What a command leaves on a disk.
-use Rattle.std.proofs.Common.{inl, ℕ, List, [], refl, sym, subst}
+use Rattle.std.proofs.Common.{◌≡◌, inl, ℕ, List, [], Result, Ok, Err, OnOk, replicate, refl, sym, subst}
 use Rattle.calls.specs.Contents.{Collection}
 use Rattle.disk_model.specs.Disk.{IsAtRest, LeavesOnly}
 use Rattle.disk_model.specs.declared.disk.Disk.{Ghosts}
@@ -11,11 +11,13 @@ use Rattle.recovery.specs.Openings.{KeepsContent}
 use Rattle.world.specs.declared.world.World.{World}
 use Rattle.world.specs.Pasts.{Past}
 use Rattle.world.specs.Crash.{Yields}
-use Rattle.world.specs.Worlds.{HasPast}
 use Rattle.world.proofs.StepLemmas.{yields_on}
 use Rattle.boost.specs.Plays as plays
-use Rattle.boost.specs.Plays.{parts}
-use Rattle.boost.specs.Effects.{KeepsPlaying}
+use Rattle.boost.specs.Requests.{nobody, CarriesOut, PlaysLines}
+use Rattle.boost.specs.Scripts.{IsScriptOf}
+use Rattle.boost.specs.Effects.{KeepsPlaying, StartsFrom, ArePlayedOn, IsPlayedOn}
+use Rattle.boost.specs.declared.commands.client.Client.{Client}
+use Rattle.boost.specs.declared.script.line.Line.{Line}
 
 -- bytes that stand for the content yield it, with nothing committed
 yields_none : (content : List Collection) (c : List ℕ) → IsSound c × StandsFor c content → Yields content [] [] c
@@ -36,7 +38,7 @@ module _ {D : Type 0} (seen : D → List ℕ) (may_leave : D → List ℕ → Ty
 module _ {D : Type 0} {g : Ghosts D} (old : D) where
   -- a store was opened, and then steps were taken
   pub steps_played : (w v : World D g) → KeepsContent g.seen g.may_leave g.moment g.left_since old w.keeper.disk
-      → ((content : List Collection) → StandsFor (g.seen old) content → IsAtRest g.seen g.may_leave old → HasPast g.seen g.may_leave content [] (parts w)) → plays.IsPlayed w v
+      → StartsFrom g old w → plays.IsPlayed w v
       → KeepsPlaying g.seen g.may_leave g.moment g.left_since old v.keeper.disk
   steps_played w v keeps begins played content rest sound stands =
       let steps : Past = played.0 in
@@ -48,3 +50,22 @@ module _ {D : Type 0} {g : Ghosts D} (old : D) where
             (weaker g.moment g.left_since old w.keeper.disk _ P (keeps content rest sound stands) (λ c fine. yields_on content [] steps [] c (yields_none content c fine)))
             (played.1.any_moment content [] (begins content stands rest)) (λ c y. y);
       }
+
+  -- a store was opened, and then all lines were carried out
+  pub lines_played : {E : Type 0} (w v : World D g) (ks ls : List Client) (lines : List Line) (r : Result (Unit {0}) E) → ks ≡ replicate 64 nobody → (g.is_honest v.keeper.disk → StartsFrom g old w)
+      → PlaysLines ks w lines r ls v → OnOk r (g.is_honest v.keeper.disk → ArePlayedOn g lines old v.keeper.disk)
+  lines_played w v ks ls lines (Ok done) new starts carried = λ honest. record {
+    opened = w;
+    starts = starts honest;
+    clients = ls;
+    world = v;
+    carried = subst (λ k. CarriesOut k w lines ls v) new carried;
+    disk = refl;
+  }
+  lines_played w v ks ls lines (Err e) new starts carried = tt
+
+-- they were those of a script
+pub script_played : {D E : Type 0} (g : Ghosts D) (old new : D) (lines : List Line) (script : List ℕ) (r : Result (Unit {0}) E) → IsScriptOf lines script
+    → OnOk r (g.is_honest new → ArePlayedOn g lines old new) → OnOk r (g.is_honest new → IsPlayedOn g script old new)
+script_played g old new lines script (Ok done) is played = λ honest. (lines, is, played honest)
+script_played g old new lines script (Err e) is played = tt

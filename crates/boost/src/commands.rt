@@ -1,13 +1,10 @@
 // What the program does for a command, on any disk.
-ghost use Rattle.std.specs.Prelude.{◌≡◌, ◌⊎◌, ℕ, List, [], OnOk, IfOk, IfErr};
-ghost use Rattle.calls.specs.Contents.{Collection};
+ghost use Rattle.std.specs.Prelude.{◌≡◌, ◌⊎◌, ℕ, List, [], OnOk, IfOk, IfErr, replicate};
 ghost use Rattle.disk_model.specs.Disk.{ReadsOnly, IsAtRest, LeavesOnly};
-ghost use Rattle.recovery.specs.Journals.{StandsFor};
 ghost use Rattle.recovery.specs.Openings.{KeepsContent};
 ghost use Rattle.recovery.specs.Formats.{IsEmptyStore, IsFormatting};
-ghost use Rattle.world.specs.Worlds.{HasPast};
-ghost use Rattle.boost.specs.Plays.{parts};
-ghost use Rattle.boost.specs.Effects.{KeepsPlaying};
+ghost use Rattle.boost.specs.Requests.{nobody};
+ghost use Rattle.boost.specs.Effects.{KeepsPlaying, ArePlayedOn, IsPlayedOn, StartsFrom};
 ghost use Rattle.boost.specs.declared.commands.failure.Failure.{Failure};
 ghost use Rattle.boost.specs.Commands.{IsFormat, IsPlay, IsShow, IsCheck, IsDemo, IsUnderstood, IsOfStore, IsWhyUnplayed, IsWhyUndone, IsNotUnderstoodAt, status_of};
 
@@ -69,6 +66,7 @@ pub fn run<D: Disk, O: Write, E: Write>(
     ensures formatted { result.0 ≡ 0 → IsFormat task.now → IsEmptyStore (D.seen result.1) × IsAtRest D.seen D.may_leave result.1 }
     ensures formatting { IsFormat task.now → IsAtRest D.seen D.may_leave disk →
         LeavesOnly D.moment D.left_since disk result.1 (IsFormatting (D.seen disk)) }
+    ensures lines { result.0 ≡ 0 → IsPlay task.now → D.is_honest result.1 → IsPlayedOn ⟦<D as Disk>⟧ script.now disk result.1 }
     ensures played { IsPlay task.now → D.is_honest result.1 → KeepsPlaying D.seen D.may_leave D.moment D.left_since disk result.1 }
     ensures shown { IsShow task.now → D.is_honest result.1 → KeepsContent D.seen D.may_leave D.moment D.left_since disk result.1 }
 {
@@ -106,6 +104,7 @@ fn carry_out<D: Disk, O: Write>(
     ensures formatted { OnOk result.0 (IsFormat task.now → IsEmptyStore (D.seen result.1) × IsAtRest D.seen D.may_leave result.1) }
     ensures formatting { IsFormat task.now → IsAtRest D.seen D.may_leave disk →
         LeavesOnly D.moment D.left_since disk result.1 (IsFormatting (D.seen disk)) }
+    ensures lines { OnOk result.0 (IsPlay task.now → D.is_honest result.1 → IsPlayedOn ⟦<D as Disk>⟧ script.now disk result.1) }
     ensures played { IsPlay task.now → D.is_honest result.1 → KeepsPlaying D.seen D.may_leave D.moment D.left_since disk result.1 }
     ensures shown { IsShow task.now → D.is_honest result.1 → KeepsContent D.seen D.may_leave D.moment D.left_since disk result.1 }
 {
@@ -134,6 +133,7 @@ fn perform<D: Disk, O: Write>(
     ensures formatted { OnOk result.0 (IsFormat task.now → IsEmptyStore (D.seen result.1) × IsAtRest D.seen D.may_leave result.1) }
     ensures formatting { IsFormat task.now → IsAtRest D.seen D.may_leave disk →
         LeavesOnly D.moment D.left_since disk result.1 (IsFormatting (D.seen disk)) }
+    ensures lines { OnOk result.0 (IsPlay task.now → D.is_honest result.1 → IsPlayedOn ⟦<D as Disk>⟧ script.now disk result.1) }
     ensures played { IsPlay task.now → D.is_honest result.1 → KeepsPlaying D.seen D.may_leave D.moment D.left_since disk result.1 }
     ensures shown { IsShow task.now → D.is_honest result.1 → KeepsContent D.seen D.may_leave D.moment D.left_since disk result.1 }
 {
@@ -169,6 +169,7 @@ fn play_script<D: Disk, O: Write>(
 ) -> (Result<(), Failure<'static>>, D)
     ensures understood { OnOk result.0 (IsUnderstood script.now) }
     ensures why { IfErr result.0 (IsWhyUnplayed script.now (result.1 ≡ disk)) }
+    ensures lines { OnOk result.0 (D.is_honest result.1 → IsPlayedOn ⟦<D as Disk>⟧ script.now disk result.1) }
     ensures played { D.is_honest result.1 → KeepsPlaying D.seen D.may_leave D.moment D.left_since disk result.1 }
 {
     match parse(alloc, script) {
@@ -180,8 +181,8 @@ fn play_script<D: Disk, O: Write>(
 // The player of a store that is opened. Where the disk is at rest and reads true, the past of its world begins with the
 // content of the store, and a stop at any moment of the opening leaves that content.
 fn open_player<D: Disk>(alloc: Global, disk: D) -> Result<Player<D>, (Refusal, D)>
-    ensures past { (content : List Collection) → StandsFor (D.seen disk) content → IsAtRest D.seen D.may_leave disk →
-        IfOk result (λ player. D.is_honest player.world.keeper.disk → HasPast D.seen D.may_leave content [] (parts player.world)) }
+    ensures clients { IfOk result (λ player. player.clients ≡ replicate 64 nobody) }
+    ensures past { IfOk result (λ player. D.is_honest player.world.keeper.disk → StartsFrom ⟦<D as Disk>⟧ disk player.world) }
     ensures kept { IfOk result (λ player. D.is_honest player.world.keeper.disk → KeepsContent D.seen D.may_leave D.moment D.left_since disk player.world.keeper.disk) }
     ensures kept_in_refusal { IfErr result (λ x. D.is_honest x.1 → KeepsContent D.seen D.may_leave D.moment D.left_since disk x.1) }
 {
@@ -197,6 +198,7 @@ fn play_lines<D: Disk, O: Write>(
     out: &mut O,
 ) -> (Result<(), Failure<'static>>, D)
     ensures why { IfErr result.0 IsOfStore }
+    ensures lines { OnOk result.0 (D.is_honest result.1 → ArePlayedOn ⟦<D as Disk>⟧ lines.items disk result.1) }
     ensures played { D.is_honest result.1 → KeepsPlaying D.seen D.may_leave D.moment D.left_since disk result.1 }
 {
     match open_player(alloc, disk) {

@@ -1,5 +1,5 @@
 // A script's clients and its committer, line by line.
-ghost use Rattle.std.specs.Prelude.{◌≡◌, All, IfErr};
+ghost use Rattle.std.specs.Prelude.{◌≡◌, IfErr, replicate};
 ghost use Rattle.boost.specs.Commands.{IsOfStore};
 ghost use Rattle.boost.specs.Plays.{IsPlayed};
 ghost use Rattle.boost.specs.Requests.{Obeys, Acts, Answers, PlaysLines, nobody, said_kept};
@@ -30,7 +30,7 @@ impl<D: Disk> Player<D> {
     /// Before the first line.
     pub fn new(world: World<D>) -> Self
         ensures world { result.world ≡ world }
-        ensures clients { All (λ client. client ≡ nobody) result.clients }
+        ensures clients { result.clients ≡ replicate 64 nobody }
     {
         Self {
             world,

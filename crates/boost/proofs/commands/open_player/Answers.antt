@@ -16,7 +16,7 @@ returns-in_err-new-clause-kept_in_refusal g c =
     rw (p.1, p.2) (λ honest. subst (λ d. KeepsContent g.D.Disk.seen g.D.Disk.may_leave g.D.Disk.moment g.D.Disk.left_since c.args.disk d) (sym is) (c.in_ok-book.ensures.kept (subst g.D.Disk.is_honest is honest)))
 
 pub returns-clause-past : goal.returns-clause-past
-returns-clause-past g c = λ content stands rest honest.
+returns-clause-past g c = λ honest content stands rest.
     opened_past c.new-2.result.world c.in_ok-new.field-0 c.new-2.ensures.world c.in_ok-book.keeper c.in_ok-new.ensures.parts.1 c.args.disk c.in_ok-book.book content c.in_ok-book.ensures.opened c.in_ok-book.ensures.ready (c.in_ok-book.ensures.content content stands) c.in_ok-new.ensures.past rest honest
 
 pub returns-clause-kept : goal.returns-clause-kept
