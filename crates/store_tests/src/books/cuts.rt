@@ -11,7 +11,7 @@ pub struct Shelf {
 }
 
 impl Shelf {
-    pub fn new(alloc: Global, room: usize) -> Result<Self, AllocError> {
+    pub(crate) fn new(alloc: Global, room: usize) -> Result<Self, AllocError> {
         Ok(Self {
             blocks: Vec::with_capacity(alloc, room)?,
         })
