@@ -42,7 +42,8 @@ use world::World;
 /// Play and Show open the store: transactions that have not ended are undone, and that is written to the disk. On a disk
 /// at rest that reads true and whose bytes are sound, a stop at any moment of a Show leaves the content, and one of a
 /// Play a beginning of what its steps committed; a Format leaves an empty store, at rest, and a stop in it what
-/// `recovery::format` says.
+/// `recovery::format` says. After a Play with status 0 all lines of the script were carried out, one after another, on
+/// the store that was opened, those that were refused among them.
 ///
 /// The status is 0 where the command was done, lines of the script that were refused among it; else a text goes to
 /// `err`, as `Failure` says: 3 for a script with a line that is not understood, of which no line is run and for

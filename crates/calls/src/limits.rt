@@ -24,9 +24,10 @@ pub const MAX_TRANSIT: usize = 4;
 /// The most bytes of a block's body.
 pub const MAX_BODY: usize = 65_535;
 
-/// The fewest and the most bytes of an area.
+/// The fewest bytes of an area.
 pub const MIN_AREA: u64 = 65_536;
 
+/// The most bytes of an area.
 pub const MAX_AREA: u64 = 1_073_741_824;
 
 /// Numbers of transactions lie below it, and steps that wear a book are refused from it on: 2 to the 61.

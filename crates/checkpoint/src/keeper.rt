@@ -202,7 +202,8 @@ impl<D: Disk> Keeper<D> {
         }
     }
 
-    /// Begins to write an image into the area that is not in use. No device is called, and no block copied.
+    /// Begins to write an image into the area that is not in use. No device is called, no memory is taken and no block
+    /// copied.
     ///
     /// Refusals, in this order, each with everything as before: Failed after a Fault; Imaging where an image is in
     /// progress; Full where the blocks, with a closed gate behind the last, need more bytes than an area has.
@@ -265,7 +266,7 @@ impl<D: Disk> Keeper<D> {
 
     /// Makes the image the store, and answers the mark then, which is at least the image's place. What was written is
     /// synced, and then the root byte is written, whose lowest bit picks the area, and synced. The area that was in use is
-    /// out of use then.
+    /// out of use then. It takes no memory.
     ///
     /// A stop at any moment of the call leaves what it could have left before; or what a read gave before, with any root
     /// byte.

@@ -73,6 +73,10 @@ fn open_on<D: Disk>(alloc: Global, disk: &mut D) -> Result<(Book<Catalog>, Area)
 /// Ended, behind the others, 64 to a block. Nothing is written where none was live, and none is live in the book. The
 /// keeper's mark is 0. A stop at any moment leaves a store of the same content, that can be opened again.
 ///
+/// It holds the body of one block at a time, beside what the collections hold, the live transactions asked for, and the
+/// records of the undoing. Each record is read once, and repeated in the time of its call and of the needs and live calls
+/// that stand then.
+///
 /// Refused NotAStore, where the disk read true only if it has no head of a store; Fault where the disk failed; Damaged
 /// with the position of the gate of the block in which the first damage stands, where the disk read true only if the
 /// bytes are not sound; NoMemory; Full, where the disk read true only if the records of the undoing do not fit. All but

@@ -274,8 +274,8 @@ impl<B: Parts + Coded> Book<B> {
     /// for what a falling one put off. It marks the position behind the last record, which the image covers too: no block
     /// that `cut` hands over from now on holds records from both sides of it. Nothing else is changed.
     ///
-    /// It takes time and memory in proportion to what the collections hold, of which the image is one copy; beside it the
-    /// items of one collection at a time are copied.
+    /// It takes time and memory in proportion to what the collections hold and the live transactions asked for, of which
+    /// the image is one copy; beside it the items of one collection at a time are copied.
     ///
     /// NoMemory, which changes nothing.
     pub fn freeze(&mut self) -> Result<Image, Refusal>

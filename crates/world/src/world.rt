@@ -206,11 +206,11 @@ impl<D: Disk> World<D> {
 ///
 /// For every past that the world has, it afterwards has that past followed by the steps with their answers. The committed
 /// transactions, each run whole, one after another, with the replies that its client got, lead from the start of the past
-/// to what the collections hold without the live transactions. Whatever a stop at any moment since the call began might have left, also within a device write, is sound and stands for a
-/// content that some beginning of the committed transactions gives, each run whole, one after another, with the replies
-/// that its client got; and that beginning holds all that was acknowledged before. Each step is answered as the book, the
-/// keeper or the mark answers it there (`Moves`), in its own way or refused, and the draws among them give the next
-/// numbers, one after another.
+/// to what the collections hold without the live transactions. Whatever a stop at any moment since the call began might
+/// have left, also within a device write, is sound and stands for a content that some beginning of the committed
+/// transactions gives, run in the same way; and that beginning holds all that was acknowledged before. Each step is
+/// answered as the book, the keeper or the mark answers it there (`Moves`), in its own way or refused, and the draws among
+/// them give the next numbers, one after another.
 ///
 /// Refused only for want of memory, with no step taken.
 pub fn play<D: Disk>(
