@@ -1,6 +1,7 @@
 // What the program answers to command lines, on files.
 use super::*;
 use std::fs::remove_file;
+use std::process::Abort;
 use std::test::Fail;
 
 // What the program said to a command line.
@@ -30,6 +31,57 @@ fn is_there(rt: &impl Files<File = File>, path: &str) -> bool {
     File::open(rt, path).is_ok()
 }
 
+// The head of a store with two of the least areas: the marks of a store, its open gate and the size.
+const HEAD: &[u8] = b"BOOSTED1\xa7\0\0\0\0\0\x01\0\0";
+
+// Its first area: the image of nothing, and a closed gate.
+const EMPTY: &[u8] = b"\xa7\0\0\0\x12\x0b\0\0\0\0\0\0\0\x01\0\0\0\0\0\0\0\0\x0c\0";
+
+// The block of a counter `hits` that was made and bumped by 1, and a closed gate.
+const HITS: &[u8] = b"\xa7\0\0\0\x36\x01\x04\x04hits\
+\x0d\0\0\0\0\0\0\0\x01\
+\x02\0\0\0\0\0\0\0\x01\0\x0c\0\0\0\0\0\0\0\x01\0\x0c\xff\xff\xff\xff\xff\xff\xff\xff\
+\x04\0\0\0\0\0\0\0\x01\0";
+
+// Sees which bytes stand in a file from one place on.
+fn check_bytes(
+    rt: &(impl Files<File = File> + AllocGlobal + Abort),
+    path: &str,
+    at: usize,
+    wanted: &[u8],
+) -> Result<(), Fail> {
+    let bytes = fs::read(rt, path)?;
+    let found = bytes.get(at..).unwrap_or(&[]);
+    assert!(rt; found.starts_with(wanted), "at {at} of {path}");
+    Ok(())
+}
+
+// Sees the head of a store in a file, its root byte, and the image of nothing in its first area.
+fn check_made(
+    rt: &(impl Files<File = File> + AllocGlobal + Abort),
+    path: &str,
+) -> Result<(), Fail> {
+    check_bytes(rt, path, 0, HEAD)?;
+    check_bytes(rt, path, 512, &[0])?;
+    check_bytes(rt, path, 4_096, EMPTY)
+}
+
+#[test]
+fn an_empty_store_is_made_in_a_file(rt: HostRuntime) -> Result<(), Fail> {
+    let disk = "program_empty.disk";
+    let made = tell(&rt, &["boost", "format", disk, "--area", "65536"]);
+    assert!(rt; made.says(0, "", ""));
+    check_made(&rt, disk)?;
+    assert_eq!(rt; fs::read(&rt, disk)?.len(), 135_168);
+    let counts = "sound: 0 collections, 0 unfinished transactions, 0 journal records\n";
+    let checked = tell(&rt, &["boost", "check", disk]);
+    assert!(rt; checked.says(0, counts, ""));
+    // and that wrote nothing
+    check_made(&rt, disk)?;
+    remove_file(&rt, disk)?;
+    Ok(())
+}
+
 #[test]
 fn a_counter_is_kept_in_a_file(rt: HostRuntime) -> Result<(), Fail> {
     let (disk, script) = ("program_hits.disk", "program_hits.script");
@@ -46,6 +98,8 @@ fn a_counter_is_kept_in_a_file(rt: HostRuntime) -> Result<(), Fail> {
             ""
         )
     );
+    // the block stands behind the image of nothing, whose closed gate it opened
+    check_bytes(&rt, disk, 4_119, HITS)?;
     let shown = tell(&rt, &["boost", "show", disk]);
     assert!(rt; shown.says(0, "counter hits\n  1\n", ""));
     let checked = tell(&rt, &["boost", "check", disk]);

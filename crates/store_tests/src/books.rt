@@ -1,8 +1,6 @@
-// Blocks that are handed over, images, records that are repeated, and refusals that want a long way.
+// Blocks that are handed over, images, and refusals that want a long way.
 mod cuts;
 mod freezes;
-mod loads;
-mod machines;
 mod refusals;
 
 use calls::{Bytes, Call, Kind, Refusal, Reply};
@@ -11,7 +9,7 @@ use std::alloc::Global;
 use std::fmt;
 use std::process::Abort;
 use std::test::Fail;
-use txn::{Block, Book, Loader, Machine, Outbox};
+use txn::{Block, Book, Outbox};
 
 fn text<T: fmt::Debug>(alloc: Global, value: &T) -> Result<String, Fail> {
     Ok(format!(in alloc; "{value:?}")?)

@@ -21,6 +21,9 @@ const AREA: u64 = 16;
 
 const SIZE: u64 = 4128;
 
+// Where the root byte stands.
+const ROOT: u64 = 512;
+
 // Blocks that wait, in order.
 #[derive(Drop)]
 struct Waiting {
@@ -156,78 +159,119 @@ fn check_image(rt: &(impl AllocGlobal + Abort), keeper: &mut Keeper<MemDisk>, ma
     assert_eq!(rt; keeper.flip(), Err(Refusal::Unfinished));
 }
 
-#[test]
-fn images_are_written_while_blocks_come(rt: HostRuntime) -> Result<(), Fail> {
-    let alloc = rt.alloc();
-    let disk = MemDisk::new(alloc, FIRST + 48)?;
-    let mut keeper = Keeper::new(disk, Area::start(FIRST, 24, 0));
-    let mut four = blocks_for(alloc, &[1, 2, 3, 4])?;
-    assert_eq!(rt; keeper.turn(&mut four), Ok(Turn::Kept(1)));
-    assert_eq!(rt; keeper.begin_image(image(alloc, 2)?), Ok(()));
-    assert_eq!(rt; keeper.begin_image(image(alloc, 2)?), Err(Refusal::Imaging));
-    for turn in [Turn::Kept(2), Turn::Held, Turn::Held] {
-        assert_eq!(rt; keeper.turn(&mut four), Ok(turn));
-    }
-    assert_eq!(rt; keeper.left(), Some(2));
-    check_image(&rt, &mut keeper, 2);
-    check_turns(&rt, &mut keeper, &mut four, &[Ok(Turn::Kept(3))]);
-    assert_eq!(rt; keeper.begin_image(image(alloc, 4)?), Ok(()));
-    check_image(&rt, &mut keeper, 4);
-    // the fourth block is in that image
-    check_turns(
-        &rt,
-        &mut keeper,
-        &mut four,
-        &[Ok(Turn::Kept(4)), Ok(Turn::Idle)],
-    );
-    let mut disk = keeper.into_disk();
-    let mut areas = [9; 48];
-    let mut root = [9];
-    assert_eq!(rt; disk.size(), FIRST + 48);
-    assert!(rt; disk.read_at(FIRST, &mut areas).is_ok());
-    assert!(rt; disk.read_at(512, &mut root).is_ok());
-    assert_eq!(rt; root, [0]);
-    assert_eq!(rt;
-        areas,
-        [
-            0xA7, 0, 0, 0, 2, 7, 6, 0xA7, 0, 0, 0, 2, 8, 6, 0, 0, 0, 0, 0, 0, 0, 0, 0, 0, 0xA7, 0,
-            0, 0, 2, 7, 6, 0xA7, 0, 0, 0, 2, 8, 6, 0xA7, 0, 0, 0, 2, 5, 6, 0, 0, 0
-        ]
-    );
+// Sees which bytes stand on a disk from one place on.
+fn check_bytes(
+    rt: &(impl AllocGlobal + Abort),
+    disk: &mut MemDisk,
+    at: u64,
+    wanted: &[u8],
+) -> Result<(), Fail> {
+    let mut bytes = vec![in rt.alloc(); 9; wanted.len()]?;
+    assert!(rt; at <= disk.size() && wanted.len() as u64 <= disk.size() - at);
+    assert!(rt; disk.read_at(at, &mut bytes).is_ok());
+    assert_eq!(rt; bytes.as_slice(), wanted);
     Ok(())
 }
 
-#[test]
-fn the_lowest_bit_of_the_root_byte_picks(rt: HostRuntime) -> Result<(), Fail> {
-    for (byte, picked) in [(0xFE, FIRST), (3, SECOND)] {
-        let mut disk = MemDisk::new(rt.alloc(), SIZE)?;
-        // two pieces, a sync, the root byte and a sync
-        disk.fail_at(5);
-        let mut keeper = Keeper::new(disk, Area::start(FIRST, AREA, 0));
-        assert_eq!(rt; keeper.begin_image(image(rt.alloc(), 1)?), Ok(()));
-        assert_eq!(rt; write_piece(&mut keeper), Some(Ok(true)));
-        assert_eq!(rt; write_piece(&mut keeper), Some(Ok(false)));
-        assert_eq!(rt; keeper.flip(), Err(Refusal::Fault));
-        assert_eq!(rt; keeper.flip(), Err(Refusal::Failed));
-        assert!(rt; keeper.left().is_none());
-        let mut left = keeper
-            .into_disk()
-            .stop(&[(512, byte), (SECOND, 9), (FIRST, 9)]);
-        let mut root = [9];
-        let mut areas = [9; 32];
-        assert_eq!(rt; left.size(), SIZE);
-        assert!(rt; left.read_at(512, &mut root).is_ok());
-        assert!(rt; left.read_at(FIRST, &mut areas).is_ok());
-        assert_eq!(rt; FIRST + AREA * (root[0] % 2) as u64, picked);
-        assert_eq!(rt;
-            areas,
-            [
-                0, 0, 0, 0, 0, 0, 0, 0, 0, 0, 0, 0, 0, 0, 0, 0, 0xA7, 0, 0, 0, 2, 7, 6, 0xA7, 0, 0,
-                0, 2, 8, 6, 0, 0
-            ]
-        );
+// Begins an image that ends with this place, and answers what the keeper says.
+fn begin(
+    alloc: Global,
+    keeper: &mut Keeper<MemDisk>,
+    place: u64,
+) -> Result<Result<(), Refusal>, Fail> {
+    Ok(keeper.begin_image(image(alloc, place)?))
+}
+
+// The first of four blocks is kept, then the second beside an image that ends with it; the third is held up to the flip.
+fn check_first_image(
+    rt: &(impl AllocGlobal + Abort),
+    keeper: &mut Keeper<MemDisk>,
+    four: &mut Waiting,
+) -> Result<(), Fail> {
+    assert_eq!(rt; keeper.turn(four), Ok(Turn::Kept(1)));
+    assert_eq!(rt; begin(rt.alloc(), keeper, 2)?, Ok(()));
+    assert_eq!(rt; begin(rt.alloc(), keeper, 2)?, Err(Refusal::Imaging));
+    for turn in [Turn::Kept(2), Turn::Held, Turn::Held] {
+        assert_eq!(rt; keeper.turn(four), Ok(turn));
     }
+    assert_eq!(rt; keeper.left(), Some(2));
+    check_image(rt, keeper, 2);
     Ok(())
+}
+
+// The third is kept behind the image, and the fourth is in the next one.
+fn check_second_image(
+    rt: &(impl AllocGlobal + Abort),
+    keeper: &mut Keeper<MemDisk>,
+    four: &mut Waiting,
+) -> Result<(), Fail> {
+    check_turns(rt, keeper, four, &[Ok(Turn::Kept(3))]);
+    assert_eq!(rt; begin(rt.alloc(), keeper, 4)?, Ok(()));
+    check_image(rt, keeper, 4);
+    check_turns(rt, keeper, four, &[Ok(Turn::Kept(4)), Ok(Turn::Idle)]);
+    Ok(())
+}
+
+// A disk on which both are done, with areas of 24 bytes.
+fn with_images(rt: &(impl AllocGlobal + Abort)) -> Result<MemDisk, Fail> {
+    let mut four = blocks_for(rt.alloc(), &[1, 2, 3, 4])?;
+    let disk = MemDisk::new(rt.alloc(), FIRST + 48)?;
+    let mut keeper = Keeper::new(disk, Area::start(FIRST, 24, 0));
+    check_first_image(rt, &mut keeper, &mut four)?;
+    check_second_image(rt, &mut keeper, &mut four)?;
+    Ok(keeper.into_disk())
+}
+
+#[test]
+fn images_are_written_while_blocks_come(rt: HostRuntime) -> Result<(), Fail> {
+    let mut disk = with_images(&rt)?;
+    assert_eq!(rt; disk.size(), FIRST + 48);
+    check_bytes(&rt, &mut disk, ROOT, &[0])?;
+    let first = b"\xa7\0\0\0\x02\x07\x06\xa7\0\0\0\x02\x08\x06\0\0\0\0\0\0\0\0\0\0";
+    check_bytes(&rt, &mut disk, FIRST, first)?;
+    let second = b"\xa7\0\0\0\x02\x07\x06\xa7\0\0\0\x02\x08\x06\xa7\0\0\0\x02\x05\x06\0\0\0";
+    check_bytes(&rt, &mut disk, FIRST + 24, second)
+}
+
+// Writes both pieces of an image, and fails in the write of the root byte.
+fn check_failing_flip(
+    rt: &(impl AllocGlobal + Abort),
+    keeper: &mut Keeper<MemDisk>,
+) -> Result<(), Fail> {
+    assert_eq!(rt; begin(rt.alloc(), keeper, 1)?, Ok(()));
+    assert_eq!(rt; write_piece(keeper), Some(Ok(true)));
+    assert_eq!(rt; write_piece(keeper), Some(Ok(false)));
+    assert_eq!(rt; keeper.flip(), Err(Refusal::Fault));
+    assert_eq!(rt; keeper.flip(), Err(Refusal::Failed));
+    assert!(rt; keeper.left().is_none());
+    Ok(())
+}
+
+// The disk that a stop leaves then, with this root byte.
+fn stopped_in_root(rt: &(impl AllocGlobal + Abort), byte: u8) -> Result<MemDisk, Fail> {
+    let mut disk = MemDisk::new(rt.alloc(), SIZE)?;
+    // two pieces, a sync, the root byte and a sync
+    disk.fail_at(5);
+    let mut keeper = Keeper::new(disk, Area::start(FIRST, AREA, 0));
+    check_failing_flip(rt, &mut keeper)?;
+    let disk = keeper.into_disk();
+    Ok(disk.stop(&[(ROOT, byte), (SECOND, 9), (FIRST, 9)]))
+}
+
+// Both areas are as they were, whatever the root byte is.
+fn check_root(rt: &(impl AllocGlobal + Abort), byte: u8) -> Result<(), Fail> {
+    let mut left = stopped_in_root(rt, byte)?;
+    assert_eq!(rt; left.size(), SIZE);
+    check_bytes(rt, &mut left, ROOT, &[byte])?;
+    check_bytes(rt, &mut left, FIRST, &[0; 16])?;
+    let image = b"\xa7\0\0\0\x02\x07\x06\xa7\0\0\0\x02\x08\x06\0\0";
+    check_bytes(rt, &mut left, SECOND, image)
+}
+
+#[test]
+fn a_stop_in_the_root_byte_leaves_both_areas(rt: HostRuntime) -> Result<(), Fail> {
+    check_root(&rt, 0xFE)?;
+    check_root(&rt, 3)
 }
 
 #[test]

@@ -5,6 +5,8 @@
 #[cfg(test)]
 mod books;
 #[cfg(test)]
+mod hexadecimal;
+#[cfg(test)]
 mod keepers;
 #[cfg(test)]
 mod spellings;

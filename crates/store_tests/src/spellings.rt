@@ -2,6 +2,7 @@
 ghost use Rattle.std.specs.Prelude.{IfOk};
 ghost use Rattle.calls.specs.Names.{IsName};
 
+use crate::hexadecimal::bytes_of;
 use calls::{Call, Kind, Name, Refusal, Reply};
 use records::{CallRecord, Record, decode, encode};
 use std::alloc::{AllocError, Global};
@@ -50,130 +51,84 @@ const ROWS: [&str; 25] = [
     "0f 0000000000000005 0a 00",
 ];
 
-// The other records, each with the kind that was named last.
-const RECORDS: [(Option<Kind>, &str); 24] = [
-    (None, "01 01 01 73"),
-    (None, "01 02 01 6d"),
-    (None, "01 03 01 71"),
-    (None, "01 04 01 6e"),
-    (None, "01 05 05 612d7a2e5f"),
-    (None, "03 1fffffffffffffff ff 0c 8000000000000001"),
-    (None, "04 0000000000000001"),
-    (None, "05 0000000000000001"),
-    (None, "06 0000000000000001"),
-    (None, "07 01 01 73"),
-    (Some(Kind::Set), "07 02 01 6d"),
-    (None, "07 03 01 71"),
-    (None, "07 04 01 6e"),
-    (None, "07 05 01 70"),
-    (Some(Kind::Set), "08 0000000000000005"),
-    (Some(Kind::Map), "08 0000000000000005 0002 abcd"),
-    (Some(Kind::Map), "08 0000000000000005 0000"),
-    (Some(Kind::Queue), "08 0000000000000005 0000000000000006"),
-    (Some(Kind::Counter), "08 fffffffffffffffffffffffffffffffe"),
-    (Some(Kind::Pool), "08 0000000000000005"),
-    (None, "0a 0000000000000001 00 0c 7fffffffffffffff"),
-    (None, "0b 2000000000000000 0000000000000007"),
-    (None, "0c"),
-    (Some(Kind::Map), "0d 1fffffffffffffff"),
+// The other records, some behind the kind that was named last.
+const RECORDS: [&str; 24] = [
+    "01 01 01 73",
+    "01 02 01 6d",
+    "01 03 01 71",
+    "01 04 01 6e",
+    "01 05 05 612d7a2e5f",
+    "03 1fffffffffffffff ff 0c 8000000000000001",
+    "04 0000000000000001",
+    "05 0000000000000001",
+    "06 0000000000000001",
+    "07 01 01 73",
+    "set: 07 02 01 6d",
+    "07 03 01 71",
+    "07 04 01 6e",
+    "07 05 01 70",
+    "set: 08 0000000000000005",
+    "map: 08 0000000000000005 0002 abcd",
+    "map: 08 0000000000000005 0000",
+    "queue: 08 0000000000000005 0000000000000006",
+    "counter: 08 fffffffffffffffffffffffffffffffe",
+    "pool: 08 0000000000000005",
+    "0a 0000000000000001 00 0c 7fffffffffffffff",
+    "0b 2000000000000000 0000000000000007",
+    "0c",
+    "map: 0d 1fffffffffffffff",
 ];
 
-// What no record says, each with the kind that was named last.
-const BAD: [(Option<Kind>, &str); 38] = [
-    (None, "00"),
-    (None, "0e"),
+// What no record says, some behind the kind that was named last.
+const BAD: [&str; 38] = [
+    "00",
+    "0e",
     // kinds
-    (None, "01 00 01 61"),
-    (None, "01 06 01 61"),
-    (None, "07 06 01 61"),
+    "01 00 01 61",
+    "01 06 01 61",
+    "07 06 01 61",
     // names
-    (None, "01 04 00"),
-    (None, "01 04 01 41"),
-    (None, "01 04 02 c3a9"),
-    (
-        None,
-        "01 04 41 6161616161616161616161616161616161616161616161616161616161616161 6161616161616161616161616161616161616161616161616161616161616161 61",
-    ),
+    "01 04 00",
+    "01 04 01 41",
+    "01 04 02 c3a9",
+    "01 04 41 6161616161616161616161616161616161616161616161616161616161616161 6161616161616161616161616161616161616161616161616161616161616161 61",
     // numbers
-    (None, "0d 0000000000000000"),
-    (None, "0d 2000000000000000"),
-    (None, "04 0000000000000000"),
-    (None, "05 2000000000000000"),
-    (None, "06 0000000000000000"),
-    (None, "0b 0000000000000000 0000000000000000"),
-    (None, "0b 2000000000000001 0000000000000000"),
-    (
-        None,
-        "02 0000000000000000 00 0d 07 00000000000000000000000000000003 00",
-    ),
-    (None, "03 0000000000000000 00 0c 0000000000000001"),
+    "0d 0000000000000000",
+    "0d 2000000000000000",
+    "04 0000000000000000",
+    "05 2000000000000000",
+    "06 0000000000000000",
+    "0b 0000000000000000 0000000000000000",
+    "0b 2000000000000001 0000000000000000",
+    "02 0000000000000000 00 0d 07 00000000000000000000000000000003 00",
+    "03 0000000000000000 00 0c 0000000000000001",
     // calls that can't be asked
-    (
-        None,
-        "02 0000000000000001 00 0b 0000000000000005 0000000000000006 00 00",
-    ),
-    (None, "02 0000000000000001 00 10 0000000000000005 00 00"),
-    (
-        None,
-        "02 0000000000000001 00 0c 8000000000000000 00 0c 8000000000000000",
-    ),
-    (None, "09 0000000000000001 00 10 0000000000000005 00 00"),
+    "02 0000000000000001 00 0b 0000000000000005 0000000000000006 00 00",
+    "02 0000000000000001 00 10 0000000000000005 00 00",
+    "02 0000000000000001 00 0c 8000000000000000 00 0c 8000000000000000",
+    "09 0000000000000001 00 10 0000000000000005 00 00",
     // codes of no call, of no reply and of no inverse
-    (None, "02 0000000000000001 00 00 00 00"),
-    (None, "02 0000000000000001 00 11 0000000000000005 00 00"),
-    (None, "02 0000000000000001 00 0e 0b 0000000000000005 00"),
-    (None, "02 0000000000000001 00 09 03 11"),
+    "02 0000000000000001 00 00 00 00",
+    "02 0000000000000001 00 11 0000000000000005 00 00",
+    "02 0000000000000001 00 0e 0b 0000000000000005 00",
+    "02 0000000000000001 00 09 03 11",
     // replies of another call
-    (
-        None,
-        "02 0000000000000001 00 0c 0000000000000001 02 0c ffffffffffffffff",
-    ),
-    (None, "02 0000000000000001 00 01 0000000000000005 03 00"),
+    "02 0000000000000001 00 0c 0000000000000001 02 0c ffffffffffffffff",
+    "02 0000000000000001 00 01 0000000000000005 03 00",
     // other inverses than the call's
-    (None, "02 0000000000000001 00 0c 0000000000000001 00 00"),
-    (
-        None,
-        "02 0000000000000001 00 0c 0000000000000001 00 0c fffffffffffffffe",
-    ),
-    (
-        None,
-        "02 0000000000000001 00 05 0000000000000005 0000 04 0001 07 05 0000000000000005 0001 08",
-    ),
-    (None, "02 0000000000000001 00 09 03 09"),
+    "02 0000000000000001 00 0c 0000000000000001 00 00",
+    "02 0000000000000001 00 0c 0000000000000001 00 0c fffffffffffffffe",
+    "02 0000000000000001 00 05 0000000000000005 0000 04 0001 07 05 0000000000000005 0001 08",
+    "02 0000000000000001 00 09 03 09",
     // laters that are no Bump, or one too great
-    (None, "03 0000000000000001 00 0d"),
-    (None, "0a 0000000000000001 00 0c 8000000000000000"),
+    "03 0000000000000001 00 0d",
+    "0a 0000000000000001 00 0c 8000000000000000",
     // items where no kind was named, and of another kind
-    (None, "08 0000000000000005"),
-    (Some(Kind::Queue), "08 0000000000000005"),
-    (Some(Kind::Map), "08 0000000000000005 0101"),
-    (Some(Kind::Counter), "08 0000000000000005"),
+    "08 0000000000000005",
+    "queue: 08 0000000000000005",
+    "map: 08 0000000000000005 0101",
+    "counter: 08 0000000000000005",
 ];
-
-// A digit of base 16; None for another byte.
-fn digit(byte: u8) -> Option<u8> {
-    match byte {
-        b'0'..=b'9' => Some(byte - b'0'),
-        b'a'..=b'f' => Some(byte - b'a' + 10),
-        _ => None,
-    }
-}
-
-// The bytes of a text of base 16, in which spaces mean nothing.
-fn bytes_of(alloc: Global, text: &str) -> Result<Vec<u8>, AllocError> {
-    let mut out = Vec::new(alloc);
-    let mut high = None;
-    for digit in text.as_bytes().iter().filter_map(|byte| digit(*byte)) {
-        match high {
-            None => high = Some(digit),
-            Some(first) => {
-                out.push((first % 16) * 16 + digit % 16)?;
-                high = None;
-            }
-        }
-    }
-    Ok(out)
-}
 
 // A call of the transaction 1 on the collection 3.
 fn call_of(alloc: Global, tag: u8, row: &str) -> Result<Vec<u8>, AllocError> {
@@ -184,17 +139,24 @@ fn call_of(alloc: Global, tag: u8, row: &str) -> Result<Vec<u8>, AllocError> {
     Ok(out)
 }
 
-// Every record of the tables, with the kind that was named last.
-fn samples(alloc: Global) -> Result<Vec<(Option<Kind>, Vec<u8>)>, Fail> {
-    let mut all = Vec::new(alloc);
-    for row in ROWS {
-        all.push((None, call_of(alloc, 2, row)?))?;
-        all.push((None, call_of(alloc, 9, row)?))?;
+// The kind of this name.
+fn kind_of(name: &str) -> Option<Kind> {
+    match name {
+        "set" => Some(Kind::Set),
+        "map" => Some(Kind::Map),
+        "queue" => Some(Kind::Queue),
+        "counter" => Some(Kind::Counter),
+        "pool" => Some(Kind::Pool),
+        _ => None,
     }
-    for (last, text) in RECORDS {
-        all.push((last, bytes_of(alloc, text)?))?;
+}
+
+// The kind in front of a row, and what stands behind it.
+fn parted(row: &str) -> (Option<Kind>, &str) {
+    match row.split_once(": ") {
+        Some((name, text)) => (kind_of(name), text),
+        None => (None, row),
     }
-    Ok(all)
 }
 
 // The record at the front, spelled once more.
@@ -211,70 +173,99 @@ fn hits(alloc: Global) -> Result<Name, AllocError>
     Ok(Name::new(String::from_str(alloc, "hits")?))
 }
 
-#[test]
-fn spells_a_commit_of_one_bump(rt: HostRuntime) -> Result<(), Fail> {
-    let alloc = rt.alloc();
-    let mut out = Vec::new(alloc);
-    encode(&Record::Make(Kind::Counter, hits(alloc)?), &mut out)?;
-    encode(&Record::Begin(1), &mut out)?;
-    let asked = CallRecord {
+// A bump by 1, of the transaction 1 on the collection 0.
+fn bump() -> Record {
+    Record::Call(CallRecord {
         number: 1,
         collection: 0,
         call: Call::Bump(1),
         reply: Reply::Done,
         inverse: Some(Call::Bump(-1)),
-    };
-    encode(&Record::Call(asked), &mut out)?;
-    encode(&Record::Commit(1), &mut out)?;
-    let mut want = Vec::new(alloc);
-    for text in HITS {
-        want.extend_from_slice(bytes_of(alloc, text)?.as_slice())?;
+    })
+}
+
+// Spells a record behind what is spelled.
+fn add(out: &mut Vec<u8>, entry: Record) -> Result<(), Refusal> {
+    encode(&entry, out)
+}
+
+// The bytes of the rows, one behind another.
+fn joined(alloc: Global, rows: &[&str]) -> Result<Vec<u8>, AllocError> {
+    let mut all = Vec::new(alloc);
+    for row in rows {
+        all.extend_from_slice(bytes_of(alloc, row)?.as_slice())?;
     }
-    assert_eq!(rt; want.len(), 54);
-    assert_eq!(rt; out.as_slice(), want.as_slice());
+    Ok(all)
+}
+
+#[test]
+fn spells_a_commit_of_one_bump(rt: HostRuntime) -> Result<(), Fail> {
+    let mut out = Vec::new(rt.alloc());
+    add(&mut out, Record::Make(Kind::Counter, hits(rt.alloc())?))?;
+    add(&mut out, Record::Begin(1))?;
+    add(&mut out, bump())?;
+    add(&mut out, Record::Commit(1))?;
+    assert_eq!(rt; out.len(), 54);
+    assert_eq!(rt; out.as_slice(), joined(rt.alloc(), &HITS)?.as_slice());
     Ok(())
 }
 
 #[test]
 fn spells_an_empty_image(rt: HostRuntime) -> Result<(), Fail> {
-    let alloc = rt.alloc();
-    let mut out = Vec::new(alloc);
-    encode(&Record::Marks { next: 1, wear: 0 }, &mut out)?;
-    encode(&Record::ImageEnd, &mut out)?;
-    let mut want = Vec::new(alloc);
-    for text in EMPTY {
-        want.extend_from_slice(bytes_of(alloc, text)?.as_slice())?;
+    let mut out = Vec::new(rt.alloc());
+    add(&mut out, Record::Marks { next: 1, wear: 0 })?;
+    add(&mut out, Record::ImageEnd)?;
+    assert_eq!(rt; out.len(), 18);
+    assert_eq!(rt; out.as_slice(), joined(rt.alloc(), &EMPTY)?.as_slice());
+    Ok(())
+}
+
+// Whether the bytes are refused as damage.
+fn is_damaged(alloc: Global, last: Option<Kind>, bytes: &[u8]) -> bool {
+    matches!(
+        decode(alloc, bytes, last, PLACE),
+        Err(Refusal::Damaged(PLACE))
+    )
+}
+
+// Sees that a record is read and spelled as it stands there, and that no beginning of it is read.
+fn check_record(
+    rt: &(impl AllocGlobal + Abort),
+    last: Option<Kind>,
+    bytes: &[u8],
+) -> Result<(), Fail> {
+    assert_eq!(rt; again(rt.alloc(), last, bytes)?.as_slice(), bytes);
+    for cut in 0..bytes.len() {
+        let part = bytes.get(..cut).unwrap_or(bytes);
+        assert!(rt; is_damaged(rt.alloc(), last, part));
     }
-    assert_eq!(rt; want.len(), 18);
-    assert_eq!(rt; out.as_slice(), want.as_slice());
     Ok(())
 }
 
 #[test]
-fn reads_what_was_spelled(rt: HostRuntime) -> Result<(), Fail> {
-    let alloc = rt.alloc();
-    for (last, bytes) in samples(alloc)? {
-        assert_eq!(rt;
-            again(alloc, last, bytes.as_slice())?.as_slice(),
-            bytes.as_slice()
-        );
+fn reads_calls_as_they_are_spelled(rt: HostRuntime) -> Result<(), Fail> {
+    for row in ROWS {
+        check_record(&rt, None, call_of(rt.alloc(), 2, row)?.as_slice())?;
+        check_record(&rt, None, call_of(rt.alloc(), 9, row)?.as_slice())?;
     }
     Ok(())
 }
 
 #[test]
-fn refuses_each_beginning(rt: HostRuntime) -> Result<(), Fail> {
-    let alloc = rt.alloc();
-    for (last, bytes) in samples(alloc)? {
-        for cut in 0..bytes.len() {
-            let part = bytes.get(..cut).ok_or("within the bytes")?;
-            assert!(rt;
-                matches!(
-                    decode(alloc, part, last, PLACE),
-                    Err(Refusal::Damaged(PLACE))
-                )
-            );
-        }
+fn reads_other_records_as_they_are_spelled(rt: HostRuntime) -> Result<(), Fail> {
+    for row in RECORDS {
+        let (last, text) = parted(row);
+        check_record(&rt, last, bytes_of(rt.alloc(), text)?.as_slice())?;
+    }
+    Ok(())
+}
+
+#[test]
+fn refuses_what_no_record_says(rt: HostRuntime) -> Result<(), Fail> {
+    for row in BAD {
+        let (last, text) = parted(row);
+        let bytes = bytes_of(rt.alloc(), text)?;
+        assert!(rt; is_damaged(rt.alloc(), last, bytes.as_slice()), "{row}");
     }
     Ok(())
 }

@@ -1,6 +1,7 @@
 // Stores on disks in memory: made, opened after stops, looked at and damaged.
 mod damage;
 mod formats;
+mod images;
 mod losers;
 
 use calls::{Call, Kind, Refusal, Reply};

@@ -37,11 +37,16 @@ fn check_bytes(
     Ok(())
 }
 
-// Values of 256 zeros are put at so many keys from one on, and that is committed.
-fn put_zeros(script: &mut String, first: u64, count: u64) -> Result<(), Fail> {
+// Values of 256 zeros are put at so many keys of a map from one on, and that is committed.
+pub(super) fn put_zeros(
+    script: &mut String,
+    map: &str,
+    first: u64,
+    count: u64,
+) -> Result<(), Fail> {
     write!(script, "c1 begin\n")?;
     for key in first..first.saturating_add(count) {
-        write!(script, "c1 call m put {key} ")?;
+        write!(script, "c1 call {map} put {key} ")?;
         push_zeros(script)?;
         script.push_str("\n")?;
     }
@@ -57,9 +62,9 @@ fn push_zeros(text: &mut String) -> Result<(), Fail> {
     Ok(())
 }
 
-// What a store shows in which such values stand at the keys below this one.
-fn zeros_shown(alloc: Global, end: u64) -> Result<String, Fail> {
-    let mut shown = String::from_str(alloc, "map m\n")?;
+// What is shown of a map in which such values stand at the keys below this one.
+pub(super) fn zeros_shown(alloc: Global, map: &str, end: u64) -> Result<String, Fail> {
+    let mut shown = format!(in alloc; "map {map}\n")?;
     for key in 0..end {
         write!(shown, "  {key} ")?;
         push_zeros(&mut shown)?;
@@ -71,11 +76,11 @@ fn zeros_shown(alloc: Global, end: u64) -> Result<String, Fail> {
 // An area is filled up to where a block does not fit; then there is a checkpoint.
 fn full_script(alloc: Global) -> Result<String, Fail> {
     let mut script = String::from_str(alloc, "c1 make map m\n")?;
-    put_zeros(&mut script, 0, 100)?;
+    put_zeros(&mut script, "m", 0, 100)?;
     script.push_str("turn\n")?;
-    put_zeros(&mut script, 0, 40)?;
+    put_zeros(&mut script, "m", 0, 40)?;
     script.push_str("turn\n")?;
-    put_zeros(&mut script, 0, 10)?;
+    put_zeros(&mut script, "m", 0, 10)?;
     script.push_str("turn\nc1 kept\ncheckpoint\nc1 kept\nturn\nturn\n")?;
     Ok(script)
 }
@@ -118,7 +123,7 @@ fn a_checkpoint_makes_room(rt: HostRuntime) -> Result<(), Fail> {
     check_first_area(&rt, &mut played.disk)?;
     check_image(&rt, &mut played.disk)?;
     check_bytes(&rt, &mut played.disk, ROOT, &[1])?;
-    let shown = zeros_shown(rt.alloc(), 100)?;
+    let shown = zeros_shown(rt.alloc(), "m", 100)?;
     check_show(&rt, played.disk, shown.as_str());
     Ok(())
 }
@@ -146,7 +151,7 @@ fn stop_in_root(rt: &(impl AllocGlobal + Abort), left: u8) -> Result<MemDisk, Fa
 // Sees what such a run leaves: what the store counts, and what it shows.
 fn check_stopped(rt: &(impl AllocGlobal + Abort), left: u8, counts: &str) -> Result<(), Fail> {
     let disk = check_counts(rt, stop_in_root(rt, left)?, counts);
-    let shown = zeros_shown(rt.alloc(), 100)?;
+    let shown = zeros_shown(rt.alloc(), "m", 100)?;
     check_show(rt, disk, shown.as_str());
     Ok(())
 }
@@ -165,7 +170,7 @@ fn a_stop_in_the_root_byte_can_leave_the_new_area(rt: HostRuntime) -> Result<(),
 }
 
 // Areas with room for an image of two blocks, and where the second one begins.
-const WIDE: u64 = 131_072;
+pub(super) const WIDE: u64 = 131_072;
 
 const WIDE_SECOND: u64 = 4_096 + WIDE;
 
@@ -174,7 +179,7 @@ const WIDE_SECOND: u64 = 4_096 + WIDE;
 const WIDE_CALLS: u64 = 23;
 
 // An empty store with such areas.
-fn wide(alloc: Global) -> Result<MemDisk, Fail> {
+pub(super) fn wide(alloc: Global) -> Result<MemDisk, Fail> {
     let task = Task::Format {
         disk: String::new(alloc),
         area: WIDE,
@@ -186,11 +191,11 @@ fn wide(alloc: Global) -> Result<MemDisk, Fail> {
 // Four commits and makes, with a checkpoint behind the third.
 fn wide_script(alloc: Global) -> Result<String, Fail> {
     let mut script = String::from_str(alloc, "c1 make map m\n")?;
-    put_zeros(&mut script, 0, 130)?;
+    put_zeros(&mut script, "m", 0, 130)?;
     script.push_str("turn\n")?;
-    put_zeros(&mut script, 130, 130)?;
+    put_zeros(&mut script, "m", 130, 130)?;
     script.push_str("turn\ncheckpoint\n")?;
-    put_zeros(&mut script, 260, 1)?;
+    put_zeros(&mut script, "m", 260, 1)?;
     script.push_str("turn\n")?;
     Ok(script)
 }
@@ -200,7 +205,7 @@ fn shown_by_place(alloc: Global) -> Result<Vec<String>, Fail> {
     let mut shown = Vec::new(alloc);
     shown.push(String::new(alloc))?;
     for end in [0, 130, 260, 261] {
-        shown.push(zeros_shown(alloc, end)?)?;
+        shown.push(zeros_shown(alloc, "m", end)?)?;
     }
     Ok(shown)
 }

@@ -1,11 +1,14 @@
 // One store, from its making on.
 use super::*;
 
+// The head of a store with two of the least areas.
+pub(super) const HEAD: &[u8] = b"BOOSTED1\xa7\0\0\0\0\0\x01\0\0";
+
 // The bytes of an empty store from its first area on: its image, and a closed gate.
-const EMPTY: &[u8] = b"\xa7\0\0\0\x12\x0b\0\0\0\0\0\0\0\x01\0\0\0\0\0\0\0\0\x0c\0";
+pub(super) const EMPTY: &[u8] = b"\xa7\0\0\0\x12\x0b\0\0\0\0\0\0\0\x01\0\0\0\0\0\0\0\0\x0c\0";
 
 // The block that the script of the counter hits leaves behind them, and a closed gate.
-const HITS_BLOCK: &[u8] = b"\xa7\0\0\0\x36\x01\x04\x04hits\
+pub(super) const HITS_BLOCK: &[u8] = b"\xa7\0\0\0\x36\x01\x04\x04hits\
 \x0d\0\0\0\0\0\0\0\x01\
 \x02\0\0\0\0\0\0\0\x01\0\x0c\0\0\0\0\0\0\0\x01\0\x0c\xff\xff\xff\xff\xff\xff\xff\xff\
 \x04\0\0\0\0\0\0\0\x01\0";
@@ -31,10 +34,7 @@ fn an_empty_store_shows_nothing(rt: HostRuntime) -> Result<(), Fail> {
     let counts = "sound: 0 collections, 0 unfinished transactions, 0 journal records\n";
     let mut disk = check_counts(&rt, disk, counts);
     let head = bytes_at(&rt, &mut disk, 0, 17)?;
-    assert_eq!(rt;
-        head.as_slice(),
-        b"BOOSTED1\xa7\0\0\0\0\0\x01\0\0".as_slice()
-    );
+    assert_eq!(rt; head.as_slice(), HEAD);
     assert_eq!(rt;
         bytes_at(&rt, &mut disk, 512, 1)?.as_slice(),
         [0].as_slice()
