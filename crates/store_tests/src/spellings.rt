@@ -1,6 +1,7 @@
 // Spellings that were written down elsewhere, and that each call succeeds.
 ghost use Rattle.std.specs.Prelude.{IfOk};
 ghost use Rattle.calls.specs.Names.{IsName};
+ghost use Rattle.records.specs.Records.{Fits};
 
 use crate::hexadecimal::bytes_of;
 use calls::{Call, Kind, Name, Refusal, Reply};
@@ -174,7 +175,9 @@ fn hits(alloc: Global) -> Result<Name, AllocError>
 }
 
 // A bump by 1, of the transaction 1 on the collection 0.
-fn bump() -> Record {
+fn bump() -> Record
+    ensures { Fits result }
+{
     Record::Call(CallRecord {
         number: 1,
         collection: 0,
@@ -185,7 +188,9 @@ fn bump() -> Record {
 }
 
 // Spells a record behind what is spelled.
-fn add(out: &mut Vec<u8>, entry: Record) -> Result<(), Refusal> {
+fn add(out: &mut Vec<u8>, entry: Record) -> Result<(), Refusal>
+    requires { Fits entry }
+{
     encode(&entry, out)
 }
 
