@@ -10,6 +10,11 @@ abbrev pub IsFormat : Task → Type 0
 IsFormat (Task.Format disk area) = Unit {0}
 IsFormat task = ⊥
 
+-- what holds of the area that a format asks for
+abbrev pub OnFormat : Task → (ℕ → Type 0) → Type 0
+OnFormat (Task.Format disk area) P = P area
+OnFormat task P = Unit {0}
+
 abbrev pub IsPlay : Task → Type 0
 IsPlay (Task.Play disk script) = Unit {0}
 IsPlay task = ⊥

@@ -1,12 +1,12 @@
 // What the program does for a command, on any disk.
-ghost use Rattle.std.specs.Prelude.{◌≡◌, ◌⊎◌, ℕ, List, [], OnOk, IfOk, IfErr, replicate};
+ghost use Rattle.std.specs.Prelude.{◌≡◌, ◌⊎◌, ℕ, List, [], length, OnOk, IfOk, IfErr, replicate};
 ghost use Rattle.disk_model.specs.Disk.{ReadsOnly, IsAtRest, LeavesOnly};
 ghost use Rattle.recovery.specs.Openings.{KeepsContent};
-ghost use Rattle.recovery.specs.Formats.{IsEmptyStore, IsFormatting};
+ghost use Rattle.recovery.specs.Formats.{IsRoomFor, IsEmptyStore, IsFormatting};
 ghost use Rattle.boost.specs.Requests.{nobody};
 ghost use Rattle.boost.specs.Effects.{KeepsPlaying, ArePlayedOn, IsPlayedOn, StartsFrom};
 ghost use Rattle.boost.specs.declared.commands.failure.Failure.{Failure};
-ghost use Rattle.boost.specs.Commands.{IsFormat, IsPlay, IsShow, IsCheck, IsDemo, IsUnderstood, IsOfStore, IsWhyUnplayed, IsWhyUndone, IsNotUnderstoodAt, status_of};
+ghost use Rattle.boost.specs.Commands.{IsFormat, OnFormat, IsPlay, IsShow, IsCheck, IsDemo, IsUnderstood, IsOfStore, IsWhyUnplayed, IsWhyUndone, IsNotUnderstoodAt, status_of};
 
 mod checkpointer;
 mod client;
@@ -64,6 +64,7 @@ pub fn run<D: Disk, O: Write, E: Write>(
     ensures only_read { IsCheck task.now → ReadsOnly D.seen D.may_leave D.moment D.left_since disk result.1 }
     ensures stored_run { IsDemo task.now → result.1 ≡ disk }
     ensures silent { (result.0 ≡ 0) ⊎ (result.0 ≡ 4) → err.new ≡ err.old }
+    ensures area { result.0 ≡ 0 → OnFormat task.now (λ area. IsRoomFor area (length (D.seen disk))) }
     ensures formatted { result.0 ≡ 0 → IsFormat task.now → IsEmptyStore (D.seen result.1) × IsAtRest D.seen D.may_leave result.1 }
     ensures formatting { IsFormat task.now → IsAtRest D.seen D.may_leave disk →
         LeavesOnly D.moment D.left_since disk result.1 (IsFormatting (D.seen disk)) }
@@ -102,6 +103,7 @@ fn carry_out<D: Disk, O: Write>(
     ensures why { IfErr result.0 (IsWhyUndone task.now script.now (result.1 ≡ disk)) }
     ensures only_read { IsCheck task.now → ReadsOnly D.seen D.may_leave D.moment D.left_since disk result.1 }
     ensures stored_run { IsDemo task.now → result.1 ≡ disk }
+    ensures area { OnOk result.0 (OnFormat task.now (λ area. IsRoomFor area (length (D.seen disk)))) }
     ensures formatted { OnOk result.0 (IsFormat task.now → IsEmptyStore (D.seen result.1) × IsAtRest D.seen D.may_leave result.1) }
     ensures formatting { IsFormat task.now → IsAtRest D.seen D.may_leave disk →
         LeavesOnly D.moment D.left_since disk result.1 (IsFormatting (D.seen disk)) }
@@ -131,6 +133,7 @@ fn perform<D: Disk, O: Write>(
     ensures why { IfErr result.0 (IsWhyUndone task.now script.now (result.1 ≡ disk)) }
     ensures only_read { IsCheck task.now → ReadsOnly D.seen D.may_leave D.moment D.left_since disk result.1 }
     ensures stored_run { IsDemo task.now → result.1 ≡ disk }
+    ensures area { OnOk result.0 (OnFormat task.now (λ area. IsRoomFor area (length (D.seen disk)))) }
     ensures formatted { OnOk result.0 (IsFormat task.now → IsEmptyStore (D.seen result.1) × IsAtRest D.seen D.may_leave result.1) }
     ensures formatting { IsFormat task.now → IsAtRest D.seen D.may_leave disk →
         LeavesOnly D.moment D.left_since disk result.1 (IsFormatting (D.seen disk)) }
@@ -150,6 +153,7 @@ fn perform<D: Disk, O: Write>(
 // Makes the disk an empty store.
 fn format_disk<D: Disk>(disk: D, area: u64) -> (Result<(), Failure<'static>>, D)
     ensures why { IfErr result.0 IsOfStore }
+    ensures area { OnOk result.0 (IsRoomFor area (length (D.seen disk))) }
     ensures formatted { OnOk result.0 (IsEmptyStore (D.seen result.1) × IsAtRest D.seen D.may_leave result.1) }
     ensures formatting { IsAtRest D.seen D.may_leave disk →
         LeavesOnly D.moment D.left_since disk result.1 (IsFormatting (D.seen disk)) }
