@@ -1,23 +1,25 @@
 -- What a command leaves on a disk.
 use Rattle.std.proofs.Common.{◌≡◌, inl, ℕ, List, [], Result, Ok, Err, OnOk, replicate, refl, sym, subst}
+use Rattle.std.specs.Prelude.{MatchResult}
 use Rattle.calls.specs.Contents.{Collection}
 use Rattle.disk_model.specs.Disk.{IsAtRest, LeavesOnly}
 use Rattle.disk_model.specs.declared.disk.Disk.{Ghosts}
 use Rattle.disk_model.proofs.Walk.{started, weaker, and_then}
-use Rattle.recovery.specs.Journals.{StandsFor}
-use Rattle.recovery.specs.Reading.{IsSound}
+use Rattle.repetition.specs.Journals.{StandsFor}
+use Rattle.repetition.specs.Reading.{IsSound}
 use Rattle.recovery.specs.Formats.{IsFormatting}
 use Rattle.recovery.specs.Openings.{KeepsContent}
-use Rattle.world.specs.declared.world.World.{World}
+use Rattle.world.specs.Moves.{Whole}
 use Rattle.world.specs.Pasts.{Past}
 use Rattle.world.specs.Crash.{Yields}
 use Rattle.world.proofs.StepLemmas.{yields_on}
-use Rattle.boost.specs.Plays as plays
-use Rattle.boost.specs.Requests.{nobody, CarriesOut, PlaysLines}
-use Rattle.boost.specs.Scripts.{IsScriptOf}
+use Rattle.world.proofs.PlayLemmas.{moments_of, answered_of}
+use Rattle.player.specs.Plays as plays
+use Rattle.player.specs.Requests.{nobody, CarriesOut, PlaysLines}
+use Rattle.script.specs.Scripts.{IsScriptOf}
 use Rattle.boost.specs.Effects.{KeepsPlaying, StartsFrom, ArePlayedOn, IsPlayedOn}
-use Rattle.boost.specs.declared.commands.client.Client.{Client}
-use Rattle.boost.specs.declared.script.line.Line.{Line}
+use Rattle.player.specs.declared.client.Client.{Client}
+use Rattle.script.specs.declared.line.Line.{Line}
 
 -- bytes that stand for the content yield it, with nothing committed
 yields_none : (content : List Collection) (c : List ℕ) → IsSound c × StandsFor c content → Yields content [] [] c
@@ -35,34 +37,34 @@ module _ {D : Type 0} (seen : D → List ℕ) (may_leave : D → List ℕ → Ty
   pub nothing_played : (new : D) → KeepsContent seen may_leave moment left_since old new → KeepsPlaying seen may_leave moment left_since old new
   nothing_played new keeps content rest sound stands = record { steps = []; own = tt; any_moment = weaker moment left_since old new _ (Yields content [] []) (keeps content rest sound stands) (yields_none content) }
 
-module _ {D : Type 0} {g : Ghosts D} (old : D) where
+module _ {D : Type 0} (g : Ghosts D) (old : D) where
   -- a store was opened, and then steps were taken
-  pub steps_played : (w v : World D g) → KeepsContent g.seen g.may_leave g.moment g.left_since old w.keeper.disk
-      → StartsFrom g old w → plays.IsPlayed w v
+  pub steps_played : (w v : Whole D) → KeepsContent g.seen g.may_leave g.moment g.left_since old w.keeper.disk
+      → StartsFrom g old w → plays.IsPlayed g w v → ((d : D) (c : List ℕ) → g.left_since d (g.moment d) c → g.may_leave d c)
       → KeepsPlaying g.seen g.may_leave g.moment g.left_since old v.keeper.disk
-  steps_played w v keeps begins played content rest sound stands =
+  steps_played w v keeps begins played only_now content rest sound stands =
       let steps : Past = played.0 in
       let P : List ℕ → Type 0 = Yields content steps [] in
       record {
         steps = steps;
-        own = played.1.own;
+        own = answered_of g steps w v played.1;
         any_moment = and_then g.moment g.left_since old w.keeper.disk v.keeper.disk P P
             (weaker g.moment g.left_since old w.keeper.disk _ P (keeps content rest sound stands) (λ c fine. yields_on content [] steps [] c (yields_none content c fine)))
-            (played.1.any_moment content [] (begins content stands rest)) (λ c y. y);
+            (moments_of g only_now content [] steps w v played.1 (begins content stands rest)) (λ c y. y);
       }
 
   -- a store was opened, and then all lines were carried out
-  pub lines_played : {E : Type 0} (w v : World D g) (ks ls : List Client) (lines : List Line) (r : Result (Unit {0}) E) → ks ≡ replicate 64 nobody → (g.is_honest v.keeper.disk → StartsFrom g old w)
-      → PlaysLines ks w lines r ls v → OnOk r (g.is_honest v.keeper.disk → ArePlayedOn g lines old v.keeper.disk)
-  lines_played w v ks ls lines (Ok done) new starts carried = λ honest. record {
+  pub lines_played : {E F : Type 0} (w v : Whole D) (ks ls : List Client) (lines : List Line) (r : Result (Unit {0}) E) (s : Result (Unit {0}) F) (f : F) → ks ≡ replicate 64 nobody → (g.is_honest v.keeper.disk → StartsFrom g old w)
+      → PlaysLines g ks w lines r ls v → MatchResult r (λ done. s ≡ Ok tt) (λ e. s ≡ Err f) → OnOk s (g.is_honest v.keeper.disk → ArePlayedOn g lines old v.keeper.disk)
+  lines_played w v ks ls lines (Ok done) s f new starts carried said = subst (λ q. OnOk q (g.is_honest v.keeper.disk → ArePlayedOn g lines old v.keeper.disk)) (sym said) (λ honest. record {
     opened = w;
     starts = starts honest;
     clients = ls;
     world = v;
-    carried = subst (λ k. CarriesOut k w lines ls v) new carried;
+    carried = subst (λ k. CarriesOut g k w lines ls v) new carried;
     disk = refl;
-  }
-  lines_played w v ks ls lines (Err e) new starts carried = tt
+  })
+  lines_played w v ks ls lines (Err e) s f new starts carried said = subst (λ q. OnOk q (g.is_honest v.keeper.disk → ArePlayedOn g lines old v.keeper.disk)) (sym said) tt
 
 -- they were those of a script
 pub script_played : {D E : Type 0} (g : Ghosts D) (old new : D) (lines : List Line) (script : List ℕ) (r : Result (Unit {0}) E) → IsScriptOf lines script

@@ -1,11 +1,2 @@
-pub mod ArgumentNumbers
-pub mod ScriptLines
-pub mod ScriptPhrases
-pub mod ScriptWords
-pub mod ScriptOperations
-pub mod Stepping
-pub mod ClientLemmas
-pub mod CheckpointLemmas
-pub mod RequestLemmas
 pub mod OpenLemmas
 pub mod EffectLemmas

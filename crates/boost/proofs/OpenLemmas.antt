@@ -5,14 +5,14 @@ use Rattle.checkpoint.specs.Keepers.{KeeperState}
 use Rattle.disk_model.specs.Disk.{IsAtRest}
 use Rattle.disk_model.specs.declared.disk.Disk.{Ghosts}
 use Rattle.recovery.specs.Openings.{IsOpened, IsReadyStore, KeepsContent}
-use Rattle.world.specs.declared.world.World.{World}
+use Rattle.world.specs.Moves.{Whole}
 use Rattle.world.specs.Pasts.{BookState}
 use Rattle.world.specs.Worlds.{HasPast}
-use Rattle.boost.specs.Plays.{parts}
+use Rattle.world.specs.OneStep.{parts}
 
-module _ {D : Type 0} {g : Ghosts D} (w v : World D g) (same : w ≡ v) (k : KeeperState D) (is : v.keeper ≡ k) (old : D) where
+module _ {D : Type 0} (g : Ghosts D) (w v : Whole D) (same : w ≡ v) (k : KeeperState D) (is : v.keeper ≡ k) (old : D) where
   disk_is : w.keeper.disk ≡ k.disk
-  disk_is = ap (λ (x : World D g). x.keeper.disk) same ∙ ap (λ (x : KeeperState D). x.disk) is
+  disk_is = ap (λ (x : Whole D). x.keeper.disk) same ∙ ap (λ (x : KeeperState D). x.disk) is
 
   pub opened_past : (book : BookState) (content : List Collection) → (g.is_honest k.disk → IsOpened (g.seen old) book k.area (g.seen k.disk)) → (g.is_honest k.disk → IsAtRest g.seen g.may_leave old → IsReadyStore g.seen g.may_leave (g.seen old) book k.area k.disk)
       → (g.is_honest k.disk → book.state.now ≡ content) → ((bytes : List ℕ) → IsOpened bytes book k.area (g.seen k.disk) → IsReadyStore g.seen g.may_leave bytes book k.area k.disk → HasPast g.seen g.may_leave book.state.now [] (parts v))

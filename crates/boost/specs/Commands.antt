@@ -1,10 +1,10 @@
 -- What a command's status says.
 use Rattle.std.specs.Prelude.{ℕ, List}
-use Rattle.boost.specs.declared.arguments.Task.{Task}
+use Rattle.arguments.specs.declared.Task.{Task}
 use Rattle.boost.specs.declared.commands.failure.Failure.{Failure}
-use Rattle.boost.specs.declared.script.line.Line.{Line}
-use Rattle.boost.specs.declared.script.line.ScriptError.{ScriptError}
-use Rattle.boost.specs.Scripts.{IsScriptOf, IsWhy}
+use Rattle.script.specs.declared.line.Line.{Line}
+use Rattle.script.specs.declared.line.ScriptError.{ScriptError}
+use Rattle.script.specs.Scripts.{IsScriptOf, IsWhy}
 
 abbrev pub IsFormat : Task → Type 0
 IsFormat (Task.Format disk area) = Unit {0}

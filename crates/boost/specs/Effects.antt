@@ -3,17 +3,17 @@ use Rattle.std.specs.Prelude.{◌≡◌, ℕ, List, [], replicate}
 use Rattle.calls.specs.Contents.{Collection}
 use Rattle.disk_model.specs.Disk.{IsAtRest, LeavesOnly}
 use Rattle.disk_model.specs.declared.disk.Disk.{Ghosts}
-use Rattle.recovery.specs.Journals.{StandsFor}
-use Rattle.recovery.specs.Reading.{IsSound}
+use Rattle.repetition.specs.Journals.{StandsFor}
+use Rattle.repetition.specs.Reading.{IsSound}
 use Rattle.world.specs.Pasts.{Past, AreAnswered}
 use Rattle.world.specs.Crash.{Yields}
 use Rattle.world.specs.Worlds.{HasPast}
-use Rattle.world.specs.declared.world.World.{World}
-use Rattle.boost.specs.Plays.{parts}
-use Rattle.boost.specs.Requests.{nobody, CarriesOut}
-use Rattle.boost.specs.Scripts.{IsScriptOf}
-use Rattle.boost.specs.declared.commands.client.Client.{Client}
-use Rattle.boost.specs.declared.script.line.Line.{Line}
+use Rattle.world.specs.Moves.{Whole}
+use Rattle.world.specs.OneStep.{parts}
+use Rattle.player.specs.Requests.{nobody, CarriesOut}
+use Rattle.script.specs.Scripts.{IsScriptOf}
+use Rattle.player.specs.declared.client.Client.{Client}
+use Rattle.script.specs.declared.line.Line.{Line}
 
 -- Steps were taken from the content. Whatever a stop at any moment since old might have left is sound, and stands for a content that some beginning of
 -- what they committed gives, each transaction run whole, one after another, with the replies that were got.
@@ -28,17 +28,17 @@ KeepsPlaying seen may_leave moment left_since old new =
     (content : List Collection) → IsAtRest seen may_leave old → IsSound (seen old) → StandsFor (seen old) content → WasPlayed moment left_since content old new
 
 -- A world of the disk was made by an opening: its past begins with the content of the store.
-abbrev pub StartsFrom : {D : Type 0} (g : Ghosts D) → D → World D g → Type 0
+abbrev pub StartsFrom : {D : Type 0} (g : Ghosts D) → D → Whole D → Type 0
 StartsFrom g old w = (content : List Collection) → StandsFor (g.seen old) content → IsAtRest g.seen g.may_leave old → HasPast g.seen g.may_leave content [] (parts w)
 
 -- Lines are played on a disk: it was opened, the lines were carried out, one after another, for 64 clients that had done nothing before, and the disk is that
 -- of the world behind them.
 pub record ArePlayedOn {D : Type 0} (g : Ghosts D) (lines : List Line) (old new : D) : Type 0 where
-  pub opened : World D g
+  pub opened : Whole D
   pub starts : StartsFrom g old opened
   pub clients : List Client
-  pub world : World D g
-  pub carried : CarriesOut (replicate 64 nobody) opened lines clients world
+  pub world : Whole D
+  pub carried : CarriesOut g (replicate 64 nobody) opened lines clients world
   pub disk : new ≡ world.keeper.disk
 
 -- So are the lines of a script.

@@ -1,6 +1,6 @@
 -- Why a script's errors end a command.
 use Rattle.boost.specs.declared.commands.failure.Failure.{Failure}
-use Rattle.boost.specs.declared.script.line.ScriptError.{ScriptError}
+use Rattle.script.specs.declared.line.ScriptError.{ScriptError}
 use Rattle.calls.specs.declared.refusal.Refusal.{Refusal}
 
 abbrev pub failure_of : ScriptError → Failure

@@ -1,11 +1,3 @@
-pub mod ScriptTexts
-pub mod Scripts
-pub mod Arguments
-pub mod Plays
-pub mod Clients
-pub mod Turns
-pub mod Checkpoints
-pub mod Requests
 pub mod Commands
 pub mod Failures
 pub mod Effects

@@ -1,33 +1,27 @@
 // What the program does for a command, on any disk.
-ghost use Rattle.std.specs.Prelude.{◌≡◌, ◌⊎◌, ℕ, List, [], length, OnOk, IfOk, IfErr, replicate};
+ghost use Rattle.std.specs.Prelude.{◌≡◌, ◌⊎◌, ℕ, List, [], length, Ok, Err, OnOk, IfOk, IfErr, MatchResult, replicate};
 ghost use Rattle.disk_model.specs.Disk.{ReadsOnly, IsAtRest, LeavesOnly};
 ghost use Rattle.recovery.specs.Openings.{KeepsContent};
 ghost use Rattle.recovery.specs.Formats.{IsRoomFor, IsEmptyStore, IsFormatting};
-ghost use Rattle.boost.specs.Requests.{nobody};
+ghost use Rattle.player.specs.Requests.{nobody};
 ghost use Rattle.boost.specs.Effects.{KeepsPlaying, ArePlayedOn, IsPlayedOn, StartsFrom};
 ghost use Rattle.boost.specs.declared.commands.failure.Failure.{Failure};
 ghost use Rattle.boost.specs.Commands.{IsFormat, OnFormat, IsPlay, IsShow, IsCheck, IsDemo, IsUnderstood, IsOfStore, IsWhyUnplayed, IsWhyUndone, IsNotUnderstoodAt, status_of};
 
-mod checkpointer;
-mod client;
-mod committer;
 mod failure;
-mod player;
 mod showing;
-mod steps;
 mod stored_run;
-mod texts;
 
-use crate::arguments::Task;
-use crate::script::{Line, parse};
+use arguments::Task;
 use calls::Refusal;
 use disk_model::Disk;
 pub use failure::Failure;
 use player::Player;
 use recovery::{format, inspect, open};
+use script::{Line, parse};
 use showing::{show_collections, show_counts};
 use std::alloc::Global;
-use std::io::{BufWriter, Write};
+use std::io::{self, BufWriter, Write};
 use stored_run::demo;
 use world::World;
 
@@ -208,10 +202,21 @@ fn play_lines<D: Disk, O: Write>(
 {
     match open_player(alloc, disk) {
         Ok(mut player) => {
-            let done = player.play_lines(alloc, lines, out);
-            (done, player.into_disk())
+            let done = player.play_lines(lines, out);
+            (written(done), player.into_disk())
         }
         Err((refusal, disk)) => (Err(Failure::Refused(refusal)), disk),
+    }
+}
+
+// That output could not be written ends a command.
+fn written(done: io::Result<()>) -> Result<(), Failure<'static>>
+    ensures done { MatchResult done (λ _. result ≡ Ok tt) (λ _. result ≡ Err Failure.Unwritten) }
+    ensures why { IfErr result IsOfStore }
+{
+    match done {
+        Ok(()) => Ok(()),
+        Err(_) => Err(Failure::Unwritten),
     }
 }
 
@@ -244,6 +249,3 @@ fn check<D: Disk, O: Write>(
         Err(refusal) => (Err(Failure::Refused(refusal)), disk),
     }
 }
-
-#[cfg(test)]
-mod tests;

@@ -1,10 +1,9 @@
 //! The store as a program: the commands, and the scripts that its clients play.
 #![tactic(auto)]
 
-mod arguments;
 mod commands;
-mod script;
 
 pub use arguments::{Task, command};
 pub use commands::{Failure, report, run};
+pub use player::Said;
 pub use script::{Action, Line, Operation, Request, ScriptError, Verb, parse};

@@ -6,7 +6,8 @@ use Rattle.gate_block.specs.declared.area.Area.{Area}
 use Rattle.gate_block.specs.Row.{part, IsRow, SameOutside}
 use Rattle.gate_block.specs.Area.{base_of, size_of, bytes_of, IsReady, LeavesElsewhere}
 use Rattle.checkpoint.specs.declared.laying.Laying.{Laying}
-use Rattle.checkpoint.specs.Imaging.{IsOther, IsBeingLaid, picked}
+use Rattle.checkpoint.specs.Imaging.{IsOther, IsBeingLaid}
+use Rattle.gate_block.specs.Layout.{base_in_use}
 use Rattle.checkpoint.specs.Keepers.{IsOneOfTwo}
 
 -- what stands outside of a part stays
@@ -70,11 +71,11 @@ two (suc zero) l = inr refl
 two (suc (suc m)) l = absurd (omega (arith, l))
 
 -- any root byte picks one of the two
-pub picks_one : (area other : Area) (n : ℕ) (c : List ℕ) → IsOneOfTwo area n → IsOther area other → (picked (size_of area) c ≡ base_of area) ⊎ (picked (size_of area) c ≡ base_of other)
+pub picks_one : (area other : Area) (n : ℕ) (c : List ℕ) → IsOneOfTwo area n → IsOther area other → (base_in_use (size_of area) c ≡ base_of area) ⊎ (base_in_use (size_of area) c ≡ base_of other)
 picks_one area other n c one is =
     let size : ℕ = size_of area in
-    let first : get_or c 512 0 % 2 ≡ 0 → picked size c ≡ 4096 = λ e. ap (λ (b : ℕ). 4096 + size * b) e ∙ omega arith in
-    let second : get_or c 512 0 % 2 ≡ 1 → picked size c ≡ 4096 + size = λ e. ap (λ (b : ℕ). 4096 + size * b) e ∙ omega arith in
+    let first : get_or c 512 0 % 2 ≡ 0 → base_in_use size c ≡ 4096 = λ e. ap (λ (b : ℕ). 4096 + size * b) e ∙ omega arith in
+    let second : get_or c 512 0 % 2 ≡ 1 → base_in_use size c ≡ 4096 + size = λ e. ap (λ (b : ℕ). 4096 + size * b) e ∙ omega arith in
     ⊎_elim
     (λ e. ⊎_elim (λ here. inl (first e ∙ sym here)) (λ there. inr (omega (arith, first e, there, is.base))) one.base)
     (λ e. ⊎_elim (λ here. inr (omega (arith, second e, here, is.base))) (λ there. inl (second e ∙ sym there)) one.base)

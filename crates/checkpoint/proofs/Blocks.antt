@@ -8,7 +8,7 @@ use Rattle.calls.specs.declared.refusal.Refusal.{Refusal}
 use Rattle.gate_block.specs.Row.{block, row}
 use Rattle.gate_block.specs.Area.{size_of, position_of, IsLaid}
 use Rattle.gate_block.specs.Answers.{IsAppendAnswer}
-use Rattle.txn.specs.Wholes.{IsWhole, body_of}
+use Rattle.blocks.specs.Wholes.{IsWhole, body_of}
 use Rattle.checkpoint.specs.declared.laying.Laying.{Laying}
 use Rattle.checkpoint.specs.Imaging.{IsBeingLaid, IsTooLong, bodies_of, left_of}
 use Rattle.checkpoint.specs.ImageAnswers.{IsOneFewer, IsAsMany, PieceAnswers}

@@ -11,14 +11,15 @@ use Rattle.gate_block.specs.Area.{base_of, size_of, position_of, bytes_of, IsRea
 use Rattle.gate_block.proofs.Facts.{ready}
 use Rattle.gate_block.proofs.Parts.{written_there}
 use Rattle.checkpoint.specs.declared.laying.Laying.{Laying}
-use Rattle.checkpoint.specs.Imaging.{IsBeingLaid, IsRooted, LeavesRoot, PicksWhole, bodies_of, left_of, picked}
+use Rattle.checkpoint.specs.Imaging.{IsBeingLaid, IsRooted, LeavesRoot, PicksWhole, bodies_of, left_of}
+use Rattle.gate_block.specs.Layout.{base_in_use}
 use Rattle.checkpoint.specs.Keepers.{KeeperState, IsKeeper}
 use Rattle.checkpoint.specs.ImageAnswers.{PickAnswers, FlipAnswers}
 use Rattle.checkpoint.proofs.Apart.{back, inside, behind_root, picks_one}
 use Rattle.checkpoint.proofs.Turning.{beside_is}
 
 -- the root byte that is written picks the area that begins there
-pub root_picks : (base root size : ℕ) (s new : List ℕ) → 513 ≤ length s → Overwritten 512 (root ∷ []) s new → (base ≡ 4096 → root ≡ 0) → ((base ≡ 4096 → ⊥) → root ≡ 1) → (base ≡ 4096) ⊎ (base ≡ 4096 + size) → picked size new ≡ base
+pub root_picks : (base root size : ℕ) (s new : List ℕ) → 513 ≤ length s → Overwritten 512 (root ∷ []) s new → (base ≡ 4096 → root ≡ 0) → ((base ≡ 4096 → ⊥) → root ≡ 1) → (base ≡ 4096) ⊎ (base ≡ 4096 + size) → base_in_use size new ≡ base
 root_picks base root size s new long written first second place =
     let stands : take 1 (drop 512 new) ≡ root ∷ [] = written_there 512 (root ∷ []) s new (omega (arith, long)) written in
     let there : get_or new 512 0 ≡ root =
@@ -28,7 +29,7 @@ root_picks base root size s new long written first second place =
       | inr not_here ↦ ⊎_elim (λ here. absurd (not_here here)) (λ above. ap (λ (b : ℕ). 4096 + size * (b % 2)) (there ∙ second not_here) ∙ omega (arith, above)) place
     ]
 
--- what a flip answers, from what it picked
+-- what a flip answers, from what it base_in_use
 pub flipped : {D : Type 0} (k l : KeeperState D) (w : Laying) (i : Option Laying) (is_risen : Type 0) (r : Result ℕ Refusal) → k.failed ≡ false → k.image ≡ Some w → left_of w ≡ [] → PickAnswers (record k { image = i }) w is_risen l r → FlipAnswers k is_risen l r
 flipped k l w i is_risen (Ok mark) fine is none a = (fine, (w, is, none, a))
 flipped k l w i is_risen (Err Refusal.Failed) fine is none a = absurd a

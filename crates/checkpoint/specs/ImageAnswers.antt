@@ -5,7 +5,7 @@ use Rattle.std.specs.declared.alloc.Global.{Global}
 use Rattle.calls.specs.declared.refusal.Refusal.{Refusal}
 use Rattle.gate_block.specs.declared.area.Area.{Area}
 use Rattle.gate_block.specs.Area.{has_failed, size_of, position_of}
-use Rattle.txn.specs.declared.block.Image.{Image}
+use Rattle.blocks.specs.declared.block.Image.{Image}
 use Rattle.checkpoint.specs.declared.laying.Laying.{Laying}
 use Rattle.checkpoint.specs.Imaging.{IsOther, IsTooLong, IsSameImage, IsWritten, left_of}
 use Rattle.checkpoint.specs.Keepers.{KeeperState}

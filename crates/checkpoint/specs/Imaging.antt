@@ -1,12 +1,13 @@
 -- An image on its way into the area that is not in use, and how it becomes the store.
-use Rattle.std.specs.Prelude.{◌≡◌, ◌⊎◌, ℕ, ◌+◌, ◌*◌, ◌%◌, ◌<◌, ◌≤◌, Bool, false, List, [], ◌++◌, length, map, get_or, Option, Some, None, Vec}
+use Rattle.std.specs.Prelude.{◌≡◌, ◌⊎◌, ℕ, ◌+◌, ◌<◌, ◌≤◌, Bool, false, List, [], ◌++◌, length, map, get_or, Option, Some, None, Vec}
 use Rattle.std.specs.Option.{IsSomeAnd}
 use Rattle.std.specs.declared.alloc.Global.{Global}
 use Rattle.disk_model.specs.Disk.{Torn}
 use Rattle.gate_block.specs.declared.area.Area.{Area}
 use Rattle.gate_block.specs.Row.{row, IsRow}
+use Rattle.gate_block.specs.Layout.{base_in_use}
 use Rattle.gate_block.specs.Area.{has_failed, base_of, size_of, position_of, bytes_of, IsLaid}
-use Rattle.txn.specs.Wholes.{body_of}
+use Rattle.blocks.specs.Wholes.{body_of}
 use Rattle.checkpoint.specs.declared.laying.Laying.{Laying}
 
 -- The other one of the two areas of a disk, which has the same size. They begin at 4096 and behind the first one, so the sum tells which is which.
@@ -59,13 +60,9 @@ abbrev pub IsWritten : Option Laying → Type 0
 IsWritten None = ⊥
 IsWritten (Some w) = left_of w ≡ []
 
--- where the area begins that the root byte picks, of two of this size: its lowest bit tells
-abbrev pub picked : ℕ → List ℕ → ℕ
-picked size bytes = 4096 + size * (get_or bytes 512 0 % 2)
-
 -- The root byte picks the area, and a stop now leaves of both what a read gives.
 pub record IsRooted {D : Type 0} (seen : D → List ℕ) (may_leave : D → List ℕ → Type 0) (area : Area) (disk : D) : Type 0 where
-  pub picks : picked (size_of area) (seen disk) ≡ base_of area
+  pub picks : base_in_use (size_of area) (seen disk) ≡ base_of area
   pub root_at_rest : (c : List ℕ) → may_leave disk c → get_or c 512 0 ≡ get_or (seen disk) 512 0
   pub area_at_rest : (c : List ℕ) → may_leave disk c → bytes_of area c ≡ bytes_of area (seen disk)
 
@@ -76,5 +73,5 @@ LeavesRoot before seen c = before c ⊎ Torn 512 1 seen c
 -- The root byte picks the area that was in use, which has the bytes from before, or the image's, which has all blocks of the image.
 abbrev pub PicksWhole : Area → List ℕ → Area → List (List ℕ) → List ℕ → Type 0
 PicksWhole area before other bodies c =
-    ((picked (size_of area) c ≡ base_of area) × (bytes_of area c ≡ bytes_of area before))
-    ⊎ ((picked (size_of area) c ≡ base_of other) × IsRow bodies (bytes_of other c))
+    ((base_in_use (size_of area) c ≡ base_of area) × (bytes_of area c ≡ bytes_of area before))
+    ⊎ ((base_in_use (size_of area) c ≡ base_of other) × IsRow bodies (bytes_of other c))

@@ -1,8 +1,8 @@
 // Where the keeper takes blocks from.
 ghost use Rattle.std.specs.Prelude.{◌≡◌, List, ◌∷◌, [], IfSome, IfNone};
-ghost use Rattle.txn.specs.declared.block.Block.{Block};
+ghost use Rattle.blocks.specs.declared.block.Block.{Block};
 
-use txn::Block;
+use blocks::Block;
 
 /// Where the keeper takes blocks from.
 pub trait Inbox {

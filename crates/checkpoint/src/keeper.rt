@@ -3,9 +3,10 @@ ghost use Rattle.std.specs.Prelude.{◌≡◌, ◌≢◌, ◌↔◌, ◌<◌, �
 ghost use Rattle.disk_model.specs.Disk.{Torn, IsAtRest, LeavesOnly, Rises};
 ghost use Rattle.gate_block.specs.Row.{IsBlockOf, SameOutside};
 ghost use Rattle.gate_block.specs.Area.{has_failed, base_of, size_of, position_of, IsReady, LeavesBlocks, LeavesElsewhere};
-ghost use Rattle.txn.specs.declared.block.Block.{Block};
+ghost use Rattle.blocks.specs.declared.block.Block.{Block};
 ghost use Rattle.checkpoint.specs.declared.laying.Laying.{Laying};
-ghost use Rattle.checkpoint.specs.Imaging.{IsLaidBeside, HasPiece, IsWritten, IsBeingLaid, IsRooted, LeavesRoot, PicksWhole, bodies_of, left_of, picked, pieces_left};
+ghost use Rattle.checkpoint.specs.Imaging.{IsLaidBeside, HasPiece, IsWritten, IsBeingLaid, IsRooted, LeavesRoot, PicksWhole, bodies_of, left_of, pieces_left};
+ghost use Rattle.gate_block.specs.Layout.{base_in_use};
 ghost use Rattle.checkpoint.specs.Keepers.{KeeperState, IsOneOfTwo, IsPast, OnKept, queue, AppendAnswers, BringAnswers, TurnAnswers};
 ghost use Rattle.checkpoint.specs.ImageAnswers.{BeginAnswers, PieceAnswers, PickAnswers, FlipAnswers};
 
@@ -13,11 +14,11 @@ use crate::inbox::Inbox;
 use crate::laying::{Laying, is_too_long, other_area};
 use crate::root::pick_area;
 use crate::turn::Turn;
+use blocks::{Block, Image};
 use calls::Refusal;
 use disk_model::Disk;
 use gate_block::Area;
 use std::marker::Model;
-use txn::{Block, Image};
 
 /// A disk with its area in use, the mark, a block that was held back, the position up to which the image of the area
 /// covers the records, and the image in progress.
@@ -279,7 +280,7 @@ impl<D: Disk> Keeper<D> {
         ensures kept { (w : Laying) (bodies : List (List ℕ)) → self.old.image ≡ Some w → bodies ≢ [] →
             IsBeingLaid w (D.seen self.old.disk) bodies →
             OnOk result (IsReady D.seen D.may_leave self.new.area self.new.disk bodies) }
-        ensures picks { OnOk result (picked (size_of self.new.area) (D.seen self.new.disk) ≡ base_of self.new.area) }
+        ensures picks { OnOk result (base_in_use (size_of self.new.area) (D.seen self.new.disk) ≡ base_of self.new.area) }
         ensures durable { OnOk result (IsAtRest D.seen D.may_leave self.new.disk) }
         // Nothing else changes.
         ensures root { Torn 512 1 (D.seen self.old.disk) (D.seen self.new.disk) }
@@ -308,7 +309,7 @@ impl<D: Disk> Keeper<D> {
         requires none { self.old.image ≡ None }
         requires beside { IsLaidBeside self.old.area false laying }
         ensures answer { PickAnswers self.old laying (Rises (D.fault_count self.old.disk) (D.fault_count self.new.disk)) self.new result }
-        ensures picks { OnOk result (picked (size_of self.new.area) (D.seen self.new.disk) ≡ base_of self.new.area) }
+        ensures picks { OnOk result (base_in_use (size_of self.new.area) (D.seen self.new.disk) ≡ base_of self.new.area) }
         ensures durable { OnOk result (IsAtRest D.seen D.may_leave self.new.disk) }
         ensures root { Torn 512 1 (D.seen self.old.disk) (D.seen self.new.disk) }
         ensures any_moment { LeavesOnly D.moment D.left_since self.old.disk self.new.disk

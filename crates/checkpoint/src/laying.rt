@@ -7,11 +7,11 @@ ghost use Rattle.checkpoint.specs.Imaging.{IsTooLong, IsBeingLaid, bodies_of, le
 ghost use Rattle.checkpoint.specs.Keepers.{IsOneOfTwo};
 ghost use Rattle.checkpoint.specs.ImageAnswers.{IsStarted, IsOneFewer, IsAsMany};
 
-use crate::root::AREAS_AT;
+use blocks::Image;
 use calls::Refusal;
 use disk_model::Disk;
 use gate_block::Area;
-use txn::Image;
+use gate_block::layout::AREAS_AT;
 
 /// The area that an image is laid into, and the image, with those of its blocks that are not yet written.
 #[derive(Drop)]

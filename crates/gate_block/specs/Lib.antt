@@ -1,3 +1,4 @@
 pub mod Answers
 pub mod Area
 pub mod Row
+pub mod Layout

@@ -2,14 +2,12 @@
 ghost use Rattle.std.specs.Prelude.{◌≡◌, ◌+◌, ◌≤◌, ◌<◌, ◌^◌, List, ℕ, length, OnOk, OnErr, IfOk, IfErr, IfSome, IsErrOf, MatchOption, true, false, ◌++◌, ◌∷◌, []};
 
 use crate::bytes::{number, read_bytes};
+use crate::layout::OPEN;
 use crate::read_error::ReadError;
 use calls::Refusal;
 use calls::limits::MAX_BODY;
 use disk_model::{Disk, Fault, read, write_and_sync};
 use std::alloc::Global;
-
-// The gate of a block that counts.
-const OPEN: u8 = 0xA7;
 
 /// Where a row of blocks stands on a disk, and where its next gate is.
 #[derive(Drop)]

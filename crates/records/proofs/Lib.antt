@@ -1,9 +1,2 @@
-pub mod RecordFields
-pub mod RecordLengths
-pub mod RecordNames
-pub mod Readers
-pub mod RecordLaws
-pub mod RecordUnique
 pub mod ShortValues
-pub mod CallRecords
 pub mod Reaching

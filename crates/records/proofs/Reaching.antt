@@ -8,7 +8,7 @@ use Rattle.catalog.specs.Places.{Reaches, IsWithin}
 use Rattle.catalog.specs.Shows.{ListsContent}
 use Rattle.catalog.specs.Loading.{Loads}
 use Rattle.catalog.specs.Laws.Makings.{within_more}
-use Rattle.records.specs.Reached.{IsReached}
+use Rattle.record_format.specs.Reached.{IsReached}
 
 listed_reached : (n : ℕ) (k : Content) (items : List Item) → ListsContent items k → AllByRecursion (IsReached n) items → Reaches k n
 listed_reached n (InSet s) items l a = tt

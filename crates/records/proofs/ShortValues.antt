@@ -21,8 +21,8 @@ use Rattle.calls.specs.Contents.{Content, InSet, InMap, InQueue, InCounter, InPo
 use Rattle.calls.specs.Transactions.{Makes}
 use Rattle.catalog.specs.Shows.{ListsContent}
 use Rattle.catalog.specs.Loading.{Loads}
-use Rattle.records.specs.Records.{FitsCall, FitsReply, FitsItem}
-use Rattle.records.specs.Short.{IsShortReply, IsShortItem, HoldsShort, AreShort}
+use Rattle.record_format.specs.Records.{FitsCall, FitsReply, FitsItem}
+use Rattle.record_format.specs.Short.{IsShortReply, IsShortItem, HoldsShort, AreShort}
 
 -- ---- what fits is short
 

@@ -6,8 +6,8 @@ use Rattle.calls.specs.Contents.{Collection}
 use Rattle.calls.specs.Items.{kind_of_content}
 use Rattle.calls.specs.Transactions.{Entry, Asked, PutOff}
 use Rattle.catalog.specs.Shows.{ListsContent}
-use Rattle.records.specs.declared.record.Record.{Record}
-use Rattle.records.specs.Acts.{event_of}
+use Rattle.record_format.specs.declared.record.Record.{Record}
+use Rattle.record_format.specs.Acts.{event_of}
 
 -- The records tell of one collection: its kind and name, and its items in their order.
 pub record TellsOf (x : Collection) (rs : List Record) : Type 0 where

@@ -1,20 +1,13 @@
-//! What a journal and a checkpoint image say, record by record, and the one spelling of each record.
+//! What a journal and a checkpoint image say, record by record, the one spelling of each record, and collections that
+//! records tell of.
 #![tactic(auto)]
 
 mod coded;
-mod decoding;
-mod fitting;
-mod lengths;
-mod reading;
-mod record;
-mod sound;
-mod unread;
-mod writing;
 
 pub use calls::Item;
 pub use coded::Coded;
-pub use decoding::{decode, one_list, one_spelling};
-pub use fitting::{fits_call, fits_item, fits_reply, is_reached};
-pub use lengths::{call_len, encoded_len};
-pub use record::{CallRecord, LaterRecord, Record};
-pub use writing::{encode, encode_call};
+pub use record_format::{
+    CallRecord, LaterRecord, Record, call_len, encode, encode_call, encoded_len, fits_call,
+    fits_item, fits_reply, is_reached,
+};
+pub use record_reading::{decode, one_list, one_spelling};

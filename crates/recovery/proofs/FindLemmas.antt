@@ -6,12 +6,13 @@ use Rattle.gate_block.specs.declared.area.Area.{Area}
 use Rattle.gate_block.specs.Row.{IsRow, part}
 use Rattle.gate_block.specs.Area.{base_of, size_of, position_of}
 use Rattle.checkpoint.specs.Keepers.{IsOneOfTwo}
-use Rattle.records.specs.declared.record.Record.{Record}
-use Rattle.records.specs.Records.{spelling}
-use Rattle.recovery.specs.Journals.{IsHeader, base_in_use}
+use Rattle.record_format.specs.declared.record.Record.{Record}
+use Rattle.record_format.specs.Records.{spelling}
+use Rattle.repetition.specs.Journals.{IsHeader}
+use Rattle.gate_block.specs.Layout.{base_in_use}
 use Rattle.recovery.specs.Heads.{IsHeadRefusal}
-use Rattle.recovery.specs.Steps.{State}
-use Rattle.recovery.specs.Reading.{IsSound}
+use Rattle.repetition.specs.Steps.{State}
+use Rattle.repetition.specs.Reading.{IsSound}
 use Rattle.recovery.specs.Loading.{IsLoaded}
 use Rattle.recovery.specs.declared.report.Report.{Report}
 use Rattle.recovery.specs.Finding.{IsStored, IsFound}

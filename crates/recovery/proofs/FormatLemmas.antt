@@ -9,11 +9,12 @@ use Rattle.disk_model.proofs.Stops.{overwritten_torn}
 use Rattle.disk_model.proofs.Walk.{started, goes_on, and_then, weaker}
 use Rattle.gate_block.specs.Row.{IsRow, part, row}
 use Rattle.gate_block.proofs.Parts.{written_there}
-use Rattle.records.specs.declared.record.Record.{Record}
-use Rattle.records.specs.Records.{spelling, number, AreRecords}
-use Rattle.recovery.specs.Journals.{Holds, IsHeader, base_in_use, area_in_use}
-use Rattle.recovery.specs.Steps.{empty_state}
-use Rattle.recovery.specs.Reading.{InCollections, InJournal, AreAccepted}
+use Rattle.record_format.specs.declared.record.Record.{Record}
+use Rattle.record_format.specs.Records.{spelling, number, AreRecords}
+use Rattle.repetition.specs.Journals.{Holds, IsHeader}
+use Rattle.gate_block.specs.Layout.{base_in_use, area_in_use}
+use Rattle.repetition.specs.Steps.{empty_state}
+use Rattle.repetition.specs.Reading.{InCollections, InJournal, AreAccepted}
 use Rattle.recovery.specs.Heads.{HasNoHeader}
 use Rattle.recovery.specs.Formats.{empty_area, IsFilled, IsEmptyStore, IsRoomFor, IsFormatting}
 

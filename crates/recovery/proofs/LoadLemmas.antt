@@ -14,18 +14,18 @@ use Rattle.gate_block.proofs.Facts.{length-row_add, row-append, next_is, none_is
 use Rattle.gate_block.proofs.Unique.{first_block}
 use Rattle.gate_block.specs.declared.area.Area.{Area}
 use Rattle.gate_block.specs.Area.{base_of, size_of, position_of, has_failed, bytes_of, body_in, IsDamage}
-use Rattle.records.specs.declared.record.Record.{Record}
-use Rattle.records.specs.Records.{spelling, AreRecords}
-use Rattle.recovery.specs.declared.stage.Stage.{Stage}
-use Rattle.recovery.specs.Journals.{records_in}
-use Rattle.recovery.specs.Steps.{State}
-use Rattle.recovery.specs.Reading.{Progress, Unread, InJournal, Reads, AreAccepted, last_named}
-use Rattle.recovery.specs.Repetitions.{LeadsTo, IsFit, IsDamageOr, progress_of, count_of}
+use Rattle.record_format.specs.declared.record.Record.{Record}
+use Rattle.record_format.specs.Records.{spelling, AreRecords}
+use Rattle.repetition.specs.declared.stage.Stage.{Stage}
+use Rattle.repetition.specs.Journals.{records_in}
+use Rattle.repetition.specs.Steps.{State}
+use Rattle.repetition.specs.Reading.{Progress, Unread, InJournal, Reads, AreAccepted, last_named}
+use Rattle.repetition.specs.Repetitions.{LeadsTo, IsFit, IsDamageOr, progress_of, count_of}
 use Rattle.recovery.specs.Openings.{AreSound, IsFirstFault, IsSpoilt, IsLoadRefusal}
 use Rattle.recovery.specs.Loading.{IsLoaded}
-use Rattle.recovery.proofs.Lists.{flat_map-append, all_append, leads_split}
-use Rattle.recovery.proofs.RepeatLemmas.{leads_to_nothing, one_group, last_named-append, records_append, records_front, records_back}
-use Rattle.recovery.proofs.Walks.{rises_before}
+use Rattle.repetition.proofs.Lists.{flat_map-append, all_append, leads_split}
+use Rattle.repetition.proofs.RepeatLemmas.{leads_to_nothing, one_group, last_named-append, records_append, records_front, records_back}
+use Rattle.undoing.proofs.Walks.{rises_before}
 
 -- What was read of the area's bytes, up to its next gate.
 pub record HasRead (bytes : List ℕ) (position : ℕ) (kind : Option Kind) (stage : Stage) (next : ℕ) : Type 0 where

@@ -11,24 +11,25 @@ use Rattle.gate_block.specs.Row.{row, IsRow, SameOutside, part}
 use Rattle.gate_block.specs.Area.{base_of, size_of, position_of, bytes_of}
 use Rattle.gate_block.proofs.Facts.{row-append}
 use Rattle.gate_block.proofs.Unique.{row_unique}
-use Rattle.records.specs.declared.record.Record.{Record}
-use Rattle.records.specs.Records.{spelling, IsRecord, AreRecords}
-use Rattle.records.specs.Acts.{acts_of}
+use Rattle.record_format.specs.declared.record.Record.{Record}
+use Rattle.record_format.specs.Records.{spelling, IsRecord, AreRecords}
+use Rattle.record_format.specs.Acts.{acts_of}
 use Rattle.txn.specs.Books.{BookState, opened}
-use Rattle.recovery.specs.Journals.{Holds, IsHeader, StandsFor, IsJournalRecord, base_in_use, area_in_use, records_in}
-use Rattle.recovery.specs.Steps.{State, Steps, Repeats}
-use Rattle.recovery.specs.Reading.{Unread, InJournal, Reads, AreAccepted, IsSound, last_named}
-use Rattle.recovery.specs.Repetitions.{AreRead}
-use Rattle.recovery.specs.Undoing.{Undo, IsUndoRecord, AreBlocksOf, blocks_len}
-use Rattle.recovery.specs.Appending.{IsAt, HoldsFirst, IsAppended}
+use Rattle.repetition.specs.Journals.{Holds, IsHeader, StandsFor, IsJournalRecord, records_in}
+use Rattle.gate_block.specs.Layout.{base_in_use, area_in_use}
+use Rattle.repetition.specs.Steps.{State, Steps, Repeats}
+use Rattle.repetition.specs.Reading.{Unread, InJournal, Reads, AreAccepted, IsSound, last_named}
+use Rattle.repetition.specs.Repetitions.{AreRead}
+use Rattle.undoing.specs.Undoing.{Undo, IsUndoRecord, AreBlocksOf, blocks_len}
+use Rattle.undoing.specs.Appending.{IsAt, HoldsFirst, IsAppended}
 use Rattle.recovery.specs.Finding.{IsStored}
 use Rattle.recovery.specs.Openings.{IsRead, IsOpened, HasNoRoom, KeepsContent}
-use Rattle.recovery.proofs.Lists.{leads_append, leads_split, flat_map-append, all_append, all_first, all_last}
-use Rattle.recovery.proofs.Grammar.{records_spelt, same_blocks}
-use Rattle.recovery.proofs.RepeatLemmas.{records_append, read_records}
-use Rattle.recovery.proofs.Parts.{journal_reads}
-use Rattle.recovery.proofs.Contents.{acts_of-append, content_behind}
-use Rattle.recovery.proofs.UndoRecords.{undo_records_read, undo_acts, undo_journal, blocks_hold, in_blocks, rows_len}
+use Rattle.repetition.proofs.Lists.{leads_append, leads_split, flat_map-append, all_append, all_first, all_last}
+use Rattle.repetition.proofs.Grammar.{records_spelt, same_blocks}
+use Rattle.repetition.proofs.RepeatLemmas.{records_append, read_records}
+use Rattle.repetition.proofs.Parts.{journal_reads}
+use Rattle.repetition.proofs.Contents.{acts_of-append, content_behind}
+use Rattle.undoing.proofs.UndoRecords.{undo_records_read, undo_acts, undo_journal, blocks_hold, in_blocks, rows_len}
 
 -- ---- a head that nothing changed
 

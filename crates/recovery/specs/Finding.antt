@@ -4,12 +4,13 @@ use Rattle.std.specs.FinMap as maps
 use Rattle.std.specs.List.{AllByRecursion}
 use Rattle.gate_block.specs.declared.area.Area.{Area}
 use Rattle.gate_block.specs.Area.{base_of, size_of, position_of, has_failed}
-use Rattle.records.specs.declared.record.Record.{Record}
+use Rattle.record_format.specs.declared.record.Record.{Record}
 use Rattle.checkpoint.specs.Keepers.{IsOneOfTwo}
 use Rattle.recovery.specs.declared.report.Report.{Report}
-use Rattle.recovery.specs.Journals.{IsHeader, base_in_use}
-use Rattle.recovery.specs.Steps.{State}
-use Rattle.recovery.specs.Undoing.{Undo, IsUndoRecord}
+use Rattle.repetition.specs.Journals.{IsHeader}
+use Rattle.gate_block.specs.Layout.{base_in_use}
+use Rattle.repetition.specs.Steps.{State}
+use Rattle.undoing.specs.Undoing.{Undo, IsUndoRecord}
 use Rattle.recovery.specs.Loading.{IsLoaded}
 
 -- The head picks the area, and that holds what leads to the state.

@@ -4,10 +4,10 @@ use Rattle.std.specs.Int.{w64, to_be_bytes}
 use Rattle.calls.specs.declared.refusal.Refusal.{Refusal}
 use Rattle.disk_model.specs.Disk.{Torn}
 use Rattle.gate_block.specs.Row.{row}
-use Rattle.records.specs.declared.record.Record.{Record}
-use Rattle.records.specs.Records.{spelling}
-use Rattle.recovery.specs.Journals.{IsHeader, StandsFor}
-use Rattle.recovery.specs.Reading.{IsSound}
+use Rattle.record_format.specs.declared.record.Record.{Record}
+use Rattle.record_format.specs.Records.{spelling}
+use Rattle.repetition.specs.Journals.{IsHeader, StandsFor}
+use Rattle.repetition.specs.Reading.{IsSound}
 use Rattle.recovery.specs.Heads.{HasNoHeader}
 
 -- a disk of so many bytes has room for two areas of this size, and no more

@@ -2,7 +2,7 @@
 use Rattle.std.specs.Prelude.{◌≡◌, ℕ, ◌+◌, ◌*◌, ◌^◌, ◌≤◌, List, take, drop, get_or, codes}
 use Rattle.std.specs.Int.{w64, to_be_bytes}
 use Rattle.calls.specs.declared.refusal.Refusal.{Refusal}
-use Rattle.recovery.specs.Journals.{IsHeader}
+use Rattle.repetition.specs.Journals.{IsHeader}
 
 -- The first 17 bytes of a store that has so many bytes, with areas of this size.
 pub record IsHead (size : ℕ) (head : List ℕ) (bytes : ℕ) : Type 0 where

@@ -1,12 +1,5 @@
-pub mod Journals
 pub mod Heads
 pub mod Formats
-pub mod Steps
-pub mod Lagging
-pub mod Reading
-pub mod Repetitions
-pub mod Undoing
 pub mod Openings
-pub mod Appending
 pub mod Loading
 pub mod Finding

@@ -1,9 +1,9 @@
 -- What an area was read to hold.
 use Rattle.std.specs.Prelude.{◌≡◌, ℕ, List, length, map}
 use Rattle.gate_block.specs.Row.{row}
-use Rattle.records.specs.declared.record.Record.{Record}
-use Rattle.records.specs.Records.{spelling}
-use Rattle.recovery.specs.Steps.{State}
+use Rattle.record_format.specs.declared.record.Record.{Record}
+use Rattle.record_format.specs.Records.{spelling}
+use Rattle.repetition.specs.Steps.{State}
 use Rattle.recovery.specs.Openings.{IsRead}
 
 -- The area is a row of blocks up to this position, of an image and a journal of so many records, which lead to the state; the number is above every

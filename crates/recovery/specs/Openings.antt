@@ -9,15 +9,16 @@ use Rattle.disk_model.specs.Disk.{IsAtRest, LeavesOnly}
 use Rattle.gate_block.specs.declared.area.Area.{Area}
 use Rattle.gate_block.specs.Row.{row, IsRow, StandsAt, SameOutside, part}
 use Rattle.gate_block.specs.Area.{base_of, size_of, position_of, has_failed, IsReady}
-use Rattle.records.specs.declared.record.Record.{Record}
-use Rattle.records.specs.Records.{spelling, AreRecords}
+use Rattle.record_format.specs.declared.record.Record.{Record}
+use Rattle.record_format.specs.Records.{spelling, AreRecords}
 use Rattle.txn.specs.Books.{BookState, opened}
 use Rattle.recovery.specs.declared.report.Report.{Report}
-use Rattle.recovery.specs.Journals.{IsHeader, StandsFor, base_in_use, area_in_use, records_in}
-use Rattle.recovery.specs.Steps.{State}
-use Rattle.recovery.specs.Reading.{Progress, Unread, Reads, last_named, AreAccepted, IsSound}
-use Rattle.recovery.specs.Repetitions.{AreRead}
-use Rattle.recovery.specs.Undoing.{Undo, AreBlocksOf}
+use Rattle.repetition.specs.Journals.{IsHeader, StandsFor, records_in}
+use Rattle.gate_block.specs.Layout.{base_in_use, area_in_use}
+use Rattle.repetition.specs.Steps.{State}
+use Rattle.repetition.specs.Reading.{Progress, Unread, Reads, last_named, AreAccepted, IsSound}
+use Rattle.repetition.specs.Repetitions.{AreRead}
+use Rattle.undoing.specs.Undoing.{Undo, AreBlocksOf}
 
 -- The area is a row of these blocks, of an image and a journal of so many records, which lead to the state; the number is above every number that
 -- they enter.

@@ -7,16 +7,16 @@ ghost use Rattle.recovery.specs.Finding.{IsFound};
 
 use crate::head::area_in_use;
 use crate::loading::{Loaded, load};
-use crate::repetition::Repeated;
 use crate::report::Report;
-use crate::undoing::undo_all;
 use calls::Refusal;
 use catalog::Catalog;
 use disk_model::Disk;
 use gate_block::Area;
+use machine::Machine;
 use records::Record;
+use repetition::Repeated;
 use std::alloc::Global;
-use txn::Machine;
+use undoing::undo_all;
 
 /// A store as it was found. Its losers are undone in memory, and the records of that are still to be written.
 #[derive(Drop)]

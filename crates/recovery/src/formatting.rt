@@ -3,10 +3,10 @@ ghost use Rattle.std.specs.Prelude.{◌≡◌, ◌≤◌, ℕ, List, length, get
 ghost use Rattle.disk_model.specs.Disk.{LeavesOnly, Rises, HasCause, IsAtRest};
 ghost use Rattle.recovery.specs.Formats.{IsRoomFor, IsFormatAnswer, IsFilled, IsEmptyStore, IsFormatting};
 
-use crate::head::{AREAS_AT, GATE_AT, LETTERS, OPEN, ROOT_AT, SIZE_AT};
 use calls::Refusal;
 use calls::limits::{MAX_AREA, MIN_AREA};
 use disk_model::{Disk, Fault, write_and_sync};
+use gate_block::layout::{AREAS_AT, GATE_AT, LETTERS, OPEN, ROOT_AT, SIZE_AT};
 
 // The image of an empty store as a block, with a closed gate behind it: its marks, 1 and 0, and its end.
 const EMPTY_IMAGE: [u8; 24] = [

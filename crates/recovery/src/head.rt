@@ -1,27 +1,15 @@
 // The head of a store's disk.
 ghost use Rattle.std.specs.Prelude.{◌≡◌, ◌≤◌, ◌<◌, ◌+◌, ◌*◌, ◌^◌, ◌⊎◌, ℕ, length, take, get_or, codes, IfOk, IfErr, IfSome, IfNone, IsTrue, ◌↔◌};
 ghost use Rattle.disk_model.specs.Disk.{ReadsOnly, Rises};
-ghost use Rattle.recovery.specs.Journals.{IsHeader, base_in_use};
+ghost use Rattle.repetition.specs.Journals.{IsHeader};
+ghost use Rattle.gate_block.specs.Layout.{base_in_use};
 ghost use Rattle.recovery.specs.Heads.{IsHead, IsHeadRefusal, HasNoHeader};
 
 use byteorder::{BigEndian, ByteOrder};
 use calls::Refusal;
 use calls::limits::{MAX_AREA, MIN_AREA};
 use disk_model::{Disk, read};
-
-/// Where the parts of a disk begin, and the letters of a store.
-pub const LETTERS: [u8; 8] = *b"BOOSTED1";
-
-pub const GATE_AT: u64 = 8;
-
-pub const SIZE_AT: u64 = 9;
-
-pub const ROOT_AT: u64 = 512;
-
-pub const AREAS_AT: u64 = 4096;
-
-/// A gate that is open.
-pub const OPEN: u8 = 0xA7;
+use gate_block::layout::{AREAS_AT, LETTERS, OPEN, ROOT_AT};
 
 // The size of the areas, which the head of a store says that has so many bytes.
 fn said_size(head: &[u8], whole: u64) -> Option<u64>

@@ -1,18 +1,13 @@
 //! Recovery: a store is made on a disk, opened again after any stop, and looked at.
 #![tactic(auto)]
 
-mod appending;
 mod finding;
 mod formatting;
 mod head;
 mod inspecting;
 mod loading;
 mod opening;
-mod reading;
-mod repetition;
 mod report;
-mod stage;
-mod undoing;
 
 pub use formatting::format;
 pub use inspecting::inspect;

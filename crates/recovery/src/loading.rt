@@ -5,10 +5,10 @@ ghost use Rattle.gate_block.specs.Area.{base_of, size_of, position_of, has_faile
 ghost use Rattle.recovery.specs.Openings.{IsLoadRefusal, IsSpoilt};
 ghost use Rattle.recovery.specs.Loading.{IsLoaded};
 
-use crate::repetition::{Repeated, Repetition};
 use calls::Refusal;
 use disk_model::Disk;
-use gate_block::Area;
+use gate_block::{Area, BLOCK_HEAD};
+use repetition::{Repeated, Repetition};
 use std::alloc::Global;
 
 /// An area whose blocks were read, and what their records lead to.
@@ -41,9 +41,18 @@ pub fn load<D: Disk>(alloc: Global, disk: &mut D, base: u64, size: u64) -> Resul
     let mut area = Area::start(base, size, 0);
     let mut repetition = Repetition::new();
     let mut place = base;
-    while let Some(body) = area.next_block(alloc, disk)? {
-        repetition = repetition.read_body(alloc, body.as_slice(), place)?;
-        place += 5 + body.len() as u64;
+    loop {
+        match area.next_block(alloc, disk) {
+            Ok(Some(body)) => {
+                repetition = repetition.read_body(alloc, body.as_slice(), place)?;
+                place += (BLOCK_HEAD + body.len()) as u64;
+            }
+            Ok(None) => break,
+            Err(refusal) => {
+                drop(repetition);
+                return Err(refusal);
+            }
+        }
     }
     let repeated = repetition.finish(place)?;
     Ok(Loaded {

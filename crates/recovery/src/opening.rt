@@ -5,12 +5,11 @@ ghost use Rattle.calls.specs.declared.refusal.Refusal.{Refusal};
 ghost use Rattle.disk_model.specs.Disk.{ReadsOnly, Rises, IsAtRest};
 ghost use Rattle.gate_block.specs.Area.{has_failed};
 ghost use Rattle.checkpoint.specs.Keepers.{IsOneOfTwo, IsFresh};
-ghost use Rattle.recovery.specs.Journals.{StandsFor};
+ghost use Rattle.repetition.specs.Journals.{StandsFor};
 ghost use Rattle.recovery.specs.Heads.{HasNoHeader};
-ghost use Rattle.recovery.specs.Undoing.{blocks_len};
+ghost use Rattle.undoing.specs.Undoing.{blocks_len};
 ghost use Rattle.recovery.specs.Openings.{IsOpened, IsDamagedAt, HasNoRoom, IsReadyStore, IsOpenRefusal, KeepsContent};
 
-use crate::appending::{append_all, make_room};
 use crate::finding::{Found, find};
 use calls::Refusal;
 use catalog::Catalog;
@@ -19,6 +18,7 @@ use disk_model::Disk;
 use gate_block::Area;
 use std::alloc::Global;
 use txn::Book;
+use undoing::{append_all, make_room};
 
 // Whether so many records of an undoing fit, in blocks, in so many bytes, with a gate behind them.
 fn fits(room: u64, count: usize) -> bool

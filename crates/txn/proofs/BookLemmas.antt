@@ -6,19 +6,20 @@ use Rattle.calls.specs.Contents.{Collection}
 use Rattle.calls.specs.declared.refusal.Refusal.{Refusal}
 use Rattle.catalog.specs.Making as making
 use Rattle.catalog.specs.Making.{MakesNamed}
-use Rattle.records.specs.declared.record.Record.{Record}
-use Rattle.records.specs.Acts as acts
-use Rattle.records.specs.Records.{number}
-use Rattle.records.proofs.RecordLengths.{length-number}
-use Rattle.txn.specs.Machine.{State}
+use Rattle.record_format.specs.declared.record.Record.{Record}
+use Rattle.record_format.specs.Acts as acts
+use Rattle.record_format.specs.Records.{number}
+use Rattle.record_format.proofs.RecordLengths.{length-number}
+use Rattle.machine.specs.Machine.{State}
 use Rattle.txn.specs.Books.{BookState, opened, Appends, MakeRefused}
-use Rattle.txn.specs.Waits.{Waiting, waiting, freezes}
-use Rattle.txn.specs.Machines.{resting}
+use Rattle.blocks.specs.Waits.{Waiting, waiting, freezes}
+use Rattle.machine.specs.Machines.{resting}
 use Rattle.txn.specs.Views.{book_of}
-use Rattle.txn.specs.declared.draft.Handed.{Handed}
-use Rattle.txn.specs.declared.block.Image.{Image}
+use Rattle.blocks.specs.declared.draft.Handed.{Handed}
+use Rattle.blocks.specs.declared.block.Image.{Image}
 use Rattle.txn.specs.Freezing.{IsImageOf}
-use Rattle.txn.specs.Packings.{joined, IsPackedImage}
+use Rattle.blocks.specs.Packings.{joined}
+use Rattle.images.specs.Images.{IsPackedImage}
 
 -- how long the record of a number is
 pub mark_length : (n : ℕ) → 9 ≡ suc (length (number 8 n))

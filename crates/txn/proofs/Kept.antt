@@ -11,19 +11,20 @@ use Rattle.calls.specs.declared.refusal.Refusal.{Refusal}
 use Rattle.calls.specs.Transactions.{Event}
 use Rattle.undo_log.specs.Logs.{Lives}
 use Rattle.boosted.proofs.Each.{each_append, each_back}
-use Rattle.records.specs.declared.record.Record.{Record}
-use Rattle.records.specs.Acts.{places}
-use Rattle.records.specs.Records.{IsRecord, IsNumber}
-use Rattle.records.proofs.CallRecords.{later_is_record}
-use Rattle.txn.specs.Machine.{State, BeginRow, CommitRow, EndedRow, FallRow, MakeRow, CallRow, LaterRow, BackRow}
+use Rattle.record_format.specs.declared.record.Record.{Record}
+use Rattle.record_format.specs.Acts.{places}
+use Rattle.record_format.specs.Records.{IsRecord, IsNumber}
+use Rattle.record_format.proofs.CallRecords.{later_is_record}
+use Rattle.machine.specs.Machine.{State, BeginRow, CommitRow, EndedRow, FallRow, MakeRow, CallRow, LaterRow, BackRow}
 use Rattle.txn.specs.Books.{BookState, opened, Appends, AppendsTo, CutAnswers, record_of, later_record, IsKept}
-use Rattle.txn.specs.Machines.{IsUpheld}
-use Rattle.txn.specs.declared.block.Block.{Block}
-use Rattle.txn.specs.Sound.{IsSound}
-use Rattle.txn.proofs.Statuses.{nobody, lives_more, lives_fewer}
-use Rattle.txn.proofs.BookLaws.{BookLaws}
-use Rattle.txn.proofs.Upheld.{make_names, make_upheld, begin_upheld, call_names, call_upheld, later_names, later_upheld, commit_names, commit_upheld, ended_upheld, fallen_lives, back_names, back_upheld, fall_upheld, resting_upheld}
-use Rattle.txn.proofs.Sizes.{append_length, len_begun, len_fallen, len_left, pushed_length, places_append, one_place}
+use Rattle.machine.specs.Machines.{IsUpheld}
+use Rattle.blocks.specs.declared.block.Block.{Block}
+use Rattle.machine.specs.Sound.{IsSound}
+use Rattle.machine.proofs.Statuses.{nobody, lives_more, lives_fewer}
+use Rattle.machine.proofs.BookLaws.{BookLaws}
+use Rattle.machine.proofs.Upheld.{make_names, make_upheld, begin_upheld, call_names, call_upheld, later_names, later_upheld, commit_names, commit_upheld, ended_upheld, fallen_lives, back_names, back_upheld, fall_upheld, resting_upheld}
+use Rattle.machine.proofs.Sizes.{append_length, len_begun, len_fallen, len_left, pushed_length}
+use Rattle.blocks.proofs.Places.{places_append, one_place}
 
 -- the records of a transaction's number
 begin_is_record : (n : ℕ) → IsNumber n → IsRecord None (Record.Begin n)

@@ -1,43 +1,19 @@
 -- What a freeze answers: an image of the book in whole blocks, and where it stands among the records.
-use Rattle.std.specs.Prelude.{◌≡◌, ℕ, ◌+◌, ◌<◌, ◌⊎◌, ◌↔◌, Bool, true, List, [], ◌∷◌, length, Contains, Option, Some, None, Result, Ok, Err}
-use Rattle.std.specs.FinMap as maps
+use Rattle.std.specs.Prelude.{◌≡◌, ℕ, ◌+◌, ◌<◌, ◌⊎◌, ◌↔◌, List, length, Contains, Option, None, Result, Ok, Err}
 use Rattle.std.specs.List.{flat_map, AllByRecursion}
-use Rattle.std.specs.declared.vec.Vec.{Vec}
-use Rattle.std.specs.declared.alloc.Global.{Global}
 use Rattle.calls.specs.declared.call.Call.{Call}
 use Rattle.calls.specs.declared.reply.Reply.{Reply}
 use Rattle.calls.specs.declared.refusal.Refusal.{Refusal}
 use Rattle.calls.specs.Contents.{Collection}
-use Rattle.calls.specs.Transactions.{Entry, Asked, PutOff}
-use Rattle.undo_log.specs.Logs.{Statuses, Lives}
-use Rattle.gate_block.specs.Row.{IsBlockOf}
-use Rattle.records.specs.declared.record.Record.{Record}
-use Rattle.records.specs.Records.{call_record, spelling, AreRecords}
+use Rattle.undo_log.specs.Logs.{Lives}
+use Rattle.record_format.specs.declared.record.Record.{Record}
+use Rattle.record_format.specs.Records.{AreRecords}
 use Rattle.records.specs.Images.{IsImage}
-use Rattle.txn.specs.Machine.{State}
-use Rattle.txn.specs.Drafts.{ArePacked}
+use Rattle.blocks.specs.declared.block.Image.{Image}
+use Rattle.blocks.specs.Drafts.{ArePacked}
+use Rattle.blocks.specs.Packings.{AreWhole}
+use Rattle.images.specs.LiveRecords.{live_records}
 use Rattle.txn.specs.Books.{BookState}
-use Rattle.txn.specs.declared.block.Image.{Image}
-
--- the record, unless its transaction is falling
-abbrev pub unless_falling : Option Bool → Record → List Record
-unless_falling (Some true) r = []
-unless_falling other r = r ∷ []
-
--- What an image tells of one entry of a live transaction: each call, and what was put off by one that is not falling.
-abbrev pub live_record : (Call → Reply → Option Call) → Statuses → ℕ × Entry → List Record
-live_record inverse live (n, Asked e) = Record.LiveCall (call_record n e.at e.call e.reply (inverse e.call e.reply)) ∷ []
-live_record inverse live (n, PutOff at call) = unless_falling (maps.get live n) (Record.LiveLater (record { number = n; collection = at; call = call }))
-
--- what it tells of all of them, in the order asked
-abbrev pub live_records : {S : Type 0} → (Call → Reply → Option Call) → State S → List Record
-live_records inverse s = flat_map (live_record inverse s.live) s.entries
-
--- Each block is the whole one of its records.
-abbrev pub AreWhole : List (Vec ℕ Global) → List (List Record) → Type 0
-AreWhole [] [] = Unit {0}
-AreWhole (b ∷ bs) (g ∷ gs) = IsBlockOf (spelling g) b.items × AreWhole bs gs
-AreWhole bs gs = ⊥
 
 -- The image is one of the book: its records tell of what the collections hold, of the live transactions and of what these asked for, and stand in blocks
 -- that are each as full as they can be. It covers every record up to now.

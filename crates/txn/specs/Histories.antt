@@ -7,12 +7,12 @@ use Rattle.calls.specs.declared.reply.Reply.{Reply}
 use Rattle.calls.specs.declared.need.Need.{Need}
 use Rattle.calls.specs.declared.refusal.Refusal.{Refusal}
 use Rattle.calls.specs.Contents.{Collection}
-use Rattle.calls.specs.Transactions.{Leads, Asked, PutOff, Transaction, Whole, Made, calls_of, laters_of, Act, Begins, Asks, Commits, Creates, committed, Serial}
-use Rattle.txn.specs.Machine.{State, Does}
+use Rattle.calls.specs.Transactions.{Leads, Asked, PutOff, Transaction, Act, Begins, Asks, Commits, Creates, committed, Serial}
+use Rattle.machine.specs.Machine.{State}
 use Rattle.txn.specs.Books.{BookState, MakeAnswers, EnterAnswers, CallAnswers, LaterAnswers, CommitAnswers, BackAnswers, EndedAnswers, CutAnswers}
 use Rattle.txn.specs.Freezing.{FreezeAnswers}
-use Rattle.txn.specs.declared.block.Block.{Block}
-use Rattle.txn.specs.declared.block.Image.{Image}
+use Rattle.blocks.specs.declared.block.Block.{Block}
+use Rattle.blocks.specs.declared.block.Image.{Image}
 
 -- A step of a book, with its answer.
 pub data Step : Type 0 where
@@ -39,28 +39,23 @@ acts_of_step step = []
 abbrev pub committed_by : List Step → List Transaction
 committed_by steps = committed (flat_map acts_of_step steps)
 
-module _ {S : Type 0} (answers : S → ℕ → calls.Call → Reply → Type 0) (leaves : S → ℕ → calls.Call → Reply → S) (makes : S → List ℕ → Kind → S → Type 0) where
-  -- A transaction leads from s to t: its calls one after another, and then what it put off; or a collection is made.
-  abbrev pub RunsWhole : S → Transaction → S → Type 0
-  RunsWhole s (Whole es) t = (m : S) × Leads (Does answers leaves) (calls_of es) s m × Leads (Does answers leaves) (laters_of es) m t
-  RunsWhole s (Made name kind) t = makes s name kind t
+module _ {S : Type 0} (answers : S → ℕ → calls.Call → Reply → Type 0) (leaves : S → ℕ → calls.Call → Reply → S) (makes : S → List ℕ → Kind → S → Type 0)
+    (belongs : S → ℕ → calls.Call → Type 0) (misplaced : S → ℕ → calls.Call → Refusal → Type 0) (names : S → List (List ℕ)) (need : calls.Call → Reply → Need) (inverse : calls.Call → Reply → Option calls.Call) (collections : S → List Collection) where
+  -- The step leads from one book to another: one row of the histories of an object of one thread.
+  abbrev pub Acts : BookState S → Step → BookState S → Type 0
+  Acts b (Make name kind a) c = MakeAnswers names makes b name kind a c
+  Acts b (Enter n a) c = EnterAnswers b n a c
+  Acts b (Ask n at call a) c = CallAnswers answers leaves belongs need inverse misplaced b n at call a c
+  Acts b (Later n at call a) c = LaterAnswers answers leaves belongs need misplaced b n at call a c
+  Acts b (Commit n a) c = CommitAnswers answers leaves b n a c
+  Acts b (Back n a) c = BackAnswers answers leaves inverse b n a c
+  Acts b (Ended n a) c = EndedAnswers b n a c
+  Acts b (Cut a) c = (waiting waits : List Block) × CutAnswers b waiting (Unit {0}) a waits c
+  Acts b (Freeze a) c = FreezeAnswers collections inverse b a c
 
-  module _ (belongs : S → ℕ → calls.Call → Type 0) (misplaced : S → ℕ → calls.Call → Refusal → Type 0) (names : S → List (List ℕ)) (need : calls.Call → Reply → Need) (inverse : calls.Call → Reply → Option calls.Call) (collections : S → List Collection) where
-    -- The step leads from one book to another: one row of the histories of an object of one thread.
-    abbrev pub Acts : BookState S → Step → BookState S → Type 0
-    Acts b (Make name kind a) c = MakeAnswers names makes b name kind a c
-    Acts b (Enter n a) c = EnterAnswers b n a c
-    Acts b (Ask n at call a) c = CallAnswers answers leaves belongs need inverse misplaced b n at call a c
-    Acts b (Later n at call a) c = LaterAnswers answers leaves belongs need misplaced b n at call a c
-    Acts b (Commit n a) c = CommitAnswers answers leaves b n a c
-    Acts b (Back n a) c = BackAnswers answers leaves inverse b n a c
-    Acts b (Ended n a) c = EndedAnswers b n a c
-    Acts b (Cut a) c = (waiting waits : List Block) × CutAnswers b waiting (Unit {0}) a waits c
-    Acts b (Freeze a) c = FreezeAnswers collections inverse b a c
-
-    -- The history leads from one book to another, step by step.
-    abbrev pub IsLegal : BookState S → List Step → BookState S → Type 0
-    IsLegal b steps c = Leads Acts steps b c
+  -- The history leads from one book to another, step by step.
+  abbrev pub IsLegal : BookState S → List Step → BookState S → Type 0
+  IsLegal b steps c = Leads Acts steps b c
 
 -- What a history comes to: a kept book, and a settled content to which the committed transactions lead, each run whole, one after another, with
 -- the replies that were got. The places count them.

@@ -1,14 +1,4 @@
-pub mod Theory
-pub mod Wholes
-pub mod Machine
-pub mod Machines
-pub mod Loading
-pub mod Sound
 pub mod Books
-pub mod Histories
-pub mod Drafts
-pub mod Offers
-pub mod Waits
-pub mod Views
 pub mod Freezing
-pub mod Packings
+pub mod Histories
+pub mod Views

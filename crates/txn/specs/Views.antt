@@ -1,14 +1,8 @@
--- A machine and a book as contracts see them, from their parts.
+-- A book as contracts see it, from its parts.
 use Rattle.std.specs.Prelude.{ℕ}
-use Rattle.abstract_locks.specs.Holds.{Holdings}
-use Rattle.undo_log.specs.Logs.{Log}
-use Rattle.txn.specs.Machine.{State}
+use Rattle.machine.specs.Machine.{State}
+use Rattle.blocks.specs.Waits.{Waiting, waiting, freezes}
 use Rattle.txn.specs.Books.{BookState}
-use Rattle.txn.specs.Waits.{Waiting, waiting, freezes}
-
--- the state of a machine
-abbrev pub state_of : {S : Type 0} → S → Holdings → Log → (wear : ℕ) → State S
-state_of now needs log wear = record { now = now; live = log.live; entries = log.entries; holds = needs.holds; wear = wear }
 
 -- a book
 abbrev pub book_of : {S : Type 0} → State S → Waiting → (places next : ℕ) → BookState S

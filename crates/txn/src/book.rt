@@ -1,6 +1,5 @@
 // The book: transactions on shared collections, one step at a time.
-ghost use Rattle.std.specs.Prelude.{◌≡◌, ℕ, ◌<◌, ◌≤◌, ◌^◌, ◌+◌, [], ◌∷◌, ◌++◌, IfOk, IfSome, IfErr, OnOk, OnErr, IsOkUnless, length};
-ghost use Rattle.calls.specs.Inverses.{Askable, IsShort};
+ghost use Rattle.std.specs.Prelude.{◌≡◌, ℕ, ◌<◌, ◌≤◌, ◌^◌, ◌+◌, [], ◌∷◌, ◌++◌, IfOk, IfSome, IfErr, OnOk, OnErr, Ok, Err, IsOkUnless, length};
 ghost use Rattle.calls.specs.Names.{IsName};
 ghost use Rattle.calls.specs.Transactions.{Whole, own};
 ghost use Rattle.undo_log.specs.Entries.{event_of};
@@ -9,22 +8,21 @@ ghost use Rattle.abstract_locks.specs.Holds.{IsClear};
 ghost use Rattle.calls.specs.declared.reply.Reply.{Reply};
 ghost use Rattle.boosted.specs.Shape.{CanAsk, CanDefer};
 ghost use Rattle.catalog.specs.Making.{IsPlaceOf, FindRefused};
-ghost use Rattle.records.specs.Records.{FitsCall, FitsReply};
-ghost use Rattle.records.specs.Short.{AreShort, IsShortReply};
-ghost use Rattle.txn.specs.Machine.{IsRunning, IsSettled};
+ghost use Rattle.record_format.specs.Records.{FitsCall, FitsReply};
+ghost use Rattle.record_format.specs.Short.{AreShort};
+ghost use Rattle.machine.specs.Machine.{IsRunning, IsSettled, CanCall};
 ghost use Rattle.txn.specs.Books.{opened, later_record, IsKept, IsOpen, IsFull, RunRefused, OpenRefused, CanEnter, EnterRefused, CallRefused, LaterRefused, MakeAnswers, EnterAnswers, CallAnswers, LaterAnswers, CommitAnswers, BackAnswers, EndedAnswers, CutAnswers};
 ghost use Rattle.txn.specs.Freezing.{FreezeAnswers};
-ghost use Rattle.txn.specs.Histories.{RunsWhole};
-ghost use Rattle.txn.specs.Sound.{IsSound};
+ghost use Rattle.machine.specs.Transactions.{RunsWhole};
+ghost use Rattle.machine.specs.Sound.{IsSound};
 
-use crate::block::{Image, Outbox};
-use crate::freezing::image_blocks;
-use crate::machine::Machine;
-use crate::pending::Pending;
+use blocks::{Image, Outbox, Pending};
 use calls::limits::{MAX_CALLS, MAX_LIVE, MAX_PENDING, NUMBER_END};
 use calls::{Call, Kind, Name, Refusal, Reply, check_name};
 use catalog::Parts;
-use records::{Coded, LaterRecord, Record, call_len, encoded_len, fits_call, fits_reply};
+use images::image_blocks;
+use machine::{Machine, inverse};
+use records::{Coded, LaterRecord, Record, call_len, encoded_len};
 use std::alloc::Global;
 use std::marker::Model;
 use undo_log::{Later, Logged};
@@ -52,9 +50,9 @@ pub struct Book<B: Parts + Coded> {
 
 impl<B: Parts + Coded> Model for Book<B> {
     ghost use Rattle.txn.specs.Books.{BookState, IsKept};
-    ghost use Rattle.txn.specs.Sound.{IsSound};
+    ghost use Rattle.machine.specs.Sound.{IsSound};
     ghost use Rattle.txn.specs.Views.{book_of};
-    ghost use Rattle.records.specs.Short.{AreShort};
+    ghost use Rattle.record_format.specs.Short.{AreShort};
     ghost use Rattle.std.specs.FinMap as maps;
     ghost use Rattle.std.specs.Ordering.{nat_cmp};
     ghost use Rattle.std.specs.Coded.{codes, coded_ℕ, coded_bool};
@@ -135,7 +133,7 @@ impl<B: Parts + Coded> Book<B> {
         self.pending.reserve(MAKE_HEAD + name.len())?;
         let spelled = Name::new(name.to_string(self.alloc)?);
         self.machine.make(name, kind)?;
-        self.pending.push(&Record::Make(kind, spelled));
+        self.pending.push(Record::Make(kind, spelled));
         self.places += 1;
         Ok(self.places)
     }
@@ -151,7 +149,7 @@ impl<B: Parts + Coded> Book<B> {
         self.check_enter(number)?;
         self.pending.reserve(MARK_LEN)?;
         self.machine.begin(number)?;
-        self.pending.push(&Record::Begin(number));
+        self.pending.push(Record::Begin(number));
         self.next = self.next.max(number + 1);
         Ok(())
     }
@@ -168,18 +166,13 @@ impl<B: Parts + Coded> Book<B> {
     {
         self.check_call(number, col, call)?;
         let reply = self.machine.parts().look(col, call)?;
-        if self.machine.goes_twice(number, col, call, &reply) {
-            return Err(Refusal::AlreadyGoing);
+        match self.ask(number, col, call, &reply) {
+            Ok(()) => Ok(reply),
+            Err(refusal) => {
+                drop(reply);
+                Err(refusal)
+            }
         }
-        let need = B::need(call, &reply);
-        self.machine.test(number, col, &need)?;
-        let back = inverse::<B>(call, &reply)?;
-        let len = call_len(call, &reply, back.as_ref());
-        self.pending.reserve(len)?;
-        let asked = logged(col, call, &reply)?;
-        self.machine.call(number, asked)?;
-        self.pending.push_call(number, col, call, &reply, &back);
-        Ok(reply)
     }
 
     /// Puts the call off to the transaction's commit, under the need that it has with the reply Done. Until then it shows
@@ -199,7 +192,7 @@ impl<B: Parts + Coded> Book<B> {
             call: call.copy()?,
         };
         let entry = later_record(number, col, call)?;
-        self.put_off(number, put, &entry)
+        self.put_off(number, put, entry)
     }
 
     /// Commits the transaction: what it put off, and what its calls left, runs in the order asked, all that it asked for
@@ -216,7 +209,7 @@ impl<B: Parts + Coded> Book<B> {
         self.check_backlog()?;
         self.pending.reserve(MARK_LEN)?;
         self.machine.commit(number);
-        self.pending.push(&Record::Commit(number));
+        self.pending.push(Record::Commit(number));
         self.places += 1;
         Ok(self.places)
     }
@@ -237,7 +230,7 @@ impl<B: Parts + Coded> Book<B> {
         }
         self.pending.reserve(MARK_LEN)?;
         self.machine.back(number)?;
-        self.pending.push(&Record::Back(number));
+        self.pending.push(Record::Back(number));
         Ok(true)
     }
 
@@ -255,7 +248,7 @@ impl<B: Parts + Coded> Book<B> {
         self.check_backlog()?;
         self.pending.reserve(MARK_LEN)?;
         self.machine.ended(number);
-        self.pending.push(&Record::Ended(number));
+        self.pending.push(Record::Ended(number));
         Ok(())
     }
 
@@ -291,17 +284,70 @@ impl<B: Parts + Coded> Book<B> {
         })
     }
 
+    // Makes the call that gets the reply.
+    fn ask(&mut self, number: u64, col: u8, call: &Call, reply: &Reply) -> Result<(), Refusal>
+        requires open { IsOpen (CanAsk B.belongs self.old.state.now col call.now) self.old number }
+        requires answered { B.answers self.old.state.now col call.now reply.now }
+        ensures ok { OnOk result (CallAnswers B.answers B.leaves B.belongs B.need B.inverse B.misplaced self.old number col call.now (Ok reply.now) self.new) }
+        ensures err { IfErr result (λ e. CallAnswers B.answers B.leaves B.belongs B.need B.inverse B.misplaced self.old number col call.now (Err e) self.new) }
+        ensures settled { (c : B) → IsSettled B.answers B.leaves self.old.state c → IsSettled B.answers B.leaves self.new.state c }
+    {
+        if self.machine.goes_twice(number, col, call, reply) {
+            return Err(Refusal::AlreadyGoing);
+        }
+        let need = B::need(call, reply);
+        self.machine.test(number, col, &need)?;
+        let back = inverse::<B>(call, reply)?;
+        let noted = self.note_call(number, col, call, reply, &back);
+        drop(back);
+        noted
+    }
+
+    // Makes the call under its record, from its parts.
+    fn note_call(
+        &mut self,
+        number: u64,
+        col: u8,
+        call: &Call,
+        reply: &Reply,
+        back: &Option<Call>,
+    ) -> Result<(), Refusal>
+        requires open { IsOpen (CanAsk B.belongs self.old.state.now col call.now) self.old number }
+        requires can { CanCall B.answers B.leaves B.belongs B.need self.old.state number (record { at = col; call = call.now; reply = reply.now }) }
+        requires back { back.now ≡ B.inverse call.now reply.now }
+        requires call { FitsCall call.now }
+        requires reply { FitsReply reply.now }
+        requires undone { IfSome back.now FitsCall }
+        ensures ok { OnOk result (CallAnswers B.answers B.leaves B.belongs B.need B.inverse B.misplaced self.old number col call.now (Ok reply.now) self.new) }
+        ensures same { OnErr result (self.new ≡ self.old) }
+        ensures refusal { IsOkUnless result Refusal.NoMemory }
+        ensures settled { (c : B) → IsSettled B.answers B.leaves self.old.state c → IsSettled B.answers B.leaves self.new.state c }
+    {
+        self.pending.reserve(call_len(call, reply, back.as_ref()))?;
+        let asked = logged(col, call, reply)?;
+        self.machine.call(number, asked)?;
+        self.pending.push_call(number, col, call, reply, back);
+        Ok(())
+    }
+
     // Puts a call off under its record.
-    fn put_off(&mut self, number: u64, put: Later, entry: &Record) -> Result<(), Refusal>
+    fn put_off(&mut self, number: u64, put: Later, entry: Record) -> Result<(), Refusal>
         requires open { IsOpen (CanDefer B.belongs self.old.state.now put.at put.call) self.old number }
         requires clear { IsClear self.old.state.holds number put.at (B.need put.call Reply.Done) }
-        requires entry { entry.now ≡ later_record number put.at put.call }
+        requires entry { entry ≡ later_record number put.at put.call }
         ensures answer { LaterAnswers B.answers B.leaves B.belongs B.need B.misplaced self.old number put.at put.call result self.new }
         ensures settled { (c : B) → IsSettled B.answers B.leaves self.old.state c → IsSettled B.answers B.leaves self.new.state c }
     {
         prove!(put.at <= u8::MAX);
-        self.pending.reserve(encoded_len(entry))?;
-        self.machine.later(number, put)?;
+        if let Err(refusal) = self.pending.reserve(encoded_len(&entry)) {
+            drop(put);
+            drop(entry);
+            return Err(refusal);
+        }
+        if let Err(refusal) = self.machine.later(number, put) {
+            drop(entry);
+            return Err(refusal);
+        }
         self.pending.push(entry);
         Ok(())
     }
@@ -407,25 +453,6 @@ fn logged(at: u8, call: &Call, reply: &Reply) -> Result<Logged, Refusal>
         call: call.copy()?,
         reply: reply.copy()?,
     })
-}
-
-// The call that takes back what the call did, answered so. All three have a spelling.
-pub(crate) fn inverse<B: Parts + Coded>(call: &Call, reply: &Reply) -> Result<Option<Call>, Refusal>
-    requires askable { Askable call.now }
-    requires short { IsShort call.now × IsShortReply reply.now }
-    ensures ok { IfOk result (λ back. back ≡ B.inverse call.now reply.now) }
-    ensures call { FitsCall call.now }
-    ensures reply { FitsReply reply.now }
-    ensures back { IfOk result (λ back. IfSome back FitsCall) }
-    ensures refusal { IsOkUnless result Refusal.NoMemory }
-{
-    prove!(fits_call(call));
-    prove!(fits_reply(reply));
-    let back = B::inverse(call, reply)?;
-    if let Some(back) = &back {
-        prove!(fits_call(back));
-    }
-    Ok(back)
 }
 
 // The record of a call that is put off.

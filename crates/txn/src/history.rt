@@ -1,15 +1,13 @@
-// What every history of a book comes to, and what recovery may rest on.
+// What every history of a book comes to, and what its images lose.
 ghost use Rattle.std.specs.Prelude.{◌≡◌, List};
 ghost use Rattle.std.specs.FinMap as maps;
-ghost use Rattle.txn.specs.Machine.{IsSettled};
+ghost use Rattle.machine.specs.Machine.{IsSettled};
 ghost use Rattle.txn.specs.Books.{BookState};
 ghost use Rattle.txn.specs.Histories.{Step, IsLegal, ComesTo};
-ghost use Rattle.txn.specs.Sound.{IsSound};
-ghost use Rattle.txn.specs.Theory.Theorems.{StandsForOne, UndoSettles, OpenYields};
-ghost use Rattle.txn.specs.Theory.Images.{ImageRepeats, ImageStands};
-ghost use Rattle.txn.specs.Theory.Loads.{LoadsSound, ImageLoads};
-ghost use Rattle.txn.specs.Theory.Crash.{CrashYields, GoesOn};
-ghost use Rattle.txn.specs.Theory.Collections.{collection_rules};
+ghost use Rattle.machine.specs.Sound.{IsSound};
+ghost use Rattle.machine.specs.Theory.Images.{ImageRepeats, ImageStands};
+ghost use Rattle.machine.specs.Theory.Loads.{LoadsSound, ImageLoads};
+ghost use Rattle.machine.specs.Theory.Collections.{collection_rules};
 
 use catalog::Parts;
 use records::Coded;
@@ -22,23 +20,10 @@ pub fn one_history<B: Parts + Coded>(_parts: &B)
         ComesTo (λ v. IsSound B.answers B.leaves B.makes B.need B.inverse v.state) B.collections (IsSettled B.answers B.leaves) b steps c }
 {}
 
-/// Recovery: records that are repeated, and losers that are undone, give what the records stand for.
-pub fn recovery<B: Parts + Coded>(_parts: &B)
-    ensures one { StandsForOne (collection_rules B.answers B.leaves B.makes B.need B.inverse) }
-    ensures undo { UndoSettles (collection_rules B.answers B.leaves B.makes B.need B.inverse) }
-    ensures open { OpenYields (collection_rules B.answers B.leaves B.makes B.need B.inverse) }
-{}
-
 /// Images: what a book had in hand, and the records behind it, lose nothing.
 pub fn images<B: Parts + Coded>(_parts: &B)
     ensures repeats { ImageRepeats (collection_rules B.answers B.leaves B.makes B.need B.inverse) }
     ensures stands { ImageStands (collection_rules B.answers B.leaves B.makes B.need B.inverse) }
     ensures sound { LoadsSound (collection_rules B.answers B.leaves B.makes B.need B.inverse) }
     ensures loads { ImageLoads (collection_rules B.answers B.leaves B.makes B.need B.inverse) }
-{}
-
-/// The whole: after a stop, opening yields what a beginning of the committed transactions gives.
-pub fn crash<B: Parts + Coded>(_parts: &B)
-    ensures yields { CrashYields (collection_rules B.answers B.leaves B.makes B.need B.inverse) }
-    ensures goes_on { GoesOn (collection_rules B.answers B.leaves B.makes B.need B.inverse) }
 {}

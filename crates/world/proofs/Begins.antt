@@ -14,30 +14,30 @@ use Rattle.undo_log.specs.Logs.{Lives}
 use Rattle.gate_block.specs.declared.area.Area.{Area}
 use Rattle.gate_block.specs.Row.{IsRow}
 use Rattle.gate_block.specs.Area.{bytes_of, IsReady}
-use Rattle.records.specs.declared.record.Record.{Record}
-use Rattle.records.specs.Records.{spelling, IsRecord, AreRecords}
-use Rattle.txn.specs.declared.block.Block.{Block}
-use Rattle.txn.specs.Machines.{resting}
+use Rattle.record_format.specs.declared.record.Record.{Record}
+use Rattle.record_format.specs.Records.{spelling, IsRecord, AreRecords}
+use Rattle.blocks.specs.declared.block.Block.{Block}
+use Rattle.machine.specs.Machines.{resting}
 use Rattle.txn.specs.Books.{opened}
-use Rattle.txn.specs.Sound.{IsSound}
-use Rattle.txn.specs.Theory.Rules.{Has}
-use Rattle.txn.proofs.Theory.Undo as undo
-use Rattle.txn.proofs.Steps as steps
-use Rattle.txn.proofs.Statuses.{nobody}
+use Rattle.machine.specs.Sound.{IsSound}
+use Rattle.machine.specs.Theory.Rules.{Has}
+use Rattle.machine.proofs.Theory.Undo as undo
+use Rattle.machine.proofs.Steps as steps
+use Rattle.machine.proofs.Statuses.{nobody}
 use Rattle.checkpoint.specs.declared.laying.Laying.{Laying}
 use Rattle.checkpoint.specs.Keepers.{KeeperState, IsFresh, queue}
-use Rattle.recovery.specs.Journals.{records_in}
-use Rattle.recovery.specs.Steps.{State}
-use Rattle.recovery.specs.Reading.{Unread, InJournal, Reads, AreAccepted, last_named}
-use Rattle.recovery.specs.Repetitions.{AreRead}
+use Rattle.repetition.specs.Journals.{records_in}
+use Rattle.repetition.specs.Steps.{State}
+use Rattle.repetition.specs.Reading.{Unread, InJournal, Reads, AreAccepted, last_named}
+use Rattle.repetition.specs.Repetitions.{AreRead}
 use Rattle.recovery.specs.Openings.{IsOpened, IsReadyStore}
-use Rattle.recovery.proofs.LagLemmas.{lags_self}
-use Rattle.recovery.proofs.Lists.{leads_append, flat_map-append, all_append}
-use Rattle.recovery.proofs.UndoRecords.{blocks_hold}
-use Rattle.recovery.proofs.CatalogLaws.{laws}
-use Rattle.recovery.proofs.RepeatLemmas.{records_append, read_records}
-use Rattle.recovery.proofs.Parts.{journal_reads}
-use Rattle.recovery.proofs.Contents.{sound_behind}
+use Rattle.repetition.proofs.LagLemmas.{lags_self}
+use Rattle.repetition.proofs.Lists.{leads_append, flat_map-append, all_append}
+use Rattle.undoing.proofs.UndoRecords.{blocks_hold}
+use Rattle.repetition.proofs.CatalogLaws.{laws}
+use Rattle.repetition.proofs.RepeatLemmas.{records_append, read_records}
+use Rattle.repetition.proofs.Parts.{journal_reads}
+use Rattle.repetition.proofs.Contents.{sound_behind}
 use Rattle.world.specs.Pasts.{BookState}
 use Rattle.world.specs.Worlds.{AreReadTo, StandIn, IsHeaded, HasPast, parts_of}
 use Rattle.world.proofs.StandLemmas.{stands_whole}

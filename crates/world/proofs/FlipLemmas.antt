@@ -8,20 +8,21 @@ use Rattle.disk_model.proofs.Walk.{weaker, leaves_now}
 use Rattle.gate_block.specs.declared.area.Area.{Area}
 use Rattle.gate_block.specs.Row.{IsRow, SameOutside}
 use Rattle.gate_block.specs.Area.{base_of, size_of, bytes_of, IsReady, LeavesElsewhere}
-use Rattle.records.specs.declared.record.Record.{Record}
-use Rattle.records.specs.Records.{spelling}
-use Rattle.records.specs.Acts.{places}
-use Rattle.txn.specs.declared.block.Block.{Block}
-use Rattle.txn.proofs.Sizes.{places_append}
+use Rattle.record_format.specs.declared.record.Record.{Record}
+use Rattle.record_format.specs.Records.{spelling}
+use Rattle.record_format.specs.Acts.{places}
+use Rattle.blocks.specs.declared.block.Block.{Block}
+use Rattle.blocks.proofs.Places.{places_append}
 use Rattle.checkpoint.specs.declared.laying.Laying.{Laying}
-use Rattle.checkpoint.specs.Imaging.{IsOther, IsBeingLaid, IsRooted, LeavesRoot, PicksWhole, IsSameImage, left_of, picked}
+use Rattle.checkpoint.specs.Imaging.{IsOther, IsBeingLaid, IsRooted, LeavesRoot, PicksWhole, IsSameImage, left_of}
+use Rattle.gate_block.specs.Layout.{base_in_use}
 use Rattle.checkpoint.specs.ImageAnswers.{PieceAnswers, FlipAnswers}
 use Rattle.checkpoint.specs.Keepers.{KeeperState, IsOneOfTwo}
 use Rattle.checkpoint.proofs.Apart.{back, apart}
-use Rattle.recovery.specs.Journals.{IsHeader, base_in_use, records_in}
+use Rattle.repetition.specs.Journals.{IsHeader, records_in}
 use Rattle.world.specs.declared.steps.Step.{Step}
 use Rattle.world.specs.declared.steps.Answer.{Answer}
-use Rattle.world.specs.Pasts.{BookState, Past, committed_in, records_of_step, records_of, told, BookStep, flip_answer, piece_answer, mark_flipped}
+use Rattle.world.specs.Pasts.{BookState, Past, committed_in, records_of_step, records_of, told, BookStep, outcome, mark_flipped}
 use Rattle.world.specs.Crash.{Yields}
 use Rattle.world.specs.Worlds.{IsHeaded, IsInUse, IsBetween, IsImaging, Parts, HasPast, parts_of}
 use Rattle.world.proofs.YieldLemmas.{row_yields}
@@ -142,7 +143,7 @@ module _ {D : Type 0} (seen : D → List ℕ) (may_leave : D → List ℕ → Ty
       leaves
 
   -- the header, and the root byte, of the image's area
-  image_headed : (c : List ℕ) → IsHeader (size_of w.area) c → picked (size_of w.area) c ≡ base_of l.area → IsHeaded l.area c
+  image_headed : (c : List ℕ) → IsHeader (size_of w.area) c → base_in_use (size_of w.area) c ≡ base_of l.area → IsHeaded l.area c
   image_headed c header picks = record {
     header = subst (λ n. IsHeader n c) (sym image.other.size) header;
     picks = ap (λ n. base_in_use n c) image.other.size ∙ picks;
@@ -160,10 +161,10 @@ module _ {D : Type 0} (seen : D → List ℕ) (may_leave : D → List ℕ → Ty
   moment_yields : (c : List ℕ) → LeavesRoot (may_leave w.disk) (seen w.disk) c → PicksWhole w.area (seen w.disk) l.area bodies c → Yields start past (take w.mark (committed_in past)) c
   moment_yields c leaves whole =
       ⊎_elim
-      (λ (old : (picked (size_of w.area) c ≡ base_of w.area) × (bytes_of w.area c ≡ bytes_of w.area (seen w.disk))).
+      (λ (old : (base_in_use (size_of w.area) c ≡ base_of w.area) × (bytes_of w.area c ≡ bytes_of w.area (seen w.disk))).
       row_yields start had.wear past w.book.state had.old had.covered had.stands had.good had.kept had.later had.split w.area w.mark c had.marked
       (record { header = moment_header c leaves; picks = old.0 }) (subst (λ x. IsRow (map spelling (had.old ++ had.kept)) x) (sym old.1) used.ready.holds))
-      (λ (new : (picked (size_of w.area) c ≡ base_of l.area) × IsRow bodies (bytes_of l.area c)).
+      (λ (new : (base_in_use (size_of w.area) c ≡ base_of l.area) × IsRow bodies (bytes_of l.area c)).
       image_yields w.mark c marked_new (image_headed c (moment_header c leaves) new.0) new.1)
       whole
 
@@ -173,7 +174,7 @@ module _ {D : Type 0} (seen : D → List ℕ) (may_leave : D → List ℕ → Ty
   flip_moments moment left_since disk first second = both_hold moment left_since w.disk disk _ _ _ first second moment_yields
 
   -- once the root byte is written and synced
-  module _ (disk : D) (mark : ℕ) (mark_is : mark ≡ max w.mark l.image.place) (ready : IsReady seen may_leave l.area disk bodies) (picks : picked (size_of l.area) (seen disk) ≡ base_of l.area) (rest : IsAtRest seen may_leave disk) (torn : Torn 512 1 (seen w.disk) (seen disk)) where
+  module _ (disk : D) (mark : ℕ) (mark_is : mark ≡ max w.mark l.image.place) (ready : IsReady seen may_leave l.area disk bodies) (picks : base_in_use (size_of l.area) (seen disk) ≡ base_of l.area) (rest : IsAtRest seen may_leave disk) (torn : Torn 512 1 (seen w.disk) (seen disk)) where
     now_headed : IsHeaded l.area (seen disk)
     now_headed = record {
       header = subst (λ n. IsHeader n (seen disk)) (sym image.other.size) (head_header (size_of w.area) 512 (seen w.disk) (seen disk) (omega arith) torn.before torn.size used.head.headed.header);
@@ -316,7 +317,7 @@ module _ {D : Type 0} (seen : D → List ℕ) (may_leave : D → List ℕ → Ty
         (any_moment_whole v (bodies seen may_leave start past w had fine v is) is none (bodies_some seen may_leave start past w had fine v is) (image seen may_leave start past w had fine v is).laid (rooted seen may_leave start past w had fine v is))
 
     pub flip_past : (r : Result ℕ Refusal) → FlipAnswers k is_risen l r → ((w : Laying) (bodies : List (List ℕ)) → k.image ≡ Some w → bodies ≢ [] → IsBeingLaid w (seen k.disk) bodies → OnOk r (IsReady seen may_leave l.area l.disk bodies)) →
-        OnOk r (picked (size_of l.area) (seen l.disk) ≡ base_of l.area) → OnOk r (IsAtRest seen may_leave l.disk) → Both (Step.Flip, flip_answer r) (mark_flipped mark r)
+        OnOk r (base_in_use (size_of l.area) (seen l.disk) ≡ base_of l.area) → OnOk r (IsAtRest seen may_leave l.disk) → Both (Step.Flip, outcome Answer.Flipped r) (mark_flipped mark r)
     flip_past (Ok m) a kept picks rest =
         let w : Parts D = parts_of book k transit mark in
         let fine : k.failed ≡ false = a.0 in
@@ -328,7 +329,7 @@ module _ {D : Type 0} (seen : D → List ℕ) (may_leave : D → List ℕ → Ty
         let area_is : l.area ≡ v.area = ap (λ (x : KeeperState D). x.area) same in
         let bs : List (List ℕ) = bodies seen may_leave start past w had fine v is in
         let ready : IsReady seen may_leave v.area l.disk bs = subst (λ (x : Area). IsReady seen may_leave x l.disk bs) area_is (kept v bs is (bodies_some seen may_leave start past w had fine v is) (image seen may_leave start past w had fine v is).laid) in
-        let there : picked (size_of v.area) (seen l.disk) ≡ base_of v.area = subst (λ (x : Area). picked (size_of x) (seen l.disk) ≡ base_of x) area_is picks in
+        let there : base_in_use (size_of v.area) (seen l.disk) ≡ base_of v.area = subst (λ (x : Area). base_in_use (size_of x) (seen l.disk) ≡ base_of x) area_is picks in
         let now : HasPast seen may_leave start past (parts_of book next transit m) = is_flipped seen may_leave start past w had fine v is l.disk m mark_is ready there rest root in (
           subst (λ (x : KeeperState D). HasPast seen may_leave start (past ++ (Step.Flip, Answer.Flipped m) ∷ []) (parts_of book x transit m)) (sym same)
               (passes seen may_leave start past (parts_of book next transit m) now Step.Flip (Answer.Flipped m) refl refl (omega arith)),
@@ -347,7 +348,7 @@ module _ {D : Type 0} (seen : D → List ℕ) (may_leave : D → List ℕ → Ty
         weaker moment left_since k.disk l.disk (LeavesElsewhere (may_leave k.disk) v.area) (Known past) (any_moment v is)
         (piece_yields seen may_leave start past (parts_of book k transit mark) had fine v is)
 
-    pub piece_past : (r : Result Bool Refusal) → PieceAnswers k is_risen l r → ((w v : Laying) (bodies : List (List ℕ)) → k.image ≡ Some w → l.image ≡ Some v → IsBeingLaid w (seen k.disk) bodies → OnOk r (IsBeingLaid v (seen l.disk) bodies)) → Both (Step.Piece, piece_answer r) mark
+    pub piece_past : (r : Result Bool Refusal) → PieceAnswers k is_risen l r → ((w v : Laying) (bodies : List (List ℕ)) → k.image ≡ Some w → l.image ≡ Some v → IsBeingLaid w (seen k.disk) bodies → OnOk r (IsBeingLaid v (seen l.disk) bodies)) → Both (Step.Piece, outcome Answer.Laid r) mark
     piece_past (Ok more) a laid =
         let w : Parts D = parts_of book k transit mark in
         let fine : k.failed ≡ false = a.0 in
@@ -369,3 +370,8 @@ module _ {D : Type 0} (seen : D → List ℕ) (may_leave : D → List ℕ → Ty
     piece_past (Err Refusal.Failed) a laid = same_keeper Step.Piece (Answer.Refused Refusal.Failed) a.1 refl refl (omega arith)
     piece_past (Err Refusal.Fault) a laid = failed_keeper Step.Piece (Answer.Refused Refusal.Fault) (Some a.2.1) a.2.4 refl refl (omega arith) (piece_run a.0 a.2.0 a.2.2)
     piece_past (Err e) a laid = absurd a
+
+-- a flip moves no mark back
+pub flip_mark_rises : {D : Type 0} (k l : KeeperState D) (is_risen : Type 0) (r : Result ℕ Refusal) → FlipAnswers k is_risen l r → k.mark ≤ mark_flipped k.mark r
+flip_mark_rises k l is_risen (Ok place) flipped = omega (arith, flipped.1.3.0)
+flip_mark_rises k l is_risen (Err e) flipped = omega arith

@@ -16,33 +16,34 @@ use Rattle.catalog.specs.Places.{IsWithin}
 use Rattle.disk_model.specs.Disk.{LeavesOnly}
 use Rattle.gate_block.specs.Row.{IsBlockOf}
 use Rattle.gate_block.specs.declared.area.Area.{Area}
-use Rattle.records.specs.declared.record.Record.{Record}
-use Rattle.records.specs.Records.{spelling, AreRecords}
-use Rattle.records.specs.Short.{AreShort}
-use Rattle.records.specs.Acts.{places}
-use Rattle.txn.specs.declared.block.Block.{Block}
-use Rattle.txn.specs.declared.block.Image.{Image}
+use Rattle.record_format.specs.declared.record.Record.{Record}
+use Rattle.record_format.specs.Records.{spelling, AreRecords}
+use Rattle.record_format.specs.Short.{AreShort}
+use Rattle.record_format.specs.Acts.{places}
+use Rattle.blocks.specs.declared.block.Block.{Block}
+use Rattle.blocks.specs.declared.block.Image.{Image}
 use Rattle.txn.specs.Books.{IsKept}
-use Rattle.txn.specs.Freezing.{AreWhole, IsImageOf, FreezeAnswers}
-use Rattle.txn.specs.Machines.{resting}
-use Rattle.txn.specs.Sound.{IsSound}
-use Rattle.txn.specs.Wholes.{body_of}
-use Rattle.txn.proofs.Sizes.{places_append}
+use Rattle.blocks.specs.Packings.{AreWhole}
+use Rattle.txn.specs.Freezing.{IsImageOf, FreezeAnswers}
+use Rattle.machine.specs.Machines.{resting}
+use Rattle.machine.specs.Sound.{IsSound}
+use Rattle.blocks.specs.Wholes.{body_of}
+use Rattle.blocks.proofs.Places.{places_append}
 use Rattle.checkpoint.specs.declared.laying.Laying.{Laying}
 use Rattle.checkpoint.specs.Imaging.{IsOther, IsBeingLaid, bodies_of}
 use Rattle.checkpoint.specs.ImageAnswers.{BeginAnswers}
 use Rattle.checkpoint.specs.Keepers.{KeeperState}
-use Rattle.recovery.specs.Journals.{records_in}
-use Rattle.recovery.specs.Steps.{State, Steps, Repeats}
-use Rattle.recovery.specs.Reading.{Unread, InJournal, Reads, AreAccepted}
-use Rattle.recovery.specs.Lagging.{Lags}
-use Rattle.recovery.proofs.Lists.{leads_append}
+use Rattle.repetition.specs.Journals.{records_in}
+use Rattle.repetition.specs.Steps.{State, Steps, Repeats}
+use Rattle.repetition.specs.Reading.{Unread, InJournal, Reads, AreAccepted}
+use Rattle.repetition.specs.Lagging.{Lags}
+use Rattle.repetition.proofs.Lists.{leads_append}
 use Rattle.world.specs.declared.steps.Step.{Step}
 use Rattle.world.specs.declared.steps.Answer.{Answer}
-use Rattle.world.specs.Pasts.{BookState, Past, committed_in, records_of_step, records_of, told, BookStep, begun_answer}
+use Rattle.world.specs.Pasts.{BookState, Past, committed_in, records_of_step, records_of, told, BookStep, outcome, alone}
 use Rattle.world.specs.Crash.{Yields}
 use Rattle.world.specs.Worlds.{AreReadTo, IsBetween, IsImaging, Parts, HasPast, parts_of}
-use Rattle.recovery.proofs.Frozen.{frozen_reads, accepted_named, repeats_named}
+use Rattle.world.proofs.ImageReading.{frozen_reads, accepted_named, repeats_named}
 use Rattle.world.proofs.StandLemmas.{stands_still, stands_whole}
 use Rattle.world.proofs.WorldLemmas.{stays}
 use Rattle.world.proofs.StepLemmas.{quiet}
@@ -189,7 +190,7 @@ module _ {D : Type 0} (seen : D → List ℕ) (may_leave : D → List ℕ → Ty
   )
 
   pub freeze_past : (image : Image) → FreezeAnswers (λ v. v) inverse_of book (Ok image) t → IsKept names_of IsWithin AreShort (IsSound AnswersAt after_at Makes need_of inverse_of) book → (r : Result (Unit {0}) Refusal) → BeginAnswers k image l r →
-      ((w : Laying) → l.image ≡ Some w → OnOk r (IsBeingLaid w (seen l.disk) (bodies_of image.blocks.items))) → Both (begun_answer r)
+      ((w : Laying) → l.image ≡ Some w → OnOk r (IsBeingLaid w (seen l.disk) (bodies_of image.blocks.items))) → Both (outcome (alone Answer.Frozen) r)
   freeze_past image froze kept (Ok done) a begun =
       let area : Area = a.3.0 in
       let v : Laying = record { area = area; image = image } in
@@ -218,3 +219,11 @@ module _ {D : Type 0} (seen : D → List ℕ) (may_leave : D → List ℕ → Ty
       stays seen may_leave start past w had Step.Freeze (Answer.Refused e) t (Err e, froze) refl (omega arith) (ap (λ (x : BookState). x.pending) is) (ap (λ (x : BookState). x.end) is) (ap (λ (x : BookState). x.place) is)
       (λ f there. subst (λ fs. Contains fs f) (sym (ap (λ (x : BookState). x.freezes) is)) there)
       (λ blocks covered old. stands_still start had.wear (records_of past) w.book.state blocks covered t.state (ap (λ (x : BookState). x.state) is) old)
+
+-- where an image is begun, or refused, the disk stays
+pub begun_disk : {D : Type 0} (k : KeeperState D) (image : Image) (l : KeeperState D) (r : Result (Unit {0}) Refusal) → BeginAnswers k image l r → l.disk ≡ k.disk
+begun_disk {D = D} k image l (Ok done) begun = ap (λ (x : KeeperState D). x.disk) begun.3.2
+begun_disk {D = D} k image l (Err Refusal.Failed) begun = ap (λ (x : KeeperState D). x.disk) begun.1
+begun_disk {D = D} k image l (Err Refusal.Imaging) begun = ap (λ (x : KeeperState D). x.disk) begun.2
+begun_disk {D = D} k image l (Err Refusal.Full) begun = ap (λ (x : KeeperState D). x.disk) begun.3
+begun_disk {D = D} k image l (Err e) begun = absurd begun

@@ -4,7 +4,7 @@ use Rattle.std.proofs.lemmas.List.{take-take, drop-take, get_or-take}
 use Rattle.gate_block.specs.declared.area.Area.{Area}
 use Rattle.gate_block.specs.Row.{SameOutside}
 use Rattle.gate_block.specs.Area.{base_of, size_of}
-use Rattle.recovery.specs.Journals.{IsHeader}
+use Rattle.repetition.specs.Journals.{IsHeader}
 use Rattle.world.specs.Worlds.{IsHeaded}
 
 -- where the bytes before a place are the same, so are fewer of them, and each of them

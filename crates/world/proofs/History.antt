@@ -1,10 +1,10 @@
 -- How many transactions records commit.
 use Rattle.std.proofs.Common.{◌≡◌, ℕ, List, [], ◌∷◌, length, refl, ap, arith, length-append}
 use Rattle.calls.specs.Transactions.{Entry, committed_after}
-use Rattle.records.specs.declared.record.Record.{Record}
-use Rattle.records.specs.Acts.{acts_of_record, acts_of, places}
-use Rattle.txn.proofs.Played.{gathered, committed_append}
-use Rattle.txn.proofs.Sizes.{places_append}
+use Rattle.record_format.specs.declared.record.Record.{Record}
+use Rattle.record_format.specs.Acts.{acts_of_record, acts_of, places}
+use Rattle.machine.proofs.Played.{gathered, committed_append}
+use Rattle.blocks.proofs.Places.{places_append}
 
 place_of : (r : Record) (es : List (ℕ × Entry)) → length (committed_after es (acts_of_record r)) ≡ places (r ∷ [])
 place_of (Record.Make kind name) es = refl

@@ -5,10 +5,10 @@ use mathlib.Core.List.{IsPrefix}
 use Rattle.calls.specs.Transactions.{Transaction, committed_after, committed}
 use Rattle.world.specs.declared.steps.Step.{Step}
 use Rattle.world.specs.declared.steps.Answer.{Answer}
-use Rattle.records.specs.Acts.{acts_of_record, acts_of, places}
+use Rattle.record_format.specs.Acts.{acts_of_record, acts_of, places}
 use Rattle.world.specs.Pasts.{Past, acts_of_step, acts_in, records_of_step, records_of, committed_in, told, greatest_told}
-use Rattle.recovery.proofs.Lists.{flat_map-append}
-use Rattle.txn.proofs.Played.{gathered, committed_append}
+use Rattle.repetition.proofs.Lists.{flat_map-append}
+use Rattle.machine.proofs.Played.{gathered, committed_append}
 use Rattle.world.proofs.History.{length-committed}
 
 -- a step says of transactions what its records say

@@ -2,14 +2,14 @@
 use Rattle.std.proofs.Common.{◌≡◌, ℕ, ◌≤◌, List, [], ◌∷◌, ◌++◌, length, refl, sym, ◌∙◌, ap, subst, arith, append_assoc, inl, inr, ◌⊎◌, ⊎_elim}
 use Rattle.std.proofs.lemmas.List.{append-nil}
 use Rattle.calls.specs.Contents.{Collection}
-use Rattle.txn.specs.Machine.{FallRow}
-use Rattle.txn.specs.Machines.{resting}
-use Rattle.records.specs.declared.record.Record.{Record}
-use Rattle.recovery.specs.Steps.{State, Steps, Repeats}
-use Rattle.recovery.specs.Lagging.{Lags}
-use Rattle.recovery.proofs.Lists.{leads_push}
+use Rattle.machine.specs.Machine.{FallRow}
+use Rattle.machine.specs.Machines.{resting}
+use Rattle.record_format.specs.declared.record.Record.{Record}
+use Rattle.repetition.specs.Steps.{State, Steps, Repeats}
+use Rattle.repetition.specs.Lagging.{Lags}
+use Rattle.repetition.proofs.Lists.{leads_push}
 use Rattle.world.specs.Worlds.{IsLevel, GoAlong, AreReadTo, StandIn}
-use Rattle.recovery.proofs.LagLemmas.{lags_step, lags_falls, lags_calls}
+use Rattle.repetition.proofs.LagLemmas.{lags_step, lags_falls, lags_calls}
 
 -- ---- beginnings of lists
 

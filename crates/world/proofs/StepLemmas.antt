@@ -7,14 +7,14 @@ use Rattle.calls.specs.Contents.{Collection}
 use Rattle.calls.specs.Transactions.{Transaction}
 use Rattle.disk_model.specs.Disk.{LeavesOnly}
 use Rattle.disk_model.proofs.Walk.{started}
-use Rattle.txn.specs.declared.block.Block.{Block}
+use Rattle.blocks.specs.declared.block.Block.{Block}
 use Rattle.world.specs.declared.steps.Step.{Step}
 use Rattle.world.specs.declared.steps.Answer.{Answer}
-use Rattle.records.specs.declared.record.Record.{Record}
-use Rattle.records.specs.Records.{IsRecord, call_record}
+use Rattle.record_format.specs.declared.record.Record.{Record}
+use Rattle.record_format.specs.Records.{IsRecord, call_record}
 use Rattle.calls.specs.Inverses.{inverse_of}
 use Rattle.txn.specs.Books.{Appends, CutAnswers, later_record}
-use Rattle.recovery.specs.Steps.{Steps}
+use Rattle.repetition.specs.Steps.{Steps}
 use Rattle.checkpoint.specs.Keepers.{queue}
 use Rattle.world.specs.Pasts.{BookState, Past, committed_in, records_of_step, records_of, told, BookStep, CoreStep}
 use Rattle.world.specs.Crash.{Yields}
@@ -50,6 +50,13 @@ uncut s t waiting waits Refusal.NotNow step =
     )
 uncut s t waiting waits e step = absurd step.0
 
+-- The pending records behind a step are good; nothing is asked of them behind one that adds none.
+abbrev pub AreGoodBehind : Step → BookState → Type 0
+AreGoodBehind Step.Draw t = Unit {0}
+AreGoodBehind Step.Cut t = Unit {0}
+AreGoodBehind Step.Look t = Unit {0}
+AreGoodBehind s t = AllByRecursion (IsRecord None) t.pending
+
 module _ {D : Type 0} (seen : D → List ℕ) (may_leave : D → List ℕ → Type 0) (start : List Collection) (past : Past) (w : Parts D) (had : HasPast seen may_leave start past w) where
   grows : (s : Step) (a : Answer) (r : Record) (t : BookState) (waits : List Block) → BookStep w.book (s, a) t → records_of_step s a ≡ r ∷ [] → told s a ≡ 0 → Steps w.book.state r t.state → Appends w.book r t → AllByRecursion (IsRecord None) t.pending → waits ≡ w.waiting →
       HasPast seen may_leave start (past ++ (s, a) ∷ []) (record w { book = t; waiting = waits })
@@ -69,7 +76,7 @@ module _ {D : Type 0} (seen : D → List ℕ) (may_leave : D → List ℕ → Ty
       (λ blocks covered old. stands_still start had.wear (records_of past) w.book.state blocks covered t.state (ap (λ (x : BookState). x.state) is) old) same
 
   -- every step of the book, and those that change nothing
-  pub core_past : (x : Step × Answer) (t : BookState) (waits : List Block) → AllByRecursion (IsRecord None) t.pending → CoreStep w.book w.waiting w.mark x t waits → HasPast seen may_leave start (past ++ x ∷ []) (record w { book = t; waiting = waits })
+  pub core_past : (x : Step × Answer) (t : BookState) (waits : List Block) → AreGoodBehind x.0 t → CoreStep w.book w.waiting w.mark x t waits → HasPast seen may_leave start (past ++ x ∷ []) (record w { book = t; waiting = waits })
   core_past (Step.Make name kind, Answer.Placed place) t waits good step = grows (Step.Make name kind) (Answer.Placed place) (Record.Make kind name) t waits step.0 refl refl step.0.0 step.0.1.appends good step.1
   core_past (Step.Make name kind, Answer.Refused e) t waits good step = unchanged (Step.Make name kind) (Answer.Refused e) t waits step.0 step.0.0 step.1 refl (omega arith)
   core_past (Step.Enter n, Answer.Entered) t waits good step = grows (Step.Enter n) Answer.Entered (Record.Begin n) t waits step.0 refl refl step.0.0 step.0.2 good step.1

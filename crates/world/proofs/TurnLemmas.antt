@@ -5,18 +5,18 @@ use Rattle.std.proofs.lemmas.List.{append-nil}
 use Rattle.calls.specs.Contents.{Collection}
 use Rattle.gate_block.specs.declared.area.Area.{Area}
 use Rattle.gate_block.specs.Area.{base_of, size_of}
-use Rattle.txn.specs.declared.block.Block.{Block}
+use Rattle.blocks.specs.declared.block.Block.{Block}
 use Rattle.txn.specs.Books.{opened}
 use Rattle.world.specs.declared.steps.Step.{Step}
 use Rattle.world.specs.declared.steps.Answer.{Answer}
-use Rattle.records.specs.declared.record.Record.{Record}
-use Rattle.records.specs.Records.{spelling, IsRecord}
-use Rattle.records.specs.Acts.{places}
+use Rattle.record_format.specs.declared.record.Record.{Record}
+use Rattle.record_format.specs.Records.{spelling, IsRecord}
+use Rattle.record_format.specs.Acts.{places}
 use Rattle.checkpoint.specs.declared.laying.Laying.{Laying}
 use Rattle.checkpoint.specs.Imaging.{IsBeingLaid}
-use Rattle.recovery.specs.Journals.{records_in}
-use Rattle.recovery.proofs.Lists.{leads_push}
-use Rattle.txn.proofs.Sizes.{places_append}
+use Rattle.repetition.specs.Journals.{records_in}
+use Rattle.repetition.proofs.Lists.{leads_push}
+use Rattle.blocks.proofs.Places.{places_append}
 use Rattle.world.specs.Pasts.{Past, BookState, committed_in, records_of_step, records_of, told, BookStep}
 use Rattle.world.specs.Crash.{Yields}
 use Rattle.world.specs.Worlds.{Carries, IsInUse, IsBetween, IsImaging, Parts, HasPast}

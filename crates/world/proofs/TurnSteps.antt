@@ -9,19 +9,20 @@ use Rattle.gate_block.specs.declared.area.Area.{Area}
 use Rattle.gate_block.specs.Row.{IsRow, IsBlockOf, SameOutside}
 use Rattle.gate_block.specs.Area.{base_of, size_of, bytes_of, IsReady, LeavesBlocks}
 use Rattle.gate_block.proofs.Facts.{leaves_blocks_now}
-use Rattle.txn.specs.declared.block.Block.{Block}
-use Rattle.txn.proofs.Sizes.{places_append}
-use Rattle.records.specs.declared.record.Record.{Record}
-use Rattle.records.specs.Records.{spelling}
-use Rattle.records.specs.Acts.{places}
-use Rattle.recovery.specs.Journals.{IsHeader, base_in_use, records_in}
+use Rattle.blocks.specs.declared.block.Block.{Block}
+use Rattle.blocks.proofs.Places.{places_append}
+use Rattle.record_format.specs.declared.record.Record.{Record}
+use Rattle.record_format.specs.Records.{spelling}
+use Rattle.record_format.specs.Acts.{places}
+use Rattle.repetition.specs.Journals.{IsHeader, records_in}
+use Rattle.gate_block.specs.Layout.{base_in_use}
 use Rattle.checkpoint.specs.declared.turn.Turn.{Turn}
 use Rattle.checkpoint.specs.declared.laying.Laying.{Laying}
 use Rattle.checkpoint.specs.Imaging.{IsBeingLaid}
 use Rattle.checkpoint.specs.Keepers.{IsPast, OnKept, queue, TurnAnswers}
 use Rattle.world.specs.declared.steps.Step.{Step}
 use Rattle.world.specs.declared.steps.Answer.{Answer}
-use Rattle.world.specs.Pasts.{Past, committed_in, records_of_step, records_of, told, BookStep, turn_answer, mark_behind}
+use Rattle.world.specs.Pasts.{Past, committed_in, records_of_step, records_of, told, BookStep, outcome, mark_behind}
 use Rattle.world.specs.Crash.{Yields}
 use Rattle.world.specs.Worlds.{IsCarried, Carries, IsHeaded, HasHead, IsInUse, IsBetween, Parts, HasPast}
 use Rattle.world.proofs.WorldLemmas.{records_in-push}
@@ -281,14 +282,14 @@ module _ {D : Type 0} (seen : D → List ℕ) (may_leave : D → List ℕ → Ty
   module _ (moment : D → ℕ) (left_since : D → ℕ → List ℕ → Type 0) (disk : D) (area : Area) where
     abbrev pub Turned : Result Turn Refusal → List Block → ℕ → Bool → Type 0
     Turned r waits mark fails =
-        HasPast seen may_leave start (past ++ (Step.Turn, turn_answer r) ∷ []) (record w { disk = disk; area = area; failed = fails; waiting = waits; mark = mark })
-        × LeavesOnly moment left_since w.disk disk (Yields start (past ++ (Step.Turn, turn_answer r) ∷ []) (take w.mark (committed_in past)))
+        HasPast seen may_leave start (past ++ (Step.Turn, outcome Answer.Turned r) ∷ []) (record w { disk = disk; area = area; failed = fails; waiting = waits; mark = mark })
+        × LeavesOnly moment left_since w.disk disk (Yields start (past ++ (Step.Turn, outcome Answer.Turned r) ∷ []) (take w.mark (committed_in past)))
 
     module _ (r : Result Turn Refusal) (turn : IsTurnOf seen may_leave moment left_since w disk area r) where
       -- no device was called
-      settled : (waits ws : List Block) (mark m : ℕ) (fails : Bool) → HasPast seen may_leave start (past ++ (Step.Turn, turn_answer r) ∷ []) (record w { waiting = ws; mark = m }) → (area ≡ w.area) × (disk ≡ w.disk) → waits ≡ ws → mark ≡ m → fails ≡ w.failed → Turned r waits mark fails
+      settled : (waits ws : List Block) (mark m : ℕ) (fails : Bool) → HasPast seen may_leave start (past ++ (Step.Turn, outcome Answer.Turned r) ∷ []) (record w { waiting = ws; mark = m }) → (area ≡ w.area) × (disk ≡ w.disk) → waits ≡ ws → mark ≡ m → fails ≡ w.failed → Turned r waits mark fails
       settled waits ws mark m fails was same waits_is mark_is fails_is =
-          let x : Step × Answer = (Step.Turn, turn_answer r) in
+          let x : Step × Answer = (Step.Turn, outcome Answer.Turned r) in
           let is : record w { waiting = ws; mark = m } ≡ record w { disk = disk; area = area; failed = fails; waiting = waits; mark = mark } =
           λ i. record w { disk = sym same.1 i; area = sym same.0 i; failed = sym fails_is i; waiting = sym waits_is i; mark = sym mark_is i } in (
             subst (λ v. HasPast seen may_leave start (past ++ x ∷ []) v) is was,
@@ -296,9 +297,9 @@ module _ {D : Type 0} (seen : D → List ℕ) (may_leave : D → List ℕ → Ty
           )
 
       -- a turn that changes nothing
-      idle_turn : (waits : List Block) (mark : ℕ) (fails : Bool) → BookStep w.book (Step.Turn, turn_answer r) w.book → records_of_step Step.Turn (turn_answer r) ≡ [] → told Step.Turn (turn_answer r) ≡ 0 → (area ≡ w.area) × (disk ≡ w.disk) → waits ≡ w.waiting → mark ≡ w.mark → fails ≡ w.failed → Turned r waits mark fails
+      idle_turn : (waits : List Block) (mark : ℕ) (fails : Bool) → BookStep w.book (Step.Turn, outcome Answer.Turned r) w.book → records_of_step Step.Turn (outcome Answer.Turned r) ≡ [] → told Step.Turn (outcome Answer.Turned r) ≡ 0 → (area ≡ w.area) × (disk ≡ w.disk) → waits ≡ w.waiting → mark ≡ w.mark → fails ≡ w.failed → Turned r waits mark fails
       idle_turn waits mark fails step adds silent same waits_is mark_is fails_is =
-          settled waits w.waiting mark w.mark fails (goes_behind seen may_leave start past w had w.disk w.area w.failed w.waiting w.mark as_before (turn_answer r) step adds (omega (arith, silent))) same waits_is mark_is fails_is
+          settled waits w.waiting mark w.mark fails (goes_behind seen may_leave start past w had w.disk w.area w.failed w.waiting w.mark as_before (outcome Answer.Turned r) step adds (omega (arith, silent))) same waits_is mark_is fails_is
 
       module _ (b : Block) (waiting : List Block) (first : w.waiting ≡ b ∷ waiting) (fine : w.failed ≡ false) where
         found : (rs : List Record) × ((rest : List (List Record)) × (had.groups ≡ rs ∷ rest))
@@ -379,13 +380,13 @@ module _ {D : Type 0} (seen : D → List ℕ) (may_leave : D → List ℕ → Ty
     -- the same where the keeper's mark is the world's, and what its image covers and the one in progress stay
     pub turned_past : (is_full : Block → Type 0) (is_risen : Type 0) (marked : ℕ) → w.mark ≡ marked → (covered : ℕ) → covered ≡ w.covered → (image : Option Laying) → image ≡ w.image → (r : Result Turn Refusal) (waiting : List Block) (held : Option Block) (mark : ℕ) (fails : Bool) → IsTurnOf seen may_leave moment left_since w disk area r →
         TurnAnswers w.waiting w.failed marked (λ b. b.end ≤ w.covered) (λ b. IsPast w.image b.end) is_full ((area ≡ w.area) × (disk ≡ w.disk)) is_risen r waiting held mark fails →
-        HasPast seen may_leave start (past ++ (Step.Turn, turn_answer r) ∷ []) (record { book = w.book; disk = disk; area = area; failed = fails; covered = covered; image = image; waiting = queue held waiting; mark = mark })
-        × LeavesOnly moment left_since w.disk disk (Yields start (past ++ (Step.Turn, turn_answer r) ∷ []) (take w.mark (committed_in past)))
+        HasPast seen may_leave start (past ++ (Step.Turn, outcome Answer.Turned r) ∷ []) (record { book = w.book; disk = disk; area = area; failed = fails; covered = covered; image = image; waiting = queue held waiting; mark = mark })
+        × LeavesOnly moment left_since w.disk disk (Yields start (past ++ (Step.Turn, outcome Answer.Turned r) ∷ []) (take w.mark (committed_in past)))
     turned_past is_full is_risen marked same covered covered_is image image_is r waiting held mark fails turn a =
         let both = turn_past is_full is_risen r waiting held mark fails turn (subst (λ m. TurnAnswers w.waiting w.failed m (λ b. b.end ≤ w.covered) (λ b. IsPast w.image b.end) is_full ((area ≡ w.area) × (disk ≡ w.disk)) is_risen r waiting held mark fails) (sym same) a) in
         let is : record w { disk = disk; area = area; failed = fails; waiting = queue held waiting; mark = mark } ≡ record { book = w.book; disk = disk; area = area; failed = fails; covered = covered; image = image; waiting = queue held waiting; mark = mark } =
         λ i. record w { disk = disk; area = area; failed = fails; covered = sym covered_is i; image = sym image_is i; waiting = queue held waiting; mark = mark } in
-        (subst (λ v. HasPast seen may_leave start (past ++ (Step.Turn, turn_answer r) ∷ []) v) is both.0, both.1)
+        (subst (λ v. HasPast seen may_leave start (past ++ (Step.Turn, outcome Answer.Turned r) ∷ []) v) is both.0, both.1)
 
 -- a turn's mark does not fall
 pub mark_rises : (q waiting : List Block) (failed fails : Bool) (m mark : ℕ) (is_covered is_past is_full : Block → Type 0) (is_same is_risen : Type 0) (r : Result Turn Refusal) (held : Option Block) → TurnAnswers q failed m is_covered is_past is_full is_same is_risen r waiting held mark fails → m ≤ mark

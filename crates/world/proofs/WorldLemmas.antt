@@ -6,21 +6,22 @@ use Rattle.std.proofs.lemmas.List.{append-nil}
 use mathlib.Core.List.{IsPrefix}
 use Rattle.calls.specs.Contents.{Collection}
 use Rattle.calls.specs.Transactions.{Transaction}
-use Rattle.txn.specs.declared.block.Block.{Block}
+use Rattle.blocks.specs.declared.block.Block.{Block}
 use Rattle.world.specs.declared.steps.Step.{Step}
 use Rattle.world.specs.declared.steps.Answer.{Answer}
-use Rattle.records.specs.declared.record.Record.{Record}
-use Rattle.records.specs.Records.{IsRecord}
-use Rattle.records.specs.Acts.{places}
-use Rattle.recovery.specs.Steps.{Steps}
-use Rattle.txn.specs.Books.{Appends, HandsOver, opened}
+use Rattle.record_format.specs.declared.record.Record.{Record}
+use Rattle.record_format.specs.Records.{IsRecord}
+use Rattle.record_format.specs.Acts.{places}
+use Rattle.repetition.specs.Steps.{Steps}
+use Rattle.txn.specs.Books.{Appends, opened}
+use Rattle.blocks.specs.Cuts.{HandsOver}
 use Rattle.checkpoint.specs.declared.laying.Laying.{Laying}
-use Rattle.recovery.specs.Journals.{records_in}
+use Rattle.repetition.specs.Journals.{records_in}
 use Rattle.world.specs.Pasts.{BookState, Past, committed_in, records_of_step, records_of, told, BookStep}
 use Rattle.world.specs.Crash.{Yields}
 use Rattle.world.specs.Worlds.{IsCarried, Carries, StandIn, IsBetween, IsImaging, Parts, HasPast}
-use Rattle.recovery.proofs.Lists.{leads_push, flat_map-append, all_append, all_last}
-use Rattle.txn.proofs.Sizes.{places_append}
+use Rattle.repetition.proofs.Lists.{leads_push, flat_map-append, all_append, all_last}
+use Rattle.blocks.proofs.Places.{places_append}
 use Rattle.std.specs.Prelude.{Contains}
 use Rattle.world.proofs.StandLemmas.{stands_as, stands_still, stands_push}
 use Rattle.world.proofs.PastLemmas.{committed_in-append, length-committed_in, records_of-append, greatest_told-push, prefix_trans, take-longer}

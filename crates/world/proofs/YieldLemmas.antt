@@ -12,28 +12,28 @@ use Rattle.catalog.specs.Making.{names_of}
 use Rattle.gate_block.specs.declared.area.Area.{Area}
 use Rattle.gate_block.specs.Row.{IsRow, part}
 use Rattle.gate_block.specs.Area.{size_of, bytes_of}
-use Rattle.records.specs.declared.record.Record.{Record}
-use Rattle.records.specs.Records.{spelling, IsRecord, AreRecords}
-use Rattle.records.specs.Acts.{acts_of_record, acts_of, places}
-use Rattle.txn.specs.Machines.{resting}
-use Rattle.txn.specs.Machine.{IsSettled, Does}
-use Rattle.txn.proofs.Played as played
-use Rattle.txn.proofs.Played.{gathered, committed_append}
-use Rattle.txn.proofs.Steps as steps
-use Rattle.txn.proofs.Statuses.{nobody}
-use Rattle.txn.proofs.Told.{serial_told}
-use Rattle.txn.proofs.Sizes.{places_append}
-use Rattle.recovery.specs.Steps.{State, Steps, Repeats}
-use Rattle.recovery.specs.Reading.{Unread, InJournal, Reads, AreAccepted, IsSound, last_named}
-use Rattle.recovery.specs.Journals.{Holds, AreSpelt, records_in, StandsFor}
-use Rattle.recovery.proofs.Lists.{leads_append, flat_map-append, all_first, all_last}
-use Rattle.recovery.proofs.CatalogLaws.{laws}
-use Rattle.recovery.proofs.LagLemmas.{lags_calls}
-use Rattle.recovery.proofs.Grammar.{records_spelt}
-use Rattle.recovery.proofs.RepeatLemmas.{records_append, read_records}
-use Rattle.recovery.proofs.Parts.{IsParts, journal_reads}
-use Rattle.recovery.proofs.Contents as image
-use Rattle.recovery.proofs.Contents.{parts, on_from_first}
+use Rattle.record_format.specs.declared.record.Record.{Record}
+use Rattle.record_format.specs.Records.{spelling, IsRecord, AreRecords}
+use Rattle.record_format.specs.Acts.{acts_of_record, acts_of, places}
+use Rattle.machine.specs.Machines.{resting}
+use Rattle.machine.specs.Machine.{IsSettled, Does}
+use Rattle.machine.proofs.Played as played
+use Rattle.machine.proofs.Played.{gathered, committed_append}
+use Rattle.machine.proofs.Steps as steps
+use Rattle.machine.proofs.Statuses.{nobody}
+use Rattle.machine.proofs.Told.{serial_told}
+use Rattle.blocks.proofs.Places.{places_append}
+use Rattle.repetition.specs.Steps.{State, Steps, Repeats}
+use Rattle.repetition.specs.Reading.{Unread, InJournal, Reads, AreAccepted, IsSound, last_named}
+use Rattle.repetition.specs.Journals.{Holds, AreSpelt, records_in, StandsFor}
+use Rattle.repetition.proofs.Lists.{leads_append, flat_map-append, all_first, all_last}
+use Rattle.repetition.proofs.CatalogLaws.{laws}
+use Rattle.repetition.proofs.LagLemmas.{lags_calls}
+use Rattle.repetition.proofs.Grammar.{records_spelt}
+use Rattle.repetition.proofs.RepeatLemmas.{records_append, read_records}
+use Rattle.repetition.proofs.Parts.{IsParts, journal_reads}
+use Rattle.repetition.proofs.Contents as image
+use Rattle.repetition.proofs.Contents.{parts, on_from_first}
 use Rattle.world.specs.Pasts.{Past, committed_in, records_of}
 use Rattle.world.specs.Crash.{IsOneHistory, Yields}
 use Rattle.world.specs.Worlds.{IsLevel, StandIn, IsHeaded, Parts, HasPast}

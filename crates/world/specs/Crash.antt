@@ -3,9 +3,9 @@ use Rattle.std.specs.Prelude.{ℕ, List}
 use mathlib.Core.List.{IsPrefix}
 use Rattle.calls.specs.Contents.{Collection, AnswersAt, after_at}
 use Rattle.calls.specs.Transactions.{Transaction, Serial}
-use Rattle.txn.specs.Machine.{IsSettled}
-use Rattle.recovery.specs.Journals.{StandsFor}
-use Rattle.recovery.specs.Reading.{IsSound}
+use Rattle.machine.specs.Machine.{IsSettled}
+use Rattle.repetition.specs.Journals.{StandsFor}
+use Rattle.repetition.specs.Reading.{IsSound}
 use Rattle.world.specs.Pasts.{Past, BookState, committed_in}
 
 -- The committed transactions of the past, each run whole, one after another, with the replies that its client got, lead from the start to what the

@@ -2,3 +2,4 @@ pub mod Pasts
 pub mod Crash
 pub mod Worlds
 pub mod Moves
+pub mod OneStep

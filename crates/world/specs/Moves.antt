@@ -4,8 +4,8 @@ use Rattle.calls.specs.Inverses.{inverse_of}
 use Rattle.calls.specs.declared.refusal.Refusal.{Refusal}
 use Rattle.disk_model.specs.Disk.{Rises}
 use Rattle.gate_block.specs.Area.{size_of, position_of}
-use Rattle.txn.specs.declared.block.Block.{Block}
-use Rattle.txn.specs.declared.block.Image.{Image}
+use Rattle.blocks.specs.declared.block.Block.{Block}
+use Rattle.blocks.specs.declared.block.Image.{Image}
 use Rattle.txn.specs.Freezing.{FreezeAnswers}
 use Rattle.checkpoint.specs.Imaging.{HasPiece}
 use Rattle.checkpoint.specs.ImageAnswers.{BeginAnswers, PieceAnswers, FlipAnswers}
@@ -13,7 +13,7 @@ use Rattle.checkpoint.specs.declared.turn.Turn.{Turn}
 use Rattle.checkpoint.specs.Keepers.{KeeperState, IsPast, queue, TurnAnswers}
 use Rattle.world.specs.declared.steps.Step.{Step}
 use Rattle.world.specs.declared.steps.Answer.{Answer}
-use Rattle.world.specs.Pasts.{BookState, CoreStep, Draws, turn_answer, mark_behind, begun_answer, piece_answer, flip_answer, mark_flipped}
+use Rattle.world.specs.Pasts.{BookState, CoreStep, Draws, outcome, mark_behind, alone, mark_flipped}
 
 -- All that a world is: its book, its keeper, the blocks in transit, the mark and the next number.
 pub record Whole (D : Type 0) : Type 0 where
@@ -30,7 +30,7 @@ whole_of book keeper transit mark next = record { book = book; keeper = keeper; 
 -- A turn is the keeper's, of the blocks in transit. The book and the next number stay.
 pub record IsTurn {D : Type 0} (fault_count : D → ℕ) (old : Whole D) (a : Answer) (new : Whole D) : Type 0 where
   pub turned : Result Turn Refusal
-  pub answer : a ≡ turn_answer turned
+  pub answer : a ≡ outcome Answer.Turned turned
   pub answers :
       TurnAnswers (queue old.keeper.held old.transit) old.keeper.failed old.keeper.mark
       (λ b. b.end ≤ old.keeper.covered) (λ b. IsPast old.keeper.image b.end)
@@ -44,7 +44,7 @@ pub record IsTurn {D : Type 0} (fault_count : D → ℕ) (old : Whole D) (a : An
 
 -- the image that a freeze answered is begun; or there is none
 abbrev pub IsBegun : {D : Type 0} → KeeperState D → Result Image Refusal → Answer → KeeperState D → Type 0
-IsBegun k (Ok image) a l = (begun : Result (Unit {0}) Refusal) × BeginAnswers k image l begun × (a ≡ begun_answer begun)
+IsBegun k (Ok image) a l = (begun : Result (Unit {0}) Refusal) × BeginAnswers k image l begun × (a ≡ outcome (alone Answer.Frozen) begun)
 IsBegun k (Err e) a l = (l ≡ k) × (a ≡ Answer.Refused e)
 
 -- A freeze is the book's, and then its image is begun by the keeper. Where the book refuses, the keeper is not asked.
@@ -59,7 +59,7 @@ pub record IsFreeze {D : Type 0} (old : Whole D) (a : Answer) (new : Whole D) : 
 -- A piece is the keeper's where one is left, and else refused so.
 abbrev pub IsPieced : {D : Type 0} → (D → ℕ) → KeeperState D → Answer → KeeperState D → Type 0
 IsPieced fault_count k a l =
-    (HasPiece k.image × ((laid : Result Bool Refusal) × PieceAnswers k (Rises (fault_count k.disk) (fault_count l.disk)) l laid × (a ≡ piece_answer laid)))
+    (HasPiece k.image × ((laid : Result Bool Refusal) × PieceAnswers k (Rises (fault_count k.disk) (fault_count l.disk)) l laid × (a ≡ outcome Answer.Laid laid)))
     ⊎ (¬ HasPiece k.image × (a ≡ Answer.Refused Refusal.Unfinished) × (l ≡ k))
 
 pub record IsPiece {D : Type 0} (fault_count : D → ℕ) (old : Whole D) (a : Answer) (new : Whole D) : Type 0 where
@@ -73,7 +73,7 @@ pub record IsPiece {D : Type 0} (fault_count : D → ℕ) (old : Whole D) (a : A
 pub record IsFlip {D : Type 0} (fault_count : D → ℕ) (old : Whole D) (a : Answer) (new : Whole D) : Type 0 where
   pub flipped : Result ℕ Refusal
   pub answers : FlipAnswers old.keeper (Rises (fault_count old.keeper.disk) (fault_count new.keeper.disk)) new.keeper flipped
-  pub answer : a ≡ flip_answer flipped
+  pub answer : a ≡ outcome Answer.Flipped flipped
   pub book : new.book ≡ old.book
   pub transit : new.transit ≡ old.transit
   pub mark : new.mark ≡ mark_flipped old.mark flipped

@@ -1,5 +1,5 @@
 -- Pasts: steps with their answers; what they have committed, and what was acknowledged.
-use Rattle.std.specs.Prelude.{◌≡◌, ℕ, ◌+◌, ◌<◌, ◌≤◌, ◌^◌, max, true, Bool, List, [], ◌∷◌, length, take, Result, Ok, Err}
+use Rattle.std.specs.Prelude.{◌≡◌, ℕ, ◌+◌, ◌<◌, ◌≤◌, ◌^◌, max, true, List, [], ◌∷◌, length, take, Result, Ok, Err}
 use Rattle.std.specs.List.{flat_map, AllByRecursion}
 use Rattle.calls.specs.Contents.{Collection, AnswersAt, after_at}
 use Rattle.calls.specs.Transactions.{Transaction, Act, Begins, Asks, Commits, Creates, Asked, PutOff, committed, Leads, Makes}
@@ -8,11 +8,11 @@ use Rattle.calls.specs.Inverses.{inverse_of}
 use Rattle.calls.specs.declared.refusal.Refusal.{Refusal}
 use Rattle.catalog.specs.Places.{Belongs, Misplaced}
 use Rattle.catalog.specs.Making.{names_of}
-use Rattle.records.specs.declared.record.Record.{Record}
-use Rattle.records.specs.Records.{call_record}
+use Rattle.record_format.specs.declared.record.Record.{Record}
+use Rattle.record_format.specs.Records.{call_record}
 use Rattle.checkpoint.specs.declared.turn.Turn.{Turn}
-use Rattle.txn.specs.declared.block.Block.{Block}
-use Rattle.txn.specs.declared.block.Image.{Image}
+use Rattle.blocks.specs.declared.block.Block.{Block}
+use Rattle.blocks.specs.declared.block.Image.{Image}
 use Rattle.txn.specs.Books as books
 use Rattle.txn.specs.Freezing.{FreezeAnswers}
 use Rattle.world.specs.declared.steps.Step.{Step}
@@ -171,28 +171,19 @@ IsAnswerOf s a = ⊥
 abbrev pub AreAnswered : Past → Type 0
 AreAnswered past = AllByRecursion (λ x. IsAnswerOf x.0 x.1) past
 
--- how a turn's result stands in a past
-abbrev pub turn_answer : Result Turn Refusal → Answer
-turn_answer (Ok turn) = Answer.Turned turn
-turn_answer (Err e) = Answer.Refused e
+-- the answer of a step that has no result
+abbrev pub alone : Answer → Unit {0} → Answer
+alone a done = a
+
+-- what a step is answered that is done, with this result, or refused
+abbrev pub outcome : {T : Type 0} → (T → Answer) → Result T Refusal → Answer
+outcome done (Ok x) = done x
+outcome done (Err e) = Answer.Refused e
 
 -- the mark behind a turn: the one that it told, if it told one
 abbrev pub mark_behind : ℕ → Result Turn Refusal → ℕ
 mark_behind mark (Ok (Turn.Kept place)) = place
 mark_behind mark r = mark
-
--- how the keeper's answer to a freeze, a piece and a flip stands in a past
-abbrev pub begun_answer : Result (Unit {0}) Refusal → Answer
-begun_answer (Ok done) = Answer.Frozen
-begun_answer (Err e) = Answer.Refused e
-
-abbrev pub piece_answer : Result Bool Refusal → Answer
-piece_answer (Ok more) = Answer.Laid more
-piece_answer (Err e) = Answer.Refused e
-
-abbrev pub flip_answer : Result ℕ Refusal → Answer
-flip_answer (Ok place) = Answer.Flipped place
-flip_answer (Err e) = Answer.Refused e
 
 -- the mark behind a flip
 abbrev pub mark_flipped : ℕ → Result ℕ Refusal → ℕ

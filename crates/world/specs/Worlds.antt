@@ -6,19 +6,20 @@ use Rattle.calls.specs.Transactions.{calls_of}
 use Rattle.gate_block.specs.Row.{IsBlockOf}
 use Rattle.gate_block.specs.declared.area.Area.{Area}
 use Rattle.gate_block.specs.Area.{base_of, size_of, IsReady}
-use Rattle.records.specs.declared.record.Record.{Record}
-use Rattle.records.specs.Records.{spelling, IsRecord, AreRecords}
-use Rattle.records.specs.Acts.{places}
-use Rattle.txn.specs.declared.block.Block.{Block}
-use Rattle.txn.specs.Machines.{resting}
+use Rattle.record_format.specs.declared.record.Record.{Record}
+use Rattle.record_format.specs.Records.{spelling, IsRecord, AreRecords}
+use Rattle.record_format.specs.Acts.{places}
+use Rattle.blocks.specs.declared.block.Block.{Block}
+use Rattle.machine.specs.Machines.{resting}
 use Rattle.txn.specs.Books.{opened}
 use Rattle.checkpoint.specs.declared.laying.Laying.{Laying}
 use Rattle.checkpoint.specs.Imaging.{IsOther, IsBeingLaid}
 use Rattle.checkpoint.specs.Keepers.{queue, KeeperState}
-use Rattle.recovery.specs.Journals.{IsHeader, base_in_use, records_in}
-use Rattle.recovery.specs.Steps.{State, Repeats}
-use Rattle.recovery.specs.Reading.{AreAccepted}
-use Rattle.recovery.specs.Lagging.{Lags}
+use Rattle.repetition.specs.Journals.{IsHeader, records_in}
+use Rattle.gate_block.specs.Layout.{base_in_use}
+use Rattle.repetition.specs.Steps.{State, Repeats}
+use Rattle.repetition.specs.Reading.{AreAccepted}
+use Rattle.repetition.specs.Lagging.{Lags}
 use Rattle.world.specs.Pasts.{Past, BookState, records_of, IsLegal, committed_in, greatest_told}
 use Rattle.world.specs.Crash.{Yields}
 

@@ -2,7 +2,6 @@
 //! crash theorem.
 #![tactic(auto)]
 
-mod core_steps;
 mod steps;
 mod transit;
 mod world;

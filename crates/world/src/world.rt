@@ -1,30 +1,36 @@
 // The core as a list of steps.
-ghost use Rattle.std.specs.Prelude.{◌≡◌, ◌≤◌, ◌↔◌, IsTrue, ℕ, List, ◌++◌, ◌∷◌, [], take, length, IfOk, IfErr, OnErr, IsOkUnless};
+ghost use Rattle.std.specs.Prelude.{◌≡◌, ◌≤◌, ◌↔◌, IsTrue, ℕ, List, ◌++◌, ◌∷◌, [], length, IfOk, IfErr, OnErr, IsOkUnless};
 ghost use Rattle.std.specs.List.{zip};
 ghost use Rattle.std.specs.Option.{IsSomeAnd};
 ghost use Rattle.calls.specs.Contents.{Collection};
 ghost use Rattle.calls.specs.Transactions.{Leads};
 ghost use Rattle.disk_model.specs.Disk.{LeavesOnly};
-ghost use Rattle.world.specs.declared.steps.Step.{Step};
-ghost use Rattle.world.specs.Pasts.{Past, committed_in, acknowledged, turn_answer, begun_answer, piece_answer, flip_answer, mark_behind, mark_flipped, IsAnswerOf, AreAnswered, Draws};
-ghost use Rattle.world.specs.Crash.{IsOneHistory, Yields};
 ghost use Rattle.checkpoint.specs.Imaging.{pieces_left};
 ghost use Rattle.checkpoint.specs.Keepers.{IsFresh};
 ghost use Rattle.recovery.specs.Openings.{IsOpened, IsReadyStore};
-ghost use Rattle.world.specs.Worlds.{HasPast, parts_of};
-ghost use Rattle.world.specs.Moves.{Moves, whole_of};
+ghost use Rattle.world.specs.declared.steps.Step.{Step};
+ghost use Rattle.world.specs.declared.steps.Answer.{Answer};
+ghost use Rattle.world.specs.Pasts.{Past, acknowledged, mark_behind, mark_flipped, AreAnswered, Draws, alone, outcome};
+ghost use Rattle.world.specs.Crash.{IsOneHistory, Yields};
+ghost use Rattle.world.specs.Worlds.{HasPast};
+ghost use Rattle.world.specs.Moves.{Moves};
+ghost use Rattle.world.specs.OneStep.{parts, TakesStep};
 
-use crate::core_steps;
 use crate::steps::{Answer, Step};
 use crate::transit::Transit;
-use calls::Refusal;
+use calls::limits::NUMBER_END;
+use calls::{Call, Kind, Name, Refusal, Reply};
 use catalog::Catalog;
 use checkpoint::{Keeper, Turn};
 use disk_model::Disk;
 use std::alloc::Global;
+use std::marker::Model;
 use txn::Book;
 
-/// A book, a keeper, the blocks in transit, the mark and the next number.
+/// A book, a keeper, the blocks in transit, the mark and the next number. Contracts see all of it.
+///
+/// Each step has a method of its own. Whatever it answers, also a refusal, is one step of the core (`TakesStep`): each past
+/// of the world goes on with it, and whatever a stop at any moment of it might have left is what that past yields.
 #[derive(Drop)]
 pub struct World<D: Disk> {
     book: Book<Catalog>,
@@ -32,7 +38,23 @@ pub struct World<D: Disk> {
     transit: Transit,
     mark: u64,
     next: u64,
-    ghost marked: { mark ≡ keeper.mark },
+}
+
+impl<D: Disk> Model for World<D> {
+    ghost use Rattle.std.specs.Prelude.{◌≡◌};
+    ghost use Rattle.std.specs.Coded.{codes, coded_ℕ, coded_bool};
+    ghost use Rattle.std.specs.FinMap as maps;
+    ghost use Rattle.std.specs.Ordering.{nat_cmp};
+    ghost use Rattle.catalog.specs.Codes.{catalog_code};
+    ghost use Rattle.world.specs.Moves.{Whole};
+
+    ghost Value = { Whole D };
+
+    ghost coded = { Prim.hlevel (codes, catalog_code, maps.code {R = nat_cmp} coded_ℕ coded_bool) };
+
+    ghost view = { λ w. record { book = w.book; keeper = w.keeper; transit = w.transit.blocks.items; mark = w.mark; next = w.next } };
+
+    ghost invariant = { λ w. w.mark ≡ w.keeper.mark };
 }
 
 impl<D: Disk> World<D> {
@@ -42,10 +64,10 @@ impl<D: Disk> World<D> {
     /// Refused only for want of memory, and then the disk is handed back.
     pub fn new(alloc: Global, book: Book<Catalog>, keeper: Keeper<D>) -> Result<Self, (Refusal, D)>
         requires { IsFresh keeper }
-        ensures parts { IfOk result (λ w. (w.book ≡ book) × (w.keeper ≡ keeper) × (w.transit.blocks.items ≡ [])) }
+        ensures parts { IfOk result (λ w. (w.book ≡ book) × (w.keeper ≡ keeper) × (w.transit ≡ [])) }
         ensures past { IfOk result (λ w. (bytes : List ℕ) → IsOpened bytes book keeper.area (D.seen keeper.disk) →
             IsReadyStore D.seen D.may_leave bytes book keeper.area keeper.disk →
-            HasPast D.seen D.may_leave book.state.now [] (parts_of w.book w.keeper w.transit.blocks.items w.mark)) }
+            HasPast D.seen D.may_leave book.state.now [] (parts w)) }
         ensures refused { IfErr result (λ x. (x.0 ≡ Refusal.NoMemory) × (x.1 ≡ keeper.disk)) }
     {
         let next = book.next();
@@ -83,121 +105,169 @@ impl<D: Disk> World<D> {
         keeper.into_disk()
     }
 
-    // Brings a block to the disk.
-    fn turn(&mut self) -> Answer
-        ensures past { (start : List Collection) (past : Past) →
-            HasPast D.seen D.may_leave start past (parts_of self.old.book self.old.keeper self.old.transit.blocks.items self.old.mark) →
-            HasPast D.seen D.may_leave start (past ++ (Step.Turn, result) ∷ []) (parts_of self.new.book self.new.keeper self.new.transit.blocks.items self.new.mark) }
-        ensures any_moment { (start : List Collection) (past : Past) →
-            HasPast D.seen D.may_leave start past (parts_of self.old.book self.old.keeper self.old.transit.blocks.items self.old.mark) →
-            LeavesOnly D.moment D.left_since self.old.keeper.disk self.new.keeper.disk
-            (Yields start (past ++ (Step.Turn, result) ∷ []) (take self.old.mark (committed_in past))) }
-        ensures mark { self.old.mark ≤ self.new.mark }
-        ensures own { IsAnswerOf Step.Turn result }
-        ensures drawn { self.new.next ≡ self.old.next }
-        ensures honest { D.is_honest self.new.keeper.disk → D.is_honest self.old.keeper.disk }
-        ensures moves { Moves D.fault_count (whole_of self.old.book self.old.keeper self.old.transit.blocks.items self.old.mark self.old.next) (Step.Turn, result)
-            (whole_of self.new.book self.new.keeper self.new.transit.blocks.items self.new.mark self.new.next) }
+    /// Draws the next number.
+    ///
+    /// Worn where it is 2^61.
+    pub fn draw(&mut self) -> Result<u64, Refusal>
+        ensures { TakesStep ⟦<D as Disk>⟧ self.old (Step.Draw, outcome Answer.Drawn result) self.new }
+    {
+        if self.next >= NUMBER_END {
+            return Err(Refusal::Worn);
+        }
+        let number = self.next;
+        self.next += 1;
+        Ok(number)
+    }
+
+    /// Makes an empty collection, and answers its place: the refusals of `Book::make`.
+    pub fn make(&mut self, name: &Name, kind: Kind) -> Result<u64, Refusal>
+        ensures { TakesStep ⟦<D as Disk>⟧ self.old (Step.Make name.now kind, outcome Answer.Placed result) self.new }
+    {
+        let made = self.book.make(name.as_str(), kind);
+        self.book.upheld();
+        made
+    }
+
+    /// Makes a number live: the refusals of `Book::enter`.
+    pub fn enter(&mut self, number: u64) -> Result<(), Refusal>
+        ensures { TakesStep ⟦<D as Disk>⟧ self.old (Step.Enter number, outcome (alone Answer.Entered) result) self.new }
+    {
+        let entered = self.book.enter(number);
+        self.book.upheld();
+        entered
+    }
+
+    /// A call of a live transaction on a collection: the refusals of `Book::call`.
+    pub fn call(&mut self, number: u64, collection: u8, asked: &Call) -> Result<Reply, Refusal>
+        ensures { TakesStep ⟦<D as Disk>⟧ self.old (Step.Call number collection asked.now, outcome Answer.Replied result) self.new }
+    {
+        let replied = self.book.call(number, collection, asked);
+        self.book.upheld();
+        replied
+    }
+
+    /// Puts a call of a live transaction on a collection off to its commit: the refusals of `Book::later`.
+    pub fn later(&mut self, number: u64, collection: u8, asked: &Call) -> Result<(), Refusal>
+        ensures { TakesStep ⟦<D as Disk>⟧ self.old (Step.Later number collection asked.now, outcome (alone Answer.PutOff) result) self.new }
+    {
+        let put_off = self.book.later(number, collection, asked);
+        self.book.upheld();
+        put_off
+    }
+
+    /// Commits a live transaction, and answers its place: the refusals of `Book::commit`.
+    pub fn commit(&mut self, number: u64) -> Result<u64, Refusal>
+        ensures { TakesStep ⟦<D as Disk>⟧ self.old (Step.Commit number, outcome Answer.Placed result) self.new }
+    {
+        let placed = self.book.commit(number);
+        self.book.upheld();
+        placed
+    }
+
+    /// Undoes the newest call of a live transaction, and answers whether there was one: the refusals of `Book::back`.
+    pub fn back(&mut self, number: u64) -> Result<bool, Refusal>
+        ensures { TakesStep ⟦<D as Disk>⟧ self.old (Step.Back number, outcome Answer.Backed result) self.new }
+    {
+        let backed = self.book.back(number);
+        self.book.upheld();
+        backed
+    }
+
+    /// Ends a live transaction whose calls are all undone: the refusals of `Book::ended`.
+    pub fn ended(&mut self, number: u64) -> Result<(), Refusal>
+        ensures { TakesStep ⟦<D as Disk>⟧ self.old (Step.Ended number, outcome (alone Answer.Ended) result) self.new }
+    {
+        let ended = self.book.ended(number);
+        self.book.upheld();
+        ended
+    }
+
+    /// Hands a block over, and answers whether there was one: the refusals of `Book::cut`.
+    pub fn cut(&mut self) -> Result<bool, Refusal>
+        ensures { TakesStep ⟦<D as Disk>⟧ self.old (Step.Cut, outcome Answer.Cut result) self.new }
+    {
+        self.book.cut(&mut self.transit)
+    }
+
+    /// Brings a block to the disk: the refusals of `Keeper::turn`. What it tells to be kept is the mark then.
+    pub fn turn(&mut self) -> Result<Turn, Refusal>
+        ensures { TakesStep ⟦<D as Disk>⟧ self.old (Step.Turn, outcome Answer.Turned result) self.new }
     {
         let turned = self.keeper.turn(&mut self.transit);
         self.mark = mark_after(self.mark, &turned);
-        answer_of(turned)
+        turned
     }
 
-    // Freezes the book, and begins to write its image.
-    fn freeze(&mut self) -> Answer
-        ensures past { (start : List Collection) (past : Past) →
-            HasPast D.seen D.may_leave start past (parts_of self.old.book self.old.keeper self.old.transit.blocks.items self.old.mark) →
-            HasPast D.seen D.may_leave start (past ++ (Step.Freeze, result) ∷ []) (parts_of self.new.book self.new.keeper self.new.transit.blocks.items self.new.mark) }
-        ensures any_moment { (start : List Collection) (past : Past) →
-            HasPast D.seen D.may_leave start past (parts_of self.old.book self.old.keeper self.old.transit.blocks.items self.old.mark) →
-            LeavesOnly D.moment D.left_since self.old.keeper.disk self.new.keeper.disk
-            (Yields start (past ++ (Step.Freeze, result) ∷ []) (take self.old.mark (committed_in past))) }
-        ensures mark { self.old.mark ≤ self.new.mark }
-        ensures own { IsAnswerOf Step.Freeze result }
-        ensures drawn { self.new.next ≡ self.old.next }
-        ensures honest { D.is_honest self.new.keeper.disk → D.is_honest self.old.keeper.disk }
-        ensures moves { Moves D.fault_count (whole_of self.old.book self.old.keeper self.old.transit.blocks.items self.old.mark self.old.next) (Step.Freeze, result)
-            (whole_of self.new.book self.new.keeper self.new.transit.blocks.items self.new.mark self.new.next) }
+    /// Freezes the book, and begins to write its image: the refusals of `Book::freeze`, then those of
+    /// `Keeper::begin_image`.
+    pub fn freeze(&mut self) -> Result<(), Refusal>
+        ensures { TakesStep ⟦<D as Disk>⟧ self.old (Step.Freeze, outcome (alone Answer.Frozen) result) self.new }
     {
         self.book.upheld();
-        match self.book.freeze() {
-            Ok(image) => begun(self.keeper.begin_image(image)),
-            Err(refusal) => Answer::Refused(refusal),
-        }
+        let image = self.book.freeze()?;
+        self.keeper.begin_image(image)
     }
 
-    // Writes a block of the image in progress, where one is left.
-    fn piece(&mut self) -> Answer
-        ensures past { (start : List Collection) (past : Past) →
-            HasPast D.seen D.may_leave start past (parts_of self.old.book self.old.keeper self.old.transit.blocks.items self.old.mark) →
-            HasPast D.seen D.may_leave start (past ++ (Step.Piece, result) ∷ []) (parts_of self.new.book self.new.keeper self.new.transit.blocks.items self.new.mark) }
-        ensures any_moment { (start : List Collection) (past : Past) →
-            HasPast D.seen D.may_leave start past (parts_of self.old.book self.old.keeper self.old.transit.blocks.items self.old.mark) →
-            LeavesOnly D.moment D.left_since self.old.keeper.disk self.new.keeper.disk
-            (Yields start (past ++ (Step.Piece, result) ∷ []) (take self.old.mark (committed_in past))) }
-        ensures mark { self.old.mark ≤ self.new.mark }
-        ensures own { IsAnswerOf Step.Piece result }
-        ensures drawn { self.new.next ≡ self.old.next }
-        ensures honest { D.is_honest self.new.keeper.disk → D.is_honest self.old.keeper.disk }
-        ensures moves { Moves D.fault_count (whole_of self.old.book self.old.keeper self.old.transit.blocks.items self.old.mark self.old.next) (Step.Piece, result)
-            (whole_of self.new.book self.new.keeper self.new.transit.blocks.items self.new.mark self.new.next) }
+    /// Writes a block of the image in progress, and answers whether another one is left.
+    ///
+    /// Unfinished where none is left, then the refusals of `Keeper::image_piece`.
+    pub fn piece(&mut self) -> Result<bool, Refusal>
+        ensures { TakesStep ⟦<D as Disk>⟧ self.old (Step.Piece, outcome Answer.Laid result) self.new }
     {
         if is_some_left(self.keeper.left()) {
-            return laid(self.keeper.image_piece());
+            return self.keeper.image_piece();
         }
-        Answer::Refused(Refusal::Unfinished)
+        Err(Refusal::Unfinished)
     }
 
-    // Makes the image in progress the store.
-    fn flip(&mut self) -> Answer
-        ensures past { (start : List Collection) (past : Past) →
-            HasPast D.seen D.may_leave start past (parts_of self.old.book self.old.keeper self.old.transit.blocks.items self.old.mark) →
-            HasPast D.seen D.may_leave start (past ++ (Step.Flip, result) ∷ []) (parts_of self.new.book self.new.keeper self.new.transit.blocks.items self.new.mark) }
-        ensures any_moment { (start : List Collection) (past : Past) →
-            HasPast D.seen D.may_leave start past (parts_of self.old.book self.old.keeper self.old.transit.blocks.items self.old.mark) →
-            LeavesOnly D.moment D.left_since self.old.keeper.disk self.new.keeper.disk
-            (Yields start (past ++ (Step.Flip, result) ∷ []) (take self.old.mark (committed_in past))) }
-        ensures mark { self.old.mark ≤ self.new.mark }
-        ensures own { IsAnswerOf Step.Flip result }
-        ensures drawn { self.new.next ≡ self.old.next }
-        ensures honest { D.is_honest self.new.keeper.disk → D.is_honest self.old.keeper.disk }
-        ensures moves { Moves D.fault_count (whole_of self.old.book self.old.keeper self.old.transit.blocks.items self.old.mark self.old.next) (Step.Flip, result)
-            (whole_of self.new.book self.new.keeper self.new.transit.blocks.items self.new.mark self.new.next) }
+    /// Makes the image in progress the store, and answers the mark: the refusals of `Keeper::flip`.
+    pub fn flip(&mut self) -> Result<u64, Refusal>
+        ensures { TakesStep ⟦<D as Disk>⟧ self.old (Step.Flip, outcome Answer.Flipped result) self.new }
     {
         let flipped = self.keeper.flip();
         self.mark = mark_then(self.mark, &flipped);
-        flip_told(flipped)
+        flipped
     }
 
-    // Takes one step.
-    fn step(&mut self, step: &Step) -> Answer
-        ensures past { (start : List Collection) (past : Past) →
-            HasPast D.seen D.may_leave start past (parts_of self.old.book self.old.keeper self.old.transit.blocks.items self.old.mark) →
-            HasPast D.seen D.may_leave start (past ++ (step.now, result) ∷ []) (parts_of self.new.book self.new.keeper self.new.transit.blocks.items self.new.mark) }
-        ensures any_moment { (start : List Collection) (past : Past) →
-            HasPast D.seen D.may_leave start past (parts_of self.old.book self.old.keeper self.old.transit.blocks.items self.old.mark) →
-            LeavesOnly D.moment D.left_since self.old.keeper.disk self.new.keeper.disk
-            (Yields start (past ++ (step.now, result) ∷ []) (take self.old.mark (committed_in past))) }
-        ensures mark { self.old.mark ≤ self.new.mark }
-        ensures own { IsAnswerOf step.now result }
-        ensures drawn { Draws self.old.next (step.now, result) self.new.next }
-        ensures honest { D.is_honest self.new.keeper.disk → D.is_honest self.old.keeper.disk }
-        ensures moves { Moves D.fault_count (whole_of self.old.book self.old.keeper self.old.transit.blocks.items self.old.mark self.old.next) (step.now, result)
-            (whole_of self.new.book self.new.keeper self.new.transit.blocks.items self.new.mark self.new.next) }
+    /// Looks at the mark: so many commits are kept.
+    pub fn look(&self) -> u64
+        ensures { TakesStep ⟦<D as Disk>⟧ self.now (Step.Look, Answer.Marked result) self.now }
+    {
+        self.mark
+    }
+
+    /// Takes one step, and answers it.
+    pub fn step(&mut self, step: &Step) -> Answer
+        ensures { TakesStep ⟦<D as Disk>⟧ self.old (step.now, result) self.new }
     {
         match step {
-            Step::Turn => self.turn(),
-            Step::Freeze => self.freeze(),
-            Step::Piece => self.piece(),
-            Step::Flip => self.flip(),
-            _ => core_steps::take(
-                &mut self.book,
-                &mut self.transit,
-                &mut self.next,
-                self.mark,
-                step,
-            ),
+            Step::Draw => self.draw().map_or_else(Answer::Refused, Answer::Drawn),
+            Step::Make(name, kind) => {
+                self.make(name, *kind)
+                    .map_or_else(Answer::Refused, Answer::Placed)
+            }
+            Step::Enter(number) => answered(self.enter(*number), Answer::Entered),
+            Step::Call(number, collection, asked) => {
+                self.call(*number, *collection, asked)
+                    .map_or_else(Answer::Refused, Answer::Replied)
+            }
+            Step::Later(number, collection, asked) => {
+                answered(self.later(*number, *collection, asked), Answer::PutOff)
+            }
+            Step::Commit(number) => {
+                self.commit(*number)
+                    .map_or_else(Answer::Refused, Answer::Placed)
+            }
+            Step::Back(number) => self
+                .back(*number)
+                .map_or_else(Answer::Refused, Answer::Backed),
+            Step::Ended(number) => answered(self.ended(*number), Answer::Ended),
+            Step::Cut => self.cut().map_or_else(Answer::Refused, Answer::Cut),
+            Step::Turn => self.turn().map_or_else(Answer::Refused, Answer::Turned),
+            Step::Freeze => answered(self.freeze(), Answer::Frozen),
+            Step::Piece => self.piece().map_or_else(Answer::Refused, Answer::Laid),
+            Step::Flip => self.flip().map_or_else(Answer::Refused, Answer::Flipped),
+            Step::Look => Answer::Marked(self.look()),
         }
     }
 }
@@ -219,14 +289,14 @@ pub fn play<D: Disk>(
     steps: &[Step],
 ) -> Result<Vec<Answer>, Refusal>
     ensures past { (start : List Collection) (past : Past) →
-        HasPast D.seen D.may_leave start past (parts_of world.old.book world.old.keeper world.old.transit.blocks.items world.old.mark) →
-        IfOk result (λ answers. HasPast D.seen D.may_leave start (past ++ zip steps.now answers.items) (parts_of world.new.book world.new.keeper world.new.transit.blocks.items world.new.mark)) }
+        HasPast D.seen D.may_leave start past (parts world.old) →
+        IfOk result (λ answers. HasPast D.seen D.may_leave start (past ++ zip steps.now answers.items) (parts world.new)) }
     ensures any_moment { (start : List Collection) (past : Past) →
-        HasPast D.seen D.may_leave start past (parts_of world.old.book world.old.keeper world.old.transit.blocks.items world.old.mark) →
+        HasPast D.seen D.may_leave start past (parts world.old) →
         IfOk result (λ answers. LeavesOnly D.moment D.left_since world.old.keeper.disk world.new.keeper.disk
         (Yields start (past ++ zip steps.now answers.items) (acknowledged past))) }
     ensures one_history { (start : List Collection) (past : Past) →
-        HasPast D.seen D.may_leave start past (parts_of world.old.book world.old.keeper world.old.transit.blocks.items world.old.mark) →
+        HasPast D.seen D.may_leave start past (parts world.old) →
         IfOk result (λ answers. IsOneHistory start (past ++ zip steps.now answers.items) world.new.book) }
     ensures each { IfOk result (λ answers. length answers.items ≡ length steps.now) }
     ensures own { IfOk result (λ answers. AreAnswered (zip steps.now answers.items)) }
@@ -235,8 +305,8 @@ pub fn play<D: Disk>(
     ensures err { OnErr result (world.new ≡ world.old) }
     ensures honest { D.is_honest world.new.keeper.disk → D.is_honest world.old.keeper.disk }
     ensures moves { IfOk result (λ answers. Leads (Moves D.fault_count) (zip steps.now answers.items)
-        (whole_of world.old.book world.old.keeper world.old.transit.blocks.items world.old.mark world.old.next)
-        (whole_of world.new.book world.new.keeper world.new.transit.blocks.items world.new.mark world.new.next)) }
+        world.old
+        world.new) }
 {
     let mut answers = Vec::with_capacity(alloc, steps.len())?;
     for step in steps {
@@ -244,6 +314,16 @@ pub fn play<D: Disk>(
         let _pushed = answers.push(answer);
     }
     Ok(answers)
+}
+
+// The answer of a step that has no result.
+fn answered(done: Result<(), Refusal>, answer: Answer) -> Answer
+    ensures { result ≡ outcome (alone answer) done }
+{
+    match done {
+        Ok(()) => answer,
+        Err(refusal) => Answer::Refused(refusal),
+    }
 }
 
 // The mark behind a turn: the one that it told, if it told one.
@@ -256,16 +336,6 @@ fn mark_after(mark: u64, turned: &Result<Turn, Refusal>) -> u64
     }
 }
 
-// A turn's result as an answer.
-fn answer_of(turned: Result<Turn, Refusal>) -> Answer
-    ensures { result ≡ turn_answer turned }
-{
-    match turned {
-        Ok(turn) => Answer::Turned(turn),
-        Err(refusal) => Answer::Refused(refusal),
-    }
-}
-
 // Whether a piece is left, of as many as are.
 fn is_some_left(left: Option<u64>) -> bool
     ensures { IsTrue result ↔ IsSomeAnd left (λ n. 1 ≤ n) }
@@ -273,36 +343,6 @@ fn is_some_left(left: Option<u64>) -> bool
     match left {
         Some(pieces) => pieces >= 1,
         None => false,
-    }
-}
-
-// What the keeper answered of an image that was to begin, as an answer.
-fn begun(begun: Result<(), Refusal>) -> Answer
-    ensures { result ≡ begun_answer begun }
-{
-    match begun {
-        Ok(()) => Answer::Frozen,
-        Err(refusal) => Answer::Refused(refusal),
-    }
-}
-
-// What it answered of a piece.
-fn laid(laid: Result<bool, Refusal>) -> Answer
-    ensures { result ≡ piece_answer laid }
-{
-    match laid {
-        Ok(more) => Answer::Laid(more),
-        Err(refusal) => Answer::Refused(refusal),
-    }
-}
-
-// What it answered of a flip.
-fn flip_told(flipped: Result<u64, Refusal>) -> Answer
-    ensures { result ≡ flip_answer flipped }
-{
-    match flipped {
-        Ok(place) => Answer::Flipped(place),
-        Err(refusal) => Answer::Refused(refusal),
     }
 }
 

@@ -1,8 +1,8 @@
 // Why a command was not done.
 ghost use Rattle.std.specs.Prelude.{◌≡◌};
 
-use crate::script::ScriptError;
 use calls::Refusal;
+use script::ScriptError;
 use std::alloc::AllocError;
 use std::{fmt, io};
 

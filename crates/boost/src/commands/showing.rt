@@ -3,9 +3,11 @@ ghost use Rattle.std.specs.Prelude.{IfErr};
 ghost use Rattle.boost.specs.Commands.{IsOfStore};
 
 use crate::commands::failure::Failure;
-use crate::commands::texts::ItemText;
+use calls::Item;
 use catalog::{Catalog, Shown};
+use player::Hex;
 use recovery::Report;
+use std::fmt;
 use std::io::Write;
 
 /// Prints collections, by rising number: each in a line of its own, and its items in the lines behind it.
@@ -47,4 +49,22 @@ pub fn show_counts<O: Write>(counts: &Report, out: &mut O) -> Result<(), Failure
         "sound: {collections} collections, {unfinished} unfinished transactions, {records} journal records"
     )?;
     Ok(())
+}
+
+// An item of a collection, as it is shown.
+#[derive(Clone, Copy)]
+struct ItemText<'a>(&'a Item);
+
+impl fmt::Display for ItemText<'_> {
+    fn fmt<W: fmt::Write>(&self, f: &mut fmt::Formatter<W>) -> fmt::Result {
+        match self.0 {
+            Item::Element(x) => write!(f, "{x}"),
+            Item::Entry(key, value) => {
+                let hex = Hex(value.as_slice());
+                write!(f, "{key} {hex}")
+            }
+            Item::Pair(priority, tag) => write!(f, "{priority} {tag}"),
+            Item::Number(total) => write!(f, "{total}"),
+        }
+    }
 }

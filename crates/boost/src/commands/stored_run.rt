@@ -4,11 +4,11 @@ ghost use Rattle.boost.specs.Commands.{IsOfStore};
 
 use crate::commands::failure::Failure;
 use crate::commands::{play_lines, show};
-use crate::script::parse;
 use calls::Refusal;
 use calls::limits::MIN_AREA;
 use disk_model::MemDisk;
 use recovery::format;
+use script::parse;
 use std::alloc::Global;
 use std::io::Write;
 

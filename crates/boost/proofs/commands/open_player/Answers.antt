@@ -17,7 +17,7 @@ returns-in_err-new-clause-kept_in_refusal g c =
 
 pub returns-clause-past : goal.returns-clause-past
 returns-clause-past g c = λ honest content stands rest.
-    opened_past c.new-2.result.world c.in_ok-new.field-0 c.new-2.ensures.world c.in_ok-book.keeper c.in_ok-new.ensures.parts.1 c.args.disk c.in_ok-book.book content c.in_ok-book.ensures.opened c.in_ok-book.ensures.ready (c.in_ok-book.ensures.content content stands) c.in_ok-new.ensures.past rest honest
+    opened_past g.D.Disk c.new-2.result.world c.in_ok-new.field-0 c.new-2.ensures.world c.in_ok-book.keeper c.in_ok-new.ensures.parts.1 c.args.disk c.in_ok-book.book content c.in_ok-book.ensures.opened c.in_ok-book.ensures.ready (c.in_ok-book.ensures.content content stands) c.in_ok-new.ensures.past rest honest
 
 pub returns-clause-kept : goal.returns-clause-kept
-returns-clause-kept g c = λ honest. opened_keeps c.new-2.result.world c.in_ok-new.field-0 c.new-2.ensures.world c.in_ok-book.keeper c.in_ok-new.ensures.parts.1 c.args.disk c.in_ok-book.ensures.kept honest
+returns-clause-kept g c = λ honest. opened_keeps g.D.Disk c.new-2.result.world c.in_ok-new.field-0 c.new-2.ensures.world c.in_ok-book.keeper c.in_ok-new.ensures.parts.1 c.args.disk c.in_ok-book.ensures.kept honest

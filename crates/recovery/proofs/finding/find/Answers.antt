@@ -4,7 +4,7 @@ use Rattle.gate_block.specs.Area.{position_of}
 use Rattle.disk_model.specs.Disk.{Rises}
 use Rattle.recovery.specs.Openings.{IsLoadRefusal}
 use Rattle.recovery.specs.Loading.{IsLoaded}
-use Rattle.recovery.proofs.Walks.{rises_before}
+use Rattle.undoing.proofs.Walks.{rises_before}
 use Rattle.recovery.proofs.LoadLemmas.{Spoils}
 use Rattle.recovery.proofs.FindLemmas.{head_find_refusal, load_find_refusal, stored_there, one_of_two}
 use Rattle.recovery.proofs.finding.find.Goals as goal

@@ -3,11 +3,11 @@ use Rattle.std.proofs.lemmas.Result.{err_from_is_err_and}
 use Rattle.calls.specs.Contents.{Collection}
 use Rattle.disk_model.specs.Disk.{ReadsOnly}
 use Rattle.gate_block.specs.Area.{size_of, position_of}
-use Rattle.records.specs.declared.record.Record.{Record}
+use Rattle.record_format.specs.declared.record.Record.{Record}
 use Rattle.txn.specs.Books.{BookState, opened}
-use Rattle.recovery.specs.Undoing.{blocks_len}
-use Rattle.recovery.specs.Appending.{IsAppended}
-use Rattle.recovery.proofs.Lists.{upto_or}
+use Rattle.undoing.specs.Undoing.{blocks_len}
+use Rattle.undoing.specs.Appending.{IsAppended}
+use Rattle.repetition.proofs.Lists.{upto_or}
 use Rattle.recovery.proofs.OpenLemmas.{keeps_content, keeps_on, opens, content_is, has_no_room, where_it_stands, nothing_undone}
 use Rattle.recovery.proofs.FindLemmas.{find_open_refusal}
 use Rattle.recovery.proofs.opening.open_on.Goals as goal

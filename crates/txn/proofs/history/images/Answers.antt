@@ -1,6 +1,6 @@
-use Rattle.txn.proofs.BookLaws.{book_laws}
-use Rattle.txn.proofs.Theory.Stands.{image_repeats, image_stands}
-use Rattle.txn.proofs.Theory.Loading.{loads_sound, image_loads}
+use Rattle.machine.proofs.BookLaws.{book_laws}
+use Rattle.machine.proofs.Theory.Stands.{image_repeats, image_stands}
+use Rattle.machine.proofs.Theory.Loading.{loads_sound, image_loads}
 use Rattle.txn.proofs.history.images.Goals as goal
 
 pub returns-clause-repeats : goal.returns-clause-repeats

@@ -1,4 +1,4 @@
-use Rattle.txn.proofs.BookLaws.{book_laws}
+use Rattle.machine.proofs.BookLaws.{book_laws}
 use Rattle.txn.proofs.Played.{history}
 use Rattle.txn.proofs.history.one_history.Goals as goal
 

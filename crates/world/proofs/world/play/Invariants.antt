@@ -1,14 +1,11 @@
-use Rattle.std.proofs.Common.{vec_capacity}
-use Rattle.world.specs.Worlds.{parts_of}
-use Rattle.world.specs.Moves.{whole_of}
-use Rattle.world.proofs.PlayLemmas.{SoFar}
-use Rattle.world.proofs.AnswerLemmas.{Told}
+use Rattle.std.proofs.Common.{◌≡◌, ◌≤◌, length, take, vec_capacity}
+use Rattle.std.specs.List.{zip}
+use Rattle.calls.specs.Transactions.{Leads}
+use Rattle.world.specs.OneStep.{TakesStep}
 use Rattle.world.proofs.world.play.Given as goal
 
 abbrev pub invariant-loop-step : goal.invariant-loop-step
 invariant-loop-step g l =
-    SoFar g.D.Disk.seen g.D.Disk.may_leave g.D.Disk.moment g.D.Disk.left_since
-    (parts_of l.fn.world.book l.fn.world.keeper l.fn.world.transit.blocks.items l.fn.world.mark)
-    (parts_of l.world.book l.world.keeper l.world.transit.blocks.items l.world.mark)
-    l.steps l.answers.items l.step-index (vec_capacity l.answers)
-    × Told g.D.Disk.fault_count g.D.Disk.is_honest (whole_of l.fn.world.book l.fn.world.keeper l.fn.world.transit.blocks.items l.fn.world.mark l.fn.world.next) (whole_of l.world.book l.world.keeper l.world.transit.blocks.items l.world.mark l.world.next) l.steps l.answers.items l.step-index
+    (length l.answers.items ≡ l.step-index)
+    × (length l.steps ≤ vec_capacity l.answers)
+    × Leads (TakesStep g.D.Disk) (zip (take l.step-index l.steps) l.answers.items) l.fn.world l.world

@@ -4,7 +4,7 @@ use Rattle.disk_model.specs.Disk.{Rises}
 use Rattle.gate_block.specs.declared.area.Area.{Area}
 use Rattle.gate_block.specs.Area.{has_failed, size_of, position_of}
 use Rattle.gate_block.specs.Answers.{IsAppendAnswer}
-use Rattle.txn.specs.declared.block.Block.{Block}
+use Rattle.blocks.specs.declared.block.Block.{Block}
 use Rattle.checkpoint.specs.Keepers.{KeeperState, AppendAnswers}
 use Rattle.checkpoint.proofs.keeper.Keeper.append.Goals as goal
 

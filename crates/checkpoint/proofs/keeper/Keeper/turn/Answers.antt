@@ -1,6 +1,6 @@
 use Rattle.std.proofs.Common.{◌≡◌, sym, ◌∙◌, subst}
 use Rattle.gate_block.specs.Row.{IsBlockOf}
-use Rattle.txn.specs.declared.block.Block.{Block}
+use Rattle.blocks.specs.declared.block.Block.{Block}
 use Rattle.checkpoint.proofs.Turning.{brought, same_head, laid_on}
 use Rattle.checkpoint.proofs.keeper.Keeper.turn.Goals as goal
 

@@ -1,15 +1,15 @@
 use Rattle.std.proofs.Common.{◌<◌, length, refl, sym, subst, arith}
-use Rattle.records.specs.declared.record.Record.{Record}
-use Rattle.records.specs.Short.{AreShort}
+use Rattle.record_format.specs.declared.record.Record.{Record}
+use Rattle.record_format.specs.Short.{AreShort}
 use Rattle.undo_log.specs.Logs.{Lives}
-use Rattle.txn.specs.Machine.{BackRow}
+use Rattle.machine.specs.Machine.{BackRow}
 use Rattle.txn.specs.Books.{BookState, AppendsTo}
 use Rattle.txn.specs.Views.{book_of}
-use Rattle.txn.specs.Waits.{HasRoomFor}
-use Rattle.txn.proofs.BookLaws.{BookLaws, book_laws}
+use Rattle.blocks.specs.Waits.{HasRoomFor}
+use Rattle.machine.proofs.BookLaws.{BookLaws, book_laws}
 use Rattle.txn.proofs.BookLemmas.{mark_length, recorded}
 use Rattle.txn.proofs.Kept.{back_keeps, fall_keeps}
-use Rattle.txn.proofs.Steps.{back_settles}
+use Rattle.machine.proofs.Steps.{back_settles}
 use Rattle.txn.proofs.book.Book.back.Given.{Over}
 use Rattle.txn.proofs.book.Book.back.Goals as goal
 
@@ -32,7 +32,7 @@ laws g =
     g.met.B.Coded.within_as_told g.met.B.Coded.inverse_as_told g.met.B.Coded.after_as_told
 
 -- the step that was taken
-step : (g : Over) (c : goal.Joined-this g) → let i = c.self.inside in
+step : (g : Over) (c : goal.After-push g) → let i = c.self.inside in
     let old = book_of i.machine i.pending i.places i.next in
     BackRow g.B.Boosted.answers g.B.Boosted.leaves g.B.Boosted.inverse old.state c.args.number c.back.new.self × AppendsTo old (Record.Back c.args.number) (book_of c.back.new.self c.push.new.self i.places i.next)
 step g c =

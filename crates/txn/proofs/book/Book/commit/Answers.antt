@@ -1,14 +1,14 @@
 use Rattle.std.proofs.Common.{◌<◌, ◌+◌, length, refl, sym, subst, arith}
-use Rattle.records.specs.declared.record.Record.{Record}
-use Rattle.records.specs.Short.{AreShort}
-use Rattle.txn.specs.Machine.{IsRunning, CommitRow}
+use Rattle.record_format.specs.declared.record.Record.{Record}
+use Rattle.record_format.specs.Short.{AreShort}
+use Rattle.machine.specs.Machine.{IsRunning, CommitRow}
 use Rattle.txn.specs.Books.{BookState, AppendsTo}
 use Rattle.txn.specs.Views.{book_of}
-use Rattle.txn.specs.Waits.{HasRoomFor}
-use Rattle.txn.proofs.BookLaws.{BookLaws, book_laws}
+use Rattle.blocks.specs.Waits.{HasRoomFor}
+use Rattle.machine.proofs.BookLaws.{BookLaws, book_laws}
 use Rattle.txn.proofs.BookLemmas.{mark_length, recorded}
 use Rattle.txn.proofs.Kept.{commit_keeps}
-use Rattle.txn.proofs.Steps.{commit_settles}
+use Rattle.machine.proofs.Steps.{commit_settles}
 use Rattle.txn.proofs.book.Book.commit.Given.{Over}
 use Rattle.txn.proofs.book.Book.commit.Goals as goal
 

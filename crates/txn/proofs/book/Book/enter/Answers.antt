@@ -1,14 +1,14 @@
 use Rattle.std.proofs.Common.{◌<◌, ◌^◌, sym, subst, arith}
-use Rattle.records.specs.declared.record.Record.{Record}
-use Rattle.records.specs.Short.{AreShort}
-use Rattle.txn.specs.Machine.{BeginRow}
+use Rattle.record_format.specs.declared.record.Record.{Record}
+use Rattle.record_format.specs.Short.{AreShort}
+use Rattle.machine.specs.Machine.{BeginRow}
 use Rattle.txn.specs.Books.{CanEnter, Appends}
 use Rattle.txn.specs.Views.{book_of}
-use Rattle.txn.specs.Waits.{HasRoomFor}
-use Rattle.txn.proofs.BookLaws.{BookLaws, book_laws}
+use Rattle.blocks.specs.Waits.{HasRoomFor}
+use Rattle.machine.proofs.BookLaws.{BookLaws, book_laws}
 use Rattle.txn.proofs.BookLemmas.{mark_length, recorded}
 use Rattle.txn.proofs.Kept.{enter_keeps}
-use Rattle.txn.proofs.Upheld.{enter_room}
+use Rattle.machine.proofs.Upheld.{enter_room}
 use Rattle.txn.proofs.book.Book.enter.Given.{Over}
 use Rattle.txn.proofs.book.Book.enter.Goals as goal
 

@@ -1,10 +1,10 @@
 use Rattle.std.proofs.Common.{◌+◌, length, refl, ◌∙◌, ap}
-use Rattle.records.specs.Short.{AreShort}
+use Rattle.record_format.specs.Short.{AreShort}
 use Rattle.txn.specs.Views.{book_of}
-use Rattle.txn.specs.Waits.{waiting}
-use Rattle.txn.proofs.BookLaws.{BookLaws, book_laws}
+use Rattle.blocks.specs.Waits.{waiting}
+use Rattle.machine.proofs.BookLaws.{BookLaws, book_laws}
 use Rattle.txn.proofs.BookLemmas.{only_sealed, packed_image}
-use Rattle.txn.proofs.Frozen.{all_whole}
+use Rattle.blocks.proofs.Packed.{all_whole}
 use Rattle.txn.proofs.Kept.{freeze_keeps}
 use Rattle.txn.proofs.book.Book.freeze.Given.{Over}
 use Rattle.txn.proofs.book.Book.freeze.Goals as goal

@@ -1,16 +1,16 @@
 use Rattle.std.proofs.Common.{◌≡◌, ◌<◌, ◌+◌, ◌++◌, ◌∷◌, [], length, refl, sym, ◌∙◌, subst, arith}
 use Rattle.std.proofs.lemmas.Result.{err_from_is_err_and}
-use Rattle.records.specs.declared.record.Record.{Record}
-use Rattle.records.specs.Short.{AreShort}
+use Rattle.record_format.specs.declared.record.Record.{Record}
+use Rattle.record_format.specs.Short.{AreShort}
 use Rattle.catalog.specs.Making as making
-use Rattle.txn.specs.Machine.{MakeRow}
+use Rattle.machine.specs.Machine.{MakeRow}
 use Rattle.txn.specs.Books.{AppendsTo}
 use Rattle.txn.specs.Views.{book_of}
-use Rattle.txn.specs.Waits.{waiting}
-use Rattle.txn.proofs.BookLaws.{BookLaws, book_laws}
+use Rattle.blocks.specs.Waits.{waiting}
+use Rattle.machine.proofs.BookLaws.{BookLaws, book_laws}
 use Rattle.txn.proofs.BookLemmas.{recorded, make_refused, reserved_same}
 use Rattle.txn.proofs.Kept.{make_keeps}
-use Rattle.txn.proofs.Steps.{make_settles}
+use Rattle.machine.proofs.Steps.{make_settles}
 use Rattle.txn.proofs.book.Book.make.Given.{Over}
 use Rattle.txn.proofs.book.Book.make.Goals as goal
 

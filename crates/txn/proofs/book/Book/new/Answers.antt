@@ -1,8 +1,8 @@
 use Rattle.std.proofs.Common.{sym, subst}
-use Rattle.records.specs.Short.{AreShort}
+use Rattle.record_format.specs.Short.{AreShort}
 use Rattle.txn.specs.Books.{IsKept}
-use Rattle.txn.specs.Sound.{IsSound}
-use Rattle.txn.proofs.BookLaws.{BookLaws, book_laws}
+use Rattle.machine.specs.Sound.{IsSound}
+use Rattle.machine.proofs.BookLaws.{BookLaws, book_laws}
 use Rattle.txn.proofs.BookLemmas.{opened_is}
 use Rattle.txn.proofs.Kept.{opened_kept}
 use Rattle.txn.proofs.book.Book.new.Given.{Over}

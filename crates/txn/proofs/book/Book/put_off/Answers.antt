@@ -1,15 +1,15 @@
 use Rattle.std.proofs.Common.{◌≡◌, ◌++◌, ◌∷◌, [], refl, sym, subst, arith}
-use Rattle.records.specs.Short.{AreShort}
+use Rattle.record_format.specs.Short.{AreShort}
 use Rattle.boosted.specs.Shape.{CanDefer}
-use Rattle.txn.specs.Machine.{LaterRow}
+use Rattle.machine.specs.Machine.{LaterRow}
 use Rattle.txn.specs.Books.{AppendsTo, IsOpen, later_record}
 use Rattle.txn.specs.Views.{book_of}
-use Rattle.txn.specs.Waits.{waiting}
-use Rattle.txn.proofs.BookLaws.{BookLaws, book_laws}
+use Rattle.blocks.specs.Waits.{waiting}
+use Rattle.machine.proofs.BookLaws.{BookLaws, book_laws}
 use Rattle.txn.proofs.BookLemmas.{recorded}
 use Rattle.txn.proofs.Kept.{later_keeps}
-use Rattle.txn.proofs.Upheld.{call_room}
-use Rattle.txn.proofs.Steps.{later_settles}
+use Rattle.machine.proofs.Upheld.{call_room}
+use Rattle.machine.proofs.Steps.{later_settles}
 use Rattle.txn.proofs.book.Book.put_off.Given.{Over}
 use Rattle.txn.proofs.book.Book.put_off.Goals as goal
 
@@ -39,8 +39,8 @@ step g c =
     let put : waiting c.push.new.self ≡ waiting c.reserve.new.self ++ entry ∷ [] = subst (λ r. waiting c.push.new.self ≡ waiting c.reserve.new.self ++ r ∷ []) c.requires.entry c.push.ensures.records in
     let asked = subst (λ b. IsOpen (CanDefer g.B.Boosted.belongs b.state.now c.args.put.at c.args.put.call) b c.args.number) (sym c.self.view_is) c.requires.open in
     let written = recorded i.machine i.pending i.places i.next entry c.later.new.self c.reserve.new.self c.push.new.self i.places i.next
-    asked.room c.in_ok-reserve.ensures.records c.in_ok-reserve.ensures.freezes c.in_ok-reserve.ensures.handed put c.push.ensures.freezes c.push.ensures.handed (omega arith) in
-    (c.in_ok-later.ensures.ok, record { appends = written; next = refl })
+    asked.room c.in_default.ensures.records c.in_default.ensures.freezes c.in_default.ensures.handed put c.push.ensures.freezes c.push.ensures.handed (omega arith) in
+    (c.in_default-later.ensures.ok, record { appends = written; next = refl })
 
 pub invariant_of-self-2 : goal.invariant_of-self-2
 invariant_of-self-2 g c = later_keeps g.B.Boosted.answers g.B.Boosted.leaves g.B.Parts.makes g.B.Boosted.need g.B.Boosted.inverse g.B.Boosted.belongs g.B.Parts.names g.B.Boosted.within (λ s. AreShort (g.B.Coded.collections s)) (laws g) _ c.self.invariant c.args.number c.args.put.at c.args.put.call _ (step g c).0 (step g c).1 (omega (arith, c.if-prove.false))

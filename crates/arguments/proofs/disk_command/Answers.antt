@@ -1,0 +1,10 @@
+use Rattle.std.proofs.Common.{rules, ap₂, ◌∙◌, ◌||◌}
+use Rattle.std.proofs.lemmas.Result.{IfOk-weaker}
+use Rattle.clap.specs.Words.{with_rule}
+use Rattle.arguments.proofs.disk_command.Goals as goal
+
+pub returns : goal.returns
+returns c =
+    IfOk-weaker c.arg.result _ _
+    (λ whole h. (h.shape (search rules) ∙ ap₂ with_rule c.new.ensures.app c.path.ensures.rule, h.globals ∙ ap₂ ◌||◌ c.new.ensures.local c.path.ensures.alone))
+    c.arg.ensures

@@ -1,0 +1,152 @@
+//! The program's command line.
+#![tactic(auto)]
+
+ghost use Rattle.std.specs.Prelude.{◌≡◌, codes, false, true, map, IfOk, IfErr, Some, IfSome, IsSomeAnd, string_bytes};
+ghost use Rattle.clap.specs.declared.builder.command.Command.TheViews.{out-Command};
+ghost use Rattle.clap.specs.Words.{app_of, found_of, first_of, rows_of, rule_of, subcommand_rows_of};
+ghost use Rattle.arguments.specs.Arguments.{path_rule, area_rule, disk_app, format_app, play_app, program_app, Asks, IsNumberOf, IsAskedBy};
+
+use clap::error::ErrorKind;
+use clap::{Arg, ArgAction, ArgMatches, Error, value_parser};
+use std::alloc::{AllocError, Global};
+
+/// What the program is asked to do, with the paths as they were written.
+#[derive(Drop, Debug)]
+pub enum Task {
+    /// Makes the file, or sets its size, and formats it.
+    Format { disk: String, area: u64 },
+    /// Runs a script on the store in the file.
+    Play { disk: String, script: String },
+    /// Prints the content of the store in the file.
+    Show { disk: String },
+    /// Counts what the store in the file holds, and writes nothing.
+    Check { disk: String },
+    /// Runs the stored run.
+    Demo,
+}
+
+// A path that has to stand on the command line.
+fn path<'a>(alloc: Global, id: &'a str) -> Arg<'a>
+    ensures rule { rule_of result ≡ path_rule id.entry.now }
+    ensures alone { result.global ≡ false }
+{
+    Arg::new(alloc, id).required(true).action(ArgAction::Set)
+}
+
+// The size of an area.
+fn area<'a>(alloc: Global) -> Arg<'a>
+    ensures rule { rule_of result ≡ area_rule }
+    ensures alone { result.global ≡ false }
+{
+    Arg::new(alloc, "area")
+        .long("area")
+        .value_name("N")
+        .required(true)
+        .action(ArgAction::Set)
+        .value_parser(value_parser!(u64))
+}
+
+// The command that formats a disk.
+fn format_command<'a>(alloc: Global) -> Result<clap::Command<'a>, AllocError>
+    ensures { IfOk result (λ c. (app_of c ≡ format_app) × ((out-Command c).has_globals ≡ false)) }
+{
+    clap::Command::new(alloc, "format")
+        .arg(path(alloc, "DISK"))?
+        .arg(area(alloc))
+}
+
+// The command that plays a script on a disk.
+fn play_command<'a>(alloc: Global) -> Result<clap::Command<'a>, AllocError>
+    ensures { IfOk result (λ c. (app_of c ≡ play_app) × ((out-Command c).has_globals ≡ false)) }
+{
+    clap::Command::new(alloc, "play")
+        .arg(path(alloc, "DISK"))?
+        .arg(path(alloc, "SCRIPT"))
+}
+
+// A command on a disk alone.
+fn disk_command<'a>(alloc: Global, name: &'a str) -> Result<clap::Command<'a>, AllocError>
+    ensures { IfOk result (λ c. (app_of c ≡ disk_app name.entry.now) × ((out-Command c).has_globals ≡ false)) }
+{
+    clap::Command::new(alloc, name).arg(path(alloc, "DISK"))
+}
+
+// The command lines that are understood.
+fn program<'a>(alloc: Global) -> Result<clap::Command<'a>, AllocError>
+    ensures { IfOk result (λ c. app_of c ≡ program_app) }
+{
+    clap::Command::new(alloc, "boost")
+        .subcommand_required(true)
+        .subcommand(format_command(alloc)?)?
+        .subcommand(play_command(alloc)?)?
+        .subcommand(disk_command(alloc, "show")?)?
+        .subcommand(disk_command(alloc, "check")?)?
+        .subcommand(clap::Command::new(alloc, "demo"))
+}
+
+fn text(alloc: Global, found: &ArgMatches<'_>, id: &str) -> Result<Option<String>, AllocError>
+    ensures { IfOk result (λ text. IfSome text (λ t. first_of id.now (rows_of (found_of found.now)) ≡ Some (string_bytes t))) }
+{
+    match found.get_str(id) {
+        Some(text) => Ok(Some(String::from_str(alloc, text)?)),
+        None => Ok(None),
+    }
+}
+
+fn number(found: &ArgMatches<'_>, id: &str) -> Option<u64>
+    ensures { IfSome result (λ n. IsSomeAnd (first_of id.now (rows_of (found_of found.now))) (IsNumberOf n)) }
+{
+    found.get_str(id)?.parse().ok()
+}
+
+// The command that the matches name.
+fn named(alloc: Global, matches: &ArgMatches<'_>) -> Result<Option<Task>, AllocError>
+    ensures { IfOk result (λ task. IfSome task (λ t. IsSomeAnd (subcommand_rows_of matches.now) (Asks t))) }
+{
+    let Some((name, found)) = matches.subcommand() else {
+        return Ok(None);
+    };
+    match name {
+        "format" => {
+            let Some(disk) = text(alloc, found, "DISK")? else {
+                return Ok(None);
+            };
+            let Some(area) = number(found, "area") else {
+                return Ok(None);
+            };
+            Ok(Some(Task::Format { disk, area }))
+        }
+        "play" => {
+            let Some(disk) = text(alloc, found, "DISK")? else {
+                return Ok(None);
+            };
+            let Some(script) = text(alloc, found, "SCRIPT")? else {
+                return Ok(None);
+            };
+            Ok(Some(Task::Play { disk, script }))
+        }
+        "show" => match text(alloc, found, "DISK")? {
+            Some(disk) => Ok(Some(Task::Show { disk })),
+            None => Ok(None),
+        },
+        "check" => match text(alloc, found, "DISK")? {
+            Some(disk) => Ok(Some(Task::Check { disk })),
+            None => Ok(None),
+        },
+        "demo" => Ok(Some(Task::Demo)),
+        _ => Ok(None),
+    }
+}
+
+/// The command that the words ask for; the first word is the program's name. Refused with clap's error, which has
+/// the text to print.
+pub fn command<'a>(alloc: Global, words: &'a [&'a str]) -> Result<Task, Error>
+    ensures { IfOk result (λ task. IsAskedBy task (map (λ word. word.now) words.entry.now)) }
+{
+    let mut program = program(alloc)?;
+    let matches = program.try_get_matches_from_mut(words)?;
+    match named(alloc, &matches)? {
+        Some(asked) => Ok(asked),
+        None => Err(program.error(ErrorKind::MissingSubcommand, "no command")?),
+    }
+}

@@ -1,0 +1,4 @@
+pub mod Places
+pub mod DraftLemmas
+pub mod PendingLemmas
+pub mod Packed

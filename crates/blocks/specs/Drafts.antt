@@ -1,0 +1,39 @@
+-- Records spelled into the blocks in which they will be handed over.
+use Rattle.std.specs.Prelude.{◌≡◌, ℕ, ◌+◌, ◌<◌, ◌≤◌, List, [], ◌∷◌, ◌++◌, length, drop}
+use Rattle.record_format.specs.declared.record.Record.{Record}
+use Rattle.record_format.specs.Records.{call_record, spelled, spelling}
+use Rattle.blocks.specs.declared.noted.Noted.{Noted}
+use Rattle.blocks.specs.declared.noted.Noted.TheVariants.{Start, After', Called'}
+
+-- the records that were noted, in order
+abbrev pub noted_records : Noted → List Record
+noted_records Start = []
+noted_records (After' no_bytes earlier noted) = noted_records earlier ++ noted.value ∷ []
+noted_records (Called' no_bytes earlier n at call reply back) = noted_records earlier ++ Record.Call (call_record n.value at.value call.value reply.value back.value) ∷ []
+
+-- The records of a block in the making; how many bytes are written, and for how many there is room.
+pub record Drafted : Type 0 where
+  pub records : List Record
+  pub len : ℕ
+  pub capacity : ℕ
+
+-- The head is there, and room for so many bytes more and a closed gate.
+pub record HasPlace (d : Drafted) (more : ℕ) : Type 0 where
+  pub head : 5 ≤ d.len
+  pub room : d.len + more < d.capacity
+
+-- The bytes are five for a head and then the records, with room for a closed gate. Where there is no record the head may be missing.
+pub record IsDraft (bytes : List ℕ) (capacity : ℕ) (records : List Record) : Type 0 where
+  pub body : drop 5 bytes ≡ spelling records
+  pub head : 0 < length records → (5 ≤ length bytes) × (length bytes < capacity)
+
+-- The records fill a block, of which one more would not be a part.
+abbrev pub Fills : List Record → List Record → Type 0
+Fills rs [] = ⊥
+Fills rs (r ∷ behind) = 65535 < length (spelling rs) + length (spelled r)
+
+-- What goes into the blocks one after another: each as full as it can be.
+abbrev pub ArePacked : List (List Record) → Type 0
+ArePacked [] = Unit {0}
+ArePacked (b ∷ []) = length (spelling b) ≤ 65535
+ArePacked (b ∷ c ∷ bs) = (0 < length b) × (length (spelling b) ≤ 65535) × Fills b c × ArePacked (c ∷ bs)

@@ -1,0 +1,202 @@
+// A block in the making.
+ghost use Rattle.std.specs.Prelude.{◌≡◌, ◌+◌, ◌≤◌, ◌<◌, ◌^◌, [], ◌∷◌, ◌++◌, ◌↔◌, IsTrue, length, drop, ◌-◌, vec_len, vec_capacity, OnOk, OnErr, IfSome, IfErr, IsOkUnless};
+ghost use Rattle.std.specs.Int.{w32, to_be_bytes};
+ghost use Rattle.gate_block.specs.Row.{IsBlockOf};
+ghost use Rattle.blocks.specs.Drafts.{HasPlace};
+ghost use Rattle.blocks.specs.Offers.{IsOffered};
+ghost use Rattle.record_format.specs.Acts.{places};
+ghost use Rattle.record_format.specs.Records.{call_record, spelled, spelling, Fits, FitsCall, FitsReply};
+
+use crate::block::{Block, Outbox};
+use crate::noted::Noted;
+use calls::{Call, Refusal, Reply};
+use gate_block::{BLOCK_HEAD, close_block};
+use record_format::{Record, encode, encode_call};
+use std::alloc::Global;
+use std::marker::Model;
+use std::snapshot::Snapshot;
+
+/// How many records were handed over, and how many of them commit something.
+#[derive(Clone, Copy, Debug)]
+pub struct Handed {
+    pub end: u64,
+    pub place: u64,
+}
+
+/// Records spelled one behind another, into the block in which they will be handed over.
+#[derive(Drop)]
+pub(crate) struct Draft {
+    bytes: Vec<u8>,
+    noted: Noted,
+    // how many records they are, and how many of them commit something
+    count: usize,
+    places: u64,
+}
+
+impl Model for Draft {
+    ghost use Rattle.std.specs.Prelude.{◌≡◌, length, vec_len, vec_capacity};
+    ghost use Rattle.record_format.specs.Acts as acts;
+    ghost use Rattle.blocks.specs.Drafts.{Drafted, IsDraft, noted_records};
+
+    ghost Value = { Drafted };
+
+    ghost view = { λ d. record { records = noted_records d.noted; len = vec_len d.bytes; capacity = vec_capacity d.bytes } };
+
+    ghost invariant = { λ d. IsDraft d.bytes.items (vec_capacity d.bytes) (noted_records d.noted) × (d.count ≡ length (noted_records d.noted)) × (d.places ≡ acts.places (noted_records d.noted)) };
+}
+
+impl Draft {
+    // No record. It takes no memory.
+    pub(crate) fn new(alloc: Global) -> Self
+        ensures { result.records ≡ [] }
+    {
+        Self {
+            bytes: Vec::new(alloc),
+            noted: Noted::Start,
+            count: 0,
+            places: 0,
+        }
+    }
+
+    // Whether there is no record.
+    pub(crate) fn is_empty(&self) -> bool
+        ensures { IsTrue result ↔ (self.now.records ≡ []) }
+    {
+        self.count == 0
+    }
+
+    // How many bytes the records take.
+    pub(crate) fn len(&self) -> usize
+        ensures { result ≡ length (spelling self.now.records) }
+    {
+        self.bytes.len().saturating_sub(BLOCK_HEAD)
+    }
+
+    // Makes room for a record of the length. NoMemory leaves the records.
+    pub(crate) fn reserve(&mut self, len: usize) -> Result<(), Refusal>
+        requires { len ≤ 65535 }
+        ensures room { OnOk result (HasPlace self.new len) }
+        ensures records { self.new.records ≡ self.old.records }
+        ensures refusal { IsOkUnless result Refusal.NoMemory }
+    {
+        if self.bytes.len() < BLOCK_HEAD {
+            self.bytes.resize(BLOCK_HEAD, 0)?;
+        }
+        Ok(self.bytes.reserve(len + 1)?)
+    }
+
+    // Writes the record behind the others. It takes no memory.
+    pub(crate) fn push(&mut self, entry: &Record)
+        requires fits { Fits entry.now }
+        requires room { HasPlace self.old (length (spelled entry.now)) }
+        requires few { length self.old.records < 2 ^ 32 }
+        ensures { self.new.records ≡ self.old.records ++ entry.now ∷ [] }
+    {
+        let _written = encode(entry, &mut self.bytes);
+        self.noted = Noted::After(Snapshot::of(&self.noted), Snapshot::of(entry));
+        self.count += 1;
+        self.places += places_of(entry);
+    }
+
+    // Writes the record of a call behind the others, from its parts. It takes no memory.
+    pub(crate) fn push_call(
+        &mut self,
+        number: u64,
+        at: u8,
+        asked: &Call,
+        answer: &Reply,
+        back: &Option<Call>,
+    )
+        requires asked { FitsCall asked.now }
+        requires answer { FitsReply answer.now }
+        requires back { IfSome back.now FitsCall }
+        requires room { HasPlace self.old (length (spelled (Record.Call (call_record number at asked.now answer.now back.now)))) }
+        requires few { length self.old.records < 2 ^ 32 }
+        ensures { self.new.records ≡ self.old.records ++ Record.Call (call_record number at asked.now answer.now back.now) ∷ [] }
+    {
+        let _written = encode_call(number, at, asked, answer, back.as_ref(), &mut self.bytes);
+        self.noted = Noted::Called(
+            Snapshot::of(&self.noted),
+            Snapshot::of(&number),
+            Snapshot::of(&at),
+            Snapshot::of(asked),
+            Snapshot::of(answer),
+            Snapshot::of(back),
+        );
+        self.count += 1;
+    }
+
+    // How many records they are.
+    pub(crate) fn count(&self) -> usize
+        ensures { result ≡ length self.now.records }
+    {
+        self.count
+    }
+
+    // The records as one whole block. It takes no memory.
+    pub(crate) fn into_block(self) -> Vec<u8>
+        requires some { 0 < length self.records }
+        requires short { length (spelling self.records) ≤ 65535 }
+        ensures { IsBlockOf (spelling self.records) result.items }
+    {
+        let Self { mut bytes, .. } = self;
+        close_block(&mut bytes);
+        bytes
+    }
+
+    // Hands the records over as one block, behind those that wait in the outbox, and counts them. Where the outbox is
+    // full they come back, and nothing is changed.
+    pub(crate) fn offer<O: Outbox>(self, handed: &mut Handed, out: &mut O) -> Result<(), Draft>
+        requires some { 0 < length self.records }
+        requires short { length (spelling self.records) ≤ 65535 }
+        requires end { handed.old.end + length self.records < 2 ^ 64 }
+        requires place { handed.old.place + places self.records < 2 ^ 64 }
+        ensures handed { OnOk result (IsOffered self.records handed.old handed.new (O.waiting out.old) (O.waiting out.new)) }
+        ensures full { OnErr result (O.is_full out.old) }
+        ensures same { OnErr result ((out.new ≡ out.old) × (handed.new ≡ handed.old)) }
+        ensures back { IfErr result (λ draft. draft.records ≡ self.records) }
+    {
+        let Self {
+            mut bytes,
+            noted,
+            count,
+            places,
+        } = self;
+        close_block(&mut bytes);
+        let next = Handed {
+            end: handed.end + count as u64,
+            place: handed.place + places,
+        };
+        let block = Block {
+            bytes,
+            end: next.end,
+            place: next.place,
+        };
+        match out.offer(block) {
+            Ok(()) => {
+                *handed = next;
+                Ok(())
+            }
+            Err(block) => {
+                let Block { mut bytes, .. } = block;
+                bytes.pop();
+                Err(Self {
+                    bytes,
+                    noted,
+                    count,
+                    places,
+                })
+            }
+        }
+    }
+}
+
+// How many transactions the record commits.
+fn places_of(entry: &Record) -> u64
+    ensures { result ≡ places (entry.now ∷ []) }
+{
+    match entry {
+        Record::Make(_, _) | Record::Commit(_) => 1,
+        _ => 0,
+    }
+}

@@ -1,5 +1,0 @@
-use Rattle.boost.proofs.ScriptPhrases.{bump_gives}
-use Rattle.boost.proofs.script.phrases.bump.Goals as goal
-
-pub returns-in-Some : goal.returns-in-Some
-returns-in-Some c = bump_gives c.number.result c.args.text.now c.in-Some.rest.now c.in-Some.ensures.some c.number.ensures

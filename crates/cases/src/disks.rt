@@ -1,0 +1,94 @@
+// Questions of the disk itself: its bytes, a call that fails, and a stop.
+use crate::bench::Bench;
+use crate::brief::write_bytes;
+use crate::values::{self, not_understood, number, pair};
+use disk_model::{Disk, MemDisk};
+use std::alloc::{AllocError, Global};
+use std::io::{self, Write};
+
+/// Bytes of a disk, so many from one place on.
+pub fn bytes_at(alloc: Global, disk: &mut MemDisk, at: u64, count: u64) -> io::Result<Vec<u8>> {
+    if at > disk.size() || count > disk.size() - at {
+        return Err(not_understood());
+    }
+    let mut bytes = vec![in alloc; 0; count as usize]?;
+    match disk.read_at(at, &mut bytes) {
+        Ok(()) => Ok(bytes),
+        Err(_) => Err(not_understood()),
+    }
+}
+
+/// Puts bytes in the place of those that stand there.
+pub fn put_at(disk: &mut MemDisk, at: u64, bytes: &[u8]) -> io::Result<()> {
+    if at > disk.size() || bytes.len() as u64 > disk.size() - at {
+        return Err(not_understood());
+    }
+    match disk.write_at(at, bytes) {
+        Ok(()) => Ok(()),
+        Err(_) => Err(not_understood()),
+    }
+}
+
+/// Prints bytes of the disk: where they begin, and how many.
+pub fn read(alloc: Global, bench: &mut Bench, text: &str, out: &mut impl Write) -> io::Result<()> {
+    let (at, count) = pair(text, " ")?;
+    let bytes = bytes_at(alloc, &mut bench.disk, number(at)?, number(count)?)?;
+    write_bytes(bytes.as_slice(), out)
+}
+
+/// Writes bytes to the disk: where they begin, and which.
+pub fn write(alloc: Global, bench: &mut Bench, text: &str) -> io::Result<()> {
+    let (at, rest) = pair(text, " ")?;
+    let bytes = values::bytes(alloc, rest)?;
+    put_at(&mut bench.disk, number(at)?, bytes.as_slice())
+}
+
+/// A disk of so many zeros.
+pub fn resize(alloc: Global, bench: &mut Bench, text: &str) -> io::Result<()> {
+    bench.disk = MemDisk::new(alloc, number(text)?)?;
+    Ok(())
+}
+
+/// The call of the disk of this number from now fails.
+pub fn fail(bench: &mut Bench, text: &str) -> io::Result<()> {
+    bench.disk.fail_at(number(text)?);
+    Ok(())
+}
+
+/// Each byte that a stop may leave otherwise than a read gives, with this value.
+pub fn all_as(alloc: Global, size: u64, value: u8) -> Result<Vec<(u64, u8)>, AllocError> {
+    let mut picks = Vec::new(alloc);
+    for at in (0..520).chain(4_096..size) {
+        picks.push((at, value))?;
+    }
+    Ok(picks)
+}
+
+// The bytes that are named, each as its place, a colon and its value.
+fn chosen(alloc: Global, text: &str) -> io::Result<Vec<(u64, u8)>> {
+    let mut picks = Vec::new(alloc);
+    for word in text.split(' ') {
+        let (at, value) = pair(word, ":")?;
+        picks.push((number(at)?, values::byte(value)?))?;
+    }
+    Ok(picks)
+}
+
+// Which bytes a stop leaves otherwise than a read gives: none, all with a value, or those that are named.
+fn picks(alloc: Global, size: u64, text: &str) -> io::Result<Vec<(u64, u8)>> {
+    if text.is_empty() {
+        return Ok(Vec::new(alloc));
+    }
+    match text.strip_prefix("all ") {
+        Some(value) => Ok(all_as(alloc, size, values::byte(value)?)?),
+        None => chosen(alloc, text),
+    }
+}
+
+/// Stops the disk.
+pub fn stop(alloc: Global, bench: &mut Bench, text: &str) -> io::Result<()> {
+    let picks = picks(alloc, bench.disk.size(), text)?;
+    let disk = bench.take_disk(alloc)?;
+    bench.disk = disk.stop(picks.as_slice());
+    Ok(())
+}

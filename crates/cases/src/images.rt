@@ -1,0 +1,77 @@
+// Images that are written to a disk by hand.
+use crate::bench::{Bench, empty_store};
+use crate::disks::put_at;
+use crate::runs::{self, Ran, run_on, text, write_ran};
+use crate::values::{bytes, not_understood};
+use boost::Task;
+use disk_model::MemDisk;
+use std::alloc::Global;
+use std::io::{self, Write};
+
+// Where the first area stands.
+const FIRST: u64 = 4096;
+
+// A block with this body: an open gate, the length, the body, and a closed gate.
+fn block(alloc: Global, body: &[u8]) -> io::Result<Vec<u8>> {
+    let Ok(length) = u32::try_from(body.len()) else {
+        return Err(not_understood());
+    };
+    let mut bytes = Vec::from_slice(alloc, &[0xa7])?;
+    bytes.extend_from_slice(&length.to_be_bytes())?;
+    bytes.extend_from_slice(body)?;
+    bytes.push(0)?;
+    Ok(bytes)
+}
+
+// Writes a block with the body that is told at this place, and answers where the next one stands. A dash is for none: the
+// closed gate stays.
+fn write_block(alloc: Global, disk: &mut MemDisk, at: u64, body: &str) -> io::Result<u64> {
+    if body == "-" {
+        return Ok(at);
+    }
+    let body = bytes(alloc, body)?;
+    let block = block(alloc, body.as_slice())?;
+    put_at(disk, at, block.as_slice())?;
+    Ok(at.saturating_add(block.len() as u64).saturating_sub(1))
+}
+
+// Writes blocks from the first area's beginning on, with a bar between the bodies of each two. Answers where the last one
+// stands.
+fn write_blocks(alloc: Global, disk: &mut MemDisk, bodies: &str) -> io::Result<u64> {
+    let mut last = FIRST;
+    let mut next = FIRST;
+    for body in bodies.split(" | ") {
+        last = next;
+        next = write_block(alloc, disk, last, body)?;
+    }
+    Ok(last)
+}
+
+/// An empty store whose image is these blocks: prints where the last one stands, what the store is checked as, and what
+/// it shows, which opens it. That is what the disk of the case is then.
+pub fn open(
+    alloc: Global,
+    bench: &mut Bench,
+    bodies: &str,
+    out: &mut impl Write,
+) -> io::Result<()> {
+    let mut disk = empty_store(alloc)?;
+    let last = write_blocks(alloc, &mut disk, bodies)?;
+    writeln!(out, "last block at {last}")?;
+    let checked = run_told(alloc, &runs::to_check(alloc), disk, out)?;
+    bench.disk = run_told(alloc, &runs::to_show(alloc), checked, out)?;
+    Ok(())
+}
+
+// Carries a task out on a disk, prints what it answers, and hands the disk back.
+fn run_told(
+    alloc: Global,
+    task: &Task,
+    disk: MemDisk,
+    out: &mut impl Write,
+) -> io::Result<MemDisk> {
+    let ran = run_on(alloc, task, disk, &[]);
+    write_ran(ran.status, text(&ran.out), text(&ran.err), usize::MAX, out)?;
+    let Ran { disk, .. } = ran;
+    Ok(disk)
+}

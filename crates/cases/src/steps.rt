@@ -1,0 +1,156 @@
+// Steps of the core, which no script can take alone.
+ghost use Rattle.checkpoint.specs.Keepers.{IsFresh};
+
+use crate::bench::Bench;
+use crate::runs::text;
+use crate::values::{byte, not_understood, number, pair};
+use boost::Said;
+use calls::{Call, Kind, Name, Refusal};
+use catalog::Catalog;
+use checkpoint::Keeper;
+use disk_model::MemDisk;
+use recovery::open;
+use std::alloc::Global;
+use std::io::{self, Write};
+use txn::Book;
+use world::{Answer, Step, World, play};
+
+fn bump(by: &str) -> io::Result<Call> {
+    match by.parse() {
+        Ok(by) => Ok(Call::Bump(by)),
+        Err(_) => Err(not_understood()),
+    }
+}
+
+// The call that words ask for.
+fn call(text: &str) -> io::Result<Call> {
+    match text.split_once(" ") {
+        None if text == "read" => Ok(Call::Read),
+        Some(("bump", by)) => bump(by),
+        Some(("add", key)) => Ok(Call::SetAdd(number(key)?)),
+        _ => Err(not_understood()),
+    }
+}
+
+// A transaction's number, a collection and a call.
+fn asked(text: &str) -> io::Result<(u64, u8, Call)> {
+    let (owner, rest) = pair(text, " ")?;
+    let (collection, asked) = pair(rest, " ")?;
+    Ok((number(owner)?, byte(collection)?, call(asked)?))
+}
+
+// A step that speaks of a transaction or of a name.
+fn step_of(alloc: Global, word: &str, rest: &str) -> io::Result<Step> {
+    match word {
+        "make" => Ok(Step::Make(Name::new(String::from_str(alloc, rest)?), Kind::Counter)),
+        "enter" => Ok(Step::Enter(number(rest)?)),
+        "call" => {
+            let (owner, collection, call) = asked(rest)?;
+            Ok(Step::Call(owner, collection, call))
+        }
+        "later" => {
+            let (owner, collection, call) = asked(rest)?;
+            Ok(Step::Later(owner, collection, call))
+        }
+        "commit" => Ok(Step::Commit(number(rest)?)),
+        "back" => Ok(Step::Back(number(rest)?)),
+        "ended" => Ok(Step::Ended(number(rest)?)),
+        _ => Err(not_understood()),
+    }
+}
+
+// The step that a line tells.
+fn step(alloc: Global, line: &str) -> io::Result<Step> {
+    match line {
+        "draw" => Ok(Step::Draw),
+        "cut" => Ok(Step::Cut),
+        "turn" => Ok(Step::Turn),
+        "freeze" => Ok(Step::Freeze),
+        "piece" => Ok(Step::Piece),
+        "flip" => Ok(Step::Flip),
+        "look" => Ok(Step::Look),
+        _ => {
+            let (word, rest) = pair(line, " ")?;
+            step_of(alloc, word, rest)
+        }
+    }
+}
+
+// The steps that the lines of a script tell.
+fn steps(alloc: Global, script: &str) -> io::Result<Vec<Step>> {
+    let mut steps = Vec::new(alloc);
+    for line in script.lines() {
+        steps.push(step(alloc, line)?)?;
+    }
+    Ok(steps)
+}
+
+fn world_of(
+    alloc: Global,
+    book: Book<Catalog>,
+    keeper: Keeper<MemDisk>,
+) -> Result<World<MemDisk>, (Refusal, MemDisk)>
+    requires { IsFresh keeper }
+{
+    World::new(alloc, book, keeper)
+}
+
+// The world of the store of a disk.
+fn world_on(alloc: Global, disk: MemDisk) -> Result<World<MemDisk>, (Refusal, MemDisk)> {
+    match open(alloc, disk) {
+        Ok((book, keeper)) => world_of(alloc, book, keeper),
+        Err(refused) => Err(refused),
+    }
+}
+
+/// Takes the steps that the script tells in the world of the disk, and prints what each is answered, a turn as a script
+/// is told it.
+pub fn take(alloc: Global, bench: &mut Bench, out: &mut impl Write) -> io::Result<()> {
+    let script = bench.take_script(alloc);
+    let steps = steps(alloc, text(&script))?;
+    let disk = bench.take_disk(alloc)?;
+    bench.disk = match world_on(alloc, disk) {
+        Ok(world) => take_on(alloc, world, steps.as_slice(), out)?,
+        Err((refusal, disk)) => tell_refused(refusal, disk, out)?,
+    };
+    Ok(())
+}
+
+// Prints why there is no world, and answers the disk.
+fn tell_refused(refusal: Refusal, disk: MemDisk, out: &mut impl Write) -> io::Result<MemDisk> {
+    writeln!(out, "{refusal}")?;
+    Ok(disk)
+}
+
+// Takes steps in a world, prints what they are answered, and answers its disk.
+fn take_on(
+    alloc: Global,
+    world: World<MemDisk>,
+    steps: &[Step],
+    out: &mut impl Write,
+) -> io::Result<MemDisk> {
+    let mut world = world;
+    match play(alloc, &mut world, steps) {
+        Ok(answers) => tell_all(&answers, out)?,
+        Err(refusal) => writeln!(out, "{refusal}")?,
+    }
+    Ok(world.into_disk())
+}
+
+fn tell_all(answers: &Vec<Answer>, out: &mut impl Write) -> io::Result<()> {
+    let mut number = 0u64;
+    for answer in answers {
+        number = number.saturating_add(1);
+        write!(out, "{number}: ")?;
+        tell(answer, out)?;
+    }
+    Ok(())
+}
+
+fn tell(answer: &Answer, out: &mut impl Write) -> io::Result<()> {
+    match answer {
+        Answer::Turned(turn) => writeln!(out, "{}", Said::Turned(*turn)),
+        Answer::Refused(refusal) => writeln!(out, "{}", Said::Refused(*refusal)),
+        _ => writeln!(out, "{answer:?}"),
+    }
+}

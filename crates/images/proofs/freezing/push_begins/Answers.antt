@@ -1,0 +1,9 @@
+use Rattle.images.proofs.Frozen.{begun_none, begun_one}
+use Rattle.images.proofs.freezing.push_begins.Goals as goal
+
+pub loop-number-init : goal.loop-number-init
+loop-number-init c = begun_none c.args.packer.now c.args.live.now.live c.requires
+
+pub loop-number-preserved : goal.loop-number-preserved
+loop-number-preserved c =
+    begun_one c.args.packer.now c.loop-number.packer c.push.new.self c.args.live.now.live c.loop-number.last c.in-Some.number c.loop-number.invariant c.in-Some.ensures.found (c.requires c.in-Some.number c.in-Some.ensures.found.lives) c.in_ok-push.ensures.written

@@ -1,0 +1,2 @@
+pub mod LiveRecords
+pub mod Images

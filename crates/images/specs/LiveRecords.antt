@@ -1,0 +1,25 @@
+-- What an image tells of the live transactions.
+use Rattle.std.specs.Prelude.{ℕ, Bool, true, List, [], ◌∷◌, Option, Some}
+use Rattle.std.specs.FinMap as maps
+use Rattle.std.specs.List.{flat_map}
+use Rattle.calls.specs.declared.call.Call.{Call}
+use Rattle.calls.specs.declared.reply.Reply.{Reply}
+use Rattle.calls.specs.Transactions.{Entry, Asked, PutOff}
+use Rattle.undo_log.specs.Logs.{Statuses}
+use Rattle.record_format.specs.declared.record.Record.{Record}
+use Rattle.record_format.specs.Records.{call_record}
+use Rattle.machine.specs.Machine.{State}
+
+-- the record, unless its transaction is falling
+abbrev pub unless_falling : Option Bool → Record → List Record
+unless_falling (Some true) r = []
+unless_falling other r = r ∷ []
+
+-- What an image tells of one entry of a live transaction: each call, and what was put off by one that is not falling.
+abbrev pub live_record : (Call → Reply → Option Call) → Statuses → ℕ × Entry → List Record
+live_record inverse live (n, Asked e) = Record.LiveCall (call_record n e.at e.call e.reply (inverse e.call e.reply)) ∷ []
+live_record inverse live (n, PutOff at call) = unless_falling (maps.get live n) (Record.LiveLater (record { number = n; collection = at; call = call }))
+
+-- what it tells of all of them, in the order asked
+abbrev pub live_records : {S : Type 0} → (Call → Reply → Option Call) → State S → List Record
+live_records inverse s = flat_map (live_record inverse s.live) s.entries

@@ -1,0 +1,4 @@
+pub mod TakenBack
+pub mod LoadAlikes
+pub mod Loaded
+pub mod LoadRows

@@ -1,0 +1,6 @@
+pub mod Theory
+pub mod Machine
+pub mod Machines
+pub mod Transactions
+pub mod Sound
+pub mod Views

@@ -1,0 +1,9 @@
+-- A machine as contracts see it, from its parts.
+use Rattle.std.specs.Prelude.{ℕ}
+use Rattle.abstract_locks.specs.Holds.{Holdings}
+use Rattle.undo_log.specs.Logs.{Log}
+use Rattle.machine.specs.Machine.{State}
+
+-- the state of a machine
+abbrev pub state_of : {S : Type 0} → S → Holdings → Log → (wear : ℕ) → State S
+state_of now needs log wear = record { now = now; live = log.live; entries = log.entries; holds = needs.holds; wear = wear }

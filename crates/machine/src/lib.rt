@@ -1,0 +1,10 @@
+//! The machine over records: collections with the live transactions on them, one step a record.
+#![tactic(auto)]
+
+mod laters;
+mod machine;
+mod undoing;
+
+pub use laters::is_going;
+pub use machine::{Machine, unmade};
+pub use undoing::inverse;

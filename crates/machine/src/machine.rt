@@ -1,0 +1,551 @@
+// The machine over records: the same steps as the book's, of records that stand already.
+ghost use Rattle.std.specs.Prelude.{◌≡◌, ◌↔◌, ℕ, ◌+◌, ◌<◌, ◌≤◌, ◌^◌, [], false, None, List, IsTrue, IfSome, IfNone, IfErr, Ok, OnOk, OnErr, IsOkUnless, length};
+ghost use Rattle.std.specs.FinMap as maps;
+ghost use Rattle.calls.specs.Names.{IsName};
+ghost use Rattle.calls.specs.Transactions.{Leads, Serial, committed, own, others};
+ghost use Rattle.undo_log.specs.Entries as logs;
+ghost use Rattle.undo_log.specs.Entries.{HasNoCall};
+ghost use Rattle.catalog.specs.Making as making;
+ghost use Rattle.undo_log.specs.Logs.{Lives, IsLeastLive};
+ghost use Rattle.boosted.specs.Shape.{CanAsk};
+ghost use Rattle.calls.specs.declared.reply.Reply.{Reply};
+ghost use Rattle.abstract_locks.specs.Holds.{IsClear, IsBusyRefusal, IsGivenUp};
+ghost use Rattle.record_format.specs.declared.record.Record.{Record};
+ghost use Rattle.record_format.specs.Acts.{acts_of, event_of};
+ghost use Rattle.record_format.specs.Records.{IsRecord, IsNumber};
+ghost use Rattle.record_format.specs.Short.{AreShort};
+ghost use Rattle.machine.specs.Machine.{IsRunning, CanBegin, BeginRow, CommitRow, EndedRow, FallRow, MakeRow, CanCall, CallRow, CanPutOff, LaterRow, GoesTwice, BackRow, Steps};
+ghost use Rattle.machine.specs.Machines.{resting, unmade, HasRoomFor, IsUpheld, StepAnswers, RepeatAnswers};
+ghost use Rattle.machine.specs.Sound.{IsSound};
+ghost use Rattle.machine.specs.Views.{state_of};
+
+use crate::laters::{is_going, run_laters};
+use crate::undoing::undo;
+use abstract_locks::NeedTable;
+use calls::limits::{MAX_CALLS, MAX_LIVE, MAX_WEAR};
+use calls::{Call, Kind, Name, Need, Refusal, Reply};
+use catalog::Parts;
+use records::{CallRecord, Coded, LaterRecord, Record};
+use std::alloc::Global;
+use std::marker::Model;
+use undo_log::{Later, Live, Logged};
+
+/// The collections with the live transactions on them: the state that records lead to, one step a record.
+///
+/// Contracts see what the collections hold now, the live transactions with what they asked for and did not undo, the
+/// needs that they hold, and the wear.
+#[derive(Drop)]
+pub struct Machine<B: Parts + Coded> {
+    parts: B,
+    needs: NeedTable,
+    live: Live,
+    wear: u64,
+}
+
+impl<B: Parts + Coded> Model for Machine<B> {
+    ghost use Rattle.machine.specs.Machine.{State};
+    ghost use Rattle.machine.specs.Machines.{IsUpheld};
+    ghost use Rattle.machine.specs.Sound.{IsSound};
+    ghost use Rattle.machine.specs.Views.{state_of};
+    ghost use Rattle.record_format.specs.Short.{AreShort};
+    ghost use Rattle.std.specs.FinMap as maps;
+    ghost use Rattle.std.specs.Ordering.{nat_cmp};
+    ghost use Rattle.std.specs.Coded.{codes, coded_ℕ, coded_bool};
+
+    ghost Value = { State B };
+
+    ghost coded = { Prim.hlevel (codes, maps.code {R = nat_cmp} coded_ℕ coded_bool) };
+
+    ghost view = { λ m. state_of m.parts m.needs m.live m.wear };
+
+    ghost invariant = { λ m. IsUpheld B.names B.within (λ s. AreShort (B.collections s)) (IsSound B.answers B.leaves B.makes B.need B.inverse)
+        (state_of m.parts m.needs m.live m.wear) };
+}
+
+impl<B: Parts + Coded> Machine<B> {
+    /// The collections with no live transaction. `wear` is what they are within. It takes no memory.
+    pub fn new(alloc: Global, parts: B, wear: u64) -> Self
+        requires within { B.within parts wear }
+        requires worn { wear ≤ 2 ^ 61 + 65536 }
+        requires short { AreShort (B.collections parts) }
+        requires few { length (B.names parts) ≤ 256 }
+        ensures { result ≡ resting parts wear }
+    {
+        Self {
+            parts,
+            needs: NeedTable::new(alloc),
+            live: Live::new(alloc),
+            wear,
+        }
+    }
+
+    /// The collections.
+    pub fn parts(&self) -> &B
+        ensures { result.now ≡ self.now.now }
+    {
+        &self.parts
+    }
+
+    /// How often anything was entered, called, put off, run in a commit or undone.
+    pub fn wear(&self) -> u64
+        ensures { result ≡ self.now.wear }
+    {
+        self.wear
+    }
+
+    /// What holds of every machine: the limits, that each call may still be undone, and what the laws of the collections
+    /// give. It does nothing.
+    pub fn upheld(&self)
+        ensures { IsUpheld B.names B.within (λ s. AreShort (B.collections s)) (IsSound B.answers B.leaves B.makes B.need B.inverse) self.now }
+    {
+        let _ = &self.wear;
+    }
+
+    /// How many transactions are live.
+    pub fn count_live(&self) -> usize
+        ensures { result ≡ maps.len self.now.live }
+    {
+        self.live.count_live()
+    }
+
+    /// The least number that is live.
+    pub fn least(&self) -> Option<u64>
+        ensures found { IfSome result (IsLeastLive self.now.live) }
+        ensures none { IfNone result (self.now.live ≡ maps.empty) }
+    {
+        self.live.least()
+    }
+
+    /// Whether a call of the transaction is not undone.
+    pub fn has_call(&self, number: u64) -> bool
+        ensures some { IsTrue result ↔ (HasNoCall number self.now.entries → ⊥) }
+        ensures none { result ≡ false → HasNoCall number self.now.entries }
+    {
+        self.live.newest(number).is_some()
+    }
+
+    /// Takes the record's step, where it is one from here, and answers true; false, with nothing changed, where it is
+    /// none.
+    ///
+    /// NoMemory leaves all as before.
+    pub fn repeat(&mut self, entry: Record) -> Result<bool, Refusal>
+        requires { IsRecord None entry }
+        ensures { RepeatAnswers (Steps B.answers B.leaves B.belongs B.names B.makes B.need B.inverse) self.old entry result self.new }
+    {
+        self.upheld();
+        self.step(entry)
+    }
+
+    /// Undoes the newest call of the transaction. From then on it is falling. It holds its needs until `ended`.
+    ///
+    /// NoMemory leaves all as before.
+    pub fn back(&mut self, number: u64) -> Result<(), Refusal>
+        requires live { Lives self.old.live number }
+        requires call { HasNoCall number self.old.entries → ⊥ }
+        ensures ok { OnOk result (BackRow B.answers B.leaves B.inverse self.old number self.new) }
+        ensures err { OnErr result (self.new ≡ self.old) }
+        ensures refusal { IsOkUnless result Refusal.NoMemory }
+    {
+        let Some(newest) = self.live.newest(number) else {
+            unreachable!();
+        };
+        undo(&mut self.parts, newest)?;
+        let _undone = self.live.pop(number);
+        self.live.fall(number);
+        self.wear += 1;
+        Ok(())
+    }
+
+    /// Ends a transaction whose calls are all undone: its needs go. It takes no memory.
+    pub fn ended(&mut self, number: u64)
+        requires live { Lives self.old.live number }
+        requires undone { HasNoCall number self.old.entries }
+        ensures { EndedRow self.old number self.new }
+    {
+        let live = &mut self.live;
+        take_out(live, &mut self.needs, number);
+    }
+
+    /// The collections, where the machine is no more needed.
+    pub fn into_parts(self) -> B
+        ensures parts { result ≡ self.now }
+        ensures within { B.within result self.wear }
+        ensures worn { self.wear ≤ 2 ^ 61 + 65536 }
+        ensures short { AreShort (B.collections result) }
+        ensures few { length (B.names result) ≤ 256 }
+        ensures history { (start : B) (wear : ℕ) (rs : List Record) → Leads (Steps B.answers B.leaves B.belongs B.names B.makes B.need B.inverse) rs (resting start wear) self →
+            self.live ≡ maps.empty → Serial (committed (acts_of rs)) (B.collections start) (B.collections result) }
+    {
+        let Self { parts, .. } = self;
+        parts
+    }
+
+    /// The machine of its parts, for which holds what holds of every machine.
+    pub fn of_parts(parts: B, needs: NeedTable, live: Live, worn: u64) -> Self
+        requires { IsUpheld B.names B.within (λ s. AreShort (B.collections s)) (IsSound B.answers B.leaves B.makes B.need B.inverse) (state_of parts needs live worn) }
+        ensures { result ≡ state_of parts needs live worn }
+    {
+        Self {
+            parts,
+            needs,
+            live,
+            wear: worn,
+        }
+    }
+
+    /// Makes an empty collection at the end.
+    ///
+    /// The refusals of `Parts::make`, in its order: BadName, TooLong, NameTaken, TooManyCollections, NoMemory. Each leaves
+    /// all as before.
+    pub fn make(&mut self, name: &str, kind: Kind) -> Result<(), Refusal>
+        ensures ok { OnOk result (MakeRow B.names B.makes self.old name.now kind self.new) }
+        ensures same { OnErr result (self.new ≡ self.old) }
+        ensures err { IfErr result (making.MakeRefused (B.names self.old.now) name.now) }
+    {
+        let at = self.parts.make(name, kind)?;
+        prove!(at <= u8::MAX);
+        Ok(())
+    }
+
+    /// Begins a transaction.
+    ///
+    /// NoMemory leaves all as before.
+    pub fn begin(&mut self, number: u64) -> Result<(), Refusal>
+        requires can { CanBegin self.old number }
+        requires room { HasRoomFor self.old 0 }
+        ensures ok { OnOk result (BeginRow self.old number self.new) }
+        ensures same { OnErr result (self.new ≡ self.old) }
+        ensures refusal { IsOkUnless result Refusal.NoMemory }
+    {
+        self.live.enter(number)?;
+        self.wear += 1;
+        Ok(())
+    }
+
+    /// Makes the call, answered so, and notes it with the need that it has.
+    ///
+    /// NoMemory leaves all as before.
+    pub fn call(&mut self, number: u64, asked: Logged) -> Result<(), Refusal>
+        requires can { CanCall B.answers B.leaves B.belongs B.need self.old number (logs.event_of asked) }
+        requires room { HasRoomFor self.old 1 }
+        ensures ok { OnOk result (CallRow B.answers B.leaves B.belongs B.need self.old number (logs.event_of asked) self.new) }
+        ensures same { OnErr result (self.new ≡ self.old) }
+        ensures refusal { IsOkUnless result Refusal.NoMemory }
+    {
+        self.needs.reserve(asked.at)?;
+        self.live.reserve(number)?;
+        self.parts.run(asked.at, &asked.call, &asked.reply)?;
+        let need = B::need(&asked.call, &asked.reply);
+        if self.needs.ask(number, asked.at, need).is_err() {
+            unreachable!();
+        }
+        self.live.push_call(number, asked);
+        self.wear += 1;
+        Ok(())
+    }
+
+    /// Puts the call off to the commit of the transaction, and notes it with the need that it has.
+    ///
+    /// NoMemory leaves all as before.
+    pub fn later(&mut self, number: u64, put: Later) -> Result<(), Refusal>
+        requires can { CanPutOff B.answers B.leaves B.belongs B.need self.old number put.at put.call }
+        requires room { HasRoomFor self.old 1 }
+        ensures ok { OnOk result (LaterRow B.answers B.leaves B.belongs B.need self.old number put.at put.call self.new) }
+        ensures same { OnErr result (self.new ≡ self.old) }
+        ensures refusal { IsOkUnless result Refusal.NoMemory }
+    {
+        self.needs.reserve(put.at)?;
+        self.live.reserve(number)?;
+        let need = B::need(&put.call, &Reply::Done);
+        if self.needs.ask(number, put.at, need).is_err() {
+            unreachable!();
+        }
+        self.live.push_later(number, put);
+        self.wear += 1;
+        Ok(())
+    }
+
+    /// Commits a transaction: what it put off, and what its calls left, runs in the order asked. All that it asked for
+    /// stays done, and its needs go. It takes no memory.
+    pub fn commit(&mut self, number: u64)
+        requires { IsRunning self.old number }
+        ensures { CommitRow B.answers B.leaves self.old number self.new }
+    {
+        let entries = self.live.in_order().as_slice();
+        let ran = run_laters(&mut self.parts, entries, number);
+        self.wear += ran;
+        let live = &mut self.live;
+        take_out(live, &mut self.needs, number);
+    }
+
+    /// Makes a transaction falling of which nothing is left to undo. It takes no memory.
+    pub fn fall(&mut self, number: u64)
+        requires live { Lives self.old.live number }
+        requires undone { HasNoCall number self.old.entries }
+        ensures { FallRow self.old number self.new }
+    {
+        self.live.fall(number);
+    }
+
+    /// The live transactions, and what they asked for and did not undo.
+    pub fn live(&self) -> &Live
+        ensures live { result.now.live ≡ self.now.live }
+        ensures entries { result.now.entries ≡ self.now.entries }
+    {
+        &self.live
+    }
+
+    /// Whether the transaction is live.
+    pub fn is_live(&self, number: u64) -> bool
+        ensures { IsTrue result ↔ Lives self.now.live number }
+    {
+        self.live.is_live(number)
+    }
+
+    /// Whether the transaction is live, and nothing of it was undone.
+    pub fn is_running(&self, number: u64) -> bool
+        ensures { IsTrue result ↔ IsRunning self.now number }
+    {
+        self.live.is_live(number) && !self.live.is_falling(number)
+    }
+
+    /// How many calls of the transaction are not undone, those that it put off counted too.
+    pub fn count_calls(&self, number: u64) -> usize
+        ensures { result ≡ length (own number self.now.entries) }
+    {
+        self.live.count(number)
+    }
+
+    /// Whether the transaction has left to its commit already what this call, answered so, would leave.
+    pub fn goes_twice(&self, number: u64, at: u8, call: &Call, reply: &Reply) -> bool
+        ensures { IsTrue result ↔ GoesTwice self.now.entries number (record { at = at; call = call.now; reply = reply.now }) }
+    {
+        match B::after(call, reply) {
+            Some(left) => is_going::<B>(self.live.in_order().as_slice(), number, at, &left),
+            None => false,
+        }
+    }
+
+    /// Whether no other transaction holds a need in the way.
+    ///
+    /// Busy with the least that does.
+    pub fn test(&self, number: u64, at: u8, need: &Need) -> Result<(), Refusal>
+        ensures clear { OnOk result (IsClear self.now.holds number at need.now) }
+        ensures busy { IfErr result (IsBusyRefusal self.now.holds number at need.now) }
+    {
+        self.needs.test(number, at, need)
+    }
+
+    // The record's step, from this very state.
+    fn step(&mut self, entry: Record) -> Result<bool, Refusal>
+        requires { IsRecord None entry }
+        ensures { StepAnswers (Steps B.answers B.leaves B.belongs B.names B.makes B.need B.inverse) self.old entry result self.new }
+    {
+        match entry {
+            Record::Make(kind, name) => self.repeat_make(kind, &name),
+            Record::Begin(number) => self.repeat_begin(number),
+            Record::Call(called) => self.repeat_call(called),
+            Record::Later(later) => self.repeat_later(later),
+            Record::Commit(number) => Ok(self.repeat_commit(number)),
+            Record::Back(number) => self.repeat_back(number),
+            Record::Ended(number) => Ok(self.repeat_ended(number)),
+            _ => Ok(false),
+        }
+    }
+
+    fn repeat_make(&mut self, kind: Kind, name: &Name) -> Result<bool, Refusal>
+        requires { IsName name.now }
+        ensures { StepAnswers (Steps B.answers B.leaves B.belongs B.names B.makes B.need B.inverse) self.old (Record.Make kind name.now) result self.new }
+    {
+        match self.make(name.as_str(), kind) {
+            Ok(()) => Ok(true),
+            Err(refusal) => unmade(refusal),
+        }
+    }
+
+    fn repeat_begin(&mut self, number: u64) -> Result<bool, Refusal>
+        requires { IsNumber number }
+        ensures { StepAnswers (Steps B.answers B.leaves B.belongs B.names B.makes B.need B.inverse) self.old (Record.Begin number) result self.new }
+    {
+        if !self.can_begin(number) {
+            return Ok(false);
+        }
+        self.begin(number)?;
+        Ok(true)
+    }
+
+    fn repeat_call(&mut self, called: CallRecord) -> Result<bool, Refusal>
+        requires { IsRecord None (Record.Call called) }
+        ensures { StepAnswers (Steps B.answers B.leaves B.belongs B.names B.makes B.need B.inverse) self.old (Record.Call called) result self.new }
+    {
+        if !self.can_call(&called) {
+            return Ok(false);
+        }
+        let CallRecord {
+            number,
+            collection,
+            call,
+            reply,
+            ..
+        } = called;
+        let asked = Logged {
+            at: collection,
+            call,
+            reply,
+        };
+        self.call(number, asked)?;
+        Ok(true)
+    }
+
+    fn repeat_later(&mut self, later: LaterRecord) -> Result<bool, Refusal>
+        ensures { StepAnswers (Steps B.answers B.leaves B.belongs B.names B.makes B.need B.inverse) self.old (Record.Later later) result self.new }
+    {
+        if !self.can_put_off(&later) {
+            return Ok(false);
+        }
+        let LaterRecord {
+            number,
+            collection,
+            call,
+        } = later;
+        let put = Later {
+            at: collection,
+            call,
+        };
+        self.later(number, put)?;
+        Ok(true)
+    }
+
+    fn repeat_commit(&mut self, number: u64) -> bool
+        ensures { StepAnswers (Steps B.answers B.leaves B.belongs B.names B.makes B.need B.inverse) self.old (Record.Commit number) (Ok result) self.new }
+    {
+        if !self.is_running(number) {
+            return false;
+        }
+        self.commit(number);
+        true
+    }
+
+    fn repeat_back(&mut self, number: u64) -> Result<bool, Refusal>
+        ensures { StepAnswers (Steps B.answers B.leaves B.belongs B.names B.makes B.need B.inverse) self.old (Record.Back number) result self.new }
+    {
+        if !self.is_live(number) || !self.has_call(number) {
+            return Ok(false);
+        }
+        self.back(number)?;
+        Ok(true)
+    }
+
+    fn repeat_ended(&mut self, number: u64) -> bool
+        ensures { StepAnswers (Steps B.answers B.leaves B.belongs B.names B.makes B.need B.inverse) self.old (Record.Ended number) (Ok result) self.new }
+    {
+        if !self.is_live(number) || self.has_call(number) {
+            return false;
+        }
+        self.ended(number);
+        true
+    }
+
+    // Whether the wear has room for one step more, behind which there are so many more calls to undo.
+    fn has_room(&self, more: usize) -> bool
+        requires { more ≤ 1 }
+        ensures { IsTrue result ↔ HasRoomFor self.now more }
+    {
+        self.wear + 1 + (self.live.len() + more) as u64 <= MAX_WEAR
+    }
+
+    // Whether the number may begin.
+    fn can_begin(&self, number: u64) -> bool
+        requires { IsNumber number }
+        ensures { IsTrue result ↔ (CanBegin self.now number × HasRoomFor self.now 0) }
+    {
+        !self.is_live(number) && self.count_live() < MAX_LIVE && self.has_room(0)
+    }
+
+    // Whether the transaction can make the call and get the reply.
+    fn can_call(&self, called: &CallRecord) -> bool
+        ensures { IsTrue result ↔ (CanCall B.answers B.leaves B.belongs B.need self.now called.now.number (event_of called.now) × HasRoomFor self.now 1) }
+    {
+        self.can_ask(called) && self.is_answered(called)
+    }
+
+    // Whether the transaction can ask for the call.
+    fn can_ask(&self, called: &CallRecord) -> bool
+        ensures { IsTrue result ↔ (IsRunning self.now called.now.number × CanAsk B.belongs self.now.now called.now.collection called.now.call ×
+            (length (own called.now.number self.now.entries) < 1024) × HasRoomFor self.now 1) }
+    {
+        self.has_place(called.number) && self.parts.askable(called.collection, &called.call).is_ok()
+    }
+
+    // Whether one call more of the transaction can be noted.
+    fn has_place(&self, number: u64) -> bool
+        ensures { IsTrue result ↔ (IsRunning self.now number × (length (own number self.now.entries) < 1024) × HasRoomFor self.now 1) }
+    {
+        self.is_running(number) && self.count_calls(number) < MAX_CALLS && self.has_room(1)
+    }
+
+    // Whether the call can get the reply, leaves nothing that is going already, and has no other transaction in the way.
+    fn is_answered(&self, called: &CallRecord) -> bool
+        ensures { IsTrue result ↔ (B.answers self.now.now called.now.collection called.now.call called.now.reply × (GoesTwice self.now.entries called.now.number (event_of called.now) → ⊥) ×
+            IsClear self.now.holds called.now.number called.now.collection (B.need called.now.call called.now.reply)) }
+    {
+        self.parts
+            .fits(called.collection, &called.call, &called.reply)
+            && !self.goes_twice(
+                called.number,
+                called.collection,
+                &called.call,
+                &called.reply,
+            )
+            && self.is_clear(called)
+    }
+
+    // Whether no other transaction holds a need that is in the call's way.
+    fn is_clear(&self, called: &CallRecord) -> bool
+        ensures { IsTrue result ↔ IsClear self.now.holds called.now.number called.now.collection (B.need called.now.call called.now.reply) }
+    {
+        let need = B::need(&called.call, &called.reply);
+        self.needs
+            .test(called.number, called.collection, &need)
+            .is_ok()
+    }
+
+    // Whether the transaction can put the call off.
+    fn can_put_off(&self, later: &LaterRecord) -> bool
+        ensures { IsTrue result ↔ (CanPutOff B.answers B.leaves B.belongs B.need self.now later.now.number later.now.collection later.now.call × HasRoomFor self.now 1) }
+    {
+        self.has_place(later.number)
+            && self.parts.deferrable(later.collection, &later.call).is_ok()
+            && self.is_clear_later(later)
+    }
+
+    // Whether no other transaction holds a need that is in the way of the call to be put off.
+    fn is_clear_later(&self, later: &LaterRecord) -> bool
+        ensures { IsTrue result ↔ IsClear self.now.holds later.now.number later.now.collection (B.need later.now.call Reply.Done) }
+    {
+        let need = B::need(&later.call, &Reply::Done);
+        self.needs
+            .test(later.number, later.collection, &need)
+            .is_ok()
+    }
+}
+
+/// What is answered of a making that was refused: false, as it is no step, unless memory alone was wanted.
+pub fn unmade(refusal: Refusal) -> Result<bool, Refusal>
+    ensures { result ≡ unmade refusal }
+{
+    match refusal {
+        Refusal::NoMemory => Err(Refusal::NoMemory),
+        _ => Ok(false),
+    }
+}
+
+// Takes a transaction out, with what it asked for and its needs.
+fn take_out(live: &mut Live, needs: &mut NeedTable, number: u64)
+    ensures live { live.new.live ≡ maps.remove live.old.live number }
+    ensures entries { live.new.entries ≡ others number live.old.entries }
+    ensures holds { IsGivenUp needs.old.holds needs.new.holds number }
+{
+    live.remove(number);
+    needs.give_up(number);
+}

@@ -1,0 +1,4 @@
+pub mod Stepping
+pub mod ClientLemmas
+pub mod CheckpointLemmas
+pub mod RequestLemmas

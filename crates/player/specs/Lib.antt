@@ -1,0 +1,5 @@
+pub mod Plays
+pub mod Clients
+pub mod Turns
+pub mod Checkpoints
+pub mod Requests

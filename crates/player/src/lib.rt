@@ -1,0 +1,11 @@
+//! The clients of a script and its committer, who take the steps of a world line by line.
+#![tactic(auto)]
+
+mod checkpointer;
+mod client;
+mod committer;
+mod player;
+mod texts;
+
+pub use player::Player;
+pub use texts::{Hex, Said};

@@ -1,0 +1,2 @@
+pub mod CallRecords
+pub mod RecordLengths

@@ -1,0 +1,4 @@
+pub mod Records
+pub mod Acts
+pub mod Short
+pub mod Reached

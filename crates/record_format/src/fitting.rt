@@ -1,0 +1,89 @@
+// What has a spelling.
+ghost use Rattle.std.specs.Prelude.{◌↔◌, ◌≤◌, length, IsTrue};
+ghost use Rattle.calls.specs.Inverses.{IsShort};
+ghost use Rattle.record_format.specs.Records.{IsValue, FitsCall, FitsReply, FitsItem};
+ghost use Rattle.calls.specs.Counters.{IsWithin};
+ghost use Rattle.record_format.specs.Short.{IsShortReply, IsShortItem};
+ghost use Rattle.record_format.specs.Reached.{IsReached};
+
+use calls::limits::MAX_VALUE;
+use calls::{Bytes, Call, Item, Reply};
+
+// Whether the value has at most 256 bytes.
+fn fits_value(value: &Bytes) -> bool
+    ensures fits { IsTrue result ↔ IsValue value.now }
+    ensures short { IsTrue result ↔ (length value.now ≤ 256) }
+{
+    are_few(value.as_slice())
+}
+
+fn are_few(bytes: &[u8]) -> bool
+    ensures fits { IsTrue result ↔ IsValue bytes.now }
+    ensures short { IsTrue result ↔ (length bytes.now ≤ 256) }
+{
+    bytes.len() <= MAX_VALUE
+}
+
+/// Whether the call has a spelling, which it has exactly where its value, if it has one, has at most 256 bytes.
+pub fn fits_call(call: &Call) -> bool
+    ensures fits { IsTrue result ↔ FitsCall call.now }
+    ensures short { IsTrue result ↔ IsShort call.now }
+{
+    match *call {
+        Call::Put(_key, ref value) => fits_value(value),
+        Call::Contains(_x) | Call::SetAdd(_x) | Call::SetRemove(_x) => true,
+        Call::Get(_key) | Call::MapRemove(_key) | Call::Ceiling(_key) => true,
+        Call::QueueAdd(_priority, _tag) | Call::Pluck(_priority, _tag) => true,
+        Call::Bump(_by) => true,
+        Call::Release(_x) | Call::Free(_x) => true,
+        Call::Take | Call::Least | Call::Read | Call::Draw => true,
+    }
+}
+
+/// Whether the reply has a spelling, which it has exactly where its value, if it has one, has at most 256 bytes.
+pub fn fits_reply(reply: &Reply) -> bool
+    ensures fits { IsTrue result ↔ FitsReply reply.now }
+    ensures short { IsTrue result ↔ IsShortReply reply.now }
+{
+    match *reply {
+        Reply::Value(ref value) => fits_value(value),
+        Reply::Entry(_key, ref value) => fits_value(value),
+        Reply::Item(_priority, _tag) => true,
+        Reply::Total(_total) => true,
+        Reply::Id(_x) => true,
+        Reply::Done | Reply::No | Reply::Yes | Reply::Nothing | Reply::Queued | Reply::Absent => {
+            true
+        }
+    }
+}
+
+/// Whether the item has a spelling, which it has exactly where its value, if it has one, has at most 256 bytes.
+pub fn fits_item(item: &Item) -> bool
+    ensures fits { IsTrue result ↔ FitsItem item.now }
+    ensures short { IsTrue result ↔ IsShortItem item.now }
+{
+    match *item {
+        Item::Entry(_key, ref value) => fits_value(value),
+        Item::Pair(_priority, _tag) => true,
+        Item::Element(_x) => true,
+        Item::Number(_total) => true,
+    }
+}
+
+/// Whether so many runs can reach the item: the number of a counter is at most `wear` times 2^63 from 0, and other items
+/// have no bound.
+pub fn is_reached(item: &Item, wear: u64) -> bool
+    ensures { IsTrue result ↔ IsReached wear item.now }
+{
+    match item {
+        Item::Number(total) => is_near(*total, wear),
+        Item::Element(_) | Item::Entry(_, _) | Item::Pair(_, _) => true,
+    }
+}
+
+fn is_near(total: i128, wear: u64) -> bool
+    ensures { IsTrue result ↔ IsWithin total wear }
+{
+    let bound = wear as i128 * (1 << 63);
+    -bound <= total && total <= bound
+}

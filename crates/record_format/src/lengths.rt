@@ -1,0 +1,136 @@
+// How many bytes a record takes.
+ghost use Rattle.std.specs.Prelude.{◌≡◌, ◌+◌, ◌≤◌, ℕ, length, IfSome};
+ghost use Rattle.std.specs.Option.{option_copied};
+ghost use Rattle.record_format.specs.declared.record.Record.{Record};
+ghost use Rattle.record_format.specs.Records.{value, named, call, reply, inverse, call_record, put_off, item, spelled, Fits, FitsCall, FitsReply, FitsItem, FitsCalled, FitsPutOff, IsValue};
+
+use crate::record::{CallRecord, LaterRecord, Record};
+use calls::{Bytes, Call, Item, Name, Reply};
+
+#[tactic(auto, using(crate::proofs::RecordLengths::lengths))]
+fn value_len(bytes: &Bytes) -> usize
+    requires { IsValue bytes.now }
+    ensures len { result ≡ length (value bytes.now) }
+    ensures bound { result ≤ 258 }
+{
+    2 + bytes.as_slice().len()
+}
+
+#[tactic(auto, using(crate::proofs::RecordLengths::lengths))]
+fn asked_len(asked: &Call) -> usize
+    requires { FitsCall asked.now }
+    ensures len { result ≡ length (call asked.now) }
+    ensures bound { result ≤ 267 }
+{
+    match asked {
+        Call::Contains(_)
+        | Call::SetAdd(_)
+        | Call::SetRemove(_)
+        | Call::Get(_)
+        | Call::MapRemove(_)
+        | Call::Ceiling(_)
+        | Call::Bump(_)
+        | Call::Release(_)
+        | Call::Free(_) => 9,
+        Call::Put(_, bytes) => 9 + value_len(bytes),
+        Call::QueueAdd(_, _) | Call::Pluck(_, _) => 17,
+        Call::Take | Call::Least | Call::Read | Call::Draw => 1,
+    }
+}
+
+#[tactic(auto, using(crate::proofs::RecordLengths::lengths))]
+fn answer_len(answer: &Reply) -> usize
+    requires { FitsReply answer.now }
+    ensures len { result ≡ length (reply answer.now) }
+    ensures bound { result ≤ 267 }
+{
+    match answer {
+        Reply::Done | Reply::No | Reply::Yes | Reply::Nothing | Reply::Queued | Reply::Absent => 1,
+        Reply::Value(bytes) => 1 + value_len(bytes),
+        Reply::Entry(_, bytes) => 9 + value_len(bytes),
+        Reply::Item(_, _) | Reply::Total(_) => 17,
+        Reply::Id(_) => 9,
+    }
+}
+
+fn back_len(back: Option<&Call>) -> usize
+    requires { IfSome (option_copied back) FitsCall }
+    ensures len { result ≡ length (inverse (option_copied back.entry)) }
+    ensures bound { result ≤ 267 }
+{
+    match back {
+        None => 1,
+        Some(asked) => asked_len(asked),
+    }
+}
+
+/// How many bytes the record of a call takes, with its reply and the call that takes it back, whose values have at most
+/// 256 bytes: from 12 to 811.
+#[tactic(auto, using(crate::proofs::RecordLengths::lengths))]
+pub fn call_len(asked: &Call, answer: &Reply, back: Option<&Call>) -> usize
+    requires asked { FitsCall asked.now }
+    requires answer { FitsReply answer.now }
+    requires back { IfSome (option_copied back) FitsCall }
+    ensures len { (n at : ℕ) → result ≡ length (spelled (Record.Call (call_record n at asked.now answer.now (option_copied back.entry)))) }
+    ensures positive { 1 ≤ result }
+    ensures bound { result ≤ 811 }
+{
+    10 + asked_len(asked) + answer_len(answer) + back_len(back)
+}
+
+#[tactic(auto, using(crate::proofs::RecordLengths::lengths))]
+fn called_len(asked: &CallRecord) -> usize
+    requires { FitsCalled asked.now }
+    ensures len { result ≡ length (spelled (Record.Call asked.now)) }
+    ensures bound { result ≤ 811 }
+{
+    call_len(&asked.call, &asked.reply, asked.inverse.as_ref())
+}
+
+#[tactic(auto, using(crate::proofs::RecordLengths::lengths))]
+fn later_len(later: &LaterRecord) -> usize
+    requires { FitsPutOff later.now }
+    ensures len { result ≡ length (put_off later.now) }
+    ensures bound { result ≤ 276 }
+{
+    9 + asked_len(&later.call)
+}
+
+#[tactic(auto, using(crate::proofs::RecordLengths::lengths))]
+fn item_len(part: &Item) -> usize
+    requires { FitsItem part.now }
+    ensures len { result ≡ length (item part.now) }
+    ensures bound { result ≤ 266 }
+{
+    match part {
+        Item::Element(_) => 8,
+        Item::Entry(_, bytes) => 8 + value_len(bytes),
+        Item::Pair(_, _) | Item::Number(_) => 16,
+    }
+}
+
+fn named_len(name: &Name) -> usize
+    requires { length name.now ≤ 64 }
+    ensures { result ≡ 2 + length name.now }
+{
+    2 + name.as_str().len()
+}
+
+/// How many bytes a record takes, whose names are good and whose values have at most 256 bytes: from 1 to 811.
+#[tactic(auto, using(crate::proofs::RecordLengths::lengths))]
+pub fn encoded_len(entry: &Record) -> usize
+    requires { Fits entry.now }
+    ensures len { result ≡ length (spelled entry.now) }
+    ensures positive { 1 ≤ result }
+    ensures bound { result ≤ 811 }
+{
+    match entry {
+        Record::Make(_, name) | Record::Name(_, name) => 1 + named_len(name),
+        Record::Call(asked) | Record::LiveCall(asked) => called_len(asked),
+        Record::Later(later) | Record::LiveLater(later) => 1 + later_len(later),
+        Record::Commit(_) | Record::Back(_) | Record::Ended(_) | Record::Begin(_) => 9,
+        Record::Item(part) => 1 + item_len(part),
+        Record::Marks { .. } => 17,
+        Record::ImageEnd => 1,
+    }
+}

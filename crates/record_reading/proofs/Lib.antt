@@ -1,0 +1,5 @@
+pub mod RecordFields
+pub mod Readers
+pub mod RecordNames
+pub mod RecordLaws
+pub mod RecordUnique

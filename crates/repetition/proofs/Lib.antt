@@ -1,0 +1,9 @@
+pub mod Lists
+pub mod Grammar
+pub mod CatalogLaws
+pub mod Parts
+pub mod OneImage
+pub mod Contents
+pub mod ReadLemmas
+pub mod RepeatLemmas
+pub mod LagLemmas

@@ -1,0 +1,9 @@
+use Rattle.std.proofs.lemmas.Result.{err_from_is_err_and}
+use Rattle.repetition.proofs.RepeatLemmas.{damage_weaker}
+use Rattle.repetition.proofs.repetition.Repetition.take.Goals as goal
+
+pub returns-in_err-stage-clause-err : goal.returns-in_err-stage-clause-err
+returns-in_err-stage-clause-err c =
+    let p = err_from_is_err_and c.from_residual.result c.from_residual.ensures.1 in
+    rw (p.1, p.2)
+    (damage_weaker c.args.place c.in_err-stage.field-0.0 _ _ (λ none. none c.args.self.next) c.in_err-stage.ensures.err)

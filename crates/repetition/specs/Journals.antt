@@ -1,0 +1,69 @@
+-- What the bytes of a disk stand for: by the grammar of blocks and records, and by transactions run whole. No need, no inverse and no
+-- machine is named.
+use Rattle.std.specs.Prelude.{◌≡◌, ℕ, ◌+◌, ◌*◌, ◌≤◌, ◌^◌, List, [], ◌∷◌, ◌++◌, length, take, drop, map, get_or, codes, Option, None}
+use Rattle.std.specs.List.{flat_map, AllByRecursion}
+use Rattle.std.specs.Int.{w64, to_be_bytes}
+use Rattle.calls.specs.declared.kind.Kind.{Kind}
+use Rattle.calls.specs.Contents.{Collection}
+use Rattle.calls.specs.Transactions.{Leads, Does, calls_of, Serial, committed}
+use Rattle.gate_block.specs.Row.{IsRow}
+use Rattle.gate_block.specs.Layout.{area_in_use}
+use Rattle.record_format.specs.declared.record.Record.{Record}
+use Rattle.record_format.specs.Records.{spelling, Fits, Suits, named_by}
+use Rattle.record_format.specs.Acts.{acts_of}
+use Rattle.records.specs.Images.{IsImage, owned_entries}
+
+-- The head of a disk whose areas have this size: eight letters, an open gate, the size.
+pub record IsHeader (size : ℕ) (bytes : List ℕ) : Type 0 where
+  pub letters : take 8 bytes ≡ codes "BOOSTED1"
+  pub gate : get_or bytes 8 0 ≡ 167
+  pub area : take 8 (drop 9 bytes) ≡ to_be_bytes w64 size
+  pub not_small : 65536 ≤ size
+  pub not_large : size ≤ 2 ^ 30
+  pub whole : length bytes ≡ 4096 + 2 * size
+
+-- the records of all blocks, in order
+abbrev pub records_in : List (List Record) → List Record
+records_in blocks = flat_map (λ rs. rs) blocks
+
+-- Records one after another that have a spelling, each item of them of the kind that was named last.
+abbrev pub AreSpelt : Option Kind → List Record → Type 0
+AreSpelt last [] = Unit {0}
+AreSpelt last (r ∷ rs) = (Fits r × Suits last r) × AreSpelt (named_by last r) rs
+
+-- The area in use is a row of blocks whose bodies spell these records, block by block.
+pub record Holds (bytes : List ℕ) (blocks : List (List Record)) : Type 0 where
+  pub size : ℕ
+  pub header : IsHeader size bytes
+  pub row : IsRow (map spelling blocks) (area_in_use size bytes)
+  pub spelt : AreSpelt None (records_in blocks)
+
+-- what stands in a journal, behind an image
+abbrev pub IsJournalRecord : Record → Type 0
+IsJournalRecord (Record.Make kind name) = Unit {0}
+IsJournalRecord (Record.Call c) = Unit {0}
+IsJournalRecord (Record.Later l) = Unit {0}
+IsJournalRecord (Record.Commit n) = Unit {0}
+IsJournalRecord (Record.Back n) = Unit {0}
+IsJournalRecord (Record.Ended n) = Unit {0}
+IsJournalRecord (Record.Begin n) = Unit {0}
+IsJournalRecord r = ⊥
+
+-- The bytes stand for the content: the area in use is an image and a journal; from some content the live calls of the image lead to
+-- the image's, and from it the transactions that image and journal show as committed lead, each run whole, to the content.
+pub record StandsFor (bytes : List ℕ) (content : List Collection) : Type 0 where
+  pub blocks : List (List Record)
+  pub holds : Holds bytes blocks
+  pub image : List Record
+  pub journal : List Record
+  pub split : records_in blocks ≡ image ++ journal
+  pub all_journal : AllByRecursion IsJournalRecord journal
+  pub next : ℕ
+  pub wear : ℕ
+  pub shown : List Collection
+  pub numbers : List ℕ
+  pub live : List Record
+  pub is_image : IsImage next wear shown numbers live image
+  pub start : List Collection
+  pub leads : Leads Does (calls_of (map (λ e. e.1) (owned_entries live))) start shown
+  pub serial : Serial (committed (acts_of (records_in blocks))) start content

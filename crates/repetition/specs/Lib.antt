@@ -1,0 +1,5 @@
+pub mod Journals
+pub mod Steps
+pub mod Lagging
+pub mod Reading
+pub mod Repetitions

@@ -1,0 +1,4 @@
+pub mod ScriptLines
+pub mod ScriptPhrases
+pub mod ScriptWords
+pub mod ScriptOperations

@@ -1,0 +1,2 @@
+pub mod ScriptTexts
+pub mod Scripts

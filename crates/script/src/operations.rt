@@ -1,0 +1,176 @@
+// What a line asks of a collection.
+ghost use Rattle.std.specs.Prelude.{◌≡◌, ℕ, ◌<◌, ◌^◌, ◌++◌, ◌∷◌, List, Some, None, IfOk, IfSome, IfNone, MatchOption};
+ghost use Rattle.std.specs.Fmt.{decimal};
+ghost use Rattle.script.specs.declared.action.Operation.{Operation};
+ghost use Rattle.script.specs.declared.operations.Verb.{Verb};
+ghost use Rattle.script.specs.ScriptTexts.{CanBeDone, verb_text, said, operation_text, HasArguments, IsKeyed};
+
+use crate::action::Operation;
+use crate::words::{natural, number, split_at_byte, value};
+use calls::Call;
+use std::alloc::{AllocError, Global};
+
+/// The first word of an operation.
+#[derive(Clone, Copy, Debug, PartialEq, Eq)]
+pub enum Verb {
+    Contains,
+    Add,
+    Remove,
+    Get,
+    Put,
+    Ceiling,
+    Take,
+    Least,
+    Bump,
+    Read,
+    Draw,
+    Release,
+}
+
+// The verb that the text is.
+fn verb_of(text: &[u8]) -> Option<Verb>
+    ensures { MatchOption result ((v : Verb) → text.now ≡ verb_text v → ⊥) (λ v. text.now ≡ verb_text v) }
+{
+    match text {
+        b"contains" => Some(Verb::Contains),
+        b"add" => Some(Verb::Add),
+        b"remove" => Some(Verb::Remove),
+        b"get" => Some(Verb::Get),
+        b"put" => Some(Verb::Put),
+        b"ceiling" => Some(Verb::Ceiling),
+        b"take" => Some(Verb::Take),
+        b"least" => Some(Verb::Least),
+        b"bump" => Some(Verb::Bump),
+        b"read" => Some(Verb::Read),
+        b"draw" => Some(Verb::Draw),
+        b"release" => Some(Verb::Release),
+        _ => None,
+    }
+}
+
+// The operation that is a verb alone.
+fn alone(verb: Verb) -> Option<Operation>
+    ensures { MatchOption result ((o : Operation) → CanBeDone o → said o ≡ Some (verb, None) → ⊥) (λ o. CanBeDone o × (said o ≡ Some (verb, None))) }
+{
+    match verb {
+        Verb::Take => Some(Operation::Call(Call::Take)),
+        Verb::Least => Some(Operation::Call(Call::Least)),
+        Verb::Read => Some(Operation::Call(Call::Read)),
+        Verb::Draw => Some(Operation::Call(Call::Draw)),
+        _ => None,
+    }
+}
+
+// The operation of a verb with one key, if the verb takes one and can't take anything else.
+fn keyed(verb: Verb, key: u64) -> Option<Operation>
+    ensures some { IfSome result (λ o. CanBeDone o × (said o ≡ Some (verb, Some (decimal key)))) }
+    ensures none { IfNone result (IsKeyed verb → ⊥) }
+{
+    match verb {
+        Verb::Contains => Some(Operation::Call(Call::Contains(key))),
+        Verb::Remove => Some(Operation::Remove(key)),
+        Verb::Get => Some(Operation::Call(Call::Get(key))),
+        Verb::Ceiling => Some(Operation::Call(Call::Ceiling(key))),
+        Verb::Release => Some(Operation::Call(Call::Release(key))),
+        _ => None,
+    }
+}
+
+// An operation on one key.
+fn on_key(alloc: Global, verb: Verb, text: &[u8]) -> Result<Option<Operation>, AllocError>
+    requires add { verb ≡ Verb.Add → ⊥ }
+    requires put { verb ≡ Verb.Put → ⊥ }
+    requires bump { verb ≡ Verb.Bump → ⊥ }
+    ensures { IfOk result (λ found. MatchOption found (HasArguments verb text.now → ⊥) (λ o. CanBeDone o × (said o ≡ Some (verb, Some text.now)))) }
+{
+    match natural(alloc, text)? {
+        Some(key) => Ok(keyed(verb, key)),
+        None => Ok(None),
+    }
+}
+
+// An addition to a set, or to a queue.
+fn added(alloc: Global, text: &[u8]) -> Result<Option<Operation>, AllocError>
+    ensures { IfOk result (λ found. MatchOption found (HasArguments Verb.Add text.now → ⊥) (λ o. CanBeDone o × (said o ≡ Some (Verb.Add, Some text.now)))) }
+{
+    let Some((front, back)) = split_at_byte(text, b' ') else {
+        return match natural(alloc, text)? {
+            Some(element) => Ok(Some(Operation::Call(Call::SetAdd(element)))),
+            None => Ok(None),
+        };
+    };
+    let Some(priority) = natural(alloc, front)? else {
+        return Ok(None);
+    };
+    match natural(alloc, back)? {
+        Some(tag) => Ok(Some(Operation::Call(Call::QueueAdd(priority, tag)))),
+        None => Ok(None),
+    }
+}
+
+// A value that is put at a key.
+fn put(alloc: Global, text: &[u8]) -> Result<Option<Operation>, AllocError>
+    ensures { IfOk result (λ found. MatchOption found (HasArguments Verb.Put text.now → ⊥) (λ o. CanBeDone o × (said o ≡ Some (Verb.Put, Some text.now)))) }
+{
+    let Some((front, back)) = split_at_byte(text, b' ') else {
+        return Ok(None);
+    };
+    let Some(key) = natural(alloc, front)? else {
+        return Ok(None);
+    };
+    match value(alloc, back)? {
+        Some(bytes) => Ok(Some(Operation::Call(Call::Put(key, bytes)))),
+        None => Ok(None),
+    }
+}
+
+// A bump of a counter.
+fn bumped(alloc: Global, text: &[u8]) -> Result<Option<Operation>, AllocError>
+    ensures { IfOk result (λ found. MatchOption found (HasArguments Verb.Bump text.now → ⊥) (λ o. CanBeDone o × (said o ≡ Some (Verb.Bump, Some text.now)))) }
+{
+    match number(alloc, text)? {
+        Some(n) => Ok(Some(Operation::Call(Call::Bump(n)))),
+        None => Ok(None),
+    }
+}
+
+// The operation of a verb with what stands behind it.
+fn with_arguments(alloc: Global, verb: Verb, text: &[u8]) -> Result<Option<Operation>, AllocError>
+    ensures { IfOk result (λ found. MatchOption found (HasArguments verb text.now → ⊥) (λ o. CanBeDone o × (said o ≡ Some (verb, Some text.now)))) }
+{
+    match verb {
+        Verb::Add => added(alloc, text),
+        Verb::Put => put(alloc, text),
+        Verb::Bump => bumped(alloc, text),
+        _ => on_key(alloc, verb, text),
+    }
+}
+
+// The operation of a verb with what stands behind it, if the word is a verb.
+fn after_word(alloc: Global, word: &[u8], rest: &[u8]) -> Result<Option<Operation>, AllocError>
+    ensures { IfOk result (λ found. MatchOption found ((v : Verb) → word.now ≡ verb_text v → HasArguments v rest.now → ⊥)
+        (λ o. CanBeDone o × (operation_text o ≡ word.now ++ 32 ∷ rest.now))) }
+{
+    match verb_of(word) {
+        Some(verb) => with_arguments(alloc, verb, rest),
+        None => Ok(None),
+    }
+}
+
+// The operation of a word alone, if the word is a verb.
+fn one_word(word: &[u8]) -> Option<Operation>
+    ensures { MatchOption result ((v : Verb) (o : Operation) → word.now ≡ verb_text v → CanBeDone o → said o ≡ Some (v, None) → ⊥)
+        (λ o. CanBeDone o × (operation_text o ≡ word.now)) }
+{
+    alone(verb_of(word)?)
+}
+
+// The operation that the text asks for.
+pub fn operation(alloc: Global, text: &[u8]) -> Result<Option<Operation>, AllocError>
+    ensures { IfOk result (λ found. MatchOption found ((o : Operation) → CanBeDone o → text.now ≡ operation_text o → ⊥) (λ o. CanBeDone o × (text.now ≡ operation_text o))) }
+{
+    match split_at_byte(text, b' ') {
+        Some((word, rest)) => after_word(alloc, word, rest),
+        None => Ok(one_word(text)),
+    }
+}

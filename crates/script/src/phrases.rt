@@ -1,0 +1,149 @@
+// What a line asks for.
+ghost use Rattle.std.specs.Prelude.{◌≡◌, ℤ, IfOk, MatchOption};
+ghost use Rattle.std.specs.Int.{w64};
+ghost use Rattle.std.specs.Int.RustNames.{FitsSigned};
+ghost use Rattle.calls.specs.declared.call.Call.{Call};
+ghost use Rattle.calls.specs.declared.kind.Kind.{Kind};
+ghost use Rattle.script.specs.declared.action.Operation.{Operation};
+ghost use Rattle.script.specs.declared.action.Request.{Request};
+ghost use Rattle.script.specs.declared.action.Action.{Action};
+ghost use Rattle.script.specs.ScriptTexts.{IsRequestOf, IsLineOf, IsClientLine, IsMakeOf, IsCallOf, IsLaterOf, kind_text, operation_text};
+
+use crate::action::{Action, Request};
+use crate::operations::operation;
+use crate::words::{behind, client, number, same, split_at_byte, word};
+use calls::Kind;
+use std::alloc::{AllocError, Global};
+
+// What stands behind the word call.
+fn called(alloc: Global, text: &[u8]) -> Result<Option<Request>, AllocError>
+    ensures { IfOk result (λ found. MatchOption found ((r : Request) → IsCallOf r text.now → ⊥) (λ r. IsCallOf r text.now)) }
+{
+    let Some((front, back)) = split_at_byte(text, b' ') else {
+        return Ok(None);
+    };
+    let Some(name) = word(alloc, front)? else {
+        return Ok(None);
+    };
+    match operation(alloc, back)? {
+        Some(asked) => Ok(Some(Request::Call(name, asked))),
+        None => Ok(None),
+    }
+}
+
+// By how much a bump is.
+fn bump(alloc: Global, text: &[u8]) -> Result<Option<i64>, AllocError>
+    ensures { IfOk result (λ found. MatchOption found ((n : ℤ) → FitsSigned w64 n → text.now ≡ operation_text (Operation.Call (Call.Bump n)) → ⊥)
+        (λ n. FitsSigned w64 n × (text.now ≡ operation_text (Operation.Call (Call.Bump n))))) }
+{
+    match behind(text, b"bump ") {
+        Some(rest) => number(alloc, rest),
+        None => Ok(None),
+    }
+}
+
+// What stands behind the word later.
+fn put_off(alloc: Global, text: &[u8]) -> Result<Option<Request>, AllocError>
+    ensures { IfOk result (λ found. MatchOption found ((r : Request) → IsLaterOf r text.now → ⊥) (λ r. IsLaterOf r text.now)) }
+{
+    let Some((front, back)) = split_at_byte(text, b' ') else {
+        return Ok(None);
+    };
+    let Some(name) = word(alloc, front)? else {
+        return Ok(None);
+    };
+    match bump(alloc, back)? {
+        Some(by) => Ok(Some(Request::Later(name, by))),
+        None => Ok(None),
+    }
+}
+
+// The kind that the text names.
+fn kind_of(text: &[u8]) -> Option<Kind>
+    ensures { MatchOption result ((k : Kind) → text.now ≡ kind_text k → ⊥) (λ k. text.now ≡ kind_text k) }
+{
+    match text {
+        b"set" => Some(Kind::Set),
+        b"map" => Some(Kind::Map),
+        b"queue" => Some(Kind::Queue),
+        b"counter" => Some(Kind::Counter),
+        b"pool" => Some(Kind::Pool),
+        _ => None,
+    }
+}
+
+// What stands behind the word make.
+fn made(alloc: Global, text: &[u8]) -> Result<Option<Request>, AllocError>
+    ensures { IfOk result (λ found. MatchOption found ((r : Request) → IsMakeOf r text.now → ⊥) (λ r. IsMakeOf r text.now)) }
+{
+    let Some((front, back)) = split_at_byte(text, b' ') else {
+        return Ok(None);
+    };
+    let Some(kind) = kind_of(front) else {
+        return Ok(None);
+    };
+    match word(alloc, back)? {
+        Some(name) => Ok(Some(Request::Make(kind, name))),
+        None => Ok(None),
+    }
+}
+
+// What a client asks for.
+fn request(alloc: Global, text: &[u8]) -> Result<Option<Request>, AllocError>
+    ensures { IfOk result (λ found. MatchOption found ((r : Request) → IsRequestOf r text.now → ⊥) (λ r. IsRequestOf r text.now)) }
+{
+    if same(text, b"begin") {
+        return Ok(Some(Request::Begin));
+    }
+    if same(text, b"commit") {
+        return Ok(Some(Request::Commit));
+    }
+    if same(text, b"abort") {
+        return Ok(Some(Request::Abort));
+    }
+    if same(text, b"kept") {
+        return Ok(Some(Request::Kept));
+    }
+    if let Some(rest) = behind(text, b"call ") {
+        return called(alloc, rest);
+    }
+    if let Some(rest) = behind(text, b"later ") {
+        return put_off(alloc, rest);
+    }
+    match behind(text, b"make ") {
+        Some(rest) => made(alloc, rest),
+        None => Ok(None),
+    }
+}
+
+// What a client's line asks for, behind the letter c.
+fn of_client(alloc: Global, text: &[u8]) -> Result<Option<Action>, AllocError>
+    ensures { IfOk result (λ found. MatchOption found ((a : Action) → IsClientLine a text.now → ⊥) (λ a. IsClientLine a text.now)) }
+{
+    let Some((front, back)) = split_at_byte(text, b' ') else {
+        return Ok(None);
+    };
+    let Some(number) = client(alloc, front)? else {
+        return Ok(None);
+    };
+    match request(alloc, back)? {
+        Some(asked) => Ok(Some(Action::Client(number, asked))),
+        None => Ok(None),
+    }
+}
+
+// What a line asks for.
+pub fn action(alloc: Global, line: &[u8]) -> Result<Option<Action>, AllocError>
+    ensures { IfOk result (λ found. MatchOption found ((a : Action) → IsLineOf a line.now → ⊥) (λ a. IsLineOf a line.now)) }
+{
+    if same(line, b"turn") {
+        return Ok(Some(Action::Turn));
+    }
+    if same(line, b"checkpoint") {
+        return Ok(Some(Action::Checkpoint));
+    }
+    match behind(line, b"c") {
+        Some(rest) => of_client(alloc, rest),
+        None => Ok(None),
+    }
+}

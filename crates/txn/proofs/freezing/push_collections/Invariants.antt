@@ -1,5 +1,0 @@
-use Rattle.txn.proofs.Frozen.{AreTold}
-use Rattle.txn.proofs.freezing.push_collections.Given as goal
-
-abbrev pub invariant-loop-at : goal.invariant-loop-at
-invariant-loop-at g l = AreTold l.initial.packer l.packer (g.B.Coded.collections l.parts) l.at

@@ -1,5 +1,0 @@
-use Rattle.txn.proofs.Running.{IsRunningSo}
-use Rattle.txn.proofs.laters.run_laters.Given as goal
-
-abbrev pub invariant-loop-owned : goal.invariant-loop-owned
-invariant-loop-owned g l = IsRunningSo g.B.Boosted.answers g.B.Boosted.leaves g.B.Boosted.within l.number l.entries l.initial.parts l.owned-index l.parts l.count

@@ -1,6 +1,0 @@
-use Rattle.std.proofs.Common.{arith}
-use Rattle.txn.proofs.PendingLemmas.{last_fits}
-use Rattle.txn.proofs.pending.Pending.fits.Goals as goal
-
-pub overflow_add-result : goal.overflow_add-result
-overflow_add-result c = omega (arith, c.len.ensures, c.requires, last_fits c.self.inside.full.items c.self.inside.last.records c.self.invariant.packed)

@@ -1,5 +1,0 @@
-use Rattle.txn.proofs.TakenBack.{IsMakingSo}
-use Rattle.txn.proofs.redoing.make_all_again.Given as goal
-
-abbrev pub invariant-loop-owned : goal.invariant-loop-owned
-invariant-loop-owned g l = IsMakingSo g.B.Boosted.answers g.B.Boosted.leaves g.B.Boosted.within l.entries l.initial.parts l.owned-index l.parts

@@ -1,0 +1,4 @@
+pub mod UndoRecords
+pub mod AppendLemmas
+pub mod Walks
+pub mod UndoLemmas

@@ -1,0 +1,97 @@
+// The records of an undoing, written behind the blocks of an area.
+ghost use Rattle.std.specs.Prelude.{◌≡◌, ◌≤◌, ◌<◌, ◌+◌, ◌-◌, ◌*◌, ℕ, List, ◌++◌, ◌∷◌, [], length, drop, OnOk, IfOk, IfErr, false, vec_len, vec_capacity};
+ghost use Rattle.std.specs.List.{AllByRecursion};
+ghost use Rattle.std.specs.Int.{w32, to_be_bytes};
+ghost use Rattle.disk_model.specs.Disk.{LeavesOnly, Rises, IsAtRest};
+ghost use Rattle.gate_block.specs.Row.{IsBlockOf};
+ghost use Rattle.gate_block.specs.Area.{base_of, size_of, position_of, has_failed};
+ghost use Rattle.record_format.specs.Records.{spelling};
+ghost use Rattle.undoing.specs.Undoing.{IsUndoRecord, blocks_len};
+ghost use Rattle.undoing.specs.Appending.{IsAt, HoldsFirst, IsAppended};
+
+use calls::Refusal;
+use disk_model::Disk;
+use gate_block::{Area, BLOCK_HEAD, close_block};
+use record_format::{Record, encode};
+use std::alloc::Global;
+
+// So many records go into a block.
+const GROUP: usize = 64;
+
+// The most bytes of a block, with the gate behind it.
+const BLOCK_LEN: usize = 582;
+
+/// Room for one block of the undoing's records.
+pub fn make_room(alloc: Global) -> Result<Vec<u8>, Refusal>
+    ensures head { IfOk result (λ bytes. 5 ≤ length bytes.items) }
+    ensures room { IfOk result (λ bytes. 582 ≤ vec_capacity bytes) }
+    ensures only { IfErr result (λ e. e ≡ Refusal.NoMemory) }
+{
+    let mut bytes = vec![in alloc; 0; BLOCK_HEAD]?;
+    bytes.reserve(BLOCK_LEN - BLOCK_HEAD)?;
+    Ok(bytes)
+}
+
+// Spells the records one behind another, behind what the buffer holds. It takes no memory.
+fn spell(group: &[Record], bytes: &mut Vec<u8>)
+    requires undo { AllByRecursion IsUndoRecord group.now }
+    requires room { vec_len bytes.old + 9 * length group.now ≤ vec_capacity bytes.old }
+    ensures items { bytes.new.items ≡ bytes.old.items ++ spelling group.now }
+    ensures capacity { vec_capacity bytes.old ≤ vec_capacity bytes.new }
+{
+    for i in 0..group.len() {
+        let _spelled = encode(&group[i], bytes);
+    }
+}
+
+// Makes the buffer a whole block of the records. It takes no memory.
+fn pack(group: &[Record], bytes: &mut Vec<u8>)
+    requires undo { AllByRecursion IsUndoRecord group.now }
+    requires some { 0 < length group.now }
+    requires few { length group.now ≤ 64 }
+    requires head { 5 ≤ length bytes.old.items }
+    requires room { 582 ≤ vec_capacity bytes.old }
+    ensures block { IsBlockOf (spelling group.now) bytes.new.items }
+    ensures room { 582 ≤ vec_capacity bytes.new }
+{
+    bytes.truncate(BLOCK_HEAD);
+    spell(group, bytes);
+    close_block(bytes);
+}
+
+/// Writes the records behind the area's blocks, 64 to a block, through the buffer. It takes no memory. A stop at any
+/// moment of the call, on a disk that was at rest, leaves blocks of the first of them.
+///
+/// Refused Fault where the disk failed.
+pub fn append_all<D: Disk>(
+    disk: &mut D,
+    area: &mut Area,
+    records: &[Record],
+    mut bytes: Vec<u8>,
+) -> Result<(), Refusal>
+    requires undo { AllByRecursion IsUndoRecord records.now }
+    requires fits { position_of area.old + blocks_len (length records.now) < size_of area.old }
+    requires disk { base_of area.old + size_of area.old ≤ length (D.seen disk.old) }
+    requires fine { has_failed area.old ≡ false }
+    requires head { 5 ≤ length bytes.items }
+    requires room { 582 ≤ vec_capacity bytes }
+    ensures appended { OnOk result (IsAppended records.now area.old area.new (D.seen disk.old) (D.seen disk.new)) }
+    ensures untouched { OnOk result (length records.now ≡ 0 → disk.new ≡ disk.old) }
+    ensures stop { (bodies : List (List ℕ)) → IsAt area.old (D.seen disk.old) bodies → IsAtRest D.seen D.may_leave disk.old →
+        LeavesOnly D.moment D.left_since disk.old disk.new (HoldsFirst area.old (D.seen disk.old) bodies records.now) }
+    ensures durable { (bodies : List (List ℕ)) → IsAt area.old (D.seen disk.old) bodies → IsAtRest D.seen D.may_leave disk.old →
+        OnOk result (IsAtRest D.seen D.may_leave disk.new) }
+    ensures refused { IfErr result (λ e. (e ≡ Refusal.Fault) × Rises (D.fault_count disk.old) (D.fault_count disk.new)) }
+    ensures honest { D.is_honest disk.new → D.is_honest disk.old }
+    ensures faults { D.fault_count disk.old ≤ D.fault_count disk.new }
+    ensures size { length (D.seen disk.new) ≡ length (D.seen disk.old) }
+{
+    let mut rest = records;
+    while !rest.is_empty() {
+        let (group, behind) = rest.split_at(rest.len().min(GROUP));
+        pack(group, &mut bytes);
+        area.append(disk, bytes.as_slice())?;
+        rest = behind;
+    }
+    Ok(())
+}
