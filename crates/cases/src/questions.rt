@@ -1,7 +1,9 @@
 // What the lines of a case ask.
 use crate::bench::Bench;
 use crate::values::not_understood;
-use crate::{brief, damage, disks, files, images, records, runs, scripts, steps, stops, texts};
+use crate::{
+    brief, damage, disks, files, image_bytes, runs, scripts, spellings, steps, stops, texts,
+};
 use disk_model::Disk;
 use std::alloc::Global;
 use std::fs::File;
@@ -107,8 +109,8 @@ fn ask_of_table(
     out: &mut impl Write,
 ) -> io::Result<()> {
     match word {
-        "record" => records::read(alloc, rest, out),
-        "image" => images::open(alloc, bench, rest, out),
+        "record" => spellings::read(alloc, rest, out),
+        "image" => image_bytes::open(alloc, bench, rest, out),
         "area" => damage::tell_area(alloc, rest, out),
         "command" => runs::understand(alloc, rest, out),
         "texts" => texts::write_all(out),
