@@ -1,4 +1,3 @@
 pub mod Rooms
 pub mod Members
 pub mod Blockers
-pub mod Grants

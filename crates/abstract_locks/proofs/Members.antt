@@ -1,13 +1,17 @@
 -- What is in a list after a filter, and after one is put to its end.
-use Rattle.std.proofs.Common.{◌≡◌, ◌≢◌, ℕ, ◌⊎◌, ◌==◌, inl, inr, Bool, true, false, not, cond, List, [], ◌∷◌, ◌++◌, refl, sym, subst, ⊎_elim, arith}
+use Rattle.std.proofs.Common.{◌≡◌, ◌≢◌, ℕ, ◌⊎◌, ◌==◌, inl, inr, Bool, true, false, not, cond, List}
+use Rattle.std.proofs.Common.{[], ◌∷◌, ◌++◌, refl, sym, subst, ⊎_elim, arith}
 use Rattle.std.specs.List.{filter, Contains}
-use Rattle.std.proofs.lemmas.List.Elements.{Contains-push, Contains-push_cases, Contains-append_left, Contains-append_right, Contains-append_cases}
+use Rattle.std.proofs.lemmas.List.Elements.{Contains-push, Contains-push_cases}
+use Rattle.std.proofs.lemmas.List.Elements.{Contains-append_left, Contains-append_right}
+use Rattle.std.proofs.lemmas.List.Elements.{Contains-append_cases}
 use Rattle.abstract_locks.specs.declared.table.Hold.{Hold}
 use Rattle.abstract_locks.specs.Holds.{IsAdded, IsGivenUp}
 
 module _ {X : Type 0} where
   only : (x y : X) → Contains (x ∷ []) y → x ≡ y
-  only x y h = ⊎_elim (λ none. let lt = none.1 in absurd (omega arith)) (λ same. same) (Contains-push_cases [] x y h)
+  only x y h = ⊎_elim (λ none. let lt = none.1 in absurd (omega arith)) (λ same. same)
+      (Contains-push_cases [] x y h)
 
   module _ (p : X → Bool) where
     head_kept : (b : Bool) (x : X) (us : List X) → b ≡ true → Contains (cond b (x ∷ us) us) x
@@ -23,28 +27,39 @@ module _ {X : Type 0} where
     in_filter [] y h e = h
     in_filter (x ∷ xs) y h e =
         ⊎_elim
-        (λ first. let same = only x y first in subst (Contains (cond (p x) (x ∷ filter p xs) (filter p xs))) same (head_kept (p x) x (filter p xs) (rw same e)))
+        (λ first. let same = only x y first in
+        subst (Contains (cond (p x) (x ∷ filter p xs) (filter p xs))) same
+        (head_kept (p x) x (filter p xs) (rw same e)))
         (λ later. rest_kept (p x) x y (filter p xs) (in_filter xs y later e))
         (Contains-append_cases (x ∷ []) xs y h)
 
-    split : (b : Bool) (x y : X) (us : List X) → Contains (cond b (x ∷ us) us) y → ((b ≡ true) × (x ≡ y)) ⊎ Contains us y
-    split true x y us h = ⊎_elim (λ first. inl (refl, only x y first)) (λ later. inr later) (Contains-append_cases (x ∷ []) us y h)
+    split : (b : Bool) (x y : X) (us : List X) → Contains (cond b (x ∷ us) us) y →
+        ((b ≡ true) × (x ≡ y)) ⊎ Contains us y
+    split true x y us h = ⊎_elim (λ first. inl (refl, only x y first)) (λ later. inr later)
+        (Contains-append_cases (x ∷ []) us y h)
     split false x y us h = inr h
 
     -- what is left was there, and passes the test
-    pub from_filter : (xs : List X) (y : X) → Contains (filter p xs) y → Contains xs y × (p y ≡ true)
+    pub from_filter : (xs : List X) (y : X) → Contains (filter p xs) y →
+        Contains xs y × (p y ≡ true)
     from_filter [] y h = let lt = h.1 in absurd (omega arith)
     from_filter (x ∷ xs) y h =
         ⊎_elim
-        (λ first. (subst (Contains (x ∷ xs)) first.1 (Contains-append_left (x ∷ []) xs x (Contains-push [] x)), rw (← first.1) first.0))
-        (λ later. let rest = from_filter xs y later in (Contains-append_right (x ∷ []) xs y rest.0, rest.1))
+        (λ first. (
+          subst (Contains (x ∷ xs)) first.1
+              (Contains-append_left (x ∷ []) xs x (Contains-push [] x)),
+          rw (← first.1) first.0,
+        ))
+        (λ later. let rest = from_filter xs y later in
+        (Contains-append_right (x ∷ []) xs y rest.0, rest.1))
         (split (p x) x y (filter p xs) h)
 
 -- a hold that is put to the end
 pub pushed_is_added : (holds : List Hold) (h : Hold) → IsAdded holds (holds ++ h ∷ []) h
 pushed_is_added holds h x = (
   λ inside. ⊎_elim (λ old. inl old) (λ same. inr (sym same)) (Contains-push_cases holds h x inside),
-  λ either. ⊎_elim (λ old. Contains-append_left holds (h ∷ []) x old) (λ same. subst (Contains (holds ++ h ∷ [])) (sym same) (Contains-push holds h)) either,
+  λ either. ⊎_elim (λ old. Contains-append_left holds (h ∷ []) x old)
+      (λ same. subst (Contains (holds ++ h ∷ [])) (sym same) (Contains-push holds h)) either,
 )
 
 test_says : (a b : ℕ) → not (a == b) ≡ true → a ≢ b
@@ -54,9 +69,12 @@ says_test : (a b : ℕ) → a ≢ b → not (a == b) ≡ true
 says_test a b n = grind arith
 
 -- the holds of others are what is left of all
-pub filtered_is_given_up : (owner : ℕ) (old new : List Hold) → new ≡ filter (λ h. not (h.owner == owner)) old → IsGivenUp old new owner
+pub filtered_is_given_up : (owner : ℕ) (old new : List Hold) →
+    new ≡ filter (λ h. not (h.owner == owner)) old → IsGivenUp old new owner
 filtered_is_given_up owner old new is x = (
-  λ inside. let both = from_filter (λ h. not (h.owner == owner)) old x (subst (λ l. Contains l x) is inside) in
+  λ inside. let both = from_filter (λ h. not (h.owner == owner)) old x
+      (subst (λ l. Contains l x) is inside) in
       (both.0, test_says x.owner owner both.1),
-  λ both. subst (λ l. Contains l x) (sym is) (in_filter (λ h. not (h.owner == owner)) old x both.0 (says_test x.owner owner both.1)),
+  λ both. subst (λ l. Contains l x) (sym is)
+      (in_filter (λ h. not (h.owner == owner)) old x both.0 (says_test x.owner owner both.1)),
 )

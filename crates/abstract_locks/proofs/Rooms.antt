@@ -18,13 +18,19 @@ gone zero n i none h = omega arith
 gone (suc k) n zero none h = omega arith
 gone (suc k) n (suc i) none h = gone k n i none h
 
+some : (k n i : ℕ) → 0 < get_or (replicate k n) i 0 → 0 < n
+some zero n i h = omega arith
+some (suc k) n zero h = h
+some (suc k) n (suc i) h = some k n i h
+
 -- there is room for a collection where there is any
 pub room_here : (n i : ℕ) → i < 256 → 0 < n → 0 < get_or (everywhere n) i 0
 unfolding everywhere
 room_here n i h pos = rw (at_each 256 n i h) pos
 
 -- where no room is lost each collection keeps its own
-pub room_stays : (n m : ℕ) → n ≤ m → (i : ℕ) → 0 < get_or (everywhere n) i 0 → 0 < get_or (everywhere m) i 0
+pub room_stays : (n m : ℕ) → n ≤ m → (i : ℕ) → 0 < get_or (everywhere n) i 0 →
+    0 < get_or (everywhere m) i 0
 unfolding everywhere
 room_stays n m le i h = grows 256 n m i le h
 
@@ -32,3 +38,8 @@ room_stays n m le i h = grows 256 n m i le h
 pub no_room : (n i : ℕ) → n ≡ 0 → 0 < get_or (everywhere n) i 0 → ⊥
 unfolding everywhere
 no_room n i none h = gone 256 n i none h
+
+-- where there is room for a collection there is some
+pub some_room : (n i : ℕ) → 0 < get_or (everywhere n) i 0 → 0 < n
+unfolding everywhere
+some_room n i h = some 256 n i h

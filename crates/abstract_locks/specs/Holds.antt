@@ -1,11 +1,13 @@
 -- What live transactions hold, and what stands in the way of a need.
-use Rattle.std.specs.Prelude.{◌≡◌, ◌≢◌, ℕ, ◌<◌, ◌≤◌, ◌↔◌, ◌⊎◌, List, slice_index, replicate, All, Any, Contains}
+use Rattle.std.specs.Prelude.{◌≡◌, ◌≢◌, ℕ, ◌<◌, ◌≤◌, ◌↔◌, ◌⊎◌, List, slice_index, replicate, All}
+use Rattle.std.specs.Prelude.{Any, Contains}
 use Rattle.calls.specs.declared.need.Need.{Need}
 use Rattle.calls.specs.declared.refusal.Refusal.{Refusal}
-use Rattle.calls.specs.Needs.{Conflict}
+use Rattle.calls.specs.Rules.{Conflict}
 use Rattle.abstract_locks.specs.declared.table.Hold.{Hold}
 
--- The needs that are held; and, for each collection by its number, for how many more holds on it there is room.
+-- The needs that are held; and, for each collection by its number, for how many more holds on it
+-- there is room.
 pub record Holdings : Type 0 where
   pub holds : List Hold
   pub rooms : List ℕ
@@ -18,7 +20,8 @@ hold owner at need = record { owner = owner; at = at; need = need }
 unfoldable pub everywhere : ℕ → List ℕ
 everywhere n = replicate 256 n
 
--- The hold keeps the need on the collection from the owner: another owner has it, and the two conflict.
+-- The hold keeps the need on the collection from the owner: another owner has it, and the two
+-- conflict.
 abbrev pub Blocks : (owner at : ℕ) → Need → Hold → Type 0
 Blocks owner at need h = (h.owner ≢ owner) × (h.at ≡ at) × Conflict h.need need
 
@@ -44,10 +47,12 @@ abbrev pub IsBusyRefusal : List Hold → (owner at : ℕ) → Need → Refusal �
 IsBusyRefusal holds owner at need (Refusal.Busy n) = IsBusy holds owner at need n
 IsBusyRefusal holds owner at need r = ⊥
 
--- Why a need that is asked for is refused: Busy, or want of memory where nothing else is in the way and no room is reserved.
+-- Why a need that is asked for is refused: Busy, or want of memory where nothing else is in the way
+-- and no room is reserved.
 abbrev pub IsAskRefusal : Holdings → (owner at : ℕ) → Need → Refusal → Type 0
 IsAskRefusal table owner at need (Refusal.Busy n) = IsBusy table.holds owner at need n
-IsAskRefusal table owner at need Refusal.NoMemory = IsClear table.holds owner at need × (HasRoom table at → ⊥)
+IsAskRefusal table owner at need Refusal.NoMemory =
+    IsClear table.holds owner at need × (HasRoom table at → ⊥)
 IsAskRefusal table owner at need r = ⊥
 
 -- What was held is held, and the one hold besides, and no other.

@@ -1,7 +1,9 @@
 // The table of needs: a plain list of all holds.
-ghost use Rattle.std.specs.Prelude.{◌≡◌, ◌↔◌, Some, [], min, IsTrue, IsOk, IsOkUnless, IfErr, MatchOption, OnOk, OnErr};
+ghost use Rattle.std.specs.Prelude.{◌≡◌, ◌↔◌, Some, [], min, IsTrue, IsOk, IsOkUnless, IfErr};
+ghost use Rattle.std.specs.Prelude.{MatchOption, OnOk, OnErr};
 ghost use Rattle.std.specs.Option.{option_map_or};
-ghost use Rattle.abstract_locks.specs.Holds.{hold, Blocks, IsClear, IsBusy, IsBusyRefusal, IsAskRefusal, HasRoom, KeepsRoom, IsAdded, IsGivenUp};
+ghost use Rattle.abstract_locks.specs.Holds.{hold, Blocks, IsClear, IsBusy, IsBusyRefusal};
+ghost use Rattle.abstract_locks.specs.Holds.{IsAskRefusal, HasRoom, KeepsRoom, IsAdded, IsGivenUp};
 
 use calls::{Need, Refusal};
 use std::alloc::Global;
@@ -24,7 +26,8 @@ impl Hold {
     }
 }
 
-/// The needs that live transactions hold. Contracts see the holds, and for how many more there is room.
+/// The needs that live transactions hold. Contracts see the holds, and for how many more there is
+/// room.
 #[derive(Drop, Debug)]
 pub struct NeedTable {
     holds: Vec<Hold>,
@@ -52,8 +55,10 @@ impl NeedTable {
         }
     }
 
-    /// Lets the owner hold the need on the collection, beside what is held. Refusals, in their order, each of which
-    /// leaves the table as it was: Busy with the least other owner of a need on the collection that conflicts, exactly
+    /// Lets the owner hold the need on the collection, beside what is held. Refusals, in their
+    /// order, each of which
+    /// leaves the table as it was: Busy with the least other owner of a need on the collection that
+    /// conflicts, exactly
     /// where there is one; NoMemory, only where no room is reserved for the collection.
     pub fn ask(&mut self, owner: u64, col: u8, need: Need) -> Result<(), Refusal>
         ensures clear { OnOk result (IsClear self.old.holds owner col need) }
@@ -62,16 +67,27 @@ impl NeedTable {
         ensures unchanged { OnErr result (self.new ≡ self.old) }
     {
         self.test(owner, col, &need)?;
-        self.holds.reserve(1)?;
+        self.reserve(col)?;
+        self.grant(owner, col, need);
+        Ok(())
+    }
+
+    /// Lets the owner hold the need on the collection, beside what is held, where the need is free
+    /// and room is reserved. It tests neither, and takes no memory.
+    pub fn grant(&mut self, owner: u64, col: u8, need: Need)
+        requires room { HasRoom self.old col }
+        requires clear { IsClear self.old.holds owner col need }
+        ensures held { IsAdded self.old.holds self.new.holds (hold owner col need) }
+    {
         self.holds.push_reserved(Hold {
             owner,
             at: col,
             need,
         });
-        Ok(())
     }
 
-    /// Whether `ask` would find the need free: Busy as there, and no other refusal. It takes no memory.
+    /// Whether `ask` would find the need free: Busy as there, and no other refusal. It takes no
+    /// memory.
     pub fn test(&self, owner: u64, col: u8, need: &Need) -> Result<(), Refusal>
         ensures clear { OnOk result (IsClear self.now.holds owner col need.now) }
         ensures busy { IfErr result (IsBusyRefusal self.now.holds owner col need.now) }
@@ -82,7 +98,8 @@ impl NeedTable {
         }
     }
 
-    /// Makes room for one more hold on the collection. NoMemory, which leaves the table as it was, only where no room
+    /// Makes room for one more hold on the collection. NoMemory, which leaves the table as it was,
+    /// only where no room
     /// was reserved for the collection.
     pub fn reserve(&mut self, col: u8) -> Result<(), Refusal>
         ensures room { OnOk result (HasRoom self.new col) }
@@ -105,7 +122,8 @@ impl NeedTable {
 
     // The least other owner of a hold that keeps the need from the owner.
     fn least_blocker(&self, owner: u64, col: u8, need: &Need) -> Option<u64>
-        ensures { MatchOption result (IsClear self.now.holds owner col need.now) (IsBusy self.now.holds owner col need.now) }
+        ensures { MatchOption result (IsClear self.now.holds owner col need.now)
+            (IsBusy self.now.holds owner col need.now) }
     {
         let mut least = None;
         for hold in &self.holds {

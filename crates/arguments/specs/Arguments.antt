@@ -1,8 +1,10 @@
 -- The program's command line, and what it asks for.
-use Rattle.std.specs.Prelude.{◌≡◌, ℕ, ◌-◌, ◌^◌, List, Some, Ok, codes, string_bytes, true, IsSomeAnd}
+use Rattle.std.specs.Prelude.{◌≡◌, ℕ, ◌-◌, ◌^◌, List, Some, Ok, codes, string_bytes, true}
+use Rattle.std.specs.Prelude.{IsSomeAnd}
 use Rattle.std.specs.Str.Parse.{ParsesUnsigned}
 use Rattle.std.specs.declared.num.ParseIntError.{ParseIntError}
-use Rattle.clap.specs.Words.{App, Row, Rule, Text, first_of, new_app, new_rule, subcommand_of, with_rule, with_subcommand}
+use Rattle.clap.specs.Words.{App, Row, Rule, Text, first_of, new_app, new_rule, subcommand_of}
+use Rattle.clap.specs.Words.{with_rule, with_subcommand}
 use Rattle.clap.specs.declared.builder.ArgAction.TheVariants.{Set}
 use Rattle.clap.specs.declared.builder.ValueParser.TheVariants as parsers
 use Rattle.arguments.specs.declared.Task.{Task}
@@ -26,7 +28,8 @@ abbrev pub format_app : App
 format_app = with_rule (with_rule (new_app (codes "format")) (path_rule (codes "DISK"))) area_rule
 
 abbrev pub play_app : App
-play_app = with_rule (with_rule (new_app (codes "play")) (path_rule (codes "DISK"))) (path_rule (codes "SCRIPT"))
+play_app = with_rule (with_rule (new_app (codes "play")) (path_rule (codes "DISK")))
+    (path_rule (codes "SCRIPT"))
 
 -- a command on a disk alone
 abbrev pub disk_app : Text → App
@@ -42,12 +45,14 @@ abbrev pub demo_app : App
 demo_app = new_app (codes "demo")
 
 abbrev pub bare_app : App
-bare_app = let a = new_app (codes "boost") in record a { top = record a.top { subcommand_required = true } }
+bare_app = let a = new_app (codes "boost") in
+    record a { top = record a.top { subcommand_required = true } }
 
 abbrev pub program_app : App
 program_app =
     let on_disks = with_subcommand (with_subcommand bare_app format_app.top) play_app.top in
-    with_subcommand (with_subcommand (with_subcommand on_disks show_app.top) check_app.top) demo_app.top
+    with_subcommand (with_subcommand (with_subcommand on_disks show_app.top) check_app.top)
+    demo_app.top
 
 -- ---- what is asked for
 
@@ -57,12 +62,19 @@ pub record IsNumberOf (n : ℕ) (text : Text) : Type 0 where
 
 -- the subcommand that was found, with its arguments
 abbrev pub Asks : Task → Text × List Row → Type 0
-Asks (Task.Format disk area) found = (found.0 ≡ codes "format") × (first_of (codes "DISK") found.1 ≡ Some (string_bytes disk)) × IsSomeAnd (first_of (codes "area") found.1) (IsNumberOf area)
-Asks (Task.Play disk script) found = (found.0 ≡ codes "play") × (first_of (codes "DISK") found.1 ≡ Some (string_bytes disk)) × (first_of (codes "SCRIPT") found.1 ≡ Some (string_bytes script))
-Asks (Task.Show disk) found = (found.0 ≡ codes "show") × (first_of (codes "DISK") found.1 ≡ Some (string_bytes disk))
-Asks (Task.Check disk) found = (found.0 ≡ codes "check") × (first_of (codes "DISK") found.1 ≡ Some (string_bytes disk))
+Asks (Task.Format disk area) found =
+    (found.0 ≡ codes "format") × (first_of (codes "DISK") found.1 ≡ Some (string_bytes disk)) ×
+    IsSomeAnd (first_of (codes "area") found.1) (IsNumberOf area)
+Asks (Task.Play disk script) found =
+    (found.0 ≡ codes "play") × (first_of (codes "DISK") found.1 ≡ Some (string_bytes disk)) ×
+    (first_of (codes "SCRIPT") found.1 ≡ Some (string_bytes script))
+Asks (Task.Show disk) found = (found.0 ≡ codes "show") ×
+    (first_of (codes "DISK") found.1 ≡ Some (string_bytes disk))
+Asks (Task.Check disk) found = (found.0 ≡ codes "check") ×
+    (first_of (codes "DISK") found.1 ≡ Some (string_bytes disk))
 Asks Task.Demo found = found.0 ≡ codes "demo"
 
--- The words ask for the task: clap finds the task's command in them, with the task's paths and number.
+-- The words ask for the task: clap finds the task's command in them, with the task's paths and
+-- number.
 abbrev pub IsAskedBy : Task → List Text → Type 0
 IsAskedBy task words = IsSomeAnd (subcommand_of program_app words) (Asks task)

@@ -1,10 +1,13 @@
 //! The program's command line.
 #![tactic(auto)]
 
-ghost use Rattle.std.specs.Prelude.{◌≡◌, codes, false, true, map, IfOk, IfErr, Some, IfSome, IsSomeAnd, string_bytes};
+ghost use Rattle.std.specs.Prelude.{◌≡◌, codes, false, true, map, IfOk, IfErr, Some, IfSome};
+ghost use Rattle.std.specs.Prelude.{IsSomeAnd, string_bytes};
 ghost use Rattle.clap.specs.declared.builder.command.Command.TheViews.{out-Command};
-ghost use Rattle.clap.specs.Words.{app_of, found_of, first_of, rows_of, rule_of, subcommand_rows_of};
-ghost use Rattle.arguments.specs.Arguments.{path_rule, area_rule, disk_app, format_app, play_app, program_app, Asks, IsNumberOf, IsAskedBy};
+ghost use Rattle.clap.specs.Words.{app_of, found_of, first_of, rows_of, rule_of};
+ghost use Rattle.clap.specs.Words.{subcommand_rows_of};
+ghost use Rattle.arguments.specs.Arguments.{path_rule, area_rule, disk_app, format_app, play_app};
+ghost use Rattle.arguments.specs.Arguments.{program_app, Asks, IsNumberOf, IsAskedBy};
 
 use clap::error::ErrorKind;
 use clap::{Arg, ArgAction, ArgMatches, Error, value_parser};
@@ -66,7 +69,8 @@ fn play_command<'a>(alloc: Global) -> Result<clap::Command<'a>, AllocError>
 
 // A command on a disk alone.
 fn disk_command<'a>(alloc: Global, name: &'a str) -> Result<clap::Command<'a>, AllocError>
-    ensures { IfOk result (λ c. (app_of c ≡ disk_app name.entry.now) × ((out-Command c).has_globals ≡ false)) }
+    ensures { IfOk result (λ c. (app_of c ≡ disk_app name.entry.now) ×
+        ((out-Command c).has_globals ≡ false)) }
 {
     clap::Command::new(alloc, name).arg(path(alloc, "DISK"))
 }
@@ -85,7 +89,8 @@ fn program<'a>(alloc: Global) -> Result<clap::Command<'a>, AllocError>
 }
 
 fn text(alloc: Global, found: &ArgMatches<'_>, id: &str) -> Result<Option<String>, AllocError>
-    ensures { IfOk result (λ text. IfSome text (λ t. first_of id.now (rows_of (found_of found.now)) ≡ Some (string_bytes t))) }
+    ensures { IfOk result (λ text. IfSome text
+        (λ t. first_of id.now (rows_of (found_of found.now)) ≡ Some (string_bytes t))) }
 {
     match found.get_str(id) {
         Some(text) => Ok(Some(String::from_str(alloc, text)?)),
@@ -94,14 +99,16 @@ fn text(alloc: Global, found: &ArgMatches<'_>, id: &str) -> Result<Option<String
 }
 
 fn number(found: &ArgMatches<'_>, id: &str) -> Option<u64>
-    ensures { IfSome result (λ n. IsSomeAnd (first_of id.now (rows_of (found_of found.now))) (IsNumberOf n)) }
+    ensures { IfSome result (λ n. IsSomeAnd (first_of id.now (rows_of (found_of found.now)))
+        (IsNumberOf n)) }
 {
     found.get_str(id)?.parse().ok()
 }
 
 // The command that the matches name.
 fn named(alloc: Global, matches: &ArgMatches<'_>) -> Result<Option<Task>, AllocError>
-    ensures { IfOk result (λ task. IfSome task (λ t. IsSomeAnd (subcommand_rows_of matches.now) (Asks t))) }
+    ensures { IfOk result (λ task. IfSome task
+        (λ t. IsSomeAnd (subcommand_rows_of matches.now) (Asks t))) }
 {
     let Some((name, found)) = matches.subcommand() else {
         return Ok(None);
@@ -138,7 +145,8 @@ fn named(alloc: Global, matches: &ArgMatches<'_>) -> Result<Option<Task>, AllocE
     }
 }
 
-/// The command that the words ask for; the first word is the program's name. Refused with clap's error, which has
+/// The command that the words ask for; the first word is the program's name. Refused with clap's
+/// error, which has
 /// the text to print.
 pub fn command<'a>(alloc: Global, words: &'a [&'a str]) -> Result<Task, Error>
     ensures { IfOk result (λ task. IsAskedBy task (map (λ word. word.now) words.entry.now)) }

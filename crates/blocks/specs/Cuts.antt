@@ -1,5 +1,6 @@
 -- Records that wait, handed over block by block.
-use Rattle.std.specs.Prelude.{◌≡◌, ℕ, ◌+◌, ◌<◌, ◌≤◌, ◌⊎◌, ◌↔◌, Bool, true, false, List, [], ◌∷◌, ◌++◌, length, Contains, Result, Ok, Err}
+use Rattle.std.specs.Prelude.{◌≡◌, ℕ, ◌+◌, ◌<◌, ◌≤◌, ◌⊎◌, ◌↔◌, Bool, true, false, List, [], ◌∷◌}
+use Rattle.std.specs.Prelude.{◌++◌, length, Contains, Result, Ok, Err}
 use Rattle.calls.specs.declared.refusal.Refusal.{Refusal}
 use Rattle.gate_block.specs.Row.{IsBlockOf}
 use Rattle.record_format.specs.declared.record.Record.{Record}
@@ -7,27 +8,42 @@ use Rattle.record_format.specs.Acts.{places}
 use Rattle.record_format.specs.Records.{spelled, spelling}
 use Rattle.blocks.specs.declared.block.Block.{Block}
 
--- The first of the records, as many as fit and as come before the next freeze, are handed over as one block, and rest is left.
-pub record HandsOver (pending : List Record) (freezes : List ℕ) (end place : ℕ) (block : Block) (rest : List Record) : Type 0 where
+-- The first of the records, as many as fit and as come before the next freeze, are handed over as
+-- one block, and rest is left.
+pub record HandsOver (pending : List Record) (freezes : List ℕ) (end place : ℕ) (block : Block)
+    (rest : List Record) : Type 0 where
   pub first : List Record
   pub are : pending ≡ first ++ rest
   pub some : 0 < length first
   pub bytes : IsBlockOf (spelling first) block.bytes.items
   -- the next one would not have fitted, or a freeze stood between
-  pub most : (r : Record) (behind : List Record) → rest ≡ r ∷ behind → (65535 < length (spelling first) + length (spelled r)) ⊎ Contains freezes block.end
+  pub most : (r : Record) (behind : List Record) → rest ≡ r ∷ behind →
+      (65535 < length (spelling first) + length (spelled r)) ⊎ Contains freezes block.end
   -- no record of it comes from behind a freeze
   pub apart : (f : ℕ) → Contains freezes f → block.end ≤ f
   pub ends : block.end ≡ end + length first
   pub commits : block.place ≡ place + places first
 
--- What a cut answers of the records that are pending, of the freezes that stood between them, and of how many were handed over before: one block goes
--- behind those that wait in the outbox, and the freezes behind its end are left; or nothing where nothing is pending. A refusal leaves all.
-abbrev pub CutsOff : (pending : List Record) (freezes : List ℕ) (end place : ℕ) → List Block → Type 0 → Result Bool Refusal → List Block → (rest : List Record) (freezes_then : List ℕ) (end_then place_then : ℕ) → Type 0
-CutsOff pending freezes end place waiting full (Ok true) waits rest freezes_then end_then place_then =
-    (block : Block) × (waits ≡ waiting ++ block ∷ []) × HandsOver pending freezes end place block rest × (end_then ≡ block.end) × (place_then ≡ block.place) ×
+-- What a cut answers of the records that are pending, of the freezes that stood between them, and
+-- of how many were handed over before: one block goes
+-- behind those that wait in the outbox, and the freezes behind its end are left; or nothing where
+-- nothing is pending. A refusal leaves all.
+abbrev pub CutsOff : (pending : List Record) (freezes : List ℕ) (end place : ℕ) → List Block →
+    Type 0 → Result Bool Refusal → List Block →
+    (rest : List Record) (freezes_then : List ℕ) (end_then place_then : ℕ) → Type 0
+CutsOff pending freezes end place waiting full (Ok true) waits rest freezes_then end_then
+    place_then =
+    (block : Block) × (waits ≡ waiting ++ block ∷ []) ×
+    HandsOver pending freezes end place block rest × (end_then ≡ block.end) ×
+    (place_then ≡ block.place) ×
     ((f : ℕ) → Contains freezes_then f ↔ (Contains freezes f × (block.end < f)))
-CutsOff pending freezes end place waiting full (Ok false) waits rest freezes_then end_then place_then =
-    (pending ≡ []) × (waits ≡ waiting) × (rest ≡ pending) × (end_then ≡ end) × (place_then ≡ place) × (freezes_then ≡ freezes)
-CutsOff pending freezes end place waiting full (Err Refusal.NotNow) waits rest freezes_then end_then place_then =
-    full × (waits ≡ waiting) × (rest ≡ pending) × (end_then ≡ end) × (place_then ≡ place) × (freezes_then ≡ freezes) × (0 < length pending)
-CutsOff pending freezes end place waiting full (Err e) waits rest freezes_then end_then place_then = ⊥
+CutsOff pending freezes end place waiting full (Ok false) waits rest freezes_then end_then
+    place_then =
+    (pending ≡ []) × (waits ≡ waiting) × (rest ≡ pending) × (end_then ≡ end) ×
+    (place_then ≡ place) × (freezes_then ≡ freezes)
+CutsOff pending freezes end place waiting full (Err Refusal.NotNow) waits rest freezes_then end_then
+    place_then =
+    full × (waits ≡ waiting) × (rest ≡ pending) × (end_then ≡ end) × (place_then ≡ place) ×
+    (freezes_then ≡ freezes) × (0 < length pending)
+CutsOff pending freezes end place waiting full (Err e) waits rest freezes_then end_then place_then =
+    ⊥

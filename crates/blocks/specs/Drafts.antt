@@ -9,7 +9,9 @@ use Rattle.blocks.specs.declared.noted.Noted.TheVariants.{Start, After', Called'
 abbrev pub noted_records : Noted → List Record
 noted_records Start = []
 noted_records (After' no_bytes earlier noted) = noted_records earlier ++ noted.value ∷ []
-noted_records (Called' no_bytes earlier n at call reply back) = noted_records earlier ++ Record.Call (call_record n.value at.value call.value reply.value back.value) ∷ []
+noted_records (Called' no_bytes earlier n at call reply back) =
+    noted_records earlier ++ Record.Call
+    (call_record n.value at.value call.value reply.value back.value) ∷ []
 
 -- The records of a block in the making; how many bytes are written, and for how many there is room.
 pub record Drafted : Type 0 where
@@ -22,7 +24,8 @@ pub record HasPlace (d : Drafted) (more : ℕ) : Type 0 where
   pub head : 5 ≤ d.len
   pub room : d.len + more < d.capacity
 
--- The bytes are five for a head and then the records, with room for a closed gate. Where there is no record the head may be missing.
+-- The bytes are five for a head and then the records, with room for a closed gate. Where there is
+-- no record the head may be missing.
 pub record IsDraft (bytes : List ℕ) (capacity : ℕ) (records : List Record) : Type 0 where
   pub body : drop 5 bytes ≡ spelling records
   pub head : 0 < length records → (5 ≤ length bytes) × (length bytes < capacity)
@@ -36,4 +39,5 @@ Fills rs (r ∷ behind) = 65535 < length (spelling rs) + length (spelled r)
 abbrev pub ArePacked : List (List Record) → Type 0
 ArePacked [] = Unit {0}
 ArePacked (b ∷ []) = length (spelling b) ≤ 65535
-ArePacked (b ∷ c ∷ bs) = (0 < length b) × (length (spelling b) ≤ 65535) × Fills b c × ArePacked (c ∷ bs)
+ArePacked (b ∷ c ∷ bs) = (0 < length b) × (length (spelling b) ≤ 65535) × Fills b c ×
+    ArePacked (c ∷ bs)

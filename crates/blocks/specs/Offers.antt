@@ -8,7 +8,8 @@ use Rattle.blocks.specs.declared.block.Block.{Block}
 use Rattle.blocks.specs.declared.draft.Handed.{Handed}
 
 -- The records go behind the blocks that wait, as one block, and are counted.
-pub record IsOffered (records : List Record) (before after : Handed) (waiting waits : List Block) : Type 0 where
+pub record IsOffered (records : List Record) (before after : Handed)
+    (waiting waits : List Block) : Type 0 where
   pub block : Block
   pub behind : waits ≡ waiting ++ block ∷ []
   pub bytes : IsBlockOf (spelling records) block.bytes.items

@@ -1,5 +1,6 @@
 -- The records that wait for a block, block by block.
-use Rattle.std.specs.Prelude.{◌≡◌, ℕ, ◌+◌, ◌<◌, ◌≤◌, ◌⊎◌, Bool, true, false, IsTrue, List, [], ◌∷◌, ◌++◌, length}
+use Rattle.std.specs.Prelude.{◌≡◌, ℕ, ◌+◌, ◌<◌, ◌≤◌, ◌⊎◌, Bool, true, false, IsTrue, List, [], ◌∷◌}
+use Rattle.std.specs.Prelude.{◌++◌, length}
 use Rattle.std.specs.List.{flat_map}
 use Rattle.record_format.specs.declared.record.Record.{Record}
 use Rattle.record_format.specs.Records.{spelling}
@@ -7,7 +8,8 @@ use Rattle.blocks.specs.Drafts.{Drafted, HasPlace, Fills}
 use Rattle.blocks.specs.declared.draft.Handed.{Handed}
 use Rattle.blocks.specs.declared.pending.Filled.{Filled}
 
--- The full blocks, the last one and one that is not used yet; for how many full blocks there is room; and what was handed over.
+-- The full blocks, the last one and one that is not used yet; for how many full blocks there is
+-- room; and what was handed over.
 pub record Waiting : Type 0 where
   pub full : List Filled
   pub last : Drafted
@@ -27,7 +29,8 @@ sealed_end false end = []
 -- the ends of the sealed blocks, counted from the position where the first one begins
 abbrev pub sealed_ends : ℕ → List Filled → List ℕ
 sealed_ends from [] = []
-sealed_ends from (b ∷ bs) = sealed_end b.sealed (from + length b.draft.records) ++ sealed_ends (from + length b.draft.records) bs
+sealed_ends from (b ∷ bs) = sealed_end b.sealed (from + length b.draft.records) ++
+    sealed_ends (from + length b.draft.records) bs
 
 -- where freezes stand among the records that wait
 abbrev pub freezes : Waiting → List ℕ
@@ -42,7 +45,8 @@ next_of (b ∷ bs) last = b.draft.records
 abbrev pub AreFilled : List Filled → List Record → Type 0
 AreFilled [] last = length (spelling last) ≤ 65535
 AreFilled (b ∷ bs) last =
-    (0 < length b.draft.records) × (length (spelling b.draft.records) ≤ 65535) × (Fills b.draft.records (next_of bs last) ⊎ IsTrue b.sealed) × AreFilled bs last
+    (0 < length b.draft.records) × (length (spelling b.draft.records) ≤ 65535) ×
+    (Fills b.draft.records (next_of bs last) ⊎ IsTrue b.sealed) × AreFilled bs last
 
 -- Each block is as full as it can be, or sealed, and the records are counted.
 pub record IsCounted (w : Waiting) (count : ℕ) : Type 0 where

@@ -5,7 +5,8 @@ ghost use Rattle.blocks.specs.Wholes.{IsWhole};
 
 use std::collections::VecDeque;
 
-/// A whole block: an open gate, the length, the body, a closed gate. `end` is the position after its last record,
+/// A whole block: an open gate, the length, the body, a closed gate. `end` is the position after
+/// its last record,
 /// counted since the store was opened, and `place` the count of commits and makes up to there.
 #[derive(Drop, Debug)]
 pub struct Block {
@@ -15,8 +16,10 @@ pub struct Block {
     ghost whole: { IsWhole bytes.items },
 }
 
-/// Whole blocks that hold an image of a book, as `Book::freeze` answers it. `end` is the position after the last record
-/// that it covers, counted since the store was opened, and `place` the count of commits and makes up to there.
+/// Whole blocks that hold an image of a book, as `Book::freeze` answers it. `end` is the position
+/// after the last record
+/// that it covers, counted since the store was opened, and `place` the count of commits and makes
+/// up to there.
 #[derive(Drop, Debug)]
 pub struct Image {
     pub blocks: VecDeque<Vec<u8>>,

@@ -1,11 +1,14 @@
 // A block in the making.
-ghost use Rattle.std.specs.Prelude.{◌≡◌, ◌+◌, ◌≤◌, ◌<◌, ◌^◌, [], ◌∷◌, ◌++◌, ◌↔◌, IsTrue, length, drop, ◌-◌, vec_len, vec_capacity, OnOk, OnErr, IfSome, IfErr, IsOkUnless};
+ghost use Rattle.std.specs.Prelude.{◌≡◌, ◌+◌, ◌≤◌, ◌<◌, ◌^◌, [], ◌∷◌, ◌++◌, ◌↔◌, IsTrue, length};
+ghost use Rattle.std.specs.Prelude.{drop, ◌-◌, vec_len, vec_capacity, OnOk, OnErr, IfSome, IfErr};
+ghost use Rattle.std.specs.Prelude.{IsOkUnless};
 ghost use Rattle.std.specs.Int.{w32, to_be_bytes};
 ghost use Rattle.gate_block.specs.Row.{IsBlockOf};
 ghost use Rattle.blocks.specs.Drafts.{HasPlace};
 ghost use Rattle.blocks.specs.Offers.{IsOffered};
 ghost use Rattle.record_format.specs.Acts.{places};
-ghost use Rattle.record_format.specs.Records.{call_record, spelled, spelling, Fits, FitsCall, FitsReply};
+ghost use Rattle.record_format.specs.Records.{call_record, spelled, spelling, Fits, FitsCall};
+ghost use Rattle.record_format.specs.Records.{FitsReply};
 
 use crate::block::{Block, Outbox};
 use crate::noted::Noted;
@@ -40,9 +43,15 @@ impl Model for Draft {
 
     ghost Value = { Drafted };
 
-    ghost view = { λ d. record { records = noted_records d.noted; len = vec_len d.bytes; capacity = vec_capacity d.bytes } };
+    ghost view = { λ d. record {
+      records = noted_records d.noted;
+      len = vec_len d.bytes;
+      capacity = vec_capacity d.bytes;
+    } };
 
-    ghost invariant = { λ d. IsDraft d.bytes.items (vec_capacity d.bytes) (noted_records d.noted) × (d.count ≡ length (noted_records d.noted)) × (d.places ≡ acts.places (noted_records d.noted)) };
+    ghost invariant = { λ d. IsDraft d.bytes.items (vec_capacity d.bytes) (noted_records d.noted) ×
+        (d.count ≡ length (noted_records d.noted)) ×
+        (d.places ≡ acts.places (noted_records d.noted)) };
 }
 
 impl Draft {
@@ -110,9 +119,11 @@ impl Draft {
         requires asked { FitsCall asked.now }
         requires answer { FitsReply answer.now }
         requires back { IfSome back.now FitsCall }
-        requires room { HasPlace self.old (length (spelled (Record.Call (call_record number at asked.now answer.now back.now)))) }
+        requires room { HasPlace self.old
+            (length (spelled (Record.Call (call_record number at asked.now answer.now back.now)))) }
         requires few { length self.old.records < 2 ^ 32 }
-        ensures { self.new.records ≡ self.old.records ++ Record.Call (call_record number at asked.now answer.now back.now) ∷ [] }
+        ensures { self.new.records ≡ self.old.records ++
+            Record.Call (call_record number at asked.now answer.now back.now) ∷ [] }
     {
         let _written = encode_call(number, at, asked, answer, back.as_ref(), &mut self.bytes);
         self.noted = Noted::Called(
@@ -144,14 +155,16 @@ impl Draft {
         bytes
     }
 
-    // Hands the records over as one block, behind those that wait in the outbox, and counts them. Where the outbox is
+    // Hands the records over as one block, behind those that wait in the outbox, and counts them.
+    // Where the outbox is
     // full they come back, and nothing is changed.
     pub(crate) fn offer<O: Outbox>(self, handed: &mut Handed, out: &mut O) -> Result<(), Draft>
         requires some { 0 < length self.records }
         requires short { length (spelling self.records) ≤ 65535 }
         requires end { handed.old.end + length self.records < 2 ^ 64 }
         requires place { handed.old.place + places self.records < 2 ^ 64 }
-        ensures handed { OnOk result (IsOffered self.records handed.old handed.new (O.waiting out.old) (O.waiting out.new)) }
+        ensures handed { OnOk result (IsOffered self.records handed.old handed.new
+            (O.waiting out.old) (O.waiting out.new)) }
         ensures full { OnErr result (O.is_full out.old) }
         ensures same { OnErr result ((out.new ≡ out.old) × (handed.new ≡ handed.old)) }
         ensures back { IfErr result (λ draft. draft.records ≡ self.records) }

@@ -1,5 +1,6 @@
 // Records in whole blocks, for an image.
-ghost use Rattle.std.specs.Prelude.{◌≡◌, ◌<◌, ◌≤◌, ◌↔◌, [], ◌∷◌, ◌++◌, length, IsTrue, OnOk, IfOk, IsOkUnless};
+ghost use Rattle.std.specs.Prelude.{◌≡◌, ◌<◌, ◌≤◌, ◌↔◌, [], ◌∷◌, ◌++◌, length, IsTrue, OnOk, IfOk};
+ghost use Rattle.std.specs.Prelude.{IsOkUnless};
 ghost use Rattle.std.specs.List.{AllByRecursion};
 ghost use Rattle.record_format.specs.Records.{Fits};
 ghost use Rattle.blocks.specs.Drafts.{ArePacked};
@@ -14,7 +15,8 @@ use std::collections::VecDeque;
 use std::marker::Model;
 use std::mem;
 
-/// Records written one behind another into blocks, each as full as it can be. Contracts see the records of each block.
+/// Records written one behind another into blocks, each as full as it can be. Contracts see the
+/// records of each block.
 #[derive(Drop)]
 pub struct Packer {
     alloc: Global,
@@ -47,7 +49,8 @@ impl Packer {
         }
     }
 
-    /// Writes the record behind the others, into the block that is filled now, or into a new one where it does not fit.
+    /// Writes the record behind the others, into the block that is filled now, or into a new one
+    /// where it does not fit.
     ///
     /// NoMemory, behind which the records may be dropped only.
     pub fn push(&mut self, entry: Record) -> Result<(), Refusal>
@@ -86,7 +89,8 @@ impl Packer {
     /// NoMemory for the list of them.
     pub fn finish(self) -> Result<VecDeque<Vec<u8>>, Refusal>
         requires { 0 < length (joined self) }
-        ensures whole { IfOk result (λ blocks. AreWhole blocks.items self × ArePacked self × AllByRecursion (λ g. 0 < length g) self) }
+        ensures whole { IfOk result (λ blocks. AreWhole blocks.items self × ArePacked self ×
+            AllByRecursion (λ g. 0 < length g) self) }
         ensures refusal { IsOkUnless result Refusal.NoMemory }
     {
         let Self {

@@ -1,5 +1,6 @@
 // The records that wait for a block.
-ghost use Rattle.std.specs.Prelude.{◌≡◌, ℕ, ◌+◌, ◌<◌, ◌≤◌, ◌^◌, ◌⊎◌, [], ◌∷◌, ◌++◌, ◌↔◌, IsTrue, length, Contains, OnOk, OnErr, IfSome, IsOkUnless};
+ghost use Rattle.std.specs.Prelude.{◌≡◌, ℕ, ◌+◌, ◌<◌, ◌≤◌, ◌^◌, ◌⊎◌, [], ◌∷◌, ◌++◌, ◌↔◌, IsTrue};
+ghost use Rattle.std.specs.Prelude.{length, Contains, OnOk, OnErr, IfSome, IsOkUnless};
 ghost use Rattle.record_format.specs.Acts.{places};
 ghost use Rattle.record_format.specs.Records.{call_record, spelled, Fits, FitsCall, FitsReply};
 ghost use Rattle.blocks.specs.Waits.{waiting, freezes, Suits, HasRoomFor};
@@ -22,9 +23,11 @@ pub(crate) struct Filled {
     sealed: bool,
 }
 
-/// The records that wait for a block, each spelled once into the block in which it will be handed over.
+/// The records that wait for a block, each spelled once into the block in which it will be handed
+/// over.
 ///
-/// Contracts see the records that wait, in order, the positions that no block may cross, and how many records were
+/// Contracts see the records that wait, in order, the positions that no block may cross, and how
+/// many records were
 /// handed over before.
 #[derive(Drop)]
 pub struct Pending {
@@ -44,9 +47,22 @@ impl Model for Pending {
 
     ghost Value = { Waiting };
 
-    ghost view = { λ p. record { full = p.full.items; last = p.last; spare = p.spare; most = deque_capacity p.full; handed = p.handed } };
+    ghost view = { λ p. record {
+      full = p.full.items;
+      last = p.last;
+      spare = p.spare;
+      most = deque_capacity p.full;
+      handed = p.handed;
+    } };
 
-    ghost invariant = { λ p. IsCounted (record { full = p.full.items; last = p.last; spare = p.spare; most = deque_capacity p.full; handed = p.handed }) p.count };
+    ghost invariant = { λ p. IsCounted
+        (record {
+          full = p.full.items;
+          last = p.last;
+          spare = p.spare;
+          most = deque_capacity p.full;
+          handed = p.handed;
+        }) p.count };
 }
 
 impl Pending {
@@ -81,7 +97,8 @@ impl Pending {
         self.last.len() + len <= MAX_BODY
     }
 
-    /// Makes room for a record of the length, so that `push` can write it: in the block that is filled now, or in one more
+    /// Makes room for a record of the length, so that `push` can write it: in the block that is
+    /// filled now, or in one more
     /// where it does not fit there.
     ///
     /// NoMemory, which leaves the records.
@@ -126,7 +143,8 @@ impl Pending {
         });
     }
 
-    /// Writes the record of a call behind the others, from its parts, in the room that was made for it. No call is copied,
+    /// Writes the record of a call behind the others, from its parts, in the room that was made for
+    /// it. No call is copied,
     /// and no memory is taken.
     pub fn push_call(
         &mut self,
@@ -139,9 +157,11 @@ impl Pending {
         requires asked { FitsCall asked.now }
         requires answer { FitsReply answer.now }
         requires back { IfSome back.now FitsCall }
-        requires room { HasRoomFor self.old (length (spelled (Record.Call (call_record number at asked.now answer.now back.now)))) }
+        requires room { HasRoomFor self.old
+            (length (spelled (Record.Call (call_record number at asked.now answer.now back.now)))) }
         requires few { length (waiting self.old) < 2 ^ 32 }
-        ensures records { waiting self.new ≡ waiting self.old ++ Record.Call (call_record number at asked.now answer.now back.now) ∷ [] }
+        ensures records { waiting self.new ≡ waiting self.old ++
+            Record.Call (call_record number at asked.now answer.now back.now) ∷ [] }
         ensures freezes { freezes self.new ≡ freezes self.old }
         ensures handed { self.new.handed ≡ self.old.handed }
     {
@@ -168,14 +188,19 @@ impl Pending {
         self.handed.end + self.count as u64
     }
 
-    /// Seals the block that is filled now, where there is a record in it: no later one goes into it, so no block crosses
+    /// Seals the block that is filled now, where there is a record in it: no later one goes into
+    /// it, so no block crosses
     /// the position behind the last record.
     ///
     /// NoMemory, which changes nothing.
     pub fn seal(&mut self) -> Result<(), Refusal>
         ensures records { waiting self.new ≡ waiting self.old }
         ensures handed { self.new.handed ≡ self.old.handed }
-        ensures sealed { OnOk result ((f : ℕ) → Contains (freezes self.new) f ↔ (Contains (freezes self.old) f ⊎ ((f ≡ self.old.handed.end + length (waiting self.old)) × (0 < length (waiting self.old))))) }
+        ensures sealed { OnOk result ((f : ℕ) →
+            Contains (freezes self.new) f ↔
+            (Contains (freezes self.old) f ⊎
+            ((f ≡ self.old.handed.end + length (waiting self.old)) ×
+            (0 < length (waiting self.old))))) }
         ensures same { OnErr result (freezes self.new ≡ freezes self.old) }
         ensures refusal { IsOkUnless result Refusal.NoMemory }
     {
@@ -191,15 +216,18 @@ impl Pending {
         Ok(())
     }
 
-    /// Hands the first records over as one block, as many whole ones as fit in it and as come before the next freeze, and
+    /// Hands the first records over as one block, as many whole ones as fit in it and as come
+    /// before the next freeze, and
     /// answers true; false where no record waits. No record is copied, and no memory is taken.
     ///
     /// NotNow, only where a record waits and the outbox is full. It leaves the records.
     pub fn cut<O: Outbox>(&mut self, out: &mut O) -> Result<bool, Refusal>
         requires end { self.old.handed.end + length (waiting self.old) < 2 ^ 64 }
         requires place { self.old.handed.place + places (waiting self.old) < 2 ^ 64 }
-        ensures { CutsOff (waiting self.old) (freezes self.old) self.old.handed.end self.old.handed.place (O.waiting out.old) (O.is_full out.old) result
-            (O.waiting out.new) (waiting self.new) (freezes self.new) self.new.handed.end self.new.handed.place }
+        ensures { CutsOff (waiting self.old) (freezes self.old) self.old.handed.end
+            self.old.handed.place (O.waiting out.old) (O.is_full out.old) result
+            (O.waiting out.new) (waiting self.new) (freezes self.new) self.new.handed.end
+            self.new.handed.place }
     {
         if let Some(first) = self.full.pop_front() {
             let Filled { draft, sealed } = first;

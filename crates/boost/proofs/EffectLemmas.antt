@@ -1,5 +1,6 @@
 -- What a command leaves on a disk.
-use Rattle.std.proofs.Common.{◌≡◌, inl, ℕ, List, [], Result, Ok, Err, OnOk, replicate, refl, sym, subst}
+use Rattle.std.proofs.Common.{◌≡◌, inl, ℕ, List, [], Result, Ok, Err, OnOk, replicate, refl, sym}
+use Rattle.std.proofs.Common.{subst}
 use Rattle.std.specs.Prelude.{MatchResult}
 use Rattle.calls.specs.Contents.{Collection}
 use Rattle.disk_model.specs.Disk.{IsAtRest, LeavesOnly}
@@ -22,25 +23,52 @@ use Rattle.player.specs.declared.client.Client.{Client}
 use Rattle.script.specs.declared.line.Line.{Line}
 
 -- bytes that stand for the content yield it, with nothing committed
-yields_none : (content : List Collection) (c : List ℕ) → IsSound c × StandsFor c content → Yields content [] [] c
-yields_none content c fine = record { sound = fine.0; content = content; stands = fine.1; kept = []; begins = ([], refl); holds = ([], refl); serial = refl }
+yields_none : (content : List Collection) (c : List ℕ) → IsSound c × StandsFor c content →
+    Yields content [] [] c
+yields_none content c fine = record {
+  sound = fine.0;
+  content = content;
+  stands = fine.1;
+  kept = [];
+  begins = ([], refl);
+  holds = ([], refl);
+  serial = refl;
+}
 
-module _ {D : Type 0} (seen : D → List ℕ) (may_leave : D → List ℕ → Type 0) (moment : D → ℕ) (left_since : D → ℕ → List ℕ → Type 0) (old : D) where
+module _ {D : Type 0} (seen : D → List ℕ) (may_leave : D → List ℕ → Type 0) (moment : D → ℕ)
+    (left_since : D → ℕ → List ℕ → Type 0) (old : D) where
   -- a disk that nobody touched
-  pub untouched_keeps : ((c : List ℕ) → left_since old (moment old) c → may_leave old c) → KeepsContent seen may_leave moment left_since old old
-  untouched_keeps only_now content rest sound stands = started moment left_since old _ (λ c left. subst (λ b. IsSound b × StandsFor b content) (sym (rest c (only_now c left))) (sound, stands))
+  pub untouched_keeps : ((c : List ℕ) → left_since old (moment old) c → may_leave old c) →
+      KeepsContent seen may_leave moment left_since old old
+  untouched_keeps only_now content rest sound stands =
+      started moment left_since old _
+      (λ c left. subst (λ b. IsSound b × StandsFor b content) (sym (rest c (only_now c left)))
+      (sound, stands))
 
-  pub untouched_format : ((c : List ℕ) → left_since old (moment old) c → may_leave old c) → IsAtRest seen may_leave old → LeavesOnly moment left_since old old (IsFormatting (seen old))
-  untouched_format only_now rest = started moment left_since old _ (λ c left. subst (IsFormatting (seen old)) (sym (rest c (only_now c left))) (inl (record { before = refl; after = refl; size = refl })))
+  pub untouched_format : ((c : List ℕ) → left_since old (moment old) c → may_leave old c) →
+      IsAtRest seen may_leave old → LeavesOnly moment left_since old old (IsFormatting (seen old))
+  untouched_format only_now rest =
+      started moment left_since old _
+      (λ c left. subst (IsFormatting (seen old)) (sym (rest c (only_now c left)))
+      (inl (record { before = refl; after = refl; size = refl })))
 
   -- no step was taken
-  pub nothing_played : (new : D) → KeepsContent seen may_leave moment left_since old new → KeepsPlaying seen may_leave moment left_since old new
-  nothing_played new keeps content rest sound stands = record { steps = []; own = tt; any_moment = weaker moment left_since old new _ (Yields content [] []) (keeps content rest sound stands) (yields_none content) }
+  pub nothing_played : (new : D) → KeepsContent seen may_leave moment left_since old new →
+      KeepsPlaying seen may_leave moment left_since old new
+  nothing_played new keeps content rest sound stands =
+      record {
+        steps = [];
+        own = tt;
+        any_moment = weaker moment left_since old new _
+            (Yields content [] []) (keeps content rest sound stands) (yields_none content);
+      }
 
 module _ {D : Type 0} (g : Ghosts D) (old : D) where
   -- a store was opened, and then steps were taken
-  pub steps_played : (w v : Whole D) → KeepsContent g.seen g.may_leave g.moment g.left_since old w.keeper.disk
-      → StartsFrom g old w → plays.IsPlayed g w v → ((d : D) (c : List ℕ) → g.left_since d (g.moment d) c → g.may_leave d c)
+  pub steps_played : (w v : Whole D) →
+      KeepsContent g.seen g.may_leave g.moment g.left_since old w.keeper.disk
+      → StartsFrom g old w → plays.IsPlayed g w v →
+      ((d : D) (c : List ℕ) → g.left_since d (g.moment d) c → g.may_leave d c)
       → KeepsPlaying g.seen g.may_leave g.moment g.left_since old v.keeper.disk
   steps_played w v keeps begins played only_now content rest sound stands =
       let steps : Past = played.0 in
@@ -49,25 +77,36 @@ module _ {D : Type 0} (g : Ghosts D) (old : D) where
         steps = steps;
         own = answered_of g steps w v played.1;
         any_moment = and_then g.moment g.left_since old w.keeper.disk v.keeper.disk P P
-            (weaker g.moment g.left_since old w.keeper.disk _ P (keeps content rest sound stands) (λ c fine. yields_on content [] steps [] c (yields_none content c fine)))
-            (moments_of g only_now content [] steps w v played.1 (begins content stands rest)) (λ c y. y);
+            (weaker g.moment g.left_since old w.keeper.disk _ P (keeps content rest sound stands)
+            (λ c fine. yields_on content [] steps [] c (yields_none content c fine)))
+            (moments_of g only_now content [] steps w v played.1 (begins content stands rest))
+            (λ c y. y);
       }
 
   -- a store was opened, and then all lines were carried out
-  pub lines_played : {E F : Type 0} (w v : Whole D) (ks ls : List Client) (lines : List Line) (r : Result (Unit {0}) E) (s : Result (Unit {0}) F) (f : F) → ks ≡ replicate 64 nobody → (g.is_honest v.keeper.disk → StartsFrom g old w)
-      → PlaysLines g ks w lines r ls v → MatchResult r (λ done. s ≡ Ok tt) (λ e. s ≡ Err f) → OnOk s (g.is_honest v.keeper.disk → ArePlayedOn g lines old v.keeper.disk)
-  lines_played w v ks ls lines (Ok done) s f new starts carried said = subst (λ q. OnOk q (g.is_honest v.keeper.disk → ArePlayedOn g lines old v.keeper.disk)) (sym said) (λ honest. record {
-    opened = w;
-    starts = starts honest;
-    clients = ls;
-    world = v;
-    carried = subst (λ k. CarriesOut g k w lines ls v) new carried;
-    disk = refl;
-  })
-  lines_played w v ks ls lines (Err e) s f new starts carried said = subst (λ q. OnOk q (g.is_honest v.keeper.disk → ArePlayedOn g lines old v.keeper.disk)) (sym said) tt
+  pub lines_played : {E F : Type 0} (w v : Whole D) (ks ls : List Client) (lines : List Line)
+      (r : Result (Unit {0}) E) (s : Result (Unit {0}) F) (f : F) → ks ≡ replicate 64 nobody →
+      (g.is_honest v.keeper.disk → StartsFrom g old w)
+      → PlaysLines g ks w lines r ls v → MatchResult r (λ done. s ≡ Ok tt) (λ e. s ≡ Err f) →
+      OnOk s (g.is_honest v.keeper.disk → ArePlayedOn g lines old v.keeper.disk)
+  lines_played w v ks ls lines (Ok done) s f new starts carried said =
+      subst (λ q. OnOk q (g.is_honest v.keeper.disk → ArePlayedOn g lines old v.keeper.disk))
+      (sym said) (λ honest. record {
+        opened = w;
+        starts = starts honest;
+        clients = ls;
+        world = v;
+        carried = subst (λ k. CarriesOut g k w lines ls v) new carried;
+        disk = refl;
+      })
+  lines_played w v ks ls lines (Err e) s f new starts carried said =
+      subst (λ q. OnOk q (g.is_honest v.keeper.disk → ArePlayedOn g lines old v.keeper.disk))
+      (sym said) tt
 
 -- they were those of a script
-pub script_played : {D E : Type 0} (g : Ghosts D) (old new : D) (lines : List Line) (script : List ℕ) (r : Result (Unit {0}) E) → IsScriptOf lines script
-    → OnOk r (g.is_honest new → ArePlayedOn g lines old new) → OnOk r (g.is_honest new → IsPlayedOn g script old new)
+pub script_played : {D E : Type 0} (g : Ghosts D) (old new : D) (lines : List Line)
+    (script : List ℕ) (r : Result (Unit {0}) E) → IsScriptOf lines script
+    → OnOk r (g.is_honest new → ArePlayedOn g lines old new) →
+    OnOk r (g.is_honest new → IsPlayedOn g script old new)
 script_played g old new lines script (Ok done) is played = λ honest. (lines, is, played honest)
 script_played g old new lines script (Err e) is played = tt

@@ -10,17 +10,31 @@ use Rattle.world.specs.Pasts.{BookState}
 use Rattle.world.specs.Worlds.{HasPast}
 use Rattle.world.specs.OneStep.{parts}
 
-module _ {D : Type 0} (g : Ghosts D) (w v : Whole D) (same : w ≡ v) (k : KeeperState D) (is : v.keeper ≡ k) (old : D) where
+module _ {D : Type 0} (g : Ghosts D) (w v : Whole D) (same : w ≡ v) (k : KeeperState D)
+    (is : v.keeper ≡ k) (old : D) where
   disk_is : w.keeper.disk ≡ k.disk
   disk_is = ap (λ (x : Whole D). x.keeper.disk) same ∙ ap (λ (x : KeeperState D). x.disk) is
 
-  pub opened_past : (book : BookState) (content : List Collection) → (g.is_honest k.disk → IsOpened (g.seen old) book k.area (g.seen k.disk)) → (g.is_honest k.disk → IsAtRest g.seen g.may_leave old → IsReadyStore g.seen g.may_leave (g.seen old) book k.area k.disk)
-      → (g.is_honest k.disk → book.state.now ≡ content) → ((bytes : List ℕ) → IsOpened bytes book k.area (g.seen k.disk) → IsReadyStore g.seen g.may_leave bytes book k.area k.disk → HasPast g.seen g.may_leave book.state.now [] (parts v))
-      → IsAtRest g.seen g.may_leave old → g.is_honest w.keeper.disk → HasPast g.seen g.may_leave content [] (parts w)
+  pub opened_past : (book : BookState) (content : List Collection) →
+      (g.is_honest k.disk → IsOpened (g.seen old) book k.area (g.seen k.disk)) →
+      (g.is_honest k.disk → IsAtRest g.seen g.may_leave old →
+      IsReadyStore g.seen g.may_leave (g.seen old) book k.area k.disk)
+      → (g.is_honest k.disk → book.state.now ≡ content) →
+      ((bytes : List ℕ) → IsOpened bytes book k.area (g.seen k.disk) →
+      IsReadyStore g.seen g.may_leave bytes book k.area k.disk →
+      HasPast g.seen g.may_leave book.state.now [] (parts v))
+      → IsAtRest g.seen g.may_leave old → g.is_honest w.keeper.disk →
+      HasPast g.seen g.may_leave content [] (parts w)
   opened_past book content opened ready content_is past rest honest =
       let read_true : g.is_honest k.disk = subst g.is_honest disk_is honest in
       subst (λ x. HasPast g.seen g.may_leave content [] (parts x)) (sym same)
-      (subst (λ s. HasPast g.seen g.may_leave s [] (parts v)) (content_is read_true) (past (g.seen old) (opened read_true) (ready read_true rest)))
+      (subst (λ s. HasPast g.seen g.may_leave s [] (parts v)) (content_is read_true)
+      (past (g.seen old) (opened read_true) (ready read_true rest)))
 
-  pub opened_keeps : (g.is_honest k.disk → KeepsContent g.seen g.may_leave g.moment g.left_since old k.disk) → g.is_honest w.keeper.disk → KeepsContent g.seen g.may_leave g.moment g.left_since old w.keeper.disk
-  opened_keeps keeps honest = subst (λ d. KeepsContent g.seen g.may_leave g.moment g.left_since old d) (sym disk_is) (keeps (subst g.is_honest disk_is honest))
+  pub opened_keeps : (g.is_honest k.disk →
+      KeepsContent g.seen g.may_leave g.moment g.left_since old k.disk) →
+      g.is_honest w.keeper.disk → KeepsContent g.seen g.may_leave g.moment g.left_since old
+      w.keeper.disk
+  opened_keeps keeps honest = subst
+      (λ d. KeepsContent g.seen g.may_leave g.moment g.left_since old d) (sym disk_is)
+      (keeps (subst g.is_honest disk_is honest))

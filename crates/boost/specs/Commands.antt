@@ -48,16 +48,19 @@ IsOfStore (Failure.Refused refusal) = Unit {0}
 IsOfStore Failure.Unwritten = Unit {0}
 IsOfStore failure = ⊥
 
--- Why a script was not played: the first line that is not understood is named, and then `same` holds.
+-- Why a script was not played: the first line that is not understood is named, and then `same`
+-- holds.
 abbrev pub IsWhyUnplayed : List ℕ → Type 0 → Failure → Type 0
-IsWhyUnplayed script same (Failure.NotUnderstood line) = IsWhy script (ScriptError.NotUnderstood line) × same
+IsWhyUnplayed script same (Failure.NotUnderstood line) =
+    IsWhy script (ScriptError.NotUnderstood line) × same
 IsWhyUnplayed script same (Failure.Refused refusal) = Unit {0}
 IsWhyUnplayed script same Failure.Unwritten = Unit {0}
 IsWhyUnplayed script same (Failure.CannotOpen path) = ⊥
 
 -- why a command was not done: only a play fails by its script
 abbrev pub IsWhyUndone : Task → List ℕ → Type 0 → Failure → Type 0
-IsWhyUndone task script same (Failure.NotUnderstood line) = IsPlay task × IsWhy script (ScriptError.NotUnderstood line) × same
+IsWhyUndone task script same (Failure.NotUnderstood line) =
+    IsPlay task × IsWhy script (ScriptError.NotUnderstood line) × same
 IsWhyUndone task script same (Failure.Refused refusal) = Unit {0}
 IsWhyUndone task script same Failure.Unwritten = Unit {0}
 IsWhyUndone task script same (Failure.CannotOpen path) = ⊥

@@ -1,12 +1,15 @@
 // What the program does for a command, on any disk.
-ghost use Rattle.std.specs.Prelude.{◌≡◌, ◌⊎◌, ℕ, List, [], length, Ok, Err, OnOk, IfOk, IfErr, MatchResult, replicate};
+ghost use Rattle.std.specs.Prelude.{◌≡◌, ◌⊎◌, ℕ, List, [], length, Ok, Err, OnOk, IfOk, IfErr};
+ghost use Rattle.std.specs.Prelude.{MatchResult, replicate};
 ghost use Rattle.disk_model.specs.Disk.{ReadsOnly, IsAtRest, LeavesOnly};
 ghost use Rattle.recovery.specs.Openings.{KeepsContent};
 ghost use Rattle.recovery.specs.Formats.{IsRoomFor, IsEmptyStore, IsFormatting};
 ghost use Rattle.player.specs.Requests.{nobody};
 ghost use Rattle.boost.specs.Effects.{KeepsPlaying, ArePlayedOn, IsPlayedOn, StartsFrom};
 ghost use Rattle.boost.specs.declared.commands.failure.Failure.{Failure};
-ghost use Rattle.boost.specs.Commands.{IsFormat, OnFormat, IsPlay, IsShow, IsCheck, IsDemo, IsUnderstood, IsOfStore, IsWhyUnplayed, IsWhyUndone, IsNotUnderstoodAt, status_of};
+ghost use Rattle.boost.specs.Commands.{IsFormat, OnFormat, IsPlay, IsShow, IsCheck, IsDemo};
+ghost use Rattle.boost.specs.Commands.{IsUnderstood, IsOfStore, IsWhyUnplayed, IsWhyUndone};
+ghost use Rattle.boost.specs.Commands.{IsNotUnderstoodAt, status_of};
 
 mod failure;
 mod showing;
@@ -27,21 +30,32 @@ use world::World;
 
 /// Carries a command out on a disk, and answers the status of the program with the disk.
 ///
-/// Format makes the disk an empty store. Play runs the script, and prints for each line that is not passed over its
-/// number and its answer. Show prints for each collection, by rising number, a line with its kind and name, and then
-/// each of its items in a line of its own, after two spaces. Check prints how many collections, unfinished transactions
-/// and journal records the store has, and writes nothing. Demo runs a stored script on a disk in memory of its own and
+/// Format makes the disk an empty store. Play runs the script, and prints for each line that is not
+/// passed over its
+/// number and its answer. Show prints for each collection, by rising number, a line with its kind
+/// and name, and then
+/// each of its items in a line of its own, after two spaces. Check prints how many collections,
+/// unfinished transactions
+/// and journal records the store has, and writes nothing. Demo runs a stored script on a disk in
+/// memory of its own and
 /// prints what Play does, and then what Show does: it touches neither the disk nor the script.
 ///
-/// Play and Show open the store: transactions that have not ended are undone, and that is written to the disk. On a disk
-/// at rest that reads true and whose bytes are sound, a stop at any moment of a Show leaves the content, and one of a
-/// Play a beginning of what its steps committed; a Format leaves an empty store, at rest, and a stop in it what
-/// `recovery::format` says. After a Play with status 0 all lines of the script were carried out, one after another, on
+/// Play and Show open the store: transactions that have not ended are undone, and that is written
+/// to the disk. On a disk
+/// at rest that reads true and whose bytes are sound, a stop at any moment of a Show leaves the
+/// content, and one of a
+/// Play a beginning of what its steps committed; a Format leaves an empty store, at rest, and a
+/// stop in it what
+/// `recovery::format` says. After a Play with status 0 all lines of the script were carried out,
+/// one after another, on
 /// the store that was opened, those that were refused among them.
 ///
-/// The status is 0 where the command was done, lines of the script that were refused among it; else a text goes to
-/// `err`, as `Failure` says: 3 for a script with a line that is not understood, of which no line is run and for
-/// which the store is not opened; 1 for a refusal that answers no line; and 4, with no text, where output could not
+/// The status is 0 where the command was done, lines of the script that were refused among it; else
+/// a text goes to
+/// `err`, as `Failure` says: 3 for a script with a line that is not understood, of which no line is
+/// run and for
+/// which the store is not opened; 1 for a refusal that answers no line; and 4, with no text, where
+/// output could not
 /// be written.
 pub fn run<D: Disk, O: Write, E: Write>(
     alloc: Global,
@@ -53,18 +67,25 @@ pub fn run<D: Disk, O: Write, E: Write>(
 ) -> (u8, D)
     ensures status { (result.0 ≡ 0) ⊎ ((result.0 ≡ 1) ⊎ ((result.0 ≡ 3) ⊎ (result.0 ≡ 4))) }
     ensures understood { result.0 ≡ 0 → IsPlay task.now → IsUnderstood script.now }
-    ensures not_understood { result.0 ≡ 3 → IsPlay task.now × ((line : ℕ) × IsNotUnderstoodAt script.now line) }
+    ensures not_understood { result.0 ≡ 3 →
+        IsPlay task.now × ((line : ℕ) × IsNotUnderstoodAt script.now line) }
     ensures untouched { result.0 ≡ 3 → result.1 ≡ disk }
-    ensures only_read { IsCheck task.now → ReadsOnly D.seen D.may_leave D.moment D.left_since disk result.1 }
+    ensures only_read { IsCheck task.now →
+        ReadsOnly D.seen D.may_leave D.moment D.left_since disk result.1 }
     ensures stored_run { IsDemo task.now → result.1 ≡ disk }
     ensures silent { (result.0 ≡ 0) ⊎ (result.0 ≡ 4) → err.new ≡ err.old }
-    ensures area { result.0 ≡ 0 → OnFormat task.now (λ area. IsRoomFor area (length (D.seen disk))) }
-    ensures formatted { result.0 ≡ 0 → IsFormat task.now → IsEmptyStore (D.seen result.1) × IsAtRest D.seen D.may_leave result.1 }
+    ensures area { result.0 ≡ 0 → OnFormat task.now
+        (λ area. IsRoomFor area (length (D.seen disk))) }
+    ensures formatted { result.0 ≡ 0 → IsFormat task.now →
+        IsEmptyStore (D.seen result.1) × IsAtRest D.seen D.may_leave result.1 }
     ensures formatting { IsFormat task.now → IsAtRest D.seen D.may_leave disk →
         LeavesOnly D.moment D.left_since disk result.1 (IsFormatting (D.seen disk)) }
-    ensures lines { result.0 ≡ 0 → IsPlay task.now → D.is_honest result.1 → IsPlayedOn ⟦<D as Disk>⟧ script.now disk result.1 }
-    ensures played { IsPlay task.now → D.is_honest result.1 → KeepsPlaying D.seen D.may_leave D.moment D.left_since disk result.1 }
-    ensures shown { IsShow task.now → D.is_honest result.1 → KeepsContent D.seen D.may_leave D.moment D.left_since disk result.1 }
+    ensures lines { result.0 ≡ 0 → IsPlay task.now → D.is_honest result.1 →
+        IsPlayedOn ⟦<D as Disk>⟧ script.now disk result.1 }
+    ensures played { IsPlay task.now → D.is_honest result.1 →
+        KeepsPlaying D.seen D.may_leave D.moment D.left_since disk result.1 }
+    ensures shown { IsShow task.now → D.is_honest result.1 →
+        KeepsContent D.seen D.may_leave D.moment D.left_since disk result.1 }
 {
     match carry_out(alloc, task, disk, script, out) {
         (Ok(()), disk) => (0, disk),
@@ -72,7 +93,8 @@ pub fn run<D: Disk, O: Write, E: Write>(
     }
 }
 
-/// Says why a command was not done, in a line of its own, and answers the status; of `Unwritten` it says nothing. A
+/// Says why a command was not done, in a line of its own, and answers the status; of `Unwritten` it
+/// says nothing. A
 /// text that cannot be written is passed over.
 pub fn report<E: Write>(failure: &Failure<'_>, err: &mut E) -> u8
     ensures status { result ≡ status_of failure.now }
@@ -95,15 +117,22 @@ fn carry_out<D: Disk, O: Write>(
 ) -> (Result<(), Failure<'static>>, D)
     ensures understood { OnOk result.0 (IsPlay task.now → IsUnderstood script.now) }
     ensures why { IfErr result.0 (IsWhyUndone task.now script.now (result.1 ≡ disk)) }
-    ensures only_read { IsCheck task.now → ReadsOnly D.seen D.may_leave D.moment D.left_since disk result.1 }
+    ensures only_read { IsCheck task.now →
+        ReadsOnly D.seen D.may_leave D.moment D.left_since disk result.1 }
     ensures stored_run { IsDemo task.now → result.1 ≡ disk }
-    ensures area { OnOk result.0 (OnFormat task.now (λ area. IsRoomFor area (length (D.seen disk)))) }
-    ensures formatted { OnOk result.0 (IsFormat task.now → IsEmptyStore (D.seen result.1) × IsAtRest D.seen D.may_leave result.1) }
+    ensures area { OnOk result.0 (OnFormat task.now
+        (λ area. IsRoomFor area (length (D.seen disk)))) }
+    ensures formatted { OnOk result.0
+        (IsFormat task.now → IsEmptyStore (D.seen result.1) ×
+        IsAtRest D.seen D.may_leave result.1) }
     ensures formatting { IsFormat task.now → IsAtRest D.seen D.may_leave disk →
         LeavesOnly D.moment D.left_since disk result.1 (IsFormatting (D.seen disk)) }
-    ensures lines { OnOk result.0 (IsPlay task.now → D.is_honest result.1 → IsPlayedOn ⟦<D as Disk>⟧ script.now disk result.1) }
-    ensures played { IsPlay task.now → D.is_honest result.1 → KeepsPlaying D.seen D.may_leave D.moment D.left_since disk result.1 }
-    ensures shown { IsShow task.now → D.is_honest result.1 → KeepsContent D.seen D.may_leave D.moment D.left_since disk result.1 }
+    ensures lines { OnOk result.0 (IsPlay task.now → D.is_honest result.1 →
+        IsPlayedOn ⟦<D as Disk>⟧ script.now disk result.1) }
+    ensures played { IsPlay task.now → D.is_honest result.1 →
+        KeepsPlaying D.seen D.may_leave D.moment D.left_since disk result.1 }
+    ensures shown { IsShow task.now → D.is_honest result.1 →
+        KeepsContent D.seen D.may_leave D.moment D.left_since disk result.1 }
 {
     let Ok(mut out) = BufWriter::new(alloc, out) else {
         return (Err(Failure::Refused(Refusal::NoMemory)), disk);
@@ -125,15 +154,22 @@ fn perform<D: Disk, O: Write>(
 ) -> (Result<(), Failure<'static>>, D)
     ensures understood { OnOk result.0 (IsPlay task.now → IsUnderstood script.now) }
     ensures why { IfErr result.0 (IsWhyUndone task.now script.now (result.1 ≡ disk)) }
-    ensures only_read { IsCheck task.now → ReadsOnly D.seen D.may_leave D.moment D.left_since disk result.1 }
+    ensures only_read { IsCheck task.now →
+        ReadsOnly D.seen D.may_leave D.moment D.left_since disk result.1 }
     ensures stored_run { IsDemo task.now → result.1 ≡ disk }
-    ensures area { OnOk result.0 (OnFormat task.now (λ area. IsRoomFor area (length (D.seen disk)))) }
-    ensures formatted { OnOk result.0 (IsFormat task.now → IsEmptyStore (D.seen result.1) × IsAtRest D.seen D.may_leave result.1) }
+    ensures area { OnOk result.0 (OnFormat task.now
+        (λ area. IsRoomFor area (length (D.seen disk)))) }
+    ensures formatted { OnOk result.0
+        (IsFormat task.now → IsEmptyStore (D.seen result.1) ×
+        IsAtRest D.seen D.may_leave result.1) }
     ensures formatting { IsFormat task.now → IsAtRest D.seen D.may_leave disk →
         LeavesOnly D.moment D.left_since disk result.1 (IsFormatting (D.seen disk)) }
-    ensures lines { OnOk result.0 (IsPlay task.now → D.is_honest result.1 → IsPlayedOn ⟦<D as Disk>⟧ script.now disk result.1) }
-    ensures played { IsPlay task.now → D.is_honest result.1 → KeepsPlaying D.seen D.may_leave D.moment D.left_since disk result.1 }
-    ensures shown { IsShow task.now → D.is_honest result.1 → KeepsContent D.seen D.may_leave D.moment D.left_since disk result.1 }
+    ensures lines { OnOk result.0 (IsPlay task.now → D.is_honest result.1 →
+        IsPlayedOn ⟦<D as Disk>⟧ script.now disk result.1) }
+    ensures played { IsPlay task.now → D.is_honest result.1 →
+        KeepsPlaying D.seen D.may_leave D.moment D.left_since disk result.1 }
+    ensures shown { IsShow task.now → D.is_honest result.1 →
+        KeepsContent D.seen D.may_leave D.moment D.left_since disk result.1 }
 {
     match task {
         Task::Format { area, .. } => format_disk(disk, *area),
@@ -148,7 +184,8 @@ fn perform<D: Disk, O: Write>(
 fn format_disk<D: Disk>(disk: D, area: u64) -> (Result<(), Failure<'static>>, D)
     ensures why { IfErr result.0 IsOfStore }
     ensures area { OnOk result.0 (IsRoomFor area (length (D.seen disk))) }
-    ensures formatted { OnOk result.0 (IsEmptyStore (D.seen result.1) × IsAtRest D.seen D.may_leave result.1) }
+    ensures formatted { OnOk result.0
+        (IsEmptyStore (D.seen result.1) × IsAtRest D.seen D.may_leave result.1) }
     ensures formatting { IsAtRest D.seen D.may_leave disk →
         LeavesOnly D.moment D.left_since disk result.1 (IsFormatting (D.seen disk)) }
 {
@@ -168,8 +205,10 @@ fn play_script<D: Disk, O: Write>(
 ) -> (Result<(), Failure<'static>>, D)
     ensures understood { OnOk result.0 (IsUnderstood script.now) }
     ensures why { IfErr result.0 (IsWhyUnplayed script.now (result.1 ≡ disk)) }
-    ensures lines { OnOk result.0 (D.is_honest result.1 → IsPlayedOn ⟦<D as Disk>⟧ script.now disk result.1) }
-    ensures played { D.is_honest result.1 → KeepsPlaying D.seen D.may_leave D.moment D.left_since disk result.1 }
+    ensures lines { OnOk result.0 (D.is_honest result.1 →
+        IsPlayedOn ⟦<D as Disk>⟧ script.now disk result.1) }
+    ensures played { D.is_honest result.1 →
+        KeepsPlaying D.seen D.may_leave D.moment D.left_since disk result.1 }
 {
     match parse(alloc, script) {
         Ok(lines) => play_lines(alloc, disk, lines, out),
@@ -177,13 +216,17 @@ fn play_script<D: Disk, O: Write>(
     }
 }
 
-// The player of a store that is opened. Where the disk is at rest and reads true, the past of its world begins with the
+// The player of a store that is opened. Where the disk is at rest and reads true, the past of its
+// world begins with the
 // content of the store, and a stop at any moment of the opening leaves that content.
 fn open_player<D: Disk>(alloc: Global, disk: D) -> Result<Player<D>, (Refusal, D)>
     ensures clients { IfOk result (λ player. player.clients ≡ replicate 64 nobody) }
-    ensures past { IfOk result (λ player. D.is_honest player.world.keeper.disk → StartsFrom ⟦<D as Disk>⟧ disk player.world) }
-    ensures kept { IfOk result (λ player. D.is_honest player.world.keeper.disk → KeepsContent D.seen D.may_leave D.moment D.left_since disk player.world.keeper.disk) }
-    ensures kept_in_refusal { IfErr result (λ x. D.is_honest x.1 → KeepsContent D.seen D.may_leave D.moment D.left_since disk x.1) }
+    ensures past { IfOk result (λ player. D.is_honest player.world.keeper.disk →
+        StartsFrom ⟦<D as Disk>⟧ disk player.world) }
+    ensures kept { IfOk result (λ player. D.is_honest player.world.keeper.disk →
+        KeepsContent D.seen D.may_leave D.moment D.left_since disk player.world.keeper.disk) }
+    ensures kept_in_refusal { IfErr result
+        (λ x. D.is_honest x.1 → KeepsContent D.seen D.may_leave D.moment D.left_since disk x.1) }
 {
     let (book, keeper) = open(alloc, disk)?;
     Ok(Player::new(World::new(alloc, book, keeper)?))
@@ -197,8 +240,10 @@ fn play_lines<D: Disk, O: Write>(
     out: &mut O,
 ) -> (Result<(), Failure<'static>>, D)
     ensures why { IfErr result.0 IsOfStore }
-    ensures lines { OnOk result.0 (D.is_honest result.1 → ArePlayedOn ⟦<D as Disk>⟧ lines.items disk result.1) }
-    ensures played { D.is_honest result.1 → KeepsPlaying D.seen D.may_leave D.moment D.left_since disk result.1 }
+    ensures lines { OnOk result.0 (D.is_honest result.1 →
+        ArePlayedOn ⟦<D as Disk>⟧ lines.items disk result.1) }
+    ensures played { D.is_honest result.1 →
+        KeepsPlaying D.seen D.may_leave D.moment D.left_since disk result.1 }
 {
     match open_player(alloc, disk) {
         Ok(mut player) => {
@@ -223,7 +268,8 @@ fn written(done: io::Result<()>) -> Result<(), Failure<'static>>
 // Prints the content of the store of a disk.
 fn show<D: Disk, O: Write>(alloc: Global, disk: D, out: &mut O) -> (Result<(), Failure<'static>>, D)
     ensures why { IfErr result.0 IsOfStore }
-    ensures shown { D.is_honest result.1 → KeepsContent D.seen D.may_leave D.moment D.left_since disk result.1 }
+    ensures shown { D.is_honest result.1 →
+        KeepsContent D.seen D.may_leave D.moment D.left_since disk result.1 }
 {
     match open(alloc, disk) {
         Ok((book, keeper)) => {

@@ -1,3 +1,4 @@
-pub mod Shape
+pub mod Meaning
+pub mod Laws
 pub mod Kinds
 pub mod Runs

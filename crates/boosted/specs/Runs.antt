@@ -2,7 +2,8 @@
 use Rattle.std.specs.Prelude.{◌≡◌, ℕ, ◌==◌, not, ◌⊎◌, List, [], ◌∷◌, ◌++◌}
 use Rattle.std.specs.List.{filter, AllByRecursion}
 
--- does s e t: the event e leads from the state s to the state t. The events lead from s to t one after another
+-- does s e t: the event e leads from the state s to the state t. The events lead from s to t one
+-- after another
 -- by `Leads` of the crate calls.
 
 -- Where a and then b lead from s to t, b and then a do too.
@@ -19,10 +20,12 @@ others owner o es = filter (λ e. not (owner e == o)) es
 -- Events of two owners are apart.
 abbrev pub AllApart : {E : Type 0} → (E → E → Type 0) → (E → ℕ) → List E → Type 0
 AllApart apart owner [] = Unit {0}
-AllApart apart owner (e ∷ es) = AllByRecursion (λ f. (owner e ≡ owner f → ⊥) → apart e f) es × AllApart apart owner es
+AllApart apart owner (e ∷ es) =
+    AllByRecursion (λ f. (owner e ≡ owner f → ⊥) → apart e f) es × AllApart apart owner es
 
 -- What events, their inverses and their laters keep.
-pub record Laws {S E : Type 0} (does : S → E → S → Type 0) (undoes : E → S → S → Type 0) (apart : E → E → Type 0) (asked : E → Type 0) (late : E → Type 0) : Type 0 where
+pub record Laws {S E : Type 0} (does : S → E → S → Type 0) (undoes : E → S → S → Type 0)
+    (apart : E → E → Type 0) (asked : E → Type 0) (late : E → Type 0) : Type 0 where
   -- the inverse leads back, and to no other state
   pub inverse : (e : E) (s t : S) → asked e → does s e t → undoes e t s
   pub inverse_only : (e : E) (s t u : S) → asked e → does s e t → undoes e t u → u ≡ s
@@ -32,7 +35,8 @@ pub record Laws {S E : Type 0} (does : S → E → S → Type 0) (undoes : E →
   pub moves_left : (a b : E) → asked a → late b → apart a b → Swaps does a b
 
 -- x is the newest event of the owner o in es, and rest is es without it.
-pub record IsNewest {E : Type 0} (owner : E → ℕ) (o : ℕ) (es : List E) (x : E) (rest : List E) : Type 0 where
+pub record IsNewest {E : Type 0} (owner : E → ℕ) (o : ℕ) (es : List E) (x : E)
+    (rest : List E) : Type 0 where
   pub before : List E
   pub after : List E
   pub is : es ≡ before ++ x ∷ after

@@ -1,43 +1,15 @@
 // Counters are boosted.
-ghost use Rattle.std.proofs.Common.{refl, sym, ◌∙◌, pos};
-ghost use Rattle.calls.specs.declared.kind.Kind.{Kind};
-ghost use Rattle.calls.specs.declared.reply.Reply.{Reply};
-ghost use Rattle.calls.specs.Laters.{left_by};
-ghost use Rattle.calls.specs.Needs.{need_of};
-ghost use Rattle.calls.specs.Inverses.{inverse_of};
-ghost use Rattle.calls.specs.Counters as counters;
-ghost use Rattle.calls.proofs.CounterLaws.{counter_back, counter_back_only, counter_commutes, counter_within, counter_starts};
-ghost use Rattle.calls.proofs.Looks.{counter_answered};
-ghost use Rattle.calls.proofs.LaterLaws.{deferrable_disposable, leaves_one, leaves_disposable, leaves_need, counter_deferred, counter_same, counter_leaves};
-ghost use Rattle.boosted.specs.Kinds.{IsOf, IsWrong};
+ghost use Rattle.boosted.specs.Kinds.{counter_meaning, counter_laws};
 
 use crate::Boosted;
-use crate::table::{
-    check_asked, check_deferred, inverse_of_call, is_disposable, later_of_call, need_of_call,
-};
-use calls::{Call, Kind, Need, Refusal, Reply};
+use crate::table::{check_asked, check_deferred};
+use calls::{Call, Kind, Refusal, Reply};
 use collections::CounterCol;
 
 impl Boosted for CounterCol {
     type At = ();
 
-    ghost answers = { λ s at c r. counters.Answers s c r };
-
-    ghost leaves = { λ s at c r. counters.after s c r };
-
-    ghost belongs = { λ s at c. IsOf Kind.Counter c };
-
-    ghost misplaced = { λ s at c r. IsWrong Kind.Counter c r };
-
-    ghost need = { need_of };
-
-    ghost inverse = { inverse_of };
-
-    ghost after = { left_by };
-
-    ghost empty = { pos 0 };
-
-    ghost within = { counters.IsWithin };
+    ghost meaning = { counter_meaning };
 
     fn look(&self, _at: (), call: &Call) -> Result<Reply, Refusal> {
         self.look(call)
@@ -59,51 +31,5 @@ impl Boosted for CounterCol {
         check_deferred(Kind::Counter, call)
     }
 
-    fn disposable(call: &Call) -> bool {
-        is_disposable(call)
-    }
-
-    fn need(call: &Call, reply: &Reply) -> Need {
-        need_of_call(call, reply)
-    }
-
-    fn inverse(call: &Call, reply: &Reply) -> Result<Option<Call>, Refusal> {
-        inverse_of_call(call, reply)
-    }
-
-    fn after(call: &Call, reply: &Reply) -> Option<Call> {
-        later_of_call(call, reply)
-    }
-
-    ghost exact = { λ s t u at c r d e. d.1 ∙ sym e.1 };
-
-    ghost goes_back = { λ s t at c r ask d. (counter_back s t c r d, λ u. counter_back_only s t u c r d) };
-
-    ghost commutes = { λ at bt a ra b rb ask also apart s m t. counter_commutes s m t a ra b rb (apart refl) };
-
-    ghost moves_left = { λ at bt a ra b rb ask late apart s m t. counter_commutes s m t a ra b rb (apart refl) };
-
-    ghost answered_belongs = { λ s at c r. counter_answered s c r };
-
-    ghost starts_within = { counter_starts };
-
-    ghost wears = { λ s n at c r. counter_within s n c r };
-
-    ghost deferred_is_ready = { λ s at d. counter_deferred s d };
-
-    ghost deferred_stays_ready = { λ s at bt c r d l h. counter_same s (counters.after s c r) d (deferrable_disposable d l) };
-
-    ghost leaves_one = { leaves_one };
-
-    ghost leaves_disposable = { leaves_disposable };
-
-    ghost leaves_need = { leaves_need };
-
-    ghost leaves_ready = { λ s at c r. counter_leaves s c r };
-
-    ghost stays_past_calls = { λ s at bt c r d ask l h. counter_same s (counters.after s c r) d l };
-
-    ghost stays_past_laters = { λ s at bt b d m l other h. counter_same s (counters.after s b Reply.Done) d l };
-
-    ghost stays_past_undoing = { λ s u at bt c r d ask l apart back. counter_same s u d l };
+    ghost laws = { counter_laws };
 }

@@ -1,44 +1,15 @@
 // Queues are boosted.
-ghost use Rattle.std.proofs.Common.{refl, sym, ◌∙◌};
-ghost use Rattle.std.specs.FinMap as map;
-ghost use Rattle.calls.specs.declared.kind.Kind.{Kind};
-ghost use Rattle.calls.specs.declared.reply.Reply.{Reply};
-ghost use Rattle.calls.specs.Laters.{left_by};
-ghost use Rattle.calls.specs.Needs.{need_of};
-ghost use Rattle.calls.specs.Inverses.{inverse_of};
-ghost use Rattle.calls.specs.Queues as queues;
-ghost use Rattle.calls.proofs.QueueLaws.{queue_back, queue_back_only, queue_commutes};
-ghost use Rattle.calls.proofs.Looks.{queue_answered};
-ghost use Rattle.calls.proofs.LaterLaws.{deferrable_disposable, leaves_one, leaves_disposable, leaves_need, queue_deferred, queue_same, queue_leaves};
-ghost use Rattle.boosted.specs.Kinds.{IsOf, IsWrong};
+ghost use Rattle.boosted.specs.Kinds.{queue_meaning, queue_laws};
 
 use crate::Boosted;
-use crate::table::{
-    check_asked, check_deferred, inverse_of_call, is_disposable, later_of_call, need_of_call,
-};
-use calls::{Call, Kind, Need, Refusal, Reply};
+use crate::table::{check_asked, check_deferred};
+use calls::{Call, Kind, Refusal, Reply};
 use collections::QueueCol;
 
 impl Boosted for QueueCol {
     type At = ();
 
-    ghost answers = { λ s at c r. queues.Answers s c r };
-
-    ghost leaves = { λ s at c r. queues.after s c r };
-
-    ghost belongs = { λ s at c. IsOf Kind.Queue c };
-
-    ghost misplaced = { λ s at c r. IsWrong Kind.Queue c r };
-
-    ghost need = { need_of };
-
-    ghost inverse = { inverse_of };
-
-    ghost after = { left_by };
-
-    ghost empty = { map.empty };
-
-    ghost within = { λ s n. Unit {0} };
+    ghost meaning = { queue_meaning };
 
     fn look(&self, _at: (), call: &Call) -> Result<Reply, Refusal> {
         self.look(call)
@@ -60,51 +31,5 @@ impl Boosted for QueueCol {
         check_deferred(Kind::Queue, call)
     }
 
-    fn disposable(call: &Call) -> bool {
-        is_disposable(call)
-    }
-
-    fn need(call: &Call, reply: &Reply) -> Need {
-        need_of_call(call, reply)
-    }
-
-    fn inverse(call: &Call, reply: &Reply) -> Result<Option<Call>, Refusal> {
-        inverse_of_call(call, reply)
-    }
-
-    fn after(call: &Call, reply: &Reply) -> Option<Call> {
-        later_of_call(call, reply)
-    }
-
-    ghost exact = { λ s t u at c r d e. d.1 ∙ sym e.1 };
-
-    ghost goes_back = { λ s t at c r ask d. (queue_back s t c r ask d, λ u. queue_back_only s t u c r ask d) };
-
-    ghost commutes = { λ at bt a ra b rb ask also apart s m t. queue_commutes s m t a ra b rb (apart refl) };
-
-    ghost moves_left = { λ at bt a ra b rb ask late apart s m t. queue_commutes s m t a ra b rb (apart refl) };
-
-    ghost answered_belongs = { λ s at c r. queue_answered s c r };
-
-    ghost starts_within = { tt };
-
-    ghost wears = { λ s n at c r w a. tt };
-
-    ghost deferred_is_ready = { λ s at d. queue_deferred s d };
-
-    ghost deferred_stays_ready = { λ s at bt c r d l h. queue_same s (queues.after s c r) d (deferrable_disposable d l) };
-
-    ghost leaves_one = { leaves_one };
-
-    ghost leaves_disposable = { leaves_disposable };
-
-    ghost leaves_need = { leaves_need };
-
-    ghost leaves_ready = { λ s at c r. queue_leaves s c r };
-
-    ghost stays_past_calls = { λ s at bt c r d ask l h. queue_same s (queues.after s c r) d l };
-
-    ghost stays_past_laters = { λ s at bt b d m l other h. queue_same s (queues.after s b Reply.Done) d l };
-
-    ghost stays_past_undoing = { λ s u at bt c r d ask l apart back. queue_same s u d l };
+    ghost laws = { queue_laws };
 }

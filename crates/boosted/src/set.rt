@@ -1,44 +1,15 @@
 // Sets are boosted.
-ghost use Rattle.std.proofs.Common.{refl, sym, ◌∙◌};
-ghost use Rattle.std.specs.FinSet as set;
-ghost use Rattle.calls.specs.declared.kind.Kind.{Kind};
-ghost use Rattle.calls.specs.declared.reply.Reply.{Reply};
-ghost use Rattle.calls.specs.Laters.{left_by};
-ghost use Rattle.calls.specs.Needs.{need_of};
-ghost use Rattle.calls.specs.Inverses.{inverse_of};
-ghost use Rattle.calls.specs.Sets as sets;
-ghost use Rattle.calls.proofs.SetLaws.{set_back, set_back_only, set_commutes};
-ghost use Rattle.calls.proofs.Looks.{set_answered};
-ghost use Rattle.calls.proofs.LaterLaws.{deferrable_disposable, leaves_one, leaves_disposable, leaves_need, set_deferred, set_same, set_leaves};
-ghost use Rattle.boosted.specs.Kinds.{IsOf, IsWrong};
+ghost use Rattle.boosted.specs.Kinds.{set_meaning, set_laws};
 
 use crate::Boosted;
-use crate::table::{
-    check_asked, check_deferred, inverse_of_call, is_disposable, later_of_call, need_of_call,
-};
-use calls::{Call, Kind, Need, Refusal, Reply};
+use crate::table::{check_asked, check_deferred};
+use calls::{Call, Kind, Refusal, Reply};
 use collections::SetCol;
 
 impl Boosted for SetCol {
     type At = ();
 
-    ghost answers = { λ s at c r. sets.Answers s c r };
-
-    ghost leaves = { λ s at c r. sets.after s c r };
-
-    ghost belongs = { λ s at c. IsOf Kind.Set c };
-
-    ghost misplaced = { λ s at c r. IsWrong Kind.Set c r };
-
-    ghost need = { need_of };
-
-    ghost inverse = { inverse_of };
-
-    ghost after = { left_by };
-
-    ghost empty = { set.empty };
-
-    ghost within = { λ s n. Unit {0} };
+    ghost meaning = { set_meaning };
 
     fn look(&self, _at: (), call: &Call) -> Result<Reply, Refusal> {
         self.look(call)
@@ -60,51 +31,5 @@ impl Boosted for SetCol {
         check_deferred(Kind::Set, call)
     }
 
-    fn disposable(call: &Call) -> bool {
-        is_disposable(call)
-    }
-
-    fn need(call: &Call, reply: &Reply) -> Need {
-        need_of_call(call, reply)
-    }
-
-    fn inverse(call: &Call, reply: &Reply) -> Result<Option<Call>, Refusal> {
-        inverse_of_call(call, reply)
-    }
-
-    fn after(call: &Call, reply: &Reply) -> Option<Call> {
-        later_of_call(call, reply)
-    }
-
-    ghost exact = { λ s t u at c r d e. d.1 ∙ sym e.1 };
-
-    ghost goes_back = { λ s t at c r ask d. (set_back s t c r d, λ u. set_back_only s t u c r d) };
-
-    ghost commutes = { λ at bt a ra b rb ask also apart s m t. set_commutes s m t a ra b rb (apart refl) };
-
-    ghost moves_left = { λ at bt a ra b rb ask late apart s m t. set_commutes s m t a ra b rb (apart refl) };
-
-    ghost answered_belongs = { λ s at c r. set_answered s c r };
-
-    ghost starts_within = { tt };
-
-    ghost wears = { λ s n at c r w a. tt };
-
-    ghost deferred_is_ready = { λ s at d. set_deferred s d };
-
-    ghost deferred_stays_ready = { λ s at bt c r d l h. set_same s (sets.after s c r) d (deferrable_disposable d l) };
-
-    ghost leaves_one = { leaves_one };
-
-    ghost leaves_disposable = { leaves_disposable };
-
-    ghost leaves_need = { leaves_need };
-
-    ghost leaves_ready = { λ s at c r. set_leaves s c r };
-
-    ghost stays_past_calls = { λ s at bt c r d ask l h. set_same s (sets.after s c r) d l };
-
-    ghost stays_past_laters = { λ s at bt b d m l other h. set_same s (sets.after s b Reply.Done) d l };
-
-    ghost stays_past_undoing = { λ s u at bt c r d ask l apart back. set_same s u d l };
+    ghost laws = { set_laws };
 }

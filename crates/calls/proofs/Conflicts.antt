@@ -1,7 +1,7 @@
 -- A conflict of needs goes both ways.
 use Rattle.calls.specs.declared.need.Mode.{Mode}
 use Rattle.calls.specs.declared.need.Need.{Need}
-use Rattle.calls.specs.Needs.{Compatible, Conflict}
+use Rattle.calls.specs.Rules.{Compatible, Conflict}
 
 pub compatible_turn : (m n : Mode) → Compatible m n → Compatible n m
 compatible_turn Mode.Read Mode.Read h = h

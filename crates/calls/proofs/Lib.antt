@@ -6,8 +6,6 @@ pub mod BagPoints
 pub mod QueueLaws
 pub mod MapLaws
 pub mod PoolLaws
-pub mod Product
-pub mod UndoneLaws
-pub mod Looks
-pub mod LaterLaws
+pub mod ContentLaws
+pub mod KindLaws
 pub mod Conflicts

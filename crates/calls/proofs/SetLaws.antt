@@ -1,14 +1,14 @@
 -- The laws of a set's calls.
-use Rattle.std.proofs.Common.{◌≡◌, ℕ, ◌<◌, ◌⊎◌, refl, sym, ◌∙◌, ap, ⊎_elim, arith, true, false, true≢false}
+use Rattle.std.proofs.Common.{◌≡◌, ℕ, ◌<◌, ◌⊎◌, refl, sym, ◌∙◌, ap, ⊎_elim, arith, true, false}
+use Rattle.std.proofs.Common.{true≢false}
 use Rattle.std.proofs.lemmas.Bool.{cases_eq}
 use Rattle.std.specs.Cmp.{nat_cmp_total}
 use Rattle.std.specs.FinSet.{contains, insert, remove, same_set, nat_cmp-IsAntisymmetric}
 use Rattle.calls.specs.declared.call.Call.{Call}
 use Rattle.calls.specs.declared.reply.Reply.{Reply}
 use Rattle.calls.specs.declared.need.Mode.{Mode}
-use Rattle.calls.specs.Needs.{need_of, Apart}
+use Rattle.calls.specs.Rules.{need_of, Apart, inverse_of, Undoes}
 use Rattle.calls.specs.Sets.{NumberSet, Row, Answers, after, does}
-use Rattle.calls.specs.Inverses.{inverse_of, Undoes}
 use Rattle.calls.proofs.Local.{IsLocal, Agree, Swapped, ranged, commutes, swapped}
 use Rattle.calls.proofs.Points.{in_insert, in_insert_other, in_remove, in_remove_other}
 
@@ -27,15 +27,20 @@ remove_add s x h = same s _ (λ p. ⊎_elim
     (λ (e : p ≡ x → ⊥). sym (in_insert_other (remove s x) x p e ∙ in_remove_other s x p e))
     (cases_eq p x))
 
-off : (s : NumberSet) (c : Call) (r : Reply) (p : ℕ) → (p < (need_of c r).low) ⊎ ((need_of c r).high < p) → Row s c r → contains (after s c r) p ≡ contains s p
-off s (Call.SetAdd x) Reply.Yes p d h = in_insert_other s x p (λ e. ⊎_elim (λ k. omega arith) (λ k. omega arith) d)
-off s (Call.SetRemove x) Reply.Yes p d h = in_remove_other s x p (λ e. ⊎_elim (λ k. omega arith) (λ k. omega arith) d)
+off : (s : NumberSet) (c : Call) (r : Reply) (p : ℕ) →
+    (p < (need_of c r).low) ⊎ ((need_of c r).high < p) → Row s c r →
+    contains (after s c r) p ≡ contains s p
+off s (Call.SetAdd x) Reply.Yes p d h =
+    in_insert_other s x p (λ e. ⊎_elim (λ k. omega arith) (λ k. omega arith) d)
+off s (Call.SetRemove x) Reply.Yes p d h =
+    in_remove_other s x p (λ e. ⊎_elim (λ k. omega arith) (λ k. omega arith) d)
 off s (Call.SetAdd x) Reply.No p d h = refl
 off s (Call.SetRemove x) Reply.No p d h = refl
 off s (Call.Contains x) r p d h = refl
 off s c r p d h = absurd h
 
-answers : (s t : NumberSet) (c : Call) (r : Reply) → Agree contains (need_of c r) s t → Row s c r → Row t c r
+answers : (s t : NumberSet) (c : Call) (r : Reply) → Agree contains (need_of c r) s t → Row s c r →
+    Row t c r
 answers s t (Call.Contains x) Reply.Yes a h = sym (a x (omega arith) (omega arith)) ∙ h
 answers s t (Call.Contains x) Reply.No a h = sym (a x (omega arith) (omega arith)) ∙ h
 answers s t (Call.SetAdd x) Reply.Yes a h = sym (a x (omega arith) (omega arith)) ∙ h
@@ -44,15 +49,19 @@ answers s t (Call.SetRemove x) Reply.Yes a h = sym (a x (omega arith) (omega ari
 answers s t (Call.SetRemove x) Reply.No a h = sym (a x (omega arith) (omega arith)) ∙ h
 answers s t c r a h = absurd h
 
-on : (s t : NumberSet) (c : Call) (r : Reply) → Agree contains (need_of c r) s t → Row s c r → Agree contains (need_of c r) (after s c r) (after t c r)
-on s t (Call.SetAdd x) Reply.Yes a h p l u = in_insert s x p (omega arith) ∙ sym (in_insert t x p (omega arith))
-on s t (Call.SetRemove x) Reply.Yes a h p l u = in_remove s x p (omega arith) ∙ sym (in_remove t x p (omega arith))
+on : (s t : NumberSet) (c : Call) (r : Reply) → Agree contains (need_of c r) s t → Row s c r →
+    Agree contains (need_of c r) (after s c r) (after t c r)
+on s t (Call.SetAdd x) Reply.Yes a h p l u =
+    in_insert s x p (omega arith) ∙ sym (in_insert t x p (omega arith))
+on s t (Call.SetRemove x) Reply.Yes a h p l u =
+    in_remove s x p (omega arith) ∙ sym (in_remove t x p (omega arith))
 on s t (Call.SetAdd x) Reply.No a h p l u = a p l u
 on s t (Call.SetRemove x) Reply.No a h p l u = a p l u
 on s t (Call.Contains x) r a h p l u = a p l u
 on s t c r a h p l u = absurd h
 
-reads : (s : NumberSet) (c : Call) (r : Reply) → (need_of c r).mode ≡ Mode.Read → Row s c r → after s c r ≡ s
+reads : (s : NumberSet) (c : Call) (r : Reply) → (need_of c r).mode ≡ Mode.Read → Row s c r →
+    after s c r ≡ s
 reads s (Call.SetAdd x) Reply.Yes m h = cc
 reads s (Call.SetRemove x) Reply.Yes m h = cc
 reads s (Call.SetAdd x) Reply.No m h = refl
@@ -69,16 +78,38 @@ no_add s (Call.Contains x) r m h = cc
 no_add s c r m h = absurd h
 
 local : IsLocal Row after contains
-local = record { same = same; off = off; answers = answers; on = on; reads = reads; adds = λ s a ra b rb ma mb ha hb. absurd (no_add s a ra ma ha) }
+local = record {
+  same = same;
+  off = off;
+  answers = answers;
+  on = on;
+  reads = reads;
+  adds = λ s a ra b rb ma mb ha hb. absurd (no_add s a ra ma ha);
+}
 
 -- Calls of a set whose needs do not conflict commute.
-pub set_commutes : (s m t : NumberSet) (a : Call) (ra : Reply) (b : Call) (rb : Reply) → Apart a ra b rb → does s a ra m → does m b rb t → (u : NumberSet) × does s b rb u × does u a ra t
+pub set_commutes : (s m t : NumberSet) (a : Call) (ra : Reply) (b : Call) (rb : Reply) →
+    Apart a ra b rb → does s a ra m → does m b rb t →
+    (u : NumberSet) × does s b rb u × does u a ra t
 set_commutes = commutes (ranged local)
 
 -- The inverse leads back.
-pub set_back : (s t : NumberSet) (c : Call) (r : Reply) → does s c r t → Undoes does inverse_of t c r s
-set_back s t (Call.SetAdd x) Reply.Yes d = (Reply.Yes, ((d.0.0, rw d.1 (in_insert s x x refl)), add_remove s x d.0.1 ∙ ap (λ v. remove v x) (sym d.1)))
-set_back s t (Call.SetRemove x) Reply.Yes d = (Reply.Yes, ((d.0.0, rw d.1 (in_remove s x x refl)), remove_add s x d.0.1 ∙ ap (λ v. insert v x) (sym d.1)))
+pub set_back : (s t : NumberSet) (c : Call) (r : Reply) → does s c r t →
+    Undoes does inverse_of t c r s
+set_back s t (Call.SetAdd x) Reply.Yes d = (
+  Reply.Yes,
+  (
+    (d.0.0, rw d.1 (in_insert s x x refl)),
+    add_remove s x d.0.1 ∙ ap (λ v. remove v x) (sym d.1),
+  ),
+)
+set_back s t (Call.SetRemove x) Reply.Yes d = (
+  Reply.Yes,
+  (
+    (d.0.0, rw d.1 (in_remove s x x refl)),
+    remove_add s x d.0.1 ∙ ap (λ v. insert v x) (sym d.1),
+  ),
+)
 set_back s t (Call.SetAdd x) Reply.No d = sym d.1
 set_back s t (Call.SetRemove x) Reply.No d = sym d.1
 set_back s t (Call.Contains x) Reply.Yes d = sym d.1
@@ -103,14 +134,21 @@ one_end s t u (Call.SetRemove x) Reply.No r d e = absurd e.0.1
 one_end s t u c q r d e = absurd d.0.1
 
 -- The inverse leads nowhere else.
-pub set_back_only : (s t u : NumberSet) (c : Call) (r : Reply) → does s c r t → Undoes does inverse_of t c r u → u ≡ s
-set_back_only s t u (Call.SetAdd x) Reply.Yes d back = let b = set_back s t (Call.SetAdd x) Reply.Yes d in one_end t u s (Call.SetRemove x) back.0 b.0 back.1 b.1
-set_back_only s t u (Call.SetRemove x) Reply.Yes d back = let b = set_back s t (Call.SetRemove x) Reply.Yes d in one_end t u s (Call.SetAdd x) back.0 b.0 back.1 b.1
+pub set_back_only : (s t u : NumberSet) (c : Call) (r : Reply) → does s c r t →
+    Undoes does inverse_of t c r u → u ≡ s
+set_back_only s t u (Call.SetAdd x) Reply.Yes d back =
+    let b = set_back s t (Call.SetAdd x) Reply.Yes d in
+    one_end t u s (Call.SetRemove x) back.0 b.0 back.1 b.1
+set_back_only s t u (Call.SetRemove x) Reply.Yes d back =
+    let b = set_back s t (Call.SetRemove x) Reply.Yes d in
+    one_end t u s (Call.SetAdd x) back.0 b.0 back.1 b.1
 set_back_only s t u (Call.SetAdd x) Reply.No d back = back ∙ d.1
 set_back_only s t u (Call.SetRemove x) Reply.No d back = back ∙ d.1
 set_back_only s t u (Call.Contains x) Reply.Yes d back = back ∙ d.1
 set_back_only s t u (Call.Contains x) Reply.No d back = back ∙ d.1
 set_back_only s t u c r d back = absurd d.0.1
 
-pub set_swapped : (s : NumberSet) (a : Call) (ra : Reply) (b : Call) (rb : Reply) → Apart a ra b rb → Answers s a ra → Answers (after s a ra) b rb → Swapped Answers after s a ra b rb
+pub set_swapped : (s : NumberSet) (a : Call) (ra : Reply) (b : Call) (rb : Reply) →
+    Apart a ra b rb → Answers s a ra → Answers (after s a ra) b rb →
+    Swapped Answers after s a ra b rb
 set_swapped = swapped (ranged local)

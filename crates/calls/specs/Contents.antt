@@ -1,8 +1,10 @@
 -- What a collection holds, and what a list of named collections holds.
-use Rattle.std.specs.Prelude.{◌≡◌, ℕ, zero, suc, ℤ, pos, List, [], ◌∷◌}
+use Rattle.std.specs.Prelude.{◌≡◌, ℕ, zero, suc, ℤ, pos, List, [], ◌∷◌, map, replicate}
+use Rattle.std.specs.List.{flat_map}
 use Rattle.std.specs.FinMap as maps_of
 use Rattle.std.specs.FinSet as sets_of
 use Rattle.calls.specs.declared.kind.Kind.{Kind}
+use Rattle.calls.specs.declared.item.Item.{Item}
 use Rattle.calls.specs.declared.call.Call.{Call}
 use Rattle.calls.specs.declared.reply.Reply.{Reply}
 use Rattle.calls.specs.Sets as sets
@@ -18,6 +20,33 @@ pub data Content : Type 0 where
   InQueue : bags.Bag → Content
   InCounter : ℤ → Content
   InPool : sets.NumberSet → Content
+
+-- The items of a collection, in their order: a queue's by priority and then tag, each as often as
+-- it is there.
+abbrev pub items_of : Content → List Item
+items_of (InSet s) = map Item.Element (sets_of.items s)
+items_of (InMap m) = map (λ e. Item.Entry e.0 e.1) (maps_of.entries m)
+items_of (InQueue q) = flat_map (λ e. replicate (suc e.1) (Item.Pair e.0.0 e.0.1))
+    (maps_of.entries q)
+items_of (InCounter n) = Item.Number n ∷ []
+items_of (InPool s) = map Item.Element (sets_of.items s)
+
+-- The kind of a content.
+abbrev pub kind_of_content : Content → Kind
+kind_of_content (InSet s) = Kind.Set
+kind_of_content (InMap m) = Kind.Map
+kind_of_content (InQueue q) = Kind.Queue
+kind_of_content (InCounter n) = Kind.Counter
+kind_of_content (InPool s) = Kind.Pool
+
+-- The item is one of a collection of the kind.
+abbrev pub IsItemOf : Kind → Item → Type 0
+IsItemOf Kind.Set (Item.Element x) = Unit {0}
+IsItemOf Kind.Map (Item.Entry k v) = Unit {0}
+IsItemOf Kind.Queue (Item.Pair p g) = Unit {0}
+IsItemOf Kind.Counter (Item.Number n) = Unit {0}
+IsItemOf Kind.Pool (Item.Element x) = Unit {0}
+IsItemOf kind i = ⊥
 
 -- what a collection holds when it is made
 abbrev pub empty : Kind → Content

@@ -2,7 +2,7 @@
 use Rattle.std.specs.Prelude.{◌≡◌, ℕ, ℤ, pos, neg_ℤ, ◌+ℤ◌, ◌≤ℤ◌, ◌*◌, ◌^◌}
 use Rattle.calls.specs.declared.call.Call.{Call}
 use Rattle.calls.specs.declared.reply.Reply.{Reply}
-use Rattle.calls.specs.Ranges.{IsStep, InRange}
+use Rattle.calls.specs.Rules.{IsStep, InRange}
 
 -- What n bumps can reach.
 pub record IsWithin (s : ℤ) (n : ℕ) : Type 0 where

@@ -1,5 +1,4 @@
-pub mod Ranges
-pub mod Kinds
+pub mod Rules
 pub mod Sets
 pub mod Maps
 pub mod Bags
@@ -7,10 +6,6 @@ pub mod Queues
 pub mod Counters
 pub mod Pools
 pub mod Contents
-pub mod Laters
 pub mod Transactions
-pub mod Needs
-pub mod Inverses
 pub mod Names
 pub mod Refusals
-pub mod Items

@@ -4,7 +4,7 @@ use Rattle.std.specs.Ordering.{nat_cmp}
 use Rattle.std.specs.FinMap.{FinMap, get, insert, remove}
 use Rattle.calls.specs.declared.call.Call.{Call}
 use Rattle.calls.specs.declared.reply.Reply.{Reply}
-use Rattle.calls.specs.Ranges.{top, InRange}
+use Rattle.calls.specs.Rules.{top, InRange}
 
 abbrev pub Table : Type 0
 Table = FinMap nat_cmp (List ℕ)

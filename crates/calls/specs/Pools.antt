@@ -3,7 +3,7 @@ use Rattle.std.specs.Prelude.{◌≡◌, true, false}
 use Rattle.std.specs.FinSet.{contains, insert, remove}
 use Rattle.calls.specs.declared.call.Call.{Call}
 use Rattle.calls.specs.declared.reply.Reply.{Reply}
-use Rattle.calls.specs.Ranges.{InRange}
+use Rattle.calls.specs.Rules.{InRange}
 use Rattle.calls.specs.Sets.{NumberSet}
 
 -- When the call gets the reply. Any identifier that is not taken may be drawn.

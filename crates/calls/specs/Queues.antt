@@ -2,7 +2,7 @@
 use Rattle.std.specs.Prelude.{◌≡◌, ℕ, ◌<◌, ◌≤◌}
 use Rattle.calls.specs.declared.call.Call.{Call}
 use Rattle.calls.specs.declared.reply.Reply.{Reply}
-use Rattle.calls.specs.Ranges.{top, InRange}
+use Rattle.calls.specs.Rules.{top, InRange}
 use Rattle.calls.specs.Bags.{Bag, copies, add, take_out}
 
 -- (p, g) is in the queue, and no pair in it comes before.

@@ -4,7 +4,7 @@ use Rattle.std.specs.Ordering.{nat_cmp}
 use Rattle.std.specs.FinSet.{FinSet, contains, insert, remove}
 use Rattle.calls.specs.declared.call.Call.{Call}
 use Rattle.calls.specs.declared.reply.Reply.{Reply}
-use Rattle.calls.specs.Ranges.{InRange}
+use Rattle.calls.specs.Rules.{InRange}
 
 abbrev pub NumberSet : Type 0
 NumberSet = FinSet nat_cmp

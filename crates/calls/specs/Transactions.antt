@@ -1,10 +1,11 @@
--- Transactions: calls with their replies, and what is put off to the commit; and transactions one after another.
+-- Transactions: calls with their replies, and what is put off to the commit; and transactions one
+-- after another.
 use Rattle.std.specs.Prelude.{◌≡◌, ℕ, ◌==◌, not, List, [], ◌∷◌, ◌++◌, map, Contains}
 use Rattle.std.specs.List.{filter}
 use Rattle.calls.specs.declared.kind.Kind.{Kind}
 use Rattle.calls.specs.declared.call.Call.{Call}
 use Rattle.calls.specs.declared.reply.Reply.{Reply}
-use Rattle.calls.specs.Laters.{left_by}
+use Rattle.calls.specs.Rules.{left_by}
 use Rattle.calls.specs.Contents.{Collection, does, empty}
 
 -- The steps lead from s to t, one after another.
@@ -38,20 +39,24 @@ calls_of [] = []
 calls_of (Asked e ∷ es) = e ∷ calls_of es
 calls_of (PutOff at c ∷ es) = calls_of es
 
--- What is put off to the commit, in the order asked, each with the reply Done. A queued release puts off the freeing.
+-- What is put off to the commit, in the order asked, each with the reply Done. A queued release
+-- puts off the freeing.
 abbrev pub laters_of : List Entry → List Event
 laters_of [] = []
-laters_of (Asked e ∷ es) = map (λ c. record { at = e.at; call = c; reply = Reply.Done }) (left_by e.call e.reply) ++ laters_of es
+laters_of (Asked e ∷ es) = map (λ c. record { at = e.at; call = c; reply = Reply.Done })
+    (left_by e.call e.reply) ++ laters_of es
 laters_of (PutOff at c ∷ es) = record { at = at; call = c; reply = Reply.Done } ∷ laters_of es
 
 -- No collection has the name, and one that is empty comes to the end.
-pub record Makes (s : List Collection) (name : List ℕ) (kind : Kind) (t : List Collection) : Type 0 where
+pub record Makes (s : List Collection) (name : List ℕ) (kind : Kind) (t : List Collection) : Type
+    0 where
   pub free : Contains (map (λ x. x.name) s) name → ⊥
   pub is : t ≡ s ++ record { name = name; content = empty kind } ∷ []
 
 -- The transaction leads from s to t: its calls one after another, and then what it put off.
 abbrev pub RunsWhole : List Collection → Transaction → List Collection → Type 0
-RunsWhole s (Whole es) t = (m : List Collection) × Leads Does (calls_of es) s m × Leads Does (laters_of es) m t
+RunsWhole s (Whole es) t = (m : List Collection) × Leads Does (calls_of es) s m ×
+    Leads Does (laters_of es) m t
 RunsWhole s (Made name kind) t = Makes s name kind t
 
 -- The transactions lead from s to t, each run whole, one after another.
@@ -72,7 +77,8 @@ own n es = map (λ e. e.1) (filter (λ e. e.0 == n) es)
 abbrev pub others : ℕ → List (ℕ × Entry) → List (ℕ × Entry)
 others n es = filter (λ e. not (e.0 == n)) es
 
--- What is known of each number's entries after one act more. A begin forgets those of an earlier transaction of its number.
+-- What is known of each number's entries after one act more. A begin forgets those of an earlier
+-- transaction of its number.
 abbrev pub gather : List (ℕ × Entry) → Act → List (ℕ × Entry)
 gather es (Begins n) = others n es
 gather es (Asks n e) = es ++ (n, e) ∷ []
@@ -86,7 +92,8 @@ commits es (Creates name kind) = Made name kind ∷ []
 commits es (Begins n) = []
 commits es (Asks n e) = []
 
--- The transactions that the acts commit, in the order of their commits, each with its entries since its last begin;
+-- The transactions that the acts commit, in the order of their commits, each with its entries since
+-- its last begin;
 -- es are the entries known before.
 abbrev pub committed_after : List (ℕ × Entry) → List Act → List Transaction
 committed_after es [] = []

@@ -4,7 +4,8 @@ ghost use Rattle.std.specs.Prelude.{◌≡◌, ◌↔◌, IsTrue, IfOk};
 use crate::{Bytes, Kind};
 use std::alloc::AllocError;
 
-/// What a collection can be asked. Elements, keys, priorities, tags and identifiers are any u64. A client cannot ask
+/// What a collection can be asked. Elements, keys, priorities, tags and identifiers are any u64. A
+/// client cannot ask
 /// `Pluck` and `Free`, which are inverses.
 #[derive(Drop, Debug)]
 pub enum Call {
@@ -43,7 +44,7 @@ pub enum Call {
 }
 
 impl Call {
-    ghost use Rattle.calls.specs.Kinds.{kind_of};
+    ghost use Rattle.calls.specs.Rules.{kind_of};
 
     /// The kind of collection that the call is for.
     pub fn kind(&self) -> Kind
@@ -85,7 +86,8 @@ impl Call {
         }
     }
 
-    /// The same call once more. Refused only for want of memory; only a value that is put takes any.
+    /// The same call once more. Refused only for want of memory; only a value that is put takes
+    /// any.
     pub fn copy(&self) -> Result<Call, AllocError>
         ensures { IfOk result (λ call. call ≡ self.now) }
     {

@@ -1,18 +1,19 @@
-// What a client may name and ask.
+// What a collection may be named.
 ghost use Rattle.std.specs.Prelude.{◌↔◌, ◌<◌, IsTrue, IsOk, IfErr, IsErrOf, length};
 ghost use Rattle.calls.specs.Names.{IsNameByte, IsSpelt, IsName, RefusesName};
-ghost use Rattle.calls.specs.Inverses.{Askable, IsShort, CallRefused};
 
-use crate::limits::{MAX_NAME, MAX_VALUE};
-use crate::{Call, Refusal};
+use crate::Refusal;
+use crate::limits::MAX_NAME;
 
-/// Whether a collection may have the name: 1 to 64 bytes, each of them from `a-z 0-9 _ - .`. It takes no memory.
+/// Whether a collection may have the name: 1 to 64 bytes, each of them from `a-z 0-9 _ - .`. It
+/// takes no memory.
 ///
 /// BadName where the name is empty or has another byte, else TooLong over 64 bytes.
 pub fn check_name(name: &str) -> Result<(), Refusal>
     ensures ok { IsOk result ↔ IsName name.now }
     ensures bad_name { IsErrOf result Refusal.BadName ↔ (IsSpelt name.now → ⊥) }
-    ensures too_long { IsErrOf result Refusal.TooLong ↔ (IsSpelt name.now × (64 < length name.now)) }
+    ensures too_long { IsErrOf result Refusal.TooLong ↔
+        (IsSpelt name.now × (64 < length name.now)) }
     ensures err { IfErr result (RefusesName name.now) }
 {
     if !is_spelt(name) {
@@ -22,20 +23,6 @@ pub fn check_name(name: &str) -> Result<(), Refusal>
         return Err(Refusal::TooLong);
     }
     Ok(())
-}
-
-/// Whether a client can ask for the call. It takes no memory.
-///
-/// BadArg for Pluck, for Free and for a Bump of -2^63, which has no inverse; TooLong for a value over 256 bytes.
-pub fn check_call(call: &Call) -> Result<(), Refusal>
-    ensures ok { IsOk result ↔ (Askable call.now × IsShort call.now) }
-    ensures err { IfErr result (CallRefused call.now) }
-{
-    match call {
-        Call::Pluck(_, _) | Call::Free(_) | Call::Bump(i64::MIN) => Err(Refusal::BadArg),
-        Call::Put(_, value) if value.as_slice().len() > MAX_VALUE => Err(Refusal::TooLong),
-        _ => Ok(()),
-    }
 }
 
 // Whether the name has a byte, and only bytes that a name may have.

@@ -1,7 +1,8 @@
 // A part of what a collection holds.
 use crate::Bytes;
 
-/// A part of what a collection holds, by the collection's kind. A set, a map, a pool and a queue have any number of
+/// A part of what a collection holds, by the collection's kind. A set, a map, a pool and a queue
+/// have any number of
 /// them; a counter has one.
 #[derive(Drop, Debug)]
 pub enum Item {

@@ -1,4 +1,5 @@
-//! The calls of a store's collections and their replies, the needs that keep two transactions apart, the refusals
+//! The calls of a store's collections and their replies, the needs that keep two transactions
+//! apart, the refusals
 //! and the limits of the store.
 #![tactic(auto)]
 
@@ -12,15 +13,15 @@ mod name;
 mod need;
 mod refusal;
 mod reply;
-mod undoing;
+mod rules;
 
 pub use bytes::Bytes;
 pub use call::Call;
-pub use check::{check_call, check_name};
+pub use check::check_name;
 pub use item::Item;
 pub use kind::Kind;
 pub use name::Name;
 pub use need::{Mode, Need};
 pub use refusal::Refusal;
 pub use reply::Reply;
-pub use undoing::undone_by;
+pub use rules::check_call;

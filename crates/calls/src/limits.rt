@@ -30,7 +30,8 @@ pub const MIN_AREA: u64 = 65_536;
 /// The most bytes of an area.
 pub const MAX_AREA: u64 = 1_073_741_824;
 
-/// Numbers of transactions lie below it, and steps that wear a book are refused from it on: 2 to the 61.
+/// Numbers of transactions lie below it, and steps that wear a book are refused from it on: 2 to
+/// the 61.
 pub const NUMBER_END: u64 = 2_305_843_009_213_693_952;
 
 /// The most wear of a book: 2 to the 61, and 65,536 more.

@@ -4,7 +4,8 @@ ghost use Rattle.std.specs.Prelude.{◌≡◌, IfOk, string_bytes};
 use std::alloc::AllocError;
 use std::marker::Model;
 
-/// The name of a collection. Contracts see the list of its bytes. Whether it is a good name says `check_name`.
+/// The name of a collection. Contracts see the list of its bytes. Whether it is a good name says
+/// `check_name`.
 #[derive(Drop, Debug)]
 pub struct Name {
     text: String,

@@ -1,6 +1,6 @@
 // Which calls may stand side by side.
 ghost use Rattle.std.specs.Prelude.{◌↔◌, IsTrue};
-ghost use Rattle.calls.specs.Needs.{Conflict};
+ghost use Rattle.calls.specs.Rules.{Conflict};
 
 /// How a call uses the keys of its need.
 #[derive(Clone, Copy, Debug, PartialEq, Eq)]
@@ -19,7 +19,8 @@ pub struct Need {
 }
 
 impl Need {
-    /// Whether calls of two transactions on one collection may not both have these needs: the spans overlap, and the
+    /// Whether calls of two transactions on one collection may not both have these needs: the spans
+    /// overlap, and the
     /// modes are neither Read with Read nor Add with Add. It takes no memory.
     pub fn conflicts(&self, other: &Need) -> bool
         ensures { IsTrue result ↔ Conflict self.now other.now }

@@ -16,7 +16,8 @@ fn write_run(byte: u8, count: u64, out: &mut impl Write) -> io::Result<()> {
     Ok(())
 }
 
-/// Writes a line. A byte that stands more than 16 times on end is written once, with the count in braces.
+/// Writes a line. A byte that stands more than 16 times on end is written once, with the count in
+/// braces.
 pub fn write_line(line: &str, out: &mut impl Write) -> io::Result<()> {
     let mut last = 0;
     let mut count = 0u64;
@@ -32,7 +33,8 @@ pub fn write_line(line: &str, out: &mut impl Write) -> io::Result<()> {
     writeln!(out, "")
 }
 
-/// Writes the last lines of a text, so many of them, each behind a mark, and how many stand before them.
+/// Writes the last lines of a text, so many of them, each behind a mark, and how many stand before
+/// them.
 pub fn write_last(text: &str, last: usize, mark: &str, out: &mut impl Write) -> io::Result<()> {
     let before = text.lines().count().saturating_sub(last);
     if before > 0 {

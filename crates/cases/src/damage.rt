@@ -33,7 +33,8 @@ fn found_on(alloc: Global, disk: MemDisk) -> io::Result<String> {
     Ok(found)
 }
 
-/// An empty store whose first area begins with these bytes: prints what a check and a show make of it.
+/// An empty store whose first area begins with these bytes: prints what a check and a show make of
+/// it.
 pub fn tell_area(alloc: Global, text: &str, out: &mut impl Write) -> io::Result<()> {
     let mut disk = empty_store(alloc)?;
     let area = bytes(alloc, text)?;
@@ -50,8 +51,10 @@ fn changed(alloc: Global, bytes: &[u8], at: u64, value: u8) -> io::Result<MemDis
     Ok(disk)
 }
 
-/// Changes each byte of the disk from the first to the end, which is left out, to a value, one at a time. Prints what a
-/// check and a show make of it, where that is not what they made of the byte before. The disk of the case stays.
+/// Changes each byte of the disk from the first to the end, which is left out, to a value, one at a
+/// time. Prints what a
+/// check and a show make of it, where that is not what they made of the byte before. The disk of
+/// the case stays.
 pub fn change_each(
     alloc: Global,
     bench: &mut Bench,

@@ -74,7 +74,8 @@ fn chosen(alloc: Global, text: &str) -> io::Result<Vec<(u64, u8)>> {
     Ok(picks)
 }
 
-// Which bytes a stop leaves otherwise than a read gives: none, all with a value, or those that are named.
+// Which bytes a stop leaves otherwise than a read gives: none, all with a value, or those that are
+// named.
 fn picks(alloc: Global, size: u64, text: &str) -> io::Result<Vec<(u64, u8)>> {
     if text.is_empty() {
         return Ok(Vec::new(alloc));

@@ -23,7 +23,8 @@ fn block(alloc: Global, body: &[u8]) -> io::Result<Vec<u8>> {
     Ok(bytes)
 }
 
-// Writes a block with the body that is told at this place, and answers where the next one stands. A dash is for none: the
+// Writes a block with the body that is told at this place, and answers where the next one stands. A
+// dash is for none: the
 // closed gate stays.
 fn write_block(alloc: Global, disk: &mut MemDisk, at: u64, body: &str) -> io::Result<u64> {
     if body == "-" {
@@ -35,7 +36,8 @@ fn write_block(alloc: Global, disk: &mut MemDisk, at: u64, body: &str) -> io::Re
     Ok(at.saturating_add(block.len() as u64).saturating_sub(1))
 }
 
-// Writes blocks from the first area's beginning on, with a bar between the bodies of each two. Answers where the last one
+// Writes blocks from the first area's beginning on, with a bar between the bodies of each two.
+// Answers where the last one
 // stands.
 fn write_blocks(alloc: Global, disk: &mut MemDisk, bodies: &str) -> io::Result<u64> {
     let mut last = FIRST;
@@ -47,7 +49,8 @@ fn write_blocks(alloc: Global, disk: &mut MemDisk, bodies: &str) -> io::Result<u
     Ok(last)
 }
 
-/// An empty store whose image is these blocks: prints where the last one stands, what the store is checked as, and what
+/// An empty store whose image is these blocks: prints where the last one stands, what the store is
+/// checked as, and what
 /// it shows, which opens it. That is what the disk of the case is then.
 pub fn open(
     alloc: Global,

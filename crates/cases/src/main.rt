@@ -1,5 +1,7 @@
-//! Plays cases that are data: each is a list of scripts and questions, on disks in memory and on files. What is asked and
-//! what is answered is printed, and the file `stdout` says what it must be. A line that is no question ends the run.
+//! Plays cases that are data: each is a list of scripts and questions, on disks in memory and on
+//! files. What is asked and
+//! what is answered is printed, and the file `stdout` says what it must be. A line that is no
+//! question ends the run.
 #![tactic(auto)]
 
 mod bench;

@@ -10,7 +10,8 @@ use std::fs::File;
 use std::io::{self, Write};
 use std::rt::Files;
 
-/// Asks what a line asks, and prints what is answered. An empty line and one that begins with `#` ask nothing; one with
+/// Asks what a line asks, and prints what is answered. An empty line and one that begins with `#`
+/// ask nothing; one with
 /// a bar in front, and a line that is repeated, are lines of the script.
 pub fn ask(
     rt: &(impl Files<File = File> + AllocGlobal),

@@ -64,7 +64,8 @@ pub fn text(bytes: &Vec<u8>) -> &str {
     std::str::from_utf8(bytes.as_slice()).unwrap_or("no text")
 }
 
-/// Prints what a run answered: its status, the last lines of what it printed, and each line of its errors behind a mark.
+/// Prints what a run answered: its status, the last lines of what it printed, and each line of its
+/// errors behind a mark.
 pub fn write_ran(
     status: u8,
     printed: &str,
@@ -77,7 +78,8 @@ pub fn write_ran(
     write_last(errors, usize::MAX, "! ", out)
 }
 
-// Carries a task out on the disk of the case with the script that was written, and prints what it answered.
+// Carries a task out on the disk of the case with the script that was written, and prints what it
+// answered.
 fn carry_out(
     alloc: Global,
     bench: &mut Bench,
@@ -152,7 +154,8 @@ pub fn words(alloc: Global, text: &str) -> Result<Vec<&str>, AllocError> {
     Ok(words)
 }
 
-/// Prints what the words of a command line ask for, or the status and the text with which they are refused.
+/// Prints what the words of a command line ask for, or the status and the text with which they are
+/// refused.
 pub fn understand(alloc: Global, text: &str, out: &mut impl Write) -> io::Result<()> {
     let words = words(alloc, text)?;
     match command(alloc, words.as_slice()) {
@@ -189,7 +192,8 @@ impl Write for Short {
     }
 }
 
-/// Carries the stored run out, then shows a disk that is no store, with room for so many bytes of output and of errors.
+/// Carries the stored run out, then shows a disk that is no store, with room for so many bytes of
+/// output and of errors.
 pub fn run_short(alloc: Global, text: &str, out: &mut impl Write) -> io::Result<()> {
     let room = number(text)? as usize;
     let (mut printed, mut errors) = (Short { room }, Short { room });

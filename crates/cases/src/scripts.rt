@@ -16,7 +16,8 @@ pub fn add_bytes(alloc: Global, bench: &mut Bench, text: &str) -> io::Result<()>
     Ok(bench.script.extend_from_slice(added.as_slice())?)
 }
 
-/// Adds a line for each number from the first to the end, which is left out; `#` in it stands for the number.
+/// Adds a line for each number from the first to the end, which is left out; `#` in it stands for
+/// the number.
 pub fn repeat(alloc: Global, bench: &mut Bench, text: &str) -> io::Result<()> {
     let (first, rest) = pair(text, " ")?;
     let (end, line) = pair(rest, " ")?;

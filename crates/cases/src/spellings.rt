@@ -28,7 +28,8 @@ fn parted(text: &str) -> io::Result<(Option<Kind>, &str)> {
     }
 }
 
-/// Prints the record that bytes begin with, and how it is spelled where that is otherwise; or why they begin with none.
+/// Prints the record that bytes begin with, and how it is spelled where that is otherwise; or why
+/// they begin with none.
 pub fn read(alloc: Global, text: &str, out: &mut impl Write) -> io::Result<()> {
     let (last, rest) = parted(text)?;
     let bytes = bytes(alloc, rest)?;

@@ -103,7 +103,8 @@ fn world_on(alloc: Global, disk: MemDisk) -> Result<World<MemDisk>, (Refusal, Me
     }
 }
 
-/// Takes the steps that the script tells in the world of the disk, and prints what each is answered, a turn as a script
+/// Takes the steps that the script tells in the world of the disk, and prints what each is
+/// answered, a turn as a script
 /// is told it.
 pub fn take(alloc: Global, bench: &mut Bench, out: &mut impl Write) -> io::Result<()> {
     let script = bench.take_script(alloc);

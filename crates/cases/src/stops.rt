@@ -29,8 +29,10 @@ enum Trial<'a> {
     },
 }
 
-/// Stops the script that was written at each call of the disk, and prints in how many calls it was stopped, and what was
-/// found that is not as the file tells. The file has what is shown after each place behind what the disk shows now, with a
+/// Stops the script that was written at each call of the disk, and prints in how many calls it was
+/// stopped, and what was
+/// found that is not as the file tells. The file has what is shown after each place behind what the
+/// disk shows now, with a
 /// line `.` between each two.
 pub fn stop_story(
     rt: &(impl Files + AllocGlobal),
@@ -56,8 +58,10 @@ pub fn stop_story(
     stop_in_each_way(alloc, trial, bytes.as_slice(), out)
 }
 
-/// Stops the opening of the disk at each of its calls, and prints in how many, and what the store is checked as then, where
-/// that is not what it was at the call before. It is stopped at that call three times over, and then opened to the end.
+/// Stops the opening of the disk at each of its calls, and prints in how many, and what the store
+/// is checked as then, where
+/// that is not what it was at the call before. It is stopped at that call three times over, and
+/// then opened to the end.
 pub fn stop_opening(alloc: Global, bench: &mut Bench, out: &mut impl Write) -> io::Result<()> {
     let bytes = ground(alloc, bench)?;
     let opened = run_on(
@@ -79,7 +83,8 @@ pub fn stop_opening(alloc: Global, bench: &mut Bench, out: &mut impl Write) -> i
     stop_in_each_way(alloc, trial, bytes.as_slice(), out)
 }
 
-/// Stops a format at each of its calls, and prints in how many, and what the disk shows then, where that is not what it
+/// Stops a format at each of its calls, and prints in how many, and what the disk shows then, where
+/// that is not what it
 /// showed at the call before.
 pub fn stop_format(
     alloc: Global,

@@ -1,4 +1,3 @@
 pub mod Entries
 pub mod Listings
 pub mod Orders
-pub mod OneContent

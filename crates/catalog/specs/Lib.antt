@@ -1,7 +1,5 @@
 pub mod Places
 pub mod Making
+pub mod Meaning
 pub mod Holdings
-pub mod Codes
-pub mod Shows
-pub mod Loading
 pub mod Laws

@@ -1,11 +1,11 @@
--- Collections at their places: which calls belong where, how others are refused, and what so many runs can reach.
+-- Collections at their places: which calls belong where, how others are refused, and what so many
+-- runs can reach.
 use Rattle.std.specs.Prelude.{ℕ, zero, suc, ◌≤◌, List, [], ◌∷◌, length, map, slice_get, Option}
 use Rattle.std.specs.List.{AllByRecursion}
 use Rattle.calls.specs.declared.call.Call.{Call}
 use Rattle.calls.specs.declared.refusal.Refusal.{Refusal}
-use Rattle.calls.specs.Contents.{Content, InCounter, Collection}
+use Rattle.calls.specs.Contents.{Content, InCounter, Collection, kind_of_content}
 use Rattle.calls.specs.Counters as counters
-use Rattle.calls.specs.Items.{kind_of_content}
 use Rattle.boosted.specs.Kinds.{IsOf}
 
 -- There is a member at the place, and P holds of it.

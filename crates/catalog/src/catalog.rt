@@ -1,20 +1,19 @@
 // Named collections, in the order of making.
-ghost use Rattle.std.specs.Prelude.{◌≡◌, ◌≤◌, ◌↔◌, [], ◌∷◌, ◌++◌, false, IsTrue, length, string_bytes, refl, IfOk, IsOk, IfErr, OnOk, OnErr, IsOkUnless};
+ghost use Rattle.std.specs.Prelude.{◌≡◌, ◌≤◌, ◌↔◌, [], ◌∷◌, ◌++◌, false, IsTrue, length};
+ghost use Rattle.std.specs.Prelude.{string_bytes, IfOk, IsOk, IfErr, OnOk, OnErr, IsOkUnless};
 ghost use Rattle.std.specs.Option.{option_map};
 ghost use Rattle.calls.specs.Contents.{AnswersAt, after_at};
 ghost use Rattle.calls.specs.Names.{IsName};
-ghost use Rattle.calls.specs.Transactions.{Makes};
-ghost use Rattle.calls.specs.Inverses.{Disposable};
-ghost use Rattle.boosted.specs.Shape.{HasRoom};
-ghost use Rattle.catalog.specs.Holdings.{content_of};
-ghost use Rattle.catalog.specs.Places.{At, content_at, Belongs, Misplaced, IsWithin};
+ghost use Rattle.calls.specs.Rules.{Disposable};
+ghost use Rattle.boosted.specs.Meaning.{HasRoom};
+ghost use Rattle.catalog.specs.Holdings.{content_of, Shows, ShowRefused, AreItems, Loads};
+ghost use Rattle.catalog.specs.Holdings.{LoadRefused};
+ghost use Rattle.catalog.specs.Places.{At, content_at, Belongs, Misplaced};
 ghost use Rattle.catalog.specs.Making.{names_of, AreDistinct, IsNew, NewRefused};
-ghost use Rattle.catalog.specs.Shows.{Shows, ShowRefused};
-ghost use Rattle.catalog.specs.Loading.{AreItems, Loads, LoadRefused};
-ghost use Rattle.catalog.specs.Laws.OneContent.{part_deferred_other};
-ghost use Rattle.catalog.specs.Laws.Makings.{names_kept, makes_one, makes_named, makes_before, makes_after, makes_keep_belonging, makes_keep_deferred, makes_keep_within};
+ghost use Rattle.catalog.specs.Meaning.{catalog_meaning, catalog_making};
+ghost use Rattle.catalog.specs.Laws.Catalogs.{making_laws};
 
-use crate::loading::are_items;
+use crate::holding::are_items;
 use crate::{Holding, Parts, Shown};
 use calls::limits::MAX_COLLECTIONS;
 use calls::{Call, Item, Kind, Name, Refusal, Reply, check_name};
@@ -22,7 +21,8 @@ use indexmap::IndexMap;
 use std::alloc::{AllocError, Global};
 use std::marker::Model;
 
-/// Named collections, at most 256, in the order of making: the place of a collection is its number. Contracts see the
+/// Named collections, at most 256, in the order of making: the place of a collection is its number.
+/// Contracts see the
 /// list of them, each with its name and what it holds.
 #[derive(Drop)]
 pub struct Catalog {
@@ -33,7 +33,7 @@ impl Model for Catalog {
     ghost use Rattle.std.specs.Prelude.{List, ◌≤◌};
     ghost use Rattle.indexmap.specs.IndexMap.{index_map_len};
     ghost use Rattle.calls.specs.Contents.{Collection};
-    ghost use Rattle.catalog.specs.Codes.{catalog_code};
+    ghost use Rattle.catalog.specs.Holdings.{catalog_code};
 
     ghost Value = { List Collection };
 
@@ -43,7 +43,8 @@ impl Model for Catalog {
 
     ghost view = { λ catalog. collections_of catalog.collections.entries };
 
-    ghost invariant = { λ catalog. (index_map_len catalog.collections ≤ 256) × AreNamed (collections_of catalog.collections.entries) };
+    ghost invariant = { λ catalog. (index_map_len catalog.collections ≤ 256) ×
+        AreNamed (collections_of catalog.collections.entries) };
 }
 
 impl Catalog {
@@ -95,7 +96,7 @@ impl Catalog {
     // Makes the call at the place, which has a collection that answers it so.
     pub(crate) fn run_at(&mut self, at: u8, call: &Call, reply: &Reply) -> Result<(), Refusal>
         requires can { AnswersAt self.old at call.now reply.now }
-        requires room { HasRoom IsWithin self.old }
+        requires room { HasRoom catalog_meaning self.old }
         ensures ok { OnOk result (self.new ≡ after_at self.old at call.now reply.now) }
         ensures err { OnErr result (self.new ≡ self.old) }
         ensures refusal { IsOkUnless result Refusal.NoMemory }
@@ -125,7 +126,8 @@ impl Catalog {
     // Puts a collection at the end.
     fn add(&mut self, name: &str, holding: Holding) -> Result<(), Refusal>
         requires { IsNew (names_of self.old) name.now }
-        ensures ok { OnOk result (self.new ≡ self.old ++ record { name = name.now; content = content_of holding } ∷ []) }
+        ensures ok { OnOk result (self.new ≡ self.old ++
+            record { name = name.now; content = content_of holding } ∷ []) }
         ensures err { OnErr result (self.new ≡ self.old) }
         ensures refusal { IsOkUnless result Refusal.NoMemory }
     {
@@ -135,15 +137,19 @@ impl Catalog {
         Ok(())
     }
 
-    /// Puts a collection of the name, the kind and these items at the end; false, with nothing changed, where no
+    /// Puts a collection of the name, the kind and these items at the end; false, with nothing
+    /// changed, where no
     /// collection of the kind has these items in this order.
     ///
-    /// BadName and TooLong as `check_name` says, then NameTaken, TooManyCollections where there are 256, and NoMemory
+    /// BadName and TooLong as `check_name` says, then NameTaken, TooManyCollections where there are
+    /// 256, and NoMemory
     /// only where it is not false. Each of them leaves everything as before.
     pub fn load(&mut self, name: &str, kind: Kind, items: Vec<Item>) -> Result<bool, Refusal>
         ensures new { IfOk result (λ loaded. IsNew (names_of self.old) name.now) }
-        ensures loads { IfOk result (λ loaded. IsTrue loaded → Loads self.old name.now kind items.items self.new) }
-        ensures not { IfOk result (λ loaded. loaded ≡ false → (self.new ≡ self.old) × (AreItems kind items.items → ⊥)) }
+        ensures loads { IfOk result (λ loaded. IsTrue loaded →
+            Loads self.old name.now kind items.items self.new) }
+        ensures not { IfOk result (λ loaded. loaded ≡ false →
+            (self.new ≡ self.old) × (AreItems kind items.items → ⊥)) }
         ensures as_before { OnErr result (self.new ≡ self.old) }
         ensures err { IfErr result (LoadRefused (names_of self.old) name.now kind items.items) }
     {
@@ -157,7 +163,8 @@ impl Catalog {
         Ok(true)
     }
 
-    /// The name, which is a good one, the kind and the items of the collection at the place, the items in their order.
+    /// The name, which is a good one, the kind and the items of the collection at the place, the
+    /// items in their order.
     ///
     /// NoSuchCollection where there is none, then NoMemory.
     pub fn show(&self, col: u8) -> Result<Shown, Refusal>
@@ -174,7 +181,8 @@ impl Catalog {
 // What is shown of a collection.
 fn shown_of(name: &String, holding: &Holding) -> Result<Shown, AllocError>
     requires { IsName (string_bytes name.now) }
-    ensures { IfOk result (λ shown. Shows (record { name = string_bytes name.now; content = content_of holding.now }) shown) }
+    ensures { IfOk result (λ shown. Shows
+        (record { name = string_bytes name.now; content = content_of holding.now }) shown) }
 {
     let text = name.clone()?;
     let items = holding.items(*name.allocator())?;
@@ -186,9 +194,7 @@ fn shown_of(name: &String, holding: &Holding) -> Result<Shown, AllocError>
 }
 
 impl Parts for Catalog {
-    ghost names = { λ s. names_of s };
-
-    ghost makes = { λ s name kind t. Makes s name kind t };
+    ghost making = { catalog_making };
 
     fn find(&self, name: &str) -> Result<u8, Refusal> {
         check_name(name)?;
@@ -206,23 +212,5 @@ impl Parts for Catalog {
         Ok(at as u8)
     }
 
-    ghost deferred_is_other = { part_deferred_other };
-
-    ghost begins_unnamed = { refl };
-
-    ghost runs_keep_names = { names_kept };
-
-    ghost makes_one = { makes_one };
-
-    ghost makes_named = { makes_named };
-
-    ghost makes_before_calls = { makes_before };
-
-    ghost makes_after_calls = { makes_after };
-
-    ghost makes_keep_belonging = { makes_keep_belonging };
-
-    ghost makes_keep_deferred = { makes_keep_deferred };
-
-    ghost makes_keep_within = { makes_keep_within };
+    ghost laws = { making_laws };
 }

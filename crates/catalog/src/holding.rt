@@ -1,18 +1,22 @@
-// A collection of any kind.
-ghost use Rattle.std.specs.Prelude.{◌≡◌, ◌⊎◌, ◌↔◌, IsTrue, IsOk, IfOk, OnOk, OnErr, IsOkUnless};
+// A collection of any kind: what it answers, its items, and how it is filled.
+ghost use Rattle.std.specs.Prelude.{◌≡◌, ◌⊎◌, ◌↔◌, IsTrue, IsOk, IfOk, OnOk, OnErr, IsOkUnless, []};
+ghost use Rattle.std.specs.Prelude.{◌∷◌, map, List};
 ghost use Rattle.calls.specs.declared.reply.Reply.{Reply};
-ghost use Rattle.calls.specs.Contents.{Answers, after, empty};
-ghost use Rattle.calls.specs.Items.{kind_of_content};
-ghost use Rattle.calls.specs.Inverses.{Askable, Disposable};
+ghost use Rattle.calls.specs.Contents.{Answers, after, empty, kind_of_content, items_of, InMap};
+ghost use Rattle.calls.specs.Contents.{InQueue, Content, IsItemOf};
+ghost use Rattle.calls.specs.Rules.{Askable, Disposable};
 ghost use Rattle.boosted.specs.Kinds.{IsOf};
-ghost use Rattle.boosted.specs.Shape.{HasRoom};
+ghost use Rattle.boosted.specs.Meaning.{IsRoomy};
 ghost use Rattle.catalog.specs.Places.{Reaches};
-ghost use Rattle.catalog.specs.Holdings.{content_of};
+ghost use Rattle.catalog.specs.Holdings.{content_of, ListsContent, pair_item, AreItems, Precedes};
+ghost use Rattle.catalog.specs.Holdings.{Rise, AreInOrder, Follows, with_item, filled};
+ghost use Rattle.calls.specs.declared.item.Item.{Item};
 
 use boosted::Boosted;
-use calls::{Call, Kind, Refusal, Reply};
+use calls::{Call, Item, Kind, Refusal, Reply};
 use collections::{CounterCol, MapCol, PoolCol, QueueCol, SetCol};
-use std::alloc::Global;
+use std::alloc::{AllocError, Global};
+use std::collections::btree_set::Iter;
 
 /// A collection of any kind.
 #[derive(Drop, Debug)]
@@ -74,7 +78,8 @@ impl Holding {
     // A reply that the call may get now. NoMemory only for a reply that holds a value.
     pub(crate) fn look(&self, call: &Call) -> Result<Reply, Refusal>
         requires kind { IsOf (kind_of_content (content_of self.now)) call.now }
-        requires reply { Askable call.now ⊎ ((r : Reply) × Answers (content_of self.now) call.now r) }
+        requires reply { Askable call.now ⊎
+            ((r : Reply) × Answers (content_of self.now) call.now r) }
         ensures ok { IfOk result (λ reply. Answers (content_of self.now) call.now reply) }
         ensures refusal { IsOkUnless result Refusal.NoMemory }
     {
@@ -87,12 +92,14 @@ impl Holding {
         }
     }
 
-    // Makes the call, answered so. NoMemory leaves the collection as before, and does not come for a call that may
+    // Makes the call, answered so. NoMemory leaves the collection as before, and does not come for
+    // a call that may
     // run in a commit.
     pub(crate) fn run(&mut self, call: &Call, reply: &Reply) -> Result<(), Refusal>
         requires can { Answers (content_of self.old) call.now reply.now }
-        requires room { HasRoom Reaches (content_of self.old) }
-        ensures ok { OnOk result (content_of self.new ≡ after (content_of self.old) call.now reply.now) }
+        requires room { IsRoomy (Reaches (content_of self.old)) }
+        ensures ok { OnOk result (content_of self.new ≡
+            after (content_of self.old) call.now reply.now) }
         ensures err { OnErr result (content_of self.new ≡ content_of self.old) }
         ensures refusal { IsOkUnless result Refusal.NoMemory }
         ensures disposable { Disposable call.now → IsOk result }
@@ -103,6 +110,167 @@ impl Holding {
             Holding::Queue(queue) => Boosted::run(queue, (), call, reply),
             Holding::Counter(counter) => Boosted::run(counter, (), call, reply),
             Holding::Pool(pool) => Boosted::run(pool, (), call, reply),
+        }
+    }
+}
+
+impl Holding {
+    // What the collection holds, item by item in order. NoMemory alone is refused.
+    pub(crate) fn items(&self, alloc: Global) -> Result<Vec<Item>, AllocError>
+        ensures { IfOk result (λ items. ListsContent items.items (content_of self.now)) }
+    {
+        match self {
+            Holding::Set(set) => elements_of(set.iter(), alloc),
+            Holding::Map(map) => entries_of(map, alloc),
+            Holding::Queue(queue) => pairs_of(queue, alloc),
+            Holding::Counter(counter) => number_of(counter, alloc),
+            Holding::Pool(pool) => elements_of(pool.iter(), alloc),
+        }
+    }
+}
+
+fn elements_of(numbers: Iter<'_, u64>, alloc: Global) -> Result<Vec<Item>, AllocError>
+    ensures { IfOk result (λ items. items.items ≡ map Item.Element numbers.entry) }
+{
+    numbers.map(|x| Item::Element(*x)).collect(alloc)
+}
+
+fn entries_of(map: &MapCol, alloc: Global) -> Result<Vec<Item>, AllocError>
+    ensures { IfOk result (λ items. items.items ≡ items_of (InMap map.now)) }
+{
+    let mut items = Vec::new(alloc);
+    for (key, value) in map.iter() {
+        items.push(Item::Entry(*key, value.copy()?))?;
+    }
+    Ok(items)
+}
+
+fn pairs_of(queue: &QueueCol, alloc: Global) -> Result<Vec<Item>, AllocError>
+    ensures { IfOk result (λ items. items.items ≡ items_of (InQueue queue.now)) }
+{
+    let pairs = queue.to_vec(alloc)?;
+    items_of_pairs(&pairs, alloc)
+}
+
+fn items_of_pairs(pairs: &[(u64, u64)], alloc: Global) -> Result<Vec<Item>, AllocError>
+    ensures { IfOk result (λ items. items.items ≡ map pair_item pairs.now) }
+{
+    pairs
+        .iter()
+        .map(|(priority, tag)| Item::Pair(*priority, *tag))
+        .collect(alloc)
+}
+
+fn number_of(counter: &CounterCol, alloc: Global) -> Result<Vec<Item>, AllocError>
+    ensures { IfOk result (λ items. items.items ≡ Item.Number counter.now ∷ []) }
+{
+    let mut items = Vec::new(alloc);
+    items.push(Item::Number(counter.total()))?;
+    Ok(items)
+}
+
+// Whether a collection of the kind can have these items, in this order.
+pub fn are_items(kind: Kind, items: &[Item]) -> bool
+    ensures { IsTrue result ↔ AreItems kind items.now }
+{
+    are_in_order(kind, items)
+}
+
+fn are_in_order(kind: Kind, items: &[Item]) -> bool
+    ensures { IsTrue result ↔ AreInOrder kind items.now }
+{
+    match (kind, items) {
+        (Kind::Counter, []) => false,
+        (_, []) => true,
+        (_, [first, rest @ ..]) => rise(kind, first, rest),
+    }
+}
+
+// Whether the items behind a first one are in order.
+fn rise(kind: Kind, first: &Item, rest: &[Item]) -> bool
+    ensures { IsTrue result ↔ Rise kind first.now rest.now }
+{
+    let mut last = first;
+    for item in rest {
+        if !precedes(kind, last, item) {
+            return false;
+        }
+        last = item;
+    }
+    is_item_of(kind, last)
+}
+
+/// Whether the item may come behind these, of which there is none or which are in order: it looks
+/// at the last alone.
+pub fn follows(kind: Kind, items: &[Item], item: &Item) -> bool
+    requires { (items.now ≡ []) ⊎ AreInOrder kind items.now }
+    ensures { IsTrue result ↔ Follows kind items.now item.now }
+{
+    match items.last() {
+        None => is_item_of(kind, item),
+        Some(last) => precedes(kind, last, item),
+    }
+}
+
+fn precedes(kind: Kind, first: &Item, second: &Item) -> bool
+    ensures { IsTrue result ↔ Precedes kind first.now second.now }
+{
+    match (kind, first, second) {
+        (Kind::Set | Kind::Pool, Item::Element(x), Item::Element(y)) => x < y,
+        (Kind::Map, Item::Entry(key, _), Item::Entry(next, _)) => key < next,
+        (Kind::Queue, Item::Pair(p, g), Item::Pair(q, h)) => p < q || (p == q && g <= h),
+        _ => false,
+    }
+}
+
+fn is_item_of(kind: Kind, item: &Item) -> bool
+    ensures { IsTrue result ↔ IsItemOf kind item.now }
+{
+    match (kind, item) {
+        (Kind::Set | Kind::Pool, Item::Element(_)) => true,
+        (Kind::Map, Item::Entry(_, _)) => true,
+        (Kind::Queue, Item::Pair(_, _)) => true,
+        (Kind::Counter, Item::Number(_)) => true,
+        _ => false,
+    }
+}
+
+/// A law: no two contents of a kind have the same items.
+pub fn one_content()
+    ensures { (j k : Content) (items : List Item) → kind_of_content j ≡ kind_of_content k →
+        ListsContent items j → ListsContent items k → j ≡ k }
+{}
+
+impl Holding {
+    // A collection of the kind, into which the items are put. The last goes first: a queue keeps
+    // its least pair at the
+    // end.
+    pub(crate) fn of_items(kind: Kind, mut items: Vec<Item>, alloc: Global) -> Result<Self, Refusal>
+        ensures ok { IfOk result (λ holding. content_of holding ≡ filled (empty kind) items.items) }
+        ensures refusal { IsOkUnless result Refusal.NoMemory }
+    {
+        let mut holding = Holding::new(kind, alloc);
+        while let Some(item) = items.pop() {
+            holding.put(item)?;
+        }
+        Ok(holding)
+    }
+
+    // Puts the item into the collection, if it is one of its kind.
+    fn put(&mut self, item: Item) -> Result<(), Refusal>
+        ensures ok { OnOk result (content_of self.new ≡ with_item (content_of self.old) item) }
+        ensures refusal { IsOkUnless result Refusal.NoMemory }
+    {
+        match (self, item) {
+            (Holding::Set(set), Item::Element(x)) => set.insert(x),
+            (Holding::Map(map), Item::Entry(key, value)) => map.put(key, value),
+            (Holding::Queue(queue), Item::Pair(priority, tag)) => queue.put(priority, tag),
+            (Holding::Counter(counter), Item::Number(n)) => {
+                *counter = CounterCol::with_total(n);
+                Ok(())
+            }
+            (Holding::Pool(pool), Item::Element(x)) => pool.take(x),
+            _ => Ok(()),
         }
     }
 }

@@ -3,14 +3,11 @@
 
 mod catalog;
 mod holding;
-mod items;
-mod loading;
 mod parts;
 mod product;
 mod shown;
 
 pub use catalog::Catalog;
-pub use holding::Holding;
-pub use loading::{follows, one_content};
+pub use holding::{Holding, follows, one_content};
 pub use parts::Parts;
 pub use shown::Shown;

@@ -1,5 +1,6 @@
 -- What a turn answers.
-use Rattle.std.proofs.Common.{◌≡◌, ◌∷◌, List, ℕ, Bool, false, length, subst, Option, Some, IfSome, OnOk, Result, Ok, Err}
+use Rattle.std.proofs.Common.{◌≡◌, ◌∷◌, List, ℕ, Bool, false, length, subst, Option, Some, IfSome}
+use Rattle.std.proofs.Common.{OnOk, Result, Ok, Err}
 use Rattle.calls.specs.declared.refusal.Refusal.{Refusal}
 use Rattle.gate_block.specs.Row.{SameOutside}
 use Rattle.gate_block.specs.Area.{base_of, size_of}
@@ -11,13 +12,22 @@ use Rattle.checkpoint.specs.Keepers.{KeeperState, IsKeeper, OnKept, BringAnswers
 use Rattle.checkpoint.proofs.Apart.{still_laid}
 
 -- a turn that brings the first block
-pub brought : (q waiting : List Block) (b : Block) (failed fails : Bool) (mark next : ℕ) (is_covered is_past is_full : Block → Type 0) (is_same is_risen : Type 0) (r : Result Turn Refusal) (held : Option Block) → q ≡ b ∷ waiting → failed ≡ false
-    → BringAnswers b mark (is_covered b) (is_past b) (is_full b) is_same is_risen r held next fails → TurnAnswers q failed mark is_covered is_past is_full is_same is_risen r waiting held next fails
-brought q waiting b failed fails mark next is_covered is_past is_full is_same is_risen (Ok (Turn.Kept place)) held first not_failed a = (not_failed, (b, first, a))
-brought q waiting b failed fails mark next is_covered is_past is_full is_same is_risen (Ok Turn.Held) held first not_failed a = (not_failed, (b, first, a))
-brought q waiting b failed fails mark next is_covered is_past is_full is_same is_risen (Ok Turn.Idle) held first not_failed a = absurd a.2
-brought q waiting b failed fails mark next is_covered is_past is_full is_same is_risen (Err Refusal.Failed) held first not_failed a = absurd a.2
-brought q waiting b failed fails mark next is_covered is_past is_full is_same is_risen (Err e) held first not_failed a = (not_failed, (b, first, a))
+pub brought : (q waiting : List Block) (b : Block) (failed fails : Bool) (mark next : ℕ)
+    (is_covered is_past is_full : Block → Type 0) (is_same is_risen : Type 0)
+    (r : Result Turn Refusal) (held : Option Block) → q ≡ b ∷ waiting → failed ≡ false
+    → BringAnswers b mark (is_covered b) (is_past b) (is_full b) is_same is_risen r held next
+    fails → TurnAnswers q failed mark is_covered is_past is_full is_same is_risen r waiting held
+    next fails
+brought q waiting b failed fails mark next is_covered is_past is_full is_same is_risen
+    (Ok (Turn.Kept place)) held first not_failed a = (not_failed, (b, first, a))
+brought q waiting b failed fails mark next is_covered is_past is_full is_same is_risen
+    (Ok Turn.Held) held first not_failed a = (not_failed, (b, first, a))
+brought q waiting b failed fails mark next is_covered is_past is_full is_same is_risen
+    (Ok Turn.Idle) held first not_failed a = absurd a.2
+brought q waiting b failed fails mark next is_covered is_past is_full is_same is_risen
+    (Err Refusal.Failed) held first not_failed a = absurd a.2
+brought q waiting b failed fails mark next is_covered is_past is_full is_same is_risen (Err e) held
+    first not_failed a = (not_failed, (b, first, a))
 
 -- where an append that was answered well has led to P, so has one that kept a block
 pub kept_of : (P : Type 0) (r : Result Turn Refusal) → OnOk r P → OnKept r P
@@ -30,9 +40,16 @@ pub same_head : (b d : Block) (xs ys : List Block) → b ∷ xs ≡ d ∷ ys →
 same_head b d xs ys e = cc
 
 -- an image in progress is laid into the other area
-pub beside_is : {D : Type 0} (seen : D → List ℕ) (k : KeeperState D) (w : Laying) → IsKeeper seen k → k.image ≡ Some w → IsLaidBeside k.area k.failed w
-beside_is seen k w held is = subst (λ (i : Option Laying). IfSome i (λ v. IsLaidBeside k.area k.failed v)) is held.beside
+pub beside_is : {D : Type 0} (seen : D → List ℕ) (k : KeeperState D) (w : Laying) →
+    IsKeeper seen k → k.image ≡ Some w → IsLaidBeside k.area k.failed w
+beside_is seen k w held is = subst
+    (λ (i : Option Laying). IfSome i (λ v. IsLaidBeside k.area k.failed v)) is held.beside
 
 -- what was laid of it stays where the area in use alone changes
-pub laid_on : {D : Type 0} (seen : D → List ℕ) (k : KeeperState D) (w : Laying) (s : List ℕ) (bodies : List (List ℕ)) → IsKeeper seen k → k.image ≡ Some w → SameOutside (base_of k.area) (size_of k.area) (seen k.disk) s → IsBeingLaid w (seen k.disk) bodies → IsBeingLaid w s bodies
-laid_on seen k w s bodies held is same was = still_laid k.area (length (seen k.disk)) w (seen k.disk) s bodies held.one (beside_is seen k w held is).other same was
+pub laid_on : {D : Type 0} (seen : D → List ℕ) (k : KeeperState D) (w : Laying) (s : List ℕ)
+    (bodies : List (List ℕ)) → IsKeeper seen k → k.image ≡ Some w →
+    SameOutside (base_of k.area) (size_of k.area) (seen k.disk) s →
+    IsBeingLaid w (seen k.disk) bodies → IsBeingLaid w s bodies
+laid_on seen k w s bodies held is same was =
+    still_laid k.area (length (seen k.disk)) w (seen k.disk) s bodies held.one
+    (beside_is seen k w held is).other same was

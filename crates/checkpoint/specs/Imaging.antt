@@ -1,5 +1,6 @@
 -- An image on its way into the area that is not in use, and how it becomes the store.
-use Rattle.std.specs.Prelude.{◌≡◌, ◌⊎◌, ℕ, ◌+◌, ◌<◌, ◌≤◌, Bool, false, List, [], ◌++◌, length, map, get_or, Option, Some, None, Vec}
+use Rattle.std.specs.Prelude.{◌≡◌, ◌⊎◌, ℕ, ◌+◌, ◌<◌, ◌≤◌, Bool, false, List, [], ◌++◌, length, map}
+use Rattle.std.specs.Prelude.{get_or, Option, Some, None, Vec}
 use Rattle.std.specs.Option.{IsSomeAnd}
 use Rattle.std.specs.declared.alloc.Global.{Global}
 use Rattle.disk_model.specs.Disk.{Torn}
@@ -10,7 +11,8 @@ use Rattle.gate_block.specs.Area.{has_failed, base_of, size_of, position_of, byt
 use Rattle.blocks.specs.Wholes.{body_of}
 use Rattle.checkpoint.specs.declared.laying.Laying.{Laying}
 
--- The other one of the two areas of a disk, which has the same size. They begin at 4096 and behind the first one, so the sum tells which is which.
+-- The other one of the two areas of a disk, which has the same size. They begin at 4096 and behind
+-- the first one, so the sum tells which is which.
 pub record IsOther (area other : Area) : Type 0 where
   pub size : size_of other ≡ size_of area
   pub base : base_of area + base_of other ≡ 8192 + size_of area
@@ -33,7 +35,8 @@ pub record IsLaidBeside (area : Area) (failed : Bool) (w : Laying) : Type 0 wher
   pub fine : failed ≡ false → has_failed w.area ≡ false
   pub room : position_of w.area + length (row (bodies_of (left_of w))) < size_of w.area
 
--- These are the bodies of an image: its first blocks were laid in the area, and the others are left.
+-- These are the bodies of an image: its first blocks were laid in the area, and the others are
+-- left.
 pub record IsBeingLaid (w : Laying) (disk : List ℕ) (bodies : List (List ℕ)) : Type 0 where
   pub laid : List (List ℕ)
   pub stands : IsLaid w.area disk laid
@@ -61,7 +64,8 @@ IsWritten None = ⊥
 IsWritten (Some w) = left_of w ≡ []
 
 -- The root byte picks the area, and a stop now leaves of both what a read gives.
-pub record IsRooted {D : Type 0} (seen : D → List ℕ) (may_leave : D → List ℕ → Type 0) (area : Area) (disk : D) : Type 0 where
+pub record IsRooted {D : Type 0} (seen : D → List ℕ) (may_leave : D → List ℕ → Type 0) (area : Area)
+    (disk : D) : Type 0 where
   pub picks : base_in_use (size_of area) (seen disk) ≡ base_of area
   pub root_at_rest : (c : List ℕ) → may_leave disk c → get_or c 512 0 ≡ get_or (seen disk) 512 0
   pub area_at_rest : (c : List ℕ) → may_leave disk c → bytes_of area c ≡ bytes_of area (seen disk)
@@ -70,7 +74,8 @@ pub record IsRooted {D : Type 0} (seen : D → List ℕ) (may_leave : D → List
 abbrev pub LeavesRoot : (List ℕ → Type 0) → List ℕ → List ℕ → Type 0
 LeavesRoot before seen c = before c ⊎ Torn 512 1 seen c
 
--- The root byte picks the area that was in use, which has the bytes from before, or the image's, which has all blocks of the image.
+-- The root byte picks the area that was in use, which has the bytes from before, or the image's,
+-- which has all blocks of the image.
 abbrev pub PicksWhole : Area → List ℕ → Area → List (List ℕ) → List ℕ → Type 0
 PicksWhole area before other bodies c =
     ((base_in_use (size_of area) c ≡ base_of area) × (bytes_of area c ≡ bytes_of area before))

@@ -1,5 +1,6 @@
 -- A keeper as contracts see it: what it answers, and what it leaves.
-use Rattle.std.specs.Prelude.{◌≡◌, ◌⊎◌, ℕ, ◌+◌, ◌*◌, ◌<◌, max, Bool, true, false, List, [], ◌∷◌, length, Option, Some, None, IfSome, Result, Ok, Err}
+use Rattle.std.specs.Prelude.{◌≡◌, ◌⊎◌, ℕ, ◌+◌, ◌*◌, ◌<◌, max, Bool, true, false, List, [], ◌∷◌}
+use Rattle.std.specs.Prelude.{length, Option, Some, None, IfSome, Result, Ok, Err}
 use Rattle.calls.specs.declared.refusal.Refusal.{Refusal}
 use Rattle.gate_block.specs.declared.area.Area.{Area}
 use Rattle.gate_block.specs.Area.{has_failed, base_of, size_of}
@@ -8,7 +9,8 @@ use Rattle.checkpoint.specs.declared.turn.Turn.{Turn}
 use Rattle.checkpoint.specs.declared.laying.Laying.{Laying}
 use Rattle.checkpoint.specs.Imaging.{IsLaidBeside}
 
--- A disk with its area in use, the place up to which commits are kept, a block that was held back, whether the disk has failed, the position up
+-- A disk with its area in use, the place up to which commits are kept, a block that was held back,
+-- whether the disk has failed, the position up
 -- to which the image of the area in use covers the records, and the image in progress.
 pub record KeeperState (D : Type 0) : Type 0 where
   pub disk : D
@@ -19,7 +21,8 @@ pub record KeeperState (D : Type 0) : Type 0 where
   pub covered : ℕ
   pub image : Option Laying
 
--- The area is one of the two of a disk of so many bytes, which stand behind its head, one behind the other.
+-- The area is one of the two of a disk of so many bytes, which stand behind its head, one behind
+-- the other.
 pub record IsOneOfTwo (area : Area) (bytes : ℕ) : Type 0 where
   pub whole : bytes ≡ 4096 + 2 * size_of area
   pub base : (base_of area ≡ 4096) ⊎ (base_of area ≡ 4096 + size_of area)
@@ -48,28 +51,50 @@ abbrev pub IsPast : Option Laying → ℕ → Type 0
 IsPast None end = ⊥
 IsPast (Some w) end = w.image.end < end
 
--- When a block is appended, and when not: it is kept; it does not fit, is held, and nothing else changed; or the disk fails.
-abbrev pub AppendAnswers : Block → ℕ → Type 0 → Type 0 → Type 0 → Result Turn Refusal → Option Block → ℕ → Bool → Type 0
-AppendAnswers block mark is_full is_same is_risen (Ok (Turn.Kept place)) held next failed = (place ≡ max mark block.place) × (next ≡ place) × (held ≡ None) × (failed ≡ false) × ¬ is_full
-AppendAnswers block mark is_full is_same is_risen (Err Refusal.Full) held next failed = is_full × is_same × (held ≡ Some block) × (next ≡ mark) × (failed ≡ false)
-AppendAnswers block mark is_full is_same is_risen (Err Refusal.Fault) held next failed = is_risen × (held ≡ None) × (next ≡ mark) × (failed ≡ true) × ¬ is_full
+-- When a block is appended, and when not: it is kept; it does not fit, is held, and nothing else
+-- changed; or the disk fails.
+abbrev pub AppendAnswers : Block → ℕ → Type 0 → Type 0 → Type 0 → Result Turn Refusal →
+    Option Block → ℕ → Bool → Type 0
+AppendAnswers block mark is_full is_same is_risen (Ok (Turn.Kept place)) held next failed =
+    (place ≡ max mark block.place) × (next ≡ place) × (held ≡ None) × (failed ≡ false) × ¬ is_full
+AppendAnswers block mark is_full is_same is_risen (Err Refusal.Full) held next failed =
+    is_full × is_same × (held ≡ Some block) × (next ≡ mark) × (failed ≡ false)
+AppendAnswers block mark is_full is_same is_risen (Err Refusal.Fault) held next failed =
+    is_risen × (held ≡ None) × (next ≡ mark) × (failed ≡ true) × ¬ is_full
 AppendAnswers block mark is_full is_same is_risen r held next failed = ⊥
 
--- A block that the image of the area in use covers is let go, with nothing else changed; one that is past the image in progress is held, with
+-- A block that the image of the area in use covers is let go, with nothing else changed; one that
+-- is past the image in progress is held, with
 -- nothing else changed; each other one is appended.
-abbrev pub BringAnswers : Block → ℕ → Type 0 → Type 0 → Type 0 → Type 0 → Type 0 → Result Turn Refusal → Option Block → ℕ → Bool → Type 0
-BringAnswers block mark is_covered is_past is_full is_same is_risen (Ok Turn.Held) held next failed = ¬ is_covered × is_past × is_same × (held ≡ Some block) × (next ≡ mark) × (failed ≡ false)
-BringAnswers block mark is_covered is_past is_full is_same is_risen (Ok (Turn.Kept place)) held next failed =
-    (is_covered × is_same × (place ≡ max mark block.place) × (next ≡ place) × (held ≡ None) × (failed ≡ false))
-    ⊎ (¬ is_covered × ¬ is_past × AppendAnswers block mark is_full is_same is_risen (Ok (Turn.Kept place)) held next failed)
-BringAnswers block mark is_covered is_past is_full is_same is_risen r held next failed = ¬ is_covered × ¬ is_past × AppendAnswers block mark is_full is_same is_risen r held next failed
+abbrev pub BringAnswers : Block → ℕ → Type 0 → Type 0 → Type 0 → Type 0 → Type 0 →
+    Result Turn Refusal → Option Block → ℕ → Bool → Type 0
+BringAnswers block mark is_covered is_past is_full is_same is_risen (Ok Turn.Held) held next
+    failed = ¬ is_covered × is_past × is_same × (held ≡ Some block) × (next ≡ mark) ×
+    (failed ≡ false)
+BringAnswers block mark is_covered is_past is_full is_same is_risen (Ok (Turn.Kept place)) held next
+    failed =
+    (is_covered × is_same × (place ≡ max mark block.place) × (next ≡ place) × (held ≡ None) ×
+    (failed ≡ false))
+    ⊎ (¬ is_covered × ¬ is_past × AppendAnswers block mark is_full is_same is_risen
+    (Ok (Turn.Kept place)) held next failed)
+BringAnswers block mark is_covered is_past is_full is_same is_risen r held next failed =
+    ¬ is_covered × ¬ is_past × AppendAnswers block mark is_full is_same is_risen r held next failed
 
--- What a turn answers, of the blocks q that it found, and what it leaves: waiting, held, mark, failed.
-abbrev pub TurnAnswers : List Block → Bool → ℕ → (Block → Type 0) → (Block → Type 0) → (Block → Type 0) → Type 0 → Type 0 → Result Turn Refusal → List Block → Option Block → ℕ → Bool → Type 0
-TurnAnswers q failed mark is_covered is_past is_full is_same is_risen (Err Refusal.Failed) waiting held next fails = (failed ≡ true) × is_same × (queue held waiting ≡ q) × (next ≡ mark) × (fails ≡ true)
-TurnAnswers q failed mark is_covered is_past is_full is_same is_risen (Ok Turn.Idle) waiting held next fails = (failed ≡ false) × (q ≡ []) × is_same × (queue held waiting ≡ []) × (next ≡ mark) × (fails ≡ false)
+-- What a turn answers, of the blocks q that it found, and what it leaves: waiting, held, mark,
+-- failed.
+abbrev pub TurnAnswers : List Block → Bool → ℕ → (Block → Type 0) → (Block → Type 0) →
+    (Block → Type 0) → Type 0 → Type 0 → Result Turn Refusal → List Block → Option Block → ℕ →
+    Bool → Type 0
+TurnAnswers q failed mark is_covered is_past is_full is_same is_risen (Err Refusal.Failed) waiting
+    held next fails = (failed ≡ true) × is_same × (queue held waiting ≡ q) × (next ≡ mark) ×
+    (fails ≡ true)
+TurnAnswers q failed mark is_covered is_past is_full is_same is_risen (Ok Turn.Idle) waiting held
+    next fails = (failed ≡ false) × (q ≡ []) × is_same × (queue held waiting ≡ []) × (next ≡ mark) ×
+    (fails ≡ false)
 TurnAnswers q failed mark is_covered is_past is_full is_same is_risen r waiting held next fails =
-    (failed ≡ false) × ((b : Block) × (q ≡ b ∷ waiting) × BringAnswers b mark (is_covered b) (is_past b) (is_full b) is_same is_risen r held next fails)
+    (failed ≡ false) × ((b : Block) × (q ≡ b ∷ waiting) ×
+    BringAnswers b mark (is_covered b) (is_past b) (is_full b) is_same is_risen r held next
+    fails)
 
 -- where the turn kept a block
 abbrev pub OnKept : Result Turn Refusal → Type 0 → Type 0

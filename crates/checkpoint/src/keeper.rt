@@ -1,14 +1,20 @@
 // The keeper: brings blocks to the disk, in their order, and writes images.
-ghost use Rattle.std.specs.Prelude.{◌≡◌, ◌≢◌, ◌↔◌, ◌<◌, ◌≤◌, ◌+◌, max, ℕ, List, ◌++◌, ◌∷◌, [], length, OnOk, IfSome, IfNone, IsTrue, Some, None, false};
+ghost use Rattle.std.specs.Prelude.{◌≡◌, ◌≢◌, ◌↔◌, ◌<◌, ◌≤◌, ◌+◌, max, ℕ, List, ◌++◌, ◌∷◌, []};
+ghost use Rattle.std.specs.Prelude.{length, OnOk, IfSome, IfNone, IsTrue, Some, None, false};
 ghost use Rattle.disk_model.specs.Disk.{Torn, IsAtRest, LeavesOnly, Rises};
 ghost use Rattle.gate_block.specs.Row.{IsBlockOf, SameOutside};
-ghost use Rattle.gate_block.specs.Area.{has_failed, base_of, size_of, position_of, IsReady, LeavesBlocks, LeavesElsewhere};
+ghost use Rattle.gate_block.specs.Area.{has_failed, base_of, size_of, position_of, IsReady};
+ghost use Rattle.gate_block.specs.Area.{LeavesBlocks, LeavesElsewhere};
 ghost use Rattle.blocks.specs.declared.block.Block.{Block};
 ghost use Rattle.checkpoint.specs.declared.laying.Laying.{Laying};
-ghost use Rattle.checkpoint.specs.Imaging.{IsLaidBeside, HasPiece, IsWritten, IsBeingLaid, IsRooted, LeavesRoot, PicksWhole, bodies_of, left_of, pieces_left};
+ghost use Rattle.checkpoint.specs.Imaging.{IsLaidBeside, HasPiece, IsWritten, IsBeingLaid};
+ghost use Rattle.checkpoint.specs.Imaging.{IsRooted, LeavesRoot, PicksWhole, bodies_of, left_of};
+ghost use Rattle.checkpoint.specs.Imaging.{pieces_left};
 ghost use Rattle.gate_block.specs.Layout.{base_in_use};
-ghost use Rattle.checkpoint.specs.Keepers.{KeeperState, IsOneOfTwo, IsPast, OnKept, queue, AppendAnswers, BringAnswers, TurnAnswers};
-ghost use Rattle.checkpoint.specs.ImageAnswers.{BeginAnswers, PieceAnswers, PickAnswers, FlipAnswers};
+ghost use Rattle.checkpoint.specs.Keepers.{KeeperState, IsOneOfTwo, IsPast, OnKept, queue};
+ghost use Rattle.checkpoint.specs.Keepers.{AppendAnswers, BringAnswers, TurnAnswers};
+ghost use Rattle.checkpoint.specs.ImageAnswers.{BeginAnswers, PieceAnswers, PickAnswers};
+ghost use Rattle.checkpoint.specs.ImageAnswers.{FlipAnswers};
 
 use crate::inbox::Inbox;
 use crate::laying::{Laying, is_too_long, other_area};
@@ -20,10 +26,12 @@ use disk_model::Disk;
 use gate_block::Area;
 use std::marker::Model;
 
-/// A disk with its area in use, the mark, a block that was held back, the position up to which the image of the area
+/// A disk with its area in use, the mark, a block that was held back, the position up to which the
+/// image of the area
 /// covers the records, and the image in progress.
 ///
-/// The area is one of the two of the disk, and the image goes into the other one. Contracts see the keeper as a
+/// The area is one of the two of the disk, and the image goes into the other one. Contracts see the
+/// keeper as a
 /// `KeeperState`.
 #[derive(Drop)]
 pub struct Keeper<D: Disk> {
@@ -41,18 +49,45 @@ impl<D: Disk> Model for Keeper<D> {
 
     ghost Value = { KeeperState D };
 
-    ghost view = { λ k. record { disk = k.disk; area = k.area; mark = k.mark; held = k.held; failed = k.failed; covered = k.covered; image = k.image } };
+    ghost view = { λ k. record {
+      disk = k.disk;
+      area = k.area;
+      mark = k.mark;
+      held = k.held;
+      failed = k.failed;
+      covered = k.covered;
+      image = k.image;
+    } };
 
-    ghost invariant = { λ k. IsKeeper D.seen (record { disk = k.disk; area = k.area; mark = k.mark; held = k.held; failed = k.failed; covered = k.covered; image = k.image }) };
+    ghost invariant = { λ k. IsKeeper D.seen
+        (record {
+          disk = k.disk;
+          area = k.area;
+          mark = k.mark;
+          held = k.held;
+          failed = k.failed;
+          covered = k.covered;
+          image = k.image;
+        }) };
 }
 
 impl<D: Disk> Keeper<D> {
-    /// A keeper of an area in use, with nothing held, the mark 0 and no image in progress; the image of the area covers
+    /// A keeper of an area in use, with nothing held, the mark 0 and no image in progress; the
+    /// image of the area covers
     /// no block that is brought to it. The area has not failed, and is one of the two of the disk.
     pub fn new(disk: D, area: Area) -> Self
         requires fine { has_failed area ≡ false }
         requires one { IsOneOfTwo area (length (D.seen disk)) }
-        ensures { result ≡ record { disk = disk; area = area; mark = 0; held = None; failed = false; covered = 0; image = None } }
+        ensures { result ≡ record {
+          disk =
+              disk;
+          area = area;
+          mark = 0;
+          held = None;
+          failed = false;
+          covered = 0;
+          image = None;
+        } }
     {
         Self {
             disk,
@@ -86,8 +121,10 @@ impl<D: Disk> Keeper<D> {
             result self.new.held self.new.mark self.new.failed }
         ensures kept { (bodies : List (List ℕ)) (body : List ℕ) → IsBlockOf body block.bytes.items →
             IsReady D.seen D.may_leave self.old.area self.old.disk bodies →
-            OnOk result (IsReady D.seen D.may_leave self.new.area self.new.disk (bodies ++ body ∷ [])) }
-        ensures any_moment { (bodies : List (List ℕ)) (body : List ℕ) → IsBlockOf body block.bytes.items →
+            OnOk result (IsReady D.seen D.may_leave self.new.area self.new.disk
+            (bodies ++ body ∷ [])) }
+        ensures any_moment { (bodies : List (List ℕ)) (body : List ℕ) →
+            IsBlockOf body block.bytes.items →
             IsReady D.seen D.may_leave self.old.area self.old.disk bodies →
             LeavesOnly D.moment D.left_since self.old.disk self.new.disk
             (LeavesBlocks (D.may_leave self.old.disk) self.old.area bodies body) }
@@ -117,7 +154,8 @@ impl<D: Disk> Keeper<D> {
         }
     }
 
-    // Lets a block go that the image of the area in use covers, holds one that is past the image in progress, and
+    // Lets a block go that the image of the area in use covers, holds one that is past the image in
+    // progress, and
     // appends each other one.
     fn bring(&mut self, block: Block) -> Result<Turn, Refusal>
         requires held { self.old.held ≡ None }
@@ -131,8 +169,10 @@ impl<D: Disk> Keeper<D> {
         ensures kept { (bodies : List (List ℕ)) (body : List ℕ) → IsBlockOf body block.bytes.items →
             self.old.covered < block.end →
             IsReady D.seen D.may_leave self.old.area self.old.disk bodies →
-            OnKept result (IsReady D.seen D.may_leave self.new.area self.new.disk (bodies ++ body ∷ [])) }
-        ensures any_moment { (bodies : List (List ℕ)) (body : List ℕ) → IsBlockOf body block.bytes.items →
+            OnKept result (IsReady D.seen D.may_leave self.new.area self.new.disk
+            (bodies ++ body ∷ [])) }
+        ensures any_moment { (bodies : List (List ℕ)) (body : List ℕ) →
+            IsBlockOf body block.bytes.items →
             IsReady D.seen D.may_leave self.old.area self.old.disk bodies →
             LeavesOnly D.moment D.left_since self.old.disk self.new.disk
             (LeavesBlocks (D.may_leave self.old.disk) self.old.area bodies body) }
@@ -155,28 +195,38 @@ impl<D: Disk> Keeper<D> {
         self.append(block)
     }
 
-    /// Brings the held block, or else the next one, to the disk. Answers Idle where there is none, or that all commits
-    /// up to a place are kept, which is the mark then. A block that the image of the area in use covers is let go, as it
-    /// is kept by that, and no device is called. While an image is in progress, a block that ends past it is held, which
-    /// is answered, and each other one goes into the area in use. It takes no memory and copies no block.
+    /// Brings the held block, or else the next one, to the disk. Answers Idle where there is none,
+    /// or that all commits
+    /// up to a place are kept, which is the mark then. A block that the image of the area in use
+    /// covers is let go, as it
+    /// is kept by that, and no device is called. While an image is in progress, a block that ends
+    /// past it is held, which
+    /// is answered, and each other one goes into the area in use. It takes no memory and copies no
+    /// block.
     ///
-    /// Refused Failed after a Fault, with everything as before; Full where the block does not fit, and then it is held;
+    /// Refused Failed after a Fault, with everything as before; Full where the block does not fit,
+    /// and then it is held;
     /// Fault where the disk failed, and then the keeper has failed.
     pub fn turn<I: Inbox>(&mut self, inbox: &mut I) -> Result<Turn, Refusal>
-        ensures answer { TurnAnswers (queue self.old.held (I.waiting inbox.old)) self.old.failed self.old.mark
+        ensures answer { TurnAnswers (queue self.old.held (I.waiting inbox.old)) self.old.failed
+            self.old.mark
             (λ b. b.end ≤ self.old.covered) (λ b. IsPast self.old.image b.end)
             (λ b. size_of self.old.area < position_of self.old.area + length b.bytes.items)
             ((self.new.area ≡ self.old.area) × (self.new.disk ≡ self.old.disk))
             (Rises (D.fault_count self.old.disk) (D.fault_count self.new.disk))
             result (I.waiting inbox.new) self.new.held self.new.mark self.new.failed }
-        // The block that is brought is behind the others, once it is kept, unless the image of the area covers it.
+        // The block that is brought is behind the others, once it is kept, unless the image of the
+        // area covers it.
         ensures kept { (bodies : List (List ℕ)) (body : List ℕ) (b : Block) (rest : List Block) →
             queue self.old.held (I.waiting inbox.old) ≡ b ∷ rest → IsBlockOf body b.bytes.items →
             self.old.covered < b.end →
             IsReady D.seen D.may_leave self.old.area self.old.disk bodies →
-            OnKept result (IsReady D.seen D.may_leave self.new.area self.new.disk (bodies ++ body ∷ [])) }
-        // A stop at any moment of the turn leaves the blocks from before it, with that one or without.
-        ensures any_moment { (bodies : List (List ℕ)) (body : List ℕ) (b : Block) (rest : List Block) →
+            OnKept result (IsReady D.seen D.may_leave self.new.area self.new.disk
+            (bodies ++ body ∷ [])) }
+        // A stop at any moment of the turn leaves the blocks from before it, with that one or
+        // without.
+        ensures any_moment { (bodies : List (List ℕ)) (body : List ℕ) (b : Block)
+            (rest : List Block) →
             self.old.failed ≡ false →
             queue self.old.held (I.waiting inbox.old) ≡ b ∷ rest → IsBlockOf body b.bytes.items →
             IsReady D.seen D.may_leave self.old.area self.old.disk bodies →
@@ -186,7 +236,8 @@ impl<D: Disk> Keeper<D> {
             (D.seen self.old.disk) (D.seen self.new.disk) }
         // What was laid of an image stays.
         ensures laid { (w : Laying) (bodies : List (List ℕ)) → self.old.image ≡ Some w →
-            IsBeingLaid w (D.seen self.old.disk) bodies → IsBeingLaid w (D.seen self.new.disk) bodies }
+            IsBeingLaid w (D.seen self.old.disk) bodies →
+            IsBeingLaid w (D.seen self.new.disk) bodies }
         ensures base { base_of self.new.area ≡ base_of self.old.area }
         ensures size { size_of self.new.area ≡ size_of self.old.area }
         ensures covered { self.new.covered ≡ self.old.covered }
@@ -203,11 +254,14 @@ impl<D: Disk> Keeper<D> {
         }
     }
 
-    /// Begins to write an image into the area that is not in use. No device is called, no memory is taken and no block
+    /// Begins to write an image into the area that is not in use. No device is called, no memory is
+    /// taken and no block
     /// copied.
     ///
-    /// Refusals, in this order, each with everything as before: Failed after a Fault; Imaging where an image is in
-    /// progress; Full where the blocks, with a closed gate behind the last, need more bytes than an area has.
+    /// Refusals, in this order, each with everything as before: Failed after a Fault; Imaging where
+    /// an image is in
+    /// progress; Full where the blocks, with a closed gate behind the last, need more bytes than an
+    /// area has.
     pub fn begin_image(&mut self, image: Image) -> Result<(), Refusal>
         ensures answer { BeginAnswers self.old image self.new result }
         // All of it is left.
@@ -228,28 +282,35 @@ impl<D: Disk> Keeper<D> {
         Ok(())
     }
 
-    /// Writes the next block of the image, in one write and without a sync, and answers whether another one is left. It
+    /// Writes the next block of the image, in one write and without a sync, and answers whether
+    /// another one is left. It
     /// takes no memory.
     ///
-    /// A stop at any moment of the call leaves each byte outside the image's area, and so the area in use, as a stop could
+    /// A stop at any moment of the call leaves each byte outside the image's area, and so the area
+    /// in use, as a stop could
     /// have left it before.
     ///
-    /// Refused Failed after a Fault, with everything as before; Fault where the disk failed, and then the keeper has
+    /// Refused Failed after a Fault, with everything as before; Fault where the disk failed, and
+    /// then the keeper has
     /// failed, and the block is not written.
     pub fn image_piece(&mut self) -> Result<bool, Refusal>
         requires piece { HasPiece self.old.image }
-        ensures answer { PieceAnswers self.old (Rises (D.fault_count self.old.disk) (D.fault_count self.new.disk)) self.new result }
-        ensures laid { (w v : Laying) (bodies : List (List ℕ)) → self.old.image ≡ Some w → self.new.image ≡ Some v →
+        ensures answer { PieceAnswers self.old
+            (Rises (D.fault_count self.old.disk) (D.fault_count self.new.disk)) self.new result }
+        ensures laid { (w v : Laying) (bodies : List (List ℕ)) → self.old.image ≡ Some w →
+            self.new.image ≡ Some v →
             IsBeingLaid w (D.seen self.old.disk) bodies →
             OnOk result (IsBeingLaid v (D.seen self.new.disk) bodies) }
         // The blocks of the area in use are kept.
-        ensures kept { (bodies : List (List ℕ)) → IsReady D.seen D.may_leave self.old.area self.old.disk bodies →
+        ensures kept { (bodies : List (List ℕ)) →
+            IsReady D.seen D.may_leave self.old.area self.old.disk bodies →
             IsReady D.seen D.may_leave self.new.area self.new.disk bodies }
         ensures any_moment { (w : Laying) → self.old.image ≡ Some w →
             LeavesOnly D.moment D.left_since self.old.disk self.new.disk
             (LeavesElsewhere (D.may_leave self.old.disk) w.area) }
         ensures elsewhere { (w : Laying) → self.old.image ≡ Some w →
-            SameOutside (base_of w.area) (size_of w.area) (D.seen self.old.disk) (D.seen self.new.disk) }
+            SameOutside (base_of w.area) (size_of w.area) (D.seen self.old.disk)
+            (D.seen self.new.disk) }
         ensures honest { D.is_honest self.new.disk → D.is_honest self.old.disk }
     {
         if self.failed {
@@ -265,29 +326,39 @@ impl<D: Disk> Keeper<D> {
         }
     }
 
-    /// Makes the image the store, and answers the mark then, which is at least the image's place. What was written is
-    /// synced, and then the root byte is written, whose lowest bit picks the area, and synced. The area that was in use is
+    /// Makes the image the store, and answers the mark then, which is at least the image's place.
+    /// What was written is
+    /// synced, and then the root byte is written, whose lowest bit picks the area, and synced. The
+    /// area that was in use is
     /// out of use then. It takes no memory.
     ///
-    /// A stop at any moment of the call leaves what it could have left before; or what a read gave before, with any root
+    /// A stop at any moment of the call leaves what it could have left before; or what a read gave
+    /// before, with any root
     /// byte.
     ///
-    /// Refused Failed after a Fault, and then Unfinished where no image is in progress or pieces of it remain, both with
-    /// everything as before; Fault where the disk failed, and then the keeper has failed, and no image is in progress.
+    /// Refused Failed after a Fault, and then Unfinished where no image is in progress or pieces of
+    /// it remain, both with
+    /// everything as before; Fault where the disk failed, and then the keeper has failed, and no
+    /// image is in progress.
     pub fn flip(&mut self) -> Result<u64, Refusal>
-        ensures answer { FlipAnswers self.old (Rises (D.fault_count self.old.disk) (D.fault_count self.new.disk)) self.new result }
+        ensures answer { FlipAnswers self.old
+            (Rises (D.fault_count self.old.disk) (D.fault_count self.new.disk)) self.new result }
         // The area in use holds the blocks of the image, and the root byte picks it.
-        ensures kept { (w : Laying) (bodies : List (List ℕ)) → self.old.image ≡ Some w → bodies ≢ [] →
+        ensures kept { (w : Laying) (bodies : List (List ℕ)) → self.old.image ≡ Some w →
+            bodies ≢ [] →
             IsBeingLaid w (D.seen self.old.disk) bodies →
             OnOk result (IsReady D.seen D.may_leave self.new.area self.new.disk bodies) }
-        ensures picks { OnOk result (base_in_use (size_of self.new.area) (D.seen self.new.disk) ≡ base_of self.new.area) }
+        ensures picks { OnOk result (base_in_use (size_of self.new.area) (D.seen self.new.disk) ≡
+            base_of self.new.area) }
         ensures durable { OnOk result (IsAtRest D.seen D.may_leave self.new.disk) }
         // Nothing else changes.
         ensures root { Torn 512 1 (D.seen self.old.disk) (D.seen self.new.disk) }
         ensures any_moment { LeavesOnly D.moment D.left_since self.old.disk self.new.disk
             (LeavesRoot (D.may_leave self.old.disk) (D.seen self.old.disk)) }
-        // So a stop leaves a root byte that picks one of two whole areas: the old one as it was, or the image's.
-        ensures any_moment_whole { (w : Laying) (bodies : List (List ℕ)) → self.old.image ≡ Some w → left_of w ≡ [] → bodies ≢ [] →
+        // So a stop leaves a root byte that picks one of two whole areas: the old one as it was, or
+        // the image's.
+        ensures any_moment_whole { (w : Laying) (bodies : List (List ℕ)) → self.old.image ≡ Some w →
+            left_of w ≡ [] → bodies ≢ [] →
             IsBeingLaid w (D.seen self.old.disk) bodies →
             IsRooted D.seen D.may_leave self.old.area self.old.disk →
             LeavesOnly D.moment D.left_since self.old.disk self.new.disk
@@ -308,8 +379,10 @@ impl<D: Disk> Keeper<D> {
         requires fine { self.old.failed ≡ false }
         requires none { self.old.image ≡ None }
         requires beside { IsLaidBeside self.old.area false laying }
-        ensures answer { PickAnswers self.old laying (Rises (D.fault_count self.old.disk) (D.fault_count self.new.disk)) self.new result }
-        ensures picks { OnOk result (base_in_use (size_of self.new.area) (D.seen self.new.disk) ≡ base_of self.new.area) }
+        ensures answer { PickAnswers self.old laying
+            (Rises (D.fault_count self.old.disk) (D.fault_count self.new.disk)) self.new result }
+        ensures picks { OnOk result (base_in_use (size_of self.new.area) (D.seen self.new.disk) ≡
+            base_of self.new.area) }
         ensures durable { OnOk result (IsAtRest D.seen D.may_leave self.new.disk) }
         ensures root { Torn 512 1 (D.seen self.old.disk) (D.seen self.new.disk) }
         ensures any_moment { LeavesOnly D.moment D.left_since self.old.disk self.new.disk
@@ -347,7 +420,8 @@ fn is_past(image: &Option<Laying>, end: u64) -> bool
 
 // Takes the image out, where none of its pieces is left.
 fn take_written(image: &mut Option<Laying>) -> Option<Laying>
-    ensures some { IfSome result (λ w. (image.old ≡ Some w) × (left_of w ≡ []) × (image.new ≡ None)) }
+    ensures some { IfSome result (λ w. (image.old ≡ Some w) × (left_of w ≡ []) ×
+        (image.new ≡ None)) }
     ensures none { IfNone result (IsWritten image.old → ⊥) }
     ensures stays { IfNone result (image.new ≡ image.old) }
 {
@@ -362,7 +436,8 @@ fn take_written(image: &mut Option<Laying>) -> Option<Laying>
 
 // The held block, or else the next one.
 fn next_block<I: Inbox>(held: &mut Option<Block>, inbox: &mut I) -> Option<Block>
-    ensures some { IfSome result (λ b. queue held.old (I.waiting inbox.old) ≡ b ∷ I.waiting inbox.new) }
+    ensures some { IfSome result (λ b. queue held.old (I.waiting inbox.old) ≡ b ∷
+        I.waiting inbox.new) }
     ensures none { IfNone result (queue held.old (I.waiting inbox.old) ≡ []) }
     ensures none_left { IfNone result (I.waiting inbox.new ≡ []) }
     ensures held { held.new ≡ None }

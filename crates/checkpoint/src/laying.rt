@@ -1,5 +1,6 @@
 // An image on its way into the area that is not in use.
-ghost use Rattle.std.specs.Prelude.{◌≡◌, ◌↔◌, ◌≢◌, ◌<◌, ◌≤◌, ◌+◌, ℕ, List, [], length, false, IsTrue, OnOk, OnErr, IfOk, IfErr};
+ghost use Rattle.std.specs.Prelude.{◌≡◌, ◌↔◌, ◌≢◌, ◌<◌, ◌≤◌, ◌+◌, ℕ, List, [], length, false};
+ghost use Rattle.std.specs.Prelude.{IsTrue, OnOk, OnErr, IfOk, IfErr};
 ghost use Rattle.disk_model.specs.Disk.{LeavesOnly, Rises};
 ghost use Rattle.gate_block.specs.Row.{row, SameOutside};
 ghost use Rattle.gate_block.specs.Area.{base_of, size_of, position_of, has_failed, LeavesElsewhere};
@@ -13,7 +14,8 @@ use disk_model::Disk;
 use gate_block::Area;
 use gate_block::layout::AREAS_AT;
 
-/// The area that an image is laid into, and the image, with those of its blocks that are not yet written.
+/// The area that an image is laid into, and the image, with those of its blocks that are not yet
+/// written.
 #[derive(Drop)]
 pub struct Laying {
     pub area: Area,
@@ -28,17 +30,21 @@ impl Laying {
         self.image.blocks.len() > 0
     }
 
-    /// Lays the next block, and answers whether another one is left. Refused Fault, with as many left as before.
+    /// Lays the next block, and answers whether another one is left. Refused Fault, with as many
+    /// left as before.
     pub fn lay_next<D: Disk>(&mut self, disk: &mut D) -> Result<bool, Refusal>
         requires piece { 1 ≤ length (left_of self.old) }
         requires fine { has_failed self.old.area ≡ false }
-        requires room { position_of self.old.area + length (row (bodies_of (left_of self.old))) < size_of self.old.area }
+        requires room { position_of self.old.area + length (row (bodies_of (left_of self.old))) <
+            size_of self.old.area }
         requires disk { base_of self.old.area + size_of self.old.area ≤ length (D.seen disk.old) }
         ensures written { IfOk result (λ more. IsOneFewer self.old self.new more) }
-        ensures fault { IfErr result (λ e. (e ≡ Refusal.Fault) × Rises (D.fault_count disk.old) (D.fault_count disk.new)) }
+        ensures fault { IfErr result (λ e. (e ≡ Refusal.Fault) ×
+            Rises (D.fault_count disk.old) (D.fault_count disk.new)) }
         ensures stays { OnErr result (IsAsMany self.old self.new) }
         ensures fine { OnOk result (has_failed self.new.area ≡ false) }
-        ensures room { position_of self.new.area + length (row (bodies_of (left_of self.new))) < size_of self.new.area }
+        ensures room { position_of self.new.area + length (row (bodies_of (left_of self.new))) <
+            size_of self.new.area }
         ensures laid { (bodies : List (List ℕ)) → IsBeingLaid self.old (D.seen disk.old) bodies →
             OnOk result (IsBeingLaid self.new (D.seen disk.new) bodies) }
         ensures any_moment { LeavesOnly D.moment D.left_since disk.old disk.new

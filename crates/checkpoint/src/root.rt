@@ -7,11 +7,13 @@ ghost use Rattle.gate_block.specs.Layout.{base_in_use};
 use disk_model::{Disk, Fault, write_and_sync};
 use gate_block::layout::{AREAS_AT, ROOT_AT};
 
-/// Makes the root byte pick the area that begins there, behind all that was written before: the disk is synced first,
+/// Makes the root byte pick the area that begins there, behind all that was written before: the
+/// disk is synced first,
 /// and then the byte is written and synced.
 pub fn pick_area<D: Disk>(disk: &mut D, base: u64) -> Result<(), Fault>
     requires { 513 ≤ length (D.seen disk.old) }
-    ensures picks { OnOk result ((size : ℕ) → (base ≡ 4096) ⊎ (base ≡ 4096 + size) → base_in_use size (D.seen disk.new) ≡ base) }
+    ensures picks { OnOk result ((size : ℕ) → (base ≡ 4096) ⊎ (base ≡ 4096 + size) →
+        base_in_use size (D.seen disk.new) ≡ base) }
     ensures durable { OnOk result (IsAtRest D.seen D.may_leave disk.new) }
     ensures root { Torn 512 1 (D.seen disk.old) (D.seen disk.new) }
     ensures any_moment { LeavesOnly D.moment D.left_since disk.old disk.new
@@ -26,10 +28,12 @@ pub fn pick_area<D: Disk>(disk: &mut D, base: u64) -> Result<(), Fault>
 // Writes the root byte that picks the area that begins there, and syncs it.
 fn write_root<D: Disk>(disk: &mut D, base: u64) -> Result<(), Fault>
     requires { 513 ≤ length (D.seen disk.old) }
-    ensures picks { OnOk result ((size : ℕ) → (base ≡ 4096) ⊎ (base ≡ 4096 + size) → base_in_use size (D.seen disk.new) ≡ base) }
+    ensures picks { OnOk result ((size : ℕ) → (base ≡ 4096) ⊎ (base ≡ 4096 + size) →
+        base_in_use size (D.seen disk.new) ≡ base) }
     ensures durable { OnOk result (IsAtRest D.seen D.may_leave disk.new) }
     ensures root { Torn 512 1 (D.seen disk.old) (D.seen disk.new) }
-    ensures any_moment { LeavesOnly D.moment D.left_since disk.old disk.new (WasTorn 512 1 (D.may_leave disk.old)) }
+    ensures any_moment { LeavesOnly D.moment D.left_since disk.old disk.new
+        (WasTorn 512 1 (D.may_leave disk.old)) }
     ensures cause { HasCause (D.fault_count disk.old) (D.fault_count disk.new) result }
     ensures honest { D.is_honest disk.new → D.is_honest disk.old }
 {

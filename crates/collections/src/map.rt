@@ -1,5 +1,6 @@
 // A map from numbers to bytes.
-ghost use Rattle.std.specs.Prelude.{◌≡◌, ◌↔◌, IsTrue, IsOk, MatchOption, OnOk, OnErr, IfOk, IsOkUnless, Some, None};
+ghost use Rattle.std.specs.Prelude.{◌≡◌, ◌↔◌, IsTrue, IsOk, MatchOption, OnOk, OnErr, IfOk};
+ghost use Rattle.std.specs.Prelude.{IsOkUnless, Some, None};
 ghost use Rattle.std.specs.FinMap as map;
 ghost use Rattle.std.specs.List.Sorted.{IsStrictlySortedBy};
 ghost use Rattle.std.specs.Map.{keys_of};
@@ -70,7 +71,8 @@ impl MapCol {
 
     // The entry of the least key that is at least this one.
     fn ceiling(&self, key: u64) -> Option<(u64, &Bytes)>
-        ensures { MatchOption result (HasNoCeiling self.now key) (λ entry. IsCeiling self.now key entry.0 entry.1.now) }
+        ensures { MatchOption result (HasNoCeiling self.now key)
+            (λ entry. IsCeiling self.now key entry.0 entry.1.now) }
     {
         match self.values.range(key..).next() {
             Some((at, value)) => Some((*at, value)),
@@ -162,7 +164,8 @@ impl MapCol {
         Ok(())
     }
 
-    /// Makes the call, which is answered so. NoMemory, which leaves the map as before, only where a value is put into
+    /// Makes the call, which is answered so. NoMemory, which leaves the map as before, only where a
+    /// value is put into
     /// it.
     pub fn run(&mut self, call: &Call, reply: &Reply) -> Result<(), Refusal>
         requires { Answers self.old call.now reply.now }

@@ -1,5 +1,6 @@
 // A pool of identifiers.
-ghost use Rattle.std.specs.Prelude.{◌≡◌, ◌↔◌, false, IsTrue, IsOk, OnOk, OnErr, IsOkUnless, IsOkAnd};
+ghost use Rattle.std.specs.Prelude.{◌≡◌, ◌↔◌, false, IsTrue, IsOk, OnOk, OnErr, IsOkUnless};
+ghost use Rattle.std.specs.Prelude.{IsOkAnd};
 ghost use Rattle.std.specs.FinSet as set;
 ghost use Rattle.std.specs.List.Sorted.{IsStrictlySortedBy};
 ghost use Rattle.std.specs.Ordering.{nat_cmp};
@@ -97,7 +98,8 @@ impl PoolCol {
         Ok(())
     }
 
-    /// Makes the call, which is answered so. NoMemory, which leaves the pool as before, only where an identifier is
+    /// Makes the call, which is answered so. NoMemory, which leaves the pool as before, only where
+    /// an identifier is
     /// drawn: to free one takes no memory.
     pub fn run(&mut self, call: &Call, reply: &Reply) -> Result<(), Refusal>
         requires { Answers self.old call.now reply.now }
@@ -119,8 +121,10 @@ impl PoolCol {
         }
     }
 
-    // An identifier that is not taken: the one after the greatest that is taken; where that is the greatest of all,
-    // the one before the least; and where both ends are taken, the first in between. Only the last looks at more
+    // An identifier that is not taken: the one after the greatest that is taken; where that is the
+    // greatest of all,
+    // the one before the least; and where both ends are taken, the first in between. Only the last
+    // looks at more
     // than the ends, and comes only where a reply was run that no look gave, or after 2^64 draws.
     fn untaken(&self) -> u64
         ensures { set.contains self.now result ≡ false }

@@ -1,5 +1,6 @@
 // A queue of pairs.
-ghost use Rattle.std.specs.Prelude.{◌≡◌, ◌<◌, ◌↔◌, IsTrue, IsOk, IfOk, map, reverse, OnOk, OnErr, IsOkUnless, IsOkAnd};
+ghost use Rattle.std.specs.Prelude.{◌≡◌, ◌<◌, ◌↔◌, IsTrue, IsOk, IfOk, map, reverse, OnOk, OnErr};
+ghost use Rattle.std.specs.Prelude.{IsOkUnless, IsOkAnd};
 ghost use Rattle.std.specs.FinMap.{empty};
 ghost use Rattle.calls.specs.Bags.{copies, add, take_out};
 ghost use Rattle.calls.specs.Queues.{Answers, after, CanLook, IsLeast, IsEmpty};
@@ -11,7 +12,8 @@ use std::alloc::{AllocError, Global};
 use std::cmp::Reverse;
 use std::marker::Model;
 
-/// A queue of pairs of a priority and a tag, each as often as it was put there. Contracts see the multiset.
+/// A queue of pairs of a priority and a tag, each as often as it was put there. Contracts see the
+/// multiset.
 #[derive(Drop, Debug)]
 pub struct QueueCol {
     // The least pair is the last.
@@ -43,7 +45,8 @@ impl QueueCol {
         }
     }
 
-    /// The pairs in order, the least first, each as often as it is there. NoMemory alone is refused.
+    /// The pairs in order, the least first, each as often as it is there. NoMemory alone is
+    /// refused.
     pub fn to_vec(&self, alloc: Global) -> Result<Vec<(u64, u64)>, AllocError>
         ensures { IfOk result (λ pairs. ListsBag pairs.items self.now) }
     {
@@ -147,7 +150,8 @@ impl QueueCol {
         }
     }
 
-    /// Makes the call, which is answered so. NoMemory, which leaves the queue as before, only where a pair is put into
+    /// Makes the call, which is answered so. NoMemory, which leaves the queue as before, only where
+    /// a pair is put into
     /// it: to pluck one takes no memory.
     pub fn run(&mut self, call: &Call, reply: &Reply) -> Result<(), Refusal>
         requires { Answers self.old call.now reply.now }

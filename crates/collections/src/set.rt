@@ -104,7 +104,8 @@ impl SetCol {
         Ok(())
     }
 
-    /// Makes the call, which is answered so. NoMemory, which leaves the set as before, only where an element is put
+    /// Makes the call, which is answered so. NoMemory, which leaves the set as before, only where
+    /// an element is put
     /// into it.
     pub fn run(&mut self, call: &Call, reply: &Reply) -> Result<(), Refusal>
         requires { Answers self.old call.now reply.now }

@@ -1,4 +1,5 @@
-//! The command line: understands its words, opens the files that they name, and carries the command out.
+//! The command line: understands its words, opens the files that they name, and carries the command
+//! out.
 #![tactic(auto)]
 
 ghost use Rattle.std.specs.Prelude.{◌≤◌, ◌↔◌, IsOk, IsOkUnless};
@@ -7,7 +8,8 @@ use boost::{Failure, Task, command, report, run};
 use calls::Refusal;
 use calls::limits::{MAX_AREA, MIN_AREA};
 use clap::error::ErrorKind;
-use disk_model::{FileDisk, MemDisk, Unknown};
+use disk_model::{Disk, FileDisk, MemDisk, Unknown};
+use std::alloc::Global;
 use std::fs::{File, OpenOptions};
 use std::io::Write;
 use std::rt::Files;
@@ -17,7 +19,7 @@ use std::{fs, io};
 const AREAS_AT: u64 = 4096;
 
 // A file as a disk. What it holds is not known.
-type Disk = FileDisk<Unknown>;
+type StoredDisk = FileDisk<Unknown>;
 
 // Why a file is not opened: for want of memory, or because it cannot be.
 fn cannot_open<'a>(path: &'a str, error: &io::Error) -> Failure<'a> {
@@ -38,8 +40,9 @@ fn check_area(area: u64) -> Result<(), Refusal>
     Ok(())
 }
 
-// Makes a file, or takes the one that is there, and gives it the size of a disk with two such areas.
-fn make_disk(rt: &impl Files<File = File>, path: &str, area: u64) -> io::Result<Disk>
+// Makes a file, or takes the one that is there, and gives it the size of a disk with two such
+// areas.
+fn make_disk(rt: &impl Files<File = File>, path: &str, area: u64) -> io::Result<StoredDisk>
     requires { area ≤ MAX_AREA }
 {
     let file = options().create(true).open(rt, path)?;
@@ -48,7 +51,7 @@ fn make_disk(rt: &impl Files<File = File>, path: &str, area: u64) -> io::Result<
 }
 
 // Opens a file that is there.
-fn open_disk(rt: &impl Files<File = File>, path: &str) -> io::Result<Disk> {
+fn open_disk(rt: &impl Files<File = File>, path: &str) -> io::Result<StoredDisk> {
     FileDisk::open(options().open(rt, path)?)
 }
 
@@ -58,36 +61,104 @@ fn options() -> OpenOptions {
     options
 }
 
-// Opens the files of a command and carries it out. Answers the status, unless a file is missing or an argument is bad.
+// What was opened or read, or that the file cannot be opened.
+fn opened<'a, T: Drop>(path: &'a str, found: io::Result<T>) -> Result<T, Failure<'a>> {
+    match found {
+        Ok(value) => Ok(value),
+        Err(error) => Err(cannot_open(path, &error)),
+    }
+}
+
+// Carries a command out on a disk that was opened, and lets it go. Answers the status.
+fn run_on<'a, D: Disk + Drop>(
+    alloc: Global,
+    task: &Task,
+    disk: Result<D, Failure<'a>>,
+    script: &[u8],
+    out: &mut impl Write,
+    err: &mut impl Write,
+) -> Result<u8, Failure<'a>> {
+    match disk {
+        Ok(disk) => Ok(run(alloc, task, disk, script, out, err).0),
+        Err(failure) => Err(failure),
+    }
+}
+
+// Makes the file of a disk with two such areas, and carries a command out on it.
+fn run_on_new<'a, R: Files<File = File> + AllocGlobal>(
+    rt: &R,
+    task: &Task,
+    path: &'a str,
+    area: u64,
+    out: &mut impl Write,
+    err: &mut impl Write,
+) -> Result<u8, Failure<'a>> {
+    check_area(area)?;
+    let disk = opened(path, make_disk(rt, path, area));
+    run_on(rt.alloc(), task, disk, &[], out, err)
+}
+
+// Opens the file of a disk, and carries a command out on it.
+fn run_on_old<'a, R: Files<File = File> + AllocGlobal>(
+    rt: &R,
+    task: &Task,
+    path: &'a str,
+    script: &[u8],
+    out: &mut impl Write,
+    err: &mut impl Write,
+) -> Result<u8, Failure<'a>> {
+    let disk = opened(path, open_disk(rt, path));
+    run_on(rt.alloc(), task, disk, script, out, err)
+}
+
+// Reads a script, opens the file of a disk, and carries a command out on it.
+fn run_with_script<'a, R: Files<File = File> + AllocGlobal>(
+    rt: &R,
+    task: &Task,
+    path: &'a str,
+    script: &'a str,
+    out: &mut impl Write,
+    err: &mut impl Write,
+) -> Result<u8, Failure<'a>> {
+    let script = opened(script, fs::read(rt, script))?;
+    run_on_old(rt, task, path, script.as_slice(), out, err)
+}
+
+// A disk in memory that holds nothing.
+fn memory<'a>(alloc: Global) -> Result<MemDisk, Failure<'a>> {
+    Ok(MemDisk::new(alloc, 0)?)
+}
+
+// Opens the files of a command and carries it out. Answers the status, unless a file is missing or
+// an argument is bad.
 fn carry_out<'a, R: Files<File = File> + AllocGlobal>(
     rt: &R,
     task: &'a Task,
     out: &mut impl Write,
     err: &mut impl Write,
 ) -> Result<u8, Failure<'a>> {
-    let alloc = rt.alloc();
     match task {
-        Task::Format { disk, area } => {
-            check_area(*area)?;
-            let path = disk.as_str();
-            let disk = make_disk(rt, path, *area).map_err(|e| cannot_open(path, &e))?;
-            Ok(run(alloc, task, disk, &[], out, err).0)
-        }
+        Task::Format { disk, area } => run_on_new(rt, task, disk.as_str(), *area, out, err),
         Task::Play { disk, script } => {
-            let (path, script_path) = (disk.as_str(), script.as_str());
-            let script = fs::read(rt, script_path).map_err(|e| cannot_open(script_path, &e))?;
-            let disk = open_disk(rt, path).map_err(|e| cannot_open(path, &e))?;
-            Ok(run(alloc, task, disk, script.as_slice(), out, err).0)
+            run_with_script(rt, task, disk.as_str(), script.as_str(), out, err)
         }
         Task::Show { disk } | Task::Check { disk } => {
-            let path = disk.as_str();
-            let disk = open_disk(rt, path).map_err(|e| cannot_open(path, &e))?;
-            Ok(run(alloc, task, disk, &[], out, err).0)
+            run_on_old(rt, task, disk.as_str(), &[], out, err)
         }
-        Task::Demo => {
-            let disk = MemDisk::new(alloc, 0)?;
-            Ok(run(alloc, task, disk, &[], out, err).0)
-        }
+        Task::Demo => run_on(rt.alloc(), task, memory(rt.alloc()), &[], out, err),
+    }
+}
+
+// Carries a command out, and says why it was not. Answers the status.
+fn answer<R: Files<File = File> + AllocGlobal>(
+    rt: &R,
+    task: &Task,
+    out: &mut impl Write,
+    err: &mut impl Write,
+) -> u8 {
+    match carry_out(rt, task, out, err) {
+        Ok(status) => status,
+        Err(failure) => report(&failure, err),
     }
 }
 
@@ -113,12 +184,8 @@ pub fn obey<'a, R: Files<File = File> + AllocGlobal>(
     out: &mut impl Write,
     err: &mut impl Write,
 ) -> u8 {
-    let task = match command(rt.alloc(), words) {
-        Ok(task) => task,
-        Err(error) => return explain(&error, out, err),
-    };
-    match carry_out(rt, &task, out, err) {
-        Ok(status) => status,
-        Err(failure) => report(&failure, err),
+    match command(rt.alloc(), words) {
+        Ok(task) => answer(rt, &task, out, err),
+        Err(error) => explain(&error, out, err),
     }
 }

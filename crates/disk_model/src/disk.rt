@@ -6,7 +6,8 @@ ghost use Rattle.disk_model.specs.Disk.{Overwritten, Torn, Follows, IsAtRest, El
 #[derive(Clone, Copy, Debug, PartialEq, Eq)]
 pub struct Fault;
 
-/// A disk has a fixed number of bytes. A stop, as of the power, may come at any moment, also within a call.
+/// A disk has a fixed number of bytes. A stop, as of the power, may come at any moment, also within
+/// a call.
 pub trait Disk {
     /// What a read gives: each byte of the disk.
     ghost seen: { Self → List ℕ };
@@ -37,18 +38,22 @@ pub trait Disk {
             out.new ≡ take (length out.old) (drop at (seen self.old))) }
         ensures seen { seen self.new ≡ seen self.old }
         ensures stop { (c : List ℕ) → may_leave self.new c → may_leave self.old c }
-        ensures time { Elapses (moment self.old) (moment self.new) (left_since self.old) (left_since self.new)
+        ensures time { Elapses (moment self.old) (moment self.new) (left_since self.old)
+            (left_since self.new)
             (may_leave self.new) }
         ensures honest { is_honest self.new → is_honest self.old }
         ensures cause { HasCause (fault_count self.old) (fault_count self.new) result };
 
-    /// Writes over what is there. Until a sync succeeds, a stop may leave any bytes in the range, also where the write failed.
+    /// Writes over what is there. Until a sync succeeds, a stop may leave any bytes in the range,
+    /// also where the write failed.
     fn write_at(&mut self, at: u64, bytes: &[u8]) -> Result<(), Fault>
         requires { at + length bytes.now ≤ length (seen self.old) }
         ensures written { OnOk result (Overwritten at bytes.now (seen self.old) (seen self.new)) }
         ensures seen { Torn at (length bytes.now) (seen self.old) (seen self.new) }
-        ensures stop { Follows (Torn at (length bytes.now)) (may_leave self.old) (may_leave self.new) }
-        ensures time { Elapses (moment self.old) (moment self.new) (left_since self.old) (left_since self.new)
+        ensures stop { Follows (Torn at (length bytes.now)) (may_leave self.old)
+            (may_leave self.new) }
+        ensures time { Elapses (moment self.old) (moment self.new) (left_since self.old)
+            (left_since self.new)
             (may_leave self.new) }
         ensures honest { is_honest self.new → is_honest self.old }
         ensures cause { HasCause (fault_count self.old) (fault_count self.new) result };
@@ -58,7 +63,8 @@ pub trait Disk {
         ensures durable { OnOk result (IsAtRest seen may_leave self.new) }
         ensures seen { seen self.new ≡ seen self.old }
         ensures stop { (c : List ℕ) → may_leave self.new c → may_leave self.old c }
-        ensures time { Elapses (moment self.old) (moment self.new) (left_since self.old) (left_since self.new)
+        ensures time { Elapses (moment self.old) (moment self.new) (left_since self.old)
+            (left_since self.new)
             (may_leave self.new) }
         ensures honest { is_honest self.new → is_honest self.old }
         ensures cause { HasCause (fault_count self.old) (fault_count self.new) result };
@@ -71,11 +77,14 @@ pub trait Disk {
     ghost seen_may_stay: { (disk : Self) → may_leave disk (seen disk) };
 
     /// A stop leaves the size.
-    ghost keeps_size: { (disk : Self) (c : List ℕ) → may_leave disk c → length c ≡ length (seen disk) };
+    ghost keeps_size: { (disk : Self) (c : List ℕ) → may_leave disk c →
+        length c ≡ length (seen disk) };
 
     /// This moment is one of those since an earlier one.
-    ghost counts_now: { (disk : Self) (t : ℕ) (c : List ℕ) → t ≤ moment disk → may_leave disk c → left_since disk t c };
+    ghost counts_now: { (disk : Self) (t : ℕ) (c : List ℕ) → t ≤ moment disk → may_leave disk c →
+        left_since disk t c };
 
     /// Since this moment there is no other.
-    ghost only_now: { (disk : Self) (c : List ℕ) → left_since disk (moment disk) c → may_leave disk c };
+    ghost only_now: { (disk : Self) (c : List ℕ) → left_since disk (moment disk) c →
+        may_leave disk c };
 }

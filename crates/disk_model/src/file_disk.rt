@@ -2,7 +2,8 @@
 ghost use Rattle.std.specs.Prelude.{◌≡◌, ◌⊎◌, List, ℕ, [], length, true, false, not, IfOk};
 ghost use Rattle.std.proofs.Common.{inl};
 ghost use Rattle.disk_model.specs.Marks.{Leaves, leaves_seen, leaves_size, length-marks};
-ghost use Rattle.disk_model.specs.Events.{padded, seen_of, marks_of, moments_of, IsHonest, MightHaveLeft, only_since};
+ghost use Rattle.disk_model.specs.Events.{padded, seen_of, marks_of, moments_of, IsHonest};
+ghost use Rattle.disk_model.specs.Events.{MightHaveLeft, only_since};
 ghost use Rattle.disk_model.specs.Disk.{IsAtRest};
 
 use crate::call::DeviceCall;
@@ -13,7 +14,8 @@ use std::io;
 use std::marker::PhantomData;
 use std::os::unix::fs::FileExt;
 
-/// What a file held as it was opened, which no code can know. A function over `S: Content` is proved for any, and a
+/// What a file held as it was opened, which no code can know. A function over `S: Content` is
+/// proved for any, and a
 /// clause that cites `S` speaks of the file only where that is what it held.
 pub trait Content {
     ghost content: { List ℕ };
@@ -27,12 +29,16 @@ impl Content for Unknown {
     ghost content = { [] };
 }
 
-/// A disk that is a file, which held what `S` says. What a read gives and what a stop may leave is read off a record
+/// A disk that is a file, which held what `S` says. What a read gives and what a stop may leave is
+/// read off a record
 /// of the calls, which only clauses read.
 ///
-/// That the file is such a disk is a premise, which no code can test: all of it is on the device as it is opened,
-/// nobody else writes it, a write that succeeds is what a read gives from then on, one that fails is not seen, and a
-/// stop leaves each byte as it is, but for those that were written, or were to be, since the last sync that
+/// That the file is such a disk is a premise, which no code can test: all of it is on the device as
+/// it is opened,
+/// nobody else writes it, a write that succeeds is what a read gives from then on, one that fails
+/// is not seen, and a
+/// stop leaves each byte as it is, but for those that were written, or were to be, since the last
+/// sync that
 /// succeeded. `is_honest` says the part of it that reads can show.
 #[derive(Drop)]
 pub struct FileDisk<S: Content> {
@@ -47,8 +53,10 @@ pub struct FileDisk<S: Content> {
 }
 
 impl<S: Content> FileDisk<S> {
-    /// Takes a file as a disk of the file's length, and syncs it first. The file is open for reading and writing, and
-    /// the caller has given it its size, as by `set_len`. Refused where the file's length or the sync is.
+    /// Takes a file as a disk of the file's length, and syncs it first. The file is open for
+    /// reading and writing, and
+    /// the caller has given it its size, as by `set_len`. Refused where the file's length or the
+    /// sync is.
     pub fn open(file: File) -> io::Result<FileDisk<S>>
         ensures content { IfOk result (λ disk. ⟦<FileDisk<S> as Disk>⟧.seen disk ≡
             padded S.Content.content (length (⟦<FileDisk<S> as Disk>⟧.seen disk))) }
@@ -70,7 +78,8 @@ impl<S: Content> FileDisk<S> {
     }
 }
 
-// Syncs the file, and answers whether it did. After a sync that failed, the system may answer the next one well with
+// Syncs the file, and answers whether it did. After a sync that failed, the system may answer the
+// next one well with
 // nothing kept: none is asked again.
 fn sync_unless_broken(file: &File, is_broken: &mut bool) -> bool
     ensures stays { is_broken.old ≡ true → result ≡ false }
@@ -84,23 +93,32 @@ fn sync_unless_broken(file: &File, is_broken: &mut bool) -> bool
 impl<S: Content> Disk for FileDisk<S> {
     ghost seen = { λ d. seen_of (padded S.Content.content d.size) d.log.events };
 
-    ghost may_leave = { λ d c. Leaves (seen_of (padded S.Content.content d.size) d.log.events) (marks_of d.size d.log.events) c };
+    ghost may_leave = { λ d c. Leaves (seen_of (padded S.Content.content d.size) d.log.events)
+        (marks_of d.size d.log.events) c };
 
     ghost moment = { λ d. moments_of d.log.events };
 
-    ghost left_since = { λ d t c. Leaves (seen_of (padded S.Content.content d.size) d.log.events) (marks_of d.size d.log.events) c ⊎ MightHaveLeft (padded S.Content.content d.size) d.size d.log.events t c };
+    ghost left_since = { λ d t c. Leaves (seen_of (padded S.Content.content d.size) d.log.events)
+        (marks_of d.size d.log.events) c ⊎
+        MightHaveLeft (padded S.Content.content d.size) d.size d.log.events t c };
 
     ghost fault_count = { λ d. d.faults };
 
     ghost is_honest = { λ d. IsHonest (padded S.Content.content d.size) d.log.events };
 
-    ghost seen_may_stay = { λ d. leaves_seen (seen_of (padded S.Content.content d.size) d.log.events) (marks_of d.size d.log.events) (length-marks _ _ d.size d.marked d.sized) };
+    ghost seen_may_stay = { λ d. leaves_seen
+        (seen_of (padded S.Content.content d.size) d.log.events) (marks_of d.size d.log.events)
+        (length-marks _ _ d.size d.marked d.sized) };
 
-    ghost keeps_size = { λ d c left. leaves_size (seen_of (padded S.Content.content d.size) d.log.events) (marks_of d.size d.log.events) c left };
+    ghost keeps_size = { λ d c left. leaves_size
+        (seen_of (padded S.Content.content d.size) d.log.events) (marks_of d.size d.log.events) c
+        left };
 
     ghost counts_now = { λ d t c le now. inl now };
 
-    ghost only_now = { λ d c left. only_since (padded S.Content.content d.size) d.size d.log.events (Leaves (seen_of (padded S.Content.content d.size) d.log.events) (marks_of d.size d.log.events) c) c left };
+    ghost only_now = { λ d c left. only_since (padded S.Content.content d.size) d.size d.log.events
+        (Leaves (seen_of (padded S.Content.content d.size) d.log.events)
+        (marks_of d.size d.log.events) c) c left };
 
     fn size(&self) -> u64 {
         self.size

@@ -1,7 +1,10 @@
 // A disk in memory, with all that a stop may do to a disk.
-ghost use Rattle.std.specs.Prelude.{◌≡◌, ◌↔◌, ◌⊎◌, ◌+◌, ◌≤◌, ◌<◌, ◌^◌, ◌-◌, List, ℕ, length, take, drop, replicate, false, true, IfOk, OnOk, OnErr, IsTrue, refl};
-ghost use Rattle.disk_model.specs.Marks.{Leaves, marked, picked, picked_one, leaves_seen, leaves_size};
-ghost use Rattle.disk_model.specs.Disk.{Overwritten, Only, IsAtRest, Torn, Follows, Elapses, HasCause};
+ghost use Rattle.std.specs.Prelude.{◌≡◌, ◌↔◌, ◌⊎◌, ◌+◌, ◌≤◌, ◌<◌, ◌^◌, ◌-◌, List, ℕ, length, take};
+ghost use Rattle.std.specs.Prelude.{drop, replicate, false, true, IfOk, OnOk, OnErr, IsTrue, refl};
+ghost use Rattle.disk_model.specs.Marks.{Leaves, marked, picked, picked_one, leaves_seen};
+ghost use Rattle.disk_model.specs.Marks.{leaves_size};
+ghost use Rattle.disk_model.specs.Disk.{Overwritten, Only, IsAtRest, Torn, Follows, Elapses};
+ghost use Rattle.disk_model.specs.Disk.{HasCause};
 ghost use Rattle.disk_model.specs.Moments.{moments, HadLeft, only_left, WasAt};
 ghost use Rattle.std.proofs.Common.{inl};
 
@@ -9,7 +12,8 @@ use crate::{Disk, Fault, Past};
 use std::alloc::{AllocError, Global};
 use std::snapshot::Snapshot;
 
-/// A disk in memory. It has a mark on each byte that was written since the last sync that succeeded.
+/// A disk in memory. It has a mark on each byte that was written since the last sync that
+/// succeeded.
 #[derive(Drop)]
 pub struct MemDisk {
     bytes: Vec<u8>,
@@ -21,9 +25,11 @@ pub struct MemDisk {
 }
 
 impl MemDisk {
-    ghost use Rattle.disk_model.specs.MemDisk.{mem_bytes, mem_marks, mem_past, mem_faults, mem_fail_in};
+    ghost use Rattle.disk_model.specs.MemDisk.{mem_bytes, mem_marks, mem_past, mem_faults};
+    ghost use Rattle.disk_model.specs.MemDisk.{mem_fail_in};
 
-    /// A disk of so many zeros, at rest. It makes the room for the marks too, so that no call of the disk takes memory.
+    /// A disk of so many zeros, at rest. It makes the room for the marks too, so that no call of
+    /// the disk takes memory.
     pub fn new(alloc: Global, size: u64) -> Result<MemDisk, AllocError>
         ensures bytes { IfOk result (λ disk. mem_bytes disk ≡ replicate size 0) }
         ensures at_rest { IfOk result (λ disk.
@@ -41,7 +47,8 @@ impl MemDisk {
         })
     }
 
-    /// The k-th device call from now fails, and counts as a fault; 0 is for none. A later choice replaces an earlier one.
+    /// The k-th device call from now fails, and counts as a fault; 0 is for none. A later choice
+    /// replaces an earlier one.
     pub fn fail_at(&mut self, k: u64)
         ensures bytes { mem_bytes self.new ≡ mem_bytes self.old }
         ensures marks { mem_marks self.new ≡ mem_marks self.old }
@@ -52,8 +59,10 @@ impl MemDisk {
         self.fail_in = k;
     }
 
-    /// What a stop leaves, as a disk at rest: the listed bytes that no sync has reached take the listed values, the
-    /// last one where a byte is listed twice, and each other byte what a read gives. Others that are listed are passed
+    /// What a stop leaves, as a disk at rest: the listed bytes that no sync has reached take the
+    /// listed values, the
+    /// last one where a byte is listed twice, and each other byte what a read gives. Others that
+    /// are listed are passed
     /// over.
     pub fn stop(self, pick: &[(u64, u8)]) -> MemDisk
         ensures picked { mem_bytes result ≡ picked (mem_bytes self) (mem_marks self) pick.now }
@@ -144,7 +153,8 @@ fn unmark(marks: &mut Vec<bool>)
 }
 
 impl Disk for MemDisk {
-    ghost use Rattle.disk_model.specs.MemDisk.{mem_bytes, mem_marks, mem_past, mem_faults, mem_fail_in, FailsInTurn};
+    ghost use Rattle.disk_model.specs.MemDisk.{mem_bytes, mem_marks, mem_past, mem_faults};
+    ghost use Rattle.disk_model.specs.MemDisk.{mem_fail_in, FailsInTurn};
 
     ghost seen = { λ d. d.bytes.items };
 
@@ -172,7 +182,8 @@ impl Disk for MemDisk {
 
     fn read_at(&mut self, at: u64, out: &mut [u8]) -> Result<(), Fault>
         requires { at + length out.old ≤ length (mem_bytes self.old) }
-        ensures bytes { OnOk result (out.new ≡ take (length out.old) (drop at (mem_bytes self.old))) }
+        ensures bytes { OnOk result (out.new ≡
+            take (length out.old) (drop at (mem_bytes self.old))) }
         ensures fails { FailsInTurn (mem_fail_in self.old) (mem_fail_in self.new) result }
         ensures seen { mem_bytes self.new ≡ mem_bytes self.old }
         ensures marks { mem_marks self.new ≡ mem_marks self.old }
@@ -189,10 +200,12 @@ impl Disk for MemDisk {
 
     fn write_at(&mut self, at: u64, bytes: &[u8]) -> Result<(), Fault>
         requires { at + length bytes.now ≤ length (mem_bytes self.old) }
-        ensures written { OnOk result (Overwritten at bytes.now (mem_bytes self.old) (mem_bytes self.new)) }
+        ensures written { OnOk result (Overwritten at bytes.now (mem_bytes self.old)
+            (mem_bytes self.new)) }
         ensures unwritten { OnErr result (mem_bytes self.new ≡ mem_bytes self.old) }
         ensures marks { mem_marks self.new ≡ marked at (length bytes.now) (mem_marks self.old) }
-        ensures past { WasAt (mem_bytes self.old) (mem_marks self.old) (mem_past self.old) (mem_past self.new) }
+        ensures past { WasAt (mem_bytes self.old) (mem_marks self.old) (mem_past self.old)
+            (mem_past self.new) }
         ensures fails { FailsInTurn (mem_fail_in self.old) (mem_fail_in self.new) result }
         ensures seen { Torn at (length bytes.now) (mem_bytes self.old) (mem_bytes self.new) }
         ensures stop { Follows (Torn at (length bytes.now))
@@ -212,13 +225,15 @@ impl Disk for MemDisk {
 
     fn sync(&mut self) -> Result<(), Fault>
         ensures seen { mem_bytes self.new ≡ mem_bytes self.old }
-        ensures marks { OnOk result (mem_marks self.new ≡ replicate (length (mem_marks self.old)) false) }
+        ensures marks { OnOk result (mem_marks self.new ≡
+            replicate (length (mem_marks self.old)) false) }
         ensures marks_err { OnErr result (mem_marks self.new ≡ mem_marks self.old) }
         ensures past { OnOk result (WasAt (mem_bytes self.old) (mem_marks self.old)
             (mem_past self.old) (mem_past self.new)) }
         ensures past_err { OnErr result (mem_past self.new ≡ mem_past self.old) }
         ensures fails { FailsInTurn (mem_fail_in self.old) (mem_fail_in self.new) result }
-        ensures durable { OnOk result (Only (mem_bytes self.new) (Leaves (mem_bytes self.new) (mem_marks self.new))) }
+        ensures durable { OnOk result (Only (mem_bytes self.new)
+            (Leaves (mem_bytes self.new) (mem_marks self.new))) }
         ensures stop { (c : List ℕ) → Leaves (mem_bytes self.new) (mem_marks self.new) c →
             Leaves (mem_bytes self.old) (mem_marks self.old) c }
         ensures cause { HasCause (mem_faults self.old) (mem_faults self.new) result }

@@ -1,10 +1,12 @@
 // Calls of any disk, with what a stop at each of their moments leaves.
 ghost use Rattle.std.specs.Prelude.{◌≡◌, ◌≤◌, ◌+◌, length, take, drop, OnOk};
-ghost use Rattle.disk_model.specs.Disk.{Overwritten, Torn, WasTorn, IsAtRest, LeavesOnly, ReadsOnly, HasCause};
+ghost use Rattle.disk_model.specs.Disk.{Overwritten, Torn, WasTorn, IsAtRest, LeavesOnly};
+ghost use Rattle.disk_model.specs.Disk.{ReadsOnly, HasCause};
 
 use crate::{Disk, Fault};
 
-/// Writes, and then syncs. A stop at any moment of the call leaves what it could have left before, with any bytes
+/// Writes, and then syncs. A stop at any moment of the call leaves what it could have left before,
+/// with any bytes
 /// in the range.
 pub fn write_and_sync<D: Disk>(disk: &mut D, at: u64, bytes: &[u8]) -> Result<(), Fault>
     requires { at + length bytes.now ≤ length (D.seen disk.old) }

@@ -1,5 +1,6 @@
 -- What an area holds, and what a stop may leave of it.
-use Rattle.std.specs.Prelude.{◌≡◌, ◌≢◌, ◌⊎◌, ℕ, ◌+◌, Bool, List, [], ◌∷◌, ◌++◌, length, Option, None, Some, Vec}
+use Rattle.std.specs.Prelude.{◌≡◌, ◌≢◌, ◌⊎◌, ℕ, ◌+◌, Bool, List, [], ◌∷◌, ◌++◌, length, Option}
+use Rattle.std.specs.Prelude.{None, Some, Vec}
 use Rattle.std.specs.declared.alloc.Global.{Global}
 use Rattle.disk_model.specs.Disk.{IsAtRest}
 use Rattle.gate_block.specs.declared.area.Area.{Area}
@@ -25,18 +26,22 @@ has_failed a = a.failed
 abbrev pub bytes_of : Area → List ℕ → List ℕ
 bytes_of a disk = part a.base a.size disk
 
--- the area holds these blocks, its position is behind them, and a stop now leaves of the area what a read gives
-pub record IsReady {D : Type 0} (seen : D → List ℕ) (may_leave : D → List ℕ → Type 0) (area : Area) (disk : D) (bodies : List (List ℕ)) : Type 0 where
+-- the area holds these blocks, its position is behind them, and a stop now leaves of the area what
+-- a read gives
+pub record IsReady {D : Type 0} (seen : D → List ℕ) (may_leave : D → List ℕ → Type 0) (area : Area)
+    (disk : D) (bodies : List (List ℕ)) : Type 0 where
   pub holds : IsRow bodies (bytes_of area (seen disk))
   pub position : position_of area ≡ length (row bodies)
   pub at_rest : (c : List ℕ) → may_leave disk c → bytes_of area c ≡ bytes_of area (seen disk)
 
 -- the area holds these blocks, and a stop now leaves of the disk what a read gives
-pub record HoldsRow {D : Type 0} (seen : D → List ℕ) (may_leave : D → List ℕ → Type 0) (area : Area) (disk : D) (bodies : List (List ℕ)) : Type 0 where
+pub record HoldsRow {D : Type 0} (seen : D → List ℕ) (may_leave : D → List ℕ → Type 0) (area : Area)
+    (disk : D) (bodies : List (List ℕ)) : Type 0 where
   pub holds : IsRow bodies (bytes_of area (seen disk))
   pub at_rest : IsAtRest seen may_leave disk
 
--- The blocks of these bodies were laid one after another from the area's start on, with a closed gate behind them, and its position is behind them.
+-- The blocks of these bodies were laid one after another from the area's start on, with a closed
+-- gate behind them, and its position is behind them.
 -- Where there is none, anything may stand there.
 pub record IsLaid (area : Area) (disk : List ℕ) (bodies : List (List ℕ)) : Type 0 where
   pub position : position_of area ≡ length (row bodies)
@@ -44,10 +49,13 @@ pub record IsLaid (area : Area) (disk : List ℕ) (bodies : List (List ℕ)) : T
 
 -- a stop leaves each byte outside the area as it might have left it before
 abbrev pub LeavesElsewhere : (List ℕ → Type 0) → Area → List ℕ → Type 0
-LeavesElsewhere before area c = (d : List ℕ) × before d × SameOutside (base_of area) (size_of area) d c
+LeavesElsewhere before area c =
+    (d : List ℕ) × before d × SameOutside (base_of area) (size_of area) d c
 
--- a stop leaves the area with these blocks, or with one more, and each other byte as it might have left it before
-pub record LeavesBlocks (before : List ℕ → Type 0) (area : Area) (bodies : List (List ℕ)) (body c : List ℕ) : Type 0 where
+-- a stop leaves the area with these blocks, or with one more, and each other byte as it might have
+-- left it before
+pub record LeavesBlocks (before : List ℕ → Type 0) (area : Area) (bodies : List (List ℕ))
+    (body c : List ℕ) : Type 0 where
   pub blocks : IsRow bodies (bytes_of area c) ⊎ IsRow (bodies ++ body ∷ []) (bytes_of area c)
   pub elsewhere : LeavesElsewhere before area c
 

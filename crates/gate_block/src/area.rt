@@ -1,5 +1,7 @@
 // A part of a disk that holds a row of blocks.
-ghost use Rattle.std.specs.Prelude.{◌≡◌, ◌+◌, ◌≤◌, ◌<◌, ◌^◌, List, ℕ, length, OnOk, OnErr, IfOk, IfErr, IfSome, IsErrOf, MatchOption, true, false, ◌++◌, ◌∷◌, []};
+ghost use Rattle.std.specs.Prelude.{◌≡◌, ◌+◌, ◌≤◌, ◌<◌, ◌^◌, List, ℕ, length, OnOk, OnErr, IfOk};
+ghost use Rattle.std.specs.Prelude.{IfErr, IfSome, IsErrOf, MatchOption, true, false, ◌++◌, ◌∷◌};
+ghost use Rattle.std.specs.Prelude.{[]};
 
 use crate::bytes::{number, read_bytes};
 use crate::layout::OPEN;
@@ -23,10 +25,14 @@ pub struct Area {
 impl Area {
     ghost use Rattle.disk_model.specs.Disk.{LeavesOnly, ReadsOnly, Rises, HasCause};
     ghost use Rattle.gate_block.specs.Row.{row, IsRow, IsBlockOf, SameOutside, Finds};
-    ghost use Rattle.gate_block.specs.Answers.{IsPlaceAnswer, IsAppendAnswer, IsNextAnswer, IsReadError};
-    ghost use Rattle.gate_block.specs.Area.{base_of, size_of, position_of, has_failed, IsReady, IsLaid, HoldsRow, LeavesBlocks, LeavesElsewhere, bytes_of, body_in, IsDamage};
+    ghost use Rattle.gate_block.specs.Answers.{IsPlaceAnswer, IsAppendAnswer, IsNextAnswer};
+    ghost use Rattle.gate_block.specs.Answers.{IsReadError};
+    ghost use Rattle.gate_block.specs.Area.{base_of, size_of, position_of, has_failed, IsReady};
+    ghost use Rattle.gate_block.specs.Area.{IsLaid, HoldsRow, LeavesBlocks, LeavesElsewhere};
+    ghost use Rattle.gate_block.specs.Area.{bytes_of, body_in, IsDamage};
 
-    /// The area of so many bytes from the base on, whose next gate stands at that position of it. It has not failed.
+    /// The area of so many bytes from the base on, whose next gate stands at that position of it.
+    /// It has not failed.
     pub fn start(base: u64, size: u64, position: u64) -> Area
         requires inside { position < size }
         requires fits { base + size < 2 ^ 64 }
@@ -57,9 +63,11 @@ impl Area {
         self.size
     }
 
-    // Whether a block has its place at the next gate: refused Failed and then Full, as `append` says.
+    // Whether a block has its place at the next gate: refused Failed and then Full, as `append`
+    // says.
     fn check_place(&self, block: &[u8]) -> Result<(), Refusal>
-        ensures { IsPlaceAnswer (has_failed self.now) (size_of self.now < position_of self.now + length block.now) result }
+        ensures { IsPlaceAnswer (has_failed self.now)
+            (size_of self.now < position_of self.now + length block.now) result }
     {
         if self.failed {
             return Err(Refusal::Failed);
@@ -85,7 +93,8 @@ impl Area {
         ensures any_moment_elsewhere { LeavesOnly D.moment D.left_since disk.old disk.new
             (LeavesElsewhere (D.may_leave disk.old) self.now) }
         ensures counts { (bodies : List (List ℕ)) (body : List ℕ) → IsBlockOf body block.now →
-            IsRow bodies (bytes_of self.now (D.seen disk.old)) → position_of self.now ≡ length (row bodies) →
+            IsRow bodies (bytes_of self.now (D.seen disk.old)) →
+            position_of self.now ≡ length (row bodies) →
             OnOk result (IsRow (bodies ++ body ∷ []) (bytes_of self.now (D.seen disk.new))) }
         ensures elsewhere { SameOutside (base_of self.now) (size_of self.now)
             (D.seen disk.old) (D.seen disk.new) }
@@ -97,14 +106,19 @@ impl Area {
         write_and_sync(disk, gate, &[OPEN])
     }
 
-    /// Adds a block at the next gate, which is closed. The block is its gate, the length of its body in four bytes,
+    /// Adds a block at the next gate, which is closed. The block is its gate, the length of its
+    /// body in four bytes,
     /// the body, and the next gate, closed.
     ///
-    /// A stop at any moment of the call leaves the blocks from before it, with the new one or without, and nothing
-    /// else of the disk changes; at `Ok` the new one is kept. All but the gate is written and synced before the gate
-    /// is opened, and that synced too, in the manner of a log that is written ahead. It takes no memory.
+    /// A stop at any moment of the call leaves the blocks from before it, with the new one or
+    /// without, and nothing
+    /// else of the disk changes; at `Ok` the new one is kept. All but the gate is written and
+    /// synced before the gate
+    /// is opened, and that synced too, in the manner of a log that is written ahead. It takes no
+    /// memory.
     ///
-    /// Refusals, in this order: `Failed` where the area has failed, and `Full` where the block ends behind the area's
+    /// Refusals, in this order: `Failed` where the area has failed, and `Full` where the block ends
+    /// behind the area's
     /// end, both with everything as before; then `Fault`, after which the area has failed.
     pub fn append<D: Disk>(&mut self, disk: &mut D, block: &[u8]) -> Result<(), Refusal>
         requires block { (body : List ℕ) × IsBlockOf body block.now }
@@ -112,11 +126,13 @@ impl Area {
         ensures answer { IsAppendAnswer (has_failed self.old) (has_failed self.new)
             (size_of self.old < position_of self.old + length block.now)
             (Rises (D.fault_count disk.old) (D.fault_count disk.new)) result }
-        ensures failed { IsErrOf result Refusal.Failed → (self.new ≡ self.old) × (disk.new ≡ disk.old) }
+        ensures failed { IsErrOf result Refusal.Failed →
+            (self.new ≡ self.old) × (disk.new ≡ disk.old) }
         ensures full { IsErrOf result Refusal.Full → (self.new ≡ self.old) × (disk.new ≡ disk.old) }
         ensures base { base_of self.new ≡ base_of self.old }
         ensures size { size_of self.new ≡ size_of self.old }
-        ensures position { OnOk result (position_of self.new + 1 ≡ position_of self.old + length block.now) }
+        ensures position { OnOk result (position_of self.new + 1 ≡
+            position_of self.old + length block.now) }
         ensures position_err { OnErr result (position_of self.new ≡ position_of self.old) }
         ensures kept { (bodies : List (List ℕ)) (body : List ℕ) → IsBlockOf body block.now →
             IsReady D.seen D.may_leave self.old disk.old bodies →
@@ -127,10 +143,12 @@ impl Area {
             (LeavesBlocks (D.may_leave disk.old) self.old bodies body) }
         ensures any_moment_elsewhere { LeavesOnly D.moment D.left_since disk.old disk.new
             (LeavesElsewhere (D.may_leave disk.old) self.old) }
-        // Also where a stop might leave another: where a read gives blocks up to the next gate, it gives the new one behind
+        // Also where a stop might leave another: where a read gives blocks up to the next gate, it
+        // gives the new one behind
         // them then.
         ensures counts { (bodies : List (List ℕ)) (body : List ℕ) → IsBlockOf body block.now →
-            IsRow bodies (bytes_of self.old (D.seen disk.old)) → position_of self.old ≡ length (row bodies) →
+            IsRow bodies (bytes_of self.old (D.seen disk.old)) →
+            position_of self.old ≡ length (row bodies) →
             OnOk result (IsRow (bodies ++ body ∷ []) (bytes_of self.new (D.seen disk.new))) }
         ensures elsewhere { SameOutside (base_of self.old) (size_of self.old)
             (D.seen disk.old) (D.seen disk.new) }
@@ -146,13 +164,17 @@ impl Area {
         Ok(())
     }
 
-    /// Lays a block at the next gate, with its gate open and the closed gate behind it, over whatever stands there. It is
+    /// Lays a block at the next gate, with its gate open and the closed gate behind it, over
+    /// whatever stands there. It is
     /// one write, and no sync: the block is kept once the disk is synced.
     ///
-    /// At `Ok` a read gives the blocks that were laid so far, the new one last, and the closed gate behind them. A stop at
-    /// any moment of the call leaves each byte outside the area as a stop could have left it before. It takes no memory.
+    /// At `Ok` a read gives the blocks that were laid so far, the new one last, and the closed gate
+    /// behind them. A stop at
+    /// any moment of the call leaves each byte outside the area as a stop could have left it
+    /// before. It takes no memory.
     ///
-    /// Refusals, in this order: `Failed` where the area has failed, and `Full` where the block ends behind the area's
+    /// Refusals, in this order: `Failed` where the area has failed, and `Full` where the block ends
+    /// behind the area's
     /// end, both with everything as before; then `Fault`, after which the area has failed.
     pub fn lay<D: Disk>(&mut self, disk: &mut D, block: &[u8]) -> Result<(), Refusal>
         requires block { (body : List ℕ) × IsBlockOf body block.now }
@@ -160,11 +182,13 @@ impl Area {
         ensures answer { IsAppendAnswer (has_failed self.old) (has_failed self.new)
             (size_of self.old < position_of self.old + length block.now)
             (Rises (D.fault_count disk.old) (D.fault_count disk.new)) result }
-        ensures failed { IsErrOf result Refusal.Failed → (self.new ≡ self.old) × (disk.new ≡ disk.old) }
+        ensures failed { IsErrOf result Refusal.Failed →
+            (self.new ≡ self.old) × (disk.new ≡ disk.old) }
         ensures full { IsErrOf result Refusal.Full → (self.new ≡ self.old) × (disk.new ≡ disk.old) }
         ensures base { base_of self.new ≡ base_of self.old }
         ensures size { size_of self.new ≡ size_of self.old }
-        ensures position { OnOk result (position_of self.new + 1 ≡ position_of self.old + length block.now) }
+        ensures position { OnOk result (position_of self.new + 1 ≡
+            position_of self.old + length block.now) }
         ensures position_err { OnErr result (position_of self.new ≡ position_of self.old) }
         ensures laid { (bodies : List (List ℕ)) (body : List ℕ) → IsBlockOf body block.now →
             IsLaid self.old (D.seen disk.old) bodies →
@@ -192,7 +216,8 @@ impl Area {
             Finds (bytes_of self.now (D.seen disk.old)) (position_of self.now) (body_in found)) }
         ensures room { IfOk result (λ found. IfSome found
             (λ body. position_of self.now + 6 + length body.items ≤ size_of self.now)) }
-        ensures error { IfErr result (IsReadError (Rises (D.fault_count disk.old) (D.fault_count disk.new))
+        ensures error { IfErr result (IsReadError
+            (Rises (D.fault_count disk.old) (D.fault_count disk.new))
             (IsDamage (D.is_honest disk.new) self.now (D.seen disk.old))) }
         ensures reads { ReadsOnly D.seen D.may_leave D.moment D.left_since disk.old disk.new }
         ensures honest { D.is_honest disk.new → D.is_honest disk.old }
@@ -217,10 +242,13 @@ impl Area {
         Ok(Some(read_bytes(alloc, disk, gate + 5, n)?))
     }
 
-    /// The body of the block at the next gate, which it passes, or none where that gate is closed. It writes nothing.
+    /// The body of the block at the next gate, which it passes, or none where that gate is closed.
+    /// It writes nothing.
     ///
-    /// Refusals: `Failed` where the area has failed; `Damaged`, with the gate's place on the disk, where the gate is
-    /// open and the length behind it is 0, over 65,535, or more than has room; `NoMemory` where there is none for the
+    /// Refusals: `Failed` where the area has failed; `Damaged`, with the gate's place on the disk,
+    /// where the gate is
+    /// open and the length behind it is 0, over 65,535, or more than has room; `NoMemory` where
+    /// there is none for the
     /// body; `Fault`, after which the area has failed. The position stays at each of them.
     pub fn next_block<D: Disk>(
         &mut self,
@@ -235,7 +263,8 @@ impl Area {
             (IsDamage (D.is_honest disk.new) self.old (D.seen disk.old)) result }
         ensures base { base_of self.new ≡ base_of self.old }
         ensures size { size_of self.new ≡ size_of self.old }
-        ensures position { IfOk result (λ found. MatchOption found (position_of self.new ≡ position_of self.old)
+        ensures position { IfOk result (λ found. MatchOption found
+            (position_of self.new ≡ position_of self.old)
             (λ body. position_of self.new ≡ position_of self.old + 5 + length body.items)) }
         ensures position_err { OnErr result (position_of self.new ≡ position_of self.old) }
         ensures reads { ReadsOnly D.seen D.may_leave D.moment D.left_since disk.old disk.new }

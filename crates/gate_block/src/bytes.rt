@@ -24,9 +24,11 @@ pub(crate) fn read_bytes<D: Disk>(
     n: u64,
 ) -> Result<Vec<u8>, ReadError>
     requires { at + n ≤ length (D.seen disk.old) }
-    ensures bytes { IfOk result (λ bytes. D.is_honest disk.new → bytes.items ≡ take n (drop at (D.seen disk.old))) }
+    ensures bytes { IfOk result (λ bytes. D.is_honest disk.new →
+        bytes.items ≡ take n (drop at (D.seen disk.old))) }
     ensures length { IfOk result (λ bytes. length bytes.items ≡ n) }
-    ensures error { IfErr result (IsReadError (Rises (D.fault_count disk.old) (D.fault_count disk.new)) (λ _. ⊥)) }
+    ensures error { IfErr result (IsReadError
+        (Rises (D.fault_count disk.old) (D.fault_count disk.new)) (λ _. ⊥)) }
     ensures reads { ReadsOnly D.seen D.may_leave D.moment D.left_since disk.old disk.new }
     ensures honest { D.is_honest disk.new → D.is_honest disk.old }
     ensures faults { D.fault_count disk.old ≤ D.fault_count disk.new }

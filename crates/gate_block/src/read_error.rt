@@ -1,6 +1,7 @@
 // Why a block could not be read.
 ghost use Rattle.std.specs.Prelude.{◌≡◌};
-ghost use Rattle.gate_block.specs.declared.read_error.ReadError.TheVariants.{NoMemory, Fault as FaultError};
+ghost use Rattle.gate_block.specs.declared.read_error.ReadError.TheVariants.{NoMemory};
+ghost use Rattle.gate_block.specs.declared.read_error.ReadError.TheVariants.{Fault as FaultError};
 
 use disk_model::Fault;
 use std::alloc::AllocError;

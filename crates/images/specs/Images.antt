@@ -28,15 +28,17 @@ abbrev pub AreOf : Shown → List Record → Type 0
 AreOf shown rs = rs ≡ Record.Name shown.kind shown.name ∷ map Record.Item shown.items.items
 
 -- The records are an image of the state, with the mark of the next number.
-pub record TellsState {S : Type 0} (collections : S → List Collection) (inverse : Call → Reply → Option Call) (next : ℕ) (s : State S) (rs : List Record) : Type 0 where
+pub record TellsState {S : Type 0} (collections : S → List Collection) (next : ℕ) (s : State S)
+    (rs : List Record) : Type 0 where
   pub numbers : List ℕ
   pub are_live : (n : ℕ) → Contains numbers n ↔ Lives s.live n
-  pub is_image : IsImage next s.wear (collections s.now) numbers (live_records inverse s) rs
+  pub is_image : IsImage next s.wear (collections s.now) numbers (live_records s) rs
 
 -- The blocks hold an image of the state.
-pub record IsPackedImage {S : Type 0} (collections : S → List Collection) (inverse : Call → Reply → Option Call) (next : ℕ) (s : State S) (blocks : List (Vec ℕ Global)) : Type 0 where
+pub record IsPackedImage {S : Type 0} (collections : S → List Collection) (next : ℕ) (s : State S)
+    (blocks : List (Vec ℕ Global)) : Type 0 where
   pub groups : List (List Record)
-  pub tells : TellsState collections inverse next s (joined groups)
+  pub tells : TellsState collections next s (joined groups)
   pub good : AreRecords None (joined groups)
   pub packed : ArePacked groups × AllByRecursion (λ g. 0 < length g) groups
   pub whole : AreWhole blocks groups

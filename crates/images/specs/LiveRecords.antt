@@ -2,8 +2,7 @@
 use Rattle.std.specs.Prelude.{ℕ, Bool, true, List, [], ◌∷◌, Option, Some}
 use Rattle.std.specs.FinMap as maps
 use Rattle.std.specs.List.{flat_map}
-use Rattle.calls.specs.declared.call.Call.{Call}
-use Rattle.calls.specs.declared.reply.Reply.{Reply}
+use Rattle.calls.specs.Rules.{inverse_of}
 use Rattle.calls.specs.Transactions.{Entry, Asked, PutOff}
 use Rattle.undo_log.specs.Logs.{Statuses}
 use Rattle.record_format.specs.declared.record.Record.{Record}
@@ -15,11 +14,15 @@ abbrev pub unless_falling : Option Bool → Record → List Record
 unless_falling (Some true) r = []
 unless_falling other r = r ∷ []
 
--- What an image tells of one entry of a live transaction: each call, and what was put off by one that is not falling.
-abbrev pub live_record : (Call → Reply → Option Call) → Statuses → ℕ × Entry → List Record
-live_record inverse live (n, Asked e) = Record.LiveCall (call_record n e.at e.call e.reply (inverse e.call e.reply)) ∷ []
-live_record inverse live (n, PutOff at call) = unless_falling (maps.get live n) (Record.LiveLater (record { number = n; collection = at; call = call }))
+-- What an image tells of one entry of a live transaction: each call, and what was put off by one
+-- that is not falling.
+abbrev pub live_record : Statuses → ℕ × Entry → List Record
+live_record live (n, Asked e) =
+    Record.LiveCall (call_record n e.at e.call e.reply (inverse_of e.call e.reply)) ∷ []
+live_record live (n, PutOff at call) =
+    unless_falling (maps.get live n)
+    (Record.LiveLater (record { number = n; collection = at; call = call }))
 
 -- what it tells of all of them, in the order asked
-abbrev pub live_records : {S : Type 0} → (Call → Reply → Option Call) → State S → List Record
-live_records inverse s = flat_map (live_record inverse s.live) s.entries
+abbrev pub live_records : {S : Type 0} → State S → List Record
+live_records s = flat_map (live_record s.live) s.entries

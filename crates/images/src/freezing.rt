@@ -1,13 +1,15 @@
 // An image of a machine: its records, in whole blocks.
-ghost use Rattle.std.specs.Prelude.{◌≡◌, ◌<◌, ◌≤◌, ◌^◌, ◌++◌, ◌∷◌, [], ℕ, false, Some, IsTrue, length, map, OnOk, IfOk, IsOkUnless};
+ghost use Rattle.std.specs.Prelude.{◌≡◌, ◌<◌, ◌≤◌, ◌^◌, ◌++◌, ◌∷◌, [], ℕ, false, Some, IsTrue};
+ghost use Rattle.std.specs.Prelude.{length, map, OnOk, IfOk, IsOkUnless};
 ghost use Rattle.std.specs.List.{AllByRecursion, flat_map};
 ghost use Rattle.calls.specs.Names.{IsName};
-ghost use Rattle.calls.specs.Inverses.{Deferrable};
+ghost use Rattle.calls.specs.Rules.{Deferrable, inverse_of};
 ghost use Rattle.calls.specs.Transactions.{Asked};
 ghost use Rattle.undo_log.specs.Entries.{event_of, entry_of, owned_entry};
 ghost use Rattle.undo_log.specs.Logs.{Lives};
 ghost use Rattle.catalog.specs.Places.{At};
-ghost use Rattle.record_format.specs.Records.{call_record, FitsItem, IsItemOf, IsNumber};
+ghost use Rattle.calls.specs.Contents.{IsItemOf};
+ghost use Rattle.record_format.specs.Records.{call_record, FitsItem, IsNumber};
 ghost use Rattle.records.specs.Images.{TellsOf, TellOf};
 ghost use Rattle.record_format.specs.Short.{AreShort, IsShortItem};
 ghost use Rattle.blocks.specs.Drafts.{ArePacked};
@@ -26,10 +28,13 @@ use std::alloc::Global;
 use std::collections::VecDeque;
 use undo_log::{Entry, Later, Live, Logged, Owned};
 
-/// The records of an image of the machine, in whole blocks, with the mark of the next number: marks, collections with
-/// their items, live numbers rising, what these asked for in its order, but for what a falling one put off, and the end.
+/// The records of an image of the machine, in whole blocks, with the mark of the next number:
+/// marks, collections with
+/// their items, live numbers rising, what these asked for in its order, but for what a falling one
+/// put off, and the end.
 ///
-/// It takes time and memory in proportion to what the collections hold and the live transactions asked for, of which the
+/// It takes time and memory in proportion to what the collections hold and the live transactions
+/// asked for, of which the
 /// image is one copy; beside it the items of one collection at a time are copied.
 ///
 /// NoMemory.
@@ -39,7 +44,8 @@ pub fn image_blocks<B: Parts + Coded>(
     next: u64,
 ) -> Result<VecDeque<Vec<u8>>, Refusal>
     requires { (1 ≤ next) × (next ≤ 2 ^ 61) }
-    ensures image { IfOk result (λ blocks. IsPackedImage B.collections B.inverse next machine.now blocks.items) }
+    ensures image { IfOk result (λ blocks. IsPackedImage B.collections next machine.now
+        blocks.items) }
     ensures refusal { IsOkUnless result Refusal.NoMemory }
 {
     let mut packer = Packer::new(alloc);
@@ -54,7 +60,8 @@ fn push_image<B: Parts + Coded>(
     packer: &mut Packer,
 ) -> Result<(), Refusal>
     requires { (1 ≤ next) × (next ≤ 2 ^ 61) }
-    ensures told { OnOk result (Writes packer.old packer.new (TellsState B.collections B.inverse next machine.now)) }
+    ensures told { OnOk result (Writes packer.old packer.new
+        (TellsState B.collections next machine.now)) }
     ensures refusal { IsOkUnless result Refusal.NoMemory }
 {
     machine.upheld();
@@ -65,14 +72,14 @@ fn push_image<B: Parts + Coded>(
     packer.push(marks)?;
     push_collections(machine.parts(), packer)?;
     push_begins(machine.live(), packer)?;
-    push_entries::<B>(machine.live(), packer)?;
+    push_entries(machine.live(), packer)?;
     packer.push(Record::ImageEnd)
 }
 
 // Writes what the collections hold.
 fn push_collections<B: Parts + Coded>(parts: &B, packer: &mut Packer) -> Result<(), Refusal>
     requires short { AreShort (B.collections parts.now) }
-    requires few { length (B.names parts.now) ≤ 256 }
+    requires few { length (B.making.names parts.now) ≤ 256 }
     ensures told { OnOk result (Writes packer.old packer.new (TellOf (B.collections parts.now))) }
     ensures refusal { IsOkUnless result Refusal.NoMemory }
 {
@@ -91,8 +98,10 @@ fn push_collection<B: Parts + Coded>(
     packer: &mut Packer,
 ) -> Result<bool, Refusal>
     requires { AreShort (B.collections parts.now) }
-    ensures there { IfOk result (λ there. IsTrue there → At (λ x. Writes packer.old packer.new (TellsOf x)) (B.collections parts.now) at) }
-    ensures none { IfOk result (λ there. there ≡ false → (length (B.collections parts.now) ≤ at) × (packer.new ≡ packer.old)) }
+    ensures there { IfOk result (λ there. IsTrue there →
+        At (λ x. Writes packer.old packer.new (TellsOf x)) (B.collections parts.now) at) }
+    ensures none { IfOk result (λ there. there ≡ false →
+        (length (B.collections parts.now) ≤ at) × (packer.new ≡ packer.old)) }
     ensures refusal { IsOkUnless result Refusal.NoMemory }
 {
     match parts.shown(at) {
@@ -108,7 +117,7 @@ fn push_collection<B: Parts + Coded>(
 // Writes the records of a collection.
 fn push_shown(shown: Shown, packer: &mut Packer) -> Result<(), Refusal>
     requires name { IsName shown.name }
-    requires items { AllByRecursion (λ i. IsShortItem i × IsItemOf (Some shown.kind) i) shown.items.items }
+    requires items { AllByRecursion (λ i. IsShortItem i × IsItemOf shown.kind i) shown.items.items }
     ensures told { OnOk result (Writes packer.old packer.new (AreOf shown)) }
     ensures refusal { IsOkUnless result Refusal.NoMemory }
 {
@@ -125,7 +134,8 @@ fn push_shown(shown: Shown, packer: &mut Packer) -> Result<(), Refusal>
 // Writes the items, in their order.
 fn push_items(items: Vec<Item>, packer: &mut Packer) -> Result<(), Refusal>
     requires { AllByRecursion IsShortItem items.items }
-    ensures told { OnOk result ((joined packer.new ≡ joined packer.old ++ map Record.Item items.items) × AllByRecursion FitsItem items.items) }
+    ensures told { OnOk result ((joined packer.new ≡ joined packer.old ++
+        map Record.Item items.items) × AllByRecursion FitsItem items.items) }
     ensures refusal { IsOkUnless result Refusal.NoMemory }
 {
     for item in items {
@@ -159,30 +169,28 @@ fn push_begins(live: &Live, packer: &mut Packer) -> Result<(), Refusal>
 }
 
 // Writes what the live transactions asked for, in the order asked.
-fn push_entries<B: Parts + Coded>(live: &Live, packer: &mut Packer) -> Result<(), Refusal>
+fn push_entries(live: &Live, packer: &mut Packer) -> Result<(), Refusal>
     requires { AllByRecursion (λ e. IsNumber e.0 × IsAskedEntry e.1) live.now.entries }
-    ensures told { OnOk result (Writes packer.old packer.new (λ rs. rs ≡ flat_map (live_record B.inverse live.now.live) live.now.entries)) }
+    ensures told { OnOk result (Writes packer.old packer.new
+        (λ rs. rs ≡ flat_map (live_record live.now.live) live.now.entries)) }
     ensures refusal { IsOkUnless result Refusal.NoMemory }
 {
     let entries = live.in_order().as_slice();
     for owned in entries {
-        push_entry::<B>(live, owned, packer)?;
+        push_entry(live, owned, packer)?;
     }
     Ok(())
 }
 
 // Writes what was asked for, but for what a falling transaction put off.
-fn push_entry<B: Parts + Coded>(
-    live: &Live,
-    owned: &Owned,
-    packer: &mut Packer,
-) -> Result<(), Refusal>
+fn push_entry(live: &Live, owned: &Owned, packer: &mut Packer) -> Result<(), Refusal>
     requires { IsNumber owned.now.owner × IsAskedEntry (entry_of owned.now.entry) }
-    ensures told { OnOk result (Writes packer.old packer.new (λ rs. rs ≡ live_record B.inverse live.now.live (owned_entry owned.now))) }
+    ensures told { OnOk result (Writes packer.old packer.new
+        (λ rs. rs ≡ live_record live.now.live (owned_entry owned.now))) }
     ensures refusal { IsOkUnless result Refusal.NoMemory }
 {
     match &owned.entry {
-        Entry::Asked(logged) => push_call::<B>(owned.owner, logged, packer),
+        Entry::Asked(logged) => push_call(owned.owner, logged, packer),
         Entry::PutOff(later) => {
             if live.is_falling(owned.owner) {
                 return Ok(());
@@ -193,19 +201,17 @@ fn push_entry<B: Parts + Coded>(
 }
 
 // Writes a call of a live transaction.
-fn push_call<B: Parts + Coded>(
-    number: u64,
-    logged: &Logged,
-    packer: &mut Packer,
-) -> Result<(), Refusal>
+fn push_call(number: u64, logged: &Logged, packer: &mut Packer) -> Result<(), Refusal>
     requires number { IsNumber number }
     requires asked { IsAskedEntry (Asked (event_of logged.now)) }
-    ensures told { OnOk result (Writes packer.old packer.new (λ rs. rs ≡ Record.LiveCall (call_record number logged.now.at logged.now.call logged.now.reply (B.inverse logged.now.call logged.now.reply)) ∷ [])) }
+    ensures told { OnOk result (Writes packer.old packer.new
+        (λ rs. rs ≡ Record.LiveCall (call_record number logged.now.at logged.now.call
+        logged.now.reply (inverse_of logged.now.call logged.now.reply)) ∷ [])) }
     ensures refusal { IsOkUnless result Refusal.NoMemory }
 {
     let collection = logged.at;
     prove!(collection <= u8::MAX);
-    let back = inverse::<B>(&logged.call, &logged.reply)?;
+    let back = inverse(&logged.call, &logged.reply)?;
     let called = CallRecord {
         number,
         collection,
@@ -220,7 +226,13 @@ fn push_call<B: Parts + Coded>(
 fn push_later(number: u64, later: &Later, packer: &mut Packer) -> Result<(), Refusal>
     requires number { IsNumber number }
     requires put_off { Deferrable later.now.call }
-    ensures told { OnOk result (Writes packer.old packer.new (λ rs. rs ≡ Record.LiveLater (record { number = number; collection = later.now.at; call = later.now.call }) ∷ [])) }
+    ensures told { OnOk result (Writes packer.old packer.new
+        (λ rs. rs ≡ Record.LiveLater (record {
+          number =
+              number;
+          collection = later.now.at;
+          call = later.now.call;
+        }) ∷ [])) }
     ensures refusal { IsOkUnless result Refusal.NoMemory }
 {
     let collection = later.at;

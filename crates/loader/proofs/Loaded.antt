@@ -1,11 +1,15 @@
 -- What holds of every state that an image tells of, and the machine that it becomes.
-use Rattle.std.proofs.Common.{◌≡◌, ℕ, ◌+◌, ◌<◌, ◌≤◌, ◌^◌, ◌⊎◌, inl, inr, ⊎_elim, Option, is_some, Bool, true, false, Result, Ok, Err, List, [], ◌∷◌, ◌++◌, length, map, refl, sym, ◌∙◌, ap, subst, arith, append-nil, append_assoc}
+use Rattle.std.proofs.Common.{◌≡◌, ℕ, ◌+◌, ◌<◌, ◌≤◌, ◌^◌, ◌⊎◌, inl, inr, ⊎_elim, Option, is_some}
+use Rattle.std.proofs.Common.{Bool, true, false, Result, Ok, Err, List, [], ◌∷◌, ◌++◌, length, map}
+use Rattle.std.proofs.Common.{refl, sym, ◌∙◌, ap, subst, arith, append-nil, append_assoc}
 use Rattle.std.specs.Prelude.{◌↔◌, Contains, IsTrue, IfOk, OnErr}
 use Rattle.std.specs.List.{AllByRecursion}
 use Rattle.std.specs.FinMap as maps
 use Rattle.std.specs.Ordering.{nat_cmp}
 use Rattle.std.proofs.lemmas.List.{map-append}
-use Rattle.std.proofs.lemmas.List.Elements.{Contains-push, Contains-push_cases, Contains-append_left, Contains-append_right, Contains-append_cases}
+use Rattle.std.proofs.lemmas.List.Elements.{Contains-push, Contains-push_cases}
+use Rattle.std.proofs.lemmas.List.Elements.{Contains-append_left, Contains-append_right}
+use Rattle.std.proofs.lemmas.List.Elements.{Contains-append_cases}
 use Rattle.calls.specs.declared.kind.Kind.{Kind}
 use Rattle.calls.specs.declared.call.Call.{Call}
 use Rattle.calls.specs.declared.reply.Reply.{Reply}
@@ -13,23 +17,22 @@ use Rattle.calls.specs.declared.need.Need.{Need}
 use Rattle.calls.specs.declared.item.Item.{Item}
 use Rattle.calls.specs.declared.refusal.Refusal.{Refusal}
 use Rattle.calls.specs.Contents.{Collection}
-use Rattle.calls.specs.Inverses.{Askable}
+use Rattle.calls.specs.Rules.{Askable, Pairs, need_of}
 use Rattle.calls.specs.Transactions.{Event, Entry, Asked, PutOff, Leads, calls_of}
 use Rattle.abstract_locks.specs.declared.table.Hold.{Hold}
 use Rattle.abstract_locks.specs.Holds.{Holdings, hold}
 use Rattle.undo_log.specs.Logs.{Log, Lives, Falls}
-use Rattle.catalog.specs.Making.{IsNew}
-use Rattle.catalog.specs.Loading.{AreItems, Loads}
-use Rattle.boosted.specs.Shape as shape
+use Rattle.catalog.specs.Making.{IsNew, Making}
+use Rattle.catalog.specs.Holdings.{AreItems, Loads}
+use Rattle.boosted.specs.Meaning as shape
 use Rattle.boosted.proofs.Each.{weaker, each_append}
 use Rattle.record_format.specs.declared.record.Record.{Record}
 use Rattle.record_format.specs.Acts.{event_of}
 use Rattle.records.specs.Images.{IsLiveRecord, owned_entries}
-use Rattle.record_format.specs.Records.{IsNumber, Pairs}
+use Rattle.record_format.specs.Records.{IsNumber}
 use Rattle.record_format.specs.Reached.{IsReached}
 use Rattle.record_format.specs.Short.{IsShortReply, IsShortItem}
-use Rattle.records.specs.Told.{NamesAsTold, WithinAsTold}
-use Rattle.records.proofs.Reaching.{within_loaded}
+use Rattle.records.proofs.Items.{within_loaded}
 use Rattle.machine.specs.Machine.{State, IsSettled}
 use Rattle.machine.specs.Machines.{resting, IsAskedEntry, IsUpheld}
 use Rattle.loader.specs.Loading.{StandRow, HeldCallRow, HeldLaterRow, LiveSteps, HasRoomBack}
@@ -51,18 +54,22 @@ use Rattle.machine.proofs.BookLaws.{BookLaws}
 use Rattle.loader.proofs.LoadRows.{read_names}
 use Rattle.machine.proofs.Steps as steps
 use Rattle.machine.proofs.Sizes.{len_begun, own_pushed, pushed_length}
+use Rattle.boosted.specs.Meaning.{Meaning}
+use Rattle.records.specs.Told as records
 
 -- ---- the theory's machine
 
-module _ {S : Type 0} (answers : S → ℕ → Call → Reply → Type 0) (leaves : S → ℕ → Call → Reply → S) (makes : S → List ℕ → Kind → S → Type 0) (need : Call → Reply → Need) (inverse : Call → Reply → Option Call) (laws : RuleLaws (collection_rules answers leaves makes need inverse)) where
+module _ {S : Type 0} (meaning : Meaning S ℕ) (making : Making S)
+    (laws : RuleLaws (collection_rules meaning making)) where
   abbrev rules : Rules S (ℕ × Event) (List ℕ × Kind) Hold
-  rules = collection_rules answers leaves makes need inverse
+  rules = collection_rules meaning making
 
   abbrev pub Loaded : State S → Type 0
-  Loaded s = IsLoaded answers leaves makes need inverse s
+  Loaded s = IsLoaded meaning making s
 
   pub resting_loaded : (now : S) (wear : ℕ) → Loaded (resting now wear)
-  resting_loaded now wear = let opened = steps.opened_sound answers leaves makes need inverse laws now wear in record { machine = opened.machine; shows = opened.shows; sound = opened.sound }
+  resting_loaded now wear = let opened = steps.opened_sound meaning making laws now wear in
+      record { machine = opened.machine; shows = opened.shows; sound = opened.sound }
 
   module _ (s : State S) (loaded : Loaded s) where
     abbrev m : theory.State S (ℕ × Event) Hold
@@ -71,7 +78,9 @@ module _ {S : Type 0} (answers : S → ℕ → Call → Reply → Type 0) (leave
     abbrev shows : Shows s m
     shows = loaded.shows
 
-    each_live : (es : List (ℕ × Entry)) → AllByRecursion (λ e. Has m.live (owner (journal.event e))) (all_owned es) → AllByRecursion (λ e. Lives s.live e.0) es
+    each_live : (es : List (ℕ × Entry)) →
+        AllByRecursion (λ e. Has m.live (owner (journal.event e))) (all_owned es) →
+        AllByRecursion (λ e. Lives s.live e.0) es
     each_live [] a = tt
     each_live ((n, Asked x) ∷ es) a = ((shows.live n).0 a.0, each_live es a.1)
     each_live ((n, PutOff at c) ∷ es) a = ((shows.live n).0 a.0, each_live es a.1)
@@ -79,22 +88,38 @@ module _ {S : Type 0} (answers : S → ℕ → Call → Reply → Type 0) (leave
     -- Where no transaction is live, nothing is asked for.
     none_asked : s.live ≡ maps.empty → s.entries ≡ []
     none_asked empty =
-        nothing s.entries (weaker (λ e. Lives s.live e.0) (λ e. ⊥) (λ e lives. nobody e.0 (subst (λ l. Lives l e.0) empty lives)) s.entries
-        (each_live s.entries (subst (AllByRecursion (λ e. Has m.live (owner (journal.event e)))) shows.entries loaded.sound.alive)))
+        nothing s.entries (weaker (λ e. Lives s.live e.0) (λ e. ⊥)
+        (λ e lives. nobody e.0 (subst (λ l. Lives l e.0) empty lives)) s.entries
+        (each_live s.entries (subst (AllByRecursion (λ e. Has m.live (owner (journal.event e))))
+        shows.entries loaded.sound.alive)))
 
     -- The collections may be others then.
     pub read_loaded : (next : S) → s.live ≡ maps.empty → Loaded (record s { now = next })
     read_loaded next empty =
         let none : m.entries ≡ [] = shows.entries ∙ ap all_owned (none_asked empty) in
         record {
-          machine = record { now = next; entries = m.entries; live = m.live; falling = m.falling; needs = m.needs };
-          shows = record { now = refl; entries = shows.entries; live = shows.live; falling = shows.falling; needs = shows.needs };
+          machine = record {
+            now = next;
+            entries = m.entries;
+            live = m.live;
+            falling = m.falling;
+            needs = m.needs;
+          };
+          shows = record {
+            now = refl;
+            entries = shows.entries;
+            live = shows.live;
+            falling = shows.falling;
+            needs = shows.needs;
+          };
           sound = record {
             held = loaded.sound.held;
             alive = loaded.sound.alive;
             apart = loaded.sound.apart;
             asked = loaded.sound.asked;
-            put = subst (λ l. AllByRecursion (λ d. rules.put_off d × ((t : S) × rules.does next d t)) (theory.puts l)) (sym none) tt;
+            put = subst (λ l. AllByRecursion
+                (λ d. rules.put_off d × ((t : S) × rules.does next d t)) (theory.puts l)) (sym none)
+                tt;
             once = loaded.sound.once;
             holders = loaded.sound.holders;
             fallers = loaded.sound.fallers;
@@ -107,103 +132,164 @@ module _ {S : Type 0} (answers : S → ℕ → Call → Reply → Type 0) (leave
 
     pub stand_loaded : (n : ℕ) (t : State S) → StandRow s n t → Loaded t
     stand_loaded n t row = subst Loaded (sym row.is) (record {
-      machine = record { now = m.now; entries = m.entries; live = n ∷ m.live; falling = m.falling; needs = m.needs };
-      shows = record { now = shows.now; entries = shows.entries; live = live_begun s m shows n; falling = falling_begun s m shows n (stand_fresh n row.above); needs = shows.needs };
+      machine = record {
+        now = m.now;
+        entries = m.entries;
+        live = n ∷ m.live;
+        falling = m.falling;
+        needs = m.needs;
+      };
+      shows = record {
+        now = shows.now;
+        entries = shows.entries;
+        live = live_begun s m shows n;
+        falling = falling_begun s m shows n (stand_fresh n row.above);
+        needs = shows.needs;
+      };
       sound = record {
         held = loaded.sound.held;
-        alive = weaker (λ e. Has m.live (rules.owner (journal.event e))) (λ e. Has (n ∷ m.live) (rules.owner (journal.event e))) (λ e h. inr h) m.entries loaded.sound.alive;
+        alive = weaker (λ e. Has m.live (rules.owner (journal.event e)))
+            (λ e. Has (n ∷ m.live) (rules.owner (journal.event e))) (λ e h. inr h) m.entries
+            loaded.sound.alive;
         apart = loaded.sound.apart;
         asked = loaded.sound.asked;
         put = loaded.sound.put;
         once = loaded.sound.once;
-        holders = weaker (λ k. Has m.live (rules.holder k)) (λ k. Has (n ∷ m.live) (rules.holder k)) (λ k h. inr h) m.needs loaded.sound.holders;
-        fallers = weaker (Has m.live) (Has (n ∷ m.live)) (λ k h. inr h) m.falling loaded.sound.fallers;
+        holders = weaker (λ k. Has m.live (rules.holder k)) (λ k. Has (n ∷ m.live) (rules.holder k))
+            (λ k h. inr h) m.needs loaded.sound.holders;
+        fallers = weaker (Has m.live) (Has (n ∷ m.live)) (λ k h. inr h) m.falling
+            loaded.sound.fallers;
       };
     })
 
-    module _ (belongs : S → ℕ → Call → Type 0) where
-      pub call_loaded : (n : ℕ) (e : Event) (t : State S) → HeldCallRow answers belongs need s n e t → Loaded t
+    module _ where
+      pub call_loaded : (n : ℕ) (e : Event) (t : State S) → HeldCallRow meaning s n e t → Loaded t
       call_loaded n e t row =
-          let added = hold n e.at (need e.call e.reply) in
-          let k : theory.State S (ℕ × Event) Hold = record { now = m.now; entries = m.entries ++ journal.Asked (n, e) ∷ []; live = m.live; falling = m.falling; needs = m.needs ++ added ∷ [] } in
+          let added = hold n e.at (need_of e.call e.reply) in
+          let k : theory.State S (ℕ × Event) Hold =
+          record {
+            now = m.now;
+            entries = m.entries ++ journal.Asked (n, e) ∷ [];
+            live = m.live;
+            falling = m.falling;
+            needs = m.needs ++ added ∷ [];
+          } in
           let step : loads.LoadRow rules m (journal.Asked (n, e)) k = record {
             live = (shows.live n).1 row.live;
-            clear = clear_here answers leaves makes need inverse s m shows n e.at (need e.call e.reply) row.clear;
-            fits = (row.asked.1, subst (λ l. AllByRecursion (Lacks (theory.left_of rules n l)) (left (n, e))) (sym shows.entries) (left_once s.entries n e row.once));
+            clear = clear_here meaning making s m shows n e.at (need_of e.call e.reply) row.clear;
+            fits = (
+              row.asked.1,
+              subst (λ l. AllByRecursion (Lacks (theory.left_of rules n l))
+                  (left (n, e))) (sym shows.entries) (left_once s.entries n e row.once),
+            );
             is = refl;
           } in
           subst Loaded (sym row.is) (record {
             machine = k;
             shows = record {
               now = shows.now;
-              entries = ap (λ l. l ++ journal.Asked (n, e) ∷ []) shows.entries ∙ sym (map-append (λ e. owned e.0 e.1) s.entries ((n, Asked e) ∷ []));
+              entries = ap (λ l. l ++ journal.Asked (n, e) ∷ []) shows.entries ∙
+                  sym (map-append (λ e. owned e.0 e.1) s.entries ((n, Asked e) ∷ []));
               live = shows.live;
               falling = shows.falling;
-              needs = needs_more answers leaves makes need inverse s m shows t.holds added row.holds;
+              needs = needs_more meaning making s m shows t.holds added row.holds;
             };
             sound = load_sound laws (journal.Asked (n, e)) m k loaded.sound step;
           })
 
-      pub later_loaded : (n at : ℕ) (call : Call) (t : State S) → HeldLaterRow answers belongs need s n at call t → Loaded t
+      pub later_loaded : (n at : ℕ) (call : Call) (t : State S) →
+          HeldLaterRow meaning s n at call t → Loaded t
       later_loaded n at call t row =
           let d : Event = record { at = at; call = call; reply = Reply.Done } in
-          let added = hold n at (need call Reply.Done) in
-          let k : theory.State S (ℕ × Event) Hold = record { now = m.now; entries = m.entries ++ journal.PutOff (n, d) ∷ []; live = m.live; falling = m.falling; needs = m.needs ++ added ∷ [] } in
+          let added = hold n at (need_of call Reply.Done) in
+          let k : theory.State S (ℕ × Event) Hold =
+          record {
+            now = m.now;
+            entries = m.entries ++ journal.PutOff (n, d) ∷ [];
+            live = m.live;
+            falling = m.falling;
+            needs = m.needs ++ added ∷ [];
+          } in
           let step : loads.LoadRow rules m (journal.PutOff (n, d)) k = record {
             live = (shows.live n).1 row.live;
-            clear = clear_here answers leaves makes need inverse s m shows n at (need call Reply.Done) row.clear;
-            fits = ((row.put_off.1, refl), (leaves s.now at call Reply.Done, subst (λ v. shape.Does answers leaves v at call Reply.Done (leaves s.now at call Reply.Done)) (sym shows.now) (row.ready, refl)));
+            clear = clear_here meaning making s m shows n at (need_of call Reply.Done) row.clear;
+            fits = (
+              (row.put_off.1, refl),
+              (
+                meaning.leaves s.now at call Reply.Done,
+                subst (λ v. shape.Does meaning v at call Reply.Done
+                    (meaning.leaves s.now at call Reply.Done)) (sym shows.now) (row.ready, refl),
+              ),
+            );
             is = refl;
           } in
           subst Loaded (sym row.is) (record {
             machine = k;
             shows = record {
               now = shows.now;
-              entries = ap (λ l. l ++ journal.PutOff (n, d) ∷ []) shows.entries ∙ sym (map-append (λ e. owned e.0 e.1) s.entries ((n, PutOff at call) ∷ []));
+              entries = ap (λ l. l ++ journal.PutOff (n, d) ∷ []) shows.entries ∙
+                  sym (map-append (λ e. owned e.0 e.1) s.entries ((n, PutOff at call) ∷ []));
               live = shows.live;
               falling = shows.falling;
-              needs = needs_more answers leaves makes need inverse s m shows t.holds added row.holds;
+              needs = needs_more meaning making s m shows t.holds added row.holds;
             };
             sound = load_sound laws (journal.PutOff (n, d)) m k loaded.sound step;
           })
 
-      pub step_loaded : (r : Record) (t : State S) → LiveSteps answers belongs need s r t → Loaded t
+      pub step_loaded : (r : Record) (t : State S) → LiveSteps meaning s r t → Loaded t
       step_loaded (Record.Begin n) t row = stand_loaded n t row
       step_loaded (Record.LiveCall c) t row = call_loaded c.number (event_of c) t row
       step_loaded (Record.LiveLater l) t row = later_loaded l.number l.collection l.call t row
       step_loaded other t row = absurd row
 
     -- With a content from which the live calls lead to what is there, it is sound.
-    pub loaded_settled : (c : S) → IsSettled answers leaves s c → IsSound answers leaves makes need inverse s
-    loaded_settled c settled = record { machine = m; shows = shows; sound = loaded.sound; content = c; settled = settled }
+    pub loaded_settled : (c : S) → IsSettled meaning s c → IsSound meaning making s
+    loaded_settled c settled = record {
+      machine = m;
+      shows = shows;
+      sound = loaded.sound;
+      content = c;
+      settled = settled;
+    }
 
     -- A client can ask for each of the live calls.
     pub calls_asked : AllByRecursion (λ e. Askable e.call) (calls_of (map (λ e. e.1) s.entries))
     calls_asked =
         subst (AllByRecursion (λ e. Askable e.call)) (calls_are s.entries)
-        (each_map (λ e. e.1) (λ e. Askable e.call) (journal.calls (all_owned s.entries)) (subst (λ l. AllByRecursion rules.asked (journal.calls l)) shows.entries loaded.sound.asked))
+        (each_map (λ e. e.1) (λ e. Askable e.call) (journal.calls (all_owned s.entries))
+        (subst (λ l. AllByRecursion rules.asked (journal.calls l)) shows.entries
+        loaded.sound.asked))
 
   -- ---- many records
 
-  module _ (belongs : S → ℕ → Call → Type 0) where
-    steps_loaded : (rs : List Record) (s t : State S) → Loaded s → Leads (LiveSteps answers belongs need) rs s t → Loaded t
+  module _ where
+    steps_loaded : (rs : List Record) (s t : State S) → Loaded s →
+        Leads (LiveSteps meaning) rs s t → Loaded t
     steps_loaded [] s t loaded w = subst Loaded w loaded
-    steps_loaded (r ∷ rs) s t loaded w = steps_loaded rs w.0 t (step_loaded s loaded belongs r w.0 w.1) w.2
+    steps_loaded (r ∷ rs) s t loaded w = steps_loaded rs w.0 t (step_loaded s loaded r w.0 w.1) w.2
 
-    -- What an image tells of is sound, where the live calls lead from some content to what the collections hold.
-    pub loaded_sound : (rs : List Record) (now : S) (wear : ℕ) (s : State S) (c : S) → Leads (LiveSteps answers belongs need) rs (resting now wear) s → IsSettled answers leaves s c → IsSound answers leaves makes need inverse s
-    loaded_sound rs now wear s c w settled = loaded_settled s (steps_loaded rs (resting now wear) s (resting_loaded now wear) w) c settled
+    -- What an image tells of is sound, where the live calls lead from some content to what the
+    -- collections hold.
+    pub loaded_sound : (rs : List Record) (now : S) (wear : ℕ) (s : State S) (c : S) →
+        Leads (LiveSteps meaning) rs (resting now wear) s → IsSettled meaning s c →
+        IsSound meaning making s
+    loaded_sound rs now wear s c w settled =
+        loaded_settled s (steps_loaded rs (resting now wear) s (resting_loaded now wear) w) c
+        settled
 
 -- ---- what the records say
 
 first_holds : (k n : ℕ) (ns : List ℕ) → Contains (k ∷ ns) n ↔ ((k ≡ n) ⊎ Contains ns n)
 first_holds k n ns = (
   λ h. ⊎_elim
-      (λ (one : Contains (k ∷ []) n). inl (⊎_elim (λ none. let below = none.1 in absurd (omega arith)) (λ same. same) (Contains-push_cases [] k n one)))
+      (λ (one : Contains (k ∷ []) n). inl
+      (⊎_elim (λ none. let below = none.1 in absurd (omega arith)) (λ same. same)
+      (Contains-push_cases [] k n one)))
       (λ (more : Contains ns n). inr more)
       (Contains-append_cases (k ∷ []) ns n h),
   λ h. ⊎_elim
-      (λ (same : k ≡ n). subst (Contains (k ∷ ns)) same (Contains-append_left (k ∷ []) ns k (Contains-push [] k)))
+      (λ (same : k ≡ n). subst (Contains (k ∷ ns)) same
+      (Contains-append_left (k ∷ []) ns k (Contains-push [] k)))
       (λ (more : Contains ns n). Contains-append_right (k ∷ []) ns n more)
       h,
 )
@@ -211,9 +297,9 @@ first_holds k n ns = (
 none_holds : (n : ℕ) → Contains [] n → ⊥
 none_holds n h = let below = h.1 in absurd (omega arith)
 
-module _ {S : Type 0} (answers : S → ℕ → Call → Reply → Type 0) (belongs : S → ℕ → Call → Type 0) (need : Call → Reply → Need) where
+module _ {S : Type 0} (meaning : Meaning S ℕ) where
   abbrev Tells : List Record → State S → State S → Type 0
-  Tells rs s t = Leads (LiveSteps answers belongs need) rs s t
+  Tells rs s t = Leads (LiveSteps meaning) rs s t
 
   -- What a record changes.
   record Adds (r : Record) (s t : State S) : Type 0 where
@@ -222,23 +308,31 @@ module _ {S : Type 0} (answers : S → ℕ → Call → Reply → Type 0) (belon
     wear : t.wear ≡ s.wear
     falling : ((n : ℕ) → Falls s.live n → ⊥) → (n : ℕ) → Falls t.live n → ⊥
 
-  adds : (r : Record) (s t : State S) → LiveSteps answers belongs need s r t → Adds r s t
+  adds : (r : Record) (s t : State S) → LiveSteps meaning s r t → Adds r s t
   adds (Record.Begin n) s t row = subst (Adds (Record.Begin n) s) (sym row.is) (record {
     entries = sym (append-nil s.entries);
     now = refl;
     wear = refl;
-    falling = λ none k falls. none k ((falls_fresh s.live n (λ lives. let below = row.above n lives in absurd (omega arith)) k).1 falls);
+    falling = λ none k falls. none k
+        ((falls_fresh s.live n (λ lives. let below = row.above n lives in absurd (omega arith)) k).1
+        falls);
   })
-  adds (Record.LiveCall c) s t row = subst (Adds (Record.LiveCall c) s) (sym row.is) (record { entries = refl; now = refl; wear = refl; falling = λ none. none })
-  adds (Record.LiveLater l) s t row = subst (Adds (Record.LiveLater l) s) (sym row.is) (record { entries = refl; now = refl; wear = refl; falling = λ none. none })
+  adds (Record.LiveCall c) s t row =
+      subst (Adds (Record.LiveCall c) s) (sym row.is)
+      (record { entries = refl; now = refl; wear = refl; falling = λ none. none })
+  adds (Record.LiveLater l) s t row =
+      subst (Adds (Record.LiveLater l) s) (sym row.is)
+      (record { entries = refl; now = refl; wear = refl; falling = λ none. none })
   adds other s t row = absurd row
 
-  first_entries : (r : Record) (rs : List Record) → owned_entries (r ∷ rs) ≡ owned_entries (r ∷ []) ++ owned_entries rs
+  first_entries : (r : Record) (rs : List Record) →
+      owned_entries (r ∷ rs) ≡ owned_entries (r ∷ []) ++ owned_entries rs
   first_entries (Record.LiveCall c) rs = refl
   first_entries (Record.LiveLater l) rs = refl
   first_entries r rs = refl
 
-  entries_told : (rs : List Record) (s t : State S) → Tells rs s t → t.entries ≡ s.entries ++ owned_entries rs
+  entries_told : (rs : List Record) (s t : State S) → Tells rs s t →
+      t.entries ≡ s.entries ++ owned_entries rs
   entries_told [] s t w = ap (λ (v : State S). v.entries) (sym w) ∙ sym (append-nil s.entries)
   entries_told (r ∷ rs) s t w =
       entries_told rs w.0 t w.2
@@ -248,47 +342,61 @@ module _ {S : Type 0} (answers : S → ℕ → Call → Reply → Type 0) (belon
 
   now_told : (rs : List Record) (s t : State S) → Tells rs s t → (t.now ≡ s.now) × (t.wear ≡ s.wear)
   now_told [] s t w = (ap (λ (v : State S). v.now) (sym w), ap (λ (v : State S). v.wear) (sym w))
-  now_told (r ∷ rs) s t w = let rest = now_told rs w.0 t w.2 in let one = adds r s w.0 w.1 in (rest.0 ∙ one.now, rest.1 ∙ one.wear)
+  now_told (r ∷ rs) s t w = let rest = now_told rs w.0 t w.2 in let one = adds r s w.0 w.1 in
+      (rest.0 ∙ one.now, rest.1 ∙ one.wear)
 
-  falling_told : (rs : List Record) (s t : State S) → ((n : ℕ) → Falls s.live n → ⊥) → Tells rs s t → (n : ℕ) → Falls t.live n → ⊥
+  falling_told : (rs : List Record) (s t : State S) → ((n : ℕ) → Falls s.live n → ⊥) →
+      Tells rs s t → (n : ℕ) → Falls t.live n → ⊥
   falling_told [] s t none w = subst (λ (v : State S). (n : ℕ) → Falls v.live n → ⊥) w none
   falling_told (r ∷ rs) s t none w = falling_told rs w.0 t ((adds r s w.0 w.1).falling none) w.2
 
   -- calls and what was put off leave who is live
-  same_live : (rs : List Record) (s t : State S) → AllByRecursion IsLiveRecord rs → Tells rs s t → t.live ≡ s.live
+  same_live : (rs : List Record) (s t : State S) → AllByRecursion IsLiveRecord rs → Tells rs s t →
+      t.live ≡ s.live
   same_live [] s t are w = ap (λ (v : State S). v.live) (sym w)
-  same_live (Record.LiveCall c ∷ rs) s t are w = same_live rs w.0 t are.1 w.2 ∙ ap (λ (v : State S). v.live) w.1.is
-  same_live (Record.LiveLater l ∷ rs) s t are w = same_live rs w.0 t are.1 w.2 ∙ ap (λ (v : State S). v.live) w.1.is
+  same_live (Record.LiveCall c ∷ rs) s t are w =
+      same_live rs w.0 t are.1 w.2 ∙ ap (λ (v : State S). v.live) w.1.is
+  same_live (Record.LiveLater l ∷ rs) s t are w =
+      same_live rs w.0 t are.1 w.2 ∙ ap (λ (v : State S). v.live) w.1.is
   same_live (r ∷ rs) s t are w = absurd are.0
 
-  lives_told : (numbers : List ℕ) (live : List Record) (s t : State S) → AllByRecursion IsLiveRecord live → Tells (map Record.Begin numbers ++ live) s t → (n : ℕ) → Lives t.live n ↔ (Lives s.live n ⊎ Contains numbers n)
+  lives_told : (numbers : List ℕ) (live : List Record) (s t : State S) →
+      AllByRecursion IsLiveRecord live → Tells (map Record.Begin numbers ++ live) s t → (n : ℕ) →
+      Lives t.live n ↔ (Lives s.live n ⊎ Contains numbers n)
   lives_told [] live s t are w n =
       let same = same_live live s t are w in (
         λ h. inl (subst (λ l. Lives l n) same h),
-        λ h. ⊎_elim (λ (l : Lives s.live n). subst (λ l. Lives l n) (sym same) l) (λ (none : Contains [] n). absurd (none_holds n none)) h,
+        λ h. ⊎_elim (λ (l : Lives s.live n). subst (λ l. Lives l n) (sym same) l)
+            (λ (none : Contains [] n). absurd (none_holds n none)) h,
       )
   lives_told (k ∷ ks) live s t are w n =
       let rest = lives_told ks live w.0 t are w.2 n in
       let is : w.0.live ≡ maps.insert s.live k false = ap (λ (v : State S). v.live) w.1.is in
       let more = lives_more s.live k false n in (
         λ h. ⊎_elim
-            (λ (l : Lives w.0.live n). ⊎_elim (λ (same : k ≡ n). inr ((first_holds k n ks).1 (inl same))) (λ (old : Lives s.live n). inl old) (more.1 (subst (λ l. Lives l n) is l)))
+            (λ (l : Lives w.0.live n). ⊎_elim
+            (λ (same : k ≡ n). inr ((first_holds k n ks).1 (inl same)))
+            (λ (old : Lives s.live n). inl old) (more.1 (subst (λ l. Lives l n) is l)))
             (λ (c : Contains ks n). inr ((first_holds k n ks).1 (inr c)))
             (rest.0 h),
         λ h. rest.1 (⊎_elim
             (λ (old : Lives s.live n). inl (subst (λ l. Lives l n) (sym is) (more.0 (inr old))))
-            (λ (c : Contains (k ∷ ks) n). ⊎_elim (λ (same : k ≡ n). inl (subst (λ l. Lives l n) (sym is) (more.0 (inl same)))) (λ (d : Contains ks n). inr d) ((first_holds k n ks).0 c))
+            (λ (c : Contains (k ∷ ks) n). ⊎_elim
+            (λ (same : k ≡ n). inl (subst (λ l. Lives l n) (sym is) (more.0 (inl same))))
+            (λ (d : Contains ks n). inr d) ((first_holds k n ks).0 c))
             h),
       )
 
-  -- What is asked for is what the records say; the collections and the wear stay; and no one is falling.
+  -- What is asked for is what the records say; the collections and the wear stay; and no one is
+  -- falling.
   pub record IsTold (content : S) (worn : ℕ) (rs : List Record) (s : State S) : Type 0 where
     pub entries : s.entries ≡ owned_entries rs
     pub now : s.now ≡ content
     pub wear : s.wear ≡ worn
     pub standing : (n : ℕ) → Falls s.live n → ⊥
 
-  pub loaded_entries : (rs : List Record) (now : S) (wear : ℕ) (s : State S) → Leads (LiveSteps answers belongs need) rs (resting now wear) s → IsTold now wear rs s
+  pub loaded_entries : (rs : List Record) (now : S) (wear : ℕ) (s : State S) →
+      Leads (LiveSteps meaning) rs (resting now wear) s → IsTold now wear rs s
   loaded_entries rs now wear s w =
       let same = now_told rs (resting now wear) s w in
       record {
@@ -299,11 +407,15 @@ module _ {S : Type 0} (answers : S → ℕ → Call → Reply → Type 0) (belon
       }
 
   -- Those are live that the records name.
-  pub loaded_live : (numbers : List ℕ) (live : List Record) (now : S) (wear : ℕ) (s : State S) → AllByRecursion IsLiveRecord live → Leads (LiveSteps answers belongs need) (map Record.Begin numbers ++ live) (resting now wear) s →
+  pub loaded_live : (numbers : List ℕ) (live : List Record) (now : S) (wear : ℕ) (s : State S) →
+      AllByRecursion IsLiveRecord live →
+      Leads (LiveSteps meaning) (map Record.Begin numbers ++ live) (resting now wear) s →
       (n : ℕ) → Lives s.live n ↔ Contains numbers n
   loaded_live numbers live now wear s are w n =
-      let told = lives_told numbers live (resting now wear) s are w n in
-      (λ h. ⊎_elim (λ (none : Lives maps.empty n). absurd (nobody n none)) (λ c. c) (told.0 h), λ c. told.1 (inr c))
+      let told = lives_told numbers live (resting now wear) s are w n in (
+        λ h. ⊎_elim (λ (none : Lives maps.empty n). absurd (nobody n none)) (λ c. c) (told.0 h),
+        λ c. told.1 (inr c),
+      )
 
 -- ---- the limits
 
@@ -312,15 +424,16 @@ calls_fewer [] = omega arith
 calls_fewer ((n, Asked e) ∷ es) = let fewer = calls_fewer es in omega arith
 calls_fewer ((n, PutOff at c) ∷ es) = let fewer = calls_fewer es in omega arith
 
-module _ {S : Type 0} (answers : S → ℕ → Call → Reply → Type 0) (leaves : S → ℕ → Call → Reply → S) (makes : S → List ℕ → Kind → S → Type 0) (need : Call → Reply → Need) (inverse : Call → Reply → Option Call)
-    (names : S → List (List ℕ)) (within : S → ℕ → Type 0) (short : S → Type 0) (laws : BookLaws answers leaves makes need inverse names within short) where
+module _ {S : Type 0} (meaning : Meaning S ℕ) (making : Making S)
+    (short : S → Type 0) (laws : BookLaws meaning making short) where
   abbrev Told : State S → Type 0
-  Told s = IsLoaded answers leaves makes need inverse s
+  Told s = IsLoaded meaning making s
 
   abbrev pub Upheld : State S → Type 0
-  Upheld s = IsUpheld names within short Told s
+  Upheld s = IsUpheld meaning making short Told s
 
-  pub resting_told : (now : S) (wear : ℕ) → within now wear → wear ≤ 2 ^ 61 + 65536 → length (names now) ≤ 256 → short now → Upheld (resting now wear)
+  pub resting_told : (now : S) (wear : ℕ) → meaning.within now wear → wear ≤ 2 ^ 61 + 65536 →
+      length (making.names now) ≤ 256 → short now → Upheld (resting now wear)
   resting_told now wear reached unworn few spells =
       let none = maps.len-empty nat_cmp Bool in
       record {
@@ -332,11 +445,12 @@ module _ {S : Type 0} (answers : S → ℕ → Call → Reply → Type 0) (leave
         numbers = λ n lives. absurd (nobody n lives);
         spells = spells;
         asked = tt;
-        holds = resting_loaded answers leaves makes need inverse laws.rules now wear;
+        holds = resting_loaded meaning making laws.rules now wear;
       }
 
   module _ (s : State S) (upheld : Upheld s) where
-    pub read_upheld : (next : S) → s.live ≡ maps.empty → length (names next) ≤ 256 → within next s.wear → short next → Upheld (record s { now = next })
+    pub read_upheld : (next : S) → s.live ≡ maps.empty → length (making.names next) ≤ 256 →
+        meaning.within next s.wear → short next → Upheld (record s { now = next })
     read_upheld next empty few reached spells = record {
       few_live = upheld.few_live;
       few_calls = upheld.few_calls;
@@ -346,16 +460,19 @@ module _ {S : Type 0} (answers : S → ℕ → Call → Reply → Type 0) (leave
       numbers = upheld.numbers;
       spells = spells;
       asked = upheld.asked;
-      holds = read_loaded answers leaves makes need inverse laws.rules s upheld.holds next empty;
+      holds = read_loaded meaning making laws.rules s upheld.holds next empty;
     }
 
-    stood_numbers : (n : ℕ) → IsNumber n → (k : ℕ) → Lives (maps.insert s.live n false) k → IsNumber k
+    stood_numbers : (n : ℕ) → IsNumber n → (k : ℕ) → Lives (maps.insert s.live n false) k →
+        IsNumber k
     stood_numbers n number k lives =
-        ⊎_elim (λ (same : n ≡ k). subst IsNumber same number) (λ (old : Lives s.live k). upheld.numbers k old) ((lives_more s.live n false k).1 lives)
+        ⊎_elim (λ (same : n ≡ k). subst IsNumber same number)
+        (λ (old : Lives s.live k). upheld.numbers k old) ((lives_more s.live n false k).1 lives)
 
     pub stand_upheld : (n : ℕ) (t : State S) → StandRow s n t → Upheld t
     stand_upheld n t row =
-        let more = len_begun s.live n (stand_fresh answers leaves makes need inverse laws.rules s upheld.holds n row.above) in
+        let more = len_begun s.live n (stand_fresh meaning making laws.rules s upheld.holds n
+        row.above) in
         let few = row.few in
         subst Upheld (sym row.is) (record {
           few_live = omega arith;
@@ -366,11 +483,12 @@ module _ {S : Type 0} (answers : S → ℕ → Call → Reply → Type 0) (leave
           numbers = stood_numbers n row.number;
           spells = upheld.spells;
           asked = upheld.asked;
-          holds = subst Told row.is (stand_loaded answers leaves makes need inverse laws.rules s upheld.holds n t row);
+          holds = subst Told row.is (stand_loaded meaning making laws.rules s upheld.holds n t row);
         })
 
-    module _ (belongs : S → ℕ → Call → Type 0) where
-      pub call_upheld : (n : ℕ) (e : Event) (t : State S) → Pairs e.call e.reply → IsShortReply e.reply → HeldCallRow answers belongs need s n e t → Upheld t
+    module _ where
+      pub call_upheld : (n : ℕ) (e : Event) (t : State S) → Pairs e.call e.reply →
+          IsShortReply e.reply → HeldCallRow meaning s n e t → Upheld t
       call_upheld n e t pairs short_reply row =
           let room = row.room in
           let longer = pushed_length s.entries (n, Asked e) in
@@ -382,11 +500,14 @@ module _ {S : Type 0} (answers : S → ℕ → Call → Reply → Type 0) (leave
             unworn = omega arith;
             numbers = upheld.numbers;
             spells = upheld.spells;
-            asked = each_append (λ e. IsAskedEntry e.1) s.entries ((n, Asked e) ∷ []) upheld.asked ((row.asked.1, row.asked.2, pairs, short_reply), tt);
-            holds = subst Told row.is (call_loaded answers leaves makes need inverse laws.rules s upheld.holds belongs n e t row);
+            asked = each_append (λ e. IsAskedEntry e.1) s.entries ((n, Asked e) ∷ []) upheld.asked
+                ((row.asked.1, row.asked.2, pairs, short_reply), tt);
+            holds = subst Told row.is (call_loaded meaning making laws.rules s upheld.holds n e t
+                row);
           })
 
-      pub later_upheld : (n at : ℕ) (call : Call) (t : State S) → HeldLaterRow answers belongs need s n at call t → Upheld t
+      pub later_upheld : (n at : ℕ) (call : Call) (t : State S) →
+          HeldLaterRow meaning s n at call t → Upheld t
       later_upheld n at call t row =
           let room = row.room in
           let longer = pushed_length s.entries (n, PutOff at call) in
@@ -398,19 +519,28 @@ module _ {S : Type 0} (answers : S → ℕ → Call → Reply → Type 0) (leave
             unworn = omega arith;
             numbers = upheld.numbers;
             spells = upheld.spells;
-            asked = each_append (λ e. IsAskedEntry e.1) s.entries ((n, PutOff at call) ∷ []) upheld.asked (row.put_off.1, tt);
-            holds = subst Told row.is (later_loaded answers leaves makes need inverse laws.rules s upheld.holds belongs n at call t row);
+            asked = each_append (λ e. IsAskedEntry e.1) s.entries ((n, PutOff at call) ∷ [])
+                upheld.asked (row.put_off.1, tt);
+            holds = subst Told row.is (later_loaded meaning making laws.rules s upheld.holds n
+                at call t row);
           })
 
     -- There is room for taking all live calls back.
-    pub room_back : HasRoomBack within (calls_of (map (λ e. e.1) s.entries)) s.now
+    pub room_back : HasRoomBack meaning (calls_of (map (λ e. e.1) s.entries)) s.now
     room_back =
         let fewer = calls_fewer s.entries in
         let unworn = upheld.unworn in
-        record { asked = calls_asked answers leaves makes need inverse laws.rules s upheld.holds; wear = s.wear; reached = upheld.reached; room = omega arith }
+        record {
+          asked = calls_asked meaning making laws.rules s upheld.holds;
+          wear = s.wear;
+          reached = upheld.reached;
+          room = omega arith;
+        }
 
-    -- With a content from which the live calls lead to what is there, it holds of the state what holds of a machine's.
-    pub settled_upheld : (c : S) → IsSettled answers leaves s c → IsUpheld names within short (IsSound answers leaves makes need inverse) s
+    -- With a content from which the live calls lead to what is there, it holds of the state what
+    -- holds of a machine's.
+    pub settled_upheld : (c : S) → IsSettled meaning s c →
+        IsUpheld meaning making short (IsSound meaning making) s
     settled_upheld c settled = record {
       few_live = upheld.few_live;
       few_calls = upheld.few_calls;
@@ -420,21 +550,34 @@ module _ {S : Type 0} (answers : S → ℕ → Call → Reply → Type 0) (leave
       numbers = upheld.numbers;
       spells = upheld.spells;
       asked = upheld.asked;
-      holds = loaded_settled answers leaves makes need inverse laws.rules s upheld.holds c settled;
+      holds = loaded_settled meaning making laws.rules s upheld.holds c settled;
     }
 
   -- Whatever the collections answered to a reading, it holds of the state still.
-  module _ (collections : S → List Collection) (names_as_told : NamesAsTold collections names) (within_as_told : WithinAsTold collections within)
-      (short_loads : (s t : S) (name : List ℕ) (kind : Kind) (items : List Item) → Loads (collections s) name kind items (collections t) → AllByRecursion IsShortItem items → short s → short t)
-      (now : S) (needs : Holdings) (log : Log) (wear : ℕ) (name : List ℕ) (kind : Kind) (items : List Item) (next : S) where
-    as_before : Upheld (state_of now needs log wear) → next ≡ now → Upheld (state_of next needs log wear)
+  module _ (collections : S → List Collection) (told : records.Tells meaning making collections)
+      (short_loads : (s t : S) (name : List ℕ) (kind : Kind) (items : List Item) →
+      Loads (collections s) name kind items (collections t) → AllByRecursion IsShortItem items →
+      short s → short t)
+      (now : S) (needs : Holdings) (log : Log) (wear : ℕ) (name : List ℕ) (kind : Kind)
+      (items : List Item) (next : S) where
+    as_before : Upheld (state_of now needs log wear) → next ≡ now →
+        Upheld (state_of next needs log wear)
     as_before upheld same = subst (λ v. Upheld (state_of v needs log wear)) (sym same) upheld
 
-    pub read_kept : (r : Result Bool Refusal) → Upheld (state_of now needs log wear) → log.live ≡ maps.empty → AllByRecursion IsShortItem items → AllByRecursion (IsReached wear) items → IfOk r (λ loaded. IsNew (names now) name) →
-        IfOk r (λ loaded. IsTrue loaded → Loads (collections now) name kind items (collections next)) → IfOk r (λ loaded. loaded ≡ false → (next ≡ now) × (AreItems kind items → ⊥)) → OnErr r (next ≡ now) → Upheld (state_of next needs log wear)
+    pub read_kept : (r : Result Bool Refusal) → Upheld (state_of now needs log wear) →
+        log.live ≡ maps.empty → AllByRecursion IsShortItem items →
+        AllByRecursion (IsReached wear) items → IfOk r (λ loaded. IsNew (making.names now) name) →
+        IfOk r (λ loaded. IsTrue loaded →
+        Loads (collections now) name kind items (collections next)) →
+        IfOk r (λ loaded. loaded ≡ false → (next ≡ now) × (AreItems kind items → ⊥)) →
+        OnErr r (next ≡ now) → Upheld (state_of next needs log wear)
     read_kept (Ok true) upheld empty short_items reached new loads not same =
-        read_upheld (state_of now needs log wear) upheld next empty (read_names collections names within names_as_told within_as_told now needs log wear name kind items next new (loads refl))
-        ((within_as_told next wear).1 (within_loaded wear (collections now) (collections next) name kind items (loads refl) reached ((within_as_told now wear).0 upheld.reached)))
+        read_upheld (state_of now needs log wear) upheld next empty
+        (read_names collections meaning making told now needs log wear name kind items next new
+        (loads refl))
+        ((told.within next wear).1 (within_loaded wear (collections now) (collections next) name
+        kind items (loads refl) reached ((told.within now wear).0 upheld.reached)))
         (short_loads now next name kind items (loads refl) short_items upheld.spells)
-    read_kept (Ok false) upheld empty short_items reached new loads not same = as_before upheld (not refl).0
+    read_kept (Ok false) upheld empty short_items reached new loads not same =
+        as_before upheld (not refl).0
     read_kept (Err e) upheld empty short_items reached new loads not same = as_before upheld same

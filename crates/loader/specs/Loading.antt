@@ -1,5 +1,7 @@
--- The state that an image tells of, one record after another: its collections, the transactions that were live, and what these had asked for.
-use Rattle.std.specs.Prelude.{◌≡◌, ℕ, ◌+◌, ◌<◌, ◌≤◌, ◌^◌, Bool, true, false, Result, Ok, Err, List, [], ◌∷◌, ◌++◌, length, map}
+-- The state that an image tells of, one record after another: its collections, the transactions
+-- that were live, and what these had asked for.
+use Rattle.std.specs.Prelude.{◌≡◌, ℕ, ◌+◌, ◌<◌, ◌≤◌, ◌^◌, Bool, true, false, Result, Ok, Err, List}
+use Rattle.std.specs.Prelude.{[], ◌∷◌, ◌++◌, length, map}
 use Rattle.std.specs.List.{AllByRecursion}
 use Rattle.std.specs.FinMap as maps
 use Rattle.calls.specs.declared.kind.Kind.{Kind}
@@ -9,26 +11,29 @@ use Rattle.calls.specs.declared.reply.Reply.{Reply}
 use Rattle.calls.specs.declared.need.Need.{Need}
 use Rattle.calls.specs.Contents.{Collection}
 use Rattle.calls.specs.declared.refusal.Refusal.{Refusal}
-use Rattle.calls.specs.Inverses.{Askable}
+use Rattle.calls.specs.Rules.{Askable, need_of}
 use Rattle.calls.specs.Transactions.{Event, Asked, PutOff, Leads, calls_of, own}
 use Rattle.abstract_locks.specs.Holds.{hold, IsClear, IsAdded}
 use Rattle.undo_log.specs.declared.logged.Owned.{Owned}
 use Rattle.undo_log.specs.Entries.{owned_entry}
 use Rattle.undo_log.specs.Logs.{Statuses, Lives}
-use Rattle.boosted.specs.Shape.{CanAsk, CanDefer}
-use Rattle.catalog.specs.Making.{IsNew}
-use Rattle.catalog.specs.Loading.{Loads}
+use Rattle.boosted.specs.Meaning.{CanAsk, CanDefer, Meaning}
+use Rattle.catalog.specs.Making.{IsNew, Making}
+use Rattle.catalog.specs.Holdings.{Loads}
 use Rattle.record_format.specs.declared.record.Record.{Record}
 use Rattle.record_format.specs.Acts.{event_of}
 use Rattle.record_format.specs.Records.{IsNumber}
 use Rattle.machine.specs.Machine.{State, Does, GoesTwice}
 
--- A collection of the name and the kind, which has these items, comes to the end, where there are fewer than 256; the wear can reach its content.
-pub record LoadRow {S : Type 0} (collections : S → List Collection) (names : S → List (List ℕ)) (within : S → ℕ → Type 0) (s : State S) (name : List ℕ) (kind : Kind) (items : List Item) (t : State S) : Type 0 where
-  pub new : IsNew (names s.now) name
+-- A collection of the name and the kind, which has these items, comes to the end, where there are
+-- fewer than 256; the wear can reach its content.
+pub record LoadRow {S : Type 0} (collections : S → List Collection) (meaning : Meaning S ℕ)
+    (making : Making S) (s : State S) (name : List ℕ) (kind : Kind) (items : List Item)
+    (t : State S) : Type 0 where
+  pub new : IsNew (making.names s.now) name
   pub next : S
   pub loads : Loads (collections s.now) name kind items (collections next)
-  pub reached : within next s.wear
+  pub reached : meaning.within next s.wear
   pub is : t ≡ record s { now = next }
 
 -- A transaction is live: its number is above those before it.
@@ -42,27 +47,28 @@ pub record StandRow {S : Type 0} (s : State S) (n : ℕ) (t : State S) : Type 0 
 abbrev pub HasRoomToHold : {S : Type 0} → State S → Type 0
 HasRoomToHold s = s.wear + (length s.entries + 1) ≤ 2 ^ 61 + 65536
 
-module _ {S : Type 0} (answers : S → ℕ → Call → Reply → Type 0) (belongs : S → ℕ → Call → Type 0) (need : Call → Reply → Need) where
-  -- A call of a live transaction, which the collections show as done: its need is held beside those of the others.
+module _ {S : Type 0} (meaning : Meaning S ℕ) where
+  -- A call of a live transaction, which the collections show as done: its need is held beside those
+  -- of the others.
   pub record HeldCallRow (s : State S) (n : ℕ) (e : Event) (t : State S) : Type 0 where
     pub live : Lives s.live n
-    pub asked : CanAsk belongs s.now e.at e.call
+    pub asked : CanAsk meaning s.now e.at e.call
     pub few : length (own n s.entries) < 1024
     pub once : GoesTwice s.entries n e → ⊥
-    pub clear : IsClear s.holds n e.at (need e.call e.reply)
+    pub clear : IsClear s.holds n e.at (need_of e.call e.reply)
     pub room : HasRoomToHold s
-    pub holds : IsAdded s.holds t.holds (hold n e.at (need e.call e.reply))
+    pub holds : IsAdded s.holds t.holds (hold n e.at (need_of e.call e.reply))
     pub is : t ≡ record s { entries = s.entries ++ (n, Asked e) ∷ []; holds = t.holds }
 
   -- A call that a live transaction put off to its commit. It would get the reply Done now.
   pub record HeldLaterRow (s : State S) (n at : ℕ) (call : Call) (t : State S) : Type 0 where
     pub live : Lives s.live n
-    pub put_off : CanDefer belongs s.now at call
+    pub put_off : CanDefer meaning s.now at call
     pub few : length (own n s.entries) < 1024
-    pub ready : answers s.now at call Reply.Done
-    pub clear : IsClear s.holds n at (need call Reply.Done)
+    pub ready : meaning.answers s.now at call Reply.Done
+    pub clear : IsClear s.holds n at (need_of call Reply.Done)
     pub room : HasRoomToHold s
-    pub holds : IsAdded s.holds t.holds (hold n at (need call Reply.Done))
+    pub holds : IsAdded s.holds t.holds (hold n at (need_of call Reply.Done))
     pub is : t ≡ record s { entries = s.entries ++ (n, PutOff at call) ∷ []; holds = t.holds }
 
   -- The record of an image leads from one state to another: what it asks, and what it changes.
@@ -75,19 +81,19 @@ module _ {S : Type 0} (answers : S → ℕ → Call → Reply → Type 0) (belon
   -- A live transaction can have made the call, which the collections show as done.
   pub record CanHoldCall (s : State S) (n : ℕ) (e : Event) : Type 0 where
     pub live : Lives s.live n
-    pub asked : CanAsk belongs s.now e.at e.call
+    pub asked : CanAsk meaning s.now e.at e.call
     pub few : length (own n s.entries) < 1024
     pub once : GoesTwice s.entries n e → ⊥
-    pub clear : IsClear s.holds n e.at (need e.call e.reply)
+    pub clear : IsClear s.holds n e.at (need_of e.call e.reply)
     pub room : HasRoomToHold s
 
   -- A live transaction can have put the call off.
   pub record CanHoldLater (s : State S) (n at : ℕ) (call : Call) : Type 0 where
     pub live : Lives s.live n
-    pub put_off : CanDefer belongs s.now at call
+    pub put_off : CanDefer meaning s.now at call
     pub few : length (own n s.entries) < 1024
-    pub ready : answers s.now at call Reply.Done
-    pub clear : IsClear s.holds n at (need call Reply.Done)
+    pub ready : meaning.answers s.now at call Reply.Done
+    pub clear : IsClear s.holds n at (need_of call Reply.Done)
     pub room : HasRoomToHold s
 
 -- The number is the greatest that is live, and 0 where none is.
@@ -95,8 +101,10 @@ pub record IsLast (live : Statuses) (last : ℕ) : Type 0 where
   pub upto : (m : ℕ) → Lives live m → m ≤ last
   pub there : 0 < last → Lives live last
 
--- What reading a collection answers: it was read; or none can be read so from there, and nothing changed; or there was no memory, and nothing changed.
-abbrev pub LoadAnswers : {S : Type 0} → (loads : State S → Type 0) → State S → Result Bool Refusal → State S → Type 0
+-- What reading a collection answers: it was read; or none can be read so from there, and nothing
+-- changed; or there was no memory, and nothing changed.
+abbrev pub LoadAnswers : {S : Type 0} → (loads : State S → Type 0) → State S → Result Bool Refusal →
+    State S → Type 0
 LoadAnswers loads s (Ok true) t = loads t
 LoadAnswers {S} loads s (Ok false) t = (t ≡ s) × ((v : State S) → loads v → ⊥)
 LoadAnswers loads s (Err Refusal.NoMemory) t = t ≡ s
@@ -109,25 +117,27 @@ abbrev pub calls_in : List Owned → List Event
 calls_in os = calls_of (map (λ e. e.1) (map owned_entry os))
 
 -- A client can ask for the calls, and the wear has room for taking them back.
-pub record HasRoomBack {S : Type 0} (within : S → ℕ → Type 0) (es : List Event) (s : S) : Type 0 where
+pub record HasRoomBack {S : Type 0} (meaning : Meaning S ℕ) (es : List Event) (s : S) : Type 0 where
   pub asked : AllByRecursion (λ e. Askable e.call) es
   pub wear : ℕ
-  pub reached : within s wear
+  pub reached : meaning.within s wear
   pub room : wear + length es ≤ 2 ^ 61 + 65536
 
-module _ {S : Type 0} (answers : S → ℕ → Call → Reply → Type 0) (leaves : S → ℕ → Call → Reply → S) where
+module _ {S : Type 0} (meaning : Meaning S ℕ) where
   -- The calls lead from the content to one from which there is room for taking them back.
-  pub record HasLed (within : S → ℕ → Type 0) (es : List Event) (s : S) : Type 0 where
+  pub record HasLed (es : List Event) (s : S) : Type 0 where
     pub next : S
-    pub runs : Leads (Does answers leaves) es s next
-    pub room : HasRoomBack within es next
+    pub runs : Leads (Does meaning) es s next
+    pub room : HasRoomBack meaning es next
 
-  -- What is told once the calls were to be taken back from s: they led there from t; or they lead there from nowhere.
+  -- What is told once the calls were to be taken back from s: they led there from t; or they lead
+  -- there from nowhere.
   abbrev pub TakenBack : List Event → Bool → (s t : S) → Type 0
-  TakenBack es true s t = Leads (Does answers leaves) es t s
-  TakenBack es false s t = (u : S) → Leads (Does answers leaves) es u s → ⊥
+  TakenBack es true s t = Leads (Does meaning) es t s
+  TakenBack es false s t = (u : S) → Leads (Does meaning) es u s → ⊥
 
-  -- What is told once they were to be taken back and made again: the content is s as before, and they led there; or they lead there from nowhere.
+  -- What is told once they were to be taken back and made again: the content is s as before, and
+  -- they led there; or they lead there from nowhere.
   abbrev pub DoneAgain : List Event → Bool → (s t : S) → Type 0
-  DoneAgain es true s t = (t ≡ s) × ((u : S) × Leads (Does answers leaves) es u s)
-  DoneAgain es false s t = (u : S) → Leads (Does answers leaves) es u s → ⊥
+  DoneAgain es true s t = (t ≡ s) × ((u : S) × Leads (Does meaning) es u s)
+  DoneAgain es false s t = (u : S) → Leads (Does meaning) es u s → ⊥

@@ -1,33 +1,34 @@
-// Reading an image into a machine: its collections, the transactions that were live, and what these had asked for.
-ghost use Rattle.std.specs.Prelude.{◌≡◌, ◌↔◌, ℕ, ◌+◌, ◌<◌, ◌≤◌, ◌^◌, None, IsTrue, IfOk, IfSome, IfNone, OnOk, OnErr, IsOkUnless, Ok, length};
+// Reading an image into a machine: its collections, the transactions that were live, and what these
+// had asked for.
+ghost use Rattle.std.specs.Prelude.{◌≡◌, ◌↔◌, ℕ, ◌+◌, ◌<◌, ◌≤◌, ◌^◌, None, IsTrue, IfOk, IfSome};
+ghost use Rattle.std.specs.Prelude.{IfNone, OnOk, OnErr, IsOkUnless, Ok, length};
 ghost use Rattle.std.specs.FinMap as maps;
 ghost use Rattle.std.specs.List.{AllByRecursion};
-ghost use Rattle.calls.specs.Transactions.{own};
 ghost use Rattle.calls.specs.declared.reply.Reply.{Reply};
 ghost use Rattle.calls.specs.declared.refusal.Refusal.{Refusal};
 ghost use Rattle.undo_log.specs.Entries as logs;
-ghost use Rattle.undo_log.specs.Logs.{Lives};
-ghost use Rattle.boosted.specs.Shape.{CanAsk};
+ghost use Rattle.boosted.specs.Meaning.{CanAsk};
 ghost use Rattle.abstract_locks.specs.Holds.{IsClear};
 ghost use Rattle.record_format.specs.declared.record.Record.{Record};
 ghost use Rattle.record_format.specs.Acts.{event_of};
 ghost use Rattle.record_format.specs.Reached.{IsReached};
-ghost use Rattle.record_format.specs.Records.{IsRecord, IsNumber, Pairs};
+ghost use Rattle.calls.specs.Rules.{Pairs, need_of};
+ghost use Rattle.record_format.specs.Records.{IsRecord, IsNumber};
 ghost use Rattle.record_format.specs.Short.{AreShort, IsShortItem, IsShortReply};
 ghost use Rattle.machine.specs.Machine.{GoesTwice, IsSettled};
 ghost use Rattle.machine.specs.Machines.{resting, StepAnswers, RepeatAnswers};
-ghost use Rattle.loader.specs.Loading.{LoadRow, LoadAnswers, StandRow, HasRoomToHold, CanHoldCall, HeldCallRow, CanHoldLater, HeldLaterRow, LiveSteps};
+ghost use Rattle.loader.specs.Loading.{LoadRow, LoadAnswers, CanHoldCall, HeldCallRow};
+ghost use Rattle.loader.specs.Loading.{CanHoldLater, HeldLaterRow, LiveSteps};
 
 use crate::redoing::redo;
-use abstract_locks::NeedTable;
-use calls::limits::{MAX_CALLS, MAX_LIVE, MAX_WEAR};
-use calls::{Call, Item, Kind, Need, Refusal, Reply};
+use calls::limits::MAX_LIVE;
+use calls::{Item, Kind, Need, Refusal, Reply};
 use catalog::Parts;
-use machine::{Machine, is_going, unmade};
+use machine::{Ledger, Machine, unmade};
 use records::{CallRecord, Coded, LaterRecord, Record, is_reached};
 use std::alloc::Global;
 use std::marker::Model;
-use undo_log::{Later, Live, Logged};
+use undo_log::{Later, Logged};
 
 /// An image that is read, one record after another, and becomes a machine. Each record is tested.
 ///
@@ -35,8 +36,7 @@ use undo_log::{Later, Live, Logged};
 #[derive(Drop)]
 pub struct Loader<B: Parts + Coded> {
     parts: B,
-    needs: NeedTable,
-    live: Live,
+    ledger: Ledger,
     wear: u64,
     // the greatest number that is live, 0 where none is
     last: u64,
@@ -47,7 +47,7 @@ impl<B: Parts + Coded> Model for Loader<B> {
     ghost use Rattle.machine.specs.Machines.{IsUpheld};
     ghost use Rattle.loader.specs.Loading.{IsLast};
     ghost use Rattle.machine.specs.Sound.{IsLoaded};
-    ghost use Rattle.machine.specs.Views.{state_of};
+    ghost use Rattle.machine.specs.Views.{state_with};
     ghost use Rattle.record_format.specs.Short.{AreShort};
     ghost use Rattle.std.specs.FinMap as maps;
     ghost use Rattle.std.specs.Ordering.{nat_cmp};
@@ -57,25 +57,26 @@ impl<B: Parts + Coded> Model for Loader<B> {
 
     ghost coded = { Prim.hlevel (codes, maps.code {R = nat_cmp} coded_ℕ coded_bool) };
 
-    ghost view = { λ l. state_of l.parts l.needs l.live l.wear };
+    ghost view = { λ l. state_with l.parts l.ledger l.wear };
 
-    ghost invariant = { λ l. IsUpheld B.names B.within (λ s. AreShort (B.collections s)) (IsLoaded B.answers B.leaves B.makes B.need B.inverse)
-        (state_of l.parts l.needs l.live l.wear) × IsLast l.live.live l.last };
+    ghost invariant = { λ l. IsUpheld B.meaning B.making (λ s. AreShort (B.collections s))
+        (IsLoaded B.meaning B.making)
+        (state_with l.parts l.ledger l.wear) × IsLast l.ledger.live l.last };
 }
 
 impl<B: Parts + Coded> Loader<B> {
-    /// The collections with no live transaction. `wear` is what they are within. It takes no memory.
+    /// The collections with no live transaction. `wear` is what they are within. It takes no
+    /// memory.
     pub fn new(alloc: Global, parts: B, wear: u64) -> Self
-        requires within { B.within parts wear }
+        requires within { B.meaning.within parts wear }
         requires worn { wear ≤ 2 ^ 61 + 65536 }
         requires short { AreShort (B.collections parts) }
-        requires few { length (B.names parts) ≤ 256 }
+        requires few { length (B.making.names parts) ≤ 256 }
         ensures { result ≡ resting parts wear }
     {
         Self {
             parts,
-            needs: NeedTable::new(alloc),
-            live: Live::new(alloc),
+            ledger: Ledger::new(alloc),
             wear,
             last: 0,
         }
@@ -95,15 +96,18 @@ impl<B: Parts + Coded> Loader<B> {
         self.wear
     }
 
-    /// Puts a collection of the name, the kind and these items at the end, where the wear reaches it, and answers true;
-    /// false, with nothing changed, where that cannot be: the name is none or is taken, there are 256, no collection of
+    /// Puts a collection of the name, the kind and these items at the end, where the wear reaches
+    /// it, and answers true;
+    /// false, with nothing changed, where that cannot be: the name is none or is taken, there are
+    /// 256, no collection of
     /// the kind has these items in this order, or the wear does not reach one of them.
     ///
     /// NoMemory leaves all as before.
     pub fn load(&mut self, name: &str, kind: Kind, items: Vec<Item>) -> Result<bool, Refusal>
         requires none_live { self.old.live ≡ maps.empty }
         requires short { AllByRecursion IsShortItem items.items }
-        ensures { LoadAnswers (LoadRow B.collections B.names B.within self.old name.now kind items.items) self.old result self.new }
+        ensures { LoadAnswers (LoadRow B.collections B.meaning B.making self.old name.now kind
+            items.items) self.old result self.new }
     {
         if !are_reached(items.as_slice(), self.wear) {
             return Ok(false);
@@ -114,44 +118,47 @@ impl<B: Parts + Coded> Loader<B> {
         }
     }
 
-    /// Takes what the record tells of a live transaction, where it can be so, and answers true; false, with nothing
+    /// Takes what the record tells of a live transaction, where it can be so, and answers true;
+    /// false, with nothing
     /// changed, where it cannot.
     ///
     /// NoMemory leaves all as before.
     pub fn hold(&mut self, entry: Record) -> Result<bool, Refusal>
         requires { IsRecord None entry }
-        ensures { RepeatAnswers (LiveSteps B.answers B.belongs B.need) self.old entry result self.new }
+        ensures { RepeatAnswers (LiveSteps B.meaning) self.old entry result self.new }
     {
         self.step(entry)
     }
 
-    /// The machine of what was told, where the live calls lead from some content to what the collections hold; none where
+    /// The machine of what was told, where the live calls lead from some content to what the
+    /// collections hold; none where
     /// they lead there from nowhere.
     ///
-    /// NoMemory for values, which are copied one at a time, and for what the collections need to take them.
+    /// NoMemory for values, which are copied one at a time, and for what the collections need to
+    /// take them.
     pub fn finish(self) -> Result<Option<Machine<B>>, Refusal>
-        ensures machine { IfOk result (λ m. IfSome m (λ machine. (machine ≡ self) × ((c : B) × IsSettled B.answers B.leaves self c))) }
-        ensures none { IfOk result (λ m. IfNone m ((c : B) → IsSettled B.answers B.leaves self c → ⊥)) }
+        ensures machine { IfOk result (λ m. IfSome m
+            (λ machine. (machine ≡ self) × ((c : B) × IsSettled B.meaning self c))) }
+        ensures none { IfOk result (λ m. IfNone m ((c : B) → IsSettled B.meaning self c → ⊥)) }
         ensures refusal { IsOkUnless result Refusal.NoMemory }
     {
         let _ = &self.wear;
         let Self {
             mut parts,
-            needs,
-            live,
+            ledger,
             wear,
             ..
         } = self;
-        if !redo(&mut parts, live.in_order().as_slice())? {
+        if !redo(&mut parts, ledger.live().in_order().as_slice())? {
             return Ok(None);
         }
-        Ok(Some(Machine::of_parts(parts, needs, live, wear)))
+        Ok(Some(Machine::of_parts(parts, ledger, wear)))
     }
 
     // The record's step, from this very state.
     fn step(&mut self, entry: Record) -> Result<bool, Refusal>
         requires { IsRecord None entry }
-        ensures { StepAnswers (LiveSteps B.answers B.belongs B.need) self.old entry result self.new }
+        ensures { StepAnswers (LiveSteps B.meaning) self.old entry result self.new }
     {
         match entry {
             Record::Begin(number) => self.hold_begin(number),
@@ -163,19 +170,20 @@ impl<B: Parts + Coded> Loader<B> {
 
     fn hold_begin(&mut self, number: u64) -> Result<bool, Refusal>
         requires { IsNumber number }
-        ensures { StepAnswers (LiveSteps B.answers B.belongs B.need) self.old (Record.Begin number) result self.new }
+        ensures { StepAnswers (LiveSteps B.meaning) self.old (Record.Begin number) result self.new }
     {
-        if self.live.count_live() >= MAX_LIVE || number <= self.last {
+        if self.ledger.live().count_live() >= MAX_LIVE || number <= self.last {
             return Ok(false);
         }
-        self.live.enter(number)?;
+        self.ledger.enter(number)?;
         self.last = number;
         Ok(true)
     }
 
     fn hold_call(&mut self, called: CallRecord) -> Result<bool, Refusal>
         requires { IsRecord None (Record.LiveCall called) }
-        ensures { StepAnswers (LiveSteps B.answers B.belongs B.need) self.old (Record.LiveCall called) result self.new }
+        ensures { StepAnswers (LiveSteps B.meaning) self.old (Record.LiveCall called) result
+            self.new }
     {
         if !self.can_hold_call(&called) {
             return Ok(false);
@@ -197,7 +205,8 @@ impl<B: Parts + Coded> Loader<B> {
     }
 
     fn hold_later(&mut self, later: LaterRecord) -> Result<bool, Refusal>
-        ensures { StepAnswers (LiveSteps B.answers B.belongs B.need) self.old (Record.LiveLater later) result self.new }
+        ensures { StepAnswers (LiveSteps B.meaning) self.old (Record.LiveLater later) result
+            self.new }
     {
         if !self.can_hold_later(&later) {
             return Ok(false);
@@ -217,113 +226,89 @@ impl<B: Parts + Coded> Loader<B> {
 
     // Notes a call that is done, with its need. NoMemory leaves all as before.
     fn note_call(&mut self, number: u64, asked: Logged) -> Result<(), Refusal>
-        requires can { CanHoldCall B.answers B.belongs B.need self.old number (logs.event_of asked) }
+        requires can { CanHoldCall B.meaning self.old number (logs.event_of asked) }
         requires pairs { Pairs asked.call asked.reply }
         requires short { IsShortReply asked.reply }
-        ensures ok { OnOk result (HeldCallRow B.answers B.belongs B.need self.old number (logs.event_of asked) self.new) }
+        ensures ok { OnOk result (HeldCallRow B.meaning self.old number (logs.event_of asked)
+            self.new) }
         ensures same { OnErr result (self.new ≡ self.old) }
         ensures refusal { IsOkUnless result Refusal.NoMemory }
     {
-        self.needs.reserve(asked.at)?;
-        self.live.reserve(number)?;
-        let need = B::need(&asked.call, &asked.reply);
-        if self.needs.ask(number, asked.at, need).is_err() {
-            unreachable!();
-        }
-        self.live.push_call(number, asked);
+        self.ledger.reserve(number, asked.at)?;
+        let need = asked.call.need(&asked.reply);
+        self.ledger.note_call(number, asked, need);
         Ok(())
     }
 
     // Notes a call that was put off, with its need. NoMemory leaves all as before.
     fn note_later(&mut self, number: u64, put: Later) -> Result<(), Refusal>
-        requires { CanHoldLater B.answers B.belongs B.need self.old number put.at put.call }
-        ensures ok { OnOk result (HeldLaterRow B.answers B.belongs B.need self.old number put.at put.call self.new) }
+        requires { CanHoldLater B.meaning self.old number put.at put.call }
+        ensures ok { OnOk result (HeldLaterRow B.meaning self.old number put.at put.call self.new) }
         ensures same { OnErr result (self.new ≡ self.old) }
         ensures refusal { IsOkUnless result Refusal.NoMemory }
     {
-        self.needs.reserve(put.at)?;
-        self.live.reserve(number)?;
-        let need = B::need(&put.call, &Reply::Done);
-        if self.needs.ask(number, put.at, need).is_err() {
-            unreachable!();
-        }
-        self.live.push_later(number, put);
+        self.ledger.reserve(number, put.at)?;
+        let need = put.call.need(&Reply::Done);
+        self.ledger.note_later(number, put, need);
         Ok(())
     }
 
     // Whether the transaction can have made the call and got the reply.
     fn can_hold_call(&self, called: &CallRecord) -> bool
-        ensures { IsTrue result ↔ CanHoldCall B.answers B.belongs B.need self.now called.now.number (event_of called.now) }
+        ensures { IsTrue result ↔ CanHoldCall B.meaning self.now called.now.number
+            (event_of called.now) }
     {
-        self.has_place(called.number) && self.can_ask(called) && self.is_apart(called)
-    }
-
-    // Whether one call more of the transaction can be noted.
-    fn has_place(&self, number: u64) -> bool
-        ensures { IsTrue result ↔ (Lives self.now.live number × (length (own number self.now.entries) < 1024) × HasRoomToHold self.now) }
-    {
-        self.live.is_live(number) && self.live.count(number) < MAX_CALLS && self.has_room()
-    }
-
-    // Whether the wear has room for the undoing of one entry more.
-    fn has_room(&self) -> bool
-        ensures { IsTrue result ↔ HasRoomToHold self.now }
-    {
-        self.wear + (self.live.len() + 1) as u64 <= MAX_WEAR
+        self.ledger.has_place(called.number, self.wear)
+            && self.can_ask(called)
+            && self.is_apart(called)
     }
 
     // Whether a client can ask for the call.
     fn can_ask(&self, called: &CallRecord) -> bool
-        ensures { IsTrue result ↔ CanAsk B.belongs self.now.now called.now.collection called.now.call }
+        ensures { IsTrue result ↔ CanAsk B.meaning self.now.now called.now.collection
+            called.now.call }
     {
         self.parts.askable(called.collection, &called.call).is_ok()
     }
 
-    // Whether the call leaves nothing that is going already, and has no other transaction in the way.
+    // Whether the call leaves nothing that is going already, and has no other transaction in the
+    // way.
     fn is_apart(&self, called: &CallRecord) -> bool
-        ensures { IsTrue result ↔ ((GoesTwice self.now.entries called.now.number (event_of called.now) → ⊥) ×
-            IsClear self.now.holds called.now.number called.now.collection (B.need called.now.call called.now.reply)) }
+        ensures { IsTrue result ↔ ((GoesTwice self.now.entries called.now.number
+            (event_of called.now) → ⊥) ×
+            IsClear self.now.holds called.now.number called.now.collection
+            (need_of called.now.call called.now.reply)) }
     {
-        !self.goes_twice(called)
-            && self.is_clear(
-                called.number,
-                called.collection,
-                B::need(&called.call, &called.reply),
-            )
-    }
-
-    // Whether what the call leaves to the commit is going already.
-    fn goes_twice(&self, called: &CallRecord) -> bool
-        ensures { IsTrue result ↔ GoesTwice self.now.entries called.now.number (event_of called.now) }
-    {
-        match B::after(&called.call, &called.reply) {
-            Some(left) => is_going::<B>(
-                self.live.in_order().as_slice(),
-                called.number,
-                called.collection,
-                &left,
-            ),
-            None => false,
-        }
+        !self.ledger.goes_twice(
+            called.number,
+            called.collection,
+            &called.call,
+            &called.reply,
+        ) && self.is_clear(
+            called.number,
+            called.collection,
+            called.call.need(&called.reply),
+        )
     }
 
     // Whether no other transaction holds a need in the way.
     fn is_clear(&self, number: u64, at: u8, need: Need) -> bool
         ensures { IsTrue result ↔ IsClear self.now.holds number at need }
     {
-        self.needs.test(number, at, &need).is_ok()
+        self.ledger.test(number, at, &need).is_ok()
     }
 
     // Whether the transaction can have put the call off.
     fn can_hold_later(&self, later: &LaterRecord) -> bool
-        ensures { IsTrue result ↔ CanHoldLater B.answers B.belongs B.need self.now later.now.number later.now.collection later.now.call }
+        ensures { IsTrue result ↔ CanHoldLater B.meaning self.now later.now.number
+            later.now.collection later.now.call }
     {
-        self.has_place(later.number)
+        self.ledger.has_place(later.number, self.wear)
             && self.parts.deferrable(later.collection, &later.call).is_ok()
             && self.is_clear(
                 later.number,
                 later.collection,
-                B::need(&later.call, &Reply::Done),
+                later.call.need(&Reply::Done),
             )
     }
 }

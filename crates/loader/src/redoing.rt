@@ -1,20 +1,22 @@
 // Calls that are taken back exactly as they were done, and made again.
 ghost use Rattle.std.specs.Prelude.{◌≡◌, ◌∷◌, [], IfOk, OnOk, IsOkUnless, Some};
-ghost use Rattle.calls.specs.Inverses.{Askable};
+ghost use Rattle.calls.specs.Rules.{Askable, inverse_of};
 ghost use Rattle.calls.specs.Transactions.{Leads, calls_of};
 ghost use Rattle.undo_log.specs.Entries.{entry_of, event_of};
 ghost use Rattle.machine.specs.Machine.{Does};
 ghost use Rattle.loader.specs.Loading.{calls_in, HasRoomBack, HasLed, TakenBack, DoneAgain};
 
-use calls::{Call, Refusal, undone_by};
+use calls::{Call, Refusal};
 use catalog::Parts;
 use records::Coded;
 use undo_log::{Entry, Logged, Owned};
 
-// Whether the calls lead from some content to what is there now: they are taken back, newest first, and made again.
+// Whether the calls lead from some content to what is there now: they are taken back, newest first,
+// and made again.
 pub(crate) fn redo<B: Parts + Coded>(parts: &mut B, entries: &[Owned]) -> Result<bool, Refusal>
-    requires { HasRoomBack B.within (calls_in entries.now) parts.old }
-    ensures ok { IfOk result (λ done. DoneAgain B.answers B.leaves (calls_in entries.now) done parts.old parts.new) }
+    requires { HasRoomBack B.meaning (calls_in entries.now) parts.old }
+    ensures ok { IfOk result (λ done. DoneAgain B.meaning (calls_in entries.now) done parts.old
+        parts.new) }
     ensures refusal { IsOkUnless result Refusal.NoMemory }
 {
     if !take_all_back(parts, entries)? {
@@ -26,8 +28,9 @@ pub(crate) fn redo<B: Parts + Coded>(parts: &mut B, entries: &[Owned]) -> Result
 
 // Takes all calls back, newest first. False where one was not done so.
 fn take_all_back<B: Parts + Coded>(parts: &mut B, entries: &[Owned]) -> Result<bool, Refusal>
-    requires { HasRoomBack B.within (calls_in entries.now) parts.old }
-    ensures ok { IfOk result (λ taken. TakenBack B.answers B.leaves (calls_in entries.now) taken parts.old parts.new) }
+    requires { HasRoomBack B.meaning (calls_in entries.now) parts.old }
+    ensures ok { IfOk result (λ taken. TakenBack B.meaning (calls_in entries.now) taken parts.old
+        parts.new) }
     ensures refusal { IsOkUnless result Refusal.NoMemory }
 {
     let mut place = entries.len();
@@ -42,8 +45,9 @@ fn take_all_back<B: Parts + Coded>(parts: &mut B, entries: &[Owned]) -> Result<b
 
 // Takes the call back, if the entry is one: what was put off has done nothing yet.
 fn take_entry_back<B: Parts + Coded>(parts: &mut B, entry: &Entry) -> Result<bool, Refusal>
-    requires { HasRoomBack B.within (calls_of (entry_of entry.now ∷ [])) parts.old }
-    ensures ok { IfOk result (λ taken. TakenBack B.answers B.leaves (calls_of (entry_of entry.now ∷ [])) taken parts.old parts.new) }
+    requires { HasRoomBack B.meaning (calls_of (entry_of entry.now ∷ [])) parts.old }
+    ensures ok { IfOk result (λ taken. TakenBack B.meaning (calls_of (entry_of entry.now ∷ []))
+        taken parts.old parts.new) }
     ensures refusal { IsOkUnless result Refusal.NoMemory }
 {
     match entry {
@@ -52,26 +56,30 @@ fn take_entry_back<B: Parts + Coded>(parts: &mut B, entry: &Entry) -> Result<boo
     }
 }
 
-// Takes the call back, if it was done last. One without an inverse changed nothing: it was, where it gets its reply now.
+// Takes the call back, if it was done last. One without an inverse changed nothing: it was, where
+// it gets its reply now.
 fn take_back<B: Parts + Coded>(parts: &mut B, asked: &Logged) -> Result<bool, Refusal>
-    requires { HasRoomBack B.within (event_of asked.now ∷ []) parts.old }
-    ensures ok { IfOk result (λ taken. TakenBack B.answers B.leaves (event_of asked.now ∷ []) taken parts.old parts.new) }
+    requires { HasRoomBack B.meaning (event_of asked.now ∷ []) parts.old }
+    ensures ok { IfOk result (λ taken. TakenBack B.meaning (event_of asked.now ∷ []) taken parts.old
+        parts.new) }
     ensures refusal { IsOkUnless result Refusal.NoMemory }
 {
-    match B::inverse(&asked.call, &asked.reply)? {
+    match asked.call.inverse(&asked.reply)? {
         Some(back) => run_back(parts, asked, &back),
         None => Ok(parts.fits(asked.at, &asked.call, &asked.reply)),
     }
 }
 
-// Takes the call back by its inverse, if that is answered as the call is undone, and the call gets its reply again.
+// Takes the call back by its inverse, if that is answered as the call is undone, and the call gets
+// its reply again.
 fn run_back<B: Parts + Coded>(parts: &mut B, asked: &Logged, back: &Call) -> Result<bool, Refusal>
-    requires inverse { B.inverse asked.now.call asked.now.reply ≡ Some back.now }
-    requires room { HasRoomBack B.within (event_of asked.now ∷ []) parts.old }
-    ensures ok { IfOk result (λ taken. TakenBack B.answers B.leaves (event_of asked.now ∷ []) taken parts.old parts.new) }
+    requires inverse { inverse_of asked.now.call asked.now.reply ≡ Some back.now }
+    requires room { HasRoomBack B.meaning (event_of asked.now ∷ []) parts.old }
+    ensures ok { IfOk result (λ taken. TakenBack B.meaning (event_of asked.now ∷ []) taken parts.old
+        parts.new) }
     ensures refusal { IsOkUnless result Refusal.NoMemory }
 {
-    let reply = undone_by(&asked.call, &asked.reply)?;
+    let reply = asked.call.undone_by(&asked.reply)?;
     if !parts.fits(asked.at, back, &reply) {
         return Ok(false);
     }
@@ -81,8 +89,8 @@ fn run_back<B: Parts + Coded>(parts: &mut B, asked: &Logged, back: &Call) -> Res
 
 // Makes all calls again, in their order.
 fn make_all_again<B: Parts + Coded>(parts: &mut B, entries: &[Owned]) -> Result<(), Refusal>
-    requires { HasLed B.answers B.leaves B.within (calls_in entries.now) parts.old }
-    ensures ok { OnOk result (Leads (Does B.answers B.leaves) (calls_in entries.now) parts.old parts.new) }
+    requires { HasLed B.meaning (calls_in entries.now) parts.old }
+    ensures ok { OnOk result (Leads (Does B.meaning) (calls_in entries.now) parts.old parts.new) }
     ensures refusal { IsOkUnless result Refusal.NoMemory }
 {
     for owned in entries {
@@ -93,8 +101,9 @@ fn make_all_again<B: Parts + Coded>(parts: &mut B, entries: &[Owned]) -> Result<
 
 // Makes the call again, if the entry is one.
 fn make_again<B: Parts + Coded>(parts: &mut B, entry: &Entry) -> Result<(), Refusal>
-    requires { HasLed B.answers B.leaves B.within (calls_of (entry_of entry.now ∷ [])) parts.old }
-    ensures ok { OnOk result (Leads (Does B.answers B.leaves) (calls_of (entry_of entry.now ∷ [])) parts.old parts.new) }
+    requires { HasLed B.meaning (calls_of (entry_of entry.now ∷ [])) parts.old }
+    ensures ok { OnOk result (Leads (Does B.meaning) (calls_of (entry_of entry.now ∷ [])) parts.old
+        parts.new) }
     ensures refusal { IsOkUnless result Refusal.NoMemory }
 {
     match entry {

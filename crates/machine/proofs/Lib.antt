@@ -15,6 +15,6 @@ pub mod Told
 pub mod Played
 pub mod Rows
 pub mod Undone
-pub mod Asked
 pub mod Alikes
 pub mod Rewinding
+pub mod Noted

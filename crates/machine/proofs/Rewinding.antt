@@ -5,4 +5,5 @@ use Rattle.std.proofs.lemmas.List.Elements.{filter-append}
 use Rattle.calls.specs.Transactions.{Entry, own}
 
 pub own_append : (k : ℕ) (es fs : List (ℕ × Entry)) → own k (es ++ fs) ≡ own k es ++ own k fs
-own_append k es fs = ap (map (λ e. e.1)) (filter-append (λ e. e.0 == k) es fs) ∙ map-append (λ e. e.1) _ _
+own_append k es fs = ap (map (λ e. e.1)) (filter-append (λ e. e.0 == k) es fs) ∙
+    map-append (λ e. e.1) _ _

@@ -1,12 +1,13 @@
 -- No step leaves a value that is too long to be spelled, or an entry that nobody can ask for.
-use Rattle.std.proofs.Common.{◌≡◌, ℕ, ◌==◌, not, Option, Some, None, MatchOption, List, ◌∷◌, refl, sym, subst}
+use Rattle.std.proofs.Common.{◌≡◌, ℕ, ◌==◌, not, Option, Some, None, MatchOption, List, ◌∷◌, refl}
+use Rattle.std.proofs.Common.{sym, subst}
 use Rattle.std.specs.List.{AllByRecursion}
 use Rattle.calls.specs.declared.call.Call.{Call}
 use Rattle.calls.specs.declared.reply.Reply.{Reply}
-use Rattle.calls.specs.Inverses.{IsShort}
+use Rattle.calls.specs.Rules.{IsShort, inverse_of}
 use Rattle.calls.specs.Transactions.{Event, Entry, Asked, others}
 use Rattle.undo_log.specs.Entries.{IsNewestCall}
-use Rattle.boosted.specs.Shape.{Does, Undoes}
+use Rattle.boosted.specs.Meaning.{Does, Undoes, Meaning}
 use Rattle.boosted.proofs.Each.{each_back, each_filter, each_rest}
 use Rattle.record_format.specs.Short.{IsShortReply}
 use Rattle.machine.specs.Machines.{IsAskedEntry}
@@ -18,19 +19,32 @@ module _ (es : List (ℕ × Entry)) (are : AllByRecursion (λ e. IsAskedEntry e.
   pub asked_left : (n : ℕ) → AllByRecursion (λ e. IsAskedEntry e.1) (others n es)
   asked_left n = each_filter (λ e. IsAskedEntry e.1) (λ e. not (e.0 == n)) es are
 
-  pub asked_rest : (n : ℕ) (x : Event) (rest : List (ℕ × Entry)) → IsNewestCall n es x rest → AllByRecursion (λ e. IsAskedEntry e.1) rest
-  asked_rest n x rest new = subst AreAsked (sym new.rest_is) (each_rest (λ e. IsAskedEntry e.1) new.before (n, Asked x) new.after (subst AreAsked new.is are))
+  pub asked_rest : (n : ℕ) (x : Event) (rest : List (ℕ × Entry)) → IsNewestCall n es x rest →
+      AllByRecursion (λ e. IsAskedEntry e.1) rest
+  asked_rest n x rest new = subst AreAsked (sym new.rest_is)
+      (each_rest (λ e. IsAskedEntry e.1) new.before (n, Asked x) new.after
+      (subst AreAsked new.is are))
 
-  pub short_newest : (n : ℕ) (x : Event) (rest : List (ℕ × Entry)) → IsNewestCall n es x rest → IsShortReply x.reply
-  short_newest n x rest new = let newest = each_back (λ e. IsAskedEntry e.1) new.before ((n, Asked x) ∷ new.after) (subst AreAsked new.is are) in newest.0.3
+  pub short_newest : (n : ℕ) (x : Event) (rest : List (ℕ × Entry)) → IsNewestCall n es x rest →
+      IsShortReply x.reply
+  short_newest n x rest new = let newest = each_back (λ e. IsAskedEntry e.1) new.before
+      ((n, Asked x) ∷ new.after) (subst AreAsked new.is are) in newest.0.3
 
-module _ {S : Type 0} (answers : S → ℕ → Call → Reply → Type 0) (leaves : S → ℕ → Call → Reply → S) (inverse : Call → Reply → Option Call) (short : S → Type 0)
-    (short_runs : (s : S) (at : ℕ) (c : Call) (r : Reply) → short s → answers s at c r → IsShort c → short (leaves s at c r))
-    (short_inverse : (c : Call) (r : Reply) (back : Call) → IsShortReply r → inverse c r ≡ Some back → IsShort back) where
-  undone : (o : Option Call) (at : ℕ) (s u : S) → ((back : Call) → o ≡ Some back → IsShort back) → short s → MatchOption o (u ≡ s) (λ back. (reply : Reply) × Does answers leaves s at back reply u) → short u
+module _ {S : Type 0} (meaning : Meaning S ℕ) (short : S → Type 0)
+    (short_runs : (s : S) (at : ℕ) (c : Call) (r : Reply) → short s → meaning.answers s at c r →
+    IsShort c → short (meaning.leaves s at c r))
+    (short_inverse : (c : Call) (r : Reply) (back : Call) → IsShortReply r →
+    inverse_of c r ≡ Some back → IsShort back) where
+  undone : (o : Option Call) (at : ℕ) (s u : S) → ((back : Call) → o ≡ Some back → IsShort back) →
+      short s → MatchOption o (u ≡ s) (λ back. (reply : Reply) × Does meaning s at back reply u) →
+      short u
   undone None at s u backs is undo = subst short (sym undo) is
-  undone (Some back) at s u backs is undo = subst short (sym undo.1.1) (short_runs s at back undo.0 is undo.1.0 (backs back refl))
+  undone (Some back) at s u backs is undo =
+      subst short (sym undo.1.1) (short_runs s at back undo.0 is undo.1.0 (backs back refl))
 
   -- what the undoing of a call with a short reply leaves
-  pub undone_short : (x : Event) (s u : S) → IsShortReply x.reply → short s → Undoes (Does answers leaves) inverse s x.at x.call x.reply u → short u
-  undone_short x s u is spells undo = undone (inverse x.call x.reply) x.at s u (λ back same. short_inverse x.call x.reply back is same) spells undo
+  pub undone_short : (x : Event) (s u : S) → IsShortReply x.reply → short s →
+      Undoes meaning s x.at x.call x.reply u → short u
+  undone_short x s u is spells undo =
+      undone (inverse_of x.call x.reply) x.at s u
+      (λ back same. short_inverse x.call x.reply back is same) spells undo

@@ -1,5 +1,6 @@
 -- Which numbers are live, and which are falling, after one more or one fewer.
-use Rattle.std.proofs.Common.{◌≡◌, ℕ, ◌⊎◌, inl, inr, ⊎_elim, Bool, true, false, cond, Option, Some, None, is_some, sym, ◌∙◌, ap, subst}
+use Rattle.std.proofs.Common.{◌≡◌, ℕ, ◌⊎◌, inl, inr, ⊎_elim, Bool, true, false, cond, Option, Some}
+use Rattle.std.proofs.Common.{None, is_some, sym, ◌∙◌, ap, subst}
 use Rattle.std.specs.Prelude.{◌↔◌}
 use Rattle.std.specs.FinMap as maps
 use Rattle.std.specs.Ordering.{nat_cmp}
@@ -28,7 +29,8 @@ module _ (live : Statuses) (n : ℕ) where
   lives_more b k = (
     λ h. ⊎_elim
         (λ (same : k ≡ n). ap is_some (get_insert live n b k same))
-        (λ (other : k ≡ n → ⊥). ⊎_elim (λ (same : n ≡ k). absurd (other (sym same))) (λ (l : Lives live k). ap is_some (get_insert_other live n b k other) ∙ l) h)
+        (λ (other : k ≡ n → ⊥). ⊎_elim (λ (same : n ≡ k). absurd (other (sym same)))
+        (λ (l : Lives live k). ap is_some (get_insert_other live n b k other) ∙ l) h)
         (cases_eq k n),
     λ h. ⊎_elim
         (λ (same : k ≡ n). inl (sym same))
@@ -40,7 +42,8 @@ module _ (live : Statuses) (n : ℕ) where
   falls_more k = (
     λ h. ⊎_elim
         (λ (same : k ≡ n). get_insert live n true k same)
-        (λ (other : k ≡ n → ⊥). ⊎_elim (λ (same : n ≡ k). absurd (other (sym same))) (λ (f : Falls live k). get_insert_other live n true k other ∙ f) h)
+        (λ (other : k ≡ n → ⊥). ⊎_elim (λ (same : n ≡ k). absurd (other (sym same)))
+        (λ (f : Falls live k). get_insert_other live n true k other ∙ f) h)
         (cases_eq k n),
     λ h. ⊎_elim
         (λ (same : k ≡ n). inl (sym same))
@@ -51,7 +54,8 @@ module _ (live : Statuses) (n : ℕ) where
   -- who begins is not falling
   pub falls_fresh : (Lives live n → ⊥) → (k : ℕ) → Falls live k ↔ Falls (maps.insert live n false) k
   falls_fresh fresh k = (
-    λ f. get_insert_other live n false k (λ same. fresh (subst (Lives live) same (ap is_some f))) ∙ f,
+    λ f. get_insert_other live n false k (λ same. fresh (subst (Lives live) same (ap is_some f))) ∙
+        f,
     λ h. ⊎_elim
         (λ (same : k ≡ n). absurd (not_both (sym (get_insert live n false k same) ∙ h)))
         (λ (other : k ≡ n → ⊥). sym (get_insert_other live n false k other) ∙ h)
@@ -61,7 +65,8 @@ module _ (live : Statuses) (n : ℕ) where
   pub lives_fewer : (k : ℕ) → (Lives live k × (k ≡ n → ⊥)) ↔ Lives (maps.remove live n) k
   lives_fewer k = (
     λ h. ap is_some (get_remove_other live n k h.1) ∙ h.0,
-    λ h. let other : k ≡ n → ⊥ = λ same. none_lives (maps.get (maps.remove live n) k) (get_remove live n k same) h in
+    λ h. let other : k ≡ n → ⊥ = λ same. none_lives (maps.get (maps.remove live n) k)
+        (get_remove live n k same) h in
         (ap is_some (sym (get_remove_other live n k other)) ∙ h, other),
   )
 

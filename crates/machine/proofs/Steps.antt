@@ -1,20 +1,24 @@
--- Every step of the machine leaves a sound state, and moves the settled content as the transaction that it commits says.
-use Rattle.std.proofs.Common.{◌≡◌, ℕ, ◌==◌, Option, is_some, arith, List, [], ◌∷◌, map, refl, sym, ◌∙◌, ap, subst}
+-- Every step of the machine leaves a sound state, and moves the settled content as the transaction
+-- that it commits says.
+use Rattle.std.proofs.Common.{◌≡◌, ℕ, ◌==◌, Option, is_some, arith, List, [], ◌∷◌, map, refl, sym}
+use Rattle.std.proofs.Common.{◌∙◌, ap, subst}
 use Rattle.std.specs.List.{filter, AllByRecursion}
 use Rattle.std.specs.FinMap as maps
 use Rattle.calls.specs.declared.kind.Kind.{Kind}
 use Rattle.calls.specs.declared.call.Call.{Call}
 use Rattle.calls.specs.declared.reply.Reply.{Reply}
 use Rattle.calls.specs.declared.need.Need.{Need}
-use Rattle.calls.specs.Inverses.{Askable, Disposable}
-use Rattle.calls.specs.Transactions.{Event, Entry, Asked, PutOff, Leads, Whole, calls_of, laters_of, own}
+use Rattle.calls.specs.Rules.{Askable, Disposable}
+use Rattle.calls.specs.Transactions.{Event, Entry, Asked, PutOff, Leads, Whole, calls_of, laters_of}
+use Rattle.calls.specs.Transactions.{own}
 use Rattle.abstract_locks.specs.declared.table.Hold.{Hold}
 use Rattle.undo_log.specs.Entries as log
 use Rattle.undo_log.specs.Logs.{Lives}
 use Rattle.boosted.specs.Runs as runs
-use Rattle.boosted.specs.Shape as shape
+use Rattle.boosted.specs.Meaning as shape
 use Rattle.boosted.proofs.Each.{weaker}
-use Rattle.machine.specs.Machine.{State, Does, IsRunning, IsSettled, BeginRow, CommitRow, EndedRow, FallRow, MakeRow, CallRow, LaterRow, BackRow}
+use Rattle.machine.specs.Machine.{State, Does, IsRunning, IsSettled, BeginRow, CommitRow, EndedRow}
+use Rattle.machine.specs.Machine.{FallRow, MakeRow, CallRow, LaterRow, BackRow}
 use Rattle.machine.specs.Transactions.{RunsWhole}
 use Rattle.machine.specs.Sound.{all_owned, Shows, IsSound}
 use Rattle.machine.specs.Theory.Rules.{Rules, RuleLaws, Has}
@@ -30,145 +34,237 @@ use Rattle.machine.proofs.Theory.Undo.{newest_undone, nothing}
 use Rattle.machine.proofs.Theory.Whole.{idle_sound}
 use Rattle.machine.proofs.Statuses.{nobody}
 use Rattle.machine.proofs.Theory.Stands.{falls_sound}
-use Rattle.machine.proofs.Owned.{owner, left, leads_map, leads_back, calls_are, laters_are, own_owned, own_laters, newest_call}
-use Rattle.machine.proofs.Shown.{Follows, make_follows, begin_follows, call_follows, later_follows, commit_follows, ended_follows, back_follows, fall_follows}
+use Rattle.machine.proofs.Owned.{owner, left, leads_map, leads_back, calls_are, laters_are}
+use Rattle.machine.proofs.Owned.{own_owned, own_laters, newest_call}
+use Rattle.machine.proofs.Shown.{Follows, make_follows, begin_follows, call_follows, later_follows}
+use Rattle.machine.proofs.Shown.{commit_follows, ended_follows, back_follows, fall_follows}
+use Rattle.boosted.specs.Meaning.{Meaning}
+use Rattle.catalog.specs.Making.{Making}
 
-module _ {S : Type 0} (answers : S → ℕ → Call → Reply → Type 0) (leaves : S → ℕ → Call → Reply → S) (makes : S → List ℕ → Kind → S → Type 0) (need : Call → Reply → Need) (inverse : Call → Reply → Option Call) (laws : RuleLaws (collection_rules answers leaves makes need inverse)) where
+module _ {S : Type 0} (meaning : Meaning S ℕ) (making : Making S)
+    (laws : RuleLaws (collection_rules meaning making)) where
   abbrev rules : Rules S (ℕ × Event) (List ℕ × Kind) Hold
-  rules = collection_rules answers leaves makes need inverse
+  rules = collection_rules meaning making
 
   abbrev Sound : State S → Type 0
-  Sound s = IsSound answers leaves makes need inverse s
+  Sound s = IsSound meaning making s
 
   abbrev Settled : State S → S → Type 0
-  Settled s c = IsSettled answers leaves s c
+  Settled s c = IsSettled meaning s c
 
   -- What the state settles at, its picture does, and the other way round.
-  settled_there : (s : State S) (m : theory.State S (ℕ × Event) Hold) (c : S) → Shows s m → Settled s c → theory.IsSettled rules m c
+  settled_there : (s : State S) (m : theory.State S (ℕ × Event) Hold) (c : S) → Shows s m →
+      Settled s c → theory.IsSettled rules m c
   settled_there s m c shows w =
       subst (λ l. Leads rules.does (journal.calls l) c m.now) (sym shows.entries)
       (subst (λ v. Leads rules.does (journal.calls (all_owned s.entries)) c v) (sym shows.now)
-      (leads_back (λ e. e.1) (Does answers leaves) (journal.calls (all_owned s.entries)) c s.now (subst (λ l. Leads (Does answers leaves) l c s.now) (sym (calls_are s.entries)) w)))
+      (leads_back (λ e. e.1) (Does meaning) (journal.calls (all_owned s.entries)) c s.now
+      (subst (λ l. Leads (Does meaning) l c s.now) (sym (calls_are s.entries)) w)))
 
-  settled_here : (s : State S) (m : theory.State S (ℕ × Event) Hold) (c : S) → Shows s m → theory.IsSettled rules m c → Settled s c
+  settled_here : (s : State S) (m : theory.State S (ℕ × Event) Hold) (c : S) → Shows s m →
+      theory.IsSettled rules m c → Settled s c
   settled_here s m c shows w =
-      let there : Leads rules.does (journal.calls (all_owned s.entries)) c s.now = subst (λ v. Leads rules.does (journal.calls (all_owned s.entries)) c v) shows.now (subst (λ l. Leads rules.does (journal.calls l) c m.now) shows.entries w) in
-      subst (λ l. Leads (Does answers leaves) l c s.now) (calls_are s.entries) (leads_map (λ e. e.1) (Does answers leaves) (journal.calls (all_owned s.entries)) c s.now there)
+      let there : Leads rules.does (journal.calls (all_owned s.entries)) c s.now =
+      subst (λ v. Leads rules.does (journal.calls (all_owned s.entries)) c v) shows.now
+      (subst (λ l. Leads rules.does (journal.calls l) c m.now) shows.entries w) in
+      subst (λ l. Leads (Does meaning) l c s.now) (calls_are s.entries)
+      (leads_map (λ e. e.1) (Does meaning) (journal.calls (all_owned s.entries)) c s.now there)
 
   -- There is at most one content at which a state settles.
   pub settles_once : (s : State S) (c d : S) → Sound s → Settled s c → Settled s d → c ≡ d
-  settles_once s c d sound w v = serial.settles_once laws sound.machine c d sound.sound (settled_there s sound.machine c sound.shows w) (settled_there s sound.machine d sound.shows v)
+  settles_once s c d sound w v = serial.settles_once laws sound.machine c d sound.sound
+      (settled_there s sound.machine c sound.shows w)
+      (settled_there s sound.machine d sound.shows v)
 
   module _ (s : State S) (sound : Sound s) where
     -- the step's state is sound
-    goes : (r : journal.Record (ℕ × Event) (List ℕ × Kind)) (t : State S) → Follows answers leaves makes need inverse sound.machine r t → Sound t
+    goes : (r : journal.Record (ℕ × Event) (List ℕ × Kind)) (t : State S) →
+        Follows meaning making sound.machine r t → Sound t
     goes r t follows =
-        let step = serial.step_settles laws r sound.machine follows.0 sound.content sound.sound (settled_there s sound.machine sound.content sound.shows sound.settled) follows.2 in
-        record { machine = follows.0; shows = follows.1; sound = step.0; content = step.1.0; settled = settled_here t follows.0 step.1.0 follows.1 step.1.2 }
+        let step = serial.step_settles laws r sound.machine follows.0 sound.content sound.sound
+        (settled_there s sound.machine sound.content sound.shows sound.settled) follows.2 in
+        record {
+          machine = follows.0;
+          shows = follows.1;
+          sound = step.0;
+          content = step.1.0;
+          settled = settled_here t follows.0 step.1.0 follows.1 step.1.2;
+        }
 
     -- the settled content moves as the step commits
-    moves : (r : journal.Record (ℕ × Event) (List ℕ × Kind)) (t : State S) (c : S) → Follows answers leaves makes need inverse sound.machine r t → Settled s c →
-        (d : S) × journal.Serial rules (journal.commits rules.owner sound.machine.entries r) c d × Settled t d
+    moves : (r : journal.Record (ℕ × Event) (List ℕ × Kind)) (t : State S) (c : S) →
+        Follows meaning making sound.machine r t → Settled s c →
+        (d : S) × journal.Serial rules (journal.commits rules.owner sound.machine.entries r) c d ×
+        Settled t d
     moves r t c follows w =
-        let step = serial.step_settles laws r sound.machine follows.0 c sound.sound (settled_there s sound.machine c sound.shows w) follows.2 in
+        let step = serial.step_settles laws r sound.machine follows.0 c sound.sound
+        (settled_there s sound.machine c sound.shows w) follows.2 in
         (step.1.0, step.1.1, settled_here t follows.0 step.1.0 follows.1 step.1.2)
 
     -- a step that commits nothing leaves the settled content
-    stays : (r : journal.Record (ℕ × Event) (List ℕ × Kind)) (t : State S) (c : S) → journal.commits rules.owner sound.machine.entries r ≡ [] → Follows answers leaves makes need inverse sound.machine r t → Settled s c → Settled t c
+    stays : (r : journal.Record (ℕ × Event) (List ℕ × Kind)) (t : State S) (c : S) →
+        journal.commits rules.owner sound.machine.entries r ≡ [] →
+        Follows meaning making sound.machine r t → Settled s c → Settled t c
     stays r t c none follows w =
         let moved = moves r t c follows w in
         subst (Settled t) (sym (subst (λ l. journal.Serial rules l c moved.0) none moved.1)) moved.2
 
-    pub make_sound : (names : S → List (List ℕ)) (name : List ℕ) (kind : Kind) (t : State S) → MakeRow names makes s name kind t → Sound t
-    make_sound names name kind t row = goes (journal.Make (name, kind)) t (make_follows answers leaves makes need inverse s sound.machine sound.shows names name kind t row)
+    pub make_sound : (name : List ℕ) (kind : Kind) (t : State S) → MakeRow making s name kind t →
+        Sound t
+    make_sound name kind t row = goes (journal.Make (name, kind)) t
+        (make_follows meaning making s sound.machine sound.shows name kind t row)
 
-    pub make_settles : (names : S → List (List ℕ)) (name : List ℕ) (kind : Kind) (t : State S) (c : S) → MakeRow names makes s name kind t → Settled s c → (d : S) × makes c name kind d × Settled t d
-    make_settles names name kind t c row w =
-        let moved = moves (journal.Make (name, kind)) t c (make_follows answers leaves makes need inverse s sound.machine sound.shows names name kind t row) w in
-        (moved.0, subst (makes c name kind) moved.1.2 moved.1.1, moved.2)
+    pub make_settles : (name : List ℕ) (kind : Kind) (t : State S) (c : S) →
+        MakeRow making s name kind t → Settled s c →
+        (d : S) × making.makes c name kind d × Settled t d
+    make_settles name kind t c row w =
+        let moved = moves (journal.Make (name, kind)) t c
+        (make_follows meaning making s sound.machine sound.shows name kind t row) w in
+        (moved.0, subst (making.makes c name kind) moved.1.2 moved.1.1, moved.2)
 
     pub begin_sound : (n : ℕ) (t : State S) → BeginRow s n t → Sound t
-    begin_sound n t row = goes (journal.Begin n) t (begin_follows answers leaves makes need inverse s sound.machine sound.shows n t row)
+    begin_sound n t row = goes (journal.Begin n) t
+        (begin_follows meaning making s sound.machine sound.shows n t row)
 
     pub begin_settles : (n : ℕ) (t : State S) (c : S) → BeginRow s n t → Settled s c → Settled t c
-    begin_settles n t c row w = stays (journal.Begin n) t c refl (begin_follows answers leaves makes need inverse s sound.machine sound.shows n t row) w
+    begin_settles n t c row w = stays (journal.Begin n) t c refl
+        (begin_follows meaning making s sound.machine sound.shows n t row) w
 
-    pub call_sound : (belongs : S → ℕ → Call → Type 0) (n : ℕ) (e : Event) (t : State S) → CallRow answers leaves belongs need s n e t → Sound t
-    call_sound belongs n e t row = goes (journal.Call (n, e)) t (call_follows answers leaves makes need inverse s sound.machine sound.shows belongs n e t row)
+    pub call_sound : (n : ℕ) (e : Event) (t : State S) → CallRow meaning s n e t → Sound t
+    call_sound n e t row = goes (journal.Call (n, e)) t
+        (call_follows meaning making s sound.machine sound.shows n e t row)
 
-    pub call_settles : (belongs : S → ℕ → Call → Type 0) (n : ℕ) (e : Event) (t : State S) (c : S) → CallRow answers leaves belongs need s n e t → Settled s c → Settled t c
-    call_settles belongs n e t c row w = stays (journal.Call (n, e)) t c refl (call_follows answers leaves makes need inverse s sound.machine sound.shows belongs n e t row) w
+    pub call_settles : (n : ℕ) (e : Event) (t : State S) (c : S) → CallRow meaning s n e t →
+        Settled s c → Settled t c
+    call_settles n e t c row w = stays (journal.Call (n, e)) t c refl
+        (call_follows meaning making s sound.machine sound.shows n e t row) w
 
-    pub later_sound : (belongs : S → ℕ → Call → Type 0) (n at : ℕ) (call : Call) (t : State S) → LaterRow answers leaves belongs need s n at call t → Sound t
-    later_sound belongs n at call t row = goes (journal.Later (n, record { at = at; call = call; reply = Reply.Done })) t (later_follows answers leaves makes need inverse s sound.machine sound.shows belongs n at call t row)
+    pub later_sound : (n at : ℕ) (call : Call) (t : State S) → LaterRow meaning s n at call t →
+        Sound t
+    later_sound n at call t row = goes
+        (journal.Later (n, record { at = at; call = call; reply = Reply.Done })) t
+        (later_follows meaning making s sound.machine sound.shows n at call t row)
 
-    pub later_settles : (belongs : S → ℕ → Call → Type 0) (n at : ℕ) (call : Call) (t : State S) (c : S) → LaterRow answers leaves belongs need s n at call t → Settled s c → Settled t c
-    later_settles belongs n at call t c row w = stays (journal.Later (n, record { at = at; call = call; reply = Reply.Done })) t c refl (later_follows answers leaves makes need inverse s sound.machine sound.shows belongs n at call t row) w
+    pub later_settles : (n at : ℕ) (call : Call) (t : State S) (c : S) →
+        LaterRow meaning s n at call t → Settled s c → Settled t c
+    later_settles n at call t c row w =
+        stays (journal.Later (n, record { at = at; call = call; reply = Reply.Done })) t c refl
+        (later_follows meaning making s sound.machine sound.shows n at call t row) w
 
     -- what one number put off, as the theory has it
-    laters_there : (n : ℕ) → theory.laters_of rules n sound.machine.entries ≡ journal.laters left (all_owned (filter (λ e. e.0 == n) s.entries))
+    laters_there : (n : ℕ) → theory.laters_of rules n sound.machine.entries ≡
+        journal.laters left (all_owned (filter (λ e. e.0 == n) s.entries))
     laters_there n = own_laters n sound.machine.entries s.entries sound.shows.entries
 
     -- What a transaction put off can run in a commit.
-    pub laters_disposable : (n : ℕ) → AllByRecursion (λ e. Disposable e.call × (e.reply ≡ Reply.Done)) (laters_of (own n s.entries))
+    pub laters_disposable : (n : ℕ) →
+        AllByRecursion (λ e. Disposable e.call × (e.reply ≡ Reply.Done))
+        (laters_of (own n s.entries))
     laters_disposable n =
-        subst (AllByRecursion (λ e. Disposable e.call × (e.reply ≡ Reply.Done))) (laters_are (filter (λ e. e.0 == n) s.entries))
-        (each_map (λ e. e.1) (λ e. Disposable e.call × (e.reply ≡ Reply.Done)) (journal.laters left (all_owned (filter (λ e. e.0 == n) s.entries)))
-        (subst (AllByRecursion rules.late) (laters_there n) (laters_late laws sound.machine sound.sound n)))
+        subst (AllByRecursion (λ e. Disposable e.call × (e.reply ≡ Reply.Done)))
+        (laters_are (filter (λ e. e.0 == n) s.entries))
+        (each_map (λ e. e.1) (λ e. Disposable e.call × (e.reply ≡ Reply.Done))
+        (journal.laters left (all_owned (filter (λ e. e.0 == n) s.entries)))
+        (subst (AllByRecursion rules.late) (laters_there n)
+        (laters_late laws sound.machine sound.sound n)))
 
     -- What a running transaction put off can always run.
-    pub commit_can : (n : ℕ) → IsRunning s n → (next : S) × Leads (Does answers leaves) (laters_of (own n s.entries)) s.now next
+    pub commit_can : (n : ℕ) → IsRunning s n →
+        (next : S) × Leads (Does meaning) (laters_of (own n s.entries)) s.now next
     commit_can n running =
         let fs = filter (λ e. e.0 == n) s.entries in
-        let row = (serial.commits_run laws sound.machine sound.content n sound.sound (settled_there s sound.machine sound.content sound.shows sound.settled) ((sound.shows.live n).1 running.live) (λ h. running.standing ((sound.shows.falling n).0 h))).1 in
+        let row = (serial.commits_run laws sound.machine sound.content n sound.sound
+        (settled_there s sound.machine sound.content sound.shows sound.settled)
+        ((sound.shows.live n).1 running.live)
+        (λ h. running.standing ((sound.shows.falling n).0 h))).1 in
         let there : Leads rules.does (journal.laters left (all_owned fs)) s.now row.next =
-        subst (λ v. Leads rules.does (journal.laters left (all_owned fs)) v row.next) sound.shows.now (subst (λ l. Leads rules.does l sound.machine.now row.next) (laters_there n) row.does) in
-        (row.next, subst (λ l. Leads (Does answers leaves) l s.now row.next) (laters_are fs) (leads_map (λ e. e.1) (Does answers leaves) (journal.laters left (all_owned fs)) s.now row.next there))
+        subst (λ v. Leads rules.does (journal.laters left (all_owned fs)) v row.next)
+        sound.shows.now (subst (λ l. Leads rules.does l sound.machine.now row.next)
+        (laters_there n) row.does) in (
+          row.next,
+          subst (λ l. Leads (Does meaning) l s.now row.next) (laters_are fs)
+              (leads_map (λ e. e.1) (Does meaning) (journal.laters left (all_owned fs)) s.now row.next
+              there),
+        )
 
-    pub commit_sound : (n : ℕ) (t : State S) → CommitRow answers leaves s n t → Sound t
-    commit_sound n t row = goes (journal.Commit n) t (commit_follows answers leaves makes need inverse s sound.machine sound.shows n t row)
+    pub commit_sound : (n : ℕ) (t : State S) → CommitRow meaning s n t → Sound t
+    commit_sound n t row = goes (journal.Commit n) t
+        (commit_follows meaning making s sound.machine sound.shows n t row)
 
     -- the entries of one number, as the theory has them, run as the transaction says
-    whole_here : (n : ℕ) (c d : S) → journal.RunsWhole rules c (journal.Whole (runs.own (journal.asker owner) n sound.machine.entries)) d → RunsWhole answers leaves makes c (Whole (own n s.entries)) d
+    whole_here : (n : ℕ) (c d : S) →
+        journal.RunsWhole rules c (journal.Whole
+        (runs.own (journal.asker owner) n sound.machine.entries)) d →
+        RunsWhole meaning making c (Whole (own n s.entries)) d
     whole_here n c d w =
-        let mine : runs.own (journal.asker owner) n sound.machine.entries ≡ all_owned (filter (λ e. e.0 == n) s.entries) = ap (runs.own (journal.asker owner) n) sound.shows.entries ∙ own_owned n s.entries in
+        let mine : runs.own (journal.asker owner) n sound.machine.entries ≡
+        all_owned (filter (λ e. e.0 == n) s.entries) =
+        ap (runs.own (journal.asker owner) n) sound.shows.entries ∙ own_owned n s.entries in
         let fs = filter (λ e. e.0 == n) s.entries in
         let run = subst (λ l. journal.RunsWhole rules c (journal.Whole l) d) mine w in (
           run.0,
-          subst (λ l. Leads (Does answers leaves) l c run.0) (calls_are fs) (leads_map (λ e. e.1) (Does answers leaves) (journal.calls (all_owned fs)) c run.0 run.1),
-          subst (λ l. Leads (Does answers leaves) l run.0 d) (laters_are fs) (leads_map (λ e. e.1) (Does answers leaves) (journal.laters rules.leaves (all_owned fs)) run.0 d run.2),
+          subst (λ l. Leads (Does meaning) l c run.0) (calls_are fs)
+              (leads_map (λ e. e.1) (Does meaning) (journal.calls (all_owned fs)) c run.0 run.1),
+          subst (λ l. Leads (Does meaning) l run.0 d) (laters_are fs)
+              (leads_map (λ e. e.1) (Does meaning) (journal.laters rules.leaves (all_owned fs))
+              run.0 d run.2),
         )
 
-    pub commit_settles : (n : ℕ) (t : State S) (c : S) → CommitRow answers leaves s n t → Settled s c → (d : S) × RunsWhole answers leaves makes c (Whole (own n s.entries)) d × Settled t d
+    pub commit_settles : (n : ℕ) (t : State S) (c : S) → CommitRow meaning s n t → Settled s c →
+        (d : S) × RunsWhole meaning making c (Whole (own n s.entries)) d × Settled t d
     commit_settles n t c row w =
-        let moved = moves (journal.Commit n) t c (commit_follows answers leaves makes need inverse s sound.machine sound.shows n t row) w in
-        (moved.0, subst (RunsWhole answers leaves makes c (Whole (own n s.entries))) moved.1.2 (whole_here n c moved.1.0 moved.1.1), moved.2)
+        let moved = moves (journal.Commit n) t c
+        (commit_follows meaning making s sound.machine sound.shows n t row) w in (
+          moved.0,
+          subst (RunsWhole meaning making c (Whole (own n s.entries))) moved.1.2
+              (whole_here n c moved.1.0 moved.1.1),
+          moved.2,
+        )
 
     pub ended_sound : (n : ℕ) (t : State S) → EndedRow s n t → Sound t
-    ended_sound n t row = goes (journal.Ended n) t (ended_follows answers leaves makes need inverse s sound.machine sound.shows n t row)
+    ended_sound n t row = goes (journal.Ended n) t
+        (ended_follows meaning making s sound.machine sound.shows n t row)
 
     pub ended_settles : (n : ℕ) (t : State S) (c : S) → EndedRow s n t → Settled s c → Settled t c
-    ended_settles n t c row w = stays (journal.Ended n) t c refl (ended_follows answers leaves makes need inverse s sound.machine sound.shows n t row) w
+    ended_settles n t c row w = stays (journal.Ended n) t c refl
+        (ended_follows meaning making s sound.machine sound.shows n t row) w
 
-    pub back_sound : (n : ℕ) (t : State S) → BackRow answers leaves inverse s n t → Sound t
-    back_sound n t row = goes (journal.Back n) t (back_follows answers leaves makes need inverse s sound.machine sound.shows n t row)
+    pub back_sound : (n : ℕ) (t : State S) → BackRow meaning s n t → Sound t
+    back_sound n t row = goes (journal.Back n) t
+        (back_follows meaning making s sound.machine sound.shows n t row)
 
-    pub back_settles : (n : ℕ) (t : State S) (c : S) → BackRow answers leaves inverse s n t → Settled s c → Settled t c
-    back_settles n t c row w = stays (journal.Back n) t c refl (back_follows answers leaves makes need inverse s sound.machine sound.shows n t row) w
+    pub back_settles : (n : ℕ) (t : State S) (c : S) → BackRow meaning s n t → Settled s c →
+        Settled t c
+    back_settles n t c row w = stays (journal.Back n) t c refl
+        (back_follows meaning making s sound.machine sound.shows n t row) w
 
     -- The newest call of a number can be undone, and is one that a client can ask for.
-    pub back_can : (n : ℕ) (x : Event) (rest : List (ℕ × Entry)) → log.IsNewestCall n s.entries x rest → Askable x.call × ((u : S) × shape.Undoes (shape.Does answers leaves) inverse s.now x.at x.call x.reply u)
+    pub back_can : (n : ℕ) (x : Event) (rest : List (ℕ × Entry)) →
+        log.IsNewestCall n s.entries x rest →
+        Askable x.call × ((u : S) × shape.Undoes meaning s.now x.at x.call x.reply u)
     back_can n x rest new =
-        let there = subst (λ l. theory.IsNewestCall owner n l (n, x) (all_owned rest)) (sym sound.shows.entries) (newest_call n s.entries x rest new) in
-        let back = newest_undone laws n sound.machine sound.content (n, x) (all_owned rest) sound.sound (settled_there s sound.machine sound.content sound.shows sound.settled) there in
-        (serial.newest_asked laws sound.machine n (n, x) (all_owned rest) sound.sound there, (back.0, subst (λ v. shape.Undoes (shape.Does answers leaves) inverse v x.at x.call x.reply back.0) sound.shows.now back.1))
+        let there = subst (λ l. theory.IsNewestCall owner n l (n, x) (all_owned rest))
+        (sym sound.shows.entries) (newest_call n s.entries x rest new) in
+        let back = newest_undone laws n sound.machine sound.content (n, x) (all_owned rest)
+        sound.sound (settled_there s sound.machine sound.content sound.shows sound.settled)
+        there in (
+          serial.newest_asked laws sound.machine n (n, x) (all_owned rest) sound.sound there,
+          (
+            back.0,
+            subst (λ v. shape.Undoes meaning v x.at x.call x.reply back.0) sound.shows.now
+                back.1,
+          ),
+        )
 
-    falls_there : (n : ℕ) (t : State S) (c : S) (k : theory.State S (ℕ × Event) Hold) → Shows t k → FallsRow rules sound.machine n k → Settled s c → Settled t c
-    falls_there n t c k shows row w = settled_here t k c shows (subst (λ v. theory.IsSettled rules v c) (sym row.is) (settled_there s sound.machine c sound.shows w))
+    falls_there : (n : ℕ) (t : State S) (c : S) (k : theory.State S (ℕ × Event) Hold) → Shows t k →
+        FallsRow rules sound.machine n k → Settled s c → Settled t c
+    falls_there n t c k shows row w =
+        settled_here t k c shows (subst (λ v. theory.IsSettled rules v c) (sym row.is)
+        (settled_there s sound.machine c sound.shows w))
 
     pub fall_sound : (n : ℕ) (t : State S) → FallRow s n t → Sound t
     fall_sound n t row =
-        let follows = fall_follows answers leaves makes need inverse s sound.machine sound.shows n t row in
+        let follows = fall_follows meaning making s sound.machine sound.shows n t row in
         record {
           machine = follows.0;
           shows = follows.1;
@@ -179,20 +275,25 @@ module _ {S : Type 0} (answers : S → ℕ → Call → Reply → Type 0) (leave
 
     pub fall_settles : (n : ℕ) (t : State S) (c : S) → FallRow s n t → Settled s c → Settled t c
     fall_settles n t c row w =
-        let follows = fall_follows answers leaves makes need inverse s sound.machine sound.shows n t row in
+        let follows = fall_follows meaning making s sound.machine sound.shows n t row in
         falls_there n t c follows.0 follows.1 follows.2 w
 
-    each_live : (es : List (ℕ × Entry)) → AllByRecursion (λ e. Has sound.machine.live (owner (journal.event e))) (all_owned es) → AllByRecursion (λ e. Lives s.live e.0) es
+    each_live : (es : List (ℕ × Entry)) →
+        AllByRecursion (λ e. Has sound.machine.live (owner (journal.event e))) (all_owned es) →
+        AllByRecursion (λ e. Lives s.live e.0) es
     each_live [] a = tt
     each_live ((n, Asked x) ∷ es) a = ((sound.shows.live n).0 a.0, each_live es a.1)
     each_live ((n, PutOff at c) ∷ es) a = ((sound.shows.live n).0 a.0, each_live es a.1)
 
     -- Whoever asked for something is live.
     pub alive : AllByRecursion (λ e. Lives s.live e.0) s.entries
-    alive = each_live s.entries (subst (AllByRecursion (λ e. Has sound.machine.live (owner (journal.event e)))) sound.shows.entries sound.sound.alive)
+    alive = each_live s.entries (subst
+        (AllByRecursion (λ e. Has sound.machine.live (owner (journal.event e)))) sound.shows.entries
+        sound.sound.alive)
 
   -- Where no transaction is live,
-  pub opened_sound : (now : S) (wear : ℕ) → Sound (record { now = now; live = maps.empty; entries = []; holds = []; wear = wear })
+  pub opened_sound : (now : S) (wear : ℕ) →
+      Sound (record { now = now; live = maps.empty; entries = []; holds = []; wear = wear })
   opened_sound now wear = record {
     machine = idle now;
     shows = record {
@@ -208,7 +309,11 @@ module _ {S : Type 0} (answers : S → ℕ → Call → Reply → Type 0) (leave
   }
 
   -- nothing is asked for, and what is there now is the settled content.
-  pub none_live : (s : State S) (sound : Sound s) (c : S) → s.live ≡ maps.empty → Settled s c → (s.entries ≡ []) × (c ≡ s.now)
+  pub none_live : (s : State S) (sound : Sound s) (c : S) → s.live ≡ maps.empty → Settled s c →
+      (s.entries ≡ []) × (c ≡ s.now)
   none_live s sound c empty w =
-      let none : s.entries ≡ [] = nothing s.entries (weaker (λ e. Lives s.live e.0) (λ e. ⊥) (λ e lives. nobody e.0 (subst (λ m. Lives m e.0) empty lives)) s.entries (alive s sound)) in
-      (none, subst (λ es. Leads (Does answers leaves) (calls_of (map (λ e. e.1) es)) c s.now) none w)
+      let none : s.entries ≡ [] = nothing s.entries
+      (weaker (λ e. Lives s.live e.0) (λ e. ⊥)
+      (λ e lives. nobody e.0 (subst (λ m. Lives m e.0) empty lives)) s.entries
+      (alive s sound)) in
+      (none, subst (λ es. Leads (Does meaning) (calls_of (map (λ e. e.1) es)) c s.now) none w)

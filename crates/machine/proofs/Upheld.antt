@@ -1,5 +1,7 @@
 -- Every row of the machine leaves what holds of every state.
-use Rattle.std.proofs.Common.{◌≡◌, ℕ, ◌+◌, ◌*◌, ◌<◌, ◌≤◌, ◌^◌, Bool, false, true, Option, Some, None, MatchOption, ⊎_elim, List, [], ◌∷◌, ◌++◌, length, refl, sym, ◌∙◌, ap, subst, arith}
+use Rattle.std.proofs.Common.{◌≡◌, ℕ, ◌+◌, ◌*◌, ◌<◌, ◌≤◌, ◌^◌, Bool, false, true, Option, Some}
+use Rattle.std.proofs.Common.{None, MatchOption, ⊎_elim, List, [], ◌∷◌, ◌++◌, length, refl, sym}
+use Rattle.std.proofs.Common.{◌∙◌, ap, subst, arith}
 use Rattle.std.specs.List.{AllByRecursion}
 use Rattle.std.specs.FinMap as maps
 use Rattle.std.specs.Ordering.{nat_cmp}
@@ -7,15 +9,16 @@ use Rattle.calls.specs.declared.kind.Kind.{Kind}
 use Rattle.calls.specs.declared.call.Call.{Call}
 use Rattle.calls.specs.declared.reply.Reply.{Reply}
 use Rattle.calls.specs.declared.need.Need.{Need}
-use Rattle.calls.specs.Inverses.{IsShort, Disposable}
+use Rattle.calls.specs.Rules.{IsShort, Disposable, inverse_of}
 use Rattle.calls.specs.Transactions.{Event, Entry, Asked, PutOff, Leads, laters_of, own}
 use Rattle.undo_log.specs.Logs.{Lives, fallen}
 use Rattle.undo_log.specs.Entries.{IsNewestCall}
-use Rattle.boosted.specs.Shape as shape
-use Rattle.boosted.specs.Shape.{HasRoom}
+use Rattle.boosted.specs.Meaning as shape
+use Rattle.boosted.specs.Meaning.{HasRoom, Meaning}
 use Rattle.boosted.proofs.Each.{weaker, each_append}
 use Rattle.record_format.specs.Records.{IsNumber}
-use Rattle.machine.specs.Machine.{State, Does, IsRunning, IsLeft, BeginRow, CommitRow, EndedRow, FallRow, MakeRow, CallRow, LaterRow, BackRow}
+use Rattle.machine.specs.Machine.{State, Does, IsRunning, IsLeft, BeginRow, CommitRow, EndedRow}
+use Rattle.machine.specs.Machine.{FallRow, MakeRow, CallRow, LaterRow, BackRow}
 use Rattle.machine.specs.Machines.{resting, IsAskedEntry, IsUpheld, CanRun}
 use Rattle.machine.specs.Sound.{IsSound}
 use Rattle.machine.proofs.Statuses.{nobody, lives_more, lives_fewer, fallen_is}
@@ -24,7 +27,9 @@ use Rattle.machine.proofs.Steps as steps
 use Rattle.machine.proofs.Running.{run_within}
 use Rattle.machine.proofs.Spelled.{asked_left, asked_rest, short_newest, undone_short}
 use Rattle.machine.proofs.Counting.{few_entries, own_and_others, few_laters}
-use Rattle.machine.proofs.Sizes.{len_begun, len_fallen, len_left, own_of_others, own_pushed, own_of_rest, rest_length, pushed_length}
+use Rattle.machine.proofs.Sizes.{len_begun, len_fallen, len_left, own_of_others, own_pushed}
+use Rattle.machine.proofs.Sizes.{own_of_rest, rest_length, pushed_length}
+use Rattle.catalog.specs.Making.{Making}
 
 -- what can run in a commit puts no value
 disposable_short : (c : Call) → Disposable c → IsShort c
@@ -32,56 +37,69 @@ disposable_short (Call.Bump n) late = tt
 disposable_short (Call.Free x) late = tt
 disposable_short c late = absurd late
 
-module _ {S : Type 0} (answers : S → ℕ → Call → Reply → Type 0) (leaves : S → ℕ → Call → Reply → S) (makes : S → List ℕ → Kind → S → Type 0) (need : Call → Reply → Need) (inverse : Call → Reply → Option Call)
-    (belongs : S → ℕ → Call → Type 0) (names : S → List (List ℕ)) (within : S → ℕ → Type 0) (short : S → Type 0) (laws : BookLaws answers leaves makes need inverse names within short) where
+module _ {S : Type 0} (meaning : Meaning S ℕ) (making : Making S)
+    (short : S → Type 0) (laws : BookLaws meaning making short) where
   abbrev Sound : State S → Type 0
-  Sound s = IsSound answers leaves makes need inverse s
+  Sound s = IsSound meaning making s
 
   abbrev pub Upheld : State S → Type 0
-  Upheld s = IsUpheld names within short Sound s
+  Upheld s = IsUpheld meaning making short Sound s
 
   -- ---- what laters leave
 
-  laters_names : (es : List Event) (s t : S) → Leads (Does answers leaves) es s t → length (names t) ≡ length (names s)
-  laters_names [] s t runs = ap (λ v. length (names v)) (sym runs)
-  laters_names (e ∷ es) s t runs = laters_names es runs.0 t runs.2 ∙ ap (λ v. length (names v)) runs.1.1 ∙ ap length (laws.runs_keep_names s e.at e.call e.reply runs.1.0)
+  laters_names : (es : List Event) (s t : S) → Leads (Does meaning) es s t →
+      length (making.names t) ≡ length (making.names s)
+  laters_names [] s t runs = ap (λ v. length (making.names v)) (sym runs)
+  laters_names (e ∷ es) s t runs =
+      laters_names es runs.0 t runs.2 ∙ ap (λ v. length (making.names v)) runs.1.1 ∙
+      ap length (laws.makings.runs_keep_names s e.at e.call e.reply runs.1.0)
 
-  laters_short : (es : List Event) (s t : S) → AllByRecursion (λ e. Disposable e.call × (e.reply ≡ Reply.Done)) es → Leads (Does answers leaves) es s t → short s → short t
+  laters_short : (es : List Event) (s t : S) →
+      AllByRecursion (λ e. Disposable e.call × (e.reply ≡ Reply.Done)) es →
+      Leads (Does meaning) es s t → short s → short t
   laters_short [] s t late runs spells = subst short runs spells
   laters_short (e ∷ es) s t late runs spells =
-      laters_short es runs.0 t late.1 runs.2 (subst short (sym runs.1.1) (laws.short_runs s e.at e.call e.reply spells runs.1.0 (disposable_short e.call late.0.0)))
+      laters_short es runs.0 t late.1 runs.2
+      (subst short (sym runs.1.1) (laws.short_runs s e.at e.call e.reply spells runs.1.0
+      (disposable_short e.call late.0.0)))
 
   module _ (s : State S) (upheld : Upheld s) where
     -- No more entries than 1024 for each of the 64 that may be live.
     pub few_asked : length s.entries ≤ maps.len s.live * 1024
-    few_asked = few_entries s.live s.entries (steps.alive answers leaves makes need inverse laws.rules s upheld.holds) upheld.few_calls
+    few_asked = few_entries s.live s.entries (steps.alive meaning making laws.rules s upheld.holds)
+        upheld.few_calls
 
     -- how many names there are then
-    pub make_names : (name : List ℕ) (kind : Kind) (t : State S) → MakeRow names makes s name kind t → length (names t.now) ≡ length (names s.now) + 1
+    pub make_names : (name : List ℕ) (kind : Kind) (t : State S) → MakeRow making s name kind t →
+        length (making.names t.now) ≡ length (making.names s.now) + 1
     make_names name kind t row =
-        let named = ap length (laws.makes_named s.now row.next name kind row.made).1 in
-        let longer = pushed_length (names s.now) name in
-        let is = ap (λ (v : State S). length (names v.now)) row.is in
+        let named = ap length (laws.makings.makes_named s.now row.next name kind row.made).1 in
+        let longer = pushed_length (making.names s.now) name in
+        let is = ap (λ (v : State S). length (making.names v.now)) row.is in
         omega arith
 
-    pub make_upheld : (name : List ℕ) (kind : Kind) (t : State S) → MakeRow names makes s name kind t → Upheld t
+    pub make_upheld : (name : List ℕ) (kind : Kind) (t : State S) → MakeRow making s name kind t →
+        Upheld t
     make_upheld name kind t row =
         let few = row.new.few in
-        let named = ap length (laws.makes_named s.now row.next name kind row.made).1 in
-        let longer = pushed_length (names s.now) name in
+        let named = ap length (laws.makings.makes_named s.now row.next name kind row.made).1 in
+        let longer = pushed_length (making.names s.now) name in
         subst Upheld (sym row.is) (record {
           few_live = upheld.few_live;
           few_calls = upheld.few_calls;
           few_names = omega arith;
-          reached = laws.makes_keep_within s.now row.next name kind s.wear row.made upheld.reached;
+          reached = laws.makings.makes_keep_within s.now row.next name kind s.wear row.made
+              upheld.reached;
           unworn = upheld.unworn;
           numbers = upheld.numbers;
           spells = laws.short_makes s.now row.next name kind row.made upheld.spells;
           asked = upheld.asked;
-          holds = subst Sound row.is (steps.make_sound answers leaves makes need inverse laws.rules s upheld.holds names name kind t row);
+          holds = subst Sound row.is (steps.make_sound meaning making laws.rules s upheld.holds name
+              kind t row);
         })
 
-    begun_numbers : (n : ℕ) → IsNumber n → (k : ℕ) → Lives (maps.insert s.live n false) k → IsNumber k
+    begun_numbers : (n : ℕ) → IsNumber n → (k : ℕ) → Lives (maps.insert s.live n false) k →
+        IsNumber k
     begun_numbers n number k lives =
         ⊎_elim
         (λ (same : n ≡ k). subst IsNumber same number)
@@ -102,18 +120,22 @@ module _ {S : Type 0} (answers : S → ℕ → Call → Reply → Type 0) (leave
           numbers = begun_numbers n row.can.number;
           spells = upheld.spells;
           asked = upheld.asked;
-          holds = subst Sound row.is (steps.begin_sound answers leaves makes need inverse laws.rules s upheld.holds n t row);
+          holds = subst Sound row.is (steps.begin_sound meaning making laws.rules s upheld.holds n t
+              row);
         })
 
-    pub call_names : (n : ℕ) (e : Event) (t : State S) → CallRow answers leaves belongs need s n e t → length (names t.now) ≡ length (names s.now)
+    pub call_names : (n : ℕ) (e : Event) (t : State S) → CallRow meaning s n e t →
+        length (making.names t.now) ≡ length (making.names s.now)
     call_names n e t row =
-        let is = ap (λ (v : State S). length (names v.now)) row.is in
-        let same = ap length (laws.runs_keep_names s.now e.at e.call e.reply row.can.answered) in
+        let is = ap (λ (v : State S). length (making.names v.now)) row.is in
+        let same = ap length (laws.makings.runs_keep_names s.now e.at e.call e.reply
+        row.can.answered) in
         omega arith
 
-    pub call_upheld : (n : ℕ) (e : Event) (t : State S) → CallRow answers leaves belongs need s n e t → Upheld t
+    pub call_upheld : (n : ℕ) (e : Event) (t : State S) → CallRow meaning s n e t → Upheld t
     call_upheld n e t row =
-        let same_names = ap length (laws.runs_keep_names s.now e.at e.call e.reply row.can.answered) in
+        let same_names = ap length (laws.makings.runs_keep_names s.now e.at e.call e.reply
+        row.can.answered) in
         let room = row.room in
         let few_names = upheld.few_names in
         let longer = pushed_length s.entries (n, Asked e) in
@@ -121,35 +143,54 @@ module _ {S : Type 0} (answers : S → ℕ → Call → Reply → Type 0) (leave
           few_live = upheld.few_live;
           few_calls = λ k. own_pushed n k (Asked e) s.entries row.can.few (upheld.few_calls k);
           few_names = omega arith;
-          reached = laws.wears s.now s.wear e.at e.call e.reply upheld.reached row.can.answered;
+          reached = (laws.calls.holds s.now).wears s.wear e.at e.call e.reply upheld.reached
+              row.can.answered;
           unworn = omega arith;
           numbers = upheld.numbers;
-          spells = laws.short_runs s.now e.at e.call e.reply upheld.spells row.can.answered row.can.asked.2;
-          asked = each_append (λ e. IsAskedEntry e.1) s.entries ((n, Asked e) ∷ []) upheld.asked ((row.can.asked.1, row.can.asked.2, laws.paired s.now e.at e.call e.reply row.can.asked.1 row.can.answered, laws.short_replies s.now e.at e.call e.reply upheld.spells row.can.answered), tt);
-          holds = subst Sound row.is (steps.call_sound answers leaves makes need inverse laws.rules s upheld.holds belongs n e t row);
+          spells = laws.short_runs s.now e.at e.call e.reply upheld.spells row.can.answered
+              row.can.asked.2;
+          asked = each_append (λ e. IsAskedEntry e.1) s.entries ((n, Asked e) ∷ []) upheld.asked (
+            (
+              row.can.asked.1,
+              row.can.asked.2,
+              laws.paired s.now e.at e.call e.reply row.can.asked.1 row.can.answered,
+              laws.short_replies s.now e.at e.call e.reply upheld.spells row.can.answered,
+            ),
+            tt,
+          );
+          holds = subst Sound row.is (steps.call_sound meaning making laws.rules s upheld.holds n e
+              t row);
         })
 
-    pub later_names : (n at : ℕ) (call : Call) (t : State S) → LaterRow answers leaves belongs need s n at call t → length (names t.now) ≡ length (names s.now)
-    later_names n at call t row = ap (λ (v : State S). length (names v.now)) row.is
+    pub later_names : (n at : ℕ) (call : Call) (t : State S) → LaterRow meaning s n at call t →
+        length (making.names t.now) ≡ length (making.names s.now)
+    later_names n at call t row = ap (λ (v : State S). length (making.names v.now)) row.is
 
-    pub later_upheld : (n at : ℕ) (call : Call) (t : State S) → LaterRow answers leaves belongs need s n at call t → Upheld t
+    pub later_upheld : (n at : ℕ) (call : Call) (t : State S) → LaterRow meaning s n at call t →
+        Upheld t
     later_upheld n at call t row =
         let room = row.room in
         let longer = pushed_length s.entries (n, PutOff at call) in
         subst Upheld (sym row.is) (record {
           few_live = upheld.few_live;
-          few_calls = λ k. own_pushed n k (PutOff at call) s.entries row.can.few (upheld.few_calls k);
+          few_calls = λ k. own_pushed n k (PutOff at call) s.entries row.can.few
+              (upheld.few_calls k);
           few_names = upheld.few_names;
           reached = laws.wears_more s.now s.wear upheld.reached;
           unworn = omega arith;
           numbers = upheld.numbers;
           spells = upheld.spells;
-          asked = each_append (λ e. IsAskedEntry e.1) s.entries ((n, PutOff at call) ∷ []) upheld.asked (row.can.put_off.1, tt);
-          holds = subst Sound row.is (steps.later_sound answers leaves makes need inverse laws.rules s upheld.holds belongs n at call t row);
+          asked = each_append (λ e. IsAskedEntry e.1) s.entries ((n, PutOff at call) ∷ [])
+              upheld.asked (row.can.put_off.1, tt);
+          holds = subst Sound row.is (steps.later_sound meaning making laws.rules s upheld.holds n
+              at call t row);
         })
 
-    -- A transaction is over. What it put off wore by no more than its entries count, so each entry that is left may still be undone.
-    left_upheld : (n : ℕ) (next : S) (more : ℕ) (t : State S) → Lives s.live n → within next (s.wear + more) → more ≤ length (own n s.entries) → length (names next) ≡ length (names s.now) → short next →
+    -- A transaction is over. What it put off wore by no more than its entries count, so each entry
+    -- that is left may still be undone.
+    left_upheld : (n : ℕ) (next : S) (more : ℕ) (t : State S) → Lives s.live n →
+        meaning.within next (s.wear + more) → more ≤ length (own n s.entries) →
+        length (making.names next) ≡ length (making.names s.now) → short next →
         IsLeft (record s { now = next; wear = s.wear + more }) n t → Sound t → Upheld t
     left_upheld n next more t lives reached less same_names spells left sound =
         let fewer = len_left s.live n lives in
@@ -159,7 +200,8 @@ module _ {S : Type 0} (answers : S → ℕ → Call → Reply → Type 0) (leave
         let unworn = upheld.unworn in
         subst Upheld (sym left.is) (record {
           few_live = omega arith;
-          few_calls = λ k. let less = own_of_others n k s.entries in let few = upheld.few_calls k in omega arith;
+          few_calls = λ k. let less = own_of_others n k s.entries in let few = upheld.few_calls k in
+              omega arith;
           few_names = omega arith;
           reached = reached;
           unworn = omega arith;
@@ -170,11 +212,14 @@ module _ {S : Type 0} (answers : S → ℕ → Call → Reply → Type 0) (leave
         })
 
     -- what a transaction put off leaves
-    after_laters : (n : ℕ) (next : S) → Leads (Does answers leaves) (laters_of (own n s.entries)) s.now next →
-        within next (s.wear + length (laters_of (own n s.entries))) × (length (names next) ≡ length (names s.now)) × short next
+    after_laters : (n : ℕ) (next : S) →
+        Leads (Does meaning) (laters_of (own n s.entries)) s.now next →
+        meaning.within next (s.wear + length (laters_of (own n s.entries))) ×
+        (length (making.names next) ≡ length (making.names s.now)) × short next
     after_laters n next runs =
-        let late = steps.laters_disposable answers leaves makes need inverse laws.rules s upheld.holds n in (
-          run_within answers leaves within laws.wears (laters_of (own n s.entries)) s.now next s.wear runs upheld.reached,
+        let late = steps.laters_disposable meaning making laws.rules s upheld.holds n in (
+          run_within meaning laws.calls (laters_of (own n s.entries)) s.now next s.wear runs
+              upheld.reached,
           laters_names (laters_of (own n s.entries)) s.now next runs,
           laters_short (laters_of (own n s.entries)) s.now next late runs upheld.spells,
         )
@@ -188,72 +233,97 @@ module _ {S : Type 0} (answers : S → ℕ → Call → Reply → Type 0) (leave
         omega arith
 
     -- What a running transaction put off can run.
-    pub commit_ready : (n : ℕ) → IsRunning s n → CanRun answers leaves within (laters_of (own n s.entries)) s.now
+    pub commit_ready : (n : ℕ) → IsRunning s n → CanRun meaning (laters_of (own n s.entries)) s.now
     commit_ready n running =
-        let can = steps.commit_can answers leaves makes need inverse laws.rules s upheld.holds n running in
+        let can = steps.commit_can meaning making laws.rules s upheld.holds n running in
         record {
           next = can.0;
           runs = can.1;
-          late = weaker (λ e. Disposable e.call × (e.reply ≡ Reply.Done)) (λ e. Disposable e.call) (λ e late. late.0) (laters_of (own n s.entries)) (steps.laters_disposable answers leaves makes need inverse laws.rules s upheld.holds n);
+          late = weaker (λ e. Disposable e.call × (e.reply ≡ Reply.Done)) (λ e. Disposable e.call)
+              (λ e late. late.0) (laters_of (own n s.entries))
+              (steps.laters_disposable meaning making laws.rules s upheld.holds n);
           wear = s.wear;
           reached = upheld.reached;
           room = commit_fits n;
         }
 
-    pub commit_names : (n : ℕ) (t : State S) → CommitRow answers leaves s n t → length (names t.now) ≡ length (names s.now)
-    commit_names n t row = ap (λ (v : State S). length (names v.now)) row.left.is ∙ (after_laters n row.next row.runs).1
+    pub commit_names : (n : ℕ) (t : State S) → CommitRow meaning s n t →
+        length (making.names t.now) ≡ length (making.names s.now)
+    commit_names n t row = ap (λ (v : State S). length (making.names v.now)) row.left.is ∙
+        (after_laters n row.next row.runs).1
 
-    pub commit_upheld : (n : ℕ) (t : State S) → CommitRow answers leaves s n t → Upheld t
+    pub commit_upheld : (n : ℕ) (t : State S) → CommitRow meaning s n t → Upheld t
     commit_upheld n t row =
         let after = after_laters n row.next row.runs in
-        left_upheld n row.next (length (laters_of (own n s.entries))) t row.running.live after.0 (few_laters (own n s.entries)) after.1 after.2 row.left (steps.commit_sound answers leaves makes need inverse laws.rules s upheld.holds n t row)
+        left_upheld n row.next (length (laters_of (own n s.entries))) t row.running.live after.0
+        (few_laters (own n s.entries)) after.1 after.2 row.left
+        (steps.commit_sound meaning making laws.rules s upheld.holds n t row)
 
     pub ended_upheld : (n : ℕ) (t : State S) → EndedRow s n t → Upheld t
     ended_upheld n t row =
-        left_upheld n s.now 0 t row.live (subst (within s.now) (omega arith) upheld.reached) (omega arith) refl upheld.spells (subst (λ w. IsLeft (record s { wear = w }) n t) (omega arith) row.left)
-        (steps.ended_sound answers leaves makes need inverse laws.rules s upheld.holds n t row)
+        left_upheld n s.now 0 t row.live (subst (meaning.within s.now) (omega arith) upheld.reached)
+        (omega arith) refl upheld.spells
+        (subst (λ w. IsLeft (record s { wear = w }) n t) (omega arith) row.left)
+        (steps.ended_sound meaning making laws.rules s upheld.holds n t row)
 
     -- who lives once a number falls lived before
     pub fallen_lives : (n k : ℕ) → Lives s.live n → Lives (fallen s.live n) k → Lives s.live k
     fallen_lives n k lives there =
-        ⊎_elim (λ (same : n ≡ k). subst (Lives s.live) same lives) (λ (old : Lives s.live k). old) ((lives_more s.live n true k).1 (subst (λ m. Lives m k) (fallen_is s.live n lives) there))
+        ⊎_elim (λ (same : n ≡ k). subst (Lives s.live) same lives) (λ (old : Lives s.live k). old)
+        ((lives_more s.live n true k).1
+        (subst (λ m. Lives m k) (fallen_is s.live n lives) there))
 
     -- what undoing leaves of names and of wear
-    undone_names : (back : Option Call) (at : ℕ) (c u : S) → MatchOption back (u ≡ c) (λ d. (r : Reply) × shape.Does answers leaves c at d r u) → length (names u) ≡ length (names c)
-    undone_names None at c u undone = ap (λ v. length (names v)) undone
-    undone_names (Some d) at c u undone = ap (λ v. length (names v)) undone.1.1 ∙ ap length (laws.runs_keep_names c at d undone.0 undone.1.0)
+    undone_names : (back : Option Call) (at : ℕ) (c u : S) →
+        MatchOption back (u ≡ c) (λ d. (r : Reply) × shape.Does meaning c at d r u) →
+        length (making.names u) ≡ length (making.names c)
+    undone_names None at c u undone = ap (λ v. length (making.names v)) undone
+    undone_names (Some d) at c u undone =
+        ap (λ v. length (making.names v)) undone.1.1 ∙
+        ap length (laws.makings.runs_keep_names c at d undone.0 undone.1.0)
 
-    undone_within : (back : Option Call) (at : ℕ) (c u : S) (n : ℕ) → MatchOption back (u ≡ c) (λ d. (r : Reply) × shape.Does answers leaves c at d r u) → within c n → within u (n + 1)
-    undone_within None at c u n undone reached = subst (λ v. within v (n + 1)) (sym undone) (laws.wears_more c n reached)
-    undone_within (Some d) at c u n undone reached = subst (λ v. within v (n + 1)) (sym undone.1.1) (laws.wears c n at d undone.0 reached undone.1.0)
+    undone_within : (back : Option Call) (at : ℕ) (c u : S) (n : ℕ) →
+        MatchOption back (u ≡ c) (λ d. (r : Reply) × shape.Does meaning c at d r u) →
+        meaning.within c n → meaning.within u (n + 1)
+    undone_within None at c u n undone reached =
+        subst (λ v. meaning.within v (n + 1)) (sym undone) (laws.wears_more c n reached)
+    undone_within (Some d) at c u n undone reached =
+        subst (λ v. meaning.within v (n + 1)) (sym undone.1.1)
+        ((laws.calls.holds c).wears n at d undone.0 reached undone.1.0)
 
-    pub back_names : (n : ℕ) (t : State S) → BackRow answers leaves inverse s n t → length (names t.now) ≡ length (names s.now)
+    pub back_names : (n : ℕ) (t : State S) → BackRow meaning s n t →
+        length (making.names t.now) ≡ length (making.names s.now)
     back_names n t row =
         let x = row.call in
-        let is = ap (λ (v : State S). length (names v.now)) row.is in
-        let same = undone_names (inverse x.call x.reply) x.at s.now row.next row.undoes in
+        let is = ap (λ (v : State S). length (making.names v.now)) row.is in
+        let same = undone_names (inverse_of x.call x.reply) x.at s.now row.next row.undoes in
         omega arith
 
-    pub back_upheld : (n : ℕ) (t : State S) → BackRow answers leaves inverse s n t → Upheld t
+    pub back_upheld : (n : ℕ) (t : State S) → BackRow meaning s n t → Upheld t
     back_upheld n t row =
         let x = row.call in
         let new = row.newest in
-        let same_names = undone_names (inverse x.call x.reply) x.at s.now row.next row.undoes in
+        let same_names = undone_names (inverse_of x.call x.reply) x.at s.now row.next row.undoes in
         let same_live = len_fallen s.live n row.live in
-        let fewer = rest_length s.entries new.before (n, Asked x) new.after row.rest new.is new.rest_is in
+        let fewer = rest_length s.entries new.before (n, Asked x) new.after row.rest new.is
+        new.rest_is in
         let few_names = upheld.few_names in
         let few_live = upheld.few_live in
         let unworn = upheld.unworn in
         subst Upheld (sym row.is) (record {
           few_live = omega arith;
-          few_calls = λ k. let less = own_of_rest k s.entries new.before (n, Asked x) new.after row.rest new.is new.rest_is in let few = upheld.few_calls k in omega arith;
+          few_calls = λ k. let less = own_of_rest k s.entries new.before (n, Asked x) new.after
+              row.rest new.is new.rest_is in let few = upheld.few_calls k in omega arith;
           few_names = omega arith;
-          reached = undone_within (inverse x.call x.reply) x.at s.now row.next s.wear row.undoes upheld.reached;
+          reached = undone_within (inverse_of x.call x.reply) x.at s.now row.next s.wear row.undoes
+              upheld.reached;
           unworn = omega arith;
           numbers = λ k there. upheld.numbers k (fallen_lives n k row.live there);
-          spells = undone_short answers leaves inverse short laws.short_runs laws.short_inverse x s.now row.next (short_newest s.entries upheld.asked n x row.rest new) upheld.spells row.undoes;
+          spells = undone_short meaning short laws.short_runs laws.short_inverse x s.now row.next
+              (short_newest s.entries upheld.asked n x row.rest new) upheld.spells row.undoes;
           asked = asked_rest s.entries upheld.asked n x row.rest new;
-          holds = subst Sound row.is (steps.back_sound answers leaves makes need inverse laws.rules s upheld.holds n t row);
+          holds = subst Sound row.is (steps.back_sound meaning making laws.rules s upheld.holds n t
+              row);
         })
 
     pub fall_upheld : (n : ℕ) (t : State S) → FallRow s n t → Upheld t
@@ -269,7 +339,8 @@ module _ {S : Type 0} (answers : S → ℕ → Call → Reply → Type 0) (leave
           numbers = λ k there. upheld.numbers k (fallen_lives n k row.live there);
           spells = upheld.spells;
           asked = upheld.asked;
-          holds = subst Sound row.is (steps.fall_sound answers leaves makes need inverse laws.rules s upheld.holds n t row);
+          holds = subst Sound row.is (steps.fall_sound meaning making laws.rules s upheld.holds n t
+              row);
         })
 
     -- There is room in the wear for one entry more,
@@ -277,25 +348,31 @@ module _ {S : Type 0} (answers : S → ℕ → Call → Reply → Type 0) (leave
     enter_room unworn = let few = few_asked in let live = upheld.few_live in omega arith
 
     -- for one call more, or for one that is put off,
-    pub call_room : (n at : ℕ) (call : Call) → IsRunning s n → length (own n s.entries) < 1024 → s.wear < 2 ^ 61 → (s.wear + 1 + (length s.entries + 1) ≤ 2 ^ 61 + 65536) × HasRoom within s.now
+    pub call_room : (n at : ℕ) (call : Call) → IsRunning s n → length (own n s.entries) < 1024 →
+        s.wear < 2 ^ 61 → (s.wear + 1 + (length s.entries + 1) ≤ 2 ^ 61 + 65536) ×
+        HasRoom meaning s.now
     call_room n at call running few unworn =
         let e : Event = record { at = at; call = call; reply = Reply.Done } in
         let more = few_entries s.live (s.entries ++ (n, Asked e) ∷ [])
-        (each_append (λ e. Lives s.live e.0) s.entries ((n, Asked e) ∷ []) (steps.alive answers leaves makes need inverse laws.rules s upheld.holds) (running.live, tt))
+        (each_append (λ e. Lives s.live e.0) s.entries ((n, Asked e) ∷ [])
+        (steps.alive meaning making laws.rules s upheld.holds) (running.live, tt))
         (λ k. own_pushed n k (Asked e) s.entries few (upheld.few_calls k)) in
         let longer = pushed_length s.entries (n, Asked e) in
         let live = upheld.few_live in
         (omega arith, (s.wear, upheld.reached, omega arith))
 
     -- and for the undoing of a call.
-    pub back_room : (n : ℕ) (x : Event) (rest : List (ℕ × Entry)) → IsNewestCall n s.entries x rest → HasRoom within s.now
+    pub back_room : (n : ℕ) (x : Event) (rest : List (ℕ × Entry)) →
+        IsNewestCall n s.entries x rest → HasRoom meaning s.now
     back_room n x rest new =
-        let fewer = rest_length s.entries new.before (n, Asked x) new.after rest new.is new.rest_is in
+        let fewer = rest_length s.entries new.before (n, Asked x) new.after rest new.is
+        new.rest_is in
         let unworn = upheld.unworn in
         (s.wear, upheld.reached, omega arith)
 
   -- A state with no live transaction.
-  pub resting_upheld : (now : S) (wear : ℕ) → within now wear → wear ≤ 2 ^ 61 + 65536 → length (names now) ≤ 256 → short now → Upheld (resting now wear)
+  pub resting_upheld : (now : S) (wear : ℕ) → meaning.within now wear → wear ≤ 2 ^ 61 + 65536 →
+      length (making.names now) ≤ 256 → short now → Upheld (resting now wear)
   resting_upheld now wear reached unworn few spells =
       let none = maps.len-empty nat_cmp Bool in
       record {
@@ -307,5 +384,5 @@ module _ {S : Type 0} (answers : S → ℕ → Call → Reply → Type 0) (leave
         numbers = λ n lives. absurd (nobody n lives);
         spells = spells;
         asked = tt;
-        holds = steps.opened_sound answers leaves makes need inverse laws.rules now wear;
+        holds = steps.opened_sound meaning making laws.rules now wear;
       }

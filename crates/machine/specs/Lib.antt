@@ -1,3 +1,4 @@
+pub mod Ledgers
 pub mod Theory
 pub mod Machine
 pub mod Machines

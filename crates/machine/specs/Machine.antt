@@ -1,19 +1,22 @@
--- The machine over records: the state that records lead to. The book runs it forward, and recovery repeats it.
-use Rattle.std.specs.Prelude.{◌≡◌, ℕ, ◌+◌, ◌<◌, ◌≤◌, ◌^◌, false, List, [], ◌∷◌, ◌++◌, length, map, Contains, Option}
+-- The machine over records: the state that records lead to. The book runs it forward, and recovery
+-- repeats it.
+use Rattle.std.specs.Prelude.{◌≡◌, ℕ, ◌+◌, ◌<◌, ◌≤◌, ◌^◌, false, List, [], ◌∷◌, ◌++◌, length, map}
+use Rattle.std.specs.Prelude.{Contains, Option}
 use Rattle.std.specs.FinMap as maps
 use Rattle.calls.specs.declared.kind.Kind.{Kind}
 use Rattle.calls.specs.declared.call.Call.{Call}
 use Rattle.calls.specs.declared.reply.Reply.{Reply}
 use Rattle.calls.specs.declared.need.Need.{Need}
-use Rattle.calls.specs.Laters.{left_by}
-use Rattle.calls.specs.Transactions.{Event, Entry, Asked, PutOff, own, others, calls_of, laters_of, Leads}
+use Rattle.calls.specs.Rules.{left_by, need_of}
+use Rattle.calls.specs.Transactions.{Event, Entry, Asked, PutOff, own, others, calls_of, laters_of}
+use Rattle.calls.specs.Transactions.{Leads}
 use Rattle.abstract_locks.specs.declared.table.Hold.{Hold}
 use Rattle.abstract_locks.specs.Holds.{hold, IsClear, IsAdded, IsGivenUp}
 use Rattle.undo_log.specs.Entries.{HasNoCall, IsNewestCall}
 use Rattle.undo_log.specs.Logs.{Statuses, Lives, Falls, fallen}
-use Rattle.boosted.specs.Shape as shape
-use Rattle.boosted.specs.Shape.{CanAsk, CanDefer, Undoes}
-use Rattle.catalog.specs.Making.{IsNew}
+use Rattle.boosted.specs.Meaning as shape
+use Rattle.boosted.specs.Meaning.{CanAsk, CanDefer, Undoes, Meaning}
+use Rattle.catalog.specs.Making.{IsNew, Making}
 use Rattle.record_format.specs.declared.record.Record.{Record}
 use Rattle.record_format.specs.Acts.{event_of}
 use Rattle.record_format.specs.Records.{IsNumber}
@@ -39,7 +42,11 @@ pub record IsRunning {S : Type 0} (s : State S) (n : ℕ) : Type 0 where
 -- What the number asked for is done: its entries and needs go, and no other's.
 pub record IsLeft {S : Type 0} (s : State S) (n : ℕ) (t : State S) : Type 0 where
   pub holds : IsGivenUp s.holds t.holds n
-  pub is : t ≡ record s { live = maps.remove s.live n; entries = others n s.entries; holds = t.holds }
+  pub is : t ≡ record s {
+    live = maps.remove s.live n;
+    entries = others n s.entries;
+    holds = t.holds;
+  }
 
 -- A number begins.
 pub record CanBegin {S : Type 0} (s : State S) (n : ℕ) : Type 0 where
@@ -66,87 +73,103 @@ pub record FallRow {S : Type 0} (s : State S) (n : ℕ) (t : State S) : Type 0 w
 
 -- A call of the transaction that is not undone has left this one at the place to its commit.
 abbrev pub IsGoing : List (ℕ × Entry) → (n at : ℕ) → Call → Type 0
-IsGoing entries n at c = (x : Event) × Contains (own n entries) (Asked x) × (x.at ≡ at) × Contains (left_by x.call x.reply) c
+IsGoing entries n at c = (x : Event) × Contains (own n entries) (Asked x) × (x.at ≡ at) ×
+    Contains (left_by x.call x.reply) c
 
 -- What the call leaves is going already: nothing can be left twice.
 abbrev pub GoesTwice : List (ℕ × Entry) → ℕ → Event → Type 0
 GoesTwice entries n e = (c : Call) × Contains (left_by e.call e.reply) c × IsGoing entries n e.at c
 
 -- A collection is made, under a good name that is free, where there are fewer than 256.
-pub record MakeRow {S : Type 0} (names : S → List (List ℕ)) (makes : S → List ℕ → Kind → S → Type 0) (s : State S) (name : List ℕ) (kind : Kind) (t : State S) : Type 0 where
-  pub new : IsNew (names s.now) name
+pub record MakeRow {S : Type 0} (making : Making S) (s : State S) (name : List ℕ) (kind : Kind)
+    (t : State S) : Type 0 where
+  pub new : IsNew (making.names s.now) name
   pub next : S
-  pub made : makes s.now name kind next
+  pub made : making.makes s.now name kind next
   pub is : t ≡ record s { now = next }
 
-module _ {S : Type 0} (answers : S → ℕ → Call → Reply → Type 0) (leaves : S → ℕ → Call → Reply → S) where
+module _ {S : Type 0} (meaning : Meaning S ℕ) where
   -- The call, answered so, leads from one content to another.
   abbrev pub Does : S → Event → S → Type 0
-  Does s e t = shape.Does answers leaves s e.at e.call e.reply t
+  Does s e t = shape.Does meaning s e.at e.call e.reply t
 
-  -- The live calls lead from c to what the collections hold now: c is what they would hold without the live transactions.
+  -- The live calls lead from c to what the collections hold now: c is what they would hold without
+  -- the live transactions.
   abbrev pub IsSettled : State S → S → Type 0
   IsSettled s c = Leads Does (calls_of (map (λ e. e.1) s.entries)) c s.now
 
-  -- A call of a running transaction that gets this reply now, leaves nothing that is going already, and needs what no other transaction holds in its way.
-  pub record CanCall (belongs : S → ℕ → Call → Type 0) (need : Call → Reply → Need) (s : State S) (n : ℕ) (e : Event) : Type 0 where
+  -- A call of a running transaction that gets this reply now, leaves nothing that is going already,
+  -- and needs what no other transaction holds in its way.
+  pub record CanCall (s : State S) (n : ℕ) (e : Event) : Type 0 where
     pub running : IsRunning s n
-    pub asked : CanAsk belongs s.now e.at e.call
+    pub asked : CanAsk meaning s.now e.at e.call
     pub few : length (own n s.entries) < 1024
-    pub answered : answers s.now e.at e.call e.reply
+    pub answered : meaning.answers s.now e.at e.call e.reply
     pub once : GoesTwice s.entries n e → ⊥
-    pub clear : IsClear s.holds n e.at (need e.call e.reply)
+    pub clear : IsClear s.holds n e.at (need_of e.call e.reply)
 
-  pub record CallRow (belongs : S → ℕ → Call → Type 0) (need : Call → Reply → Need) (s : State S) (n : ℕ) (e : Event) (t : State S) : Type 0 where
-    pub can : CanCall belongs need s n e
+  pub record CallRow (s : State S) (n : ℕ) (e : Event) (t : State S) : Type 0 where
+    pub can : CanCall s n e
     pub room : s.wear + 1 + (length s.entries + 1) ≤ 2 ^ 61 + 65536
-    pub holds : IsAdded s.holds t.holds (hold n e.at (need e.call e.reply))
+    pub holds : IsAdded s.holds t.holds (hold n e.at (need_of e.call e.reply))
     pub is : t ≡ record s {
-      now = leaves s.now e.at e.call e.reply;
+      now = meaning.leaves s.now e.at e.call e.reply;
       entries = s.entries ++ (n, Asked e) ∷ [];
       holds = t.holds;
       wear = s.wear + 1;
     }
 
-  -- A call that a running transaction puts off to its commit, under the need that it has with the reply Done. It would get that reply now.
-  pub record CanPutOff (belongs : S → ℕ → Call → Type 0) (need : Call → Reply → Need) (s : State S) (n at : ℕ) (call : Call) : Type 0 where
+  -- A call that a running transaction puts off to its commit, under the need that it has with the
+  -- reply Done. It would get that reply now.
+  pub record CanPutOff (s : State S) (n at : ℕ) (call : Call) : Type 0 where
     pub running : IsRunning s n
-    pub put_off : CanDefer belongs s.now at call
+    pub put_off : CanDefer meaning s.now at call
     pub few : length (own n s.entries) < 1024
-    pub ready : answers s.now at call Reply.Done
-    pub clear : IsClear s.holds n at (need call Reply.Done)
+    pub ready : meaning.answers s.now at call Reply.Done
+    pub clear : IsClear s.holds n at (need_of call Reply.Done)
 
-  pub record LaterRow (belongs : S → ℕ → Call → Type 0) (need : Call → Reply → Need) (s : State S) (n at : ℕ) (call : Call) (t : State S) : Type 0 where
-    pub can : CanPutOff belongs need s n at call
+  pub record LaterRow (s : State S) (n at : ℕ) (call : Call) (t : State S) : Type 0 where
+    pub can : CanPutOff s n at call
     pub room : s.wear + 1 + (length s.entries + 1) ≤ 2 ^ 61 + 65536
-    pub holds : IsAdded s.holds t.holds (hold n at (need call Reply.Done))
-    pub is : t ≡ record s { entries = s.entries ++ (n, PutOff at call) ∷ []; holds = t.holds; wear = s.wear + 1 }
+    pub holds : IsAdded s.holds t.holds (hold n at (need_of call Reply.Done))
+    pub is : t ≡ record s {
+      entries =
+          s.entries ++ (n, PutOff at call) ∷ [];
+      holds = t.holds;
+      wear = s.wear + 1;
+    }
 
-  -- A transaction commits: what it put off runs, in the order asked. All that it asked for stays done.
+  -- A transaction commits: what it put off runs, in the order asked. All that it asked for stays
+  -- done.
   pub record CommitRow (s : State S) (n : ℕ) (t : State S) : Type 0 where
     pub running : IsRunning s n
     pub next : S
     pub runs : Leads Does (laters_of (own n s.entries)) s.now next
-    pub left : IsLeft (record s { now = next; wear = s.wear + length (laters_of (own n s.entries)) }) n t
+    pub left : IsLeft (record s {
+      now =
+          next;
+      wear = s.wear + length (laters_of (own n s.entries));
+    }) n t
 
-  -- The newest call of a transaction is undone. The transaction is falling from then on, and holds its needs still.
-  pub record BackRow (inverse : Call → Reply → Option Call) (s : State S) (n : ℕ) (t : State S) : Type 0 where
+  -- The newest call of a transaction is undone. The transaction is falling from then on, and holds
+  -- its needs still.
+  pub record BackRow (s : State S) (n : ℕ) (t : State S) : Type 0 where
     pub live : Lives s.live n
     pub call : Event
     pub rest : List (ℕ × Entry)
     pub newest : IsNewestCall n s.entries call rest
     pub next : S
-    pub undoes : Undoes (shape.Does answers leaves) inverse s.now call.at call.call call.reply next
+    pub undoes : Undoes meaning s.now call.at call.call call.reply next
     pub is : t ≡ record s { now = next; live = fallen s.live n; entries = rest; wear = s.wear + 1 }
 
   -- The record leads from one state to another: what it asks, and what it changes.
-  module _ (belongs : S → ℕ → Call → Type 0) (names : S → List (List ℕ)) (makes : S → List ℕ → Kind → S → Type 0) (need : Call → Reply → Need) (inverse : Call → Reply → Option Call) where
+  module _ (making : Making S) where
     abbrev pub Steps : State S → Record → State S → Type 0
-    Steps s (Record.Make kind name) t = MakeRow names makes s name kind t
+    Steps s (Record.Make kind name) t = MakeRow making s name kind t
     Steps s (Record.Begin n) t = BeginRow s n t
-    Steps s (Record.Call c) t = CallRow belongs need s c.number (event_of c) t
-    Steps s (Record.Later l) t = LaterRow belongs need s l.number l.collection l.call t
+    Steps s (Record.Call c) t = CallRow s c.number (event_of c) t
+    Steps s (Record.Later l) t = LaterRow s l.number l.collection l.call t
     Steps s (Record.Commit n) t = CommitRow s n t
-    Steps s (Record.Back n) t = BackRow inverse s n t
+    Steps s (Record.Back n) t = BackRow s n t
     Steps s (Record.Ended n) t = EndedRow s n t
     Steps s other t = ⊥

@@ -1,19 +1,22 @@
--- The machine over records as an object: the states that it may be in, and what it answers of a record.
-use Rattle.std.specs.Prelude.{◌≡◌, ℕ, ◌+◌, ◌≤◌, ◌^◌, ◌↔◌, List, [], length, Contains, Bool, true, false, Result, Ok, Err}
+-- The machine over records as an object: the states that it may be in, and what it answers of a
+-- record.
+use Rattle.std.specs.Prelude.{◌≡◌, ℕ, ◌+◌, ◌≤◌, ◌^◌, ◌↔◌, List, [], length, Contains, Bool, true}
+use Rattle.std.specs.Prelude.{false, Result, Ok, Err}
 use Rattle.std.specs.FinMap as maps
 use Rattle.std.specs.List.{AllByRecursion}
 use Rattle.calls.specs.declared.call.Call.{Call}
 use Rattle.calls.specs.declared.reply.Reply.{Reply}
 use Rattle.calls.specs.declared.refusal.Refusal.{Refusal}
-use Rattle.calls.specs.Inverses.{Askable, IsShort, Disposable, Deferrable}
-use Rattle.calls.specs.Laters.{left_by}
+use Rattle.calls.specs.Rules.{Askable, IsShort, Disposable, Deferrable, left_by, Pairs}
 use Rattle.calls.specs.Transactions.{Event, Entry, Asked, PutOff, Leads, own}
 use Rattle.abstract_locks.specs.declared.table.Hold.{Hold}
 use Rattle.undo_log.specs.Logs.{Lives}
 use Rattle.record_format.specs.declared.record.Record.{Record}
-use Rattle.record_format.specs.Records.{IsNumber, Pairs}
+use Rattle.record_format.specs.Records.{IsNumber}
 use Rattle.record_format.specs.Short.{IsShortReply}
 use Rattle.machine.specs.Machine.{State, Does}
+use Rattle.boosted.specs.Meaning.{Meaning}
+use Rattle.catalog.specs.Making.{Making}
 
 -- a state with no live transaction
 abbrev pub resting : {S : Type 0} → S → (wear : ℕ) → State S
@@ -21,19 +24,23 @@ resting now wear = record { now = now; live = maps.empty; entries = []; holds = 
 
 -- ---- what holds of every state
 
--- It may stand among what was asked for: a call that a client can ask for, with a reply that it has, neither with a value too long to be spelled; or a call
+-- It may stand among what was asked for: a call that a client can ask for, with a reply that it
+-- has, neither with a value too long to be spelled; or a call
 -- that a client can put off.
 abbrev pub IsAskedEntry : Entry → Type 0
-IsAskedEntry (Asked e) = Askable e.call × IsShort e.call × Pairs e.call e.reply × IsShortReply e.reply
+IsAskedEntry (Asked e) = Askable e.call × IsShort e.call × Pairs e.call e.reply ×
+    IsShortReply e.reply
 IsAskedEntry (PutOff at c) = Deferrable c
 
--- short: no value in the collections is too long to be spelled. sound: what holds of every state that the machine reaches, in the words of the theory.
-module _ {S : Type 0} (names : S → List (List ℕ)) (within : S → ℕ → Type 0) (short : S → Type 0) (sound : State S → Type 0) where
+-- short: no value in the collections is too long to be spelled. sound: what holds of every state
+-- that the machine reaches, in the words of the theory.
+module _ {S : Type 0} (meaning : Meaning S ℕ) (making : Making S) (short : S → Type 0)
+    (sound : State S → Type 0) where
   pub record IsUpheld (s : State S) : Type 0 where
     pub few_live : maps.len s.live ≤ 64
     pub few_calls : (n : ℕ) → length (own n s.entries) ≤ 1024
-    pub few_names : length (names s.now) ≤ 256
-    pub reached : within s.now s.wear
+    pub few_names : length (making.names s.now) ≤ 256
+    pub reached : meaning.within s.now s.wear
     -- each call that is not undone may be undone
     pub unworn : s.wear + length s.entries ≤ 2 ^ 61 + 65536
     pub numbers : (n : ℕ) → Lives s.live n → IsNumber n
@@ -48,13 +55,14 @@ abbrev pub IsLeftBy : Entry → (at : ℕ) → Call → Type 0
 IsLeftBy (Asked x) at c = (x.at ≡ at) × Contains (left_by x.call x.reply) c
 IsLeftBy (PutOff place d) at c = ⊥
 
--- The calls can be made from the content one after another: each may run in a commit, and there is room in the wear for all.
-pub record CanRun {S : Type 0} (answers : S → ℕ → Call → Reply → Type 0) (leaves : S → ℕ → Call → Reply → S) (within : S → ℕ → Type 0) (es : List Event) (s : S) : Type 0 where
+-- The calls can be made from the content one after another: each may run in a commit, and there is
+-- room in the wear for all.
+pub record CanRun {S : Type 0} (meaning : Meaning S ℕ) (es : List Event) (s : S) : Type 0 where
   pub next : S
-  pub runs : Leads (Does answers leaves) es s next
+  pub runs : Leads (Does meaning) es s next
   pub late : AllByRecursion (λ e. Disposable e.call) es
   pub wear : ℕ
-  pub reached : within s wear
+  pub reached : meaning.within s wear
   pub room : wear + length es ≤ 2 ^ 61 + 65536
 
 -- ---- repeating a record
@@ -68,8 +76,10 @@ abbrev pub unmade : Refusal → Result Bool Refusal
 unmade Refusal.NoMemory = Err Refusal.NoMemory
 unmade other = Ok false
 
--- What a record's step answers: it was taken; or none leads from there, and nothing changed; or there was no memory, and nothing changed.
-abbrev pub StepAnswers : {S : Type 0} → (State S → Record → State S → Type 0) → State S → Record → Result Bool Refusal → State S → Type 0
+-- What a record's step answers: it was taken; or none leads from there, and nothing changed; or
+-- there was no memory, and nothing changed.
+abbrev pub StepAnswers : {S : Type 0} → (State S → Record → State S → Type 0) → State S → Record →
+    Result Bool Refusal → State S → Type 0
 StepAnswers steps s r (Ok true) t = steps s r t
 StepAnswers {S} steps s r (Ok false) t = (t ≡ s) × ((v : State S) → steps s r v → ⊥)
 StepAnswers steps s r (Err Refusal.NoMemory) t = t ≡ s
@@ -83,10 +93,13 @@ pub record Alike {S : Type 0} (s t : State S) : Type 0 where
   pub holds : (h : Hold) → Contains s.holds h ↔ Contains t.holds h
   pub wear : s.wear ≡ t.wear
 
--- When each answer of repeating a record comes. It was its step, and leads from each state alike to one alike; or none leads from there, nor from any
+-- When each answer of repeating a record comes. It was its step, and leads from each state alike to
+-- one alike; or none leads from there, nor from any
 -- state alike, and nothing changed; or there was no memory, and nothing changed.
-abbrev pub RepeatAnswers : {S : Type 0} → (State S → Record → State S → Type 0) → State S → Record → Result Bool Refusal → State S → Type 0
-RepeatAnswers {S} steps s r (Ok true) t = steps s r t × ((u v : State S) → Alike u s → steps u r v → Alike v t)
+abbrev pub RepeatAnswers : {S : Type 0} → (State S → Record → State S → Type 0) → State S → Record →
+    Result Bool Refusal → State S → Type 0
+RepeatAnswers {S} steps s r (Ok true) t =
+    steps s r t × ((u v : State S) → Alike u s → steps u r v → Alike v t)
 RepeatAnswers {S} steps s r (Ok false) t = (t ≡ s) × ((u v : State S) → Alike u s → steps u r v → ⊥)
 RepeatAnswers steps s r (Err Refusal.NoMemory) t = t ≡ s
 RepeatAnswers steps s r (Err e) t = ⊥

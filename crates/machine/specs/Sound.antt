@@ -12,6 +12,8 @@ use Rattle.machine.specs.Theory.Rules.{Has}
 use Rattle.machine.specs.Theory.Journal as journal
 use Rattle.machine.specs.Theory.Machine as theory
 use Rattle.machine.specs.Theory.Collections.{collection_rules}
+use Rattle.boosted.specs.Meaning.{Meaning}
+use Rattle.catalog.specs.Making.{Making}
 
 -- What a number asked for, as the theory has it.
 abbrev pub owned : ℕ → Entry → journal.Entry (ℕ × Event)
@@ -21,7 +23,8 @@ owned n (PutOff at c) = journal.PutOff (n, record { at = at; call = c; reply = R
 abbrev pub all_owned : List (ℕ × Entry) → List (journal.Entry (ℕ × Event))
 all_owned es = map (λ e. owned e.0 e.1) es
 
--- The state of the theory's machine is this one. It keeps lists where this one keeps a map and a set.
+-- The state of the theory's machine is this one. It keeps lists where this one keeps a map and a
+-- set.
 pub record Shows {S : Type 0} (s : State S) (m : theory.State S (ℕ × Event) Hold) : Type 0 where
   pub now : m.now ≡ s.now
   pub entries : m.entries ≡ all_owned s.entries
@@ -29,17 +32,19 @@ pub record Shows {S : Type 0} (s : State S) (m : theory.State S (ℕ × Event) H
   pub falling : (n : ℕ) → Has m.falling n ↔ Falls s.live n
   pub needs : (h : Hold) → Has m.needs h ↔ Contains s.holds h
 
-module _ {S : Type 0} (answers : S → ℕ → Call → Reply → Type 0) (leaves : S → ℕ → Call → Reply → S) (makes : S → List ℕ → Kind → S → Type 0) (need : Call → Reply → Need) (inverse : Call → Reply → Option Call) where
-  -- The state is sound as the theory's machine has it, and there is a content without the live transactions.
+module _ {S : Type 0} (meaning : Meaning S ℕ) (making : Making S) where
+  -- The state is sound as the theory's machine has it, and there is a content without the live
+  -- transactions.
   pub record IsSound (s : State S) : Type 0 where
     pub machine : theory.State S (ℕ × Event) Hold
     pub shows : Shows s machine
-    pub sound : theory.IsSound (collection_rules answers leaves makes need inverse) machine
+    pub sound : theory.IsSound (collection_rules meaning making) machine
     pub content : S
-    pub settled : IsSettled answers leaves s content
+    pub settled : IsSettled meaning s content
 
-  -- The state is sound as the theory's machine has it. Nothing is said of a content without the live transactions.
+  -- The state is sound as the theory's machine has it. Nothing is said of a content without the
+  -- live transactions.
   pub record IsLoaded (s : State S) : Type 0 where
     pub machine : theory.State S (ℕ × Event) Hold
     pub shows : Shows s machine
-    pub sound : theory.IsSound (collection_rules answers leaves makes need inverse) machine
+    pub sound : theory.IsSound (collection_rules meaning making) machine

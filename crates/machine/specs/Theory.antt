@@ -1,4 +1,5 @@
--- The machine of a journal: what a book of transactions runs forward, what recovery repeats, and what both come to.
+-- The machine of a journal: what a book of transactions runs forward, what recovery repeats, and
+-- what both come to.
 pub mod Rules
 pub mod Journal
 pub mod Machine

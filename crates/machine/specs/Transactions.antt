@@ -5,9 +5,13 @@ use Rattle.calls.specs.declared.call.Call.{Call}
 use Rattle.calls.specs.declared.reply.Reply.{Reply}
 use Rattle.calls.specs.Transactions.{Leads, Transaction, Whole, Made, calls_of, laters_of}
 use Rattle.machine.specs.Machine.{Does}
+use Rattle.boosted.specs.Meaning.{Meaning}
+use Rattle.catalog.specs.Making.{Making}
 
-module _ {S : Type 0} (answers : S → ℕ → Call → Reply → Type 0) (leaves : S → ℕ → Call → Reply → S) (makes : S → List ℕ → Kind → S → Type 0) where
-  -- A transaction leads from s to t: its calls one after another, and then what it put off; or a collection is made.
+module _ {S : Type 0} (meaning : Meaning S ℕ) (making : Making S) where
+  -- A transaction leads from s to t: its calls one after another, and then what it put off; or a
+  -- collection is made.
   abbrev pub RunsWhole : S → Transaction → S → Type 0
-  RunsWhole s (Whole es) t = (m : S) × Leads (Does answers leaves) (calls_of es) s m × Leads (Does answers leaves) (laters_of es) m t
-  RunsWhole s (Made name kind) t = makes s name kind t
+  RunsWhole s (Whole es) t = (m : S) × Leads (Does meaning) (calls_of es) s m ×
+      Leads (Does meaning) (laters_of es) m t
+  RunsWhole s (Made name kind) t = making.makes s name kind t

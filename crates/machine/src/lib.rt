@@ -2,9 +2,10 @@
 #![tactic(auto)]
 
 mod laters;
+mod ledger;
 mod machine;
 mod undoing;
 
-pub use laters::is_going;
+pub use ledger::Ledger;
 pub use machine::{Machine, unmade};
 pub use undoing::inverse;

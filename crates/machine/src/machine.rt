@@ -1,28 +1,33 @@
 // The machine over records: the same steps as the book's, of records that stand already.
-ghost use Rattle.std.specs.Prelude.{◌≡◌, ◌↔◌, ℕ, ◌+◌, ◌<◌, ◌≤◌, ◌^◌, [], false, None, List, IsTrue, IfSome, IfNone, IfErr, Ok, OnOk, OnErr, IsOkUnless, length};
+ghost use Rattle.std.specs.Prelude.{◌≡◌, ◌↔◌, ℕ, ◌+◌, ◌<◌, ◌≤◌, ◌^◌, [], false, None, List, IsTrue};
+ghost use Rattle.std.specs.Prelude.{IfSome, IfNone, IfErr, Ok, OnOk, OnErr, IsOkUnless, length};
 ghost use Rattle.std.specs.FinMap as maps;
 ghost use Rattle.calls.specs.Names.{IsName};
-ghost use Rattle.calls.specs.Transactions.{Leads, Serial, committed, own, others};
+ghost use Rattle.calls.specs.Transactions.{Leads, Serial, committed, own};
 ghost use Rattle.undo_log.specs.Entries as logs;
 ghost use Rattle.undo_log.specs.Entries.{HasNoCall};
-ghost use Rattle.catalog.specs.Making as making;
+ghost use Rattle.catalog.specs.Making as naming;
 ghost use Rattle.undo_log.specs.Logs.{Lives, IsLeastLive};
-ghost use Rattle.boosted.specs.Shape.{CanAsk};
+ghost use Rattle.boosted.specs.Meaning.{CanAsk};
 ghost use Rattle.calls.specs.declared.reply.Reply.{Reply};
-ghost use Rattle.abstract_locks.specs.Holds.{IsClear, IsBusyRefusal, IsGivenUp};
+ghost use Rattle.abstract_locks.specs.Holds.{IsClear, IsBusyRefusal};
 ghost use Rattle.record_format.specs.declared.record.Record.{Record};
 ghost use Rattle.record_format.specs.Acts.{acts_of, event_of};
 ghost use Rattle.record_format.specs.Records.{IsRecord, IsNumber};
 ghost use Rattle.record_format.specs.Short.{AreShort};
-ghost use Rattle.machine.specs.Machine.{IsRunning, CanBegin, BeginRow, CommitRow, EndedRow, FallRow, MakeRow, CanCall, CallRow, CanPutOff, LaterRow, GoesTwice, BackRow, Steps};
-ghost use Rattle.machine.specs.Machines.{resting, unmade, HasRoomFor, IsUpheld, StepAnswers, RepeatAnswers};
+ghost use Rattle.machine.specs.Machine.{IsRunning, CanBegin, BeginRow, CommitRow, EndedRow};
+ghost use Rattle.machine.specs.Machine.{FallRow, MakeRow, CanCall, CallRow, CanPutOff, LaterRow};
+ghost use Rattle.machine.specs.Machine.{GoesTwice, BackRow, Steps};
+ghost use Rattle.machine.specs.Machines.{resting, unmade, HasRoomFor, IsUpheld, StepAnswers};
+ghost use Rattle.machine.specs.Machines.{RepeatAnswers};
 ghost use Rattle.machine.specs.Sound.{IsSound};
-ghost use Rattle.machine.specs.Views.{state_of};
+ghost use Rattle.machine.specs.Views.{state_with};
+ghost use Rattle.calls.specs.Rules.{need_of};
 
-use crate::laters::{is_going, run_laters};
+use crate::Ledger;
+use crate::laters::run_laters;
 use crate::undoing::undo;
-use abstract_locks::NeedTable;
-use calls::limits::{MAX_CALLS, MAX_LIVE, MAX_WEAR};
+use calls::limits::MAX_LIVE;
 use calls::{Call, Kind, Name, Need, Refusal, Reply};
 use catalog::Parts;
 use records::{CallRecord, Coded, LaterRecord, Record};
@@ -30,15 +35,16 @@ use std::alloc::Global;
 use std::marker::Model;
 use undo_log::{Later, Live, Logged};
 
-/// The collections with the live transactions on them: the state that records lead to, one step a record.
+/// The collections with the live transactions on them: the state that records lead to, one step a
+/// record.
 ///
-/// Contracts see what the collections hold now, the live transactions with what they asked for and did not undo, the
+/// Contracts see what the collections hold now, the live transactions with what they asked for and
+/// did not undo, the
 /// needs that they hold, and the wear.
 #[derive(Drop)]
 pub struct Machine<B: Parts + Coded> {
     parts: B,
-    needs: NeedTable,
-    live: Live,
+    ledger: Ledger,
     wear: u64,
 }
 
@@ -46,7 +52,7 @@ impl<B: Parts + Coded> Model for Machine<B> {
     ghost use Rattle.machine.specs.Machine.{State};
     ghost use Rattle.machine.specs.Machines.{IsUpheld};
     ghost use Rattle.machine.specs.Sound.{IsSound};
-    ghost use Rattle.machine.specs.Views.{state_of};
+    ghost use Rattle.machine.specs.Views.{state_with};
     ghost use Rattle.record_format.specs.Short.{AreShort};
     ghost use Rattle.std.specs.FinMap as maps;
     ghost use Rattle.std.specs.Ordering.{nat_cmp};
@@ -56,25 +62,26 @@ impl<B: Parts + Coded> Model for Machine<B> {
 
     ghost coded = { Prim.hlevel (codes, maps.code {R = nat_cmp} coded_ℕ coded_bool) };
 
-    ghost view = { λ m. state_of m.parts m.needs m.live m.wear };
+    ghost view = { λ m. state_with m.parts m.ledger m.wear };
 
-    ghost invariant = { λ m. IsUpheld B.names B.within (λ s. AreShort (B.collections s)) (IsSound B.answers B.leaves B.makes B.need B.inverse)
-        (state_of m.parts m.needs m.live m.wear) };
+    ghost invariant = { λ m. IsUpheld B.meaning B.making (λ s. AreShort (B.collections s))
+        (IsSound B.meaning B.making)
+        (state_with m.parts m.ledger m.wear) };
 }
 
 impl<B: Parts + Coded> Machine<B> {
-    /// The collections with no live transaction. `wear` is what they are within. It takes no memory.
+    /// The collections with no live transaction. `wear` is what they are within. It takes no
+    /// memory.
     pub fn new(alloc: Global, parts: B, wear: u64) -> Self
-        requires within { B.within parts wear }
+        requires within { B.meaning.within parts wear }
         requires worn { wear ≤ 2 ^ 61 + 65536 }
         requires short { AreShort (B.collections parts) }
-        requires few { length (B.names parts) ≤ 256 }
+        requires few { length (B.making.names parts) ≤ 256 }
         ensures { result ≡ resting parts wear }
     {
         Self {
             parts,
-            needs: NeedTable::new(alloc),
-            live: Live::new(alloc),
+            ledger: Ledger::new(alloc),
             wear,
         }
     }
@@ -93,10 +100,12 @@ impl<B: Parts + Coded> Machine<B> {
         self.wear
     }
 
-    /// What holds of every machine: the limits, that each call may still be undone, and what the laws of the collections
+    /// What holds of every machine: the limits, that each call may still be undone, and what the
+    /// laws of the collections
     /// give. It does nothing.
     pub fn upheld(&self)
-        ensures { IsUpheld B.names B.within (λ s. AreShort (B.collections s)) (IsSound B.answers B.leaves B.makes B.need B.inverse) self.now }
+        ensures { IsUpheld B.meaning B.making (λ s. AreShort (B.collections s))
+            (IsSound B.meaning B.making) self.now }
     {
         let _ = &self.wear;
     }
@@ -105,7 +114,7 @@ impl<B: Parts + Coded> Machine<B> {
     pub fn count_live(&self) -> usize
         ensures { result ≡ maps.len self.now.live }
     {
-        self.live.count_live()
+        self.ledger.live().count_live()
     }
 
     /// The least number that is live.
@@ -113,7 +122,7 @@ impl<B: Parts + Coded> Machine<B> {
         ensures found { IfSome result (IsLeastLive self.now.live) }
         ensures none { IfNone result (self.now.live ≡ maps.empty) }
     {
-        self.live.least()
+        self.ledger.live().least()
     }
 
     /// Whether a call of the transaction is not undone.
@@ -121,37 +130,39 @@ impl<B: Parts + Coded> Machine<B> {
         ensures some { IsTrue result ↔ (HasNoCall number self.now.entries → ⊥) }
         ensures none { result ≡ false → HasNoCall number self.now.entries }
     {
-        self.live.newest(number).is_some()
+        self.ledger.live().newest(number).is_some()
     }
 
-    /// Takes the record's step, where it is one from here, and answers true; false, with nothing changed, where it is
+    /// Takes the record's step, where it is one from here, and answers true; false, with nothing
+    /// changed, where it is
     /// none.
     ///
     /// NoMemory leaves all as before.
     pub fn repeat(&mut self, entry: Record) -> Result<bool, Refusal>
         requires { IsRecord None entry }
-        ensures { RepeatAnswers (Steps B.answers B.leaves B.belongs B.names B.makes B.need B.inverse) self.old entry result self.new }
+        ensures { RepeatAnswers (Steps B.meaning B.making) self.old entry result self.new }
     {
         self.upheld();
         self.step(entry)
     }
 
-    /// Undoes the newest call of the transaction. From then on it is falling. It holds its needs until `ended`.
+    /// Undoes the newest call of the transaction. From then on it is falling. It holds its needs
+    /// until `ended`.
     ///
     /// NoMemory leaves all as before.
     pub fn back(&mut self, number: u64) -> Result<(), Refusal>
         requires live { Lives self.old.live number }
         requires call { HasNoCall number self.old.entries → ⊥ }
-        ensures ok { OnOk result (BackRow B.answers B.leaves B.inverse self.old number self.new) }
+        ensures ok { OnOk result (BackRow B.meaning self.old number self.new) }
         ensures err { OnErr result (self.new ≡ self.old) }
         ensures refusal { IsOkUnless result Refusal.NoMemory }
     {
-        let Some(newest) = self.live.newest(number) else {
+        let Some(newest) = self.ledger.live().newest(number) else {
             unreachable!();
         };
         undo(&mut self.parts, newest)?;
-        let _undone = self.live.pop(number);
-        self.live.fall(number);
+        let _undone = self.ledger.pop(number);
+        self.ledger.fall(number);
         self.wear += 1;
         Ok(())
     }
@@ -162,45 +173,47 @@ impl<B: Parts + Coded> Machine<B> {
         requires undone { HasNoCall number self.old.entries }
         ensures { EndedRow self.old number self.new }
     {
-        let live = &mut self.live;
-        take_out(live, &mut self.needs, number);
+        self.ledger.remove(number);
     }
 
     /// The collections, where the machine is no more needed.
     pub fn into_parts(self) -> B
         ensures parts { result ≡ self.now }
-        ensures within { B.within result self.wear }
+        ensures within { B.meaning.within result self.wear }
         ensures worn { self.wear ≤ 2 ^ 61 + 65536 }
         ensures short { AreShort (B.collections result) }
-        ensures few { length (B.names result) ≤ 256 }
-        ensures history { (start : B) (wear : ℕ) (rs : List Record) → Leads (Steps B.answers B.leaves B.belongs B.names B.makes B.need B.inverse) rs (resting start wear) self →
-            self.live ≡ maps.empty → Serial (committed (acts_of rs)) (B.collections start) (B.collections result) }
+        ensures few { length (B.making.names result) ≤ 256 }
+        ensures history { (start : B) (wear : ℕ) (rs : List Record) →
+            Leads (Steps B.meaning B.making) rs (resting start wear) self →
+            self.live ≡ maps.empty → Serial (committed (acts_of rs)) (B.collections start)
+            (B.collections result) }
     {
         let Self { parts, .. } = self;
         parts
     }
 
     /// The machine of its parts, for which holds what holds of every machine.
-    pub fn of_parts(parts: B, needs: NeedTable, live: Live, worn: u64) -> Self
-        requires { IsUpheld B.names B.within (λ s. AreShort (B.collections s)) (IsSound B.answers B.leaves B.makes B.need B.inverse) (state_of parts needs live worn) }
-        ensures { result ≡ state_of parts needs live worn }
+    pub fn of_parts(parts: B, ledger: Ledger, worn: u64) -> Self
+        requires { IsUpheld B.meaning B.making (λ s. AreShort (B.collections s))
+            (IsSound B.meaning B.making) (state_with parts ledger worn) }
+        ensures { result ≡ state_with parts ledger worn }
     {
         Self {
             parts,
-            needs,
-            live,
+            ledger,
             wear: worn,
         }
     }
 
     /// Makes an empty collection at the end.
     ///
-    /// The refusals of `Parts::make`, in its order: BadName, TooLong, NameTaken, TooManyCollections, NoMemory. Each leaves
+    /// The refusals of `Parts::make`, in its order: BadName, TooLong, NameTaken,
+    /// TooManyCollections, NoMemory. Each leaves
     /// all as before.
     pub fn make(&mut self, name: &str, kind: Kind) -> Result<(), Refusal>
-        ensures ok { OnOk result (MakeRow B.names B.makes self.old name.now kind self.new) }
+        ensures ok { OnOk result (MakeRow B.making self.old name.now kind self.new) }
         ensures same { OnErr result (self.new ≡ self.old) }
-        ensures err { IfErr result (making.MakeRefused (B.names self.old.now) name.now) }
+        ensures err { IfErr result (naming.MakeRefused (B.making.names self.old.now) name.now) }
     {
         let at = self.parts.make(name, kind)?;
         prove!(at <= u8::MAX);
@@ -217,7 +230,7 @@ impl<B: Parts + Coded> Machine<B> {
         ensures same { OnErr result (self.new ≡ self.old) }
         ensures refusal { IsOkUnless result Refusal.NoMemory }
     {
-        self.live.enter(number)?;
+        self.ledger.enter(number)?;
         self.wear += 1;
         Ok(())
     }
@@ -226,20 +239,17 @@ impl<B: Parts + Coded> Machine<B> {
     ///
     /// NoMemory leaves all as before.
     pub fn call(&mut self, number: u64, asked: Logged) -> Result<(), Refusal>
-        requires can { CanCall B.answers B.leaves B.belongs B.need self.old number (logs.event_of asked) }
+        requires can { CanCall B.meaning self.old number (logs.event_of asked) }
         requires room { HasRoomFor self.old 1 }
-        ensures ok { OnOk result (CallRow B.answers B.leaves B.belongs B.need self.old number (logs.event_of asked) self.new) }
+        ensures ok { OnOk result (CallRow B.meaning self.old number (logs.event_of asked)
+            self.new) }
         ensures same { OnErr result (self.new ≡ self.old) }
         ensures refusal { IsOkUnless result Refusal.NoMemory }
     {
-        self.needs.reserve(asked.at)?;
-        self.live.reserve(number)?;
+        self.ledger.reserve(number, asked.at)?;
         self.parts.run(asked.at, &asked.call, &asked.reply)?;
-        let need = B::need(&asked.call, &asked.reply);
-        if self.needs.ask(number, asked.at, need).is_err() {
-            unreachable!();
-        }
-        self.live.push_call(number, asked);
+        let need = asked.call.need(&asked.reply);
+        self.ledger.note_call(number, asked, need);
         self.wear += 1;
         Ok(())
     }
@@ -248,34 +258,30 @@ impl<B: Parts + Coded> Machine<B> {
     ///
     /// NoMemory leaves all as before.
     pub fn later(&mut self, number: u64, put: Later) -> Result<(), Refusal>
-        requires can { CanPutOff B.answers B.leaves B.belongs B.need self.old number put.at put.call }
+        requires can { CanPutOff B.meaning self.old number put.at put.call }
         requires room { HasRoomFor self.old 1 }
-        ensures ok { OnOk result (LaterRow B.answers B.leaves B.belongs B.need self.old number put.at put.call self.new) }
+        ensures ok { OnOk result (LaterRow B.meaning self.old number put.at put.call self.new) }
         ensures same { OnErr result (self.new ≡ self.old) }
         ensures refusal { IsOkUnless result Refusal.NoMemory }
     {
-        self.needs.reserve(put.at)?;
-        self.live.reserve(number)?;
-        let need = B::need(&put.call, &Reply::Done);
-        if self.needs.ask(number, put.at, need).is_err() {
-            unreachable!();
-        }
-        self.live.push_later(number, put);
+        self.ledger.reserve(number, put.at)?;
+        let need = put.call.need(&Reply::Done);
+        self.ledger.note_later(number, put, need);
         self.wear += 1;
         Ok(())
     }
 
-    /// Commits a transaction: what it put off, and what its calls left, runs in the order asked. All that it asked for
+    /// Commits a transaction: what it put off, and what its calls left, runs in the order asked.
+    /// All that it asked for
     /// stays done, and its needs go. It takes no memory.
     pub fn commit(&mut self, number: u64)
         requires { IsRunning self.old number }
-        ensures { CommitRow B.answers B.leaves self.old number self.new }
+        ensures { CommitRow B.meaning self.old number self.new }
     {
-        let entries = self.live.in_order().as_slice();
+        let entries = self.ledger.live().in_order().as_slice();
         let ran = run_laters(&mut self.parts, entries, number);
         self.wear += ran;
-        let live = &mut self.live;
-        take_out(live, &mut self.needs, number);
+        self.ledger.remove(number);
     }
 
     /// Makes a transaction falling of which nothing is left to undo. It takes no memory.
@@ -284,7 +290,7 @@ impl<B: Parts + Coded> Machine<B> {
         requires undone { HasNoCall number self.old.entries }
         ensures { FallRow self.old number self.new }
     {
-        self.live.fall(number);
+        self.ledger.fall(number);
     }
 
     /// The live transactions, and what they asked for and did not undo.
@@ -292,38 +298,37 @@ impl<B: Parts + Coded> Machine<B> {
         ensures live { result.now.live ≡ self.now.live }
         ensures entries { result.now.entries ≡ self.now.entries }
     {
-        &self.live
+        self.ledger.live()
     }
 
     /// Whether the transaction is live.
     pub fn is_live(&self, number: u64) -> bool
         ensures { IsTrue result ↔ Lives self.now.live number }
     {
-        self.live.is_live(number)
+        self.ledger.live().is_live(number)
     }
 
     /// Whether the transaction is live, and nothing of it was undone.
     pub fn is_running(&self, number: u64) -> bool
         ensures { IsTrue result ↔ IsRunning self.now number }
     {
-        self.live.is_live(number) && !self.live.is_falling(number)
+        self.is_live(number) && !self.ledger.live().is_falling(number)
     }
 
     /// How many calls of the transaction are not undone, those that it put off counted too.
     pub fn count_calls(&self, number: u64) -> usize
         ensures { result ≡ length (own number self.now.entries) }
     {
-        self.live.count(number)
+        self.ledger.live().count(number)
     }
 
-    /// Whether the transaction has left to its commit already what this call, answered so, would leave.
+    /// Whether the transaction has left to its commit already what this call, answered so, would
+    /// leave.
     pub fn goes_twice(&self, number: u64, at: u8, call: &Call, reply: &Reply) -> bool
-        ensures { IsTrue result ↔ GoesTwice self.now.entries number (record { at = at; call = call.now; reply = reply.now }) }
+        ensures { IsTrue result ↔ GoesTwice self.now.entries number
+            (record { at = at; call = call.now; reply = reply.now }) }
     {
-        match B::after(call, reply) {
-            Some(left) => is_going::<B>(self.live.in_order().as_slice(), number, at, &left),
-            None => false,
-        }
+        self.ledger.goes_twice(number, at, call, reply)
     }
 
     /// Whether no other transaction holds a need in the way.
@@ -333,13 +338,13 @@ impl<B: Parts + Coded> Machine<B> {
         ensures clear { OnOk result (IsClear self.now.holds number at need.now) }
         ensures busy { IfErr result (IsBusyRefusal self.now.holds number at need.now) }
     {
-        self.needs.test(number, at, need)
+        self.ledger.test(number, at, need)
     }
 
     // The record's step, from this very state.
     fn step(&mut self, entry: Record) -> Result<bool, Refusal>
         requires { IsRecord None entry }
-        ensures { StepAnswers (Steps B.answers B.leaves B.belongs B.names B.makes B.need B.inverse) self.old entry result self.new }
+        ensures { StepAnswers (Steps B.meaning B.making) self.old entry result self.new }
     {
         match entry {
             Record::Make(kind, name) => self.repeat_make(kind, &name),
@@ -355,7 +360,8 @@ impl<B: Parts + Coded> Machine<B> {
 
     fn repeat_make(&mut self, kind: Kind, name: &Name) -> Result<bool, Refusal>
         requires { IsName name.now }
-        ensures { StepAnswers (Steps B.answers B.leaves B.belongs B.names B.makes B.need B.inverse) self.old (Record.Make kind name.now) result self.new }
+        ensures { StepAnswers (Steps B.meaning B.making) self.old (Record.Make kind name.now) result
+            self.new }
     {
         match self.make(name.as_str(), kind) {
             Ok(()) => Ok(true),
@@ -365,7 +371,8 @@ impl<B: Parts + Coded> Machine<B> {
 
     fn repeat_begin(&mut self, number: u64) -> Result<bool, Refusal>
         requires { IsNumber number }
-        ensures { StepAnswers (Steps B.answers B.leaves B.belongs B.names B.makes B.need B.inverse) self.old (Record.Begin number) result self.new }
+        ensures { StepAnswers (Steps B.meaning B.making) self.old (Record.Begin number) result
+            self.new }
     {
         if !self.can_begin(number) {
             return Ok(false);
@@ -376,7 +383,8 @@ impl<B: Parts + Coded> Machine<B> {
 
     fn repeat_call(&mut self, called: CallRecord) -> Result<bool, Refusal>
         requires { IsRecord None (Record.Call called) }
-        ensures { StepAnswers (Steps B.answers B.leaves B.belongs B.names B.makes B.need B.inverse) self.old (Record.Call called) result self.new }
+        ensures { StepAnswers (Steps B.meaning B.making) self.old (Record.Call called) result
+            self.new }
     {
         if !self.can_call(&called) {
             return Ok(false);
@@ -398,7 +406,8 @@ impl<B: Parts + Coded> Machine<B> {
     }
 
     fn repeat_later(&mut self, later: LaterRecord) -> Result<bool, Refusal>
-        ensures { StepAnswers (Steps B.answers B.leaves B.belongs B.names B.makes B.need B.inverse) self.old (Record.Later later) result self.new }
+        ensures { StepAnswers (Steps B.meaning B.making) self.old (Record.Later later) result
+            self.new }
     {
         if !self.can_put_off(&later) {
             return Ok(false);
@@ -417,7 +426,8 @@ impl<B: Parts + Coded> Machine<B> {
     }
 
     fn repeat_commit(&mut self, number: u64) -> bool
-        ensures { StepAnswers (Steps B.answers B.leaves B.belongs B.names B.makes B.need B.inverse) self.old (Record.Commit number) (Ok result) self.new }
+        ensures { StepAnswers (Steps B.meaning B.making) self.old (Record.Commit number) (Ok result)
+            self.new }
     {
         if !self.is_running(number) {
             return false;
@@ -427,7 +437,8 @@ impl<B: Parts + Coded> Machine<B> {
     }
 
     fn repeat_back(&mut self, number: u64) -> Result<bool, Refusal>
-        ensures { StepAnswers (Steps B.answers B.leaves B.belongs B.names B.makes B.need B.inverse) self.old (Record.Back number) result self.new }
+        ensures { StepAnswers (Steps B.meaning B.making) self.old (Record.Back number) result
+            self.new }
     {
         if !self.is_live(number) || !self.has_call(number) {
             return Ok(false);
@@ -437,7 +448,8 @@ impl<B: Parts + Coded> Machine<B> {
     }
 
     fn repeat_ended(&mut self, number: u64) -> bool
-        ensures { StepAnswers (Steps B.answers B.leaves B.belongs B.names B.makes B.need B.inverse) self.old (Record.Ended number) (Ok result) self.new }
+        ensures { StepAnswers (Steps B.meaning B.making) self.old (Record.Ended number) (Ok result)
+            self.new }
     {
         if !self.is_live(number) || self.has_call(number) {
             return false;
@@ -446,32 +458,28 @@ impl<B: Parts + Coded> Machine<B> {
         true
     }
 
-    // Whether the wear has room for one step more, behind which there are so many more calls to undo.
-    fn has_room(&self, more: usize) -> bool
-        requires { more ≤ 1 }
-        ensures { IsTrue result ↔ HasRoomFor self.now more }
-    {
-        self.wear + 1 + (self.live.len() + more) as u64 <= MAX_WEAR
-    }
-
     // Whether the number may begin.
     fn can_begin(&self, number: u64) -> bool
         requires { IsNumber number }
         ensures { IsTrue result ↔ (CanBegin self.now number × HasRoomFor self.now 0) }
     {
-        !self.is_live(number) && self.count_live() < MAX_LIVE && self.has_room(0)
+        !self.is_live(number)
+            && self.count_live() < MAX_LIVE
+            && self.ledger.has_room(self.wear + 1, 0)
     }
 
     // Whether the transaction can make the call and get the reply.
     fn can_call(&self, called: &CallRecord) -> bool
-        ensures { IsTrue result ↔ (CanCall B.answers B.leaves B.belongs B.need self.now called.now.number (event_of called.now) × HasRoomFor self.now 1) }
+        ensures { IsTrue result ↔ (CanCall B.meaning self.now called.now.number
+            (event_of called.now) × HasRoomFor self.now 1) }
     {
         self.can_ask(called) && self.is_answered(called)
     }
 
     // Whether the transaction can ask for the call.
     fn can_ask(&self, called: &CallRecord) -> bool
-        ensures { IsTrue result ↔ (IsRunning self.now called.now.number × CanAsk B.belongs self.now.now called.now.collection called.now.call ×
+        ensures { IsTrue result ↔ (IsRunning self.now called.now.number ×
+            CanAsk B.meaning self.now.now called.now.collection called.now.call ×
             (length (own called.now.number self.now.entries) < 1024) × HasRoomFor self.now 1) }
     {
         self.has_place(called.number) && self.parts.askable(called.collection, &called.call).is_ok()
@@ -479,15 +487,20 @@ impl<B: Parts + Coded> Machine<B> {
 
     // Whether one call more of the transaction can be noted.
     fn has_place(&self, number: u64) -> bool
-        ensures { IsTrue result ↔ (IsRunning self.now number × (length (own number self.now.entries) < 1024) × HasRoomFor self.now 1) }
+        ensures { IsTrue result ↔ (IsRunning self.now number ×
+            (length (own number self.now.entries) < 1024) × HasRoomFor self.now 1) }
     {
-        self.is_running(number) && self.count_calls(number) < MAX_CALLS && self.has_room(1)
+        self.ledger.has_place(number, self.wear + 1) && !self.ledger.live().is_falling(number)
     }
 
-    // Whether the call can get the reply, leaves nothing that is going already, and has no other transaction in the way.
+    // Whether the call can get the reply, leaves nothing that is going already, and has no other
+    // transaction in the way.
     fn is_answered(&self, called: &CallRecord) -> bool
-        ensures { IsTrue result ↔ (B.answers self.now.now called.now.collection called.now.call called.now.reply × (GoesTwice self.now.entries called.now.number (event_of called.now) → ⊥) ×
-            IsClear self.now.holds called.now.number called.now.collection (B.need called.now.call called.now.reply)) }
+        ensures { IsTrue result ↔ (B.meaning.answers self.now.now called.now.collection
+            called.now.call called.now.reply ×
+            (GoesTwice self.now.entries called.now.number (event_of called.now) → ⊥) ×
+            IsClear self.now.holds called.now.number called.now.collection
+            (need_of called.now.call called.now.reply)) }
     {
         self.parts
             .fits(called.collection, &called.call, &called.reply)
@@ -502,17 +515,19 @@ impl<B: Parts + Coded> Machine<B> {
 
     // Whether no other transaction holds a need that is in the call's way.
     fn is_clear(&self, called: &CallRecord) -> bool
-        ensures { IsTrue result ↔ IsClear self.now.holds called.now.number called.now.collection (B.need called.now.call called.now.reply) }
+        ensures { IsTrue result ↔ IsClear self.now.holds called.now.number called.now.collection
+            (need_of called.now.call called.now.reply) }
     {
-        let need = B::need(&called.call, &called.reply);
-        self.needs
+        let need = called.call.need(&called.reply);
+        self.ledger
             .test(called.number, called.collection, &need)
             .is_ok()
     }
 
     // Whether the transaction can put the call off.
     fn can_put_off(&self, later: &LaterRecord) -> bool
-        ensures { IsTrue result ↔ (CanPutOff B.answers B.leaves B.belongs B.need self.now later.now.number later.now.collection later.now.call × HasRoomFor self.now 1) }
+        ensures { IsTrue result ↔ (CanPutOff B.meaning self.now later.now.number
+            later.now.collection later.now.call × HasRoomFor self.now 1) }
     {
         self.has_place(later.number)
             && self.parts.deferrable(later.collection, &later.call).is_ok()
@@ -521,16 +536,18 @@ impl<B: Parts + Coded> Machine<B> {
 
     // Whether no other transaction holds a need that is in the way of the call to be put off.
     fn is_clear_later(&self, later: &LaterRecord) -> bool
-        ensures { IsTrue result ↔ IsClear self.now.holds later.now.number later.now.collection (B.need later.now.call Reply.Done) }
+        ensures { IsTrue result ↔ IsClear self.now.holds later.now.number later.now.collection
+            (need_of later.now.call Reply.Done) }
     {
-        let need = B::need(&later.call, &Reply::Done);
-        self.needs
+        let need = later.call.need(&Reply::Done);
+        self.ledger
             .test(later.number, later.collection, &need)
             .is_ok()
     }
 }
 
-/// What is answered of a making that was refused: false, as it is no step, unless memory alone was wanted.
+/// What is answered of a making that was refused: false, as it is no step, unless memory alone was
+/// wanted.
 pub fn unmade(refusal: Refusal) -> Result<bool, Refusal>
     ensures { result ≡ unmade refusal }
 {
@@ -538,14 +555,4 @@ pub fn unmade(refusal: Refusal) -> Result<bool, Refusal>
         Refusal::NoMemory => Err(Refusal::NoMemory),
         _ => Ok(false),
     }
-}
-
-// Takes a transaction out, with what it asked for and its needs.
-fn take_out(live: &mut Live, needs: &mut NeedTable, number: u64)
-    ensures live { live.new.live ≡ maps.remove live.old.live number }
-    ensures entries { live.new.entries ≡ others number live.old.entries }
-    ensures holds { IsGivenUp needs.old.holds needs.new.holds number }
-{
-    live.remove(number);
-    needs.give_up(number);
 }

@@ -1,12 +1,14 @@
--- What a script's client does on a world: the steps that it takes, the result, and the client behind them.
-use Rattle.std.specs.Prelude.{◌≡◌, ◌⊎◌, ◌↔◌, ℕ, ℤ, suc, zero, ◌<◌, ◌≤◌, Bool, true, false, IsTrue, List, [], ◌∷◌, ◌++◌, Option, None, Some, Result, Ok, Err}
+-- What a script's client does on a world: the steps that it takes, the result, and the client
+-- behind them.
+use Rattle.std.specs.Prelude.{◌≡◌, ◌⊎◌, ◌↔◌, ℕ, ℤ, suc, zero, ◌<◌, ◌≤◌, Bool, true, false, IsTrue}
+use Rattle.std.specs.Prelude.{List, [], ◌∷◌, ◌++◌, Option, None, Some, Result, Ok, Err}
 use Rattle.calls.specs.declared.call.Call.{Call}
 use Rattle.calls.specs.declared.kind.Kind.{Kind}
 use Rattle.calls.specs.declared.reply.Reply.{Reply}
 use Rattle.calls.specs.declared.refusal.Refusal.{Refusal}
 use Rattle.calls.specs.Contents.{Collection}
 use Rattle.calls.specs.Names.{IsName}
-use Rattle.boosted.specs.Shape.{CanAsk}
+use Rattle.boosted.specs.Meaning.{CanAsk}
 use Rattle.catalog.specs.Places.{Belongs}
 use Rattle.catalog.specs.Making.{names_of, IsPlaceOf, FindRefused}
 use Rattle.world.specs.declared.steps.Step.{Step}
@@ -18,10 +20,14 @@ use Rattle.player.specs.Plays.{Plays, Tries}
 use Rattle.player.specs.declared.client.Client.{Client}
 use Rattle.player.specs.declared.client.Begun.{Begun}
 use Rattle.script.specs.declared.action.Operation.{Operation}
+use Rattle.catalog.specs.Meaning.{catalog_meaning}
 
 -- the client, with another transaction open
 abbrev pub opening : Client → ℕ → Bool → Client
-opening k n entered = record { begun = Some (record { number = n; is_entered = entered }); ticket = k.ticket }
+opening k n entered = record {
+  begun = Some (record { number = n; is_entered = entered });
+  ticket = k.ticket;
+}
 
 abbrev pub closing : Client → Client
 closing k = record { begun = None; ticket = k.ticket }
@@ -33,20 +39,25 @@ with_ticket k (Err e) = k
 
 -- A collection is made; its place is the ticket then.
 abbrev pub Makes : Client → List ℕ → Kind → Result ℕ Refusal → Past → Client → Type 0
-Makes k name kind r steps l = Tries (Step.Make name kind) Answer.Placed r steps × (l ≡ with_ticket k r)
+Makes k name kind r steps l = Tries (Step.Make name kind) Answer.Placed r steps ×
+    (l ≡ with_ticket k r)
 
 -- A transaction begins under a number that is drawn, unless one is open.
 abbrev pub Begins : Client → Result ℕ Refusal → Past → Client → Type 0
-Begins k (Ok n) steps l = (k.begun ≡ None) × (steps ≡ (Step.Draw, Answer.Drawn n) ∷ []) × (l ≡ opening k n false)
+Begins k (Ok n) steps l = (k.begun ≡ None) × (steps ≡ (Step.Draw, Answer.Drawn n) ∷ []) ×
+    (l ≡ opening k n false)
 Begins k (Err e) steps l =
-    (((k.begun ≡ None → ⊥) × (e ≡ Refusal.AlreadyLive) × (steps ≡ [])) ⊎ ((k.begun ≡ None) × Tries {T = ℕ} Step.Draw Answer.Drawn (Err e) steps)) × (l ≡ k)
+    (((k.begun ≡ None → ⊥) × (e ≡ Refusal.AlreadyLive) × (steps ≡ [])) ⊎
+    ((k.begun ≡ None) × Tries {T = ℕ} Step.Draw Answer.Drawn (Err e) steps)) × (l ≡ k)
 
 -- The number n is one that the book knows, or it is entered.
 abbrev pub EntersAs : Client → ℕ → Bool → Result ℕ Refusal → Past → Client → Type 0
 EntersAs k n true (Ok m) steps l = (m ≡ n) × (steps ≡ []) × (l ≡ k)
 EntersAs k n true (Err e) steps l = ⊥
-EntersAs k n false (Ok m) steps l = (m ≡ n) × (steps ≡ (Step.Enter n, Answer.Entered) ∷ []) × (l ≡ opening k n true)
-EntersAs k n false (Err e) steps l = Tries (Step.Enter n) (alone Answer.Entered) (Err e) steps × (l ≡ k)
+EntersAs k n false (Ok m) steps l =
+    (m ≡ n) × (steps ≡ (Step.Enter n, Answer.Entered) ∷ []) × (l ≡ opening k n true)
+EntersAs k n false (Err e) steps l =
+    Tries (Step.Enter n) (alone Answer.Entered) (Err e) steps × (l ≡ k)
 
 -- the same of the client's open transaction
 abbrev pub EntersOpen : Option Begun → Client → Result ℕ Refusal → Past → Client → Type 0
@@ -60,7 +71,8 @@ Enters k r steps l = EntersOpen k.begun k r steps l
 abbrev pub AskedFor : List Collection → ℕ → Operation → Call → Type 0
 AskedFor s at (Operation.Call asked) call = call ≡ asked
 AskedFor s at (Operation.Remove key) call =
-    (CanAsk Belongs s at (Call.MapRemove key) × (call ≡ Call.MapRemove key)) ⊎ ((CanAsk Belongs s at (Call.MapRemove key) → ⊥) × (call ≡ Call.SetRemove key))
+    (CanAsk catalog_meaning s at (Call.MapRemove key) × (call ≡ Call.MapRemove key)) ⊎
+    ((CanAsk catalog_meaning s at (Call.MapRemove key) → ⊥) × (call ≡ Call.SetRemove key))
 
 abbrev pub FindAnswers : List (List ℕ) → List ℕ → Result ℕ Refusal → Type 0
 FindAnswers names name (Ok at) = IsName name × IsPlaceOf names name at
@@ -72,24 +84,32 @@ Asking T = List Collection → (n at : ℕ) → Result T Refusal → Past → Ty
 
 -- it asks for the operation
 abbrev pub AsksFor : Operation → Asking Reply
-AsksFor operation s n at r steps = (call : Call) × AskedFor s at operation call × Tries (Step.Call n at call) Answer.Replied r steps
+AsksFor operation s n at r steps =
+    (call : Call) × AskedFor s at operation call ×
+    Tries (Step.Call n at call) Answer.Replied r steps
 
 -- it puts a bump off
 abbrev pub PutsOff : ℤ → Asking (Unit {0})
 PutsOff by s n at r steps = Tries (Step.Later n at (Call.Bump by)) (alone Answer.PutOff) r steps
 
 -- this is asked of the collection that was found, if one was
-abbrev pub CallsOn : {T : Type 0} → Asking T → List Collection → ℕ → Result ℕ Refusal → Result T Refusal → Past → Type 0
+abbrev pub CallsOn : {T : Type 0} → Asking T → List Collection → ℕ → Result ℕ Refusal →
+    Result T Refusal → Past → Type 0
 CallsOn asks s n (Err e) r steps = (r ≡ Err e) × (steps ≡ [])
 CallsOn asks s n (Ok at) r steps = asks s n at r steps
 
 -- the transaction that was entered, if one was, asks this
-abbrev pub CallsAs : {T : Type 0} → Asking T → List Collection → Result ℕ Refusal → List ℕ → Result T Refusal → Past → Type 0
+abbrev pub CallsAs : {T : Type 0} → Asking T → List Collection → Result ℕ Refusal → List ℕ →
+    Result T Refusal → Past → Type 0
 CallsAs asks s (Err e) name r steps = (r ≡ Err e) × (steps ≡ [])
-CallsAs asks s (Ok n) name r steps = (found : Result ℕ Refusal) × FindAnswers (names_of s) name found × CallsOn asks s n found r steps
+CallsAs asks s (Ok n) name r steps =
+    (found : Result ℕ Refusal) × FindAnswers (names_of s) name found ×
+    CallsOn asks s n found r steps
 
--- The transaction is entered by the first steps; then the name is looked up, and by the last ones this is asked.
-pub record Calls {D T : Type 0} (g : Ghosts D) (k : Client) (old : Whole D) (name : List ℕ) (asks : Asking T) (r : Result T Refusal)
+-- The transaction is entered by the first steps; then the name is looked up, and by the last ones
+-- this is asked.
+pub record Calls {D T : Type 0} (g : Ghosts D) (k : Client) (old : Whole D) (name : List ℕ)
+    (asks : Asking T) (r : Result T Refusal)
     (l : Client) (new : Whole D) : Type 0 where
   pub entered : Result ℕ Refusal
   pub first : Past
@@ -113,7 +133,8 @@ CommitsAs (Ok n) k r steps l = Tries (Step.Commit n) Answer.Placed r steps × (l
 
 -- The transaction is entered by the first steps, and committed by the last ones.
 abbrev pub Commits : Client → Result ℕ Refusal → Past → Client → Type 0
-Commits k r steps l = (entered : Result ℕ Refusal) × (m : Client) × (first last : Past) × Enters k entered first m × CommitsAs entered m r last l × (steps ≡ first ++ last)
+Commits k r steps l = (entered : Result ℕ Refusal) × (m : Client) × (first last : Past) ×
+    Enters k entered first m × CommitsAs entered m r last l × (steps ≡ first ++ last)
 
 -- so many calls of the transaction are undone
 abbrev pub undone : ℕ → ℕ → Past
@@ -122,12 +143,16 @@ undone n (suc k) = (Step.Back n, Answer.Backed true) ∷ undone n k
 
 -- None is left to undo; or so many were undone as no transaction has.
 abbrev pub UndoesLast : ℕ → ℕ → Past → Type 0
-UndoesLast n k steps = ((k < 1025) × (steps ≡ (Step.Back n, Answer.Backed false) ∷ [])) ⊎ ((k ≡ 1025) × (steps ≡ []))
+UndoesLast n k steps = ((k < 1025) × (steps ≡ (Step.Back n, Answer.Backed false) ∷ [])) ⊎
+    ((k ≡ 1025) × (steps ≡ []))
 
--- Calls of the transaction are undone until none is left, 1,025 at most; or an undoing is refused, and what was undone stays so.
+-- Calls of the transaction are undone until none is left, 1,025 at most; or an undoing is refused,
+-- and what was undone stays so.
 abbrev pub UndoesAll : ℕ → Result (Unit {0}) Refusal → Past → Type 0
-UndoesAll n (Ok done) steps = (k : ℕ) × (last : Past) × UndoesLast n k last × (steps ≡ undone n k ++ last)
-UndoesAll n (Err e) steps = (k : ℕ) × (last : Past) × (k < 1025) × Tries {T = Bool} (Step.Back n) Answer.Backed (Err e) last × (steps ≡ undone n k ++ last)
+UndoesAll n (Ok done) steps = (k : ℕ) × (last : Past) × UndoesLast n k last ×
+    (steps ≡ undone n k ++ last)
+UndoesAll n (Err e) steps = (k : ℕ) × (last : Past) × (k < 1025) ×
+    Tries {T = Bool} (Step.Back n) Answer.Backed (Err e) last × (steps ≡ undone n k ++ last)
 
 -- once its calls are undone, the transaction is ended
 abbrev pub EndsAs : ℕ → Result (Unit {0}) Refusal → Result (Unit {0}) Refusal → Past → Type 0
@@ -135,7 +160,8 @@ EndsAs n (Err e) r steps = (r ≡ Err e) × (steps ≡ [])
 EndsAs n (Ok done) r steps = Tries (Step.Ended n) (alone Answer.Ended) r steps
 
 abbrev pub Ends : ℕ → Result (Unit {0}) Refusal → Past → Type 0
-Ends n r steps = (undoing : Result (Unit {0}) Refusal) × (first last : Past) × UndoesAll n undoing first × EndsAs n undoing r last × (steps ≡ first ++ last)
+Ends n r steps = (undoing : Result (Unit {0}) Refusal) × (first last : Past) ×
+    UndoesAll n undoing first × EndsAs n undoing r last × (steps ≡ first ++ last)
 
 abbrev pub AbortsAs : Client → ℕ → Bool → Result (Unit {0}) Refusal → Past → Client → Type 0
 AbortsAs k n false r steps l = (r ≡ Ok tt) × (steps ≡ []) × (l ≡ closing k)
@@ -154,4 +180,5 @@ Aborts k r steps l = AbortsOpen k.begun k r steps l
 abbrev pub Looks : Option ℕ → Option Bool → Past → Type 0
 Looks None r steps = (r ≡ None) × (steps ≡ [])
 Looks (Some ticket) None steps = ⊥
-Looks (Some ticket) (Some kept) steps = (mark : ℕ) × (steps ≡ (Step.Look, Answer.Marked mark) ∷ []) × (IsTrue kept ↔ (ticket ≤ mark))
+Looks (Some ticket) (Some kept) steps =
+    (mark : ℕ) × (steps ≡ (Step.Look, Answer.Marked mark) ∷ []) × (IsTrue kept ↔ (ticket ≤ mark))

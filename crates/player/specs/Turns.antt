@@ -17,6 +17,8 @@ abbrev pub TurnsAs : Result (Unit {0}) Refusal → Result Turn Refusal → Past 
 TurnsAs (Ok done) r steps = Tries Step.Turn Answer.Turned r steps
 TurnsAs (Err e) r steps = (r ≡ Err e) × (steps ≡ [])
 
--- A block is handed over, unless there is no room for one; then the keeper takes its turn, of which this is the result.
+-- A block is handed over, unless there is no room for one; then the keeper takes its turn, of which
+-- this is the result.
 abbrev pub Turns : Result Turn Refusal → Past → Type 0
-Turns r steps = (cut : Result Bool Refusal) × (first last : Past) × Tries Step.Cut Answer.Cut cut first × TurnsAs (passing cut) r last × (steps ≡ first ++ last)
+Turns r steps = (cut : Result Bool Refusal) × (first last : Past) ×
+    Tries Step.Cut Answer.Cut cut first × TurnsAs (passing cut) r last × (steps ≡ first ++ last)

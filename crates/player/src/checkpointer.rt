@@ -7,11 +7,14 @@ use calls::Refusal;
 use disk_model::Disk;
 use world::World;
 
-/// Freezes the book, unless an image is in progress, writes what is left of the image, and makes it the store. Answers
+/// Freezes the book, unless an image is in progress, writes what is left of the image, and makes it
+/// the store. Answers
 /// the mark then: so many commits are kept.
 ///
-/// Each refusal is handed on at once, and no step is taken behind it. In this order: NoMemory, Failed after a Fault, and
-/// Full where the image needs more bytes than an area has, all with no image begun; then Fault where the disk failed, in
+/// Each refusal is handed on at once, and no step is taken behind it. In this order: NoMemory,
+/// Failed after a Fault, and
+/// Full where the image needs more bytes than an area has, all with no image begun; then Fault
+/// where the disk failed, in
 /// a piece or in the flip.
 pub fn checkpoint<D: Disk>(world: &mut World<D>) -> Result<u64, Refusal>
     ensures { Checkpoints ⟦<D as Disk>⟧ world.old result world.new }
@@ -32,7 +35,8 @@ fn begin<D: Disk>(world: &mut World<D>) -> Result<(), Refusal>
 
 // Writes what is left of the image, and makes it the store.
 fn finish<D: Disk>(world: &mut World<D>) -> Result<u64, Refusal>
-    ensures { Runs ⟦<D as Disk>⟧ world.old (Finishes (unwrap_or (left_in world.old) 0) result) world.new }
+    ensures { Runs ⟦<D as Disk>⟧ world.old (Finishes (unwrap_or (left_in world.old) 0) result)
+        world.new }
 {
     lay_all(world)?;
     world.flip()
@@ -40,7 +44,8 @@ fn finish<D: Disk>(world: &mut World<D>) -> Result<u64, Refusal>
 
 // Writes what is left of the image.
 fn lay_all<D: Disk>(world: &mut World<D>) -> Result<(), Refusal>
-    ensures { Runs ⟦<D as Disk>⟧ world.old (Lays (unwrap_or (left_in world.old) 0) result) world.new }
+    ensures { Runs ⟦<D as Disk>⟧ world.old (Lays (unwrap_or (left_in world.old) 0) result)
+        world.new }
 {
     for _ in 0..world.left().unwrap_or(0) {
         let _more = world.piece()?;

@@ -1,7 +1,8 @@
 // What a script's client does, one request at a time.
 ghost use Rattle.player.specs.declared.client.Client.{Client};
 ghost use Rattle.player.specs.Plays.{Runs};
-ghost use Rattle.player.specs.Clients.{Makes, Begins, Enters, AsksFor, PutsOff, Calls, Commits, UndoesAll, Ends, Aborts, AskedFor, Looks};
+ghost use Rattle.player.specs.Clients.{Makes, Begins, Enters, AsksFor, PutsOff, Calls, Commits};
+ghost use Rattle.player.specs.Clients.{UndoesAll, Ends, Aborts, AskedFor, Looks};
 
 use boosted::Boosted;
 use calls::limits::MAX_CALLS;
@@ -18,7 +19,8 @@ pub struct Begun {
     pub is_entered: bool,
 }
 
-/// A client of a script: its open transaction, if any, and the place of what it last committed or made.
+/// A client of a script: its open transaction, if any, and the place of what it last committed or
+/// made.
 ///
 /// Each request takes steps of a world.
 #[derive(Clone, Copy, Debug)]
@@ -34,7 +36,8 @@ impl Client {
         ticket: None,
     };
 
-    /// Makes a collection, as `Book::make` does. Its place is the client's ticket then; a refusal leaves the client as
+    /// Makes a collection, as `Book::make` does. Its place is the client's ticket then; a refusal
+    /// leaves the client as
     /// before.
     pub fn make<D: Disk>(
         &mut self,
@@ -42,19 +45,23 @@ impl Client {
         kind: Kind,
         name: &Name,
     ) -> Result<u64, Refusal>
-        ensures { Runs ⟦<D as Disk>⟧ world.old (λ steps. Makes self.old name.now kind result steps self.new) world.new }
+        ensures { Runs ⟦<D as Disk>⟧ world.old
+            (λ steps. Makes self.old name.now kind result steps self.new) world.new }
     {
         let place = world.make(name, kind)?;
         self.ticket = Some(place);
         Ok(place)
     }
 
-    /// Begins a transaction under the next number, which is drawn. The book learns of it with the first call, or with
+    /// Begins a transaction under the next number, which is drawn. The book learns of it with the
+    /// first call, or with
     /// the commit.
     ///
-    /// AlreadyLive where one is open, then Worn where the next number is 2^61; both leave all as before.
+    /// AlreadyLive where one is open, then Worn where the next number is 2^61; both leave all as
+    /// before.
     pub fn begin<D: Disk>(&mut self, world: &mut World<D>) -> Result<u64, Refusal>
-        ensures { Runs ⟦<D as Disk>⟧ world.old (λ steps. Begins self.old result steps self.new) world.new }
+        ensures { Runs ⟦<D as Disk>⟧ world.old (λ steps. Begins self.old result steps self.new)
+            world.new }
     {
         if self.begun.is_some() {
             return Err(Refusal::AlreadyLive);
@@ -69,7 +76,8 @@ impl Client {
 
     // The number of the open transaction, which the book knows then.
     fn enter<D: Disk>(&mut self, world: &mut World<D>) -> Result<u64, Refusal>
-        ensures { Runs ⟦<D as Disk>⟧ world.old (λ steps. Enters self.old result steps self.new) world.new }
+        ensures { Runs ⟦<D as Disk>⟧ world.old (λ steps. Enters self.old result steps self.new)
+            world.new }
     {
         let Some(begun) = self.begun else {
             return Err(Refusal::NoSuchTxn);
@@ -88,7 +96,8 @@ impl Client {
 
     /// Asks for an operation on the collection of the name.
     ///
-    /// NoSuchTxn where no transaction is open; where the book does not know it yet, the refusals of `Book::enter`; then
+    /// NoSuchTxn where no transaction is open; where the book does not know it yet, the refusals of
+    /// `Book::enter`; then
     /// those of `Book::find`, and of `Book::call`. The transaction stays open.
     pub fn call<D: Disk>(
         &mut self,
@@ -96,7 +105,8 @@ impl Client {
         name: &Name,
         operation: Operation,
     ) -> Result<Reply, Refusal>
-        ensures { Calls ⟦<D as Disk>⟧ self.old world.old name.now (AsksFor operation) result self.new world.new }
+        ensures { Calls ⟦<D as Disk>⟧ self.old world.old name.now (AsksFor operation) result
+            self.new world.new }
     {
         let number = self.enter(world)?;
         let collection = world.book().find(name.as_str())?;
@@ -106,7 +116,8 @@ impl Client {
 
     /// Puts a bump of the counter of the name off to the commit.
     ///
-    /// NoSuchTxn where no transaction is open; where the book does not know it yet, the refusals of `Book::enter`; then
+    /// NoSuchTxn where no transaction is open; where the book does not know it yet, the refusals of
+    /// `Book::enter`; then
     /// those of `Book::find`, and of `Book::later`. The transaction stays open.
     pub fn later<D: Disk>(
         &mut self,
@@ -114,7 +125,8 @@ impl Client {
         name: &Name,
         by: i64,
     ) -> Result<(), Refusal>
-        ensures { Calls ⟦<D as Disk>⟧ self.old world.old name.now (PutsOff by) result self.new world.new }
+        ensures { Calls ⟦<D as Disk>⟧ self.old world.old name.now (PutsOff by) result self.new
+            world.new }
     {
         let number = self.enter(world)?;
         let collection = world.book().find(name.as_str())?;
@@ -123,10 +135,12 @@ impl Client {
 
     /// Commits the open transaction, which is none then. Its place is the client's ticket.
     ///
-    /// NoSuchTxn where no transaction is open; where the book does not know it yet, the refusals of `Book::enter`; then
+    /// NoSuchTxn where no transaction is open; where the book does not know it yet, the refusals of
+    /// `Book::enter`; then
     /// those of `Book::commit`. At a refusal the transaction stays open.
     pub fn commit<D: Disk>(&mut self, world: &mut World<D>) -> Result<u64, Refusal>
-        ensures { Runs ⟦<D as Disk>⟧ world.old (λ steps. Commits self.old result steps self.new) world.new }
+        ensures { Runs ⟦<D as Disk>⟧ world.old (λ steps. Commits self.old result steps self.new)
+            world.new }
     {
         let number = self.enter(world)?;
         let place = world.commit(number)?;
@@ -137,13 +151,16 @@ impl Client {
         Ok(place)
     }
 
-    /// Takes the open transaction back: its calls are undone, the newest first, and it is none then. Where the book does
+    /// Takes the open transaction back: its calls are undone, the newest first, and it is none
+    /// then. Where the book does
     /// not know it, there is nothing to undo.
     ///
-    /// NoSuchTxn where no transaction is open, then the refusals of `Book::back` and `Book::ended`. At a refusal the
+    /// NoSuchTxn where no transaction is open, then the refusals of `Book::back` and `Book::ended`.
+    /// At a refusal the
     /// transaction stays open.
     pub fn abort<D: Disk>(&mut self, world: &mut World<D>) -> Result<(), Refusal>
-        ensures { Runs ⟦<D as Disk>⟧ world.old (λ steps. Aborts self.old result steps self.new) world.new }
+        ensures { Runs ⟦<D as Disk>⟧ world.old (λ steps. Aborts self.old result steps self.new)
+            world.new }
     {
         let Some(begun) = self.begun else {
             return Err(Refusal::NoSuchTxn);
@@ -185,7 +202,8 @@ fn undo<D: Disk>(world: &mut World<D>, number: u64) -> Result<(), Refusal>
     world.ended(number)
 }
 
-// The call that is asked for. A removal is one of a map where a client can ask for that, and else one of a set.
+// The call that is asked for. A removal is one of a map where a client can ask for that, and else
+// one of a set.
 fn call_of(catalog: &Catalog, collection: u8, operation: Operation) -> Call
     ensures { AskedFor catalog.now collection operation result }
 {

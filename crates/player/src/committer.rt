@@ -10,7 +10,8 @@ use world::World;
 
 /// Hands a block over where there is room for one, and brings the next one to the disk.
 ///
-/// The refusals of `Book::cut`, and then those of `Keeper::turn`. That there was no room for a block is passed over.
+/// The refusals of `Book::cut`, and then those of `Keeper::turn`. That there was no room for a
+/// block is passed over.
 pub fn turn<D: Disk>(world: &mut World<D>) -> Result<Turn, Refusal>
     ensures { Runs ⟦<D as Disk>⟧ world.old (Turns result) world.new }
 {

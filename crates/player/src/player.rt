@@ -43,11 +43,14 @@ impl<D: Disk> Player<D> {
         world.into_disk()
     }
 
-    /// Carries lines out, and prints for each its number and its answer. All that they do to the world is to take steps:
-    /// each past of it goes on with them, and whatever a stop at any moment since might have left is what that yields.
+    /// Carries lines out, and prints for each its number and its answer. All that they do to the
+    /// world is to take steps:
+    /// each past of it goes on with them, and whatever a stop at any moment since might have left
+    /// is what that yields.
     pub fn play_lines<O: Write>(&mut self, lines: Vec<Line>, out: &mut O) -> io::Result<()>
         ensures plays { IsPlayed ⟦<D as Disk>⟧ self.old.world self.new.world }
-        ensures lines { PlaysLines ⟦<D as Disk>⟧ self.old.clients self.old.world lines.items result self.new.clients self.new.world }
+        ensures lines { PlaysLines ⟦<D as Disk>⟧ self.old.clients self.old.world lines.items result
+            self.new.clients self.new.world }
     {
         for Line { number, what } in lines {
             let said = self.answer(what);
@@ -58,7 +61,8 @@ impl<D: Disk> Player<D> {
 
     // What a line answers.
     fn answer(&mut self, action: Action) -> Said
-        ensures { Answers ⟦<D as Disk>⟧ self.old.clients self.old.world action result self.new.clients self.new.world }
+        ensures { Answers ⟦<D as Disk>⟧ self.old.clients self.old.world action result
+            self.new.clients self.new.world }
     {
         match self.act(action) {
             Ok(said) => said,
@@ -68,7 +72,8 @@ impl<D: Disk> Player<D> {
 
     // Does what a line asks for.
     fn act(&mut self, action: Action) -> Result<Said, Refusal>
-        ensures { Acts ⟦<D as Disk>⟧ self.old.clients self.old.world action result self.new.clients self.new.world }
+        ensures { Acts ⟦<D as Disk>⟧ self.old.clients self.old.world action result self.new.clients
+            self.new.world }
     {
         match action {
             Action::Turn => Ok(Said::Turned(turn(&mut self.world)?)),

@@ -7,16 +7,16 @@ use Rattle.std.proofs.lemmas.Int.{ints}
 use Rattle.calls.specs.declared.kind.Kind.{Kind}
 use Rattle.calls.specs.declared.call.Call.{Call}
 use Rattle.calls.specs.declared.reply.Reply.{Reply}
-use Rattle.calls.specs.Ranges.{IsStep}
+use Rattle.calls.specs.Rules.{IsStep, inverse_of, Askable, Deferrable, Pairs}
 use Rattle.calls.specs.Sets as sets
 use Rattle.calls.specs.Maps as maps
 use Rattle.calls.specs.Queues as queues
 use Rattle.calls.specs.Counters as counters
 use Rattle.calls.specs.Pools as pools
-use Rattle.calls.specs.Inverses.{inverse_of, Askable, Deferrable}
-use Rattle.calls.specs.Contents.{Content, InSet, InMap, InQueue, InCounter, InPool, Collection, Answers, AnswersAt}
+use Rattle.calls.specs.Contents.{Content, InSet, InMap, InQueue, InCounter, InPool, Collection}
+use Rattle.calls.specs.Contents.{Answers, AnswersAt}
 use Rattle.record_format.specs.declared.record.Record.{Record}
-use Rattle.record_format.specs.Records.{call_record, FitsCall, FitsReply, IsNumber, Pairs, IsRecord}
+use Rattle.record_format.specs.Records.{call_record, FitsCall, FitsReply, IsNumber, IsRecord}
 
 -- ---- a call and its reply
 
@@ -54,7 +54,8 @@ counter_pairs n (Call.Bump k) Reply.Done a = tt
 counter_pairs n Call.Read (Reply.Total v) a = tt
 counter_pairs n c r a = absurd a.1
 
-pool_pairs : (s : sets.NumberSet) (c : Call) (r : Reply) → Askable c → pools.Answers s c r → Pairs c r
+pool_pairs : (s : sets.NumberSet) (c : Call) (r : Reply) → Askable c → pools.Answers s c r →
+    Pairs c r
 pool_pairs s Call.Draw (Reply.Id x) ask a = tt
 pool_pairs s (Call.Release x) Reply.Queued ask a = tt
 pool_pairs s (Call.Release x) Reply.Absent ask a = tt
@@ -69,7 +70,8 @@ content_pairs (InCounter n) c r ask a = counter_pairs n c r a
 content_pairs (InPool s) c r ask a = pool_pairs s c r ask a
 
 -- What is answered is one of the replies that the call has.
-pub answered_pairs : (s : List Collection) (at : ℕ) (c : Call) (r : Reply) → Askable c → AnswersAt s at c r → Pairs c r
+pub answered_pairs : (s : List Collection) (at : ℕ) (c : Call) (r : Reply) → Askable c →
+    AnswersAt s at c r → Pairs c r
 answered_pairs [] at c r ask a = absurd a
 answered_pairs (x ∷ xs) zero c r ask a = content_pairs x.content c r ask a
 answered_pairs (x ∷ xs) (suc at) c r ask a = answered_pairs xs at c r ask a
@@ -82,7 +84,8 @@ step_fits n h = let a = h.above in let b = h.below in omega (arith, ints)
 back_fits : (n : ℤ) → IsStep n → FitsSigned w64 (neg_ℤ n)
 back_fits n h = let a = h.above in let b = h.below in omega (arith, ints)
 
-pub inverse_fits : (c : Call) (r : Reply) → Askable c → FitsCall c → FitsReply r → IfSome (inverse_of c r) FitsCall
+pub inverse_fits : (c : Call) (r : Reply) → Askable c → FitsCall c → FitsReply r →
+    IfSome (inverse_of c r) FitsCall
 inverse_fits (Call.SetAdd x) Reply.Yes ask f g = f
 inverse_fits (Call.SetRemove x) Reply.Yes ask f g = f
 inverse_fits (Call.Put k v) Reply.Nothing ask f g = f.0
@@ -97,12 +100,25 @@ inverse_fits c r ask f g = tt
 -- ---- records
 
 -- A call that was asked and answered so has a record.
-pub call_is_record : (last : Option Kind) (n at : ℕ) (s : List Collection) (c : Call) (r : Reply) → IsNumber n → at < 256 → Askable c → AnswersAt s at c r → FitsCall c → FitsReply r →
+pub call_is_record : (last : Option Kind) (n at : ℕ) (s : List Collection) (c : Call) (r : Reply) →
+    IsNumber n → at < 256 → Askable c → AnswersAt s at c r → FitsCall c → FitsReply r →
     IsRecord last (Record.Call (call_record n at c r (inverse_of c r)))
 call_is_record last n at s c r i l ask a f g = record {
-  fits = record { number = let h = i.below in omega arith; collection = l; call = f; reply = g; inverse = inverse_fits c r ask f g };
+  fits = record {
+    number = let h = i.below in
+        omega arith;
+    collection = l;
+    call = f;
+    reply = g;
+    inverse = inverse_fits c r ask f g;
+  };
   suits = tt;
-  sound = record { number = i; asked = ask; answered = answered_pairs s at c r ask a; undone = refl };
+  sound = record {
+    number = i;
+    asked = ask;
+    answered = answered_pairs s at c r ask a;
+    undone = refl;
+  };
 }
 
 deferrable_fits : (c : Call) → Deferrable c → FitsCall c
@@ -110,9 +126,15 @@ deferrable_fits (Call.Bump n) d = step_fits n d
 deferrable_fits c d = absurd d
 
 -- A call that was put off has one.
-pub later_is_record : (last : Option Kind) (n at : ℕ) (c : Call) → IsNumber n → at < 256 → Deferrable c → IsRecord last (Record.Later (record { number = n; collection = at; call = c }))
+pub later_is_record : (last : Option Kind) (n at : ℕ) (c : Call) → IsNumber n → at < 256 →
+    Deferrable c → IsRecord last (Record.Later (record { number = n; collection = at; call = c }))
 later_is_record last n at c i l d = record {
-  fits = record { number = let h = i.below in omega arith; collection = l; call = deferrable_fits c d };
+  fits = record {
+    number = let h = i.below in
+        omega arith;
+    collection = l;
+    call = deferrable_fits c d;
+  };
   suits = tt;
   sound = record { number = i; call = d };
 }

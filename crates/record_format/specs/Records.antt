@@ -1,5 +1,7 @@
--- The one spelling of each record: a tag, and behind it the fields. In a number the highest byte comes first.
-use Rattle.std.specs.Prelude.{◌≡◌, ℕ, ◌<◌, ◌≤◌, ◌^◌, ℤ, List, [], ◌∷◌, ◌++◌, length, All, Option, Some, None, IfSome}
+-- The one spelling of each record: a tag, and behind it the fields. In a number the highest byte
+-- comes first.
+use Rattle.std.specs.Prelude.{MatchOption, ◌≡◌, ℕ, ◌<◌, ◌≤◌, ◌^◌, ℤ, List, [], ◌∷◌, ◌++◌, length}
+use Rattle.std.specs.Prelude.{All, Option, Some, None, IfSome}
 use Rattle.std.specs.List.{flat_map}
 use Rattle.std.specs.Int.{w64, w128, bytes_high_first, cast_unsigned}
 use Rattle.std.specs.Int.RustNames.{FitsSigned}
@@ -7,8 +9,9 @@ use Rattle.calls.specs.declared.kind.Kind.{Kind}
 use Rattle.calls.specs.declared.call.Call.{Call}
 use Rattle.calls.specs.declared.reply.Reply.{Reply}
 use Rattle.calls.specs.declared.refusal.Refusal.{Refusal}
+use Rattle.calls.specs.Contents.{IsItemOf}
 use Rattle.calls.specs.Names.{IsName}
-use Rattle.calls.specs.Inverses.{inverse_of, Askable, Deferrable}
+use Rattle.calls.specs.Rules.{inverse_of, Askable, Deferrable, Pairs}
 use Rattle.record_format.specs.declared.record.Record.{Record}
 use Rattle.record_format.specs.declared.record.CallRecord.{CallRecord}
 use Rattle.record_format.specs.declared.record.LaterRecord.{LaterRecord}
@@ -83,7 +86,13 @@ called c = number 8 c.number ++ (c.collection ∷ call c.call) ++ reply c.reply 
 
 -- the record of a call, of its parts
 abbrev pub call_record : (number collection : ℕ) → Call → Reply → Option Call → CallRecord
-call_record n at c r back = record { number = n; collection = at; call = c; reply = r; inverse = back }
+call_record n at c r back = record {
+  number = n;
+  collection = at;
+  call = c;
+  reply = r;
+  inverse = back;
+}
 
 abbrev pub put_off : LaterRecord → List ℕ
 put_off l = number 8 l.number ++ (l.collection ∷ call l.call)
@@ -192,34 +201,6 @@ pub record IsNumber (n : ℕ) : Type 0 where
   pub positive : 1 ≤ n
   pub below : n < 2 ^ 61
 
--- the replies that a call has
-abbrev pub Pairs : Call → Reply → Type 0
-Pairs (Call.Contains x) Reply.Yes = Unit {0}
-Pairs (Call.Contains x) Reply.No = Unit {0}
-Pairs (Call.SetAdd x) Reply.Yes = Unit {0}
-Pairs (Call.SetAdd x) Reply.No = Unit {0}
-Pairs (Call.SetRemove x) Reply.Yes = Unit {0}
-Pairs (Call.SetRemove x) Reply.No = Unit {0}
-Pairs (Call.Get k) (Reply.Value v) = Unit {0}
-Pairs (Call.Get k) Reply.Nothing = Unit {0}
-Pairs (Call.Put k v) Reply.Nothing = Unit {0}
-Pairs (Call.Put k v) (Reply.Value o) = Unit {0}
-Pairs (Call.MapRemove k) (Reply.Value o) = Unit {0}
-Pairs (Call.MapRemove k) Reply.Nothing = Unit {0}
-Pairs (Call.Ceiling k) (Reply.Entry j v) = Unit {0}
-Pairs (Call.Ceiling k) Reply.Nothing = Unit {0}
-Pairs (Call.QueueAdd p g) Reply.Done = Unit {0}
-Pairs Call.Take (Reply.Item p g) = Unit {0}
-Pairs Call.Take Reply.Nothing = Unit {0}
-Pairs Call.Least (Reply.Item p g) = Unit {0}
-Pairs Call.Least Reply.Nothing = Unit {0}
-Pairs (Call.Bump n) Reply.Done = Unit {0}
-Pairs Call.Read (Reply.Total v) = Unit {0}
-Pairs Call.Draw (Reply.Id x) = Unit {0}
-Pairs (Call.Release x) Reply.Queued = Unit {0}
-Pairs (Call.Release x) Reply.Absent = Unit {0}
-Pairs c r = ⊥
-
 pub record IsCalled (c : CallRecord) : Type 0 where
   pub number : IsNumber c.number
   pub asked : Askable c.call
@@ -245,18 +226,9 @@ IsSound (Record.Marks next wear) = (1 ≤ next) × (next ≤ 2 ^ 61)
 IsSound Record.ImageEnd = Unit {0}
 IsSound (Record.Begin n) = IsNumber n
 
--- An item of a collection of the kind; where no kind was named there is none.
-abbrev pub IsItemOf : Option Kind → Item → Type 0
-IsItemOf (Some Kind.Set) (Item.Element x) = Unit {0}
-IsItemOf (Some Kind.Map) (Item.Entry k v) = Unit {0}
-IsItemOf (Some Kind.Queue) (Item.Pair p g) = Unit {0}
-IsItemOf (Some Kind.Counter) (Item.Number n) = Unit {0}
-IsItemOf (Some Kind.Pool) (Item.Element x) = Unit {0}
-IsItemOf last i = ⊥
-
 -- The record may stand where the kind was named last: an item is one of that kind.
 abbrev pub Suits : Option Kind → Record → Type 0
-Suits last (Record.Item i) = IsItemOf last i
+Suits last (Record.Item i) = MatchOption last ⊥ (λ kind. IsItemOf kind i)
 Suits last r = Unit {0}
 
 -- what a journal or an image may hold where the kind was named last
@@ -282,8 +254,10 @@ pub record Begins (last : Option Kind) (bytes : List ℕ) (r : Record) (rest : L
   pub parts : bytes ≡ spelled r ++ rest
   pub is : IsRecord last r
 
--- Why decoding was refused: for want of memory, or since no record begins the bytes, which is damage at the place.
+-- Why decoding was refused: for want of memory, or since no record begins the bytes, which is
+-- damage at the place.
 abbrev pub IsWhy : Option Kind → (place : ℕ) → List ℕ → Refusal → Type 0
 IsWhy last place bytes Refusal.NoMemory = Unit {0}
-IsWhy last place bytes (Refusal.Damaged p) = (p ≡ place) × ((r : Record) (rest : List ℕ) → Begins last bytes r rest → ⊥)
+IsWhy last place bytes (Refusal.Damaged p) =
+    (p ≡ place) × ((r : Record) (rest : List ℕ) → Begins last bytes r rest → ⊥)
 IsWhy last place bytes other = ⊥

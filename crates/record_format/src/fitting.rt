@@ -1,6 +1,6 @@
 // What has a spelling.
 ghost use Rattle.std.specs.Prelude.{◌↔◌, ◌≤◌, length, IsTrue};
-ghost use Rattle.calls.specs.Inverses.{IsShort};
+ghost use Rattle.calls.specs.Rules.{IsShort};
 ghost use Rattle.record_format.specs.Records.{IsValue, FitsCall, FitsReply, FitsItem};
 ghost use Rattle.calls.specs.Counters.{IsWithin};
 ghost use Rattle.record_format.specs.Short.{IsShortReply, IsShortItem};
@@ -24,7 +24,8 @@ fn are_few(bytes: &[u8]) -> bool
     bytes.len() <= MAX_VALUE
 }
 
-/// Whether the call has a spelling, which it has exactly where its value, if it has one, has at most 256 bytes.
+/// Whether the call has a spelling, which it has exactly where its value, if it has one, has at
+/// most 256 bytes.
 pub fn fits_call(call: &Call) -> bool
     ensures fits { IsTrue result ↔ FitsCall call.now }
     ensures short { IsTrue result ↔ IsShort call.now }
@@ -40,7 +41,8 @@ pub fn fits_call(call: &Call) -> bool
     }
 }
 
-/// Whether the reply has a spelling, which it has exactly where its value, if it has one, has at most 256 bytes.
+/// Whether the reply has a spelling, which it has exactly where its value, if it has one, has at
+/// most 256 bytes.
 pub fn fits_reply(reply: &Reply) -> bool
     ensures fits { IsTrue result ↔ FitsReply reply.now }
     ensures short { IsTrue result ↔ IsShortReply reply.now }
@@ -57,7 +59,8 @@ pub fn fits_reply(reply: &Reply) -> bool
     }
 }
 
-/// Whether the item has a spelling, which it has exactly where its value, if it has one, has at most 256 bytes.
+/// Whether the item has a spelling, which it has exactly where its value, if it has one, has at
+/// most 256 bytes.
 pub fn fits_item(item: &Item) -> bool
     ensures fits { IsTrue result ↔ FitsItem item.now }
     ensures short { IsTrue result ↔ IsShortItem item.now }
@@ -70,7 +73,8 @@ pub fn fits_item(item: &Item) -> bool
     }
 }
 
-/// Whether so many runs can reach the item: the number of a counter is at most `wear` times 2^63 from 0, and other items
+/// Whether so many runs can reach the item: the number of a counter is at most `wear` times 2^63
+/// from 0, and other items
 /// have no bound.
 pub fn is_reached(item: &Item, wear: u64) -> bool
     ensures { IsTrue result ↔ IsReached wear item.now }

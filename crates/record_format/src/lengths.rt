@@ -2,7 +2,9 @@
 ghost use Rattle.std.specs.Prelude.{◌≡◌, ◌+◌, ◌≤◌, ℕ, length, IfSome};
 ghost use Rattle.std.specs.Option.{option_copied};
 ghost use Rattle.record_format.specs.declared.record.Record.{Record};
-ghost use Rattle.record_format.specs.Records.{value, named, call, reply, inverse, call_record, put_off, item, spelled, Fits, FitsCall, FitsReply, FitsItem, FitsCalled, FitsPutOff, IsValue};
+ghost use Rattle.record_format.specs.Records.{value, named, call, reply, inverse, call_record};
+ghost use Rattle.record_format.specs.Records.{put_off, item, spelled, Fits, FitsCall, FitsReply};
+ghost use Rattle.record_format.specs.Records.{FitsItem, FitsCalled, FitsPutOff, IsValue};
 
 use crate::record::{CallRecord, LaterRecord, Record};
 use calls::{Bytes, Call, Item, Name, Reply};
@@ -64,14 +66,17 @@ fn back_len(back: Option<&Call>) -> usize
     }
 }
 
-/// How many bytes the record of a call takes, with its reply and the call that takes it back, whose values have at most
+/// How many bytes the record of a call takes, with its reply and the call that takes it back, whose
+/// values have at most
 /// 256 bytes: from 12 to 811.
 #[tactic(auto, using(crate::proofs::RecordLengths::lengths))]
 pub fn call_len(asked: &Call, answer: &Reply, back: Option<&Call>) -> usize
     requires asked { FitsCall asked.now }
     requires answer { FitsReply answer.now }
     requires back { IfSome (option_copied back) FitsCall }
-    ensures len { (n at : ℕ) → result ≡ length (spelled (Record.Call (call_record n at asked.now answer.now (option_copied back.entry)))) }
+    ensures len { (n at : ℕ) → result ≡
+        length (spelled (Record.Call (call_record n at asked.now answer.now
+        (option_copied back.entry)))) }
     ensures positive { 1 ≤ result }
     ensures bound { result ≤ 811 }
 {
@@ -116,7 +121,8 @@ fn named_len(name: &Name) -> usize
     2 + name.as_str().len()
 }
 
-/// How many bytes a record takes, whose names are good and whose values have at most 256 bytes: from 1 to 811.
+/// How many bytes a record takes, whose names are good and whose values have at most 256 bytes:
+/// from 1 to 811.
 #[tactic(auto, using(crate::proofs::RecordLengths::lengths))]
 pub fn encoded_len(entry: &Record) -> usize
     requires { Fits entry.now }

@@ -1,8 +1,12 @@
 // Records into bytes. The room is made first, so that what follows can't be refused.
-ghost use Rattle.std.specs.Prelude.{◌≡◌, ◌+◌, ◌<◌, ◌≤◌, ◌^◌, ◌∷◌, [], ◌++◌, length, vec_len, vec_capacity, OnOk, OnErr, IfErr, IfSome};
+ghost use Rattle.std.specs.Prelude.{◌≡◌, ◌+◌, ◌<◌, ◌≤◌, ◌^◌, ◌∷◌, [], ◌++◌, length, vec_len};
+ghost use Rattle.std.specs.Prelude.{vec_capacity, OnOk, OnErr, IfErr, IfSome};
 ghost use Rattle.std.specs.Option.{option_copied};
 ghost use Rattle.record_format.specs.declared.record.Record.{Record};
-ghost use Rattle.record_format.specs.Records.{number, signed, wide, value, kind_code, named, call, reply, inverse, call_record, called, put_off, item, spelled, Fits, FitsCall, FitsReply, FitsItem, FitsCalled, FitsPutOff, IsValue};
+ghost use Rattle.record_format.specs.Records.{number, signed, wide, value, kind_code, named, call};
+ghost use Rattle.record_format.specs.Records.{reply, inverse, call_record, called, put_off, item};
+ghost use Rattle.record_format.specs.Records.{spelled, Fits, FitsCall, FitsReply, FitsItem};
+ghost use Rattle.record_format.specs.Records.{FitsCalled, FitsPutOff, IsValue};
 
 use crate::lengths::{call_len, encoded_len};
 use crate::record::{CallRecord, LaterRecord, Record};
@@ -236,9 +240,14 @@ fn put_parts(
     requires asked { FitsCall asked.now }
     requires answer { FitsReply answer.now }
     requires back { IfSome (option_copied back) FitsCall }
-    requires room { vec_len out.old + length (called (call_record number collection asked.now answer.now (option_copied back))) ≤ vec_capacity out.old }
-    ensures items { out.new.items ≡ out.old.items ++ called (call_record number collection asked.now answer.now (option_copied back.entry)) }
-    ensures len { vec_len out.new ≡ vec_len out.old + length (called (call_record number collection asked.now answer.now (option_copied back.entry))) }
+    requires room { vec_len out.old + length
+        (called (call_record number collection asked.now answer.now (option_copied back))) ≤
+        vec_capacity out.old }
+    ensures items { out.new.items ≡ out.old.items ++
+        called (call_record number collection asked.now answer.now (option_copied back.entry)) }
+    ensures len { vec_len out.new ≡
+        vec_len out.old + length (called
+        (call_record number collection asked.now answer.now (option_copied back.entry))) }
     ensures capacity { vec_capacity out.old ≤ vec_capacity out.new }
 {
     put_u64(out, number);
@@ -343,7 +352,8 @@ fn put_record(out: &mut Vec<u8>, entry: &Record)
     }
 }
 
-/// Puts a record, whose names are good and whose values have at most 256 bytes, behind what `out` holds, in place.
+/// Puts a record, whose names are good and whose values have at most 256 bytes, behind what `out`
+/// holds, in place.
 ///
 /// NoMemory, only where room was missing; it leaves `out` as it was.
 pub fn encode(entry: &Record, out: &mut Vec<u8>) -> Result<(), Refusal>
@@ -351,7 +361,8 @@ pub fn encode(entry: &Record, out: &mut Vec<u8>) -> Result<(), Refusal>
     ensures ok { OnOk result (out.new.items ≡ out.old.items ++ spelled entry.now) }
     ensures len { OnOk result (vec_len out.new ≡ vec_len out.old + length (spelled entry.now)) }
     ensures err { IfErr result (λ e. (e ≡ Refusal.NoMemory) × (out.new.items ≡ out.old.items)) }
-    ensures full { OnErr result (vec_capacity out.old < vec_len out.old + length (spelled entry.now)) }
+    ensures full { OnErr result (vec_capacity out.old < vec_len out.old + length
+        (spelled entry.now)) }
     ensures capacity { vec_capacity out.old ≤ vec_capacity out.new }
 {
     if out.reserve(encoded_len(entry)).is_err() {
@@ -361,8 +372,10 @@ pub fn encode(entry: &Record, out: &mut Vec<u8>) -> Result<(), Refusal>
     Ok(())
 }
 
-/// Puts the record of a call, whose values have at most 256 bytes, behind what `out` holds, in place: the transaction's
-/// number, the collection, the call, its reply, and the call that takes it back. Nothing is copied but into `out`.
+/// Puts the record of a call, whose values have at most 256 bytes, behind what `out` holds, in
+/// place: the transaction's
+/// number, the collection, the call, its reply, and the call that takes it back. Nothing is copied
+/// but into `out`.
 ///
 /// NoMemory, only where room was missing; it leaves `out` as it was.
 pub fn encode_call(
@@ -376,10 +389,17 @@ pub fn encode_call(
     requires asked { FitsCall asked.now }
     requires answer { FitsReply answer.now }
     requires back { IfSome (option_copied back) FitsCall }
-    ensures ok { OnOk result (out.new.items ≡ out.old.items ++ spelled (Record.Call (call_record number collection asked.now answer.now (option_copied back.entry)))) }
-    ensures len { OnOk result (vec_len out.new ≡ vec_len out.old + length (spelled (Record.Call (call_record number collection asked.now answer.now (option_copied back.entry))))) }
+    ensures ok { OnOk result (out.new.items ≡ out.old.items ++
+        spelled (Record.Call (call_record number collection asked.now answer.now
+        (option_copied back.entry)))) }
+    ensures len { OnOk result (vec_len out.new ≡
+        vec_len out.old + length (spelled
+        (Record.Call (call_record number collection asked.now answer.now
+        (option_copied back.entry))))) }
     ensures err { IfErr result (λ e. (e ≡ Refusal.NoMemory) × (out.new.items ≡ out.old.items)) }
-    ensures full { OnErr result (vec_capacity out.old < vec_len out.old + length (spelled (Record.Call (call_record number collection asked.now answer.now (option_copied back.entry))))) }
+    ensures full { OnErr result (vec_capacity out.old < vec_len out.old + length
+        (spelled (Record.Call (call_record number collection asked.now answer.now
+        (option_copied back.entry))))) }
     ensures capacity { vec_capacity out.old ≤ vec_capacity out.new }
 {
     if out.reserve(call_len(asked, answer, back)).is_err() {

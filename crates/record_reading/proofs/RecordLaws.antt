@@ -1,5 +1,7 @@
 -- The two laws: a record that is read is spelled so, and what is spelled so is read.
-use Rattle.std.proofs.Common.{◌≡◌, ℕ, ◌^◌, ◌<◌, ◌≤◌, Bool, true, false, eqb, ltb, ℤ, List, [], ◌∷◌, ◌++◌, length, take, drop, Option, Some, None, refl, sym, ap, subst, ◌∙◌, append_assoc, arith, inl, inr}
+use Rattle.std.proofs.Common.{◌≡◌, ℕ, ◌^◌, ◌<◌, ◌≤◌, Bool, true, false, eqb, ltb, ℤ, List, [], ◌∷◌}
+use Rattle.std.proofs.Common.{◌++◌, length, take, drop, Option, Some, None, refl, sym, ap, subst}
+use Rattle.std.proofs.Common.{◌∙◌, append_assoc, arith, inl, inr}
 use Rattle.std.specs.Prelude.{IfSome, IsTrue, ◌↔◌}
 use Rattle.std.specs.Int.{w64, w128, cast_signed, cast_unsigned}
 use Rattle.std.specs.Int.RustNames.{FitsSigned}
@@ -16,27 +18,51 @@ use Rattle.calls.specs.Names.{IsName}
 use Rattle.record_format.specs.declared.record.Record.{Record}
 use Rattle.record_format.specs.declared.record.CallRecord.{CallRecord}
 use Rattle.record_format.specs.declared.record.LaterRecord.{LaterRecord}
-use Rattle.record_format.specs.Records.{number, signed, wide, value, kind_code, named, call, reply, inverse, called, put_off, item, spelled, IsValue, FitsCall, FitsReply, FitsItem, FitsCalled, FitsPutOff, Fits, IsSound, IsItemOf, Suits, IsRecord, Begins}
-use Rattle.record_reading.specs.RecordReading.{byte_in, number_in, pair_in, value_in, entry_in, kind_of, is_good_name, name_in, named_in, keyed_calls, keyed_call_behind, other_calls, call_behind, call_in, replies, reply_behind, reply_in, nothing, inverse_in, called_in, put_off_in, item_in, made_named, numbered_records, numbered_behind, journal_records, journal_behind, image_records, record_behind, record_in}
+use Rattle.record_format.specs.Records.{number, signed, wide, value, kind_code, named, call, reply}
+use Rattle.record_format.specs.Records.{inverse, called, put_off, item, spelled, IsValue, FitsCall}
+use Rattle.record_format.specs.Records.{FitsReply, FitsItem, FitsCalled, FitsPutOff, Fits, IsSound}
+use Rattle.record_format.specs.Records.{Suits, IsRecord, Begins}
+use Rattle.record_reading.specs.RecordReading.{byte_in, number_in, pair_in, value_in, entry_in}
+use Rattle.record_reading.specs.RecordReading.{kind_of, is_good_name, name_in, named_in}
+use Rattle.record_reading.specs.RecordReading.{keyed_calls, keyed_call_behind, other_calls}
+use Rattle.record_reading.specs.RecordReading.{call_behind, call_in, replies, reply_behind}
+use Rattle.record_reading.specs.RecordReading.{reply_in, nothing, inverse_in, called_in, put_off_in}
+use Rattle.record_reading.specs.RecordReading.{item_in, made_named, numbered_records}
+use Rattle.record_reading.specs.RecordReading.{numbered_behind, journal_records, journal_behind}
+use Rattle.record_reading.specs.RecordReading.{image_records, record_behind, record_in}
 use Rattle.record_reading.proofs.RecordNames.{IsName-from_test, test_from_IsName}
-use Rattle.record_reading.proofs.RecordFields.{IsBytes, IsBytes-drop, IsBytes-take, IsBytes-rest, which, went, some_is, Takes, Takes-then, number_takes, number_again}
-use Rattle.record_reading.proofs.Readers.{IsTaken, Reads, number_reads, both_reads, made_again, Behind, plain_behind, made_taken, made_behind, read_at_behind, numbered_behind_code}
+use Rattle.record_reading.proofs.RecordFields.{IsBytes, IsBytes-drop, IsBytes-take, IsBytes-rest}
+use Rattle.record_reading.proofs.RecordFields.{which, went, some_is, Takes, Takes-then}
+use Rattle.record_reading.proofs.RecordFields.{number_takes, number_again}
+use Rattle.record_reading.proofs.Readers.{IsTaken, Reads, number_reads, both_reads, made_again}
+use Rattle.record_reading.proofs.Readers.{Behind, plain_behind, made_taken, made_behind}
+use Rattle.record_reading.proofs.Readers.{read_at_behind, numbered_behind_code}
 
-byte_takes : (bytes : List ℕ) (x : ℕ × List ℕ) → IsBytes bytes → byte_in bytes ≡ Some x → Takes bytes (x.0 ∷ []) x.1 × (x.0 < 256)
+byte_takes : (bytes : List ℕ) (x : ℕ × List ℕ) → IsBytes bytes → byte_in bytes ≡ Some x →
+    Takes bytes (x.0 ∷ []) x.1 × (x.0 < 256)
 byte_takes [] x f e = absurd cc
 byte_takes (b ∷ bytes) x f e =
-    subst (λ (y : ℕ × List ℕ). Takes (b ∷ bytes) (y.0 ∷ []) y.1 × (y.0 < 256)) (some_is (b, bytes) x e) (record { parts = refl; rest_fits = IsBytes-rest b bytes f }, f 0)
+    subst (λ (y : ℕ × List ℕ). Takes (b ∷ bytes) (y.0 ∷ []) y.1 × (y.0 < 256))
+    (some_is (b, bytes) x e) (record { parts = refl; rest_fits = IsBytes-rest b bytes f }, f 0)
 
 -- ---- numbers, pairs and values
 
-pair_reads : Reads (λ (p : ℕ × ℕ). number 8 p.0 ++ number 8 p.1) (λ (p : ℕ × ℕ). (p.0 < 256 ^ 8) × (p.1 < 256 ^ 8)) pair_in
+pair_reads : Reads (λ (p : ℕ × ℕ). number 8 p.0 ++ number 8 p.1)
+    (λ (p : ℕ × ℕ). (p.0 < 256 ^ 8) × (p.1 < 256 ^ 8)) pair_in
 unfolding pair_in
-pair_reads = both_reads (number 8) (λ n. n < 256 ^ 8) (number_in 8) (number 8) (λ n. n < 256 ^ 8) (number_in 8) (number_reads 8) (number_reads 8)
+pair_reads = both_reads (number 8) (λ n. n < 256 ^ 8) (number_in 8) (number 8) (λ n. n < 256 ^ 8)
+    (number_in 8) (number_reads 8) (number_reads 8)
 
-IsValue-taken : (len : ℕ) (bytes : List ℕ) → len ≤ 256 → len ≤ length bytes → IsBytes bytes → IsValue (take len bytes)
-IsValue-taken len bytes short long f = record { short = omega (arith, length-take len bytes); bytes = All-from_get_or (λ b. b < 256) (take len bytes) 0 (λ i lt. IsBytes-take len bytes f i) }
+IsValue-taken : (len : ℕ) (bytes : List ℕ) → len ≤ 256 → len ≤ length bytes → IsBytes bytes →
+    IsValue (take len bytes)
+IsValue-taken len bytes short long f =
+    record {
+      short = omega (arith, length-take len bytes);
+      bytes = All-from_get_or (λ b. b < 256) (take len bytes) 0 (λ i lt. IsBytes-take len bytes f i);
+    }
 
-value_takes : (bytes : List ℕ) (x : List ℕ × List ℕ) → IsBytes bytes → value_in bytes ≡ Some x → IsTaken value IsValue bytes x
+value_takes : (bytes : List ℕ) (x : List ℕ × List ℕ) → IsBytes bytes → value_in bytes ≡ Some x →
+    IsTaken value IsValue bytes x
 unfolding value_in
 value_takes bytes x f e =
     elim (which (number_in 2 bytes)) [
@@ -55,11 +81,20 @@ value_takes bytes x f e =
                       let enough : len.0 ≤ length len.1 = ltb-false _ _ long in
                       let at_most : len.0 ≤ 256 = ltb-false _ _ within in
                       let found : List ℕ × List ℕ = (take len.0 len.1, drop len.0 len.1) in
-                      let len_is : length (take len.0 len.1) ≡ len.0 = omega (arith, length-take len.0 len.1) in
-                      let second : Takes len.1 (take len.0 len.1) (drop len.0 len.1) = record { parts = sym (take-append-drop len.0 len.1); rest_fits = IsBytes-drop len.0 len.1 first.0.rest_fits } in
-                      let whole = Takes-then bytes (number 2 len.0) len.1 (take len.0 len.1) (drop len.0 len.1) first.0 second in
-                      let spelt : Takes bytes (value (take len.0 len.1)) (drop len.0 len.1) = subst (λ (k : ℕ). Takes bytes (number 2 k ++ take len.0 len.1) (drop len.0 len.1)) (sym len_is) whole in
-                      subst (IsTaken value IsValue bytes) (some_is found x e3) (spelt, IsValue-taken len.0 len.1 at_most enough first.0.rest_fits)
+                      let len_is : length (take len.0 len.1) ≡ len.0 =
+                      omega (arith, length-take len.0 len.1) in
+                      let second : Takes len.1 (take len.0 len.1) (drop len.0 len.1) =
+                      record {
+                        parts = sym (take-append-drop len.0 len.1);
+                        rest_fits = IsBytes-drop len.0 len.1 first.0.rest_fits;
+                      } in
+                      let whole = Takes-then bytes (number 2 len.0) len.1 (take len.0 len.1)
+                      (drop len.0 len.1) first.0 second in
+                      let spelt : Takes bytes (value (take len.0 len.1)) (drop len.0 len.1) =
+                      subst (λ (k : ℕ). Takes bytes (number 2 k ++ take len.0 len.1)
+                      (drop len.0 len.1)) (sym len_is) whole in
+                      subst (IsTaken value IsValue bytes) (some_is found x e3)
+                      (spelt, IsValue-taken len.0 len.1 at_most enough first.0.rest_fits)
                 ]
           ]
     ]
@@ -67,19 +102,29 @@ value_takes bytes x f e =
 value_again : (v rest : List ℕ) → IsValue v → value_in (value v ++ rest) ≡ Some (v, rest)
 unfolding value_in
 value_again v rest h =
-    let regrouped : value v ++ rest ≡ number 2 (length v) ++ (v ++ rest) = append_assoc (number 2 (length v)) v rest in
+    let regrouped : value v ++ rest ≡ number 2 (length v) ++ (v ++ rest) =
+    append_assoc (number 2 (length v)) v rest in
     let short : length v ≤ 256 = h.short in
     let below : length v < 256 ^ 2 = omega arith in
     let within : ltb 256 (length v) ≡ false = le-ltb _ _ short in
-    let long : ltb (length (v ++ rest)) (length v) ≡ false = le-ltb _ _ (omega (arith, length-append v rest)) in
-    ap value_in regrouped ∙ rw (number_again 2 (length v) (v ++ rest) below, within, long, take_at v rest (length v) refl, drop_at v rest (length v) refl) refl
+    let long : ltb (length (v ++ rest)) (length v) ≡ false =
+    le-ltb _ _ (omega (arith, length-append v rest)) in
+    ap value_in regrouped ∙ rw (
+      number_again 2 (length v) (v ++ rest) below,
+      within,
+      long,
+      take_at v rest (length v) refl,
+      drop_at v rest (length v) refl,
+    ) refl
 
 value_reads : Reads value IsValue value_in
 value_reads = record { takes = value_takes; again = value_again }
 
-entry_reads : Reads (λ (e : ℕ × List ℕ). number 8 e.0 ++ value e.1) (λ (e : ℕ × List ℕ). (e.0 < 256 ^ 8) × IsValue e.1) entry_in
+entry_reads : Reads (λ (e : ℕ × List ℕ). number 8 e.0 ++ value e.1)
+    (λ (e : ℕ × List ℕ). (e.0 < 256 ^ 8) × IsValue e.1) entry_in
 unfolding entry_in
-entry_reads = both_reads (number 8) (λ n. n < 256 ^ 8) (number_in 8) value IsValue value_in (number_reads 8) value_reads
+entry_reads = both_reads (number 8) (λ n. n < 256 ^ 8) (number_in 8) value IsValue value_in
+    (number_reads 8) value_reads
 
 -- ---- kinds and names
 
@@ -93,7 +138,8 @@ kind_of-code Kind.Pool = refl
 code_of-kind : (code : ℕ) (kind : Kind) → kind_of code ≡ Some kind → kind_code kind ≡ code
 code_of-kind code kind e = grind (arith, eqb-true)
 
-name_takes : (bytes : List ℕ) (x : List ℕ × List ℕ) → IsBytes bytes → name_in bytes ≡ Some x → Takes bytes (length x.0 ∷ x.0) x.1 × IsName x.0
+name_takes : (bytes : List ℕ) (x : List ℕ × List ℕ) → IsBytes bytes → name_in bytes ≡ Some x →
+    Takes bytes (length x.0 ∷ x.0) x.1 × IsName x.0
 unfolding name_in
 name_takes bytes x f e =
     elim (which (byte_in bytes)) [
@@ -109,24 +155,37 @@ name_takes bytes x f e =
                 elim (went (is_good_name (take len.0 len.1))) [
                   | inl good ↦
                       let e3 = simp good at e2 in
-                      let len_is : length (take len.0 len.1) ≡ len.0 = omega (arith, length-take len.0 len.1) in
-                      let second : Takes len.1 (take len.0 len.1) (drop len.0 len.1) = record { parts = sym (take-append-drop len.0 len.1); rest_fits = IsBytes-drop len.0 len.1 first.0.rest_fits } in
-                      let both = Takes-then bytes (len.0 ∷ []) len.1 (take len.0 len.1) (drop len.0 len.1) first.0 second in
-                      let whole : Takes bytes (length (take len.0 len.1) ∷ take len.0 len.1) (drop len.0 len.1) = subst (λ (k : ℕ). Takes bytes (k ∷ take len.0 len.1) (drop len.0 len.1)) (sym len_is) both in
-                      subst (λ (y : List ℕ × List ℕ). Takes bytes (length y.0 ∷ y.0) y.1 × IsName y.0) (some_is (take len.0 len.1, drop len.0 len.1) x e3) (whole, IsName-from_test (take len.0 len.1) good)
+                      let len_is : length (take len.0 len.1) ≡ len.0 =
+                      omega (arith, length-take len.0 len.1) in
+                      let second : Takes len.1 (take len.0 len.1) (drop len.0 len.1) =
+                      record {
+                        parts = sym (take-append-drop len.0 len.1);
+                        rest_fits = IsBytes-drop len.0 len.1 first.0.rest_fits;
+                      } in
+                      let both = Takes-then bytes (len.0 ∷ []) len.1 (take len.0 len.1)
+                      (drop len.0 len.1) first.0 second in
+                      let whole : Takes bytes (length (take len.0 len.1) ∷ take len.0 len.1)
+                      (drop len.0 len.1) = subst (λ (k : ℕ). Takes bytes (k ∷ take len.0 len.1)
+                      (drop len.0 len.1)) (sym len_is) both in
+                      subst (λ (y : List ℕ × List ℕ). Takes bytes (length y.0 ∷ y.0) y.1 ×
+                      IsName y.0) (some_is (take len.0 len.1, drop len.0 len.1) x e3)
+                      (whole, IsName-from_test (take len.0 len.1) good)
                   | inr bad ↦ let e3 = simp bad at e2 in absurd cc
                 ]
           ]
     ]
 
-name_again : (name rest : List ℕ) → IsName name → name_in (length name ∷ (name ++ rest)) ≡ Some (name, rest)
+name_again : (name rest : List ℕ) → IsName name →
+    name_in (length name ∷ (name ++ rest)) ≡ Some (name, rest)
 unfolding name_in
 name_again name rest h =
-    let long : ltb (length (name ++ rest)) (length name) ≡ false = le-ltb _ _ (omega (arith, length-append name rest)) in
+    let long : ltb (length (name ++ rest)) (length name) ≡ false =
+    le-ltb _ _ (omega (arith, length-append name rest)) in
     let good = test_from_IsName name h in
     rw (long, take_at name rest (length name) refl, drop_at name rest (length name) refl, good) refl
 
-named_takes : (bytes : List ℕ) (x : Kind × List ℕ × List ℕ) → IsBytes bytes → named_in bytes ≡ Some x → Takes bytes (named x.0 x.1) x.2 × IsName x.1
+named_takes : (bytes : List ℕ) (x : Kind × List ℕ × List ℕ) → IsBytes bytes →
+    named_in bytes ≡ Some x → Takes bytes (named x.0 x.1) x.2 × IsName x.1
 unfolding named_in
 named_takes bytes x f e =
     elim (which (byte_in bytes)) [
@@ -144,15 +203,20 @@ named_takes bytes x f e =
                   | inr (name, n) ↦
                       let e3 = simp n at e2 in
                       let second = name_takes code.1 name first.0.rest_fits n in
-                      let both = Takes-then bytes (code.0 ∷ []) code.1 (length name.0 ∷ name.0) name.1 first.0 second.0 in
-                      let whole : Takes bytes (named kind name.0) name.1 = subst (λ (b : ℕ). Takes bytes (b ∷ length name.0 ∷ name.0) name.1) (sym code_is) both in
+                      let both = Takes-then bytes (code.0 ∷ []) code.1 (length name.0 ∷ name.0)
+                      name.1 first.0 second.0 in
+                      let whole : Takes bytes (named kind name.0) name.1 =
+                      subst (λ (b : ℕ). Takes bytes (b ∷ length name.0 ∷ name.0) name.1)
+                      (sym code_is) both in
                       let found : Kind × List ℕ × List ℕ = (kind, name.0, name.1) in
-                      subst (λ (y : Kind × List ℕ × List ℕ). Takes bytes (named y.0 y.1) y.2 × IsName y.1) (some_is found x e3) (whole, second.1)
+                      subst (λ (y : Kind × List ℕ × List ℕ). Takes bytes (named y.0 y.1) y.2 ×
+                      IsName y.1) (some_is found x e3) (whole, second.1)
                 ]
           ]
     ]
 
-named_again : (kind : Kind) (name rest : List ℕ) → IsName name → named_in (named kind name ++ rest) ≡ Some (kind, name, rest)
+named_again : (kind : Kind) (name rest : List ℕ) → IsName name →
+    named_in (named kind name ++ rest) ≡ Some (kind, name, rest)
 unfolding named_in
 named_again kind name rest h = rw (kind_of-code kind, name_again name rest h) refl
 
@@ -164,16 +228,36 @@ signed_fits n lt = sfits_to_z {w = w64} {n = n} (Fits-of_lt lt)
 wide_fits : (n : ℕ) → n < 256 ^ 16 → FitsSigned w128 (cast_signed w128 n)
 wide_fits n lt = sfits_to_z {w = w128} {n = n} (Fits-of_lt lt)
 
-signed_again : (n : ℤ) (rest : List ℕ) → FitsSigned w64 n → number_in 8 (signed n ++ rest) ≡ Some (cast_unsigned w64 n, rest)
+signed_again : (n : ℤ) (rest : List ℕ) → FitsSigned w64 n →
+    number_in 8 (signed n ++ rest) ≡ Some (cast_unsigned w64 n, rest)
 signed_again n rest fits = number_again 8 (cast_unsigned w64 n) rest (omega (arith, ints))
 
-wide_again : (n : ℤ) (rest : List ℕ) → FitsSigned w128 n → number_in 16 (wide n ++ rest) ≡ Some (cast_unsigned w128 n, rest)
+wide_again : (n : ℤ) (rest : List ℕ) → FitsSigned w128 n →
+    number_in 16 (wide n ++ rest) ≡ Some (cast_unsigned w128 n, rest)
 wide_again n rest fits = number_again 16 (cast_unsigned w128 n) rest (omega (arith, ints))
 
 keyed_call_takes : (code : ℕ) → Behind call FitsCall code (keyed_call_behind code)
 unfolding keyed_call_behind
 keyed_call_takes code =
-    numbered_behind_code call FitsCall keyed_calls ((λ n h. (refl, h)), ((λ n h. (refl, h)), ((λ n h. (refl, h)), ((λ n h. (refl, h)), ((λ n h. (refl, h)), ((λ n h. (refl, h)), ((λ n h. (refl, h)), ((λ n h. (refl, h)), tt)))))))) code
+    numbered_behind_code call FitsCall keyed_calls (
+      (λ n h. (refl, h)),
+      (
+        (λ n h. (refl, h)),
+        (
+          (λ n h. (refl, h)),
+          (
+            (λ n h. (refl, h)),
+            (
+              (λ n h. (refl, h)),
+              (
+                (λ n h. (refl, h)),
+                ((λ n h. (refl, h)), ((λ n h. (refl, h)), tt)),
+              ),
+            ),
+          ),
+        ),
+      ),
+    ) code
 
 bump_spelt : (n : ℕ) → n < 256 ^ 8 → call (Call.Bump (cast_signed w64 n)) ≡ 12 ∷ number 8 n
 bump_spelt n lt = ap (λ (k : ℕ). 12 ∷ number 8 k) (of_z-to_z w64 n lt)
@@ -182,17 +266,21 @@ call_takes : (code : ℕ) → Behind call FitsCall code (call_behind code)
 unfolding call_behind
 call_takes code =
     read_at_behind call FitsCall other_calls keyed_call_behind (
-      made_behind _ _ _ entry_reads call FitsCall 5 (λ e. Call.Put e.0 e.1) (λ e h. refl) (λ e h. h),
+      made_behind _ _ _ entry_reads call FitsCall 5 (λ e. Call.Put e.0 e.1) (λ e h. refl)
+          (λ e h. h),
       (
-        made_behind _ _ _ pair_reads call FitsCall 8 (λ p. Call.QueueAdd p.0 p.1) (λ p h. refl) (λ p h. h),
+        made_behind _ _ _ pair_reads call FitsCall 8 (λ p. Call.QueueAdd p.0 p.1) (λ p h. refl)
+            (λ p h. h),
         (
           plain_behind call FitsCall 9 Call.Take refl tt,
           (
             plain_behind call FitsCall 10 Call.Least refl tt,
             (
-              made_behind _ _ _ pair_reads call FitsCall 11 (λ p. Call.Pluck p.0 p.1) (λ p h. refl) (λ p h. h),
+              made_behind _ _ _ pair_reads call FitsCall 11 (λ p. Call.Pluck p.0 p.1) (λ p h. refl)
+                  (λ p h. h),
               (
-                made_behind _ _ _ (number_reads 8) call FitsCall 12 (λ n. Call.Bump (cast_signed w64 n)) bump_spelt signed_fits,
+                made_behind _ _ _ (number_reads 8) call FitsCall 12
+                    (λ n. Call.Bump (cast_signed w64 n)) bump_spelt signed_fits,
                 (
                   plain_behind call FitsCall 13 Call.Read refl tt,
                   (plain_behind call FitsCall 14 Call.Draw refl tt, tt),
@@ -210,20 +298,27 @@ call_again (Call.Contains x) rest fits = rw (number_again 8 x rest fits) refl
 call_again (Call.SetAdd x) rest fits = rw (number_again 8 x rest fits) refl
 call_again (Call.SetRemove x) rest fits = rw (number_again 8 x rest fits) refl
 call_again (Call.Get k) rest fits = rw (number_again 8 k rest fits) refl
-call_again (Call.Put k v) rest fits = made_again (λ e. Call.Put e.0 e.1) entry_in ((number 8 k ++ value v) ++ rest) (k, v) rest (entry_reads.again (k, v) rest fits)
+call_again (Call.Put k v) rest fits =
+    made_again (λ e. Call.Put e.0 e.1) entry_in ((number 8 k ++ value v) ++ rest) (k, v) rest
+    (entry_reads.again (k, v) rest fits)
 call_again (Call.MapRemove k) rest fits = rw (number_again 8 k rest fits) refl
 call_again (Call.Ceiling k) rest fits = rw (number_again 8 k rest fits) refl
-call_again (Call.QueueAdd p g) rest fits = made_again (λ p. Call.QueueAdd p.0 p.1) pair_in ((number 8 p ++ number 8 g) ++ rest) (p, g) rest (pair_reads.again (p, g) rest fits)
+call_again (Call.QueueAdd p g) rest fits =
+    made_again (λ p. Call.QueueAdd p.0 p.1) pair_in ((number 8 p ++ number 8 g) ++ rest) (p, g) rest
+    (pair_reads.again (p, g) rest fits)
 call_again Call.Take rest fits = refl
 call_again Call.Least rest fits = refl
-call_again (Call.Pluck p g) rest fits = made_again (λ p. Call.Pluck p.0 p.1) pair_in ((number 8 p ++ number 8 g) ++ rest) (p, g) rest (pair_reads.again (p, g) rest fits)
+call_again (Call.Pluck p g) rest fits =
+    made_again (λ p. Call.Pluck p.0 p.1) pair_in ((number 8 p ++ number 8 g) ++ rest) (p, g) rest
+    (pair_reads.again (p, g) rest fits)
 call_again (Call.Bump n) rest fits = rw (signed_again n rest fits, to_z-of_z w64 n fits) refl
 call_again Call.Read rest fits = refl
 call_again Call.Draw rest fits = refl
 call_again (Call.Release x) rest fits = rw (number_again 8 x rest fits) refl
 call_again (Call.Free x) rest fits = rw (number_again 8 x rest fits) refl
 
-call_in_takes : (bytes : List ℕ) (x : Call × List ℕ) → IsBytes bytes → call_in bytes ≡ Some x → IsTaken call FitsCall bytes x
+call_in_takes : (bytes : List ℕ) (x : Call × List ℕ) → IsBytes bytes → call_in bytes ≡ Some x →
+    IsTaken call FitsCall bytes x
 unfolding call_in
 call_in_takes [] x f e = absurd cc
 call_in_takes (code ∷ bytes) x f e = call_takes code bytes x (IsBytes-rest code bytes f) e
@@ -250,13 +345,17 @@ reply_takes code =
             (
               made_behind _ _ _ value_reads reply FitsReply 4 Reply.Value (λ v h. refl) (λ v h. h),
               (
-                made_behind _ _ _ entry_reads reply FitsReply 5 (λ e. Reply.Entry e.0 e.1) (λ e h. refl) (λ e h. h),
+                made_behind _ _ _ entry_reads reply FitsReply 5 (λ e. Reply.Entry e.0 e.1)
+                    (λ e h. refl) (λ e h. h),
                 (
-                  made_behind _ _ _ pair_reads reply FitsReply 6 (λ p. Reply.Item p.0 p.1) (λ p h. refl) (λ p h. h),
+                  made_behind _ _ _ pair_reads reply FitsReply 6 (λ p. Reply.Item p.0 p.1)
+                      (λ p h. refl) (λ p h. h),
                   (
-                    made_behind _ _ _ (number_reads 16) reply FitsReply 7 (λ n. Reply.Total (cast_signed w128 n)) total_spelt wide_fits,
+                    made_behind _ _ _ (number_reads 16) reply FitsReply 7
+                        (λ n. Reply.Total (cast_signed w128 n)) total_spelt wide_fits,
                     (
-                      made_behind _ _ _ (number_reads 8) reply FitsReply 8 Reply.Id (λ n h. refl) (λ n h. h),
+                      made_behind _ _ _ (number_reads 8) reply FitsReply 8 Reply.Id (λ n h. refl)
+                          (λ n h. h),
                       (
                         plain_behind reply FitsReply 9 Reply.Queued refl tt,
                         (plain_behind reply FitsReply 10 Reply.Absent refl tt, tt),
@@ -271,21 +370,28 @@ reply_takes code =
       ),
     ) no_reply code
 
-reply_again : (r : Reply) (rest : List ℕ) → FitsReply r → reply_in (reply r ++ rest) ≡ Some (r, rest)
+reply_again : (r : Reply) (rest : List ℕ) → FitsReply r →
+    reply_in (reply r ++ rest) ≡ Some (r, rest)
 unfolding reply_in reply_behind
 reply_again Reply.Done rest fits = refl
 reply_again Reply.No rest fits = refl
 reply_again Reply.Yes rest fits = refl
 reply_again Reply.Nothing rest fits = refl
-reply_again (Reply.Value v) rest fits = made_again Reply.Value value_in (value v ++ rest) v rest (value_again v rest fits)
-reply_again (Reply.Entry k v) rest fits = made_again (λ e. Reply.Entry e.0 e.1) entry_in ((number 8 k ++ value v) ++ rest) (k, v) rest (entry_reads.again (k, v) rest fits)
-reply_again (Reply.Item p g) rest fits = made_again (λ p. Reply.Item p.0 p.1) pair_in ((number 8 p ++ number 8 g) ++ rest) (p, g) rest (pair_reads.again (p, g) rest fits)
+reply_again (Reply.Value v) rest fits =
+    made_again Reply.Value value_in (value v ++ rest) v rest (value_again v rest fits)
+reply_again (Reply.Entry k v) rest fits =
+    made_again (λ e. Reply.Entry e.0 e.1) entry_in ((number 8 k ++ value v) ++ rest) (k, v) rest
+    (entry_reads.again (k, v) rest fits)
+reply_again (Reply.Item p g) rest fits =
+    made_again (λ p. Reply.Item p.0 p.1) pair_in ((number 8 p ++ number 8 g) ++ rest) (p, g) rest
+    (pair_reads.again (p, g) rest fits)
 reply_again (Reply.Total n) rest fits = rw (wide_again n rest fits, to_z-of_z w128 n fits) refl
 reply_again (Reply.Id x) rest fits = rw (number_again 8 x rest fits) refl
 reply_again Reply.Queued rest fits = refl
 reply_again Reply.Absent rest fits = refl
 
-reply_in_takes : (bytes : List ℕ) (x : Reply × List ℕ) → IsBytes bytes → reply_in bytes ≡ Some x → IsTaken reply FitsReply bytes x
+reply_in_takes : (bytes : List ℕ) (x : Reply × List ℕ) → IsBytes bytes → reply_in bytes ≡ Some x →
+    IsTaken reply FitsReply bytes x
 unfolding reply_in
 reply_in_takes [] x f e = absurd cc
 reply_in_takes (code ∷ bytes) x f e = reply_takes code bytes x (IsBytes-rest code bytes f) e
@@ -295,7 +401,8 @@ reply_in_takes (code ∷ bytes) x f e = reply_takes code bytes x (IsBytes-rest c
 abbrev FitsInverse : Option Call → Type 0
 FitsInverse o = IfSome o FitsCall
 
-inverse_takes : (bytes : List ℕ) (x : Option Call × List ℕ) → IsBytes bytes → inverse_in bytes ≡ Some x → IsTaken inverse FitsInverse bytes x
+inverse_takes : (bytes : List ℕ) (x : Option Call × List ℕ) → IsBytes bytes →
+    inverse_in bytes ≡ Some x → IsTaken inverse FitsInverse bytes x
 unfolding inverse_in
 inverse_takes [] x f e = absurd cc
 inverse_takes (code ∷ bytes) x f e =
@@ -303,7 +410,11 @@ inverse_takes (code ∷ bytes) x f e =
       | inl is ↦
           let e1 = simp is at e in
           let code_is : code ≡ 0 = eqb-true _ _ is in
-          let whole : Takes (code ∷ bytes) (0 ∷ []) bytes = record { parts = ap (λ (b : ℕ). b ∷ bytes) code_is; rest_fits = IsBytes-rest code bytes f } in
+          let whole : Takes (code ∷ bytes) (0 ∷ []) bytes =
+          record {
+            parts = ap (λ (b : ℕ). b ∷ bytes) code_is;
+            rest_fits = IsBytes-rest code bytes f;
+          } in
           let found : Option Call × List ℕ = (None, bytes) in
           subst (IsTaken inverse FitsInverse (code ∷ bytes)) (some_is found x e1) (whole, tt)
       | inr other ↦
@@ -318,21 +429,29 @@ inverse_takes (code ∷ bytes) x f e =
           ]
     ]
 
-inverse_again : (o : Option Call) (rest : List ℕ) → FitsInverse o → inverse_in (inverse o ++ rest) ≡ Some (o, rest)
+inverse_again : (o : Option Call) (rest : List ℕ) → FitsInverse o →
+    inverse_in (inverse o ++ rest) ≡ Some (o, rest)
 unfolding inverse_in call_in call_behind keyed_call_behind
 inverse_again None rest fits = refl
 inverse_again (Some (Call.Contains x)) rest fits = rw (number_again 8 x rest fits) refl
 inverse_again (Some (Call.SetAdd x)) rest fits = rw (number_again 8 x rest fits) refl
 inverse_again (Some (Call.SetRemove x)) rest fits = rw (number_again 8 x rest fits) refl
 inverse_again (Some (Call.Get k)) rest fits = rw (number_again 8 k rest fits) refl
-inverse_again (Some (Call.Put k v)) rest fits = made_again Some (call_behind 5) ((number 8 k ++ value v) ++ rest) (Call.Put k v) rest (call_again (Call.Put k v) rest fits)
+inverse_again (Some (Call.Put k v)) rest fits =
+    made_again Some (call_behind 5) ((number 8 k ++ value v) ++ rest) (Call.Put k v) rest
+    (call_again (Call.Put k v) rest fits)
 inverse_again (Some (Call.MapRemove k)) rest fits = rw (number_again 8 k rest fits) refl
 inverse_again (Some (Call.Ceiling k)) rest fits = rw (number_again 8 k rest fits) refl
-inverse_again (Some (Call.QueueAdd p g)) rest fits = made_again Some (call_behind 8) ((number 8 p ++ number 8 g) ++ rest) (Call.QueueAdd p g) rest (call_again (Call.QueueAdd p g) rest fits)
+inverse_again (Some (Call.QueueAdd p g)) rest fits =
+    made_again Some (call_behind 8) ((number 8 p ++ number 8 g) ++ rest) (Call.QueueAdd p g) rest
+    (call_again (Call.QueueAdd p g) rest fits)
 inverse_again (Some Call.Take) rest fits = refl
 inverse_again (Some Call.Least) rest fits = refl
-inverse_again (Some (Call.Pluck p g)) rest fits = made_again Some (call_behind 11) ((number 8 p ++ number 8 g) ++ rest) (Call.Pluck p g) rest (call_again (Call.Pluck p g) rest fits)
-inverse_again (Some (Call.Bump n)) rest fits = rw (signed_again n rest fits, to_z-of_z w64 n fits) refl
+inverse_again (Some (Call.Pluck p g)) rest fits =
+    made_again Some (call_behind 11) ((number 8 p ++ number 8 g) ++ rest) (Call.Pluck p g) rest
+    (call_again (Call.Pluck p g) rest fits)
+inverse_again (Some (Call.Bump n)) rest fits =
+    rw (signed_again n rest fits, to_z-of_z w64 n fits) refl
 inverse_again (Some Call.Read) rest fits = refl
 inverse_again (Some Call.Draw) rest fits = refl
 inverse_again (Some (Call.Release x)) rest fits = rw (number_again 8 x rest fits) refl
@@ -340,7 +459,8 @@ inverse_again (Some (Call.Free x)) rest fits = rw (number_again 8 x rest fits) r
 
 -- ---- the record of a call
 
-called_takes : (bytes : List ℕ) (x : CallRecord × List ℕ) → IsBytes bytes → called_in bytes ≡ Some x → IsTaken called FitsCalled bytes x
+called_takes : (bytes : List ℕ) (x : CallRecord × List ℕ) → IsBytes bytes →
+    called_in bytes ≡ Some x → IsTaken called FitsCalled bytes x
 unfolding called_in
 called_takes bytes x f e =
     elim (which (number_in 8 bytes)) [
@@ -368,30 +488,63 @@ called_takes bytes x f e =
                               | inr (o, h5) ↦
                                   let e5 = simp h5 at e4 in
                                   let t5 = inverse_takes r.1 o t4.0.rest_fits h5 in
-                                  let found : CallRecord × List ℕ = (record { number = n.0; collection = b.0; call = c.0; reply = r.0; inverse = o.0 }, o.1) in
-                                  let d1 = Takes-then bytes (number 8 n.0) n.1 (b.0 ∷ []) b.1 t1.0 t2.0 in
-                                  let d2 = Takes-then bytes (number 8 n.0 ++ b.0 ∷ []) b.1 (call c.0) c.1 d1 t3.0 in
-                                  let d3 = Takes-then bytes ((number 8 n.0 ++ b.0 ∷ []) ++ call c.0) c.1 (reply r.0) r.1 d2 t4.0 in
-                                  let d4 = Takes-then bytes (((number 8 n.0 ++ b.0 ∷ []) ++ call c.0) ++ reply r.0) r.1 (inverse o.0) o.1 d3 t5.0 in
-                                  let whole : Takes bytes (called found.0) o.1 = simp append_assoc (simp append_assoc at d4) in
-                                  subst (IsTaken called FitsCalled bytes) (some_is found x e5) (whole, record { number = t1.1; collection = t2.1; call = t3.1; reply = t4.1; inverse = t5.1 })
+                                  let found : CallRecord × List ℕ = (
+                                    record {
+                                      number = n.0;
+                                      collection = b.0;
+                                      call = c.0;
+                                      reply = r.0;
+                                      inverse = o.0;
+                                    },
+                                    o.1,
+                                  ) in
+                                  let d1 = Takes-then bytes (number 8 n.0) n.1 (b.0 ∷ []) b.1 t1.0
+                                  t2.0 in
+                                  let d2 = Takes-then bytes (number 8 n.0 ++ b.0 ∷ []) b.1
+                                  (call c.0) c.1 d1 t3.0 in
+                                  let d3 = Takes-then bytes ((number 8 n.0 ++ b.0 ∷ []) ++ call c.0)
+                                  c.1 (reply r.0) r.1 d2 t4.0 in
+                                  let d4 = Takes-then bytes (((number 8 n.0 ++ b.0 ∷ []) ++
+                                  call c.0) ++ reply r.0) r.1 (inverse o.0) o.1 d3 t5.0 in
+                                  let whole : Takes bytes (called found.0) o.1 =
+                                  simp append_assoc (simp append_assoc at d4) in
+                                  subst (IsTaken called FitsCalled bytes) (some_is found x e5) (
+                                    whole,
+                                    record {
+                                      number = t1.1;
+                                      collection = t2.1;
+                                      call = t3.1;
+                                      reply = t4.1;
+                                      inverse = t5.1;
+                                    },
+                                  )
                             ]
                       ]
                 ]
           ]
     ]
 
-called_again : (c : CallRecord) (rest : List ℕ) → FitsCalled c → called_in (called c ++ rest) ≡ Some (c, rest)
+called_again : (c : CallRecord) (rest : List ℕ) → FitsCalled c →
+    called_in (called c ++ rest) ≡ Some (c, rest)
 unfolding called_in
 called_again c rest fits =
-    let regrouped : called c ++ rest ≡ number 8 c.number ++ (c.collection ∷ (call c.call ++ (reply c.reply ++ (inverse c.inverse ++ rest)))) = simp append_assoc in
+    let regrouped : called c ++ rest ≡ number 8 c.number ++
+    (c.collection ∷ (call c.call ++ (reply c.reply ++ (inverse c.inverse ++ rest)))) =
+    simp append_assoc in
     ap called_in regrouped
-    ∙ rw (number_again 8 c.number (c.collection ∷ (call c.call ++ (reply c.reply ++ (inverse c.inverse ++ rest)))) fits.number, call_again c.call (reply c.reply ++ (inverse c.inverse ++ rest)) fits.call, reply_again c.reply (inverse c.inverse ++ rest) fits.reply, inverse_again c.inverse rest fits.inverse) refl
+    ∙ rw (
+      number_again 8 c.number (c.collection ∷
+          (call c.call ++ (reply c.reply ++ (inverse c.inverse ++ rest)))) fits.number,
+      call_again c.call (reply c.reply ++ (inverse c.inverse ++ rest)) fits.call,
+      reply_again c.reply (inverse c.inverse ++ rest) fits.reply,
+      inverse_again c.inverse rest fits.inverse,
+    ) refl
 
 called_reads : Reads called FitsCalled called_in
 called_reads = record { takes = called_takes; again = called_again }
 
-put_off_takes : (bytes : List ℕ) (x : LaterRecord × List ℕ) → IsBytes bytes → put_off_in bytes ≡ Some x → IsTaken put_off FitsPutOff bytes x
+put_off_takes : (bytes : List ℕ) (x : LaterRecord × List ℕ) → IsBytes bytes →
+    put_off_in bytes ≡ Some x → IsTaken put_off FitsPutOff bytes x
 unfolding put_off_in
 put_off_takes bytes x f e =
     elim (which (number_in 8 bytes)) [
@@ -409,20 +562,29 @@ put_off_takes bytes x f e =
                   | inr (c, h3) ↦
                       let e3 = simp h3 at e2 in
                       let t3 = call_in_takes b.1 c t2.0.rest_fits h3 in
-                      let found : LaterRecord × List ℕ = (record { number = n.0; collection = b.0; call = c.0 }, c.1) in
+                      let found : LaterRecord × List ℕ =
+                      (record { number = n.0; collection = b.0; call = c.0 }, c.1) in
                       let d1 = Takes-then bytes (number 8 n.0) n.1 (b.0 ∷ []) b.1 t1.0 t2.0 in
-                      let d2 = Takes-then bytes (number 8 n.0 ++ b.0 ∷ []) b.1 (call c.0) c.1 d1 t3.0 in
+                      let d2 = Takes-then bytes (number 8 n.0 ++ b.0 ∷ []) b.1 (call c.0) c.1 d1
+                      t3.0 in
                       let whole : Takes bytes (put_off found.0) c.1 = simp append_assoc at d2 in
-                      subst (IsTaken put_off FitsPutOff bytes) (some_is found x e3) (whole, record { number = t1.1; collection = t2.1; call = t3.1 })
+                      subst (IsTaken put_off FitsPutOff bytes) (some_is found x e3)
+                      (whole, record { number = t1.1; collection = t2.1; call = t3.1 })
                 ]
           ]
     ]
 
-put_off_again : (l : LaterRecord) (rest : List ℕ) → FitsPutOff l → put_off_in (put_off l ++ rest) ≡ Some (l, rest)
+put_off_again : (l : LaterRecord) (rest : List ℕ) → FitsPutOff l →
+    put_off_in (put_off l ++ rest) ≡ Some (l, rest)
 unfolding put_off_in
 put_off_again l rest fits =
-    let regrouped : put_off l ++ rest ≡ number 8 l.number ++ (l.collection ∷ (call l.call ++ rest)) = simp append_assoc in
-    ap put_off_in regrouped ∙ rw (number_again 8 l.number (l.collection ∷ (call l.call ++ rest)) fits.number, call_again l.call rest fits.call) refl
+    let regrouped : put_off l ++ rest ≡ number 8 l.number ++
+    (l.collection ∷ (call l.call ++ rest)) = simp append_assoc in
+    ap put_off_in regrouped ∙ rw (
+      number_again 8 l.number (l.collection ∷ (call l.call ++ rest))
+          fits.number,
+      call_again l.call rest fits.call,
+    ) refl
 
 put_off_reads : Reads put_off FitsPutOff put_off_in
 put_off_reads = record { takes = put_off_takes; again = put_off_again }
@@ -431,26 +593,43 @@ put_off_reads = record { takes = put_off_takes; again = put_off_again }
 
 -- an item that fits and is one of the kind
 abbrev FitsAsItem : Option Kind → Item → Type 0
-FitsAsItem last i = FitsItem i × IsItemOf last i
+FitsAsItem last i = FitsItem i × Suits last (Record.Item i)
 
 number_spelt : (n : ℕ) → n < 256 ^ 16 → item (Item.Number (cast_signed w128 n)) ≡ number 16 n
 number_spelt n lt = ap (number 16) (of_z-to_z w128 n lt)
 
-item_takes : (last : Option Kind) (bytes : List ℕ) (x : Item × List ℕ) → IsBytes bytes → item_in last bytes ≡ Some x → IsTaken item (FitsAsItem last) bytes x
+item_takes : (last : Option Kind) (bytes : List ℕ) (x : Item × List ℕ) → IsBytes bytes →
+    item_in last bytes ≡ Some x → IsTaken item (FitsAsItem last) bytes x
 unfolding item_in
 item_takes None bytes x f e = absurd cc
-item_takes (Some Kind.Set) bytes x f e = made_taken _ _ _ (number_reads 8) item (FitsAsItem (Some Kind.Set)) [] Item.Element (λ n h. refl) (λ n h. (h, tt)) bytes x f e
-item_takes (Some Kind.Map) bytes x f e = made_taken _ _ _ entry_reads item (FitsAsItem (Some Kind.Map)) [] (λ e. Item.Entry e.0 e.1) (λ e h. refl) (λ e h. (h, tt)) bytes x f e
-item_takes (Some Kind.Queue) bytes x f e = made_taken _ _ _ pair_reads item (FitsAsItem (Some Kind.Queue)) [] (λ p. Item.Pair p.0 p.1) (λ p h. refl) (λ p h. (h, tt)) bytes x f e
-item_takes (Some Kind.Counter) bytes x f e = made_taken _ _ _ (number_reads 16) item (FitsAsItem (Some Kind.Counter)) [] (λ n. Item.Number (cast_signed w128 n)) number_spelt (λ n h. (wide_fits n h, tt)) bytes x f e
-item_takes (Some Kind.Pool) bytes x f e = made_taken _ _ _ (number_reads 8) item (FitsAsItem (Some Kind.Pool)) [] Item.Element (λ n h. refl) (λ n h. (h, tt)) bytes x f e
+item_takes (Some Kind.Set) bytes x f e =
+    made_taken _ _ _ (number_reads 8) item (FitsAsItem (Some Kind.Set)) [] Item.Element
+    (λ n h. refl) (λ n h. (h, tt)) bytes x f e
+item_takes (Some Kind.Map) bytes x f e =
+    made_taken _ _ _ entry_reads item (FitsAsItem (Some Kind.Map)) [] (λ e. Item.Entry e.0 e.1)
+    (λ e h. refl) (λ e h. (h, tt)) bytes x f e
+item_takes (Some Kind.Queue) bytes x f e =
+    made_taken _ _ _ pair_reads item (FitsAsItem (Some Kind.Queue)) [] (λ p. Item.Pair p.0 p.1)
+    (λ p h. refl) (λ p h. (h, tt)) bytes x f e
+item_takes (Some Kind.Counter) bytes x f e =
+    made_taken _ _ _ (number_reads 16) item (FitsAsItem (Some Kind.Counter)) []
+    (λ n. Item.Number (cast_signed w128 n)) number_spelt (λ n h. (wide_fits n h, tt)) bytes x f e
+item_takes (Some Kind.Pool) bytes x f e =
+    made_taken _ _ _ (number_reads 8) item (FitsAsItem (Some Kind.Pool)) [] Item.Element
+    (λ n h. refl) (λ n h. (h, tt)) bytes x f e
 
-item_again : (last : Option Kind) (i : Item) (rest : List ℕ) → FitsAsItem last i → item_in last (item i ++ rest) ≡ Some (i, rest)
+item_again : (last : Option Kind) (i : Item) (rest : List ℕ) → FitsAsItem last i →
+    item_in last (item i ++ rest) ≡ Some (i, rest)
 unfolding item_in
 item_again (Some Kind.Set) (Item.Element x) rest h = rw (number_again 8 x rest h.0) refl
-item_again (Some Kind.Map) (Item.Entry k v) rest h = made_again (λ e. Item.Entry e.0 e.1) entry_in ((number 8 k ++ value v) ++ rest) (k, v) rest (entry_reads.again (k, v) rest h.0)
-item_again (Some Kind.Queue) (Item.Pair p g) rest h = made_again (λ p. Item.Pair p.0 p.1) pair_in ((number 8 p ++ number 8 g) ++ rest) (p, g) rest (pair_reads.again (p, g) rest h.0)
-item_again (Some Kind.Counter) (Item.Number n) rest h = rw (wide_again n rest h.0, to_z-of_z w128 n h.0) refl
+item_again (Some Kind.Map) (Item.Entry k v) rest h =
+    made_again (λ e. Item.Entry e.0 e.1) entry_in ((number 8 k ++ value v) ++ rest) (k, v) rest
+    (entry_reads.again (k, v) rest h.0)
+item_again (Some Kind.Queue) (Item.Pair p g) rest h =
+    made_again (λ p. Item.Pair p.0 p.1) pair_in ((number 8 p ++ number 8 g) ++ rest) (p, g) rest
+    (pair_reads.again (p, g) rest h.0)
+item_again (Some Kind.Counter) (Item.Number n) rest h =
+    rw (wide_again n rest h.0, to_z-of_z w128 n h.0) refl
 item_again (Some Kind.Pool) (Item.Element x) rest h = rw (number_again 8 x rest h.0) refl
 item_again last i rest h = absurd h.1
 
@@ -463,8 +642,10 @@ item_reads last = record { takes = item_takes last; again = item_again last }
 abbrev pub FitsAt : Option Kind → Record → Type 0
 FitsAt last r = Fits r × Suits last r
 
-named_behind : (last : Option Kind) (code : ℕ) (make : Kind → List ℕ → Record) → ((kind : Kind) (name : List ℕ) → spelled (make kind name) ≡ code ∷ named kind name)
-    → ((kind : Kind) (name : List ℕ) → IsName name → FitsAt last (make kind name)) → Behind spelled (FitsAt last) code (made_named make)
+named_behind : (last : Option Kind) (code : ℕ) (make : Kind → List ℕ → Record) →
+    ((kind : Kind) (name : List ℕ) → spelled (make kind name) ≡ code ∷ named kind name)
+    → ((kind : Kind) (name : List ℕ) → IsName name → FitsAt last (make kind name)) →
+    Behind spelled (FitsAt last) code (made_named make)
 named_behind last code make is good bytes x f e =
     elim (which (named_in bytes)) [
       | inl h ↦ let e1 = simp h at e in absurd cc
@@ -473,39 +654,59 @@ named_behind last code make is good bytes x f e =
           let t = named_takes bytes m f h in
           let found : Record × List ℕ = (make m.0 m.1, m.2) in
           let front = ap (λ (b : List ℕ). code ∷ b) t.0.parts in
-          let whole : Takes (code ∷ bytes) (spelled (make m.0 m.1)) m.2 = rw (is m.0 m.1) (record { parts = front; rest_fits = t.0.rest_fits }) in
-          subst (IsTaken spelled (FitsAt last) (code ∷ bytes)) (some_is found x e1) (whole, good m.0 m.1 t.1)
+          let whole : Takes (code ∷ bytes) (spelled (make m.0 m.1)) m.2 =
+          rw (is m.0 m.1) (record { parts = front; rest_fits = t.0.rest_fits }) in
+          subst (IsTaken spelled (FitsAt last) (code ∷ bytes)) (some_is found x e1)
+          (whole, good m.0 m.1 t.1)
     ]
 
-numbered_takes : (last : Option Kind) (tag : ℕ) → Behind spelled (FitsAt last) tag (numbered_behind tag)
+numbered_takes : (last : Option Kind) (tag : ℕ) →
+    Behind spelled (FitsAt last) tag (numbered_behind tag)
 unfolding numbered_behind
 numbered_takes last tag =
-    numbered_behind_code spelled (FitsAt last) numbered_records ((λ n h. (refl, (h, tt))), ((λ n h. (refl, (h, tt))), ((λ n h. (refl, (h, tt))), ((λ n h. (refl, (h, tt))), tt)))) tag
+    numbered_behind_code spelled (FitsAt last) numbered_records (
+      (λ n h. (refl, (h, tt))),
+      (
+        (λ n h. (refl, (h, tt))),
+        ((λ n h. (refl, (h, tt))), ((λ n h. (refl, (h, tt))), tt)),
+      ),
+    ) tag
 
-journal_takes : (last : Option Kind) (tag : ℕ) → Behind spelled (FitsAt last) tag (journal_behind tag)
+journal_takes : (last : Option Kind) (tag : ℕ) →
+    Behind spelled (FitsAt last) tag (journal_behind tag)
 unfolding journal_behind
 journal_takes last tag =
     read_at_behind spelled (FitsAt last) journal_records numbered_behind (
       named_behind last 1 Record.Make (λ kind name. refl) (λ kind name h. (h, tt)),
       (
-        made_behind _ _ _ called_reads spelled (FitsAt last) 2 Record.Call (λ c h. refl) (λ c h. (h, tt)),
-        (made_behind _ _ _ put_off_reads spelled (FitsAt last) 3 Record.Later (λ l h. refl) (λ l h. (h, tt)), tt),
+        made_behind _ _ _ called_reads spelled (FitsAt last) 2 Record.Call (λ c h. refl)
+            (λ c h. (h, tt)),
+        (
+          made_behind _ _ _ put_off_reads spelled (FitsAt last) 3 Record.Later (λ l h. refl)
+              (λ l h. (h, tt)),
+          tt,
+        ),
       ),
     ) (numbered_takes last) tag
 
-record_takes : (last : Option Kind) (tag : ℕ) → Behind spelled (FitsAt last) tag (record_behind last tag)
+record_takes : (last : Option Kind) (tag : ℕ) →
+    Behind spelled (FitsAt last) tag (record_behind last tag)
 unfolding record_behind
 record_takes last tag =
     read_at_behind spelled (FitsAt last) (image_records last) journal_behind (
       named_behind last 7 Record.Name (λ kind name. refl) (λ kind name h. (h, tt)),
       (
-        made_behind _ _ _ (item_reads last) spelled (FitsAt last) 8 Record.Item (λ i h. refl) (λ i h. h),
+        made_behind _ _ _ (item_reads last) spelled (FitsAt last) 8 Record.Item (λ i h. refl)
+            (λ i h. h),
         (
-          made_behind _ _ _ called_reads spelled (FitsAt last) 9 Record.LiveCall (λ c h. refl) (λ c h. (h, tt)),
+          made_behind _ _ _ called_reads spelled (FitsAt last) 9 Record.LiveCall (λ c h. refl)
+              (λ c h. (h, tt)),
           (
-            made_behind _ _ _ put_off_reads spelled (FitsAt last) 10 Record.LiveLater (λ l h. refl) (λ l h. (h, tt)),
+            made_behind _ _ _ put_off_reads spelled (FitsAt last) 10 Record.LiveLater (λ l h. refl)
+                (λ l h. (h, tt)),
             (
-              made_behind _ _ _ pair_reads spelled (FitsAt last) 11 (λ p. Record.Marks p.0 p.1) (λ p h. refl) (λ p h. (h, tt)),
+              made_behind _ _ _ pair_reads spelled (FitsAt last) 11 (λ p. Record.Marks p.0 p.1)
+                  (λ p h. refl) (λ p h. (h, tt)),
               (plain_behind spelled (FitsAt last) 12 Record.ImageEnd refl (tt, tt), tt),
             ),
           ),
@@ -513,69 +714,93 @@ record_takes last tag =
       ),
     ) (journal_takes last) tag
 
-record_in_takes : (last : Option Kind) (bytes : List ℕ) (x : Record × List ℕ) → IsBytes bytes → record_in last bytes ≡ Some x → IsTaken spelled (FitsAt last) bytes x
+record_in_takes : (last : Option Kind) (bytes : List ℕ) (x : Record × List ℕ) → IsBytes bytes →
+    record_in last bytes ≡ Some x → IsTaken spelled (FitsAt last) bytes x
 unfolding record_in
 record_in_takes last [] x f e = absurd cc
-record_in_takes last (tag ∷ bytes) x f e = record_takes last tag bytes x (IsBytes-rest tag bytes f) e
+record_in_takes last (tag ∷ bytes) x f e =
+    record_takes last tag bytes x (IsBytes-rest tag bytes f) e
 
-make_again : (make : Kind → List ℕ → Record) (kind : Kind) (name rest : List ℕ) → IsName name → made_named make (named kind name ++ rest) ≡ Some (make kind name, rest)
+make_again : (make : Kind → List ℕ → Record) (kind : Kind) (name rest : List ℕ) → IsName name →
+    made_named make (named kind name ++ rest) ≡ Some (make kind name, rest)
 make_again make kind name rest fits = rw (named_again kind name rest fits) refl
 
-record_again : (last : Option Kind) (r : Record) (rest : List ℕ) → FitsAt last r → record_in last (spelled r ++ rest) ≡ Some (r, rest)
+record_again : (last : Option Kind) (r : Record) (rest : List ℕ) → FitsAt last r →
+    record_in last (spelled r ++ rest) ≡ Some (r, rest)
 unfolding record_in record_behind journal_behind numbered_behind
 record_again last (Record.Make kind name) rest h = make_again Record.Make kind name rest h.0
-record_again last (Record.Call c) rest h = made_again Record.Call called_in (called c ++ rest) c rest (called_again c rest h.0)
-record_again last (Record.Later l) rest h = made_again Record.Later put_off_in (put_off l ++ rest) l rest (put_off_again l rest h.0)
+record_again last (Record.Call c) rest h =
+    made_again Record.Call called_in (called c ++ rest) c rest (called_again c rest h.0)
+record_again last (Record.Later l) rest h =
+    made_again Record.Later put_off_in (put_off l ++ rest) l rest (put_off_again l rest h.0)
 record_again last (Record.Commit n) rest h = rw (number_again 8 n rest h.0) refl
 record_again last (Record.Back n) rest h = rw (number_again 8 n rest h.0) refl
 record_again last (Record.Ended n) rest h = rw (number_again 8 n rest h.0) refl
 record_again last (Record.Name kind name) rest h = make_again Record.Name kind name rest h.0
-record_again last (Record.Item i) rest h = made_again Record.Item (item_in last) (item i ++ rest) i rest (item_again last i rest h)
-record_again last (Record.LiveCall c) rest h = made_again Record.LiveCall called_in (called c ++ rest) c rest (called_again c rest h.0)
-record_again last (Record.LiveLater l) rest h = made_again Record.LiveLater put_off_in (put_off l ++ rest) l rest (put_off_again l rest h.0)
-record_again last (Record.Marks next wear) rest h = made_again (λ p. Record.Marks p.0 p.1) pair_in ((number 8 next ++ number 8 wear) ++ rest) (next, wear) rest (pair_reads.again (next, wear) rest h.0)
+record_again last (Record.Item i) rest h =
+    made_again Record.Item (item_in last) (item i ++ rest) i rest (item_again last i rest h)
+record_again last (Record.LiveCall c) rest h =
+    made_again Record.LiveCall called_in (called c ++ rest) c rest (called_again c rest h.0)
+record_again last (Record.LiveLater l) rest h =
+    made_again Record.LiveLater put_off_in (put_off l ++ rest) l rest (put_off_again l rest h.0)
+record_again last (Record.Marks next wear) rest h =
+    made_again (λ p. Record.Marks p.0 p.1) pair_in ((number 8 next ++ number 8 wear) ++ rest)
+    (next, wear) rest (pair_reads.again (next, wear) rest h.0)
 record_again last Record.ImageEnd rest h = refl
 record_again last (Record.Begin n) rest h = rw (number_again 8 n rest h.0) refl
 
 -- ---- one spelling
 
 -- Bytes begin with one record at most that fits and may stand there, whatever it says.
-pub one_fitting : (last : Option Kind) (r s : Record) (x y : List ℕ) → FitsAt last r → FitsAt last s → spelled r ++ x ≡ spelled s ++ y → (r ≡ s) × (x ≡ y)
+pub one_fitting : (last : Option Kind) (r s : Record) (x y : List ℕ) → FitsAt last r →
+    FitsAt last s → spelled r ++ x ≡ spelled s ++ y → (r ≡ s) × (x ≡ y)
 one_fitting last r s x y good_r good_s e =
     let a = record_again last r x good_r in
     let b = record_again last s y good_s in
     let same = some_is (r, x) (s, y) (sym a ∙ ap (record_in last) e ∙ b) in
     (ap (λ (p : Record × List ℕ). p.0) same, ap (λ (p : Record × List ℕ). p.1) same)
 
-pub one_spelling_of : (last : Option Kind) (r s : Record) (x y : List ℕ) → IsRecord last r → IsRecord last s → spelled r ++ x ≡ spelled s ++ y → (r ≡ s) × (x ≡ y)
-one_spelling_of last r s x y good_r good_s e = one_fitting last r s x y (good_r.fits, good_r.suits) (good_s.fits, good_s.suits) e
+pub one_spelling_of : (last : Option Kind) (r s : Record) (x y : List ℕ) → IsRecord last r →
+    IsRecord last s → spelled r ++ x ≡ spelled s ++ y → (r ≡ s) × (x ≡ y)
+one_spelling_of last r s x y good_r good_s e =
+    one_fitting last r s x y (good_r.fits, good_r.suits) (good_s.fits, good_s.suits) e
 
 -- ---- what decoding answers
 
-pub Fits-read : (last : Option Kind) (bytes : List ℕ) (r : Record) (rest : List ℕ) → IsBytes bytes → record_in last bytes ≡ Some (r, rest) → Fits r
+pub Fits-read : (last : Option Kind) (bytes : List ℕ) (r : Record) (rest : List ℕ) → IsBytes bytes →
+    record_in last bytes ≡ Some (r, rest) → Fits r
 Fits-read last bytes r rest f e = (record_in_takes last bytes (r, rest) f e).1.0
 
-pub is_found : (last : Option Kind) (bytes : List ℕ) (r : Record) (rest : List ℕ) → IsBytes bytes → record_in last bytes ≡ Some (r, rest) → IsSound r → Begins last bytes r rest
+pub is_found : (last : Option Kind) (bytes : List ℕ) (r : Record) (rest : List ℕ) → IsBytes bytes →
+    record_in last bytes ≡ Some (r, rest) → IsSound r → Begins last bytes r rest
 is_found last bytes r rest f e sound =
     let t = record_in_takes last bytes (r, rest) f e in
     record { parts = t.0.parts; is = record { fits = t.1.0; suits = t.1.1; sound = sound } }
 
 -- what begins the bytes is what is read
-begins_read : (last : Option Kind) (bytes : List ℕ) (s : Record) (after : List ℕ) → Begins last bytes s after → record_in last bytes ≡ Some (s, after)
-begins_read last bytes s after found = ap (record_in last) found.parts ∙ record_again last s after (found.is.fits, found.is.suits)
+begins_read : (last : Option Kind) (bytes : List ℕ) (s : Record) (after : List ℕ) →
+    Begins last bytes s after → record_in last bytes ≡ Some (s, after)
+begins_read last bytes s after found =
+    ap (record_in last) found.parts ∙ record_again last s after (found.is.fits, found.is.suits)
 
 -- what begins the bytes is the record that is read
-pub is_only : (last : Option Kind) (bytes : List ℕ) (r : Record) (rest : List ℕ) → record_in last bytes ≡ Some (r, rest) → (s : Record) (after : List ℕ) → Begins last bytes s after → (r ≡ s) × (rest ≡ after)
+pub is_only : (last : Option Kind) (bytes : List ℕ) (r : Record) (rest : List ℕ) →
+    record_in last bytes ≡ Some (r, rest) → (s : Record) (after : List ℕ) →
+    Begins last bytes s after → (r ≡ s) × (rest ≡ after)
 is_only last bytes r rest e s after found =
     let same = some_is (r, rest) (s, after) (sym e ∙ begins_read last bytes s after found) in
     (ap (λ (p : Record × List ℕ). p.0) same, ap (λ (p : Record × List ℕ). p.1) same)
 
 -- what begins the bytes and is no sound record
-pub is_unsound : (last : Option Kind) (bytes : List ℕ) (r : Record) (rest : List ℕ) → record_in last bytes ≡ Some (r, rest) → (IsSound r → ⊥) → (s : Record) (after : List ℕ) → Begins last bytes s after → ⊥
-is_unsound last bytes r rest e unsound s after found = unsound (subst IsSound (sym (is_only last bytes r rest e s after found).0) found.is.sound)
+pub is_unsound : (last : Option Kind) (bytes : List ℕ) (r : Record) (rest : List ℕ) →
+    record_in last bytes ≡ Some (r, rest) → (IsSound r → ⊥) → (s : Record) (after : List ℕ) →
+    Begins last bytes s after → ⊥
+is_unsound last bytes r rest e unsound s after found =
+    unsound (subst IsSound (sym (is_only last bytes r rest e s after found).0) found.is.sound)
 
 -- bytes that begin with nothing
-pub is_nothing : (last : Option Kind) (bytes : List ℕ) → record_in last bytes ≡ None → (s : Record) (after : List ℕ) → Begins last bytes s after → ⊥
+pub is_nothing : (last : Option Kind) (bytes : List ℕ) → record_in last bytes ≡ None →
+    (s : Record) (after : List ℕ) → Begins last bytes s after → ⊥
 is_nothing last bytes e s after found =
     let same = sym e ∙ begins_read last bytes s after found in
     absurd cc

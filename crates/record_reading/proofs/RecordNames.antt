@@ -19,25 +19,34 @@ test_from_byte b h = grind (arith, nat_tests)
 decided : (b : ℕ) → Decides (may_be_in_name b) (IsNameByte b)
 decided b = (byte_from_test b, test_from_byte b)
 
-parts_of_test : (name : List ℕ) → is_good_name name ≡ true → (0 < length name) × (length name ≤ 64) × (list_all may_be_in_name name ≡ true)
+parts_of_test : (name : List ℕ) → is_good_name name ≡ true →
+    (0 < length name) × (length name ≤ 64) × (list_all may_be_in_name name ≡ true)
 parts_of_test name h = grind (arith, nat_tests)
 
-test_of_parts : (name : List ℕ) → 0 < length name → length name ≤ 64 → list_all may_be_in_name name ≡ true → is_good_name name ≡ true
+test_of_parts : (name : List ℕ) → 0 < length name → length name ≤ 64 →
+    list_all may_be_in_name name ≡ true → is_good_name name ≡ true
 test_of_parts name positive short bytes = grind (arith, nat_tests)
 
 all_decided : (name : List ℕ) → Decides (list_all may_be_in_name name) (All IsNameByte name)
-all_decided name = Decides-by_and may_be_in_name IsNameByte (list_all may_be_in_name) decided refl (λ _ _. refl) name
+all_decided name = Decides-by_and may_be_in_name IsNameByte (list_all may_be_in_name) decided refl
+    (λ _ _. refl) name
 
 pub IsName-from_test : (name : List ℕ) → is_good_name name ≡ true → IsName name
 IsName-from_test name h =
     let parts = parts_of_test name h in
-    record { spelt = record { not_empty = parts.0; allowed = (all_decided name).0 parts.2 }; short = parts.1 }
+    record {
+      spelt = record { not_empty = parts.0; allowed = (all_decided name).0 parts.2 };
+      short = parts.1;
+    }
 
 pub test_from_IsName : (name : List ℕ) → IsName name → is_good_name name ≡ true
-test_from_IsName name h = test_of_parts name h.spelt.not_empty h.short ((all_decided name).1 h.spelt.allowed)
+test_from_IsName name h = test_of_parts name h.spelt.not_empty h.short
+    ((all_decided name).1 h.spelt.allowed)
 
 byte_below : (b : ℕ) → IsNameByte b → b < 128
 byte_below b h = grind arith
 
 pub is_good_name_utf8 : (name : List ℕ) → is_good_name name ≡ true → IsUtf8 name
-is_good_name_utf8 name h = IsUtf8-from_ascii name (IsAscii-from_all name (All-weaker IsNameByte (λ b. b < 128) byte_below name ((all_decided name).0 (parts_of_test name h).2)))
+is_good_name_utf8 name h = IsUtf8-from_ascii name
+    (IsAscii-from_all name (All-weaker IsNameByte (λ b. b < 128) byte_below name
+    ((all_decided name).0 (parts_of_test name h).2)))

@@ -1,6 +1,9 @@
--- What the functions of reading.rt return, one by one: the field at the front of the bytes, and the bytes behind it. No
--- public contract cites this. That what is read so is what Records spells, and the other way round, is proved.
-use Rattle.std.specs.Prelude.{◌≡◌, ℕ, Bool, ◌&&◌, ◌||◌, List, [], ◌∷◌, length, take, drop, Option, Some, None, Result, Ok, Err, nat_lt, nat_le, ◌==◌, if◌then◌else◌}
+-- What the functions of reading.rt return, one by one: the field at the front of the bytes, and the
+-- bytes behind it. No
+-- public contract cites this. That what is read so is what Records spells, and the other way round,
+-- is proved.
+use Rattle.std.specs.Prelude.{◌≡◌, ℕ, Bool, ◌&&◌, ◌||◌, List, [], ◌∷◌, length, take, drop, Option}
+use Rattle.std.specs.Prelude.{Some, None, Result, Ok, Err, nat_lt, nat_le, ◌==◌, if◌then◌else◌}
 use Rattle.std.specs.List.{list_all}
 use Rattle.std.specs.Int.{w64, w128, cast_signed}
 use Rattle.byteorder.specs.Endian.{big_number}
@@ -52,7 +55,8 @@ entry_at (e ∷ table) code = if code == e.0 then Some e.1 else entry_at table c
 -- what is read by the reader at the code, or by another where the table has none
 abbrev pub read_at : {X : Type 0} → List (ℕ × Reader X) → (ℕ → Reader X) → ℕ → Reader X
 read_at [] other code bytes = other code bytes
-read_at (e ∷ table) other code bytes = if code == e.0 then e.1 bytes else read_at table other code bytes
+read_at (e ∷ table) other code bytes =
+    if code == e.0 then e.1 bytes else read_at table other code bytes
 
 abbrev pub nothing : {X : Type 0} → ℕ → Reader X
 nothing code bytes = None
@@ -64,17 +68,20 @@ byte_in [] = None
 byte_in (b ∷ bytes) = Some (b, bytes)
 
 unfoldable pub number_in : ℕ → Reader ℕ
-number_in len bytes = if nat_lt (length bytes) len then None else Some (big_number len bytes, drop len bytes)
+number_in len bytes = if nat_lt (length bytes) len then None else Some
+    (big_number len bytes, drop len bytes)
 
 -- a number of 8 bytes, made into what the code says
 abbrev pub numbered : {X : Type 0} → List (ℕ × (ℕ → X)) → ℕ → Reader X
-numbered table code bytes = number_in 8 bytes >>= λ n. entry_at table code >>= λ make. Some (make n.0, n.1)
+numbered table code bytes = number_in 8 bytes >>= λ n. entry_at table code >>= λ make. Some
+    (make n.0, n.1)
 
 unfoldable pub pair_in : Reader (ℕ × ℕ)
 pair_in = both (number_in 8) (number_in 8)
 
 unfoldable pub value_in : Reader (List ℕ)
-value_in bytes = number_in 2 bytes >>= λ len. if nat_lt 256 len.0 then None else if nat_lt (length len.1) len.0 then None else Some (take len.0 len.1, drop len.0 len.1)
+value_in bytes = number_in 2 bytes >>= λ len. if nat_lt 256 len.0 then None else if nat_lt
+    (length len.1) len.0 then None else Some (take len.0 len.1, drop len.0 len.1)
 
 unfoldable pub entry_in : Reader (ℕ × List ℕ)
 entry_in = both (number_in 8) value_in
@@ -89,15 +96,18 @@ kind_of code = entry_at kinds code
 
 -- a small letter, a digit, or one of _ - .
 abbrev pub may_be_in_name : ℕ → Bool
-may_be_in_name b = (nat_le 97 b && nat_le b 122) || ((nat_le 48 b && nat_le b 57) || (b == 95 || (b == 45 || b == 46)))
+may_be_in_name b = (nat_le 97 b && nat_le b 122) ||
+    ((nat_le 48 b && nat_le b 57) || (b == 95 || (b == 45 || b == 46)))
 
 abbrev pub is_good_name : List ℕ → Bool
-is_good_name name = nat_lt 0 (length name) && (nat_le (length name) 64 && list_all may_be_in_name name)
+is_good_name name = nat_lt 0 (length name) &&
+    (nat_le (length name) 64 && list_all may_be_in_name name)
 
 unfoldable pub name_in : Reader (List ℕ)
 name_in bytes = do
   len ← byte_in bytes
-  if nat_lt (length len.1) len.0 then None else if is_good_name (take len.0 len.1) then Some (take len.0 len.1, drop len.0 len.1) else None
+  if nat_lt (length len.1) len.0 then None else if is_good_name (take len.0 len.1) then Some
+      (take len.0 len.1, drop len.0 len.1) else None
 
 unfoldable pub named_in : List ℕ → Option (Kind × List ℕ × List ℕ)
 named_in bytes = do
@@ -109,7 +119,8 @@ named_in bytes = do
 -- ---- calls, replies and inverses
 
 abbrev pub keyed_calls : List (ℕ × (ℕ → Call))
-keyed_calls = (1, Call.Contains) ∷ (2, Call.SetAdd) ∷ (3, Call.SetRemove) ∷ (4, Call.Get) ∷ (6, Call.MapRemove) ∷ (7, Call.Ceiling) ∷ (15, Call.Release) ∷ (16, Call.Free) ∷ []
+keyed_calls = (1, Call.Contains) ∷ (2, Call.SetAdd) ∷ (3, Call.SetRemove) ∷ (4, Call.Get) ∷
+    (6, Call.MapRemove) ∷ (7, Call.Ceiling) ∷ (15, Call.Release) ∷ (16, Call.Free) ∷ []
 
 unfoldable pub keyed_call_behind : ℕ → Reader Call
 keyed_call_behind code = numbered keyed_calls code
@@ -157,7 +168,8 @@ reply_in bytes = byte_in bytes >>= λ code. reply_behind code.0 code.1
 
 -- the inverse behind its code, or behind the code of no inverse
 unfoldable pub inverse_in : Reader (Option Call)
-inverse_in bytes = byte_in bytes >>= λ code. if code.0 == 0 then Some (None, code.1) else made Some (call_behind code.0) code.1
+inverse_in bytes = byte_in bytes >>= λ code. if code.0 == 0 then Some (None, code.1) else made Some
+    (call_behind code.0) code.1
 
 -- ---- records
 
@@ -168,7 +180,16 @@ called_in bytes = do
   call ← call_in collection.1
   reply ← reply_in call.1
   inverse ← inverse_in reply.1
-  Some (record { number = number.0; collection = collection.0; call = call.0; reply = reply.0; inverse = inverse.0 }, inverse.1)
+  Some (
+    record {
+      number = number.0;
+      collection = collection.0;
+      call = call.0;
+      reply = reply.0;
+      inverse = inverse.0;
+    },
+    inverse.1,
+  )
 
 unfoldable pub put_off_in : Reader LaterRecord
 put_off_in bytes = do
@@ -182,20 +203,23 @@ item_in None bytes = None
 item_in (Some Kind.Set) bytes = made Item.Element (number_in 8) bytes
 item_in (Some Kind.Map) bytes = made (λ e. Item.Entry e.0 e.1) entry_in bytes
 item_in (Some Kind.Queue) bytes = made (λ p. Item.Pair p.0 p.1) pair_in bytes
-item_in (Some Kind.Counter) bytes = made (λ n. Item.Number (cast_signed w128 n)) (number_in 16) bytes
+item_in (Some Kind.Counter) bytes =
+    made (λ n. Item.Number (cast_signed w128 n)) (number_in 16) bytes
 item_in (Some Kind.Pool) bytes = made Item.Element (number_in 8) bytes
 
 abbrev pub made_named : (Kind → List ℕ → Record) → Reader Record
 made_named make bytes = named_in bytes >>= λ m. Some (make m.0 m.1, m.2)
 
 abbrev pub numbered_records : List (ℕ × (ℕ → Record))
-numbered_records = (4, Record.Commit) ∷ (5, Record.Back) ∷ (6, Record.Ended) ∷ (13, Record.Begin) ∷ []
+numbered_records = (4, Record.Commit) ∷ (5, Record.Back) ∷ (6, Record.Ended) ∷ (13, Record.Begin) ∷
+    []
 
 unfoldable pub numbered_behind : ℕ → Reader Record
 numbered_behind tag = numbered numbered_records tag
 
 abbrev pub journal_records : List (ℕ × Reader Record)
-journal_records = (1, made_named Record.Make) ∷ (2, made Record.Call called_in) ∷ (3, made Record.Later put_off_in) ∷ []
+journal_records = (1, made_named Record.Make) ∷ (2, made Record.Call called_in) ∷
+    (3, made Record.Later put_off_in) ∷ []
 
 unfoldable pub journal_behind : ℕ → Reader Record
 journal_behind tag = read_at journal_records numbered_behind tag

@@ -1,6 +1,12 @@
 // Bytes into the record that they begin with.
 ghost use Rattle.std.specs.Prelude.{◌≡◌, ◌+◌, ◌<◌, ◌≤◌, length, IfOk};
-ghost use Rattle.record_reading.specs.RecordReading.{Gives, byte_in, number_in, pair_in, value_in, entry_in, kind_of, may_be_in_name, is_good_name, name_in, named_in, keyed_call_behind, call_behind, call_in, reply_behind, reply_in, inverse_in, called_in, put_off_in, item_in, numbered_behind, journal_behind, record_behind, record_in};
+ghost use Rattle.record_reading.specs.RecordReading.{Gives, byte_in, number_in, pair_in, value_in};
+ghost use Rattle.record_reading.specs.RecordReading.{entry_in, kind_of, may_be_in_name};
+ghost use Rattle.record_reading.specs.RecordReading.{is_good_name, name_in, named_in};
+ghost use Rattle.record_reading.specs.RecordReading.{keyed_call_behind, call_behind, call_in};
+ghost use Rattle.record_reading.specs.RecordReading.{reply_behind, reply_in, inverse_in, called_in};
+ghost use Rattle.record_reading.specs.RecordReading.{put_off_in, item_in, numbered_behind};
+ghost use Rattle.record_reading.specs.RecordReading.{journal_behind, record_behind, record_in};
 ghost use Rattle.std.specs.List.{list_all};
 ghost use Rattle.std.specs.Int.{w64, w128, cast_signed};
 

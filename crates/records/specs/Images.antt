@@ -1,11 +1,11 @@
--- What an image tells of: the collections with their items, the transactions that were live, and what these had asked for.
+-- What an image tells of: the collections with their items, the transactions that were live, and
+-- what these had asked for.
 use Rattle.std.specs.Prelude.{◌≡◌, ℕ, ◌<◌, List, [], ◌∷◌, ◌++◌, map}
 use Rattle.std.specs.List.{AllByRecursion}
 use Rattle.calls.specs.declared.item.Item.{Item}
-use Rattle.calls.specs.Contents.{Collection}
-use Rattle.calls.specs.Items.{kind_of_content}
+use Rattle.calls.specs.Contents.{Collection, kind_of_content}
 use Rattle.calls.specs.Transactions.{Entry, Asked, PutOff}
-use Rattle.catalog.specs.Shows.{ListsContent}
+use Rattle.catalog.specs.Holdings.{ListsContent}
 use Rattle.record_format.specs.declared.record.Record.{Record}
 use Rattle.record_format.specs.Acts.{event_of}
 
@@ -18,7 +18,8 @@ pub record TellsOf (x : Collection) (rs : List Record) : Type 0 where
 -- They tell of these collections, one after another.
 abbrev pub TellOf : List Collection → List Record → Type 0
 TellOf [] rs = rs ≡ []
-TellOf (x ∷ xs) rs = (first rest : List Record) × (rs ≡ first ++ rest) × TellsOf x first × TellOf xs rest
+TellOf (x ∷ xs) rs = (first rest : List Record) × (rs ≡ first ++ rest) × TellsOf x first ×
+    TellOf xs rest
 
 -- a call, or one that was put off, of a transaction that was live when the image was taken
 abbrev pub IsLiveRecord : Record → Type 0
@@ -38,11 +39,14 @@ abbrev pub Rise : List ℕ → Type 0
 Rise [] = Unit {0}
 Rise (n ∷ ns) = AllByRecursion (λ m. n < m) ns × Rise ns
 
--- The records are an image: the marks, which are a number above all that were entered and the wear; the collections; the numbers that were live,
+-- The records are an image: the marks, which are a number above all that were entered and the wear;
+-- the collections; the numbers that were live,
 -- rising; what these had asked for, in the order asked; and the end.
-pub record IsImage (next wear : ℕ) (shown : List Collection) (numbers : List ℕ) (live rs : List Record) : Type 0 where
+pub record IsImage (next wear : ℕ) (shown : List Collection) (numbers : List ℕ)
+    (live rs : List Record) : Type 0 where
   pub told : List Record
   pub tells : TellOf shown told
   pub rise : Rise numbers
   pub all_live : AllByRecursion IsLiveRecord live
-  pub is : rs ≡ Record.Marks next wear ∷ (told ++ (map Record.Begin numbers ++ (live ++ Record.ImageEnd ∷ [])))
+  pub is : rs ≡ Record.Marks next wear ∷
+      (told ++ (map Record.Begin numbers ++ (live ++ Record.ImageEnd ∷ [])))

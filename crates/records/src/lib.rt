@@ -1,4 +1,5 @@
-//! What a journal and a checkpoint image say, record by record, the one spelling of each record, and collections that
+//! What a journal and a checkpoint image say, record by record, the one spelling of each record,
+//! and collections that
 //! records tell of.
 #![tactic(auto)]
 

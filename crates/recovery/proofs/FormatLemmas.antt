@@ -1,10 +1,14 @@
 -- What the writes of a format leave.
-use Rattle.std.proofs.Common.{◌≡◌, ◌≢◌, ◌⊎◌, inl, inr, ℕ, ◌+◌, ◌-◌, ◌*◌, ◌%◌, ◌≤◌, List, [], ◌∷◌, ◌++◌, length, take, drop, get_or, codes, refl, sym, ◌∙◌, ap, subst, arith, append_assoc}
+use Rattle.std.proofs.Common.{◌≡◌, ◌≢◌, ◌⊎◌, inl, inr, ℕ, ◌+◌, ◌-◌, ◌*◌, ◌%◌, ◌≤◌, List, [], ◌∷◌}
+use Rattle.std.proofs.Common.{◌++◌, length, take, drop, get_or, codes, refl, sym, ◌∙◌, ap, subst}
+use Rattle.std.proofs.Common.{arith, append_assoc}
 use Rattle.std.specs.Prelude.{Result, Ok, Err, OnOk, None}
 use Rattle.std.specs.Int.{w64, to_be_bytes}
-use Rattle.std.proofs.lemmas.List.{take-append-drop, take-take, drop-take, drop-drop, get_or-drop, get_or-take}
+use Rattle.std.proofs.lemmas.List.{take-append-drop, take-take, drop-take, drop-drop, get_or-drop}
+use Rattle.std.proofs.lemmas.List.{get_or-take}
 use Rattle.std.proofs.lemmas.Bool.{cases_eq}
-use Rattle.disk_model.specs.Disk.{Overwritten, Torn, IsAtRest, LeavesOnly, WasTorn, Follows, Elapses}
+use Rattle.disk_model.specs.Disk.{Overwritten, Torn, IsAtRest, LeavesOnly, WasTorn, Follows}
+use Rattle.disk_model.specs.Disk.{Elapses}
 use Rattle.disk_model.proofs.Stops.{overwritten_torn}
 use Rattle.disk_model.proofs.Walk.{started, goes_on, and_then, weaker}
 use Rattle.gate_block.specs.Row.{IsRow, part, row}
@@ -21,35 +25,45 @@ use Rattle.recovery.specs.Formats.{empty_area, IsFilled, IsEmptyStore, IsRoomFor
 -- ---- parts that a write leaves
 
 -- m bytes from n on, which the k bytes at `at` do not meet
-kept_part : (n m at k : ℕ) (old new : List ℕ) → (n + m ≤ at) ⊎ (at + k ≤ n) → Torn at k old new → take m (drop n new) ≡ take m (drop n old)
+kept_part : (n m at k : ℕ) (old new : List ℕ) → (n + m ≤ at) ⊎ (at + k ≤ n) → Torn at k old new →
+    take m (drop n new) ≡ take m (drop n old)
 kept_part n m at k old new apart torn =
     elim apart [
       | inl before ↦
-          let front : (l : List ℕ) → take m (drop n l) ≡ drop n (take (n + m) (take at l)) = λ l. sym (drop-take n m l) ∙ ap (drop n) (sym (take-take (n + m) at l before)) in
+          let front : (l : List ℕ) → take m (drop n l) ≡ drop n (take (n + m) (take at l)) =
+          λ l. sym (drop-take n m l) ∙ ap (drop n) (sym (take-take (n + m) at l before)) in
           front new ∙ ap (λ l. drop n (take (n + m) l)) torn.before ∙ sym (front old)
       | inr behind ↦
           let far : (at + k) + (n - (at + k)) ≡ n = omega (arith, behind) in
-          let back : (l : List ℕ) → drop n l ≡ drop (n - (at + k)) (drop (at + k) l) = λ l. ap (λ x. drop x l) (sym far) ∙ sym (drop-drop (n - (at + k)) (at + k) l) in
+          let back : (l : List ℕ) → drop n l ≡ drop (n - (at + k)) (drop (at + k) l) =
+          λ l. ap (λ x. drop x l) (sym far) ∙ sym (drop-drop (n - (at + k)) (at + k) l) in
           ap (take m) (back new ∙ ap (drop (n - (at + k))) torn.after ∙ sym (back old))
     ]
 
 one_byte : (n : ℕ) (l : List ℕ) → get_or (take 1 (drop n l)) 0 0 ≡ get_or l n 0
-one_byte n l = get_or-take 1 (drop n l) 0 0 (omega arith) ∙ get_or-drop n l 0 0 ∙ ap (λ k. get_or l k 0) (omega arith)
+one_byte n l = get_or-take 1 (drop n l) 0 0 (omega arith) ∙ get_or-drop n l 0 0 ∙
+    ap (λ k. get_or l k 0) (omega arith)
 
 -- one byte
 byte_at : (n b : ℕ) (bytes : List ℕ) → take 1 (drop n bytes) ≡ b ∷ [] → get_or bytes n 0 ≡ b
 byte_at n b bytes is = sym (one_byte n bytes) ∙ ap (λ l. get_or l 0 0) is
 
 -- a write of one byte there
-pub byte_written : (n b : ℕ) (old new : List ℕ) → n + 1 ≤ length old → Overwritten n (b ∷ []) old new → get_or new n 0 ≡ b
-byte_written n b old new inside is = byte_at n b new (written_there n (b ∷ []) old new (omega (arith, inside)) is)
+pub byte_written : (n b : ℕ) (old new : List ℕ) → n + 1 ≤ length old →
+    Overwritten n (b ∷ []) old new → get_or new n 0 ≡ b
+byte_written n b old new inside is =
+    byte_at n b new (written_there n (b ∷ []) old new (omega (arith, inside)) is)
 
 -- a byte that a write does not meet
-pub byte_kept : (n at k : ℕ) (old new : List ℕ) → (n + 1 ≤ at) ⊎ (at + k ≤ n) → Torn at k old new → get_or new n 0 ≡ get_or old n 0
-byte_kept n at k old new apart torn = sym (one_byte n new) ∙ ap (λ l. get_or l 0 0) (kept_part n 1 at k old new apart torn) ∙ one_byte n old
+pub byte_kept : (n at k : ℕ) (old new : List ℕ) → (n + 1 ≤ at) ⊎ (at + k ≤ n) → Torn at k old new →
+    get_or new n 0 ≡ get_or old n 0
+byte_kept n at k old new apart torn =
+    sym (one_byte n new) ∙ ap (λ l. get_or l 0 0) (kept_part n 1 at k old new apart torn) ∙
+    one_byte n old
 
 -- the image of nothing as a block, byte by byte
-pub empty_image : 167 ∷ 0 ∷ 0 ∷ 0 ∷ 18 ∷ 11 ∷ 0 ∷ 0 ∷ 0 ∷ 0 ∷ 0 ∷ 0 ∷ 0 ∷ 1 ∷ 0 ∷ 0 ∷ 0 ∷ 0 ∷ 0 ∷ 0 ∷ 0 ∷ 0 ∷ 12 ∷ 0 ∷ [] ≡ empty_area
+pub empty_image : 167 ∷ 0 ∷ 0 ∷ 0 ∷ 18 ∷ 11 ∷ 0 ∷ 0 ∷ 0 ∷ 0 ∷ 0 ∷ 0 ∷ 0 ∷ 1 ∷ 0 ∷ 0 ∷ 0 ∷ 0 ∷ 0 ∷
+    0 ∷ 0 ∷ 0 ∷ 12 ∷ 0 ∷ [] ≡ empty_area
 unfolding number
 empty_image = refl
 
@@ -59,42 +73,60 @@ image_length = refl
 
 -- ---- the four writes
 
-module _ (area : ℕ) (image letters said root : List ℕ) (a b c d e : List ℕ) (room : 4120 ≤ length a) (image_long : length image ≡ 24) (letters_long : length letters ≡ 8) (said_long : length said ≡ 8) (root_is : root ≡ 0 ∷ [])
-    (first : Overwritten 4096 image a b) (second : Overwritten 512 root b c) (third : Overwritten 0 letters c d) (fourth : Overwritten 9 said d e) where
+module _ (area : ℕ) (image letters said root : List ℕ) (a b c d e : List ℕ) (room : 4120 ≤ length a)
+    (image_long : length image ≡ 24) (letters_long : length letters ≡ 8)
+    (said_long : length said ≡ 8) (root_is : root ≡ 0 ∷ [])
+    (first : Overwritten 4096 image a b) (second : Overwritten 512 root b c)
+    (third : Overwritten 0 letters c d) (fourth : Overwritten 9 said d e) where
   torn_first : Torn 4096 24 a b
-  torn_first = subst (λ n. Torn 4096 n a b) image_long (overwritten_torn 4096 image a b (omega (arith, room, image_long)) first)
+  torn_first = subst (λ n. Torn 4096 n a b) image_long
+      (overwritten_torn 4096 image a b (omega (arith, room, image_long)) first)
 
   root_long : length root ≡ 1
   root_long = ap length root_is
 
   torn_second : Torn 512 1 b c
-  torn_second = subst (λ n. Torn 512 n b c) root_long (overwritten_torn 512 root b c (omega (arith, room, root_long, torn_first.size)) second)
+  torn_second = subst (λ n. Torn 512 n b c) root_long
+      (overwritten_torn 512 root b c (omega (arith, room, root_long, torn_first.size)) second)
 
   torn_third : Torn 0 8 c d
-  torn_third = subst (λ n. Torn 0 n c d) letters_long (overwritten_torn 0 letters c d (omega (arith, room, letters_long, torn_first.size, torn_second.size)) third)
+  torn_third = subst (λ n. Torn 0 n c d) letters_long
+      (overwritten_torn 0 letters c d
+      (omega (arith, room, letters_long, torn_first.size, torn_second.size)) third)
 
   torn_fourth : Torn 9 8 d e
-  torn_fourth = subst (λ n. Torn 9 n d e) said_long (overwritten_torn 9 said d e (omega (arith, room, said_long, torn_first.size, torn_second.size, torn_third.size)) fourth)
+  torn_fourth = subst (λ n. Torn 9 n d e) said_long
+      (overwritten_torn 9 said d e (omega
+      (arith, room, said_long, torn_first.size, torn_second.size, torn_third.size)) fourth)
 
-  there : (at n : ℕ) (bytes old new : List ℕ) → length bytes ≡ n → at ≤ length old → Overwritten at bytes old new → take n (drop at new) ≡ bytes
-  there at n bytes old new long inside is = ap (λ k. take k (drop at new)) (sym long) ∙ written_there at bytes old new inside is
+  there : (at n : ℕ) (bytes old new : List ℕ) → length bytes ≡ n → at ≤ length old →
+      Overwritten at bytes old new → take n (drop at new) ≡ bytes
+  there at n bytes old new long inside is =
+      ap (λ k. take k (drop at new)) (sym long) ∙ written_there at bytes old new inside is
 
-  pub filled : letters ≡ codes "BOOSTED1" → said ≡ to_be_bytes w64 area → image ≡ empty_area → IsFilled area e
+  pub filled : letters ≡ codes "BOOSTED1" → said ≡ to_be_bytes w64 area → image ≡ empty_area →
+      IsFilled area e
   filled letters_are said_is image_is = record {
-    letters = kept_part 0 8 9 8 d e (inl (omega arith)) torn_fourth ∙ there 0 8 letters c d letters_long (omega arith) third ∙ letters_are;
-    area_is = there 9 8 said d e said_long (omega (arith, room, torn_first.size, torn_second.size, torn_third.size)) fourth ∙ said_is;
+    letters = kept_part 0 8 9 8 d e (inl (omega arith)) torn_fourth ∙
+        there 0 8 letters c d letters_long (omega arith) third ∙ letters_are;
+    area_is = there 9 8 said d e said_long
+        (omega (arith, room, torn_first.size, torn_second.size, torn_third.size)) fourth ∙ said_is;
     root =
-        kept_part 512 1 9 8 d e (inr (omega arith)) torn_fourth ∙ kept_part 512 1 0 8 c d (inr (omega arith)) torn_third
+        kept_part 512 1 9 8 d e (inr (omega arith)) torn_fourth ∙
+        kept_part 512 1 0 8 c d (inr (omega arith)) torn_third
         ∙ there 512 1 root b c root_long (omega (arith, room, torn_first.size)) second ∙ root_is;
     image =
-        kept_part 4096 24 9 8 d e (inr (omega arith)) torn_fourth ∙ kept_part 4096 24 0 8 c d (inr (omega arith)) torn_third ∙ kept_part 4096 24 512 1 b c (inr (omega arith)) torn_second
+        kept_part 4096 24 9 8 d e (inr (omega arith)) torn_fourth ∙
+        kept_part 4096 24 0 8 c d (inr (omega arith)) torn_third ∙
+        kept_part 4096 24 512 1 b c (inr (omega arith)) torn_second
         ∙ there 4096 24 image a b image_long (omega (arith, room)) first ∙ image_is;
   }
 
 -- ---- the gate of the head
 
 -- behind its open gate, what was filled is an empty store
-module _ (area : ℕ) (old new : List ℕ) (room : IsRoomFor area (length old)) (filled : IsFilled area old) (torn : Torn 8 1 old new) (opened : get_or new 8 0 ≡ 167) where
+module _ (area : ℕ) (old new : List ℕ) (room : IsRoomFor area (length old))
+    (filled : IsFilled area old) (torn : Torn 8 1 old new) (opened : get_or new 8 0 ≡ 167) where
   header : IsHeader area new
   header = record {
     letters = kept_part 0 8 8 1 old new (inl (omega arith)) torn ∙ filled.letters;
@@ -107,34 +139,61 @@ module _ (area : ℕ) (old new : List ℕ) (room : IsRoomFor area (length old)) 
 
   in_use : base_in_use area new ≡ 4096
   in_use =
-      let root : get_or new 512 0 ≡ 0 = byte_at 512 0 new (kept_part 512 1 8 1 old new (inr (omega arith)) torn ∙ filled.root) in
+      let root : get_or new 512 0 ≡ 0 =
+      byte_at 512 0 new (kept_part 512 1 8 1 old new (inr (omega arith)) torn ∙ filled.root) in
       ap (λ r. 4096 + area * (r % 2)) root ∙ omega arith
 
   image_there : take 24 (part 4096 area new) ≡ empty_area
-  image_there = take-take 24 area (drop 4096 new) (omega (arith, room.not_small)) ∙ kept_part 4096 24 8 1 old new (inr (omega arith)) torn ∙ filled.image
+  image_there = take-take 24 area (drop 4096 new) (omega (arith, room.not_small)) ∙
+      kept_part 4096 24 8 1 old new (inr (omega arith)) torn ∙ filled.image
 
-  row_there : IsRow (spelling (Record.Marks 1 0 ∷ (Record.ImageEnd ∷ [])) ∷ []) (area_in_use area new)
+  row_there : IsRow (spelling (Record.Marks 1 0 ∷ (Record.ImageEnd ∷ [])) ∷ [])
+      (area_in_use area new)
   row_there =
       let bodies : List (List ℕ) = spelling (Record.Marks 1 0 ∷ (Record.ImageEnd ∷ [])) ∷ [] in
       let at : area_in_use area new ≡ part 4096 area new = ap (λ b. part b area new) in_use in
       record {
         gate = 0;
         rest = drop 24 (part 4096 area new);
-        is = at ∙ sym (take-append-drop 24 (part 4096 area new)) ∙ ap (λ l. l ++ drop 24 (part 4096 area new)) image_there ∙ append_assoc (row bodies) (0 ∷ []) (drop 24 (part 4096 area new));
+        is = at ∙ sym (take-append-drop 24 (part 4096 area new)) ∙
+            ap (λ l. l ++ drop 24 (part 4096 area new)) image_there ∙
+            append_assoc (row bodies) (0 ∷ []) (drop 24 (part 4096 area new));
         closed = omega arith;
-        all_fit = (record { not_empty = omega (arith, image_length); short = omega (arith, image_length) }, tt);
+        all_fit = (
+          record {
+            not_empty = omega (arith, image_length);
+            short = omega (arith, image_length);
+          },
+          tt,
+        );
       }
 
   good : AreRecords None (Record.Marks 1 0 ∷ (Record.ImageEnd ∷ []))
-  good = (record { fits = (omega arith, omega arith); suits = tt; sound = (omega arith, omega arith) }, (record { fits = tt; suits = tt; sound = tt }, tt))
+  good = (
+    record {
+      fits = (omega arith, omega arith);
+      suits = tt;
+      sound = (omega arith, omega arith);
+    },
+    (record { fits = tt; suits = tt; sound = tt }, tt),
+  )
 
   empty_accepted : AreAccepted (Record.Marks 1 0 ∷ (Record.ImageEnd ∷ [])) 1 empty_state 0
-  empty_accepted = (InCollections 1 empty_state None, (omega arith, refl), (InJournal 1 empty_state 0, (empty_state, refl, (([], refl), refl)), refl))
+  empty_accepted = (
+    InCollections 1 empty_state None,
+    (omega arith, refl),
+    (InJournal 1 empty_state 0, (empty_state, refl, (([], refl), refl)), refl),
+  )
 
   pub empty_store : IsEmptyStore new
   empty_store =
       let blocks : List (List Record) = (Record.Marks 1 0 ∷ (Record.ImageEnd ∷ [])) ∷ [] in
-      let holds : Holds new blocks = record { size = area; header = header; row = row_there; spelt = ((good.0.fits, good.0.suits), ((good.1.0.fits, good.1.0.suits), tt)) } in
+      let holds : Holds new blocks = record {
+        size = area;
+        header = header;
+        row = row_there;
+        spelt = ((good.0.fits, good.0.suits), ((good.1.0.fits, good.1.0.suits), tt));
+      } in
       record {
         area = area;
         header = header;
@@ -144,7 +203,15 @@ module _ (area : ℕ) (old new : List ℕ) (room : IsRoomFor area (length old)) 
           root = kept_part 512 1 8 1 old new (inr (omega arith)) torn ∙ filled.root;
           image = kept_part 4096 24 8 1 old new (inr (omega arith)) torn ∙ filled.image;
         };
-        sound = record { blocks = blocks; holds = holds; good = good; next = 1; end = empty_state; count = 0; accepted = empty_accepted };
+        sound = record {
+          blocks = blocks;
+          holds = holds;
+          good = good;
+          next = 1;
+          end = empty_state;
+          count = 0;
+          accepted = empty_accepted;
+        };
         stands = record {
           blocks = blocks;
           holds = holds;
@@ -165,18 +232,26 @@ module _ (area : ℕ) (old new : List ℕ) (room : IsRoomFor area (length old)) 
       }
 
 -- a disk at rest whose gate is closed leaves a closed gate
-pub shut_at_rest : {D : Type 0} (seen : D → List ℕ) (may_leave : D → List ℕ → Type 0) (disk : D) → IsAtRest seen may_leave disk → get_or (seen disk) 8 0 ≡ 0 → (c : List ℕ) → may_leave disk c → get_or c 8 0 ≡ 0
+pub shut_at_rest : {D : Type 0} (seen : D → List ℕ) (may_leave : D → List ℕ → Type 0) (disk : D) →
+    IsAtRest seen may_leave disk → get_or (seen disk) 8 0 ≡ 0 → (c : List ℕ) → may_leave disk c →
+    get_or c 8 0 ≡ 0
 shut_at_rest seen may_leave disk rest closed c left = ap (λ l. get_or l 8 0) (rest c left) ∙ closed
 
 pub still_room : (area a b c : ℕ) → IsRoomFor area a → b ≡ a → c ≡ b → IsRoomFor area c
-still_room area a b c room first second = record { not_small = room.not_small; not_large = room.not_large; whole = second ∙ first ∙ room.whole }
+still_room area a b c room first second =
+    record {
+      not_small = room.not_small;
+      not_large = room.not_large;
+      whole = second ∙ first ∙ room.whole;
+    }
 
 -- a closed gate leaves no store
 shut : (bytes : List ℕ) → get_or bytes 8 0 ≢ 167 → HasNoHeader bytes
 shut bytes closed size header = closed header.gate
 
 -- with any value for its gate, what was filled is an empty store or none
-store_or_none : (area : ℕ) (old new : List ℕ) → IsRoomFor area (length old) → IsFilled area old → Torn 8 1 old new → HasNoHeader new ⊎ IsEmptyStore new
+store_or_none : (area : ℕ) (old new : List ℕ) → IsRoomFor area (length old) → IsFilled area old →
+    Torn 8 1 old new → HasNoHeader new ⊎ IsEmptyStore new
 store_or_none area old new room filled torn =
     elim (cases_eq (get_or new 8 0) 167) [
       | inl opened ↦ inr (empty_store area old new room filled torn opened)
@@ -189,26 +264,46 @@ store_or_none area old new room filled torn =
 abbrev IsShut : List ℕ → Type 0
 IsShut bytes = get_or bytes 8 0 ≡ 0
 
-module _ {D : Type 0} (may_leave : D → List ℕ → Type 0) (moment : D → ℕ) (left_since : D → ℕ → List ℕ → Type 0) where
+module _ {D : Type 0} (may_leave : D → List ℕ → Type 0) (moment : D → ℕ)
+    (left_since : D → ℕ → List ℕ → Type 0) where
   -- a stop at any moment since old leaves a closed gate, and so does a stop now
   pub record StaysShut (old new : D) : Type 0 where
     pub since : LeavesOnly moment left_since old new IsShut
     pub now : (c : List ℕ) → may_leave new c → IsShut c
 
-  pub stays_shut : (old : D) → ((c : List ℕ) → left_since old (moment old) c → may_leave old c) → ((c : List ℕ) → may_leave old c → IsShut c) → StaysShut old old
-  stays_shut old only_now now = record { since = started moment left_since old IsShut (λ c left. now c (only_now c left)); now = now }
+  pub stays_shut : (old : D) → ((c : List ℕ) → left_since old (moment old) c → may_leave old c) →
+      ((c : List ℕ) → may_leave old c → IsShut c) → StaysShut old old
+  stays_shut old only_now now = record {
+    since = started moment left_since old IsShut
+        (λ c left. now c (only_now c left));
+    now = now;
+  }
 
   -- a write that does not meet the gate
-  pub shut_past_write : (old mid new : D) (at k : ℕ) → StaysShut old mid → (9 ≤ at) ⊎ (at + k ≤ 8) → Follows (Torn at k) (may_leave mid) (may_leave new)
-      → Elapses (moment mid) (moment new) (left_since mid) (left_since new) (may_leave new) → StaysShut old new
+  pub shut_past_write : (old mid new : D) (at k : ℕ) → StaysShut old mid → (9 ≤ at) ⊎ (at + k ≤ 8) →
+      Follows (Torn at k) (may_leave mid) (may_leave new)
+      → Elapses (moment mid) (moment new) (left_since mid) (left_since new) (may_leave new) →
+      StaysShut old new
   shut_past_write old mid new at k so_far apart follows time =
-      let now : (c : List ℕ) → may_leave new c → IsShut c = λ c left. let was = follows c left in byte_kept 8 at k was.0 c apart was.2 ∙ so_far.now was.0 was.1 in
-      record { since = goes_on moment left_since old mid new IsShut (may_leave new) so_far.since time now; now = now }
+      let now : (c : List ℕ) → may_leave new c → IsShut c = λ c left. let was = follows c left in
+      byte_kept 8 at k was.0 c apart was.2 ∙ so_far.now was.0 was.1 in
+      record {
+        since = goes_on moment left_since old mid new IsShut (may_leave new) so_far.since
+            time now;
+        now = now;
+      }
 
-  pub shut_past_sync : (old mid new : D) → StaysShut old mid → ((c : List ℕ) → may_leave new c → may_leave mid c) → Elapses (moment mid) (moment new) (left_since mid) (left_since new) (may_leave new) → StaysShut old new
+  pub shut_past_sync : (old mid new : D) → StaysShut old mid →
+      ((c : List ℕ) → may_leave new c → may_leave mid c) →
+      Elapses (moment mid) (moment new) (left_since mid) (left_since new) (may_leave new) →
+      StaysShut old new
   shut_past_sync old mid new so_far stop time =
       let now : (c : List ℕ) → may_leave new c → IsShut c = λ c left. so_far.now c (stop c left) in
-      record { since = goes_on moment left_since old mid new IsShut (may_leave new) so_far.since time now; now = now }
+      record {
+        since = goes_on moment left_since old mid new IsShut (may_leave new) so_far.since
+            time now;
+        now = now;
+      }
 
 pub on_any : {T E P : Type 0} (r : Result T E) → P → OnOk r P
 on_any (Ok x) p = p
@@ -216,22 +311,32 @@ on_any (Err e) p = tt
 
 -- ---- the whole format
 
-module _ {D : Type 0} (seen : D → List ℕ) (may_leave : D → List ℕ → Type 0) (moment : D → ℕ) (left_since : D → ℕ → List ℕ → Type 0) (area : ℕ) (old shut_now filled_now : D) (rest : IsAtRest seen may_leave old)
+module _ {D : Type 0} (seen : D → List ℕ) (may_leave : D → List ℕ → Type 0) (moment : D → ℕ)
+    (left_since : D → ℕ → List ℕ → Type 0) (area : ℕ) (old shut_now filled_now : D)
+    (rest : IsAtRest seen may_leave old)
     (closes : LeavesOnly moment left_since old shut_now (WasTorn 8 1 (may_leave old))) where
   abbrev Formatting : List ℕ → Type 0
   Formatting = IsFormatting (seen old)
 
   pub closing : LeavesOnly moment left_since old shut_now Formatting
-  closing = weaker moment left_since old shut_now (WasTorn 8 1 (may_leave old)) Formatting closes (λ c was. inl (subst (λ b. Torn 8 1 b c) (rest was.0 was.1) was.2))
+  closing = weaker moment left_since old shut_now (WasTorn 8 1 (may_leave old)) Formatting closes
+      (λ c was. inl (subst (λ b. Torn 8 1 b c) (rest was.0 was.1) was.2))
 
-  pub filling : LeavesOnly moment left_since shut_now filled_now IsShut → LeavesOnly moment left_since old filled_now Formatting
-  filling fills = and_then moment left_since old shut_now filled_now Formatting IsShut closing fills (λ c closed. inr (inl (shut c (λ opened. absurd (omega (arith, closed, opened))))))
+  pub filling : LeavesOnly moment left_since shut_now filled_now IsShut →
+      LeavesOnly moment left_since old filled_now Formatting
+  filling fills = and_then moment left_since old shut_now filled_now Formatting IsShut closing fills
+      (λ c closed. inr (inl (shut c (λ opened. absurd (omega (arith, closed, opened))))))
 
-  pub opening : (new : D) → LeavesOnly moment left_since shut_now filled_now IsShut → IsAtRest seen may_leave filled_now → IsRoomFor area (length (seen filled_now)) → IsFilled area (seen filled_now)
-      → LeavesOnly moment left_since filled_now new (WasTorn 8 1 (may_leave filled_now)) → LeavesOnly moment left_since old new Formatting
+  pub opening : (new : D) → LeavesOnly moment left_since shut_now filled_now IsShut →
+      IsAtRest seen may_leave filled_now → IsRoomFor area (length (seen filled_now)) →
+      IsFilled area (seen filled_now)
+      → LeavesOnly moment left_since filled_now new (WasTorn 8 1 (may_leave filled_now)) →
+      LeavesOnly moment left_since old new Formatting
   opening new fills rested room is_filled opens =
-      and_then moment left_since old filled_now new Formatting (WasTorn 8 1 (may_leave filled_now)) (filling fills) opens
-      (λ c was. inr (store_or_none area (seen filled_now) c room is_filled (subst (λ b. Torn 8 1 b c) (rested was.0 was.1) was.2)))
+      and_then moment left_since old filled_now new Formatting (WasTorn 8 1 (may_leave filled_now))
+      (filling fills) opens
+      (λ c was. inr (store_or_none area (seen filled_now) c room is_filled
+      (subst (λ b. Torn 8 1 b c) (rested was.0 was.1) was.2)))
 
 pub ok_then : {T E A B : Type 0} (r : Result T E) → OnOk r A → (A → B) → OnOk r B
 ok_then (Ok x) a f = f a

@@ -1,5 +1,6 @@
 -- The head that is read is the one that the disk has.
-use Rattle.std.proofs.Common.{◌≡◌, ℕ, List, length, take, drop, get_or, sym, ◌∙◌, ap, subst, arith, length-drop, false, true≢false, Option, None, Some, Result, Ok, Err}
+use Rattle.std.proofs.Common.{◌≡◌, ℕ, List, length, take, drop, get_or, sym, ◌∙◌, ap, subst, arith}
+use Rattle.std.proofs.Common.{length-drop, false, true≢false, Option, None, Some, Result, Ok, Err}
 use Rattle.std.proofs.lemmas.List.{take-take, get_or-take, drop-take}
 use Rattle.std.specs.Int.{w64, to_be_bytes}
 use Rattle.std.specs.Option.{ok_or, IfNone}
@@ -11,11 +12,15 @@ use Rattle.repetition.specs.Journals.{IsHeader}
 use Rattle.recovery.specs.Heads.{IsHead, IsHeadRefusal}
 
 -- the size that a head says, as the number that its last bytes are
-pub size_said : (head : List ℕ) (n : ℕ) → length head ≡ 17 → IsBytes head → n ≡ big_number 8 (drop 9 head) → drop 9 head ≡ to_be_bytes w64 n
-size_said head n long fits is = sym (number-read 8 (drop 9 head) (omega (arith, long, length-drop 9 head)) (IsBytes-drop 9 head fits)) ∙ ap (λ m. to_be_bytes w64 m) (sym is)
+pub size_said : (head : List ℕ) (n : ℕ) → length head ≡ 17 → IsBytes head →
+    n ≡ big_number 8 (drop 9 head) → drop 9 head ≡ to_be_bytes w64 n
+size_said head n long fits is =
+    sym (number-read 8 (drop 9 head) (omega (arith, long, length-drop 9 head))
+    (IsBytes-drop 9 head fits)) ∙ ap (λ m. to_be_bytes w64 m) (sym is)
 
 -- the head of a disk that has one
-head_of : (size : ℕ) (head bytes : List ℕ) → head ≡ take 17 bytes → IsHeader size bytes → IsHead size head (length bytes)
+head_of : (size : ℕ) (head bytes : List ℕ) → head ≡ take 17 bytes → IsHeader size bytes →
+    IsHead size head (length bytes)
 head_of size head bytes is header = record {
   letters = ap (take 8) is ∙ take-take 8 17 bytes (omega arith) ∙ header.letters;
   gate = ap (λ l. get_or l 8 0) is ∙ get_or-take 17 bytes 8 0 (omega arith) ∙ header.gate;
@@ -25,14 +30,22 @@ head_of size head bytes is header = record {
   whole = header.whole;
 }
 
-not_said : (said : Option ℕ) (result : Result ℕ Refusal) (risen no_head no_header : Type 0) → result ≡ ok_or said Refusal.NotAStore → (no_head → no_header) → IfNone said no_head → IfErr result (IsHeadRefusal risen no_header)
+not_said : (said : Option ℕ) (result : Result ℕ Refusal) (risen no_head no_header : Type 0) →
+    result ≡ ok_or said Refusal.NotAStore → (no_head → no_header) → IfNone said no_head →
+    IfErr result (IsHeadRefusal risen no_header)
 not_said None result risen no_head no_header is f none = rw (is) (f none)
 not_said (Some n) result risen no_head no_header is f none = rw (is) tt
 
-pub no_header : (said : Option ℕ) (result : Result ℕ Refusal) (risen is_honest : Type 0) (head bytes : List ℕ) (whole : ℕ) → result ≡ ok_or said Refusal.NotAStore → (is_honest → head ≡ take 17 bytes) → whole ≡ length bytes
-    → IfNone said ((size : ℕ) → IsHead size head whole → ⊥) → IfErr result (IsHeadRefusal risen (is_honest → (size : ℕ) → IsHeader size bytes → ⊥))
+pub no_header : (said : Option ℕ) (result : Result ℕ Refusal) (risen is_honest : Type 0)
+    (head bytes : List ℕ) (whole : ℕ) → result ≡ ok_or said Refusal.NotAStore →
+    (is_honest → head ≡ take 17 bytes) → whole ≡ length bytes
+    → IfNone said ((size : ℕ) → IsHead size head whole → ⊥) →
+    IfErr result (IsHeadRefusal risen (is_honest → (size : ℕ) → IsHeader size bytes → ⊥))
 no_header said result risen is_honest head bytes whole is read whole_is none =
-    not_said said result risen _ _ is (λ no_head true_read size header. no_head size (subst (λ n. IsHead size head n) (sym whole_is) (head_of size head bytes (read true_read) header))) none
+    not_said said result risen _ _ is
+    (λ no_head true_read size header. no_head size
+    (subst (λ n. IsHead size head n) (sym whole_is)
+    (head_of size head bytes (read true_read) header))) none
 
 -- what holds where nothing was refused
 pub on_ok : {T E : Type 0} (r : Result T E) (P : Type 0) → is_err r ≡ false → OnOk r P → P

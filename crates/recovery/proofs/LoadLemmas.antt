@@ -1,10 +1,14 @@
 -- An area that is loaded, block by block.
-use Rattle.std.proofs.Common.{◌≡◌, ◌≢◌, ℕ, ◌+◌, ◌<◌, ◌≤◌, List, [], ◌∷◌, ◌++◌, length, drop, get_or, map, refl, sym, ◌∙◌, ap, subst, arith, append_assoc, length-drop, take-append-drop, Bool, false, true≢false, Option, None, Some, Err, MatchOption, Vec}
+use Rattle.std.proofs.Common.{◌≡◌, ◌≢◌, ℕ, ◌+◌, ◌<◌, ◌≤◌, List, [], ◌∷◌, ◌++◌, length, drop, get_or}
+use Rattle.std.proofs.Common.{map, refl, sym, ◌∙◌, ap, subst, arith, append_assoc, length-drop}
+use Rattle.std.proofs.Common.{take-append-drop, Bool, false, true≢false, Option, None, Some, Err}
+use Rattle.std.proofs.Common.{MatchOption, Vec}
 use Rattle.std.specs.declared.alloc.Global.{Global}
 use Rattle.calls.specs.declared.kind.Kind.{Kind}
 use Rattle.calls.specs.declared.refusal.Refusal.{Refusal}
 use Rattle.calls.specs.Transactions.{Leads}
-use Rattle.std.proofs.lemmas.List.{append-nil, drop-drop, map-append, length-take-le, at_drop_more, get_or-take, get_or-drop}
+use Rattle.std.proofs.lemmas.List.{append-nil, drop-drop, map-append, length-take-le, at_drop_more}
+use Rattle.std.proofs.lemmas.List.{get_or-take, get_or-drop}
 use Rattle.std.specs.List.{AllByRecursion}
 use Rattle.disk_model.specs.Disk.{ReadsOnly, Rises}
 use Rattle.disk_model.proofs.Walk.{started, reads_on as read_twice}
@@ -13,7 +17,8 @@ use Rattle.gate_block.specs.Answers.{IsNextAnswer}
 use Rattle.gate_block.proofs.Facts.{length-row_add, row-append, next_is, none_is_next, not_broken}
 use Rattle.gate_block.proofs.Unique.{first_block}
 use Rattle.gate_block.specs.declared.area.Area.{Area}
-use Rattle.gate_block.specs.Area.{base_of, size_of, position_of, has_failed, bytes_of, body_in, IsDamage}
+use Rattle.gate_block.specs.Area.{base_of, size_of, position_of, has_failed, bytes_of, body_in}
+use Rattle.gate_block.specs.Area.{IsDamage}
 use Rattle.record_format.specs.declared.record.Record.{Record}
 use Rattle.record_format.specs.Records.{spelling, AreRecords}
 use Rattle.repetition.specs.declared.stage.Stage.{Stage}
@@ -23,12 +28,15 @@ use Rattle.repetition.specs.Reading.{Progress, Unread, InJournal, Reads, AreAcce
 use Rattle.repetition.specs.Repetitions.{LeadsTo, IsFit, IsDamageOr, progress_of, count_of}
 use Rattle.recovery.specs.Openings.{AreSound, IsFirstFault, IsSpoilt, IsLoadRefusal}
 use Rattle.recovery.specs.Loading.{IsLoaded}
-use Rattle.repetition.proofs.Lists.{flat_map-append, all_append, leads_split}
-use Rattle.repetition.proofs.RepeatLemmas.{leads_to_nothing, one_group, last_named-append, records_append, records_front, records_back}
+use Rattle.repetition.proofs.Lists.{flat_map-append, leads_split}
+use Rattle.boosted.proofs.Each.{each_append}
+use Rattle.repetition.proofs.RepeatLemmas.{leads_to_nothing, one_group, last_named-append}
+use Rattle.repetition.proofs.RepeatLemmas.{records_append, records_front, records_back}
 use Rattle.undoing.proofs.Walks.{rises_before}
 
 -- What was read of the area's bytes, up to its next gate.
-pub record HasRead (bytes : List ℕ) (position : ℕ) (kind : Option Kind) (stage : Stage) (next : ℕ) : Type 0 where
+pub record HasRead (bytes : List ℕ) (position : ℕ) (kind : Option Kind) (stage : Stage)
+    (next : ℕ) : Type 0 where
   pub blocks : List (List Record)
   pub good : AreRecords None (records_in blocks)
   pub named : kind ≡ last_named None (records_in blocks)
@@ -36,9 +44,11 @@ pub record HasRead (bytes : List ℕ) (position : ℕ) (kind : Option Kind) (sta
   pub position_is : position ≡ length (row (map spelling blocks))
   pub stood : bytes ≡ row (map spelling blocks) ++ drop position bytes
   pub bodies : AllByRecursion IsBody (map spelling blocks)
-  pub only : (others : List (List Record)) → AreRecords None (records_in others) → IsRow (map spelling others) bytes → (rest : List (List Record)) × (others ≡ blocks ++ rest)
+  pub only : (others : List (List Record)) → AreRecords None (records_in others) →
+      IsRow (map spelling others) bytes → (rest : List (List Record)) × (others ≡ blocks ++ rest)
 
-pub nothing_read : (bytes : List ℕ) (position : ℕ) (kind : Option Kind) (stage : Stage) (next : ℕ) → position ≡ 0 → kind ≡ None → stage ≡ Stage.Unread → HasRead bytes position kind stage next
+pub nothing_read : (bytes : List ℕ) (position : ℕ) (kind : Option Kind) (stage : Stage) (next : ℕ) →
+    position ≡ 0 → kind ≡ None → stage ≡ Stage.Unread → HasRead bytes position kind stage next
 nothing_read bytes position kind stage next none unnamed unread = record {
   blocks = [];
   good = tt;
@@ -50,68 +60,113 @@ nothing_read bytes position kind stage next none unnamed unread = record {
   only = λ others read is. (others, refl);
 }
 
-pub records_in-append : (front back : List (List Record)) → records_in (front ++ back) ≡ records_in front ++ records_in back
+pub records_in-append : (front back : List (List Record)) →
+    records_in (front ++ back) ≡ records_in front ++ records_in back
 records_in-append front back = flat_map-append (λ rs. rs) front back
 
 -- the first of the blocks that are left, where its body is known
-first_left : (last : Option Kind) (rest : List (List Record)) (body : List ℕ) (more : List (List ℕ)) → AreRecords last (records_in rest) → map spelling rest ≡ body ∷ more
-    → (g : List Record) × (others : List (List Record)) × (rest ≡ g ∷ others) × (spelling g ≡ body) × AreRecords last g
+first_left : (last : Option Kind) (rest : List (List Record)) (body : List ℕ)
+    (more : List (List ℕ)) → AreRecords last (records_in rest) → map spelling rest ≡ body ∷ more
+    → (g : List Record) × (others : List (List Record)) × (rest ≡ g ∷ others) ×
+    (spelling g ≡ body) × AreRecords last g
 first_left last [] body more good e = absurd cc
-first_left last (g ∷ rest) body more good e = (g, rest, refl, cc, records_front last g (records_in rest) good)
+first_left last (g ∷ rest) body more good e =
+    (g, rest, refl, cc, records_front last g (records_in rest) good)
 
 -- the block that stands behind those that were read, of all that are there
-pub next_group : (blocks others : List (List Record)) (bytes body : List ℕ) (position : ℕ) → position ≡ length (row (map spelling blocks)) → AreRecords None (records_in others) → IsRow (map spelling others) bytes
+pub next_group : (blocks others : List (List Record)) (bytes body : List ℕ) (position : ℕ) →
+    position ≡ length (row (map spelling blocks)) → AreRecords None (records_in others) →
+    IsRow (map spelling others) bytes
     → (rest : List (List Record)) → others ≡ blocks ++ rest → StandsAt bytes position body
-    → (g : List Record) × (more : List (List Record)) × (rest ≡ g ∷ more) × (spelling g ≡ body) × AreRecords (last_named None (records_in blocks)) g
+    → (g : List Record) × (more : List (List Record)) × (rest ≡ g ∷ more) × (spelling g ≡ body) ×
+    AreRecords (last_named None (records_in blocks)) g
 next_group blocks others bytes body position here good is rest split stands =
-    let parts : map spelling others ≡ map spelling blocks ++ map spelling rest = ap (map spelling) split ∙ map-append spelling blocks rest in
-    let next = next_is (map spelling blocks) (map spelling rest) bytes position body here (subst (λ l. IsRow l bytes) parts is) stands in
-    let records : records_in others ≡ records_in blocks ++ records_in rest = ap records_in split ∙ records_in-append blocks rest in
-    first_left (last_named None (records_in blocks)) rest body next.0 (records_back None (records_in blocks) (records_in rest) (subst (AreRecords None) records good)) next.1
+    let parts : map spelling others ≡ map spelling blocks ++ map spelling rest =
+    ap (map spelling) split ∙ map-append spelling blocks rest in
+    let next = next_is (map spelling blocks) (map spelling rest) bytes position body here
+    (subst (λ l. IsRow l bytes) parts is) stands in
+    let records : records_in others ≡ records_in blocks ++ records_in rest =
+    ap records_in split ∙ records_in-append blocks rest in
+    first_left (last_named None (records_in blocks)) rest body next.0
+    (records_back None (records_in blocks) (records_in rest)
+    (subst (AreRecords None) records good)) next.1
 
 -- Records of a body lead on from where the reading stands.
 abbrev pub ReadsOn : Option Kind → Stage → ℕ → List ℕ → Option Kind → Stage → ℕ → Type 0
-ReadsOn kind stage next body later now above = (rs : List Record) → LeadsTo rs (progress_of stage next) →
-    (group : List Record) × AreRecords kind group × (body ≡ spelling group) × (later ≡ last_named kind group) × LeadsTo (rs ++ group) (progress_of now above)
+ReadsOn kind stage next body later now above =
+    (rs : List Record) → LeadsTo rs (progress_of stage next) →
+    (group : List Record) × AreRecords kind group × (body ≡ spelling group) ×
+    (later ≡ last_named kind group) × LeadsTo (rs ++ group) (progress_of now above)
 
 -- No records of the body lead on.
 abbrev pub ReadsNowhere : Option Kind → Stage → ℕ → List ℕ → Type 0
-ReadsNowhere kind stage next body = (rs group : List Record) → LeadsTo rs (progress_of stage next) → AreRecords kind group → body ≡ spelling group → (q : Progress) → Leads Reads (rs ++ group) Unread q → ⊥
+ReadsNowhere kind stage next body =
+    (rs group : List Record) → LeadsTo rs (progress_of stage next) → AreRecords kind group →
+    body ≡ spelling group → (q : Progress) → Leads Reads (rs ++ group) Unread q → ⊥
 
 -- The image has not ended.
 abbrev pub EndsNowhere : Stage → ℕ → Type 0
-EndsNowhere stage next = (rs : List Record) → LeadsTo rs (progress_of stage next) → (n : ℕ) (s : State) (count : ℕ) → AreAccepted rs n s count → ⊥
+EndsNowhere stage next = (rs : List Record) → LeadsTo rs (progress_of stage next) →
+    (n : ℕ) (s : State) (count : ℕ) → AreAccepted rs n s count → ⊥
 
 -- one block more
-pub reads_on : (bytes body : List ℕ) (position after : ℕ) (kind later : Option Kind) (stage now : Stage) (next above : ℕ) → HasRead bytes position kind stage next → StandsAt bytes position body → after ≡ position + 5 + length body
+pub reads_on : (bytes body : List ℕ) (position after : ℕ) (kind later : Option Kind)
+    (stage now : Stage) (next above : ℕ) → HasRead bytes position kind stage next →
+    StandsAt bytes position body → after ≡ position + 5 + length body
     → ReadsOn kind stage next body later now above → HasRead bytes after later now above
 reads_on bytes body position after kind later stage now next above so_far stands after_is repeats =
     let found = repeats (records_in so_far.blocks) so_far.reached in
     let group : List Record = found.0 in
     let spelled_is : spelling group ≡ body = sym found.2 in
     let blocks : List (List Record) = so_far.blocks ++ group ∷ [] in
-    let records : records_in so_far.blocks ++ group ≡ records_in blocks = sym (records_in-append so_far.blocks (group ∷ []) ∙ ap (λ l. records_in so_far.blocks ++ l) (append-nil group)) in
-    let good : AreRecords (last_named None (records_in so_far.blocks)) group = subst (λ k. AreRecords k group) so_far.named found.1 in
-    let mapped : map spelling blocks ≡ map spelling so_far.blocks ++ body ∷ [] = map-append spelling so_far.blocks (group ∷ []) ∙ ap (λ b. map spelling so_far.blocks ++ b ∷ []) spelled_is in
+    let records : records_in so_far.blocks ++ group ≡ records_in blocks =
+    sym (records_in-append so_far.blocks (group ∷ []) ∙
+    ap (λ l. records_in so_far.blocks ++ l) (append-nil group)) in
+    let good : AreRecords (last_named None (records_in so_far.blocks)) group =
+    subst (λ k. AreRecords k group) so_far.named found.1 in
+    let mapped : map spelling blocks ≡ map spelling so_far.blocks ++ body ∷ [] =
+    map-append spelling so_far.blocks (group ∷ []) ∙
+    ap (λ b. map spelling so_far.blocks ++ b ∷ []) spelled_is in
     let rows : row (map spelling blocks) ≡ row (map spelling so_far.blocks) ++ block body =
-    ap row mapped ∙ row-append (map spelling so_far.blocks) (body ∷ []) ∙ ap (λ l. row (map spelling so_far.blocks) ++ l) (append-nil (block body)) in
+    ap row mapped ∙ row-append (map spelling so_far.blocks) (body ∷ []) ∙
+    ap (λ l. row (map spelling so_far.blocks) ++ l) (append-nil (block body)) in
     let size : ℕ = 5 + length body in
     let behind : drop position bytes ≡ block body ++ drop after bytes =
-    sym (take-append-drop size (drop position bytes)) ∙ ap (λ l. l ++ drop size (drop position bytes)) stands.is
-    ∙ ap (λ l. block body ++ l) (drop-drop size position bytes ∙ ap (λ n. drop n bytes) (omega (arith, after_is))) in
+    sym (take-append-drop size (drop position bytes)) ∙
+    ap (λ l. l ++ drop size (drop position bytes)) stands.is
+    ∙ ap (λ l. block body ++ l) (drop-drop size position bytes ∙
+    ap (λ n. drop n bytes) (omega (arith, after_is))) in
     record {
       blocks = blocks;
-      good = subst (AreRecords None) records (records_append None (records_in so_far.blocks) group so_far.good good);
-      named = found.3 ∙ ap (λ k. last_named k group) so_far.named ∙ sym (last_named-append None (records_in so_far.blocks) group) ∙ ap (last_named None) records;
+      good = subst (AreRecords None) records
+          (records_append None (records_in so_far.blocks) group so_far.good good);
+      named = found.3 ∙ ap (λ k. last_named k group) so_far.named ∙
+          sym (last_named-append None (records_in so_far.blocks) group) ∙
+          ap (last_named None) records;
       reached = subst (λ l. LeadsTo l (progress_of now above)) records found.4;
-      position_is = omega (arith, after_is, so_far.position_is, length-row_add (map spelling so_far.blocks) body, ap (λ l. length (row l)) mapped);
-      stood = so_far.stood ∙ ap (λ l. row (map spelling so_far.blocks) ++ l) behind ∙ sym (append_assoc (row (map spelling so_far.blocks)) (block body) (drop after bytes)) ∙ ap (λ l. l ++ drop after bytes) (sym rows);
-      bodies = subst (AllByRecursion IsBody) (sym mapped) (all_append IsBody (map spelling so_far.blocks) (body ∷ []) so_far.bodies (stands.fits, tt));
+      position_is = omega (
+        arith,
+        after_is,
+        so_far.position_is,
+        length-row_add (map spelling so_far.blocks) body,
+        ap (λ l. length (row l)) mapped,
+      );
+      stood = so_far.stood ∙ ap (λ l. row (map spelling so_far.blocks) ++ l) behind ∙
+          sym (append_assoc (row (map spelling so_far.blocks)) (block body) (drop after bytes)) ∙
+          ap (λ l. l ++ drop after bytes) (sym rows);
+      bodies = subst (AllByRecursion IsBody) (sym mapped)
+          (each_append IsBody (map spelling so_far.blocks) (body ∷ []) so_far.bodies
+          (stands.fits, tt));
       only = λ others read is.
           let rest = so_far.only others read is in
-          let g = next_group so_far.blocks others bytes body position so_far.position_is read is rest.0 rest.1 stands in
-          let same : g.0 ≡ group = one_group (last_named None (records_in so_far.blocks)) g.0 group g.4 good (g.3 ∙ sym spelled_is) in
-          (g.1, rest.1 ∙ ap (λ l. so_far.blocks ++ l) (g.2 ∙ ap (λ x. x ∷ g.1) same) ∙ sym (append_assoc so_far.blocks (group ∷ []) g.1));
+          let g = next_group so_far.blocks others bytes body position so_far.position_is read is
+          rest.0 rest.1 stands in
+          let same : g.0 ≡ group = one_group (last_named None (records_in so_far.blocks)) g.0 group
+          g.4 good (g.3 ∙ sym spelled_is) in (
+            g.1,
+            rest.1 ∙ ap (λ l. so_far.blocks ++ l) (g.2 ∙ ap (λ x. x ∷ g.1) same) ∙
+                sym (append_assoc so_far.blocks (group ∷ []) g.1),
+          );
     }
 
 -- ---- the first fault
@@ -119,18 +174,25 @@ reads_on bytes body position after kind later stage now next above so_far stands
 -- where a block stands, the gate is open
 gate_open : (bytes body : List ℕ) (p : ℕ) → StandsAt bytes p body → get_or bytes p 0 ≡ 167
 gate_open bytes body p stands =
-    ap (λ n. get_or bytes n 0) (omega arith) ∙ sym (get_or-drop p bytes 0 0) ∙ sym (get_or-take (5 + length body) (drop p bytes) 0 0 (omega arith)) ∙ ap (λ l. get_or l 0 0) stands.is
+    ap (λ n. get_or bytes n 0) (omega arith) ∙ sym (get_or-drop p bytes 0 0) ∙
+    sym (get_or-take (5 + length body) (drop p bytes) 0 0 (omega arith)) ∙
+    ap (λ l. get_or l 0 0) stands.is
 
 -- one block at most stands at a place
 one_body : (bytes b c : List ℕ) (p : ℕ) → StandsAt bytes p b → StandsAt bytes p c → b ≡ c
 one_body bytes b c p first second =
-    let split : (body : List ℕ) → StandsAt bytes p body → drop p bytes ≡ block body ++ drop (5 + length body) (drop p bytes) =
-    λ body stands. sym (take-append-drop (5 + length body) (drop p bytes)) ∙ ap (λ l. l ++ drop (5 + length body) (drop p bytes)) stands.is in
-    (first_block b c (drop (5 + length b) (drop p bytes)) (drop (5 + length c) (drop p bytes)) first.fits second.fits (sym (split b first) ∙ split c second)).0
+    let split : (body : List ℕ) → StandsAt bytes p body →
+    drop p bytes ≡ block body ++ drop (5 + length body) (drop p bytes) =
+    λ body stands. sym (take-append-drop (5 + length body) (drop p bytes)) ∙
+    ap (λ l. l ++ drop (5 + length body) (drop p bytes)) stands.is in
+    (first_block b c (drop (5 + length b) (drop p bytes)) (drop (5 + length c) (drop p bytes))
+    first.fits second.fits (sym (split b first) ∙ split c second)).0
 
 -- the first fault, where no block goes on and no end is right
-first_fault : (base : ℕ) (bytes : List ℕ) (position place : ℕ) (kind : Option Kind) (stage : Stage) (next : ℕ) → HasRead bytes position kind stage next → place ≡ base + position
-    → ((group : List Record) → StandsAt bytes position (spelling group) → ReadsNowhere kind stage next (spelling group))
+first_fault : (base : ℕ) (bytes : List ℕ) (position place : ℕ) (kind : Option Kind) (stage : Stage)
+    (next : ℕ) → HasRead bytes position kind stage next → place ≡ base + position
+    → ((group : List Record) → StandsAt bytes position (spelling group) →
+    ReadsNowhere kind stage next (spelling group))
     → (get_or bytes position 0 ≢ 167 → EndsNowhere stage next) → IsFirstFault base bytes place
 first_fault base bytes position place kind stage next so_far place_is no_block no_end = record {
   blocks = so_far.blocks;
@@ -140,65 +202,98 @@ first_fault base bytes position place kind stage next so_far place_is no_block n
   stood = so_far.stood;
   place_is = place_is;
   begins = (progress_of stage next, so_far.reached.leads);
-  no_block = λ group good stands q run. no_block group stands (records_in so_far.blocks) group so_far.reached (subst (λ k. AreRecords k group) (sym so_far.named) good) refl q run;
-  no_end = λ closed n s count accepted. no_end closed (records_in so_far.blocks) so_far.reached n s count accepted;
+  no_block = λ group good stands q run. no_block group stands (records_in so_far.blocks) group
+      so_far.reached (subst (λ k. AreRecords k group) (sym so_far.named) good) refl q run;
+  no_end = λ closed n s count accepted. no_end closed (records_in so_far.blocks) so_far.reached n s
+      count accepted;
 }
 
 -- ---- refusals
 
 -- a broken gate stands behind no beginning of sound blocks
-pub broken_is_refused : (base size : ℕ) (disk : List ℕ) (position : ℕ) (kind : Option Kind) (stage : Stage) (next : ℕ) → HasRead (part base size disk) position kind stage next → IsBroken (part base size disk) position
+pub broken_is_refused : (base size : ℕ) (disk : List ℕ) (position : ℕ) (kind : Option Kind)
+    (stage : Stage) (next : ℕ) → HasRead (part base size disk) position kind stage next →
+    IsBroken (part base size disk) position
     → (others : List (List Record)) → AreSound base size disk others → ⊥
 broken_is_refused base size disk position kind stage next so_far broken others sound =
     let rest = so_far.only others sound.is_read.good sound.is_read.row_is in
-    let parts : map spelling others ≡ map spelling so_far.blocks ++ map spelling rest.0 = ap (map spelling) rest.1 ∙ map-append spelling so_far.blocks rest.0 in
-    not_broken (map spelling so_far.blocks) (map spelling rest.0) (part base size disk) position so_far.position_is (subst (λ l. IsRow l (part base size disk)) parts sound.is_read.row_is) broken
+    let parts : map spelling others ≡ map spelling so_far.blocks ++ map spelling rest.0 =
+    ap (map spelling) rest.1 ∙ map-append spelling so_far.blocks rest.0 in
+    not_broken (map spelling so_far.blocks) (map spelling rest.0) (part base size disk) position
+    so_far.position_is (subst (λ l. IsRow l (part base size disk)) parts sound.is_read.row_is)
+    broken
 
 -- a body that is refused is that of no sound block
-pub refused_body : (base size : ℕ) (disk body : List ℕ) (position : ℕ) (kind : Option Kind) (stage : Stage) (next : ℕ) → HasRead (part base size disk) position kind stage next → StandsAt (part base size disk) position body
-    → ReadsNowhere kind stage next body → (others : List (List Record)) → AreSound base size disk others → ⊥
+pub refused_body : (base size : ℕ) (disk body : List ℕ) (position : ℕ) (kind : Option Kind)
+    (stage : Stage) (next : ℕ) → HasRead (part base size disk) position kind stage next →
+    StandsAt (part base size disk) position body
+    → ReadsNowhere kind stage next body → (others : List (List Record)) →
+    AreSound base size disk others → ⊥
 refused_body base size disk body position kind stage next so_far stands refuses others sound =
     let rest = so_far.only others sound.is_read.good sound.is_read.row_is in
-    let g = next_group so_far.blocks others (part base size disk) body position so_far.position_is sound.is_read.good sound.is_read.row_is rest.0 rest.1 stands in
+    let g = next_group so_far.blocks others (part base size disk) body position so_far.position_is
+    sound.is_read.good sound.is_read.row_is rest.0 rest.1 stands in
     let parts : records_in others ≡ (records_in so_far.blocks ++ g.0) ++ records_in g.1 =
-    ap records_in rest.1 ∙ records_in-append so_far.blocks rest.0 ∙ ap (λ l. records_in so_far.blocks ++ records_in l) g.2 ∙ sym (append_assoc (records_in so_far.blocks) g.0 (records_in g.1)) in
+    ap records_in rest.1 ∙ records_in-append so_far.blocks rest.0 ∙
+    ap (λ l. records_in so_far.blocks ++ records_in l) g.2 ∙
+    sym (append_assoc (records_in so_far.blocks) g.0 (records_in g.1)) in
     let end : Progress = InJournal sound.next sound.end sound.count in
-    let split = leads_split Reads (records_in so_far.blocks ++ g.0) (records_in g.1) Unread end (subst (λ l. Leads Reads l Unread end) parts sound.is_read.accepted) in
-    refuses (records_in so_far.blocks) g.0 so_far.reached (subst (λ k. AreRecords k g.0) (sym so_far.named) g.4) (sym g.3) split.0 split.1
+    let split = leads_split Reads (records_in so_far.blocks ++ g.0) (records_in g.1) Unread end
+    (subst (λ l. Leads Reads l Unread end) parts sound.is_read.accepted) in
+    refuses (records_in so_far.blocks) g.0 so_far.reached
+    (subst (λ k. AreRecords k g.0) (sym so_far.named) g.4) (sym g.3) split.0 split.1
 
 no_left : (rest : List (List Record)) → map spelling rest ≡ [] → rest ≡ []
 no_left [] e = refl
 no_left (r ∷ rest) e = absurd cc
 
 -- nor is an end that is refused the end of sound blocks
-pub refused_end : (base size : ℕ) (disk : List ℕ) (position : ℕ) (kind : Option Kind) (stage : Stage) (next : ℕ) → HasRead (part base size disk) position kind stage next → get_or (part base size disk) position 0 ≢ 167
+pub refused_end : (base size : ℕ) (disk : List ℕ) (position : ℕ) (kind : Option Kind)
+    (stage : Stage) (next : ℕ) → HasRead (part base size disk) position kind stage next →
+    get_or (part base size disk) position 0 ≢ 167
     → EndsNowhere stage next → (others : List (List Record)) → AreSound base size disk others → ⊥
 refused_end base size disk position kind stage next so_far closed refuses others sound =
     let rest = so_far.only others sound.is_read.good sound.is_read.row_is in
-    let parts : map spelling others ≡ map spelling so_far.blocks ++ map spelling rest.0 = ap (map spelling) rest.1 ∙ map-append spelling so_far.blocks rest.0 in
-    let none : rest.0 ≡ [] = no_left rest.0 (none_is_next (map spelling so_far.blocks) (map spelling rest.0) (part base size disk) position so_far.position_is (subst (λ l. IsRow l (part base size disk)) parts sound.is_read.row_is) closed) in
-    let same : others ≡ so_far.blocks = rest.1 ∙ ap (λ l. so_far.blocks ++ l) none ∙ append-nil so_far.blocks in
-    refuses (records_in so_far.blocks) so_far.reached sound.next sound.end sound.count (subst (λ l. AreAccepted (records_in l) sound.next sound.end sound.count) same sound.is_read.accepted)
+    let parts : map spelling others ≡ map spelling so_far.blocks ++ map spelling rest.0 =
+    ap (map spelling) rest.1 ∙ map-append spelling so_far.blocks rest.0 in
+    let none : rest.0 ≡ [] = no_left rest.0
+    (none_is_next (map spelling so_far.blocks) (map spelling rest.0) (part base size disk)
+    position so_far.position_is (subst (λ l. IsRow l (part base size disk)) parts
+    sound.is_read.row_is) closed) in
+    let same : others ≡ so_far.blocks =
+    rest.1 ∙ ap (λ l. so_far.blocks ++ l) none ∙ append-nil so_far.blocks in
+    refuses (records_in so_far.blocks) so_far.reached sound.next sound.end sound.count
+    (subst (λ l. AreAccepted (records_in l) sound.next sound.end sound.count) same
+    sound.is_read.accepted)
 
 -- ---- the end
 
 -- all was read where the gate behind it is closed
-pub row_read : (bytes : List ℕ) (position : ℕ) (kind : Option Kind) (stage : Stage) (next : ℕ) (so_far : HasRead bytes position kind stage next) → position < length bytes → get_or bytes position 0 ≢ 167 → IsRow (map spelling so_far.blocks) bytes
+pub row_read : (bytes : List ℕ) (position : ℕ) (kind : Option Kind) (stage : Stage) (next : ℕ)
+    (so_far : HasRead bytes position kind stage next) → position < length bytes →
+    get_or bytes position 0 ≢ 167 → IsRow (map spelling so_far.blocks) bytes
 row_read bytes position kind stage next so_far inside closed = record {
   gate = get_or bytes position 0;
   rest = drop (position + 1) bytes;
-  is = so_far.stood ∙ at_drop_more (λ l. row (map spelling so_far.blocks) ++ l) bytes position 0 inside;
+  is = so_far.stood ∙ at_drop_more (λ l. row (map spelling so_far.blocks) ++ l) bytes position 0
+      inside;
   closed = closed;
   all_fit = so_far.bodies;
 }
 
-pub length-part : (base size : ℕ) (disk : List ℕ) → base + size ≤ length disk → length (part base size disk) ≡ size
-length-part base size disk inside = length-take-le size (drop base disk) (omega (arith, length-drop base disk))
+pub length-part : (base size : ℕ) (disk : List ℕ) → base + size ≤ length disk →
+    length (part base size disk) ≡ size
+length-part base size disk inside =
+    length-take-le size (drop base disk) (omega (arith, length-drop base disk))
 
 -- ---- the loop
 
--- The disk was only read; the place is that of the area's next gate; and where the disk read true, the area's bytes up to it were read.
-pub record IsLoading {D : Type 0} (seen : D → List ℕ) (may_leave : D → List ℕ → Type 0) (moment : D → ℕ) (left_since : D → ℕ → List ℕ → Type 0) (is_honest : D → Type 0) (fault_count : D → ℕ) (old new : D) (base size : ℕ) (area : Area) (kind : Option Kind) (stage : Stage) (next place : ℕ) : Type 0 where
+-- The disk was only read; the place is that of the area's next gate; and where the disk read true,
+-- the area's bytes up to it were read.
+pub record IsLoading {D : Type 0} (seen : D → List ℕ) (may_leave : D → List ℕ → Type 0)
+    (moment : D → ℕ) (left_since : D → ℕ → List ℕ → Type 0) (is_honest : D → Type 0)
+    (fault_count : D → ℕ) (old new : D) (base size : ℕ) (area : Area) (kind : Option Kind)
+    (stage : Stage) (next place : ℕ) : Type 0 where
   pub reads : ReadsOnly seen may_leave moment left_since old new
   pub honest : is_honest new → is_honest old
   pub faults : fault_count old ≤ fault_count new
@@ -208,34 +303,52 @@ pub record IsLoading {D : Type 0} (seen : D → List ℕ) (may_leave : D → Lis
   pub place_is : place ≡ base + position_of area
   pub fit : IsFit stage
   pub few : count_of stage ≤ position_of area
-  pub has_read : is_honest new → HasRead (part base size (seen old)) (position_of area) kind stage next
+  pub has_read : is_honest new → HasRead (part base size (seen old)) (position_of area) kind stage
+      next
 
 -- before the first block
-pub loading_starts : {D : Type 0} (seen : D → List ℕ) (may_leave : D → List ℕ → Type 0) (moment : D → ℕ) (left_since : D → ℕ → List ℕ → Type 0) (is_honest : D → Type 0) (fault_count : D → ℕ) (disk : D) (base size : ℕ) (area : Area) (kind : Option Kind) (stage : Stage) (next : ℕ)
-    → ((c : List ℕ) → left_since disk (moment disk) c → may_leave disk c) → base_of area ≡ base → size_of area ≡ size → position_of area ≡ 0 → has_failed area ≡ false → kind ≡ None → stage ≡ Stage.Unread
-    → IsLoading seen may_leave moment left_since is_honest fault_count disk disk base size area kind stage next base
-loading_starts seen may_leave moment left_since is_honest fault_count disk base size area kind stage next only_now base_is size_is none fine unnamed unread = record {
-  reads = record { same = refl; stop = λ c left. left; any_moment = started moment left_since disk (may_leave disk) only_now };
-  honest = λ true_read. true_read;
-  faults = omega arith;
-  base_is = base_is;
-  size_is = size_is;
-  fine = fine;
-  place_is = omega (arith, none);
-  fit = subst IsFit (sym unread) tt;
-  few = let zero_count : count_of stage ≡ 0 = ap count_of unread in omega (arith, zero_count);
-  has_read = λ true_read. nothing_read (part base size (seen disk)) (position_of area) kind stage next none unnamed unread;
-}
+pub loading_starts : {D : Type 0} (seen : D → List ℕ) (may_leave : D → List ℕ → Type 0)
+    (moment : D → ℕ) (left_since : D → ℕ → List ℕ → Type 0) (is_honest : D → Type 0)
+    (fault_count : D → ℕ) (disk : D) (base size : ℕ) (area : Area) (kind : Option Kind)
+    (stage : Stage) (next : ℕ)
+    → ((c : List ℕ) → left_since disk (moment disk) c → may_leave disk c) → base_of area ≡ base →
+    size_of area ≡ size → position_of area ≡ 0 → has_failed area ≡ false → kind ≡ None →
+    stage ≡ Stage.Unread
+    → IsLoading seen may_leave moment left_since is_honest fault_count disk disk base size area kind
+    stage next base
+loading_starts seen may_leave moment left_since is_honest fault_count disk base size area kind stage
+    next only_now base_is size_is none fine unnamed unread = record {
+      reads = record {
+        same = refl;
+        stop = λ c left. left;
+        any_moment = started moment left_since disk (may_leave disk) only_now;
+      };
+      honest = λ true_read. true_read;
+      faults = omega arith;
+      base_is = base_is;
+      size_is = size_is;
+      fine = fine;
+      place_is = omega (arith, none);
+      fit = subst IsFit (sym unread) tt;
+      few = let zero_count : count_of stage ≡ 0 = ap count_of unread in omega (arith, zero_count);
+      has_read = λ true_read. nothing_read (part base size (seen disk)) (position_of area) kind stage
+          next none unnamed unread;
+    }
 
-next_refusal : (T : Type 0) (before after : Bool) (risen rises : Type 0) (is_damaged spoils : ℕ → Type 0) (e : Refusal) → before ≡ false → (risen → rises) → ((place : ℕ) → is_damaged place → spoils place)
+next_refusal : (T : Type 0) (before after : Bool) (risen rises : Type 0)
+    (is_damaged spoils : ℕ → Type 0) (e : Refusal) → before ≡ false → (risen → rises) →
+    ((place : ℕ) → is_damaged place → spoils place)
     → IsNextAnswer {T = T} before after risen is_damaged (Err e) → IsLoadRefusal rises spoils e
 next_refusal T before after risen rises is_damaged spoils Refusal.NoMemory fine f g answer = tt
 next_refusal T before after risen rises is_damaged spoils Refusal.Fault fine f g answer = f answer.2
-next_refusal T before after risen rises is_damaged spoils (Refusal.Damaged place) fine f g answer = g place answer.2
-next_refusal T before after risen rises is_damaged spoils Refusal.Failed fine f g answer = absurd (true≢false (sym answer.0 ∙ fine))
+next_refusal T before after risen rises is_damaged spoils (Refusal.Damaged place) fine f g answer =
+    g place answer.2
+next_refusal T before after risen rises is_damaged spoils Refusal.Failed fine f g answer =
+    absurd (true≢false (sym answer.0 ∙ fine))
 next_refusal T before after risen rises is_damaged spoils e fine f g answer = absurd answer
 
-damage_refusal : (place : ℕ) (damaged rises : Type 0) (spoils : ℕ → Type 0) (e : Refusal) → (damaged → spoils place) → IsDamageOr place damaged e → IsLoadRefusal rises spoils e
+damage_refusal : (place : ℕ) (damaged rises : Type 0) (spoils : ℕ → Type 0) (e : Refusal) →
+    (damaged → spoils place) → IsDamageOr place damaged e → IsLoadRefusal rises spoils e
 damage_refusal place damaged rises spoils Refusal.NoMemory f d = tt
 damage_refusal place damaged rises spoils (Refusal.Damaged p) f d = subst spoils (sym d.0) (f d.1)
 damage_refusal place damaged rises spoils e f d = absurd d
@@ -245,98 +358,154 @@ abbrev pub Spoils : Type 0 → ℕ → ℕ → List ℕ → ℕ → Type 0
 Spoils is_honest base size bytes place = is_honest → IsSpoilt base size bytes place
 
 -- a closed gate, where no block was found
-closed_gate : (found : Option (Vec ℕ Global)) (bytes : List ℕ) (p : ℕ) → ((v : Vec ℕ Global) → found ≡ Some v → ⊥) → Finds bytes p (body_in found) → get_or bytes p 0 ≢ 167
+closed_gate : (found : Option (Vec ℕ Global)) (bytes : List ℕ) (p : ℕ) →
+    ((v : Vec ℕ Global) → found ≡ Some v → ⊥) → Finds bytes p (body_in found) →
+    get_or bytes p 0 ≢ 167
 closed_gate None bytes p none finds = finds
 closed_gate (Some v) bytes p none finds = absurd (none v refl)
 
-same_place : (found : Option (Vec ℕ Global)) (was now : ℕ) → ((v : Vec ℕ Global) → found ≡ Some v → ⊥) → MatchOption found (now ≡ was) (λ body. now ≡ was + 5 + length body.items) → now ≡ was
+same_place : (found : Option (Vec ℕ Global)) (was now : ℕ) →
+    ((v : Vec ℕ Global) → found ≡ Some v → ⊥) →
+    MatchOption found (now ≡ was) (λ body. now ≡ was + 5 + length body.items) → now ≡ was
 same_place None was now none found = found
 same_place (Some v) was now none found = absurd (none v refl)
 
 -- one call for the next block, on a disk that was read so far
-module _ {D : Type 0} {seen : D → List ℕ} {may_leave : D → List ℕ → Type 0} {moment : D → ℕ} {left_since : D → ℕ → List ℕ → Type 0} {is_honest : D → Type 0} {fault_count : D → ℕ} {old mid : D} {base size : ℕ} {area : Area} {kind : Option Kind} {stage : Stage} {next place : ℕ}
-    (l : IsLoading seen may_leave moment left_since is_honest fault_count old mid base size area kind stage next place) (new : D) (reads : ReadsOnly seen may_leave moment left_since mid new) (honest : is_honest new → is_honest mid) (faults : fault_count mid ≤ fault_count new) where
+module _ {D : Type 0} {seen : D → List ℕ} {may_leave : D → List ℕ → Type 0} {moment : D → ℕ}
+    {left_since : D → ℕ → List ℕ → Type 0} {is_honest : D → Type 0} {fault_count : D → ℕ}
+    {old mid : D} {base size : ℕ} {area : Area} {kind : Option Kind} {stage : Stage}
+    {next place : ℕ}
+    (l : IsLoading seen may_leave moment left_since is_honest fault_count old mid base size area
+    kind stage next place) (new : D)
+    (reads : ReadsOnly seen may_leave moment left_since mid new)
+    (honest : is_honest new → is_honest mid) (faults : fault_count mid ≤ fault_count new) where
   bytes_same : bytes_of area (seen mid) ≡ part base size (seen old)
-  bytes_same = ap (λ b. part b (size_of area) (seen mid)) l.base_is ∙ ap (λ n. part base n (seen mid)) l.size_is ∙ ap (part base size) l.reads.same
+  bytes_same = ap (λ b. part b (size_of area) (seen mid)) l.base_is ∙
+      ap (λ n. part base n (seen mid)) l.size_is ∙ ap (part base size) l.reads.same
 
   -- of what was read, where the disk reads true to the end
   so_far : is_honest new → HasRead (part base size (seen old)) (position_of area) kind stage next
   so_far true_read = l.has_read (honest true_read)
 
-  pub gate_refused : (T : Type 0) (after : Bool) (e : Refusal) → IsNextAnswer {T = T} (has_failed area) after (Rises (fault_count mid) (fault_count new)) (IsDamage (is_honest new) area (seen mid)) (Err e)
-      → IsLoadRefusal (Rises (fault_count old) (fault_count new)) (Spoils (is_honest new) base size (seen old)) e
+  pub gate_refused : (T : Type 0) (after : Bool) (e : Refusal) →
+      IsNextAnswer {T = T} (has_failed area) after (Rises (fault_count mid) (fault_count new))
+      (IsDamage (is_honest new) area (seen mid)) (Err e)
+      → IsLoadRefusal (Rises (fault_count old) (fault_count new))
+      (Spoils (is_honest new) base size (seen old)) e
   gate_refused T after e answer =
-      next_refusal T (has_failed area) after _ _ (IsDamage (is_honest new) area (seen mid)) _ e l.fine (rises_before (fault_count old) (fault_count mid) (fault_count new) l.faults faults)
+      next_refusal T (has_failed area) after _ _ (IsDamage (is_honest new) area (seen mid)) _ e
+      l.fine (rises_before (fault_count old) (fault_count mid) (fault_count new) l.faults
+      faults)
       (λ p damage true_read.
-      let broken : IsBroken (part base size (seen old)) (position_of area) = subst (λ b. IsBroken b (position_of area)) bytes_same (damage.broken true_read) in
+      let broken : IsBroken (part base size (seen old)) (position_of area) =
+      subst (λ b. IsBroken b (position_of area)) bytes_same (damage.broken true_read) in
       record {
-        fault = first_fault base (part base size (seen old)) (position_of area) p kind stage next (so_far true_read) (damage.here ∙ ap (λ b. b + position_of area) l.base_is)
-            (λ group stands rs other reached good is q run. broken.no_block (spelling group) stands) (λ closed rs reached n s count accepted. closed broken.opened);
-        unsound = λ blocks sound. broken_is_refused _ _ _ _ _ _ _ (so_far true_read) broken blocks sound;
+        fault = first_fault base (part base size (seen old)) (position_of area) p kind stage next
+            (so_far true_read) (damage.here ∙ ap (λ b. b + position_of area) l.base_is)
+            (λ group stands rs other reached good is q run. broken.no_block (spelling group) stands)
+            (λ closed rs reached n s count accepted. closed broken.opened);
+        unsound = λ blocks sound. broken_is_refused _ _ _ _ _ _ _ (so_far true_read) broken blocks
+            sound;
       })
       answer
 
-  pub body_refused : (body : List ℕ) (e : Refusal) → (is_honest new → StandsAt (bytes_of area (seen mid)) (position_of area) body)
+  pub body_refused : (body : List ℕ) (e : Refusal) →
+      (is_honest new → StandsAt (bytes_of area (seen mid)) (position_of area) body)
       → IsDamageOr place (ReadsNowhere kind stage next body) e
-      → IsLoadRefusal (Rises (fault_count old) (fault_count new)) (Spoils (is_honest new) base size (seen old)) e
+      → IsLoadRefusal (Rises (fault_count old) (fault_count new))
+      (Spoils (is_honest new) base size (seen old)) e
   body_refused body e stands damage =
       damage_refusal place _ _ (Spoils (is_honest new) base size (seen old)) e
       (λ refuses true_read.
-      let stood : StandsAt (part base size (seen old)) (position_of area) body = subst (λ b. StandsAt b (position_of area) body) bytes_same (stands true_read) in
+      let stood : StandsAt (part base size (seen old)) (position_of area) body =
+      subst (λ b. StandsAt b (position_of area) body) bytes_same (stands true_read) in
       record {
-        fault = first_fault base (part base size (seen old)) (position_of area) place kind stage next (so_far true_read) l.place_is
-            (λ group there rs other reached good is q run. refuses rs other reached good (one_body _ body (spelling group) (position_of area) stood there ∙ is) q run)
-            (λ closed rs reached n s count accepted. closed (gate_open _ body (position_of area) stood));
-        unsound = λ blocks sound. refused_body base size (seen old) body (position_of area) kind stage next (so_far true_read) stood refuses blocks sound;
+        fault = first_fault base (part base size (seen old)) (position_of area) place kind stage
+            next (so_far true_read) l.place_is
+            (λ group there rs other reached good is q run. refuses rs other reached good
+            (one_body _ body (spelling group) (position_of area) stood there ∙ is) q run)
+            (λ closed rs reached n s count accepted. closed
+            (gate_open _ body (position_of area) stood));
+        unsound = λ blocks sound. refused_body base size (seen old) body (position_of area) kind
+            stage next (so_far true_read) stood refuses blocks sound;
       })
       damage
 
-  pub loads_on : (after : Area) (body : List ℕ) (later : Option Kind) (now : Stage) (above later_place : ℕ) → (is_honest new → StandsAt (bytes_of area (seen mid)) (position_of area) body)
-      → base_of after ≡ base_of area → size_of after ≡ size_of area → has_failed after ≡ false → position_of after ≡ position_of area + 5 + length body → later_place ≡ place + (5 + length body)
-      → ReadsOn kind stage next body later now above → IsFit now → count_of now ≤ count_of stage + length body
-      → IsLoading seen may_leave moment left_since is_honest fault_count old new base size after later now above later_place
-  loads_on after body later now above later_place stands base_is size_is fine position_is later_is repeats fit few = record {
-    reads = read_twice seen may_leave moment left_since old mid new l.reads reads;
-    honest = λ true_read. l.honest (honest true_read);
-    faults = omega (arith, l.faults, faults);
-    base_is = base_is ∙ l.base_is;
-    size_is = size_is ∙ l.size_is;
-    fine = fine;
-    place_is = omega (arith, later_is, l.place_is, position_is);
-    fit = fit;
-    few = omega (arith, few, l.few, position_is);
-    has_read = λ true_read. reads_on (part base size (seen old)) body (position_of area) (position_of after) kind later stage now next above (l.has_read (honest true_read)) (subst (λ b. StandsAt b (position_of area) body) bytes_same (stands true_read)) position_is repeats;
-  }
+  pub loads_on : (after : Area) (body : List ℕ) (later : Option Kind) (now : Stage)
+      (above later_place : ℕ) → (is_honest new →
+      StandsAt (bytes_of area (seen mid)) (position_of area) body)
+      → base_of after ≡ base_of area → size_of after ≡ size_of area → has_failed after ≡ false →
+      position_of after ≡ position_of area + 5 + length body →
+      later_place ≡ place + (5 + length body)
+      → ReadsOn kind stage next body later now above → IsFit now →
+      count_of now ≤ count_of stage + length body
+      → IsLoading seen may_leave moment left_since is_honest fault_count old new base size after
+      later now above later_place
+  loads_on after body later now above later_place stands base_is size_is fine position_is later_is
+      repeats fit few = record {
+        reads = read_twice seen may_leave moment left_since old mid new l.reads reads;
+        honest = λ true_read. l.honest (honest true_read);
+        faults = omega (arith, l.faults, faults);
+        base_is = base_is ∙ l.base_is;
+        size_is = size_is ∙ l.size_is;
+        fine = fine;
+        place_is = omega (arith, later_is, l.place_is, position_is);
+        fit = fit;
+        few = omega (arith, few, l.few, position_is);
+        has_read = λ true_read. reads_on (part base size (seen old)) body (position_of area)
+            (position_of after) kind later stage now next above (l.has_read (honest true_read))
+            (subst (λ b. StandsAt b (position_of area) body) bytes_same (stands true_read)) position_is
+            repeats;
+      }
 
-  pub end_refused : (found : Option (Vec ℕ Global)) (e : Refusal) → ((v : Vec ℕ Global) → found ≡ Some v → ⊥) → (is_honest new → Finds (bytes_of area (seen mid)) (position_of area) (body_in found))
+  pub end_refused : (found : Option (Vec ℕ Global)) (e : Refusal) →
+      ((v : Vec ℕ Global) → found ≡ Some v → ⊥) →
+      (is_honest new → Finds (bytes_of area (seen mid)) (position_of area) (body_in found))
       → IsDamageOr place (EndsNowhere stage next) e
-      → IsLoadRefusal (Rises (fault_count old) (fault_count new)) (Spoils (is_honest new) base size (seen old)) e
+      → IsLoadRefusal (Rises (fault_count old) (fault_count new))
+      (Spoils (is_honest new) base size (seen old)) e
   end_refused found e none finds damage =
       damage_refusal place _ _ (Spoils (is_honest new) base size (seen old)) e
       (λ refuses true_read.
       let closed : get_or (part base size (seen old)) (position_of area) 0 ≢ 167 =
-      subst (λ b. get_or b (position_of area) 0 ≢ 167) bytes_same (closed_gate found (bytes_of area (seen mid)) (position_of area) none (finds true_read)) in
+      subst (λ b. get_or b (position_of area) 0 ≢ 167) bytes_same
+      (closed_gate found (bytes_of area (seen mid)) (position_of area) none
+      (finds true_read)) in
       record {
-        fault = first_fault base (part base size (seen old)) (position_of area) place kind stage next (so_far true_read) l.place_is
-            (λ group there rs other reached good is q run. closed (gate_open _ (spelling group) (position_of area) there)) (λ shut rs reached n s count accepted. refuses rs reached n s count accepted);
-        unsound = λ blocks sound. refused_end base size (seen old) (position_of area) kind stage next (so_far true_read) closed refuses blocks sound;
+        fault = first_fault base (part base size (seen old)) (position_of area) place kind stage
+            next (so_far true_read) l.place_is
+            (λ group there rs other reached good is q run. closed
+            (gate_open _ (spelling group) (position_of area) there))
+            (λ shut rs reached n s count accepted. refuses rs reached n s count accepted);
+        unsound = λ blocks sound. refused_end base size (seen old) (position_of area) kind stage
+            next (so_far true_read) closed refuses blocks sound;
       })
       damage
 
-  pub loads : (after : Area) (found : Option (Vec ℕ Global)) → ((v : Vec ℕ Global) → found ≡ Some v → ⊥) → (is_honest new → Finds (bytes_of area (seen mid)) (position_of area) (body_in found))
+  pub loads : (after : Area) (found : Option (Vec ℕ Global)) →
+      ((v : Vec ℕ Global) → found ≡ Some v → ⊥) →
+      (is_honest new → Finds (bytes_of area (seen mid)) (position_of area) (body_in found))
       → base + size ≤ length (seen old) → position_of after < size
-      → MatchOption found (position_of after ≡ position_of area) (λ body. position_of after ≡ position_of area + 5 + length body.items)
-      → (n : ℕ) (s : State) (count : ℕ) → progress_of stage next ≡ InJournal n s count → is_honest new → IsLoaded base size (seen old) s n count (position_of after)
+      → MatchOption found (position_of after ≡ position_of area)
+      (λ body. position_of after ≡ position_of area + 5 + length body.items)
+      → (n : ℕ) (s : State) (count : ℕ) → progress_of stage next ≡ InJournal n s count →
+      is_honest new → IsLoaded base size (seen old) s n count (position_of after)
   loads after found none finds inside under position_is n s count journal true_read =
-      let p : position_of after ≡ position_of area = same_place found (position_of area) (position_of after) none position_is in
+      let p : position_of after ≡ position_of area =
+      same_place found (position_of area) (position_of after) none position_is in
       let read = l.has_read (honest true_read) in
-      let closed : get_or (part base size (seen old)) (position_of area) 0 ≢ 167 = subst (λ x. get_or x (position_of area) 0 ≢ 167) bytes_same (closed_gate found (bytes_of area (seen mid)) (position_of area) none (finds true_read)) in
+      let closed : get_or (part base size (seen old)) (position_of area) 0 ≢ 167 =
+      subst (λ x. get_or x (position_of area) 0 ≢ 167) bytes_same
+      (closed_gate found (bytes_of area (seen mid)) (position_of area) none
+      (finds true_read)) in
       record {
         blocks = read.blocks;
         is_read = record {
           good = read.good;
-          row_is = row_read (part base size (seen old)) (position_of area) kind stage next read (omega (arith, under, p, length-part base size (seen old) inside)) closed;
-          accepted = subst (λ q. Leads Reads (records_in read.blocks) Unread q) journal read.reached.leads;
+          row_is = row_read (part base size (seen old)) (position_of area) kind stage next read
+              (omega (arith, under, p, length-part base size (seen old) inside)) closed;
+          accepted = subst (λ q. Leads Reads (records_in read.blocks) Unread q) journal
+              read.reached.leads;
         };
         position = p ∙ read.position_is;
       }

@@ -19,15 +19,18 @@ pub record IsStored (bytes : List ℕ) (area : Area) (state : State) (next count
   pub picks : base_of area ≡ base_in_use (size_of area) bytes
   pub loaded : IsLoaded (base_of area) (size_of area) bytes state next count (position_of area)
 
--- The area is one of the two of a disk of so many bytes, has not failed, and has so much room behind its next gate.
+-- The area is one of the two of a disk of so many bytes, has not failed, and has so much room
+-- behind its next gate.
 pub record IsPlaced (area : Area) (bytes room : ℕ) : Type 0 where
   pub fine : has_failed area ≡ false
   pub one : IsOneOfTwo area bytes
   pub small : size_of area ≤ 2 ^ 30
   pub behind : room + position_of area ≡ size_of area
 
--- From a state that stands there, where the disk read true, the records of the undoing lead to the machine's; the report tells of that state.
-pub record IsFound (is_honest : Type 0) (bytes : List ℕ) (area : Area) (room : ℕ) (undone : State) (next : ℕ) (records : List Record) (report : Report) : Type 0 where
+-- From a state that stands there, where the disk read true, the records of the undoing lead to the
+-- machine's; the report tells of that state.
+pub record IsFound (is_honest : Type 0) (bytes : List ℕ) (area : Area) (room : ℕ) (undone : State)
+    (next : ℕ) (records : List Record) (report : Report) : Type 0 where
   pub state : State
   pub undo : Undo state records undone
   pub marks : AllByRecursion IsUndoRecord records

@@ -1,5 +1,6 @@
 -- What a format makes, and what a stop in it leaves.
-use Rattle.std.specs.Prelude.{◌≡◌, ◌⊎◌, ℕ, ◌+◌, ◌*◌, ◌^◌, ◌≤◌, List, [], ◌∷◌, ◌++◌, take, drop, codes, Result, Ok, Err}
+use Rattle.std.specs.Prelude.{◌≡◌, ◌⊎◌, ℕ, ◌+◌, ◌*◌, ◌^◌, ◌≤◌, List, [], ◌∷◌, ◌++◌, take, drop}
+use Rattle.std.specs.Prelude.{codes, Result, Ok, Err}
 use Rattle.std.specs.Int.{w64, to_be_bytes}
 use Rattle.calls.specs.declared.refusal.Refusal.{Refusal}
 use Rattle.disk_model.specs.Disk.{Torn}
@@ -34,7 +35,8 @@ pub record IsFilled (area : ℕ) (bytes : List ℕ) : Type 0 where
   pub root : take 1 (drop 512 bytes) ≡ 0 ∷ []
   pub image : take 24 (drop 4096 bytes) ≡ empty_area
 
--- The bytes are those of a format: a head with an open gate, a root byte that picks the first area, and in it the image of nothing alone. They are
+-- The bytes are those of a format: a head with an open gate, a root byte that picks the first area,
+-- and in it the image of nothing alone. They are
 -- sound, and stand for a store with no collection.
 pub record IsEmptyStore (bytes : List ℕ) : Type 0 where
   pub area : ℕ
@@ -43,6 +45,7 @@ pub record IsEmptyStore (bytes : List ℕ) : Type 0 where
   pub sound : IsSound bytes
   pub stands : StandsFor bytes []
 
--- What a stop in a format may leave of the old bytes: these, with any value for the gate of the head; no store; or an empty one.
+-- What a stop in a format may leave of the old bytes: these, with any value for the gate of the
+-- head; no store; or an empty one.
 abbrev pub IsFormatting : List ℕ → List ℕ → Type 0
 IsFormatting old bytes = Torn 8 1 old bytes ⊎ (HasNoHeader bytes ⊎ IsEmptyStore bytes)

@@ -1,5 +1,6 @@
 -- What an opening finds, what it writes, and why it is refused.
-use Rattle.std.specs.Prelude.{◌≡◌, ◌≢◌, [], ◌++◌, ℕ, ◌+◌, ◌<◌, false, List, length, drop, get_or, map, None}
+use Rattle.std.specs.Prelude.{◌≡◌, ◌≢◌, [], ◌++◌, ℕ, ◌+◌, ◌<◌, false, List, length, drop, get_or}
+use Rattle.std.specs.Prelude.{map, None}
 use Rattle.std.specs.List.{AllByRecursion}
 use Rattle.std.specs.FinMap as maps
 use Rattle.calls.specs.declared.refusal.Refusal.{Refusal}
@@ -20,9 +21,11 @@ use Rattle.repetition.specs.Reading.{Progress, Unread, Reads, last_named, AreAcc
 use Rattle.repetition.specs.Repetitions.{AreRead}
 use Rattle.undoing.specs.Undoing.{Undo, AreBlocksOf}
 
--- The area is a row of these blocks, of an image and a journal of so many records, which lead to the state; the number is above every number that
+-- The area is a row of these blocks, of an image and a journal of so many records, which lead to
+-- the state; the number is above every number that
 -- they enter.
-pub record IsRead (base size : ℕ) (bytes : List ℕ) (blocks : List (List Record)) (next : ℕ) (state : State) (count : ℕ) : Type 0 where
+pub record IsRead (base size : ℕ) (bytes : List ℕ) (blocks : List (List Record)) (next : ℕ)
+    (state : State) (count : ℕ) : Type 0 where
   pub good : AreRecords None (records_in blocks)
   pub row_is : IsRow (map spelling blocks) (part base size bytes)
   pub accepted : AreAccepted (records_in blocks) next state count
@@ -34,7 +37,8 @@ pub record AreSound (base size : ℕ) (bytes : List ℕ) (blocks : List (List Re
   pub count : ℕ
   pub is_read : IsRead base size bytes blocks next end count
 
--- At this place of the disk stands the first fault of an area. Before it stand whole blocks, whose records are read. There the gate is open, and no
+-- At this place of the disk stands the first fault of an area. Before it stand whole blocks, whose
+-- records are read. There the gate is open, and no
 -- block stands with which the reading goes on; or it is closed, and the image has not ended.
 pub record IsFirstFault (base : ℕ) (area : List ℕ) (place : ℕ) : Type 0 where
   pub blocks : List (List Record)
@@ -44,10 +48,14 @@ pub record IsFirstFault (base : ℕ) (area : List ℕ) (place : ℕ) : Type 0 wh
   pub stood : area ≡ row (map spelling blocks) ++ drop position area
   pub place_is : place ≡ base + position
   pub begins : (p : Progress) × Leads Reads (records_in blocks) Unread p
-  pub no_block : (group : List Record) → AreRecords (last_named None (records_in blocks)) group → StandsAt area position (spelling group) → (p : Progress) → Leads Reads (records_in blocks ++ group) Unread p → ⊥
-  pub no_end : get_or area position 0 ≢ 167 → (next : ℕ) (s : State) (count : ℕ) → AreAccepted (records_in blocks) next s count → ⊥
+  pub no_block : (group : List Record) → AreRecords (last_named None (records_in blocks)) group →
+      StandsAt area position (spelling group) → (p : Progress) →
+      Leads Reads (records_in blocks ++ group) Unread p → ⊥
+  pub no_end : get_or area position 0 ≢ 167 → (next : ℕ) (s : State) (count : ℕ) →
+      AreAccepted (records_in blocks) next s count → ⊥
 
--- Why an area could not be loaded: for want of memory, for a counted fault, or for damage at the place.
+-- Why an area could not be loaded: for want of memory, for a counted fault, or for damage at the
+-- place.
 abbrev pub IsLoadRefusal : Type 0 → (ℕ → Type 0) → Refusal → Type 0
 IsLoadRefusal is_risen is_damaged Refusal.NoMemory = Unit {0}
 IsLoadRefusal is_risen is_damaged Refusal.Fault = is_risen
@@ -59,16 +67,19 @@ pub record IsSpoilt (base size : ℕ) (bytes : List ℕ) (place : ℕ) : Type 0 
   pub fault : IsFirstFault base (part base size bytes) place
   pub unsound : (blocks : List (List Record)) → AreSound base size bytes blocks → ⊥
 
--- The bytes are damaged, first at this place: the area that their head picks has its first fault there, and they are not sound.
+-- The bytes are damaged, first at this place: the area that their head picks has its first fault
+-- there, and they are not sound.
 pub record IsDamagedAt (bytes : List ℕ) (place : ℕ) : Type 0 where
   pub size : ℕ
   pub header : IsHeader size bytes
   pub fault : IsFirstFault (base_in_use size bytes) (area_in_use size bytes) place
   pub unsound : IsSound bytes → ⊥
 
--- A store was opened: its head picks the area, and that was read. Whatever was live is undone, and the records of the undoing stand in blocks
+-- A store was opened: its head picks the area, and that was read. Whatever was live is undone, and
+-- the records of the undoing stand in blocks
 -- behind the others, in the area and nowhere else. The book is of the state that they lead to.
-pub record IsOpened (old : List ℕ) (book : BookState (List Collection)) (area : Area) (new : List ℕ) : Type 0 where
+pub record IsOpened (old : List ℕ) (book : BookState (List Collection)) (area : Area)
+    (new : List ℕ) : Type 0 where
   pub header : IsHeader (size_of area) old
   pub picks : base_of area ≡ base_in_use (size_of area) old
   pub blocks : List (List Record)
@@ -90,9 +101,11 @@ pub record IsOpened (old : List ℕ) (book : BookState (List Collection)) (area 
   pub fine : has_failed area ≡ false
 
 -- A stop now leaves what a read gives, and the area holds its blocks up to its next gate.
-pub record IsReadyStore {D : Type 0} (seen : D → List ℕ) (may_leave : D → List ℕ → Type 0) (old : List ℕ) (book : BookState (List Collection)) (area : Area) (disk : D) : Type 0 where
+pub record IsReadyStore {D : Type 0} (seen : D → List ℕ) (may_leave : D → List ℕ → Type 0)
+    (old : List ℕ) (book : BookState (List Collection)) (area : Area) (disk : D) : Type 0 where
   pub at_rest : IsAtRest seen may_leave disk
-  pub ready : (o : IsOpened old book area (seen disk)) → IsReady seen may_leave area disk (map spelling (o.blocks ++ o.written))
+  pub ready : (o : IsOpened old book area (seen disk)) →
+      IsReady seen may_leave area disk (map spelling (o.blocks ++ o.written))
 
 -- The blocks of the undoing do not fit behind the others.
 pub record HasNoRoom (bytes : List ℕ) : Type 0 where
@@ -110,7 +123,8 @@ pub record HasNoRoom (bytes : List ℕ) : Type 0 where
   pub in_blocks : AreBlocksOf undoing written
   pub full : size < length (row (map spelling (blocks ++ written))) + 1
 
--- Why a store could not be read: for want of memory, for a counted fault, where there is no head, or for damage at the place.
+-- Why a store could not be read: for want of memory, for a counted fault, where there is no head,
+-- or for damage at the place.
 abbrev pub IsFindRefusal : Type 0 → Type 0 → (ℕ → Type 0) → Refusal → Type 0
 IsFindRefusal is_risen no_head is_damaged Refusal.NoMemory = Unit {0}
 IsFindRefusal is_risen no_head is_damaged Refusal.Fault = is_risen
@@ -118,16 +132,23 @@ IsFindRefusal is_risen no_head is_damaged Refusal.NotAStore = no_head
 IsFindRefusal is_risen no_head is_damaged (Refusal.Damaged place) = is_damaged place
 IsFindRefusal is_risen no_head is_damaged e = ⊥
 
--- Why a store could not be opened: as why it could not be read, or where the records of the undoing do not fit.
+-- Why a store could not be opened: as why it could not be read, or where the records of the undoing
+-- do not fit.
 abbrev pub IsOpenRefusal : Type 0 → Type 0 → (ℕ → Type 0) → Type 0 → Refusal → Type 0
 IsOpenRefusal is_risen no_head is_damaged no_room Refusal.Full = no_room
 IsOpenRefusal is_risen no_head is_damaged no_room e = IsFindRefusal is_risen no_head is_damaged e
 
--- On a disk at rest whose bytes are sound and stand for a content, a stop at any moment since old leaves bytes that are sound and stand for it.
-abbrev pub KeepsContent : {D : Type 0} → (D → List ℕ) → (D → List ℕ → Type 0) → (D → ℕ) → (D → ℕ → List ℕ → Type 0) → D → D → Type 0
-KeepsContent seen may_leave moment left_since old new = (content : List Collection) → IsAtRest seen may_leave old → IsSound (seen old) → StandsFor (seen old) content → LeavesOnly moment left_since old new (λ b. IsSound b × StandsFor b content)
+-- On a disk at rest whose bytes are sound and stand for a content, a stop at any moment since old
+-- leaves bytes that are sound and stand for it.
+abbrev pub KeepsContent : {D : Type 0} → (D → List ℕ) → (D → List ℕ → Type 0) → (D → ℕ) →
+    (D → ℕ → List ℕ → Type 0) → D → D → Type 0
+KeepsContent seen may_leave moment left_since old new =
+    (content : List Collection) → IsAtRest seen may_leave old → IsSound (seen old) →
+    StandsFor (seen old) content → LeavesOnly moment left_since old new
+    (λ b. IsSound b × StandsFor b content)
 
--- What a store holds: so many collections, so many transactions that have not ended, and so many records in the journal.
+-- What a store holds: so many collections, so many transactions that have not ended, and so many
+-- records in the journal.
 pub record IsReport (bytes : List ℕ) (report : Report) : Type 0 where
   pub size : ℕ
   pub header : IsHeader size bytes

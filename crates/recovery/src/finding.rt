@@ -18,7 +18,8 @@ use repetition::Repeated;
 use std::alloc::Global;
 use undoing::undo_all;
 
-/// A store as it was found. Its losers are undone in memory, and the records of that are still to be written.
+/// A store as it was found. Its losers are undone in memory, and the records of that are still to
+/// be written.
 #[derive(Drop)]
 pub struct Found {
     pub machine: Machine<Catalog>,
@@ -32,12 +33,15 @@ pub struct Found {
     ghost bound: { (1 ≤ next) × (next ≤ 2 ^ 61) },
 }
 
-/// Reads the area in use, repeats all its records, and undoes the losers in memory. Nothing is written.
+/// Reads the area in use, repeats all its records, and undoes the losers in memory. Nothing is
+/// written.
 ///
 /// Refused NotAStore, Damaged, Fault and NoMemory as `open` says.
 pub fn find<D: Disk>(alloc: Global, disk: &mut D) -> Result<Found, Refusal>
-    ensures found { IfOk result (λ x. IsFound (D.is_honest disk.new) (D.seen disk.old) x.area x.room x.machine x.next x.records.items x.report) }
-    ensures refused { IfErr result (IsFindRefusal (Rises (D.fault_count disk.old) (D.fault_count disk.new))
+    ensures found { IfOk result (λ x. IsFound (D.is_honest disk.new) (D.seen disk.old) x.area x.room
+        x.machine x.next x.records.items x.report) }
+    ensures refused { IfErr result (IsFindRefusal
+        (Rises (D.fault_count disk.old) (D.fault_count disk.new))
         (D.is_honest disk.new → HasNoHeader (D.seen disk.old))
         (λ place. D.is_honest disk.new → IsDamagedAt (D.seen disk.old) place)) }
     ensures reads { ReadsOnly D.seen D.may_leave D.moment D.left_since disk.old disk.new }

@@ -1,23 +1,28 @@
 // Making a store on a disk.
 ghost use Rattle.std.specs.Prelude.{◌≡◌, ◌≤◌, ℕ, List, length, get_or, OnOk, IsErrOf};
 ghost use Rattle.disk_model.specs.Disk.{LeavesOnly, Rises, HasCause, IsAtRest};
-ghost use Rattle.recovery.specs.Formats.{IsRoomFor, IsFormatAnswer, IsFilled, IsEmptyStore, IsFormatting};
+ghost use Rattle.recovery.specs.Formats.{IsRoomFor, IsFormatAnswer, IsFilled, IsEmptyStore};
+ghost use Rattle.recovery.specs.Formats.{IsFormatting};
 
 use calls::Refusal;
 use calls::limits::{MAX_AREA, MIN_AREA};
 use disk_model::{Disk, Fault, write_and_sync};
 use gate_block::layout::{AREAS_AT, GATE_AT, LETTERS, OPEN, ROOT_AT, SIZE_AT};
 
-// The image of an empty store as a block, with a closed gate behind it: its marks, 1 and 0, and its end.
+// The image of an empty store as a block, with a closed gate behind it: its marks, 1 and 0, and its
+// end.
 const EMPTY_IMAGE: [u8; 24] = [
     OPEN, 0, 0, 0, 18, 11, 0, 0, 0, 0, 0, 0, 0, 1, 0, 0, 0, 0, 0, 0, 0, 0, 12, 0,
 ];
 
-/// Makes the disk an empty store with two areas of so many bytes: a head, a root byte that picks the first area, and in it
-/// the image of nothing, with no number drawn and no wear. A stop at any moment of the call, on a disk that was at rest,
+/// Makes the disk an empty store with two areas of so many bytes: a head, a root byte that picks
+/// the first area, and in it
+/// the image of nothing, with no number drawn and no wear. A stop at any moment of the call, on a
+/// disk that was at rest,
 /// leaves the old bytes with any value for the gate of the head, or no store, or the empty one.
 ///
-/// Refused BadArg where the area is below 65,536 or over 2^30 bytes, or where the disk has another size than 4096 and
+/// Refused BadArg where the area is below 65,536 or over 2^30 bytes, or where the disk has another
+/// size than 4096 and
 /// two areas, with nothing touched; Fault where the disk failed.
 pub fn format<D: Disk>(disk: &mut D, area: u64) -> Result<(), Refusal>
     ensures answer { IsFormatAnswer (IsRoomFor area (length (D.seen disk.old)))

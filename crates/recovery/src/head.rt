@@ -1,5 +1,6 @@
 // The head of a store's disk.
-ghost use Rattle.std.specs.Prelude.{◌≡◌, ◌≤◌, ◌<◌, ◌+◌, ◌*◌, ◌^◌, ◌⊎◌, ℕ, length, take, get_or, codes, IfOk, IfErr, IfSome, IfNone, IsTrue, ◌↔◌};
+ghost use Rattle.std.specs.Prelude.{◌≡◌, ◌≤◌, ◌<◌, ◌+◌, ◌*◌, ◌^◌, ◌⊎◌, ℕ, length, take, get_or};
+ghost use Rattle.std.specs.Prelude.{codes, IfOk, IfErr, IfSome, IfNone, IsTrue, ◌↔◌};
 ghost use Rattle.disk_model.specs.Disk.{ReadsOnly, Rises};
 ghost use Rattle.repetition.specs.Journals.{IsHeader};
 ghost use Rattle.gate_block.specs.Layout.{base_in_use};
@@ -35,9 +36,11 @@ fn is_marked(head: &[u8]) -> bool
 
 // The size of the areas, which the head of a store says.
 fn read_size<D: Disk>(disk: &mut D) -> Result<u64, Refusal>
-    ensures size { IfOk result (λ size. (65536 ≤ size) × (size ≤ 2 ^ 30) × (length (D.seen disk.old) ≡ 4096 + 2 * size)) }
+    ensures size { IfOk result (λ size. (65536 ≤ size) × (size ≤ 2 ^ 30) ×
+        (length (D.seen disk.old) ≡ 4096 + 2 * size)) }
     ensures header { IfOk result (λ size. D.is_honest disk.new → IsHeader size (D.seen disk.old)) }
-    ensures refused { IfErr result (IsHeadRefusal (Rises (D.fault_count disk.old) (D.fault_count disk.new))
+    ensures refused { IfErr result (IsHeadRefusal
+        (Rises (D.fault_count disk.old) (D.fault_count disk.new))
         (D.is_honest disk.new → HasNoHeader (D.seen disk.old))) }
     ensures reads { ReadsOnly D.seen D.may_leave D.moment D.left_since disk.old disk.new }
     ensures honest { D.is_honest disk.new → D.is_honest disk.old }
@@ -53,14 +56,18 @@ fn read_size<D: Disk>(disk: &mut D) -> Result<u64, Refusal>
     said_size(&head, disk.size()).ok_or(Refusal::NotAStore)
 }
 
-/// Where the area in use begins, and its size. Refused Fault where the disk failed, and NotAStore where no head is
+/// Where the area in use begins, and its size. Refused Fault where the disk failed, and NotAStore
+/// where no head is
 /// read.
 pub fn area_in_use<D: Disk>(disk: &mut D) -> Result<(u64, u64), Refusal>
-    ensures inside { IfOk result (λ x. (0 < x.1) × (x.1 ≤ 2 ^ 30) × (x.0 + x.1 < 2 ^ 63) × (x.0 + x.1 ≤ length (D.seen disk.old))) }
-    ensures one { IfOk result (λ x. (length (D.seen disk.old) ≡ 4096 + 2 * x.1) × ((x.0 ≡ 4096) ⊎ (x.0 ≡ 4096 + x.1))) }
+    ensures inside { IfOk result (λ x. (0 < x.1) × (x.1 ≤ 2 ^ 30) × (x.0 + x.1 < 2 ^ 63) ×
+        (x.0 + x.1 ≤ length (D.seen disk.old))) }
+    ensures one { IfOk result (λ x. (length (D.seen disk.old) ≡ 4096 + 2 * x.1) ×
+        ((x.0 ≡ 4096) ⊎ (x.0 ≡ 4096 + x.1))) }
     ensures header { IfOk result (λ x. D.is_honest disk.new →
         IsHeader x.1 (D.seen disk.old) × (x.0 ≡ base_in_use x.1 (D.seen disk.old))) }
-    ensures refused { IfErr result (IsHeadRefusal (Rises (D.fault_count disk.old) (D.fault_count disk.new))
+    ensures refused { IfErr result (IsHeadRefusal
+        (Rises (D.fault_count disk.old) (D.fault_count disk.new))
         (D.is_honest disk.new → HasNoHeader (D.seen disk.old))) }
     ensures reads { ReadsOnly D.seen D.may_leave D.moment D.left_since disk.old disk.new }
     ensures honest { D.is_honest disk.new → D.is_honest disk.old }

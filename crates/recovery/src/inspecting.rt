@@ -10,15 +10,21 @@ use calls::Refusal;
 use disk_model::Disk;
 use std::alloc::Global;
 
-/// Looks at the store on a disk: how many collections it has, how many transactions that have not ended, and how many
-/// records stand behind its image. It reads all that an opening reads, undoes the losers in memory, and writes nothing.
+/// Looks at the store on a disk: how many collections it has, how many transactions that have not
+/// ended, and how many
+/// records stand behind its image. It reads all that an opening reads, undoes the losers in memory,
+/// and writes nothing.
 ///
-/// Refused NotAStore, where the disk read true only if it has no head of a store; Fault where the disk failed; Damaged
-/// with the position of the gate of the block in which the first damage stands, where the disk read true only if the
+/// Refused NotAStore, where the disk read true only if it has no head of a store; Fault where the
+/// disk failed; Damaged
+/// with the position of the gate of the block in which the first damage stands, where the disk read
+/// true only if the
 /// bytes are not sound; NoMemory.
 pub fn inspect<D: Disk>(alloc: Global, disk: &mut D) -> Result<Report, Refusal>
-    ensures report { IfOk result (λ report. D.is_honest disk.new → IsReport (D.seen disk.old) report) }
-    ensures refused { IfErr result (IsFindRefusal (Rises (D.fault_count disk.old) (D.fault_count disk.new))
+    ensures report { IfOk result (λ report. D.is_honest disk.new →
+        IsReport (D.seen disk.old) report) }
+    ensures refused { IfErr result (IsFindRefusal
+        (Rises (D.fault_count disk.old) (D.fault_count disk.new))
         (D.is_honest disk.new → HasNoHeader (D.seen disk.old))
         (λ place. D.is_honest disk.new → IsDamagedAt (D.seen disk.old) place)) }
     ensures reads { ReadsOnly D.seen D.may_leave D.moment D.left_since disk.old disk.new }

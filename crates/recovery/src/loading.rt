@@ -22,17 +22,21 @@ pub struct Loaded {
 
 /// Reads the records of all blocks of an area, one block at a time.
 ///
-/// Refused NoMemory, Fault where the disk failed, and Damaged with the position of the gate of the block in which the
+/// Refused NoMemory, Fault where the disk failed, and Damaged with the position of the gate of the
+/// block in which the
 /// first damage stands.
 pub fn load<D: Disk>(alloc: Global, disk: &mut D, base: u64, size: u64) -> Result<Loaded, Refusal>
     requires room { 0 < size }
     requires fits { base + size < 2 ^ 63 }
     requires disk { base + size ≤ length (D.seen disk.old) }
     ensures loaded { IfOk result (λ x. D.is_honest disk.new →
-        IsLoaded base size (D.seen disk.old) x.repeated.machine x.repeated.next x.repeated.count (position_of x.area)) }
-    ensures area { IfOk result (λ x. (base_of x.area ≡ base) × (size_of x.area ≡ size) × (has_failed x.area ≡ false)) }
+        IsLoaded base size (D.seen disk.old) x.repeated.machine x.repeated.next x.repeated.count
+        (position_of x.area)) }
+    ensures area { IfOk result (λ x. (base_of x.area ≡ base) × (size_of x.area ≡ size) ×
+        (has_failed x.area ≡ false)) }
     ensures place { IfOk result (λ x. x.place ≡ base + position_of x.area) }
-    ensures refused { IfErr result (IsLoadRefusal (Rises (D.fault_count disk.old) (D.fault_count disk.new))
+    ensures refused { IfErr result (IsLoadRefusal
+        (Rises (D.fault_count disk.old) (D.fault_count disk.new))
         (λ place. D.is_honest disk.new → IsSpoilt base size (D.seen disk.old) place)) }
     ensures reads { ReadsOnly D.seen D.may_leave D.moment D.left_since disk.old disk.new }
     ensures honest { D.is_honest disk.new → D.is_honest disk.old }

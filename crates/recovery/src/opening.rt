@@ -1,5 +1,6 @@
 // Opening a store.
-ghost use Rattle.std.specs.Prelude.{◌≡◌, ◌≤◌, ◌<◌, ◌+◌, ◌^◌, List, [], length, IfOk, IfErr, IsTrue, ◌↔◌, false};
+ghost use Rattle.std.specs.Prelude.{◌≡◌, ◌≤◌, ◌<◌, ◌+◌, ◌^◌, List, [], length, IfOk, IfErr, IsTrue};
+ghost use Rattle.std.specs.Prelude.{◌↔◌, false};
 ghost use Rattle.calls.specs.Contents.{Collection};
 ghost use Rattle.calls.specs.declared.refusal.Refusal.{Refusal};
 ghost use Rattle.disk_model.specs.Disk.{ReadsOnly, Rises, IsAtRest};
@@ -8,7 +9,8 @@ ghost use Rattle.checkpoint.specs.Keepers.{IsOneOfTwo, IsFresh};
 ghost use Rattle.repetition.specs.Journals.{StandsFor};
 ghost use Rattle.recovery.specs.Heads.{HasNoHeader};
 ghost use Rattle.undoing.specs.Undoing.{blocks_len};
-ghost use Rattle.recovery.specs.Openings.{IsOpened, IsDamagedAt, HasNoRoom, IsReadyStore, IsOpenRefusal, KeepsContent};
+ghost use Rattle.recovery.specs.Openings.{IsOpened, IsDamagedAt, HasNoRoom, IsReadyStore};
+ghost use Rattle.recovery.specs.Openings.{IsOpenRefusal, KeepsContent};
 
 use crate::finding::{Found, find};
 use calls::Refusal;
@@ -34,19 +36,27 @@ fn fits(room: u64, count: usize) -> bool
 
 // Opens the store on a disk.
 fn open_on<D: Disk>(alloc: Global, disk: &mut D) -> Result<(Book<Catalog>, Area), Refusal>
-    ensures opened { IfOk result (λ x. D.is_honest disk.new → IsOpened (D.seen disk.old) x.0 x.1 (D.seen disk.new)) }
+    ensures opened { IfOk result (λ x. D.is_honest disk.new →
+        IsOpened (D.seen disk.old) x.0 x.1 (D.seen disk.new)) }
     ensures content { (content : List Collection) → StandsFor (D.seen disk.old) content →
         IfOk result (λ x. D.is_honest disk.new → x.0.state.now ≡ content) }
-    ensures kept { D.is_honest disk.new → KeepsContent D.seen D.may_leave D.moment D.left_since disk.old disk.new }
-    ensures untouched { IfOk result (λ x. D.is_honest disk.new → (o : IsOpened (D.seen disk.old) x.0 x.1 (D.seen disk.new)) →
+    ensures kept { D.is_honest disk.new →
+        KeepsContent D.seen D.may_leave D.moment D.left_since disk.old disk.new }
+    ensures untouched { IfOk result
+        (λ x. D.is_honest disk.new → (o : IsOpened (D.seen disk.old) x.0 x.1 (D.seen disk.new)) →
         o.undoing ≡ [] → ReadsOnly D.seen D.may_leave D.moment D.left_since disk.old disk.new) }
-    ensures durable { IfOk result (λ x. D.is_honest disk.new → IsAtRest D.seen D.may_leave disk.old → IsAtRest D.seen D.may_leave disk.new) }
-    ensures area { IfOk result (λ x. (has_failed x.1 ≡ false) × IsOneOfTwo x.1 (length (D.seen disk.new))) }
-    ensures refused { IfErr result (IsOpenRefusal (Rises (D.fault_count disk.old) (D.fault_count disk.new))
+    ensures durable { IfOk result (λ x. D.is_honest disk.new →
+        IsAtRest D.seen D.may_leave disk.old → IsAtRest D.seen D.may_leave disk.new) }
+    ensures area { IfOk result (λ x. (has_failed x.1 ≡ false) ×
+        IsOneOfTwo x.1 (length (D.seen disk.new))) }
+    ensures refused { IfErr result (IsOpenRefusal
+        (Rises (D.fault_count disk.old) (D.fault_count disk.new))
         (D.is_honest disk.new → HasNoHeader (D.seen disk.old))
         (λ place. D.is_honest disk.new → IsDamagedAt (D.seen disk.old) place)
         (D.is_honest disk.new → HasNoRoom (D.seen disk.old))) }
-    ensures unchanged { IfErr result (λ e. (e ≡ Refusal.Fault → ⊥) → ReadsOnly D.seen D.may_leave D.moment D.left_since disk.old disk.new) }
+    ensures unchanged { IfErr result
+        (λ e. (e ≡ Refusal.Fault → ⊥) →
+        ReadsOnly D.seen D.may_leave D.moment D.left_since disk.old disk.new) }
     ensures honest { D.is_honest disk.new → D.is_honest disk.old }
     ensures faults { D.fault_count disk.old ≤ D.fault_count disk.new }
     ensures size { length (D.seen disk.new) ≡ length (D.seen disk.old) }
@@ -68,34 +78,51 @@ fn open_on<D: Disk>(alloc: Global, disk: &mut D) -> Result<(Book<Catalog>, Area)
     Ok((Book::new(alloc, machine.into_parts(), next, wear), area))
 }
 
-/// Opens the store on a disk, in the manner of ARIES: reads the area in use and repeats all its records; undoes each
-/// transaction that has not ended, by rising number; and writes the records of that, a Back for each call and then an
-/// Ended, behind the others, 64 to a block. Nothing is written where none was live, and none is live in the book. The
-/// keeper's mark is 0. A stop at any moment leaves a store of the same content, that can be opened again.
+/// Opens the store on a disk, in the manner of ARIES: reads the area in use and repeats all its
+/// records; undoes each
+/// transaction that has not ended, by rising number; and writes the records of that, a Back for
+/// each call and then an
+/// Ended, behind the others, 64 to a block. Nothing is written where none was live, and none is
+/// live in the book. The
+/// keeper's mark is 0. A stop at any moment leaves a store of the same content, that can be opened
+/// again.
 ///
-/// It holds the body of one block at a time, beside what the collections hold, the live transactions asked for, and the
-/// records of the undoing. Each record is read once, and repeated in the time of its call and of the needs and live calls
+/// It holds the body of one block at a time, beside what the collections hold, the live
+/// transactions asked for, and the
+/// records of the undoing. Each record is read once, and repeated in the time of its call and of
+/// the needs and live calls
 /// that stand then.
 ///
-/// Refused NotAStore, where the disk read true only if it has no head of a store; Fault where the disk failed; Damaged
-/// with the position of the gate of the block in which the first damage stands, where the disk read true only if the
-/// bytes are not sound; NoMemory; Full, where the disk read true only if the records of the undoing do not fit. All but
+/// Refused NotAStore, where the disk read true only if it has no head of a store; Fault where the
+/// disk failed; Damaged
+/// with the position of the gate of the block in which the first damage stands, where the disk read
+/// true only if the
+/// bytes are not sound; NoMemory; Full, where the disk read true only if the records of the undoing
+/// do not fit. All but
 /// Fault come with nothing written. A refusal hands the disk back.
 pub fn open<D: Disk>(alloc: Global, disk: D) -> Result<(Book<Catalog>, Keeper<D>), (Refusal, D)>
-    ensures opened { IfOk result (λ x. D.is_honest x.1.disk → IsOpened (D.seen disk) x.0 x.1.area (D.seen x.1.disk)) }
-    ensures content { (content : List Collection) → StandsFor (D.seen disk) content → IfOk result (λ x. D.is_honest x.1.disk → x.0.state.now ≡ content) }
-    ensures kept { IfOk result (λ x. D.is_honest x.1.disk → KeepsContent D.seen D.may_leave D.moment D.left_since disk x.1.disk) }
-    ensures kept_in_refusal { IfErr result (λ x. D.is_honest x.1 → KeepsContent D.seen D.may_leave D.moment D.left_since disk x.1) }
-    ensures untouched { IfOk result (λ x. D.is_honest x.1.disk → (o : IsOpened (D.seen disk) x.0 x.1.area (D.seen x.1.disk)) →
+    ensures opened { IfOk result (λ x. D.is_honest x.1.disk →
+        IsOpened (D.seen disk) x.0 x.1.area (D.seen x.1.disk)) }
+    ensures content { (content : List Collection) → StandsFor (D.seen disk) content →
+        IfOk result (λ x. D.is_honest x.1.disk → x.0.state.now ≡ content) }
+    ensures kept { IfOk result (λ x. D.is_honest x.1.disk →
+        KeepsContent D.seen D.may_leave D.moment D.left_since disk x.1.disk) }
+    ensures kept_in_refusal { IfErr result
+        (λ x. D.is_honest x.1 → KeepsContent D.seen D.may_leave D.moment D.left_since disk x.1) }
+    ensures untouched { IfOk result
+        (λ x. D.is_honest x.1.disk → (o : IsOpened (D.seen disk) x.0 x.1.area (D.seen x.1.disk)) →
         o.undoing ≡ [] → ReadsOnly D.seen D.may_leave D.moment D.left_since disk x.1.disk) }
     ensures fresh { IfOk result (λ x. IsFresh x.1) }
     ensures ready { IfOk result (λ x. D.is_honest x.1.disk → IsAtRest D.seen D.may_leave disk →
         IsReadyStore D.seen D.may_leave (D.seen disk) x.0 x.1.area x.1.disk) }
-    ensures refused { IfErr result (λ x. IsOpenRefusal (Rises (D.fault_count disk) (D.fault_count x.1))
+    ensures refused { IfErr result (λ x. IsOpenRefusal
+        (Rises (D.fault_count disk) (D.fault_count x.1))
         (D.is_honest x.1 → HasNoHeader (D.seen disk))
         (λ place. D.is_honest x.1 → IsDamagedAt (D.seen disk) place)
         (D.is_honest x.1 → HasNoRoom (D.seen disk)) x.0) }
-    ensures unchanged { IfErr result (λ x. (x.0 ≡ Refusal.Fault → ⊥) → ReadsOnly D.seen D.may_leave D.moment D.left_since disk x.1) }
+    ensures unchanged { IfErr result
+        (λ x. (x.0 ≡ Refusal.Fault → ⊥) →
+        ReadsOnly D.seen D.may_leave D.moment D.left_since disk x.1) }
     ensures honest { IfOk result (λ x. D.is_honest x.1.disk → D.is_honest disk) }
     ensures honest_in_refusal { IfErr result (λ x. D.is_honest x.1 → D.is_honest disk) }
     ensures size { IfOk result (λ x. length (D.seen x.1.disk) ≡ length (D.seen disk)) }

@@ -1,6 +1,7 @@
 // What a store holds, in numbers.
 
-/// So many collections, so many transactions that have not ended, and so many records in the journal.
+/// So many collections, so many transactions that have not ended, and so many records in the
+/// journal.
 #[derive(Clone, Copy, Debug, PartialEq, Eq)]
 pub struct Report {
     pub collections: usize,

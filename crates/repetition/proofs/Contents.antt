@@ -1,11 +1,13 @@
 -- What an image and a journal stand for that are read.
-use Rattle.std.proofs.Common.{◌≡◌, ℕ, List, [], ◌∷◌, ◌++◌, map, refl, sym, ◌∙◌, ap, subst, append_assoc, append-nil}
+use Rattle.std.proofs.Common.{◌≡◌, ℕ, List, [], ◌∷◌, ◌++◌, map, refl, sym, ◌∙◌, ap, subst}
+use Rattle.std.proofs.Common.{append_assoc, append-nil}
 use Rattle.std.specs.List.{AllByRecursion}
 use Rattle.std.specs.FinMap as maps
 use Rattle.calls.specs.Contents.{Collection, AnswersAt, after_at}
-use Rattle.calls.specs.Needs.{need_of}
-use Rattle.calls.specs.Inverses.{inverse_of}
-use Rattle.calls.specs.Transactions.{Transaction, Whole, Made, Event, Entry, Leads, Does, Makes, RunsWhole, Serial, calls_of, laters_of, own, committed, committed_after}
+use Rattle.calls.specs.Rules.{need_of, inverse_of}
+use Rattle.calls.specs.Transactions.{Transaction, Whole, Made, Event, Entry, Leads, Does, Makes}
+use Rattle.calls.specs.Transactions.{RunsWhole, Serial, calls_of, laters_of, own, committed}
+use Rattle.calls.specs.Transactions.{committed_after}
 use Rattle.catalog.specs.Places.{Belongs, Misplaced}
 use Rattle.catalog.specs.Making.{names_of}
 use Rattle.record_format.specs.declared.record.Record.{Record}
@@ -25,19 +27,23 @@ use Rattle.repetition.proofs.Lists.{leads_append, leads_exact, flat_map-append}
 use Rattle.loader.proofs.Loaded.{loaded_sound, loaded_entries}
 use Rattle.repetition.proofs.OneImage.{one_image}
 use Rattle.repetition.proofs.Parts.{IsParts, parts_of, repeats_journal}
+use Rattle.catalog.specs.Meaning.{catalog_meaning, catalog_making}
 
 -- ---- transactions run whole have one end
 
 call_exact : (e : Event) (s t u : List Collection) → Does s e t → Does s e u → t ≡ u
 call_exact e s t u a b = a.1 ∙ sym b.1
 
-whole_exact : (x : Transaction) (s t u : List Collection) → RunsWhole s x t → RunsWhole s x u → t ≡ u
+whole_exact : (x : Transaction) (s t u : List Collection) → RunsWhole s x t → RunsWhole s x u →
+    t ≡ u
 whole_exact (Whole es) s t u a b =
     let middle : b.0 ≡ a.0 = leads_exact Does call_exact (calls_of es) s b.0 a.0 b.1 a.1 in
-    leads_exact Does call_exact (laters_of es) a.0 t u a.2 (subst (λ m. Leads Does (laters_of es) m u) middle b.2)
+    leads_exact Does call_exact (laters_of es) a.0 t u a.2
+    (subst (λ m. Leads Does (laters_of es) m u) middle b.2)
 whole_exact (Made name kind) s t u a b = a.is ∙ sym b.is
 
-serial_exact : (xs : List Transaction) (s t u : List Collection) → Serial xs s t → Serial xs s u → t ≡ u
+serial_exact : (xs : List Transaction) (s t u : List Collection) → Serial xs s t → Serial xs s u →
+    t ≡ u
 serial_exact xs s t u = leads_exact RunsWhole whole_exact xs s t u
 
 -- ---- what an image says of transactions: who had asked for what, and no commit
@@ -48,17 +54,21 @@ acts_of-append xs ys = flat_map-append acts_of_record xs ys
 told_quiet : (xs : List Collection) (rs : List Record) → TellOf xs rs → acts_of rs ≡ []
 told_quiet [] rs t = ap acts_of t
 told_quiet (x ∷ xs) rs t =
-    ap acts_of t.2 ∙ acts_of-append t.0 t.1 ∙ ap (λ l. acts_of l ++ acts_of t.1) t.3.is ∙ ap (λ l. l ++ acts_of t.1) (items_quiet t.3.items) ∙ told_quiet xs t.1 t.4
+    ap acts_of t.2 ∙ acts_of-append t.0 t.1 ∙ ap (λ l. acts_of l ++ acts_of t.1) t.3.is ∙
+    ap (λ l. l ++ acts_of t.1) (items_quiet t.3.items) ∙ told_quiet xs t.1 t.4
   where
     items_quiet : (items : List _) → acts_of (map Record.Item items) ≡ []
     items_quiet [] = refl
     items_quiet (i ∷ items) = items_quiet items
 
-begins_quiet : (ns : List ℕ) → (gathered [] (acts_of (map Record.Begin ns)) ≡ []) × (committed_after [] (acts_of (map Record.Begin ns)) ≡ [])
+begins_quiet : (ns : List ℕ) → (gathered [] (acts_of (map Record.Begin ns)) ≡ []) ×
+    (committed_after [] (acts_of (map Record.Begin ns)) ≡ [])
 begins_quiet [] = (refl, refl)
 begins_quiet (n ∷ ns) = begins_quiet ns
 
-live_told : (live : List Record) (es : List (ℕ × Entry)) → AllByRecursion IsLiveRecord live → (gathered es (acts_of live) ≡ es ++ owned_entries live) × (committed_after es (acts_of live) ≡ [])
+live_told : (live : List Record) (es : List (ℕ × Entry)) → AllByRecursion IsLiveRecord live →
+    (gathered es (acts_of live) ≡ es ++ owned_entries live) ×
+    (committed_after es (acts_of live) ≡ [])
 live_told [] es all = (sym (append-nil es), refl)
 live_told (Record.LiveCall c ∷ live) es all =
     let first = owned_entries (Record.LiveCall c ∷ []) in
@@ -70,20 +80,29 @@ live_told (Record.LiveLater l ∷ live) es all =
     (rest.0 ∙ append_assoc es first (owned_entries live), rest.1)
 live_told (r ∷ live) es all = absurd all.0
 
-image_told : (n w : ℕ) (shown : List Collection) (ns : List ℕ) (live image : List Record) → IsImage n w shown ns live image → (gathered [] (acts_of image) ≡ owned_entries live) × (committed (acts_of image) ≡ [])
+image_told : (n w : ℕ) (shown : List Collection) (ns : List ℕ) (live image : List Record) →
+    IsImage n w shown ns live image →
+    (gathered [] (acts_of image) ≡ owned_entries live) × (committed (acts_of image) ≡ [])
 image_told n w shown ns live image is =
     let begins : List Record = map Record.Begin ns in
     let acts : acts_of image ≡ acts_of begins ++ acts_of live =
-    ap acts_of is.is ∙ acts_of-append is.told (begins ++ (live ++ Record.ImageEnd ∷ [])) ∙ ap (λ l. l ++ acts_of (begins ++ (live ++ Record.ImageEnd ∷ []))) (told_quiet shown is.told is.tells)
-    ∙ acts_of-append begins (live ++ Record.ImageEnd ∷ []) ∙ ap (λ l. acts_of begins ++ l) (acts_of-append live (Record.ImageEnd ∷ []) ∙ append-nil (acts_of live)) in
+    ap acts_of is.is ∙ acts_of-append is.told (begins ++ (live ++ Record.ImageEnd ∷ [])) ∙
+    ap (λ l. l ++ acts_of (begins ++ (live ++ Record.ImageEnd ∷ [])))
+    (told_quiet shown is.told is.tells)
+    ∙ acts_of-append begins (live ++ Record.ImageEnd ∷ []) ∙
+    ap (λ l. acts_of begins ++ l) (acts_of-append live (Record.ImageEnd ∷ []) ∙
+    append-nil (acts_of live)) in
     let quiet = begins_quiet ns in
     let said = live_told live [] is.all_live in (
-      ap (gathered []) acts ∙ gathered_append (acts_of begins) (acts_of live) [] ∙ ap (λ es. gathered es (acts_of live)) quiet.0 ∙ said.0,
-      ap committed acts ∙ committed_append (acts_of begins) (acts_of live) [] ∙ ap (λ l. l ++ committed_after (gathered [] (acts_of begins)) (acts_of live)) quiet.1
+      ap (gathered []) acts ∙ gathered_append (acts_of begins) (acts_of live) [] ∙
+          ap (λ es. gathered es (acts_of live)) quiet.0 ∙ said.0,
+      ap committed acts ∙ committed_append (acts_of begins) (acts_of live) [] ∙
+          ap (λ l. l ++ committed_after (gathered [] (acts_of begins)) (acts_of live)) quiet.1
           ∙ ap (λ es. committed_after es (acts_of live)) quiet.0 ∙ said.1,
     )
 
-owned_begins : (ns : List ℕ) (live : List Record) → owned_entries (map Record.Begin ns ++ live) ≡ owned_entries live
+owned_begins : (ns : List ℕ) (live : List Record) →
+    owned_entries (map Record.Begin ns ++ live) ≡ owned_entries live
 owned_begins [] live = refl
 owned_begins (n ∷ ns) live = owned_begins ns live
 
@@ -96,59 +115,74 @@ module _ (rs : List Record) (s : State) (p : IsParts rs s) where
   abbrev start : List Collection
   start = p.settles.0
 
-  pub first_sound : txn.IsSound AnswersAt after_at Makes need_of inverse_of p.first
-  first_sound = loaded_sound AnswersAt after_at Makes need_of inverse_of laws.rules Belongs held p.shown p.wear p.first start p.leads p.settles.1
+  pub first_sound : txn.IsSound catalog_meaning catalog_making p.first
+  first_sound = loaded_sound catalog_meaning catalog_making laws.rules held p.shown p.wear p.first
+      start p.leads p.settles.1
 
   pub entries_are : p.first.entries ≡ owned_entries p.live
-  entries_are = (loaded_entries AnswersAt Belongs need_of held p.shown p.wear p.first p.leads).entries ∙ owned_begins p.numbers p.live
+  entries_are = (loaded_entries catalog_meaning held p.shown p.wear p.first p.leads).entries ∙
+      owned_begins p.numbers p.live
 
   now_is : p.first.now ≡ p.shown
-  now_is = (loaded_entries AnswersAt Belongs need_of held p.shown p.wear p.first p.leads).now
+  now_is = (loaded_entries catalog_meaning held p.shown p.wear p.first p.leads).now
 
-  -- From a content of which the live calls lead to what the image shows, they lead to the first state, and the other way round.
+  -- From a content of which the live calls lead to what the image shows, they lead to the first
+  -- state, and the other way round.
   abbrev Shows : List Collection → Type 0
   Shows c = Leads Does (calls_of (map (λ e. e.1) (owned_entries p.live))) c p.shown
 
   pub shows_start : Shows start
-  shows_start = subst (λ es. Leads Does (calls_of (map (λ e. e.1) es)) start p.shown) entries_are (subst (Leads Does (calls_of (map (λ e. e.1) p.first.entries)) start) now_is p.settles.1)
+  shows_start = subst (λ es. Leads Does (calls_of (map (λ e. e.1) es)) start p.shown) entries_are
+      (subst (Leads Does (calls_of (map (λ e. e.1) p.first.entries)) start) now_is p.settles.1)
 
   one_start : (c : List Collection) → Shows c → c ≡ start
   one_start c shows =
-      steps.settles_once AnswersAt after_at Makes need_of inverse_of laws.rules p.first c start first_sound
-      (subst (Leads Does (calls_of (map (λ e. e.1) p.first.entries)) c) (sym now_is) (subst (λ es. Leads Does (calls_of (map (λ e. e.1) es)) c p.shown) (sym entries_are) shows)) p.settles.1
+      steps.settles_once catalog_meaning catalog_making laws.rules p.first c start first_sound
+      (subst (Leads Does (calls_of (map (λ e. e.1) p.first.entries)) c) (sym now_is)
+      (subst (λ es. Leads Does (calls_of (map (λ e. e.1) es)) c p.shown) (sym entries_are)
+      shows)) p.settles.1
 
   -- Records that lead on from the first state lead on by what they commit.
   module _ (js : List Record) (t : State) (run : Repeats js p.first t) where
-    abbrev comes : played.IsPlayed AnswersAt after_at Makes need_of inverse_of laws.rules Belongs Misplaced names_of (owned_entries p.live) (acts_of js) start t
-    comes = played.all_repeated AnswersAt after_at Makes need_of inverse_of laws.rules Belongs Misplaced names_of js (owned_entries p.live) p.first t start first_sound
+    abbrev comes : played.IsPlayed catalog_meaning catalog_making laws.rules (owned_entries p.live)
+        (acts_of js) start t
+    comes = played.all_repeated catalog_meaning catalog_making laws.rules js (owned_entries p.live)
+        p.first t start first_sound
         (λ n running. ap (own n) (sym entries_are)) p.settles.1 run
 
     abbrev pub content : List Collection
     content = comes.content
 
-    pub end_sound : txn.IsSound AnswersAt after_at Makes need_of inverse_of t
+    pub end_sound : txn.IsSound catalog_meaning catalog_making t
     end_sound = comes.sound
 
-    pub end_settled : IsSettled AnswersAt after_at t content
+    pub end_settled : IsSettled catalog_meaning t content
     end_settled = comes.settled
 
-    behind : committed (acts_of (p.image ++ js)) ≡ committed_after (owned_entries p.live) (acts_of js)
+    behind : committed (acts_of (p.image ++ js)) ≡
+        committed_after (owned_entries p.live) (acts_of js)
     behind =
         let said = image_told p.next p.wear p.shown p.numbers p.live p.image p.is_image in
-        ap committed (acts_of-append p.image js) ∙ committed_append (acts_of p.image) (acts_of js) [] ∙ ap (λ l. l ++ committed_after (gathered [] (acts_of p.image)) (acts_of js)) said.1
+        ap committed (acts_of-append p.image js) ∙
+        committed_append (acts_of p.image) (acts_of js) [] ∙
+        ap (λ l. l ++ committed_after (gathered [] (acts_of p.image)) (acts_of js)) said.1
         ∙ ap (λ es. committed_after es (acts_of js)) said.0
 
     pub serial : Serial (committed (acts_of (p.image ++ js))) start content
     serial =
         subst (λ ts. Serial ts start content) (sym behind)
-        (serial_told AnswersAt after_at Makes (λ (v : List Collection). v) (λ v at c r h. h) (λ v at c r h. refl) (λ u v name kind m. m) (committed_after (owned_entries p.live) (acts_of js)) start content comes.runs)
+        (serial_told catalog_meaning catalog_making (λ (v : List Collection). v) (λ v at c r h. h)
+        (λ v at c r h. refl) (λ u v name kind m. m)
+        (committed_after (owned_entries p.live) (acts_of js)) start content comes.runs)
 
     -- Where no transaction is live at their end, that is the content there.
     pub content_now : t.live ≡ maps.empty → content ≡ t.now
-    content_now over = (steps.none_live AnswersAt after_at Makes need_of inverse_of laws.rules t comes.sound content over comes.settled).1
+    content_now over = (steps.none_live catalog_meaning catalog_making laws.rules t comes.sound
+        content over comes.settled).1
 
     -- bytes that hold image and journal stand for it
-    pub stands_for : (bytes : List ℕ) (blocks : List (List Record)) → Holds bytes blocks → records_in blocks ≡ p.image ++ js → StandsFor bytes content
+    pub stands_for : (bytes : List ℕ) (blocks : List (List Record)) → Holds bytes blocks →
+        records_in blocks ≡ p.image ++ js → StandsFor bytes content
     stands_for bytes blocks holds split = record {
       blocks = blocks;
       holds = holds;
@@ -168,13 +202,22 @@ module _ (rs : List Record) (s : State) (p : IsParts rs s) where
     }
 
     -- and for no other
-    pub only_content : (bytes : List ℕ) (other : List Collection) (stands : StandsFor bytes other) → acts_of (records_in stands.blocks) ≡ acts_of (p.image ++ js) → p.image ++ p.journal ≡ stands.image ++ stands.journal → content ≡ other
+    pub only_content : (bytes : List ℕ) (other : List Collection) (stands : StandsFor bytes other) →
+        acts_of (records_in stands.blocks) ≡ acts_of (p.image ++ js) →
+        p.image ++ p.journal ≡ stands.image ++ stands.journal → content ≡ other
     only_content bytes other stands acts parts =
-        let same = one_image p.next stands.next p.wear stands.wear p.shown stands.shown p.numbers stands.numbers p.live stands.live p.image stands.image p.journal stands.journal p.is_image stands.is_image parts in
+        let same = one_image p.next stands.next p.wear stands.wear p.shown stands.shown p.numbers
+        stands.numbers p.live stands.live p.image stands.image p.journal stands.journal
+        p.is_image stands.is_image parts in
         let shows : Shows stands.start =
-        subst (Leads Does (calls_of (map (λ e. e.1) (owned_entries p.live))) stands.start) (sym same.shown_is) (subst (λ l. Leads Does (calls_of (map (λ e. e.1) (owned_entries l))) stands.start stands.shown) (sym same.live_is) stands.leads) in
+        subst (Leads Does (calls_of (map (λ e. e.1) (owned_entries p.live))) stands.start)
+        (sym same.shown_is) (subst (λ l. Leads Does
+        (calls_of (map (λ e. e.1) (owned_entries l))) stands.start stands.shown)
+        (sym same.live_is) stands.leads) in
         let stood : Serial (committed (acts_of (p.image ++ js))) start other =
-        subst (λ c. Serial (committed (acts_of (p.image ++ js))) c other) (one_start stands.start shows) (subst (λ l. Serial (committed l) stands.start other) acts stands.serial) in
+        subst (λ c. Serial (committed (acts_of (p.image ++ js))) c other)
+        (one_start stands.start shows) (subst (λ l. Serial (committed l) stands.start other)
+        acts stands.serial) in
         serial_exact (committed (acts_of (p.image ++ js))) start content other serial stood
 
 -- ---- an accepted image and journal
@@ -184,18 +227,28 @@ module _ (rs : List Record) (n : ℕ) (s : State) (k : ℕ) (accepted : AreAccep
   parts = parts_of rs n s k accepted
 
   -- Records behind it lead on from its first state too.
-  pub on_from_first : (more : List Record) (t : State) → Repeats more s t → Repeats (parts.journal ++ more) parts.first t
+  pub on_from_first : (more : List Record) (t : State) → Repeats more s t →
+      Repeats (parts.journal ++ more) parts.first t
   on_from_first more t run = leads_append Steps parts.journal more parts.first s t parts.repeats run
 
-  pub sound_behind : (more : List Record) (t : State) → Repeats more s t → txn.IsSound AnswersAt after_at Makes need_of inverse_of t
-  sound_behind more t run = end_sound rs s parts (parts.journal ++ more) t (on_from_first more t run)
+  pub sound_behind : (more : List Record) (t : State) → Repeats more s t →
+      txn.IsSound catalog_meaning catalog_making t
+  sound_behind more t run = end_sound rs s parts (parts.journal ++ more) t
+      (on_from_first more t run)
 
-  -- With records behind it that commit nothing and lead to a state where no transaction is live, it stands for what is there then.
-  pub content_behind : (more : List Record) (t : State) → Repeats more s t → t.live ≡ maps.empty → acts_of more ≡ [] → (bytes : List ℕ) (other : List Collection) (stands : StandsFor bytes other) → rs ≡ records_in stands.blocks → t.now ≡ other
+  -- With records behind it that commit nothing and lead to a state where no transaction is live, it
+  -- stands for what is there then.
+  pub content_behind : (more : List Record) (t : State) → Repeats more s t → t.live ≡ maps.empty →
+      acts_of more ≡ [] → (bytes : List ℕ) (other : List Collection)
+      (stands : StandsFor bytes other) → rs ≡ records_in stands.blocks → t.now ≡ other
   content_behind more t run over quiet bytes other stands same =
       let js : List Record = parts.journal ++ more in
       let on : Repeats js parts.first t = on_from_first more t run in
       let acts : acts_of rs ≡ acts_of (parts.image ++ js) =
-      ap acts_of parts.is ∙ sym (append-nil (acts_of (parts.image ++ parts.journal))) ∙ ap (λ l. acts_of (parts.image ++ parts.journal) ++ l) (sym quiet) ∙ sym (acts_of-append (parts.image ++ parts.journal) more)
+      ap acts_of parts.is ∙ sym (append-nil (acts_of (parts.image ++ parts.journal))) ∙
+      ap (λ l. acts_of (parts.image ++ parts.journal) ++ l) (sym quiet) ∙
+      sym (acts_of-append (parts.image ++ parts.journal) more)
       ∙ ap acts_of (append_assoc parts.image parts.journal more) in
-      sym (content_now rs s parts js t on over) ∙ only_content rs s parts js t on bytes other stands (ap acts_of (sym same) ∙ acts) (sym parts.is ∙ same ∙ stands.split)
+      sym (content_now rs s parts js t on over) ∙
+      only_content rs s parts js t on bytes other stands (ap acts_of (sym same) ∙ acts)
+      (sym parts.is ∙ same ∙ stands.split)

@@ -1,14 +1,17 @@
--- What each record asks of a reading: the steps of images and journals, from a progress and from all like it.
-use Rattle.std.proofs.Common.{◌≡◌, ◌⊎◌, ⊎_elim, ℕ, List, [], ◌∷◌, ◌++◌, ◌+◌, map, Bool, true, false, Ok, Option, None, Some, refl, sym, ◌∙◌, ap, subst}
+-- What each record asks of a reading: the steps of images and journals, from a progress and from
+-- all like it.
+use Rattle.std.proofs.Common.{◌≡◌, ◌⊎◌, ⊎_elim, ℕ, List, [], ◌∷◌, ◌++◌, ◌+◌, map, Bool, true, false}
+use Rattle.std.proofs.Common.{Ok, Option, None, Some, refl, sym, ◌∙◌, ap, subst}
 use Rattle.calls.specs.declared.kind.Kind.{Kind}
 use Rattle.calls.specs.declared.item.Item.{Item}
 use Rattle.calls.specs.Contents.{Collection, AnswersAt, after_at}
 use Rattle.calls.specs.Transactions.{Leads, calls_of}
 use Rattle.catalog.specs.Making.{names_of, IsNew}
 use Rattle.catalog.specs.Places.{IsWithin}
-use Rattle.catalog.specs.Loading.{Loads}
-use Rattle.catalog.proofs.OneContent.{one_content_of}
+use Rattle.catalog.specs.Holdings.{Loads}
+use Rattle.catalog.proofs.Orders.{one_content_of}
 use Rattle.record_format.specs.declared.record.Record.{Record}
+use Rattle.records.specs.Images.{IsLiveRecord}
 use Rattle.record_format.specs.declared.record.CallRecord.{CallRecord}
 use Rattle.record_format.specs.declared.record.LaterRecord.{LaterRecord}
 use Rattle.machine.specs.Machine.{Does}
@@ -16,18 +19,25 @@ use Rattle.machine.specs.Machines.{Alike, RepeatAnswers}
 use Rattle.repetition.specs.declared.stage.Stage.{Stage}
 use Rattle.loader.specs.Loading.{LoadAnswers}
 use Rattle.repetition.specs.Steps.{State, Steps}
-use Rattle.repetition.specs.Reading.{Named, Progress, InCollections, InNumbers, InCalls, InJournal, Closes, HoldsLive, Settles, Reads, ReadsLive, next_after}
-use Rattle.repetition.specs.Repetitions.{AlikeProgress, Takes, IsStuck, LiveLeads, IsNoLive, IsBegin, IsItem, progress_of, number_behind}
+use Rattle.repetition.specs.Reading.{Named, Progress, InCollections, InNumbers, InCalls, InJournal}
+use Rattle.repetition.specs.Reading.{Closes, HoldsLive, Settles, Reads, ReadsLive, next_after}
+use Rattle.repetition.specs.Repetitions.{AlikeProgress, Takes, IsStuck, LiveLeads, IsNoLive}
+use Rattle.repetition.specs.Repetitions.{IsBegin, IsItem, progress_of, number_behind}
+use Rattle.catalog.specs.Meaning.{catalog_meaning}
 
 -- ---- a collection that is told whole
 
-loads_one : (s t u v : List Collection) (name : List ℕ) (kind : Kind) (items : List Item) → u ≡ s → Loads s name kind items t → Loads u name kind items v → v ≡ t
+loads_one : (s t u v : List Collection) (name : List ℕ) (kind : Kind) (items : List Item) → u ≡ s →
+    Loads s name kind items t → Loads u name kind items v → v ≡ t
 loads_one s t u v name kind items same a b =
-    let content = one_content_of b.content a.content items (b.of_kind ∙ sym a.of_kind) b.lists a.lists in
-    b.is ∙ ap (λ l. l ++ record { name = name; content = b.content } ∷ []) same ∙ ap (λ c. s ++ record { name = name; content = c } ∷ []) content ∙ sym a.is
+    let content = one_content_of b.content a.content items (b.of_kind ∙ sym a.of_kind) b.lists
+    a.lists in
+    b.is ∙ ap (λ l. l ++ record { name = name; content = b.content } ∷ []) same ∙
+    ap (λ c. s ++ record { name = name; content = c } ∷ []) content ∙ sym a.is
 
 -- From states that are alike it leads to ones that are alike,
-pub closes_alike : (s t u v : State) (last : Option Named) → Alike u s → Closes s last t → Closes u last v → Alike v t
+pub closes_alike : (s t u v : State) (last : Option Named) → Alike u s → Closes s last t →
+    Closes u last v → Alike v t
 closes_alike s t u v None like a b = subst (λ w. Alike w t) (sym b) (subst (Alike u) (sym a) like)
 closes_alike s t u v (Some x) like a b =
     let moved : Alike (record u { now = b.next }) (record s { now = a.next }) = record {
@@ -40,7 +50,8 @@ closes_alike s t u v (Some x) like a b =
     subst (λ w. Alike w t) (sym b.is) (subst (Alike (record u { now = b.next })) (sym a.is) moved)
 
 -- and it leads on from both or from none.
-pub closes_too : (s u v : State) (last : Option Named) → Alike u s → Closes u last v → (t : State) × Closes s last t
+pub closes_too : (s u v : State) (last : Option Named) → Alike u s → Closes u last v →
+    (t : State) × Closes s last t
 closes_too s u v None like b = (s, refl)
 closes_too s u v (Some x) like b = (
   record s { now = b.next },
@@ -61,68 +72,92 @@ IsBehind (Record.Name kind name) = ⊥
 IsBehind (Record.Item i) = ⊥
 IsBehind r = Unit {0}
 
-pub is_behind : (r : Record) → ((kind : Kind) (name : List ℕ) → r ≡ Record.Name kind name → ⊥) → ((i : Item) → r ≡ Record.Item i → ⊥) → IsBehind r
+pub is_behind : (r : Record) → ((kind : Kind) (name : List ℕ) → r ≡ Record.Name kind name → ⊥) →
+    ((i : Item) → r ≡ Record.Item i → ⊥) → IsBehind r
 is_behind (Record.Name kind name) named item = named kind name refl
 is_behind (Record.Item i) named item = item i refl
 is_behind r named item = tt
 
-reads_behind : (n : ℕ) (s : State) (last : Option Named) (r : Record) (p : Progress) → IsBehind r → (t : State) × Closes s last t × ReadsLive n t r p → Reads (InCollections n s last) r p
+reads_behind : (n : ℕ) (s : State) (last : Option Named) (r : Record) (p : Progress) → IsBehind r →
+    (t : State) × Closes s last t × ReadsLive n t r p → Reads (InCollections n s last) r p
 reads_behind n s last (Record.Name kind name) p behind live = absurd behind
 reads_behind n s last (Record.Item i) p behind live = absurd behind
 reads_behind n s last r p behind live = live
 
-behind_reads : (n : ℕ) (s : State) (last : Option Named) (r : Record) (p : Progress) → IsBehind r → Reads (InCollections n s last) r p → (t : State) × Closes s last t × ReadsLive n t r p
+behind_reads : (n : ℕ) (s : State) (last : Option Named) (r : Record) (p : Progress) → IsBehind r →
+    Reads (InCollections n s last) r p → (t : State) × Closes s last t × ReadsLive n t r p
 behind_reads n s last (Record.Name kind name) p behind reads = absurd behind
 behind_reads n s last (Record.Item i) p behind reads = absurd behind
 behind_reads n s last r p behind reads = reads
 
 module _ (n : ℕ) (s : State) (last : Option Named) where
   module _ (r : Record) (behind : IsBehind r) (t : State) (closes : Closes s last t) where
-    live_alike : (b : Stage) → LiveLeads t r b n → (u v : Progress) → AlikeProgress u (InCollections n s last) → Reads u r v → AlikeProgress v (progress_of b (number_behind n r))
+    live_alike : (b : Stage) → LiveLeads t r b n → (u v : Progress) →
+        AlikeProgress u (InCollections n s last) → Reads u r v →
+        AlikeProgress v (progress_of b (number_behind n r))
     live_alike b live (InCollections m w x) v like reads =
         let there = behind_reads m w x r v behind reads in
-        let same : Alike there.0 t = closes_alike s t w there.0 last like.1 closes (subst (λ y. Closes w y there.0) like.2 there.1) in
+        let same : Alike there.0 t = closes_alike s t w there.0 last like.1 closes
+        (subst (λ y. Closes w y there.0) like.2 there.1) in
         live.alike there.0 v same (subst (λ k. ReadsLive k there.0 r v) like.0 there.2)
     live_alike b live u v like reads = absurd like
 
-    pub live_takes : (b : Stage) → LiveLeads t r b n → Takes (InCollections n s last) r (progress_of b (number_behind n r))
-    live_takes b live = record { reads = reads_behind n s last r (progress_of b (number_behind n r)) behind (t, closes, live.reads); alike = live_alike b live }
+    pub live_takes : (b : Stage) → LiveLeads t r b n →
+        Takes (InCollections n s last) r (progress_of b (number_behind n r))
+    live_takes b live = record {
+      reads = reads_behind n s last r (progress_of b (number_behind n r))
+          behind (t, closes, live.reads);
+      alike = live_alike b live;
+    }
 
     pub live_stuck : IsNoLive t r → IsStuck (InCollections n s last) r
     live_stuck none (InCollections m w x) v like reads =
         let there = behind_reads m w x r v behind reads in
-        none m there.0 v (closes_alike s t w there.0 last like.1 closes (subst (λ y. Closes w y there.0) like.2 there.1)) there.2
+        none m there.0 v (closes_alike s t w there.0 last like.1 closes
+        (subst (λ y. Closes w y there.0) like.2 there.1)) there.2
     live_stuck none u v like reads = absurd like
 
   module _ (open_still : (t : State) → Closes s last t → ⊥) where
     -- no collection alike is told whole
-    none_closes : (m : ℕ) (w t : State) (x : Option Named) → AlikeProgress (InCollections m w x) (InCollections n s last) → Closes w x t → ⊥
-    none_closes m w t x like closes = let too = closes_too s w t last like.1 (subst (λ y. Closes w y t) like.2 closes) in open_still too.0 too.1
+    none_closes : (m : ℕ) (w t : State) (x : Option Named) →
+        AlikeProgress (InCollections m w x) (InCollections n s last) → Closes w x t → ⊥
+    none_closes m w t x like closes =
+        let too = closes_too s w t last like.1 (subst (λ y. Closes w y t) like.2 closes) in
+        open_still too.0 too.1
 
     pub unclosed_stuck : (r : Record) → IsBehind r → IsStuck (InCollections n s last) r
-    unclosed_stuck r behind (InCollections m w x) v like reads = let there = behind_reads m w x r v behind reads in none_closes m w there.0 x like there.1
+    unclosed_stuck r behind (InCollections m w x) v like reads =
+        let there = behind_reads m w x r v behind reads in none_closes m w there.0 x like there.1
     unclosed_stuck r behind u v like reads = absurd like
 
-    pub unclosed_name : (kind : Kind) (name : List ℕ) → IsStuck (InCollections n s last) (Record.Name kind name)
-    unclosed_name kind name (InCollections m w x) v like reads = none_closes m w reads.0 x like reads.1
+    pub unclosed_name : (kind : Kind) (name : List ℕ) →
+        IsStuck (InCollections n s last) (Record.Name kind name)
+    unclosed_name kind name (InCollections m w x) v like reads =
+        none_closes m w reads.0 x like reads.1
     unclosed_name kind name u v like reads = absurd like
 
   module _ (kind : Kind) (name : List ℕ) (t : State) (closes : Closes s last t) where
     abbrev named : Named
     named = record { name = name; kind = kind; items = [] }
 
-    pub name_takes : IsNew (names_of t.now) name → Takes (InCollections n s last) (Record.Name kind name) (InCollections n t (Some named))
+    pub name_takes : IsNew (names_of t.now) name →
+        Takes (InCollections n s last) (Record.Name kind name) (InCollections n t (Some named))
     name_takes new = record { reads = (t, closes, new, refl); alike = alike }
       where
-        alike : (u v : Progress) → AlikeProgress u (InCollections n s last) → Reads u (Record.Name kind name) v → AlikeProgress v (InCollections n t (Some named))
+        alike : (u v : Progress) → AlikeProgress u (InCollections n s last) →
+            Reads u (Record.Name kind name) v → AlikeProgress v (InCollections n t (Some named))
         alike (InCollections m w x) v like reads =
-            let same : Alike reads.0 t = closes_alike s t w reads.0 last like.1 closes (subst (λ y. Closes w y reads.0) like.2 reads.1) in
-            subst (λ q. AlikeProgress q (InCollections n t (Some named))) (sym reads.3) (like.0, same, refl)
+            let same : Alike reads.0 t = closes_alike s t w reads.0 last like.1 closes
+            (subst (λ y. Closes w y reads.0) like.2 reads.1) in
+            subst (λ q. AlikeProgress q (InCollections n t (Some named))) (sym reads.3)
+            (like.0, same, refl)
         alike u v like reads = absurd like
 
-    pub name_stuck : (IsNew (names_of t.now) name → ⊥) → IsStuck (InCollections n s last) (Record.Name kind name)
+    pub name_stuck : (IsNew (names_of t.now) name → ⊥) →
+        IsStuck (InCollections n s last) (Record.Name kind name)
     name_stuck old (InCollections m w x) v like reads =
-        let same : Alike reads.0 t = closes_alike s t w reads.0 last like.1 closes (subst (λ y. Closes w y reads.0) like.2 reads.1) in
+        let same : Alike reads.0 t = closes_alike s t w reads.0 last like.1 closes
+        (subst (λ y. Closes w y reads.0) like.2 reads.1) in
         old (subst (λ l. IsNew (names_of l) name) same.now reads.2)
     name_stuck old u v like reads = absurd like
 
@@ -134,60 +169,81 @@ HoldsAlike s r t = (u v : State) → Alike u s → HoldsLive u r v → Alike v t
 abbrev pub HoldsNone : State → Record → Type 0
 HoldsNone s r = (u v : State) → Alike u s → HoldsLive u r v → ⊥
 
--- what a transaction that was live had asked for
-abbrev pub IsAsked : Record → Type 0
-IsAsked (Record.LiveCall c) = Unit {0}
-IsAsked (Record.LiveLater l) = Unit {0}
-IsAsked r = ⊥
+pub asked_either : (r : Record) →
+    ((c : CallRecord) × (r ≡ Record.LiveCall c)) ⊎ ((l : LaterRecord) × (r ≡ Record.LiveLater l)) →
+    IsLiveRecord r
+asked_either r either = ⊎_elim (λ (x : (c : CallRecord) × (r ≡ Record.LiveCall c)). subst
+    IsLiveRecord (sym x.1) tt) (λ (x : (l : LaterRecord) × (r ≡ Record.LiveLater l)). subst
+    IsLiveRecord (sym x.1) tt) either
 
-pub asked_either : (r : Record) → ((c : CallRecord) × (r ≡ Record.LiveCall c)) ⊎ ((l : LaterRecord) × (r ≡ Record.LiveLater l)) → IsAsked r
-asked_either r either = ⊎_elim (λ (x : (c : CallRecord) × (r ≡ Record.LiveCall c)). subst IsAsked (sym x.1) tt) (λ (x : (l : LaterRecord) × (r ≡ Record.LiveLater l)). subst IsAsked (sym x.1) tt) either
-
-begin_leads : (s t : State) (k n : ℕ) → HoldsLive s (Record.Begin k) t → HoldsAlike s (Record.Begin k) t → LiveLeads s (Record.Begin k) (Stage.Numbers t) n
+begin_leads : (s t : State) (k n : ℕ) → HoldsLive s (Record.Begin k) t →
+    HoldsAlike s (Record.Begin k) t → LiveLeads s (Record.Begin k) (Stage.Numbers t) n
 begin_leads s t k n holds alike = record {
   reads = (t, holds, refl);
-  alike = λ u v like live. subst (λ q. AlikeProgress q (progress_of (Stage.Numbers t) (number_behind n (Record.Begin k)))) (sym live.2) (refl, alike u live.0 like live.1);
+  alike = λ u v like live. subst (λ q. AlikeProgress q
+      (progress_of (Stage.Numbers t) (number_behind n (Record.Begin k)))) (sym live.2)
+      (refl, alike u live.0 like live.1);
 }
 
-pub number_leads : (s t : State) (r : Record) (k : ℕ) → r ≡ Record.Begin k → HoldsLive s r t → HoldsAlike s r t → (n : ℕ) → LiveLeads s r (Stage.Numbers t) n
+pub number_leads : (s t : State) (r : Record) (k : ℕ) → r ≡ Record.Begin k → HoldsLive s r t →
+    HoldsAlike s r t → (n : ℕ) → LiveLeads s r (Stage.Numbers t) n
 number_leads s t r k is holds alike n =
-    subst (λ q. LiveLeads s q (Stage.Numbers t) n) (sym is) (begin_leads s t k n (subst (λ q. HoldsLive s q t) is holds) (subst (λ q. HoldsAlike s q t) is alike))
+    subst (λ q. LiveLeads s q (Stage.Numbers t) n) (sym is)
+    (begin_leads s t k n (subst (λ q. HoldsLive s q t) is holds)
+    (subst (λ q. HoldsAlike s q t) is alike))
 
-pub asked_leads : (s t : State) (r : Record) → IsAsked r → HoldsLive s r t → HoldsAlike s r t → (n : ℕ) → LiveLeads s r (Stage.Calls t) n
+pub asked_leads : (s t : State) (r : Record) → IsLiveRecord r → HoldsLive s r t → HoldsAlike s r t →
+    (n : ℕ) → LiveLeads s r (Stage.Calls t) n
 asked_leads s t (Record.LiveCall c) is holds alike n = record {
   reads = (t, holds, refl);
-  alike = λ u v like live. subst (λ q. AlikeProgress q (InCalls n t)) (sym live.2) (refl, alike u live.0 like live.1);
+  alike = λ u v like live. subst (λ q. AlikeProgress q (InCalls n t)) (sym live.2)
+      (refl, alike u live.0 like live.1);
 }
 asked_leads s t (Record.LiveLater l) is holds alike n = record {
   reads = (t, holds, refl);
-  alike = λ u v like live. subst (λ q. AlikeProgress q (InCalls n t)) (sym live.2) (refl, alike u live.0 like live.1);
+  alike = λ u v like live. subst (λ q. AlikeProgress q (InCalls n t)) (sym live.2)
+      (refl, alike u live.0 like live.1);
 }
 asked_leads s t r is holds alike n = absurd is
 
-pub begin_none : (s : State) (r : Record) (k : ℕ) → r ≡ Record.Begin k → HoldsNone s r → IsNoLive s r
-begin_none s r k is none = subst (IsNoLive s) (sym is) (λ n u v like live. subst (HoldsNone s) is none u live.0 like live.1)
+pub begin_none : (s : State) (r : Record) (k : ℕ) → r ≡ Record.Begin k → HoldsNone s r →
+    IsNoLive s r
+begin_none s r k is none = subst (IsNoLive s) (sym is)
+    (λ n u v like live. subst (HoldsNone s) is none u live.0 like live.1)
 
-pub asked_none : (s : State) (r : Record) → IsAsked r → HoldsNone s r → IsNoLive s r
+pub asked_none : (s : State) (r : Record) → IsLiveRecord r → HoldsNone s r → IsNoLive s r
 asked_none s (Record.LiveCall c) is none n u v like live = none u live.0 like live.1
 asked_none s (Record.LiveLater l) is none n u v like live = none u live.0 like live.1
 asked_none s r is none n u v like live = absurd is
 
 settles_alike : (s u : State) → Alike u s → Settles u → Settles s
-settles_alike s u like settled = (settled.0, subst (λ es. Leads (Does AnswersAt after_at) (calls_of (map (λ e. e.1) es)) settled.0 s.now) like.entries (subst (λ now. Leads (Does AnswersAt after_at) (calls_of (map (λ e. e.1) u.entries)) settled.0 now) like.now settled.1))
+settles_alike s u like settled = (
+  settled.0,
+  subst (λ es. Leads (Does catalog_meaning) (calls_of (map (λ e. e.1) es)) settled.0
+      s.now) like.entries (subst (λ now. Leads (Does catalog_meaning)
+      (calls_of (map (λ e. e.1) u.entries)) settled.0 now) like.now settled.1),
+)
 
 end_leads_on : (s : State) (n : ℕ) → Settles s → LiveLeads s Record.ImageEnd (Stage.Journal s 0) n
 end_leads_on s n settled = record {
   reads = (settled, refl);
-  alike = λ u v like live. subst (λ q. AlikeProgress q (InJournal n s 0)) (sym live.1) (refl, like, refl);
+  alike = λ u v like live. subst (λ q. AlikeProgress q (InJournal n s 0)) (sym live.1)
+      (refl, like, refl);
 }
 
-pub end_leads : (s : State) (r : Record) (b : Stage) → r ≡ Record.ImageEnd → b ≡ Stage.Journal s 0 → Settles s → (n : ℕ) → LiveLeads s r b n
-end_leads s r b is stage settled n = subst (λ q. LiveLeads s q b n) (sym is) (subst (λ c. LiveLeads s Record.ImageEnd c n) (sym stage) (end_leads_on s n settled))
+pub end_leads : (s : State) (r : Record) (b : Stage) → r ≡ Record.ImageEnd → b ≡ Stage.Journal s 0 →
+    Settles s → (n : ℕ) → LiveLeads s r b n
+end_leads s r b is stage settled n =
+    subst (λ q. LiveLeads s q b n) (sym is)
+    (subst (λ c. LiveLeads s Record.ImageEnd c n) (sym stage) (end_leads_on s n settled))
 
 pub end_none : (s : State) (r : Record) → r ≡ Record.ImageEnd → (Settles s → ⊥) → IsNoLive s r
-end_none s r is unsettled = subst (IsNoLive s) (sym is) (λ n u v like live. unsettled (settles_alike s u like live.0))
+end_none s r is unsettled = subst (IsNoLive s) (sym is)
+    (λ n u v like live. unsettled (settles_alike s u like live.0))
 
-pub other_none : (s : State) (r : Record) → ((c : CallRecord) → r ≡ Record.LiveCall c → ⊥) → ((l : LaterRecord) → r ≡ Record.LiveLater l → ⊥) → (r ≡ Record.ImageEnd → ⊥) → ((k : ℕ) → r ≡ Record.Begin k → ⊥) → IsNoLive s r
+pub other_none : (s : State) (r : Record) → ((c : CallRecord) → r ≡ Record.LiveCall c → ⊥) →
+    ((l : LaterRecord) → r ≡ Record.LiveLater l → ⊥) → (r ≡ Record.ImageEnd → ⊥) →
+    ((k : ℕ) → r ≡ Record.Begin k → ⊥) → IsNoLive s r
 other_none s (Record.LiveCall c) call later end begin n u v like live = call c refl
 other_none s (Record.LiveLater l) call later end begin n u v like live = later l refl
 other_none s Record.ImageEnd call later end begin n u v like live = end refl
@@ -196,39 +252,53 @@ other_none s r call later end begin n u v like live = live
 
 -- from the numbers that were live
 module _ (n : ℕ) (s : State) (r : Record) where
-  numbers_alike : (b : Stage) → LiveLeads s r b n → (u v : Progress) → AlikeProgress u (InNumbers n s) → Reads u r v → AlikeProgress v (progress_of b (number_behind n r))
-  numbers_alike b live (InNumbers m w) v like reads = live.alike w v like.1 (subst (λ k. ReadsLive k w r v) like.0 reads)
+  numbers_alike : (b : Stage) → LiveLeads s r b n → (u v : Progress) →
+      AlikeProgress u (InNumbers n s) → Reads u r v →
+      AlikeProgress v (progress_of b (number_behind n r))
+  numbers_alike b live (InNumbers m w) v like reads =
+      live.alike w v like.1 (subst (λ k. ReadsLive k w r v) like.0 reads)
   numbers_alike b live u v like reads = absurd like
 
-  pub numbers_take : (b : Stage) → LiveLeads s r b n → Takes (InNumbers n s) r (progress_of b (number_behind n r))
+  pub numbers_take : (b : Stage) → LiveLeads s r b n →
+      Takes (InNumbers n s) r (progress_of b (number_behind n r))
   numbers_take b live = record { reads = live.reads; alike = numbers_alike b live }
 
   pub numbers_stuck : IsNoLive s r → IsStuck (InNumbers n s) r
   numbers_stuck none (InNumbers m w) v like reads = none m w v like.1 reads
   numbers_stuck none u v like reads = absurd like
 
-reads_asked : (n : ℕ) (s : State) (r : Record) (p : Progress) → (IsBegin r → ⊥) → ReadsLive n s r p → Reads (InCalls n s) r p
+reads_asked : (n : ℕ) (s : State) (r : Record) (p : Progress) → (IsBegin r → ⊥) →
+    ReadsLive n s r p → Reads (InCalls n s) r p
 reads_asked n s (Record.Begin k) p other live = absurd (other tt)
 reads_asked n s r p other live = live
 
-asked_reads : (n : ℕ) (s : State) (r : Record) (p : Progress) → Reads (InCalls n s) r p → ReadsLive n s r p
+asked_reads : (n : ℕ) (s : State) (r : Record) (p : Progress) → Reads (InCalls n s) r p →
+    ReadsLive n s r p
 asked_reads n s (Record.Begin k) p reads = absurd reads
 asked_reads n s r p reads = reads
 
 -- and from what was asked for
 module _ (n : ℕ) (s : State) (r : Record) where
-  calls_alike : (b : Stage) → LiveLeads s r b n → (u v : Progress) → AlikeProgress u (InCalls n s) → Reads u r v → AlikeProgress v (progress_of b (number_behind n r))
-  calls_alike b live (InCalls m w) v like reads = live.alike w v like.1 (subst (λ k. ReadsLive k w r v) like.0 (asked_reads m w r v reads))
+  calls_alike : (b : Stage) → LiveLeads s r b n → (u v : Progress) → AlikeProgress u (InCalls n s) →
+      Reads u r v → AlikeProgress v (progress_of b (number_behind n r))
+  calls_alike b live (InCalls m w) v like reads =
+      live.alike w v like.1 (subst (λ k. ReadsLive k w r v) like.0 (asked_reads m w r v reads))
   calls_alike b live u v like reads = absurd like
 
-  pub calls_take : (b : Stage) → (IsBegin r → ⊥) → LiveLeads s r b n → Takes (InCalls n s) r (progress_of b (number_behind n r))
-  calls_take b other live = record { reads = reads_asked n s r (progress_of b (number_behind n r)) other live.reads; alike = calls_alike b live }
+  pub calls_take : (b : Stage) → (IsBegin r → ⊥) → LiveLeads s r b n →
+      Takes (InCalls n s) r (progress_of b (number_behind n r))
+  calls_take b other live = record {
+    reads = reads_asked n s r (progress_of b (number_behind n r))
+        other live.reads;
+    alike = calls_alike b live;
+  }
 
   pub calls_stuck : IsNoLive s r → IsStuck (InCalls n s) r
   calls_stuck none (InCalls m w) v like reads = none m w v like.1 (asked_reads m w r v reads)
   calls_stuck none u v like reads = absurd like
 
-begin_refused : (n m : ℕ) (w : State) (r : Record) (v : Progress) → IsBegin r → Reads (InCalls m w) r v → ⊥
+begin_refused : (n m : ℕ) (w : State) (r : Record) (v : Progress) → IsBegin r →
+    Reads (InCalls m w) r v → ⊥
 begin_refused n m w (Record.Begin k) v is reads = reads
 begin_refused n m w r v is reads = absurd is
 
@@ -243,10 +313,14 @@ same_number n (Record.Marks k wear) s t step = absurd step
 same_number n r s t step = refl
 
 module _ (n : ℕ) (s : State) (count : ℕ) (r : Record) where
-  pub step_takes : (t : State) → Steps s r t → ((u v : State) → Alike u s → Steps u r v → Alike v t) → Takes (InJournal n s count) r (InJournal (number_behind n r) t (count + 1))
-  step_takes t step alike = subst (λ k. Takes (InJournal n s count) r (InJournal k t (count + 1))) (sym (same_number n r s t step)) (record { reads = (t, step, refl); alike = goes })
+  pub step_takes : (t : State) → Steps s r t →
+      ((u v : State) → Alike u s → Steps u r v → Alike v t) →
+      Takes (InJournal n s count) r (InJournal (number_behind n r) t (count + 1))
+  step_takes t step alike = subst (λ k. Takes (InJournal n s count) r (InJournal k t (count + 1)))
+      (sym (same_number n r s t step)) (record { reads = (t, step, refl); alike = goes })
     where
-      goes : (u v : Progress) → AlikeProgress u (InJournal n s count) → Reads u r v → AlikeProgress v (InJournal (next_after n r) t (count + 1))
+      goes : (u v : Progress) → AlikeProgress u (InJournal n s count) → Reads u r v →
+          AlikeProgress v (InJournal (next_after n r) t (count + 1))
       goes (InJournal m w j) v like reads =
           subst (λ q. AlikeProgress q (InJournal (next_after n r) t (count + 1))) (sym reads.2)
           (ap (λ k. next_after k r) like.0, alike w reads.0 like.1 reads.1, ap (λ k. k + 1) like.2)
@@ -261,15 +335,20 @@ item_steps s t (Record.Item i) is step = step
 item_steps s t r is step = absurd is
 
 -- a step that was taken, or none
-pub answer_true : (s t : State) (r : Record) (b : Bool) → b ≡ true → RepeatAnswers Steps s r (Ok b) t → Steps s r t × ((u v : State) → Alike u s → Steps u r v → Alike v t)
+pub answer_true : (s t : State) (r : Record) (b : Bool) → b ≡ true →
+    RepeatAnswers Steps s r (Ok b) t →
+    Steps s r t × ((u v : State) → Alike u s → Steps u r v → Alike v t)
 answer_true s t r b is answers = subst (λ x. RepeatAnswers Steps s r (Ok x) t) is answers
 
-pub answer_false : (s t : State) (r : Record) (b : Bool) → b ≡ false → RepeatAnswers Steps s r (Ok b) t → (u v : State) → Alike u s → Steps u r v → ⊥
+pub answer_false : (s t : State) (r : Record) (b : Bool) → b ≡ false →
+    RepeatAnswers Steps s r (Ok b) t → (u v : State) → Alike u s → Steps u r v → ⊥
 answer_false s t r b is answers = (subst (λ x. RepeatAnswers Steps s r (Ok x) t) is answers).1
 
 -- a collection that was loaded, or that cannot be
-pub load_true : (loads : State → Type 0) (s t : State) (b : Bool) → b ≡ true → LoadAnswers loads s (Ok b) t → loads t
+pub load_true : (loads : State → Type 0) (s t : State) (b : Bool) → b ≡ true →
+    LoadAnswers loads s (Ok b) t → loads t
 load_true loads s t b is answers = subst (λ x. LoadAnswers loads s (Ok x) t) is answers
 
-pub load_false : (loads : State → Type 0) (s t : State) (b : Bool) → b ≡ false → LoadAnswers loads s (Ok b) t → (v : State) → loads v → ⊥
+pub load_false : (loads : State → Type 0) (s t : State) (b : Bool) → b ≡ false →
+    LoadAnswers loads s (Ok b) t → (v : State) → loads v → ⊥
 load_false loads s t b is answers = (subst (λ x. LoadAnswers loads s (Ok x) t) is answers).1

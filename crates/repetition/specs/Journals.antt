@@ -1,6 +1,8 @@
--- What the bytes of a disk stand for: by the grammar of blocks and records, and by transactions run whole. No need, no inverse and no
+-- What the bytes of a disk stand for: by the grammar of blocks and records, and by transactions run
+-- whole. No need, no inverse and no
 -- machine is named.
-use Rattle.std.specs.Prelude.{◌≡◌, ℕ, ◌+◌, ◌*◌, ◌≤◌, ◌^◌, List, [], ◌∷◌, ◌++◌, length, take, drop, map, get_or, codes, Option, None}
+use Rattle.std.specs.Prelude.{◌≡◌, ℕ, ◌+◌, ◌*◌, ◌≤◌, ◌^◌, List, [], ◌∷◌, ◌++◌, length, take, drop}
+use Rattle.std.specs.Prelude.{map, get_or, codes, Option, None}
 use Rattle.std.specs.List.{flat_map, AllByRecursion}
 use Rattle.std.specs.Int.{w64, to_be_bytes}
 use Rattle.calls.specs.declared.kind.Kind.{Kind}
@@ -26,7 +28,8 @@ pub record IsHeader (size : ℕ) (bytes : List ℕ) : Type 0 where
 abbrev pub records_in : List (List Record) → List Record
 records_in blocks = flat_map (λ rs. rs) blocks
 
--- Records one after another that have a spelling, each item of them of the kind that was named last.
+-- Records one after another that have a spelling, each item of them of the kind that was named
+-- last.
 abbrev pub AreSpelt : Option Kind → List Record → Type 0
 AreSpelt last [] = Unit {0}
 AreSpelt last (r ∷ rs) = (Fits r × Suits last r) × AreSpelt (named_by last r) rs
@@ -49,8 +52,10 @@ IsJournalRecord (Record.Ended n) = Unit {0}
 IsJournalRecord (Record.Begin n) = Unit {0}
 IsJournalRecord r = ⊥
 
--- The bytes stand for the content: the area in use is an image and a journal; from some content the live calls of the image lead to
--- the image's, and from it the transactions that image and journal show as committed lead, each run whole, to the content.
+-- The bytes stand for the content: the area in use is an image and a journal; from some content the
+-- live calls of the image lead to
+-- the image's, and from it the transactions that image and journal show as committed lead, each run
+-- whole, to the content.
 pub record StandsFor (bytes : List ℕ) (content : List Collection) : Type 0 where
   pub blocks : List (List Record)
   pub holds : Holds bytes blocks

@@ -1,4 +1,5 @@
--- A state behind another one: what an image keeps of a book, and what the records that follow make of it.
+-- A state behind another one: what an image keeps of a book, and what the records that follow make
+-- of it.
 use Rattle.std.specs.Prelude.{◌≡◌, ◌↔◌, ◌⊎◌, ℕ, List, [], ◌∷◌, Contains}
 use Rattle.std.specs.FinMap as maps
 use Rattle.calls.specs.Transactions.{Entry, Asked, PutOff}
@@ -14,9 +15,11 @@ IsInVain live (n, PutOff at call) = Falls live n
 -- The first list is the second without some of what is there in vain.
 abbrev pub IsThinned : Statuses → List (ℕ × Entry) → List (ℕ × Entry) → Type 0
 IsThinned live few [] = few ≡ []
-IsThinned live few (e ∷ all) = (IsInVain live e × IsThinned live few all) ⊎ ((rest : List (ℕ × Entry)) × (few ≡ e ∷ rest) × IsThinned live rest all)
+IsThinned live few (e ∷ all) = (IsInVain live e × IsThinned live few all) ⊎
+    ((rest : List (ℕ × Entry)) × (few ≡ e ∷ rest) × IsThinned live rest all)
 
--- The first state lags behind the second. The same transactions are live, but one may be falling in the second alone; some of what falling ones put
+-- The first state lags behind the second. The same transactions are live, but one may be falling in
+-- the second alone; some of what falling ones put
 -- off, and some of the needs held, may be missing.
 pub record Lags (s t : State) : Type 0 where
   pub now : s.now ≡ t.now

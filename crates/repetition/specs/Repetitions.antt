@@ -7,7 +7,7 @@ use Rattle.calls.specs.declared.kind.Kind.{Kind}
 use Rattle.calls.specs.declared.refusal.Refusal.{Refusal}
 use Rattle.calls.specs.Names.{IsName}
 use Rattle.calls.specs.Transactions.{Leads}
-use Rattle.catalog.specs.Loading.{AreInOrder}
+use Rattle.catalog.specs.Holdings.{AreInOrder}
 use Rattle.record_format.specs.declared.record.Record.{Record}
 use Rattle.record_format.specs.Records.{IsRecord}
 use Rattle.record_format.specs.Short.{IsShortItem}
@@ -15,7 +15,8 @@ use Rattle.machine.specs.Machines.{Alike}
 use Rattle.repetition.specs.declared.stage.Stage.{Stage}
 use Rattle.repetition.specs.declared.stage.Told.{Told}
 use Rattle.repetition.specs.Steps.{State}
-use Rattle.repetition.specs.Reading.{Named, Progress, Unread, InCollections, InNumbers, InCalls, InJournal, Reads, ReadsLive, next_after}
+use Rattle.repetition.specs.Reading.{Named, Progress, Unread, InCollections, InNumbers, InCalls}
+use Rattle.repetition.specs.Reading.{InJournal, Reads, ReadsLive, next_after}
 
 -- The same progress, but for the order in which the needs are kept.
 abbrev pub AlikeProgress : Progress → Progress → Type 0
@@ -31,7 +32,8 @@ pub record LeadsTo (rs : List Record) (p : Progress) : Type 0 where
   pub leads : Leads Reads rs Unread p
   pub only : (q : Progress) → Leads Reads rs Unread q → AlikeProgress q p
 
--- The record leads from the one to the other, and from each progress like the one to one like the other.
+-- The record leads from the one to the other, and from each progress like the one to one like the
+-- other.
 pub record Takes (p : Progress) (r : Record) (q : Progress) : Type 0 where
   pub reads : Reads p r q
   pub alike : (u v : Progress) → AlikeProgress u p → Reads u r v → AlikeProgress v q
@@ -45,7 +47,8 @@ IsStuck p r = (u v : Progress) → AlikeProgress u p → Reads u r v → ⊥
 abbrev pub named_of : Told → Named
 named_of x = record { name = x.name; kind = x.kind; items = x.items.items }
 
--- The collection of which an image tells now has a good name, and items in order that have a spelling.
+-- The collection of which an image tells now has a good name, and items in order that have a
+-- spelling.
 pub record IsTold (x : Told) : Type 0 where
   pub name : IsName x.name
   pub short : AllByRecursion IsShortItem x.items.items
@@ -82,10 +85,12 @@ LeadsOn a r b = (n : ℕ) → Takes (progress_of a n) r (progress_of b (number_b
 abbrev pub IsNoStep : Stage → Record → Type 0
 IsNoStep a r = (n : ℕ) → IsStuck (progress_of a n) r
 
--- A record of what was live, or the image's end, leads on from the state where all collections are told;
+-- A record of what was live, or the image's end, leads on from the state where all collections are
+-- told;
 pub record LiveLeads (s : State) (r : Record) (b : Stage) (n : ℕ) : Type 0 where
   pub reads : ReadsLive n s r (progress_of b (number_behind n r))
-  pub alike : (u : State) (v : Progress) → Alike u s → ReadsLive n u r v → AlikeProgress v (progress_of b (number_behind n r))
+  pub alike : (u : State) (v : Progress) → Alike u s → ReadsLive n u r v →
+      AlikeProgress v (progress_of b (number_behind n r))
 
 -- or nowhere.
 abbrev pub IsNoLive : State → Record → Type 0

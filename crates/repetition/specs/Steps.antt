@@ -2,13 +2,13 @@
 use Rattle.std.specs.Prelude.{List, []}
 use Rattle.calls.specs.Contents.{Collection, AnswersAt, after_at}
 use Rattle.calls.specs.Transactions.{Leads, Makes}
-use Rattle.calls.specs.Needs.{need_of}
-use Rattle.calls.specs.Inverses.{inverse_of}
+use Rattle.calls.specs.Rules.{need_of, inverse_of}
 use Rattle.catalog.specs.Places.{Belongs}
 use Rattle.catalog.specs.Making.{names_of}
 use Rattle.record_format.specs.declared.record.Record.{Record}
 use Rattle.machine.specs.Machine as machine
 use Rattle.machine.specs.Machines.{resting}
+use Rattle.catalog.specs.Meaning.{catalog_meaning, catalog_making}
 
 -- the collections with the live transactions on them
 abbrev pub State : Type 0
@@ -16,7 +16,7 @@ State = machine.State (List Collection)
 
 -- The record leads from s to t.
 abbrev pub Steps : State → Record → State → Type 0
-Steps s r t = machine.Steps AnswersAt after_at Belongs names_of Makes need_of inverse_of s r t
+Steps s r t = machine.Steps catalog_meaning catalog_making s r t
 
 -- The records lead from s to t, one after another.
 abbrev pub Repeats : List Record → State → State → Type 0

@@ -1,5 +1,6 @@
 // The records of an area, read at each stage: what each of them asks.
-ghost use Rattle.std.specs.Prelude.{◌≡◌, ◌≤◌, ◌<◌, ◌+◌, ◌^◌, ℕ, IfOk, IfErr, None, Some, IsTrue, ◌↔◌};
+ghost use Rattle.std.specs.Prelude.{◌≡◌, ◌≤◌, ◌<◌, ◌+◌, ◌^◌, ℕ, IfOk, IfErr, None, Some, IsTrue};
+ghost use Rattle.std.specs.Prelude.{◌↔◌};
 ghost use Rattle.std.specs.FinMap as maps;
 ghost use Rattle.std.specs.Option.{option_map};
 ghost use Rattle.calls.specs.Names.{IsName};
@@ -11,7 +12,9 @@ ghost use Rattle.machine.specs.Machines.{Alike};
 ghost use Rattle.repetition.specs.declared.stage.Stage.{Stage};
 ghost use Rattle.repetition.specs.Steps.{State};
 ghost use Rattle.repetition.specs.Reading.{Closes, HoldsLive, Settles};
-ghost use Rattle.repetition.specs.Repetitions.{LeadsOn, IsNoStep, LiveLeads, IsNoLive, IsDamageOr, IsBegin, IsItem, IsSomeRecord, IsTold, IsFit, count_of, named_of};
+ghost use Rattle.repetition.specs.Repetitions.{LeadsOn, IsNoStep, LiveLeads, IsNoLive, IsDamageOr};
+ghost use Rattle.repetition.specs.Repetitions.{IsBegin, IsItem, IsSomeRecord, IsTold, IsFit};
+ghost use Rattle.repetition.specs.Repetitions.{count_of, named_of};
 
 use crate::stage::{Collections, Stage, Told};
 use calls::limits::{MAX_COLLECTIONS, MAX_WEAR};
@@ -23,7 +26,8 @@ use records::{Record, is_reached};
 use std::alloc::Global;
 
 impl Stage {
-    /// Reads one record at this stage. Refused Damaged with the place that was handed in, or NoMemory.
+    /// Reads one record at this stage. Refused Damaged with the place that was handed in, or
+    /// NoMemory.
     pub fn read(self, alloc: Global, entry: Record, place: u64) -> Result<Stage, Refusal>
         requires fit { IsFit self }
         requires good { IsSomeRecord entry }
@@ -88,9 +92,11 @@ impl Collections {
     // The collections, once that of which the image tells now is whole.
     fn close(self, place: u64) -> Result<Loader<Catalog>, Refusal>
         requires { IsFit (Stage.Collections self) }
-        ensures ok { IfOk result (λ loader. Closes self.loader (option_map named_of self.last) loader) }
+        ensures ok { IfOk result (λ loader. Closes self.loader (option_map named_of self.last)
+            loader) }
         ensures quiet { IfOk result (λ loader. loader.live ≡ maps.empty) }
-        ensures err { IfErr result (IsDamageOr place ((t : State) → Closes self.loader (option_map named_of self.last) t → ⊥)) }
+        ensures err { IfErr result (IsDamageOr place
+            ((t : State) → Closes self.loader (option_map named_of self.last) t → ⊥)) }
     {
         let Self { loader, last } = self;
         match last {
@@ -106,7 +112,8 @@ impl Collections {
         ensures ok { IfOk result (LeadsOn (Stage.Collections self) (Record.Name kind name)) }
         ensures fit { IfOk result IsFit }
         ensures few { IfOk result (λ stage. count_of stage ≡ 0) }
-        ensures err { IfErr result (IsDamageOr place (IsNoStep (Stage.Collections self) (Record.Name kind name))) }
+        ensures err { IfErr result (IsDamageOr place
+            (IsNoStep (Stage.Collections self) (Record.Name kind name))) }
     {
         let loader = self.close(place)?;
         if !is_new(loader.parts(), name.as_str()) {
@@ -129,7 +136,8 @@ impl Collections {
         ensures ok { IfOk result (LeadsOn (Stage.Collections self) (Record.Item item)) }
         ensures fit { IfOk result IsFit }
         ensures few { IfOk result (λ stage. count_of stage ≡ 0) }
-        ensures err { IfErr result (IsDamageOr place (IsNoStep (Stage.Collections self) (Record.Item item))) }
+        ensures err { IfErr result (IsDamageOr place
+            (IsNoStep (Stage.Collections self) (Record.Item item))) }
     {
         let Self { loader, last } = self;
         let Some(mut told) = last else {
@@ -163,7 +171,8 @@ fn load(mut loader: Loader<Catalog>, told: Told, place: u64) -> Result<Loader<Ca
     requires told { IsTold told }
     ensures ok { IfOk result (Closes loader (Some (named_of told))) }
     ensures quiet { IfOk result (λ now. now.live ≡ maps.empty) }
-    ensures err { IfErr result (IsDamageOr place ((t : State) → Closes loader (Some (named_of told)) t → ⊥)) }
+    ensures err { IfErr result (IsDamageOr place
+        ((t : State) → Closes loader (Some (named_of told)) t → ⊥)) }
 {
     let Told { name, kind, items } = told;
     let loaded = loader.load(name.as_str(), kind, items);
@@ -224,8 +233,10 @@ fn read_asked(loader: Loader<Catalog>, entry: Record, place: u64) -> Result<Stag
 fn hold(mut loader: Loader<Catalog>, entry: Record, place: u64) -> Result<Loader<Catalog>, Refusal>
     requires { IsRecord None entry }
     ensures ok { IfOk result (HoldsLive loader entry) }
-    ensures alike { IfOk result (λ now. (u v : State) → Alike u loader → HoldsLive u entry v → Alike v now) }
-    ensures err { IfErr result (IsDamageOr place ((u v : State) → Alike u loader → HoldsLive u entry v → ⊥)) }
+    ensures alike { IfOk result (λ now. (u v : State) → Alike u loader → HoldsLive u entry v →
+        Alike v now) }
+    ensures err { IfErr result (IsDamageOr place
+        ((u v : State) → Alike u loader → HoldsLive u entry v → ⊥)) }
 {
     match loader.hold(entry) {
         Ok(true) => Ok(loader),

@@ -1,13 +1,16 @@
 // The records of an area, read one after another: an image, and a journal behind it.
-ghost use Rattle.std.specs.Prelude.{◌≡◌, ◌≤◌, ◌<◌, ◌+◌, ◌^◌, ℕ, List, ◌++◌, length, IfOk, IfErr, Option, None};
+ghost use Rattle.std.specs.Prelude.{◌≡◌, ◌≤◌, ◌<◌, ◌+◌, ◌^◌, ℕ, List, ◌++◌, length, IfOk, IfErr};
+ghost use Rattle.std.specs.Prelude.{Option, None};
 ghost use Rattle.calls.specs.declared.kind.Kind.{Kind};
 ghost use Rattle.calls.specs.Transactions.{Leads};
 ghost use Rattle.record_format.specs.declared.record.Record.{Record};
 ghost use Rattle.record_format.specs.Records.{spelling, IsRecord, AreRecords, named_by};
 ghost use Rattle.repetition.specs.declared.stage.Stage.{Stage};
 ghost use Rattle.repetition.specs.Steps.{State};
-ghost use Rattle.repetition.specs.Reading.{Progress, Unread, InJournal, Reads, AreAccepted, last_named};
-ghost use Rattle.repetition.specs.Repetitions.{LeadsTo, Takes, IsStuck, IsDamageOr, IsSomeRecord, IsFit, progress_of, count_of, number_behind};
+ghost use Rattle.repetition.specs.Reading.{Progress, Unread, InJournal, Reads, AreAccepted};
+ghost use Rattle.repetition.specs.Reading.{last_named};
+ghost use Rattle.repetition.specs.Repetitions.{LeadsTo, Takes, IsStuck, IsDamageOr, IsSomeRecord};
+ghost use Rattle.repetition.specs.Repetitions.{IsFit, progress_of, count_of, number_behind};
 
 use crate::stage::Stage;
 use calls::{Kind, Refusal};
@@ -51,18 +54,24 @@ impl Repetition {
         }
     }
 
-    /// Reads the records of a block's body, one behind another. Refused Damaged with the place that was handed in, or
+    /// Reads the records of a block's body, one behind another. Refused Damaged with the place that
+    /// was handed in, or
     /// NoMemory.
     pub fn read_body(self, alloc: Global, body: &[u8], place: u64) -> Result<Self, Refusal>
         requires fit { IsFit self.stage }
         requires few { count_of self.stage + length body.now < 2 ^ 64 }
-        ensures ok { IfOk result (λ now. (rs : List Record) → LeadsTo rs (progress_of self.stage self.next) →
-            (group : List Record) × AreRecords self.kind group × (body.now ≡ spelling group) × (now.kind ≡ last_named self.kind group)
+        ensures ok { IfOk result (λ now. (rs : List Record) →
+            LeadsTo rs (progress_of self.stage self.next) →
+            (group : List Record) × AreRecords self.kind group × (body.now ≡ spelling group) ×
+            (now.kind ≡ last_named self.kind group)
             × LeadsTo (rs ++ group) (progress_of now.stage now.next)) }
         ensures fit { IfOk result (λ now. IsFit now.stage) }
-        ensures few { IfOk result (λ now. count_of now.stage ≤ count_of self.stage + length body.now) }
-        ensures err { IfErr result (IsDamageOr place ((rs group : List Record) → LeadsTo rs (progress_of self.stage self.next) →
-            AreRecords self.kind group → body.now ≡ spelling group → (q : Progress) → Leads Reads (rs ++ group) Unread q → ⊥)) }
+        ensures few { IfOk result (λ now. count_of now.stage ≤ count_of self.stage + length
+            body.now) }
+        ensures err { IfErr result (IsDamageOr place
+            ((rs group : List Record) → LeadsTo rs (progress_of self.stage self.next) →
+            AreRecords self.kind group → body.now ≡ spelling group → (q : Progress) →
+            Leads Reads (rs ++ group) Unread q → ⊥)) }
     {
         let mut so_far = self;
         let mut rest = body;
@@ -83,8 +92,10 @@ impl Repetition {
 
     /// What the area leads to. Refused Damaged with the place where no image stood whole.
     pub fn finish(self, place: u64) -> Result<Repeated, Refusal>
-        ensures ok { IfOk result (λ all. progress_of self.stage self.next ≡ InJournal all.next all.machine all.count) }
-        ensures err { IfErr result (IsDamageOr place ((rs : List Record) → LeadsTo rs (progress_of self.stage self.next) →
+        ensures ok { IfOk result (λ all. progress_of self.stage self.next ≡
+            InJournal all.next all.machine all.count) }
+        ensures err { IfErr result (IsDamageOr place
+            ((rs : List Record) → LeadsTo rs (progress_of self.stage self.next) →
             (next : ℕ) (s : State) (count : ℕ) → AreAccepted rs next s count → ⊥)) }
     {
         let Self { stage, next, .. } = self;
@@ -106,11 +117,13 @@ impl Repetition {
         requires fit { IsFit self.stage }
         requires good { IsRecord self.kind entry }
         requires few { count_of self.stage + 1 < 2 ^ 64 }
-        ensures ok { IfOk result (λ now. Takes (progress_of self.stage self.next) entry (progress_of now.stage now.next)) }
+        ensures ok { IfOk result (λ now. Takes (progress_of self.stage self.next) entry
+            (progress_of now.stage now.next)) }
         ensures kind { IfOk result (λ now. now.kind ≡ named_by self.kind entry) }
         ensures fit { IfOk result (λ now. IsFit now.stage) }
         ensures few { IfOk result (λ now. count_of now.stage ≤ count_of self.stage + 1) }
-        ensures err { IfErr result (IsDamageOr place (IsStuck (progress_of self.stage self.next) entry)) }
+        ensures err { IfErr result (IsDamageOr place
+            (IsStuck (progress_of self.stage self.next) entry)) }
     {
         let Self { stage, next, kind } = self;
         let next = number_after(next, &entry);

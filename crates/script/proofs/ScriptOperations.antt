@@ -1,17 +1,23 @@
 -- What a line asks of a collection is told by its verb.
-use Rattle.std.proofs.Common.{◌≡◌, ◌≢◌, ℕ, ◌<◌, ◌==◌, ◌&&◌, not, if◌then◌else◌, Bool, true, false, List, [], ◌∷◌, ◌++◌, All, Option, Some, None, MatchOption, IfSome, IfNone, IfOk, Result, Ok, Err, inl, inr, refl, sym, ◌∙◌, subst, ap, codes, get_or, zero, suc, length, arith}
+use Rattle.std.proofs.Common.{◌≡◌, ◌≢◌, ℕ, ◌<◌, ◌==◌, ◌&&◌, not, if◌then◌else◌, Bool, true, false}
+use Rattle.std.proofs.Common.{List, [], ◌∷◌, ◌++◌, All, Option, Some, None, MatchOption, IfSome}
+use Rattle.std.proofs.Common.{IfNone, IfOk, Result, Ok, Err, inl, inr, refl, sym, ◌∙◌, subst, ap}
+use Rattle.std.proofs.Common.{codes, get_or, zero, suc, length, arith}
 use Rattle.std.proofs.lemmas.Bool.{eq-eqb, true≢false}
 use Rattle.std.specs.List.{AllByRecursion}
 use Rattle.std.specs.Fmt.{decimal}
 use Rattle.calls.specs.declared.call.Call.{Call}
 use Rattle.script.specs.declared.action.Operation.{Operation}
 use Rattle.script.specs.declared.operations.Verb.{Verb}
-use Rattle.script.specs.ScriptTexts.{CanBeDone, verb_text, said, said_text, operation_text, value_text, HasArguments, IsKeyed, IsKey}
+use Rattle.script.specs.ScriptTexts.{CanBeDone, verb_text, said, said_text, operation_text}
+use Rattle.script.specs.ScriptTexts.{value_text, HasArguments, IsKeyed, IsKey}
 use Rattle.script.proofs.ScriptWords.{not_whole, same_split, decimal_whole}
 
 -- ---- what stands behind a verb
 
-fits : (v w : Verb) (a b : List ℕ) → ◌≡◌ {A = Option (Verb × Option (List ℕ))} (Some (v, Some a)) (Some (w, Some b)) → HasArguments v a → HasArguments w b
+fits : (v w : Verb) (a b : List ℕ) →
+    ◌≡◌ {A = Option (Verb × Option (List ℕ))} (Some (v, Some a)) (Some (w, Some b)) →
+    HasArguments v a → HasArguments w b
 fits v w a b same has =
     let pair : ◌≡◌ {A = Verb × Option (List ℕ)} (v, Some a) (w, Some b) = cc in
     let some : Some a ≡ Some b = ap (λ (x : Verb × Option (List ℕ)). x.1) pair in
@@ -19,29 +25,40 @@ fits v w a b same has =
     let behind : a ≡ b = cc in
     subst (λ u. HasArguments u b) verb (subst (HasArguments v) behind has)
 
-one_of_two : (v w : Verb) (a : List ℕ) → ◌≡◌ {A = Option (Verb × Option (List ℕ))} (Some (v, None)) (Some (w, Some a)) → ⊥
+one_of_two : (v w : Verb) (a : List ℕ) →
+    ◌≡◌ {A = Option (Verb × Option (List ℕ))} (Some (v, None)) (Some (w, Some a)) → ⊥
 one_of_two v w a same =
     let pair : ◌≡◌ {A = Verb × Option (List ℕ)} (v, None) (w, Some a) = cc in
     let none : None ≡ Some a = ap (λ (x : Verb × Option (List ℕ)). x.1) pair in
     cc
 
-pub said_has : (o : Operation) (v : Verb) (args : List ℕ) → CanBeDone o → said o ≡ Some (v, Some args) → HasArguments v args
-said_has (Operation.Remove k) v args can same = fits Verb.Remove v (decimal k) args same (k, can, refl)
-said_has (Operation.Call (Call.Contains x)) v args can same = fits Verb.Contains v (decimal x) args same (x, can, refl)
-said_has (Operation.Call (Call.SetAdd x)) v args can same = fits Verb.Add v (decimal x) args same (inl (x, can, refl))
+pub said_has : (o : Operation) (v : Verb) (args : List ℕ) → CanBeDone o →
+    said o ≡ Some (v, Some args) → HasArguments v args
+said_has (Operation.Remove k) v args can same =
+    fits Verb.Remove v (decimal k) args same (k, can, refl)
+said_has (Operation.Call (Call.Contains x)) v args can same =
+    fits Verb.Contains v (decimal x) args same (x, can, refl)
+said_has (Operation.Call (Call.SetAdd x)) v args can same =
+    fits Verb.Add v (decimal x) args same (inl (x, can, refl))
 said_has (Operation.Call (Call.SetRemove x)) v args can same = absurd can
-said_has (Operation.Call (Call.Get k)) v args can same = fits Verb.Get v (decimal k) args same (k, can, refl)
-said_has (Operation.Call (Call.Put k b)) v args can same = fits Verb.Put v (decimal k ++ 32 ∷ value_text b) args same (k, b, can.0, can.1, refl)
+said_has (Operation.Call (Call.Get k)) v args can same =
+    fits Verb.Get v (decimal k) args same (k, can, refl)
+said_has (Operation.Call (Call.Put k b)) v args can same =
+    fits Verb.Put v (decimal k ++ 32 ∷ value_text b) args same (k, b, can.0, can.1, refl)
 said_has (Operation.Call (Call.MapRemove k)) v args can same = absurd can
-said_has (Operation.Call (Call.Ceiling k)) v args can same = fits Verb.Ceiling v (decimal k) args same (k, can, refl)
-said_has (Operation.Call (Call.QueueAdd p g)) v args can same = fits Verb.Add v (decimal p ++ 32 ∷ decimal g) args same (inr (p, g, can.0, can.1, refl))
+said_has (Operation.Call (Call.Ceiling k)) v args can same =
+    fits Verb.Ceiling v (decimal k) args same (k, can, refl)
+said_has (Operation.Call (Call.QueueAdd p g)) v args can same =
+    fits Verb.Add v (decimal p ++ 32 ∷ decimal g) args same (inr (p, g, can.0, can.1, refl))
 said_has (Operation.Call Call.Take) v args can same = absurd (one_of_two Verb.Take v args same)
 said_has (Operation.Call Call.Least) v args can same = absurd (one_of_two Verb.Least v args same)
 said_has (Operation.Call (Call.Pluck p g)) v args can same = absurd can
-said_has (Operation.Call (Call.Bump n)) v args can same = fits Verb.Bump v _ args same (n, can, refl)
+said_has (Operation.Call (Call.Bump n)) v args can same =
+    fits Verb.Bump v _ args same (n, can, refl)
 said_has (Operation.Call Call.Read) v args can same = absurd (one_of_two Verb.Read v args same)
 said_has (Operation.Call Call.Draw) v args can same = absurd (one_of_two Verb.Draw v args same)
-said_has (Operation.Call (Call.Release x)) v args can same = fits Verb.Release v (decimal x) args same (x, can, refl)
+said_has (Operation.Call (Call.Release x)) v args can same =
+    fits Verb.Release v (decimal x) args same (x, can, refl)
 said_has (Operation.Call (Call.Free x)) v args can same = absurd can
 
 -- the verbs that stand alone
@@ -52,12 +69,14 @@ IsAlone Verb.Read = Unit {0}
 IsAlone Verb.Draw = Unit {0}
 IsAlone v = ⊥
 
-lone : (v w : Verb) → ◌≡◌ {A = Option (Verb × Option (List ℕ))} (Some (v, None)) (Some (w, None)) → IsAlone v → IsAlone w
+lone : (v w : Verb) → ◌≡◌ {A = Option (Verb × Option (List ℕ))} (Some (v, None)) (Some (w, None)) →
+    IsAlone v → IsAlone w
 lone v w same is =
     let pair : ◌≡◌ {A = Verb × Option (List ℕ)} (v, None) (w, None) = cc in
     subst IsAlone (ap (λ (x : Verb × Option (List ℕ)). x.0) pair) is
 
-two_of_one : (v w : Verb) (a : List ℕ) → ◌≡◌ {A = Option (Verb × Option (List ℕ))} (Some (v, Some a)) (Some (w, None)) → ⊥
+two_of_one : (v w : Verb) (a : List ℕ) →
+    ◌≡◌ {A = Option (Verb × Option (List ℕ))} (Some (v, Some a)) (Some (w, None)) → ⊥
 two_of_one v w a same =
     let pair : ◌≡◌ {A = Verb × Option (List ℕ)} (v, Some a) (w, None) = cc in
     let none : Some a ≡ None = ap (λ (x : Verb × Option (List ℕ)). x.1) pair in
@@ -65,7 +84,8 @@ two_of_one v w a same =
 
 pub said_alone : (o : Operation) (v : Verb) → CanBeDone o → said o ≡ Some (v, None) → IsAlone v
 said_alone (Operation.Remove k) v can same = absurd (two_of_one Verb.Remove v _ same)
-said_alone (Operation.Call (Call.Contains x)) v can same = absurd (two_of_one Verb.Contains v _ same)
+said_alone (Operation.Call (Call.Contains x)) v can same =
+    absurd (two_of_one Verb.Contains v _ same)
 said_alone (Operation.Call (Call.SetAdd x)) v can same = absurd (two_of_one Verb.Add v _ same)
 said_alone (Operation.Call (Call.SetRemove x)) v can same = absurd can
 said_alone (Operation.Call (Call.Get k)) v can same = absurd (two_of_one Verb.Get v _ same)
@@ -85,7 +105,8 @@ said_alone (Operation.Call (Call.Free x)) v can same = absurd can
 -- ---- one key, and two words
 
 -- behind the other verbs stands one key, or nothing can stand
-pub keyed_has : (v : Verb) (text : List ℕ) → (v ≡ Verb.Add → ⊥) → (v ≡ Verb.Put → ⊥) → (v ≡ Verb.Bump → ⊥) → HasArguments v text → IsKeyed v × IsKey text
+pub keyed_has : (v : Verb) (text : List ℕ) → (v ≡ Verb.Add → ⊥) → (v ≡ Verb.Put → ⊥) →
+    (v ≡ Verb.Bump → ⊥) → HasArguments v text → IsKeyed v × IsKey text
 keyed_has Verb.Contains text a p b has = (tt, has)
 keyed_has Verb.Add text a p b has = absurd (a refl)
 keyed_has Verb.Remove text a p b has = (tt, has)
@@ -100,27 +121,38 @@ keyed_has Verb.Draw text a p b has = absurd has
 keyed_has Verb.Release text a p b has = (tt, has)
 
 -- what is found of a key is found of the verb with it
-pub on_key_gives : (found : Option Operation) (v : Verb) (key : ℕ) (text : List ℕ) → (v ≡ Verb.Add → ⊥) → (v ≡ Verb.Put → ⊥) → (v ≡ Verb.Bump → ⊥) → text ≡ decimal key →
-    IfSome found (λ o. CanBeDone o × (said o ≡ Some (v, Some (decimal key)))) → IfNone found (IsKeyed v → ⊥) →
+pub on_key_gives : (found : Option Operation) (v : Verb) (key : ℕ) (text : List ℕ) →
+    (v ≡ Verb.Add → ⊥) → (v ≡ Verb.Put → ⊥) → (v ≡ Verb.Bump → ⊥) → text ≡ decimal key →
+    IfSome found (λ o. CanBeDone o × (said o ≡ Some (v, Some (decimal key)))) →
+    IfNone found (IsKeyed v → ⊥) →
     MatchOption found (HasArguments v text → ⊥) (λ o. CanBeDone o × (said o ≡ Some (v, Some text)))
 on_key_gives None v key text a p b is some none = λ has. none (keyed_has v text a p b has).0
-on_key_gives (Some o) v key text a p b is some none = (some.0, some.1 ∙ ap (λ t. Some (v, Some t)) (sym is))
+on_key_gives (Some o) v key text a p b is some none =
+    (some.0, some.1 ∙ ap (λ t. Some (v, Some t)) (sym is))
 
 -- behind the word add stands one key where there is no space,
 pub added_key : (text : List ℕ) → All (λ b. b ≢ 32) text → HasArguments Verb.Add text → IsKey text
 added_key text whole (inl has) = has
-added_key text whole (inr has) = absurd (not_whole 32 text (decimal has.0) (decimal has.1) has.4 whole)
+added_key text whole (inr has) =
+    absurd (not_whole 32 text (decimal has.0) (decimal has.1) has.4 whole)
 
 -- and else two
-pub added_pair : (text front back : List ℕ) → text ≡ front ++ 32 ∷ back → All (λ b. b ≢ 32) front → HasArguments Verb.Add text → IsKey front × IsKey back
-added_pair text front back e first (inl has) = absurd (not_whole 32 text front back e (subst (All (λ b. b ≢ 32)) (sym has.2) (decimal_whole has.0 has.1)))
+pub added_pair : (text front back : List ℕ) → text ≡ front ++ 32 ∷ back → All (λ b. b ≢ 32) front →
+    HasArguments Verb.Add text → IsKey front × IsKey back
+added_pair text front back e first (inl has) =
+    absurd (not_whole 32 text front back e
+    (subst (All (λ b. b ≢ 32)) (sym has.2) (decimal_whole has.0 has.1)))
 added_pair text front back e first (inr has) =
-    let parts = same_split 32 (decimal has.0) (decimal has.1) front back (sym has.4 ∙ e) (decimal_whole has.0 has.2) first in
+    let parts = same_split 32 (decimal has.0) (decimal has.1) front back (sym has.4 ∙ e)
+    (decimal_whole has.0 has.2) first in
     ((has.0, has.2, sym parts.0), (has.1, has.3, sym parts.1))
 
-pub put_pair : (text front back : List ℕ) → text ≡ front ++ 32 ∷ back → All (λ b. b ≢ 32) front → HasArguments Verb.Put text → IsKey front × ((v : List ℕ) × All (λ b. b < 256) v × (back ≡ value_text v))
+pub put_pair : (text front back : List ℕ) → text ≡ front ++ 32 ∷ back → All (λ b. b ≢ 32) front →
+    HasArguments Verb.Put text → IsKey front ×
+    ((v : List ℕ) × All (λ b. b < 256) v × (back ≡ value_text v))
 put_pair text front back e first has =
-    let parts = same_split 32 (decimal has.0) (value_text has.1) front back (sym has.4 ∙ e) (decimal_whole has.0 has.2) first in
+    let parts = same_split 32 (decimal has.0) (value_text has.1) front back (sym has.4 ∙ e)
+    (decimal_whole has.0 has.2) first in
     ((has.0, has.2, sym parts.0), (has.1, has.3, sym parts.1))
 
 pub put_space : (text : List ℕ) → All (λ b. b ≢ 32) text → HasArguments Verb.Put text → ⊥
@@ -128,7 +160,8 @@ put_space text whole has = not_whole 32 text (decimal has.0) (value_text has.1) 
 
 -- ---- the verb
 
-no_space : (xs : List ℕ) → AllByRecursion (λ b. b ≢ 32) xs → (k d : ℕ) → k < length xs → get_or xs k d ≢ 32
+no_space : (xs : List ℕ) → AllByRecursion (λ b. b ≢ 32) xs → (k d : ℕ) → k < length xs →
+    get_or xs k d ≢ 32
 no_space [] all k d lt = absurd (omega arith)
 no_space (x ∷ xs) all zero d lt = all.0
 no_space (x ∷ xs) all (suc k) d lt = no_space xs all.1 k d (omega arith)
@@ -197,17 +230,25 @@ pub same_verb : (v w : Verb) → verb_text v ≡ verb_text w → v ≡ w
 same_verb v w is = sym (read_back v) ∙ ap read_verb is ∙ read_back w
 
 -- what is found behind a verb is found behind the word
-pub word_gives : {E : Type 0} (r : Result (Option Operation) E) (v : Verb) (word rest : List ℕ) → word ≡ verb_text v →
-    IfOk r (λ found. MatchOption found (HasArguments v rest → ⊥) (λ o. CanBeDone o × (said o ≡ Some (v, Some rest)))) →
-    IfOk r (λ found. MatchOption found ((w : Verb) → word ≡ verb_text w → HasArguments w rest → ⊥) (λ o. CanBeDone o × (operation_text o ≡ word ++ 32 ∷ rest)))
-word_gives (Ok None) v word rest is none = λ w same has. none (subst (λ u. HasArguments u rest) (same_verb w v (sym same ∙ is)) has)
-word_gives (Ok (Some o)) v word rest is some = (some.0, ap said_text some.1 ∙ ap (λ t. t ++ 32 ∷ rest) (sym is))
+pub word_gives : {E : Type 0} (r : Result (Option Operation) E) (v : Verb) (word rest : List ℕ) →
+    word ≡ verb_text v →
+    IfOk r (λ found. MatchOption found (HasArguments v rest → ⊥)
+    (λ o. CanBeDone o × (said o ≡ Some (v, Some rest)))) →
+    IfOk r (λ found. MatchOption found ((w : Verb) → word ≡ verb_text w → HasArguments w rest → ⊥)
+    (λ o. CanBeDone o × (operation_text o ≡ word ++ 32 ∷ rest)))
+word_gives (Ok None) v word rest is none =
+    λ w same has. none (subst (λ u. HasArguments u rest) (same_verb w v (sym same ∙ is)) has)
+word_gives (Ok (Some o)) v word rest is some =
+    (some.0, ap said_text some.1 ∙ ap (λ t. t ++ 32 ∷ rest) (sym is))
 word_gives (Err why) v word rest is h = tt
 
 pub lone_gives : (found : Option Operation) (v : Verb) (word : List ℕ) → word ≡ verb_text v →
-    MatchOption found ((o : Operation) → CanBeDone o → said o ≡ Some (v, None) → ⊥) (λ o. CanBeDone o × (said o ≡ Some (v, None))) →
-    MatchOption found ((w : Verb) (o : Operation) → word ≡ verb_text w → CanBeDone o → said o ≡ Some (w, None) → ⊥) (λ o. CanBeDone o × (operation_text o ≡ word))
-lone_gives None v word is none = λ w o same can e. none o can (e ∙ ap (λ u. Some (u, None)) (same_verb w v (sym same ∙ is)))
+    MatchOption found ((o : Operation) → CanBeDone o → said o ≡ Some (v, None) → ⊥)
+    (λ o. CanBeDone o × (said o ≡ Some (v, None))) →
+    MatchOption found ((w : Verb) (o : Operation) → word ≡ verb_text w → CanBeDone o →
+    said o ≡ Some (w, None) → ⊥) (λ o. CanBeDone o × (operation_text o ≡ word))
+lone_gives None v word is none =
+    λ w o same can e. none o can (e ∙ ap (λ u. Some (u, None)) (same_verb w v (sym same ∙ is)))
 lone_gives (Some o) v word is some = (some.0, ap said_text some.1 ∙ sym is)
 
 -- ---- operations
@@ -237,22 +278,30 @@ nothing_else [] rest e = cc
 nothing_else (b ∷ word) rest e = cc
 
 -- a text with a space says a verb and what stands behind it,
-spaced : (s : Option (Verb × Option (List ℕ))) (text word rest : List ℕ) → text ≡ word ++ 32 ∷ rest → All (λ b. b ≢ 32) word → text ≡ said_text s → (v : Verb) × (s ≡ Some (v, Some rest)) × (word ≡ verb_text v)
+spaced : (s : Option (Verb × Option (List ℕ))) (text word rest : List ℕ) →
+    text ≡ word ++ 32 ∷ rest → All (λ b. b ≢ 32) word → text ≡ said_text s →
+    (v : Verb) × (s ≡ Some (v, Some rest)) × (word ≡ verb_text v)
 spaced None text word rest e whole is = absurd (nothing_else word rest (sym e ∙ is))
-spaced (Some (v, None)) text word rest e whole is = absurd (not_whole 32 text word rest e (subst (All (λ b. b ≢ 32)) (sym is) (verb_whole v)))
+spaced (Some (v, None)) text word rest e whole is =
+    absurd (not_whole 32 text word rest e (subst (All (λ b. b ≢ 32)) (sym is) (verb_whole v)))
 spaced (Some (v, Some args)) text word rest e whole is =
     let parts = same_split 32 (verb_text v) args word rest (sym is ∙ e) (verb_whole v) whole in
     (v, ap (λ t. Some (v, Some t)) parts.1, sym parts.0)
 
 -- and one without a verb alone
-unspaced : (s : Option (Verb × Option (List ℕ))) (text : List ℕ) → All (λ b. b ≢ 32) text → text ≡ said_text s → (s ≡ None → ⊥) → (v : Verb) × (s ≡ Some (v, None)) × (text ≡ verb_text v)
+unspaced : (s : Option (Verb × Option (List ℕ))) (text : List ℕ) → All (λ b. b ≢ 32) text →
+    text ≡ said_text s → (s ≡ None → ⊥) → (v : Verb) × (s ≡ Some (v, None)) × (text ≡ verb_text v)
 unspaced None text whole is some = absurd (some refl)
 unspaced (Some (v, None)) text whole is some = (v, refl, is)
-unspaced (Some (v, Some args)) text whole is some = absurd (not_whole 32 text (verb_text v) args is whole)
+unspaced (Some (v, Some args)) text whole is some =
+    absurd (not_whole 32 text (verb_text v) args is whole)
 
-pub after_gives : {E : Type 0} (r : Result (Option Operation) E) (text word rest : List ℕ) → text ≡ word ++ 32 ∷ rest → All (λ b. b ≢ 32) word →
-    IfOk r (λ found. MatchOption found ((v : Verb) → word ≡ verb_text v → HasArguments v rest → ⊥) (λ o. CanBeDone o × (operation_text o ≡ word ++ 32 ∷ rest))) →
-    IfOk r (λ found. MatchOption found ((o : Operation) → CanBeDone o → text ≡ operation_text o → ⊥) (λ o. CanBeDone o × (text ≡ operation_text o)))
+pub after_gives : {E : Type 0} (r : Result (Option Operation) E) (text word rest : List ℕ) →
+    text ≡ word ++ 32 ∷ rest → All (λ b. b ≢ 32) word →
+    IfOk r (λ found. MatchOption found ((v : Verb) → word ≡ verb_text v → HasArguments v rest → ⊥)
+    (λ o. CanBeDone o × (operation_text o ≡ word ++ 32 ∷ rest))) →
+    IfOk r (λ found. MatchOption found ((o : Operation) → CanBeDone o → text ≡ operation_text o → ⊥)
+    (λ o. CanBeDone o × (text ≡ operation_text o)))
 after_gives (Ok None) text word rest e whole none = λ o can is.
     let parts = spaced (said o) text word rest e whole is in
     none parts.0 parts.2 (said_has o parts.0 rest can parts.1)
@@ -260,8 +309,10 @@ after_gives (Ok (Some o)) text word rest e whole some = (some.0, e ∙ sym some.
 after_gives (Err why) text word rest e whole h = tt
 
 pub alone_gives : (found : Option Operation) (text : List ℕ) → All (λ b. b ≢ 32) text →
-    MatchOption found ((v : Verb) (o : Operation) → text ≡ verb_text v → CanBeDone o → said o ≡ Some (v, None) → ⊥) (λ o. CanBeDone o × (operation_text o ≡ text)) →
-    MatchOption found ((o : Operation) → CanBeDone o → text ≡ operation_text o → ⊥) (λ o. CanBeDone o × (text ≡ operation_text o))
+    MatchOption found ((v : Verb) (o : Operation) → text ≡ verb_text v → CanBeDone o →
+    said o ≡ Some (v, None) → ⊥) (λ o. CanBeDone o × (operation_text o ≡ text)) →
+    MatchOption found ((o : Operation) → CanBeDone o → text ≡ operation_text o → ⊥)
+    (λ o. CanBeDone o × (text ≡ operation_text o))
 alone_gives None text whole none = λ o can is.
     let parts = unspaced (said o) text whole is (can_said o can) in
     none parts.0 o parts.2 can parts.1

@@ -1,5 +1,7 @@
 -- What a text asks for is told by its first words.
-use Rattle.std.proofs.Common.{◌≡◌, ◌≢◌, ℕ, zero, suc, ◌<◌, length, List, [], ◌∷◌, ◌++◌, get_or, All, ℤ, sym, subst, ◌∙◌, ap, arith, codes, Option, Some, None, Result, Ok, Err, Bool, false}
+use Rattle.std.proofs.Common.{◌≡◌, ◌≢◌, ℕ, zero, suc, ◌<◌, length, List, [], ◌∷◌, ◌++◌, get_or, All}
+use Rattle.std.proofs.Common.{ℤ, sym, subst, ◌∙◌, ap, arith, codes, Option, Some, None, Result, Ok}
+use Rattle.std.proofs.Common.{Err, Bool, false}
 use Rattle.std.specs.Prelude.{IfOk, MatchOption, IsTrue, ◌↔◌}
 use Rattle.std.specs.Int.{w64}
 use Rattle.std.specs.Int.RustNames.{FitsSigned}
@@ -11,23 +13,30 @@ use Rattle.calls.specs.declared.kind.Kind.{Kind}
 use Rattle.script.specs.declared.action.Operation.{Operation}
 use Rattle.script.specs.declared.action.Request.{Request}
 use Rattle.script.specs.declared.action.Action.{Action}
-use Rattle.script.specs.ScriptTexts.{IsWord, IsClient, CanBeDone, kind_text, operation_text, request_text, IsRequestOf, IsMakeOf, IsCallOf, IsLaterOf, IsClientLine, IsLineOf}
+use Rattle.script.specs.ScriptTexts.{IsWord, IsClient, CanBeDone, kind_text, operation_text}
+use Rattle.script.specs.ScriptTexts.{request_text, IsRequestOf, IsMakeOf, IsCallOf, IsLaterOf}
+use Rattle.script.specs.ScriptTexts.{IsClientLine, IsLineOf}
 use Rattle.std.specs.Fmt.{decimal, signed_decimal}
 use Rattle.script.proofs.ScriptWords.{not_whole, decimal_whole, same_split}
 
 -- ---- calls
 
-pub no_call_without_space : (text : List ℕ) (r : Request) → All (λ b. b ≢ 32) text → IsCallOf r text → ⊥
-no_call_without_space text (Request.Call name o) whole is = not_whole 32 text name (operation_text o) is.2 whole
+pub no_call_without_space : (text : List ℕ) (r : Request) → All (λ b. b ≢ 32) text →
+    IsCallOf r text → ⊥
+no_call_without_space text (Request.Call name o) whole is =
+    not_whole 32 text name (operation_text o) is.2 whole
 no_call_without_space text r whole is = is
 
-pub name_is_front : (text front back : List ℕ) (r : Request) → text ≡ front ++ 32 ∷ back → All (λ b. b ≢ 32) front → IsCallOf r text → IsWord front
+pub name_is_front : (text front back : List ℕ) (r : Request) → text ≡ front ++ 32 ∷ back →
+    All (λ b. b ≢ 32) front → IsCallOf r text → IsWord front
 name_is_front text front back (Request.Call name o) e first is =
     let parts = same_split 32 name (operation_text o) front back (sym is.2 ∙ e) is.0.whole first in
     subst IsWord parts.0 is.0
 name_is_front text front back r e first is = absurd is
 
-pub call_is_back : (text front back : List ℕ) (r : Request) → text ≡ front ++ 32 ∷ back → All (λ b. b ≢ 32) front → ((o : Operation) → CanBeDone o → back ≡ operation_text o → ⊥) → IsCallOf r text → ⊥
+pub call_is_back : (text front back : List ℕ) (r : Request) → text ≡ front ++ 32 ∷ back →
+    All (λ b. b ≢ 32) front → ((o : Operation) → CanBeDone o → back ≡ operation_text o → ⊥) →
+    IsCallOf r text → ⊥
 call_is_back text front back (Request.Call name o) e first none is =
     let parts = same_split 32 name (operation_text o) front back (sym is.2 ∙ e) is.0.whole first in
     none o is.1 (sym parts.1)
@@ -39,31 +48,45 @@ abbrev bump_of : ℤ → Operation
 bump_of n = Operation.Call (Call.Bump n)
 
 -- what is found behind the word bump is found in the whole text
-pub bump_gives : {E : Type 0} (r : Result (Option ℤ) E) (text rest : List ℕ) → text ≡ codes "bump " ++ rest
-    → IfOk r (λ found. MatchOption found ((n : ℤ) → FitsSigned w64 n → rest ≡ signed_decimal n → ⊥) (λ n. FitsSigned w64 n × (rest ≡ signed_decimal n)))
-    → IfOk r (λ found. MatchOption found ((n : ℤ) → FitsSigned w64 n → text ≡ operation_text (bump_of n) → ⊥) (λ n. FitsSigned w64 n × (text ≡ operation_text (bump_of n))))
-bump_gives (Ok None) text rest e none = λ n fits is. none n fits (append_cancel_left (codes "bump ") rest (signed_decimal n) (sym e ∙ is))
+pub bump_gives : {E : Type 0} (r : Result (Option ℤ) E) (text rest : List ℕ) →
+    text ≡ codes "bump " ++ rest
+    → IfOk r (λ found. MatchOption found ((n : ℤ) → FitsSigned w64 n → rest ≡ signed_decimal n → ⊥)
+    (λ n. FitsSigned w64 n × (rest ≡ signed_decimal n)))
+    → IfOk r (λ found. MatchOption found
+    ((n : ℤ) → FitsSigned w64 n → text ≡ operation_text (bump_of n) → ⊥)
+    (λ n. FitsSigned w64 n × (text ≡ operation_text (bump_of n))))
+bump_gives (Ok None) text rest e none =
+    λ n fits is. none n fits (append_cancel_left (codes "bump ") rest (signed_decimal n)
+    (sym e ∙ is))
 bump_gives (Ok (Some n)) text rest e is = (is.0, e ∙ ap (λ (t : List ℕ). codes "bump " ++ t) is.1)
 bump_gives (Err why) text rest e h = tt
 
 -- what is put off is said as a call of the same bump is
-pub no_later_without_space : (text : List ℕ) (r : Request) → All (λ b. b ≢ 32) text → IsLaterOf r text → ⊥
-no_later_without_space text (Request.Later name n) whole is = no_call_without_space text (Request.Call name (bump_of n)) whole is
+pub no_later_without_space : (text : List ℕ) (r : Request) → All (λ b. b ≢ 32) text →
+    IsLaterOf r text → ⊥
+no_later_without_space text (Request.Later name n) whole is =
+    no_call_without_space text (Request.Call name (bump_of n)) whole is
 no_later_without_space text r whole is = is
 
-pub later_name_is_front : (text front back : List ℕ) (r : Request) → text ≡ front ++ 32 ∷ back → All (λ b. b ≢ 32) front → IsLaterOf r text → IsWord front
-later_name_is_front text front back (Request.Later name n) e first is = name_is_front text front back (Request.Call name (bump_of n)) e first is
+pub later_name_is_front : (text front back : List ℕ) (r : Request) → text ≡ front ++ 32 ∷ back →
+    All (λ b. b ≢ 32) front → IsLaterOf r text → IsWord front
+later_name_is_front text front back (Request.Later name n) e first is =
+    name_is_front text front back (Request.Call name (bump_of n)) e first is
 later_name_is_front text front back r e first is = absurd is
 
-pub bump_is_back : (text front back : List ℕ) (r : Request) → text ≡ front ++ 32 ∷ back → All (λ b. b ≢ 32) front → ((n : ℤ) → FitsSigned w64 n → back ≡ operation_text (bump_of n) → ⊥) → IsLaterOf r text → ⊥
+pub bump_is_back : (text front back : List ℕ) (r : Request) → text ≡ front ++ 32 ∷ back →
+    All (λ b. b ≢ 32) front → ((n : ℤ) → FitsSigned w64 n → back ≡ operation_text (bump_of n) → ⊥) →
+    IsLaterOf r text → ⊥
 bump_is_back text front back (Request.Later name n) e first none is =
-    let parts = same_split 32 name (operation_text (bump_of n)) front back (sym is.2 ∙ e) is.0.whole first in
+    let parts = same_split 32 name (operation_text (bump_of n)) front back (sym is.2 ∙ e) is.0.whole
+    first in
     none n is.1 (sym parts.1)
 bump_is_back text front back r e first none is = is
 
 -- ---- makings
 
-no_space : (xs : List ℕ) → AllByRecursion (λ b. b ≢ 32) xs → (k d : ℕ) → k < length xs → get_or xs k d ≢ 32
+no_space : (xs : List ℕ) → AllByRecursion (λ b. b ≢ 32) xs → (k d : ℕ) → k < length xs →
+    get_or xs k d ≢ 32
 no_space [] all k d lt = absurd (omega arith)
 no_space (x ∷ xs) all zero d lt = all.0
 no_space (x ∷ xs) all (suc k) d lt = no_space xs all.1 k d (omega arith)
@@ -72,25 +95,57 @@ other : (b : ℕ) → 32 < b → b ≢ 32
 other b lt = λ e. absurd (omega arith)
 
 pub kind_whole : (k : Kind) → All (λ b. b ≢ 32) (kind_text k)
-kind_whole Kind.Set = no_space (kind_text Kind.Set) (other 115 (omega arith), (other 101 (omega arith), (other 116 (omega arith), tt)))
-kind_whole Kind.Map = no_space (kind_text Kind.Map) (other 109 (omega arith), (other 97 (omega arith), (other 112 (omega arith), tt)))
-kind_whole Kind.Queue = no_space (kind_text Kind.Queue) (other 113 (omega arith), (other 117 (omega arith), (other 101 (omega arith), (other 117 (omega arith), (other 101 (omega arith), tt)))))
-kind_whole Kind.Counter = no_space (kind_text Kind.Counter) (other 99 (omega arith), (other 111 (omega arith), (other 117 (omega arith), (other 110 (omega arith), (other 116 (omega arith), (other 101 (omega arith), (other 114 (omega arith), tt)))))))
-kind_whole Kind.Pool = no_space (kind_text Kind.Pool) (other 112 (omega arith), (other 111 (omega arith), (other 111 (omega arith), (other 108 (omega arith), tt))))
+kind_whole Kind.Set = no_space (kind_text Kind.Set)
+    (other 115 (omega arith), (other 101 (omega arith), (other 116 (omega arith), tt)))
+kind_whole Kind.Map = no_space (kind_text Kind.Map)
+    (other 109 (omega arith), (other 97 (omega arith), (other 112 (omega arith), tt)))
+kind_whole Kind.Queue = no_space (kind_text Kind.Queue) (
+  other 113 (omega arith),
+  (
+    other 117 (omega arith),
+    (other 101 (omega arith), (other 117 (omega arith), (other 101 (omega arith), tt))),
+  ),
+)
+kind_whole Kind.Counter = no_space (kind_text Kind.Counter) (
+  other 99 (omega arith),
+  (
+    other 111 (omega arith),
+    (
+      other 117 (omega arith),
+      (
+        other 110 (omega arith),
+        (other 116 (omega arith), (other 101 (omega arith), (other 114 (omega arith), tt))),
+      ),
+    ),
+  ),
+)
+kind_whole Kind.Pool = no_space (kind_text Kind.Pool) (
+  other 112 (omega arith),
+  (
+    other 111 (omega arith),
+    (other 111 (omega arith), (other 108 (omega arith), tt)),
+  ),
+)
 
-pub no_make_without_space : (text : List ℕ) (r : Request) → All (λ b. b ≢ 32) text → IsMakeOf r text → ⊥
-no_make_without_space text (Request.Make kind name) whole is = not_whole 32 text (kind_text kind) name is.1 whole
+pub no_make_without_space : (text : List ℕ) (r : Request) → All (λ b. b ≢ 32) text →
+    IsMakeOf r text → ⊥
+no_make_without_space text (Request.Make kind name) whole is =
+    not_whole 32 text (kind_text kind) name is.1 whole
 no_make_without_space text r whole is = is
 
-pub kind_is_front : (text front back : List ℕ) (r : Request) → text ≡ front ++ 32 ∷ back → All (λ b. b ≢ 32) front → ((k : Kind) → front ≡ kind_text k → ⊥) → IsMakeOf r text → ⊥
+pub kind_is_front : (text front back : List ℕ) (r : Request) → text ≡ front ++ 32 ∷ back →
+    All (λ b. b ≢ 32) front → ((k : Kind) → front ≡ kind_text k → ⊥) → IsMakeOf r text → ⊥
 kind_is_front text front back (Request.Make kind name) e first none is =
-    let parts = same_split 32 (kind_text kind) name front back (sym is.1 ∙ e) (kind_whole kind) first in
+    let parts = same_split 32 (kind_text kind) name front back (sym is.1 ∙ e) (kind_whole kind)
+    first in
     none kind (sym parts.0)
 kind_is_front text front back r e first none is = is
 
-pub name_is_back : (text front back : List ℕ) (r : Request) → text ≡ front ++ 32 ∷ back → All (λ b. b ≢ 32) front → (IsWord back → ⊥) → IsMakeOf r text → ⊥
+pub name_is_back : (text front back : List ℕ) (r : Request) → text ≡ front ++ 32 ∷ back →
+    All (λ b. b ≢ 32) front → (IsWord back → ⊥) → IsMakeOf r text → ⊥
 name_is_back text front back (Request.Make kind name) e first none is =
-    let parts = same_split 32 (kind_text kind) name front back (sym is.1 ∙ e) (kind_whole kind) first in
+    let parts = same_split 32 (kind_text kind) name front back (sym is.1 ∙ e) (kind_whole kind)
+    first in
     none (subst IsWord parts.1 is.0)
 name_is_back text front back r e first none is = is
 
@@ -103,119 +158,191 @@ abbrev second : List ℕ → ℕ
 second t = get_or t 1 0
 
 -- behind the word call stands a call and nothing else
-pub request_is_call : (text rest : List ℕ) (r : Request) → text ≡ codes "call " ++ rest → IsRequestOf r text → IsCallOf r rest
-request_is_call text rest (Request.Make kind name) e is = let h : ◌≡◌ {A = ℕ} 99 109 = ap first (sym e ∙ is.is) in absurd (omega arith)
-request_is_call text rest Request.Begin e is = let h : ◌≡◌ {A = ℕ} 99 98 = ap first (sym e ∙ is.is) in absurd (omega arith)
-request_is_call text rest (Request.Call name o) e is = (is.said.0, is.said.1, append_cancel_left (codes "call ") rest (name ++ 32 ∷ operation_text o) (sym e ∙ is.is))
-request_is_call text rest (Request.Later name n) e is = let h : ◌≡◌ {A = ℕ} 99 108 = ap first (sym e ∙ is.is) in absurd (omega arith)
-request_is_call text rest Request.Commit e is = let h : ◌≡◌ {A = ℕ} 97 111 = ap second (sym e ∙ is.is) in absurd (omega arith)
-request_is_call text rest Request.Abort e is = let h : ◌≡◌ {A = ℕ} 99 97 = ap first (sym e ∙ is.is) in absurd (omega arith)
-request_is_call text rest Request.Kept e is = let h : ◌≡◌ {A = ℕ} 99 107 = ap first (sym e ∙ is.is) in absurd (omega arith)
+pub request_is_call : (text rest : List ℕ) (r : Request) → text ≡ codes "call " ++ rest →
+    IsRequestOf r text → IsCallOf r rest
+request_is_call text rest (Request.Make kind name) e is =
+    let h : ◌≡◌ {A = ℕ} 99 109 = ap first (sym e ∙ is.is) in absurd (omega arith)
+request_is_call text rest Request.Begin e is =
+    let h : ◌≡◌ {A = ℕ} 99 98 = ap first (sym e ∙ is.is) in absurd (omega arith)
+request_is_call text rest (Request.Call name o) e is = (
+  is.said.0,
+  is.said.1,
+  append_cancel_left (codes "call ") rest (name ++ 32 ∷ operation_text o)
+      (sym e ∙ is.is),
+)
+request_is_call text rest (Request.Later name n) e is =
+    let h : ◌≡◌ {A = ℕ} 99 108 = ap first (sym e ∙ is.is) in absurd (omega arith)
+request_is_call text rest Request.Commit e is =
+    let h : ◌≡◌ {A = ℕ} 97 111 = ap second (sym e ∙ is.is) in absurd (omega arith)
+request_is_call text rest Request.Abort e is =
+    let h : ◌≡◌ {A = ℕ} 99 97 = ap first (sym e ∙ is.is) in absurd (omega arith)
+request_is_call text rest Request.Kept e is =
+    let h : ◌≡◌ {A = ℕ} 99 107 = ap first (sym e ∙ is.is) in absurd (omega arith)
 
-pub call_is_request : (text rest : List ℕ) (r : Request) → text ≡ codes "call " ++ rest → IsCallOf r rest → IsRequestOf r text
-call_is_request text rest (Request.Call name o) e is = record { said = (is.0, is.1); is = e ∙ ap (λ (t : List ℕ). codes "call " ++ t) is.2 }
+pub call_is_request : (text rest : List ℕ) (r : Request) → text ≡ codes "call " ++ rest →
+    IsCallOf r rest → IsRequestOf r text
+call_is_request text rest (Request.Call name o) e is =
+    record { said = (is.0, is.1); is = e ∙ ap (λ (t : List ℕ). codes "call " ++ t) is.2 }
 call_is_request text rest r e is = absurd is
 
 -- behind the word later stands a bump and nothing else
-request_is_later : (text rest : List ℕ) (r : Request) → text ≡ codes "later " ++ rest → IsRequestOf r text → IsLaterOf r rest
-request_is_later text rest (Request.Make kind name) e is = let h : ◌≡◌ {A = ℕ} 108 109 = ap first (sym e ∙ is.is) in absurd (omega arith)
-request_is_later text rest Request.Begin e is = let h : ◌≡◌ {A = ℕ} 108 98 = ap first (sym e ∙ is.is) in absurd (omega arith)
-request_is_later text rest (Request.Call name o) e is = let h : ◌≡◌ {A = ℕ} 108 99 = ap first (sym e ∙ is.is) in absurd (omega arith)
-request_is_later text rest (Request.Later name n) e is = (is.said.0, is.said.1, append_cancel_left (codes "later ") rest (name ++ 32 ∷ operation_text (bump_of n)) (sym e ∙ is.is))
-request_is_later text rest Request.Commit e is = let h : ◌≡◌ {A = ℕ} 108 99 = ap first (sym e ∙ is.is) in absurd (omega arith)
-request_is_later text rest Request.Abort e is = let h : ◌≡◌ {A = ℕ} 108 97 = ap first (sym e ∙ is.is) in absurd (omega arith)
-request_is_later text rest Request.Kept e is = let h : ◌≡◌ {A = ℕ} 108 107 = ap first (sym e ∙ is.is) in absurd (omega arith)
+request_is_later : (text rest : List ℕ) (r : Request) → text ≡ codes "later " ++ rest →
+    IsRequestOf r text → IsLaterOf r rest
+request_is_later text rest (Request.Make kind name) e is =
+    let h : ◌≡◌ {A = ℕ} 108 109 = ap first (sym e ∙ is.is) in absurd (omega arith)
+request_is_later text rest Request.Begin e is =
+    let h : ◌≡◌ {A = ℕ} 108 98 = ap first (sym e ∙ is.is) in absurd (omega arith)
+request_is_later text rest (Request.Call name o) e is =
+    let h : ◌≡◌ {A = ℕ} 108 99 = ap first (sym e ∙ is.is) in absurd (omega arith)
+request_is_later text rest (Request.Later name n) e is = (
+  is.said.0,
+  is.said.1,
+  append_cancel_left (codes "later ") rest
+      (name ++ 32 ∷ operation_text (bump_of n)) (sym e ∙ is.is),
+)
+request_is_later text rest Request.Commit e is =
+    let h : ◌≡◌ {A = ℕ} 108 99 = ap first (sym e ∙ is.is) in absurd (omega arith)
+request_is_later text rest Request.Abort e is =
+    let h : ◌≡◌ {A = ℕ} 108 97 = ap first (sym e ∙ is.is) in absurd (omega arith)
+request_is_later text rest Request.Kept e is =
+    let h : ◌≡◌ {A = ℕ} 108 107 = ap first (sym e ∙ is.is) in absurd (omega arith)
 
-later_is_request : (text rest : List ℕ) (r : Request) → text ≡ codes "later " ++ rest → IsLaterOf r rest → IsRequestOf r text
-later_is_request text rest (Request.Later name n) e is = record { said = (is.0, is.1); is = e ∙ ap (λ (t : List ℕ). codes "later " ++ t) is.2 }
+later_is_request : (text rest : List ℕ) (r : Request) → text ≡ codes "later " ++ rest →
+    IsLaterOf r rest → IsRequestOf r text
+later_is_request text rest (Request.Later name n) e is =
+    record { said = (is.0, is.1); is = e ∙ ap (λ (t : List ℕ). codes "later " ++ t) is.2 }
 later_is_request text rest r e is = absurd is
 
 -- behind the word make stands a making and nothing else
-request_is_make : (text rest : List ℕ) (r : Request) → text ≡ codes "make " ++ rest → IsRequestOf r text → IsMakeOf r rest
-request_is_make text rest (Request.Make kind name) e is = (is.said, append_cancel_left (codes "make ") rest (kind_text kind ++ 32 ∷ name) (sym e ∙ is.is))
-request_is_make text rest Request.Begin e is = let h : ◌≡◌ {A = ℕ} 109 98 = ap first (sym e ∙ is.is) in absurd (omega arith)
-request_is_make text rest (Request.Call name o) e is = let h : ◌≡◌ {A = ℕ} 109 99 = ap first (sym e ∙ is.is) in absurd (omega arith)
-request_is_make text rest (Request.Later name n) e is = let h : ◌≡◌ {A = ℕ} 109 108 = ap first (sym e ∙ is.is) in absurd (omega arith)
-request_is_make text rest Request.Commit e is = let h : ◌≡◌ {A = ℕ} 109 99 = ap first (sym e ∙ is.is) in absurd (omega arith)
-request_is_make text rest Request.Abort e is = let h : ◌≡◌ {A = ℕ} 109 97 = ap first (sym e ∙ is.is) in absurd (omega arith)
-request_is_make text rest Request.Kept e is = let h : ◌≡◌ {A = ℕ} 109 107 = ap first (sym e ∙ is.is) in absurd (omega arith)
+request_is_make : (text rest : List ℕ) (r : Request) → text ≡ codes "make " ++ rest →
+    IsRequestOf r text → IsMakeOf r rest
+request_is_make text rest (Request.Make kind name) e is =
+    (is.said, append_cancel_left (codes "make ") rest (kind_text kind ++ 32 ∷ name) (sym e ∙ is.is))
+request_is_make text rest Request.Begin e is =
+    let h : ◌≡◌ {A = ℕ} 109 98 = ap first (sym e ∙ is.is) in absurd (omega arith)
+request_is_make text rest (Request.Call name o) e is =
+    let h : ◌≡◌ {A = ℕ} 109 99 = ap first (sym e ∙ is.is) in absurd (omega arith)
+request_is_make text rest (Request.Later name n) e is =
+    let h : ◌≡◌ {A = ℕ} 109 108 = ap first (sym e ∙ is.is) in absurd (omega arith)
+request_is_make text rest Request.Commit e is =
+    let h : ◌≡◌ {A = ℕ} 109 99 = ap first (sym e ∙ is.is) in absurd (omega arith)
+request_is_make text rest Request.Abort e is =
+    let h : ◌≡◌ {A = ℕ} 109 97 = ap first (sym e ∙ is.is) in absurd (omega arith)
+request_is_make text rest Request.Kept e is =
+    let h : ◌≡◌ {A = ℕ} 109 107 = ap first (sym e ∙ is.is) in absurd (omega arith)
 
-make_is_request : (text rest : List ℕ) (r : Request) → text ≡ codes "make " ++ rest → IsMakeOf r rest → IsRequestOf r text
-make_is_request text rest (Request.Make kind name) e is = record { said = is.0; is = e ∙ ap (λ (t : List ℕ). codes "make " ++ t) is.1 }
+make_is_request : (text rest : List ℕ) (r : Request) → text ≡ codes "make " ++ rest →
+    IsMakeOf r rest → IsRequestOf r text
+make_is_request text rest (Request.Make kind name) e is =
+    record { said = is.0; is = e ∙ ap (λ (t : List ℕ). codes "make " ++ t) is.1 }
 make_is_request text rest r e is = absurd is
 
-pub no_request : (text : List ℕ) (r : Request) → (text ≡ codes "begin" → ⊥) → (text ≡ codes "commit" → ⊥) → (text ≡ codes "abort" → ⊥) → (text ≡ codes "kept" → ⊥)
-    → ((rest : List ℕ) → text ≡ codes "call " ++ rest → ⊥) → ((rest : List ℕ) → text ≡ codes "later " ++ rest → ⊥) → ((rest : List ℕ) → text ≡ codes "make " ++ rest → ⊥) → IsRequestOf r text → ⊥
+pub no_request : (text : List ℕ) (r : Request) → (text ≡ codes "begin" → ⊥) →
+    (text ≡ codes "commit" → ⊥) → (text ≡ codes "abort" → ⊥) → (text ≡ codes "kept" → ⊥)
+    → ((rest : List ℕ) → text ≡ codes "call " ++ rest → ⊥) →
+    ((rest : List ℕ) → text ≡ codes "later " ++ rest → ⊥) →
+    ((rest : List ℕ) → text ≡ codes "make " ++ rest → ⊥) → IsRequestOf r text → ⊥
 no_request text (Request.Make kind name) b c a k l p m is = m (kind_text kind ++ 32 ∷ name) is.is
 no_request text Request.Begin b c a k l p m is = b is.is
 no_request text (Request.Call name o) b c a k l p m is = l (name ++ 32 ∷ operation_text o) is.is
-no_request text (Request.Later name n) b c a k l p m is = p (name ++ 32 ∷ operation_text (bump_of n)) is.is
+no_request text (Request.Later name n) b c a k l p m is =
+    p (name ++ 32 ∷ operation_text (bump_of n)) is.is
 no_request text Request.Commit b c a k l p m is = c is.is
 no_request text Request.Abort b c a k l p m is = a is.is
 no_request text Request.Kept b c a k l p m is = k is.is
 
 -- what is found behind the word call is found in the whole text
-pub called_gives : {E : Type 0} (r : Result (Option Request) E) (text rest : List ℕ) → text ≡ codes "call " ++ rest
-    → IfOk r (λ found. MatchOption found ((q : Request) → IsCallOf q rest → ⊥) (λ q. IsCallOf q rest))
-    → IfOk r (λ found. MatchOption found ((q : Request) → IsRequestOf q text → ⊥) (λ q. IsRequestOf q text))
+pub called_gives : {E : Type 0} (r : Result (Option Request) E) (text rest : List ℕ) →
+    text ≡ codes "call " ++ rest
+    → IfOk r (λ found. MatchOption found ((q : Request) → IsCallOf q rest → ⊥)
+    (λ q. IsCallOf q rest))
+    → IfOk r (λ found. MatchOption found ((q : Request) → IsRequestOf q text → ⊥)
+    (λ q. IsRequestOf q text))
 called_gives (Ok None) text rest e none = λ q is. none q (request_is_call text rest q e is)
 called_gives (Ok (Some q)) text rest e is = call_is_request text rest q e is
 called_gives (Err why) text rest e h = tt
 
 -- what is found behind the word later is found in the whole text
-pub put_off_gives : {E : Type 0} (r : Result (Option Request) E) (text rest : List ℕ) → text ≡ codes "later " ++ rest
-    → IfOk r (λ found. MatchOption found ((q : Request) → IsLaterOf q rest → ⊥) (λ q. IsLaterOf q rest))
-    → IfOk r (λ found. MatchOption found ((q : Request) → IsRequestOf q text → ⊥) (λ q. IsRequestOf q text))
+pub put_off_gives : {E : Type 0} (r : Result (Option Request) E) (text rest : List ℕ) →
+    text ≡ codes "later " ++ rest
+    → IfOk r (λ found. MatchOption found ((q : Request) → IsLaterOf q rest → ⊥)
+    (λ q. IsLaterOf q rest))
+    → IfOk r (λ found. MatchOption found ((q : Request) → IsRequestOf q text → ⊥)
+    (λ q. IsRequestOf q text))
 put_off_gives (Ok None) text rest e none = λ q is. none q (request_is_later text rest q e is)
 put_off_gives (Ok (Some q)) text rest e is = later_is_request text rest q e is
 put_off_gives (Err why) text rest e h = tt
 
 -- what is found behind the word make is found in the whole text
-pub made_gives : {E : Type 0} (r : Result (Option Request) E) (text rest : List ℕ) → text ≡ codes "make " ++ rest
-    → IfOk r (λ found. MatchOption found ((q : Request) → IsMakeOf q rest → ⊥) (λ q. IsMakeOf q rest))
-    → IfOk r (λ found. MatchOption found ((q : Request) → IsRequestOf q text → ⊥) (λ q. IsRequestOf q text))
+pub made_gives : {E : Type 0} (r : Result (Option Request) E) (text rest : List ℕ) →
+    text ≡ codes "make " ++ rest
+    → IfOk r (λ found. MatchOption found ((q : Request) → IsMakeOf q rest → ⊥)
+    (λ q. IsMakeOf q rest))
+    → IfOk r (λ found. MatchOption found ((q : Request) → IsRequestOf q text → ⊥)
+    (λ q. IsRequestOf q text))
 made_gives (Ok None) text rest e none = λ q is. none q (request_is_make text rest q e is)
 made_gives (Ok (Some q)) text rest e is = make_is_request text rest q e is
 made_gives (Err why) text rest e h = tt
 
 -- ---- clients
 
-pub no_client_without_space : (text : List ℕ) (a : Action) → All (λ b. b ≢ 32) text → IsClientLine a text → ⊥
-no_client_without_space text (Action.Client n r) whole is = not_whole 32 text (decimal n) (request_text r) is.2 whole
+pub no_client_without_space : (text : List ℕ) (a : Action) → All (λ b. b ≢ 32) text →
+    IsClientLine a text → ⊥
+no_client_without_space text (Action.Client n r) whole is =
+    not_whole 32 text (decimal n) (request_text r) is.2 whole
 no_client_without_space text a whole is = is
 
-pub client_is_front : (text front back : List ℕ) (a : Action) → text ≡ front ++ 32 ∷ back → All (λ b. b ≢ 32) front → ((n : ℕ) → IsClient n → front ≡ decimal n → ⊥) → IsClientLine a text → ⊥
+pub client_is_front : (text front back : List ℕ) (a : Action) → text ≡ front ++ 32 ∷ back →
+    All (λ b. b ≢ 32) front → ((n : ℕ) → IsClient n → front ≡ decimal n → ⊥) → IsClientLine a text →
+    ⊥
 client_is_front text front back (Action.Client n r) e first none is =
     let last = is.0.last in
-    let parts = same_split 32 (decimal n) (request_text r) front back (sym is.2 ∙ e) (decimal_whole n (omega arith)) first in
+    let parts = same_split 32 (decimal n) (request_text r) front back (sym is.2 ∙ e)
+    (decimal_whole n (omega arith)) first in
     none n is.0 (sym parts.0)
 client_is_front text front back a e first none is = is
 
-pub request_is_back : (text front back : List ℕ) (a : Action) → text ≡ front ++ 32 ∷ back → All (λ b. b ≢ 32) front → ((r : Request) → IsRequestOf r back → ⊥) → IsClientLine a text → ⊥
+pub request_is_back : (text front back : List ℕ) (a : Action) → text ≡ front ++ 32 ∷ back →
+    All (λ b. b ≢ 32) front → ((r : Request) → IsRequestOf r back → ⊥) → IsClientLine a text → ⊥
 request_is_back text front back (Action.Client n r) e first none is =
     let last = is.0.last in
-    let parts = same_split 32 (decimal n) (request_text r) front back (sym is.2 ∙ e) (decimal_whole n (omega arith)) first in
+    let parts = same_split 32 (decimal n) (request_text r) front back (sym is.2 ∙ e)
+    (decimal_whole n (omega arith)) first in
     none r (record { said = is.1; is = sym parts.1 })
 request_is_back text front back a e first none is = is
 
-line_is_client : (line rest : List ℕ) (a : Action) → line ≡ codes "c" ++ rest → (line ≡ codes "checkpoint" → ⊥) → IsLineOf a line → IsClientLine a rest
-line_is_client line rest (Action.Client n r) e k is = (is.said.0, is.said.1, append_cancel_left (codes "c") rest (decimal n ++ 32 ∷ request_text r) (sym e ∙ is.is))
-line_is_client line rest Action.Turn e k is = let h : ◌≡◌ {A = ℕ} 99 116 = ap first (sym e ∙ is.is) in absurd (omega arith)
+line_is_client : (line rest : List ℕ) (a : Action) → line ≡ codes "c" ++ rest →
+    (line ≡ codes "checkpoint" → ⊥) → IsLineOf a line → IsClientLine a rest
+line_is_client line rest (Action.Client n r) e k is = (
+  is.said.0,
+  is.said.1,
+  append_cancel_left (codes "c") rest (decimal n ++ 32 ∷ request_text r)
+      (sym e ∙ is.is),
+)
+line_is_client line rest Action.Turn e k is =
+    let h : ◌≡◌ {A = ℕ} 99 116 = ap first (sym e ∙ is.is) in absurd (omega arith)
 line_is_client line rest Action.Checkpoint e k is = absurd (k is.is)
 
-client_is_line : (line rest : List ℕ) (a : Action) → line ≡ codes "c" ++ rest → IsClientLine a rest → IsLineOf a line
-client_is_line line rest (Action.Client n r) e is = record { said = (is.0, is.1); is = e ∙ ap (λ (t : List ℕ). codes "c" ++ t) is.2 }
+client_is_line : (line rest : List ℕ) (a : Action) → line ≡ codes "c" ++ rest →
+    IsClientLine a rest → IsLineOf a line
+client_is_line line rest (Action.Client n r) e is =
+    record { said = (is.0, is.1); is = e ∙ ap (λ (t : List ℕ). codes "c" ++ t) is.2 }
 client_is_line line rest a e is = absurd is
 
 -- what is found behind the letter c is found in the whole line
-pub client_gives : {E : Type 0} (r : Result (Option Action) E) (line rest : List ℕ) → line ≡ codes "c" ++ rest → (line ≡ codes "checkpoint" → ⊥)
-    → IfOk r (λ found. MatchOption found ((a : Action) → IsClientLine a rest → ⊥) (λ a. IsClientLine a rest))
-    → IfOk r (λ found. MatchOption found ((a : Action) → IsLineOf a line → ⊥) (λ a. IsLineOf a line))
+pub client_gives : {E : Type 0} (r : Result (Option Action) E) (line rest : List ℕ) →
+    line ≡ codes "c" ++ rest → (line ≡ codes "checkpoint" → ⊥)
+    → IfOk r (λ found. MatchOption found ((a : Action) → IsClientLine a rest → ⊥)
+    (λ a. IsClientLine a rest))
+    → IfOk r (λ found. MatchOption found ((a : Action) → IsLineOf a line → ⊥)
+    (λ a. IsLineOf a line))
 client_gives (Ok None) line rest e k none = λ a is. none a (line_is_client line rest a e k is)
 client_gives (Ok (Some a)) line rest e k is = client_is_line line rest a e is
 client_gives (Err why) line rest e k h = tt
 
-pub no_line : (line : List ℕ) (a : Action) → (line ≡ codes "turn" → ⊥) → (line ≡ codes "checkpoint" → ⊥) → ((rest : List ℕ) → line ≡ codes "c" ++ rest → ⊥) → IsLineOf a line → ⊥
+pub no_line : (line : List ℕ) (a : Action) → (line ≡ codes "turn" → ⊥) →
+    (line ≡ codes "checkpoint" → ⊥) → ((rest : List ℕ) → line ≡ codes "c" ++ rest → ⊥) →
+    IsLineOf a line → ⊥
 no_line line (Action.Client n r) t k c is = c (decimal n ++ 32 ∷ request_text r) is.is
 no_line line Action.Turn t k c is = t is.is
 no_line line Action.Checkpoint t k c is = k is.is

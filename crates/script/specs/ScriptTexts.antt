@@ -1,5 +1,6 @@
 -- What each line of a script looks like.
-use Rattle.std.specs.Prelude.{◌≡◌, ◌≢◌, ℕ, ◌<◌, ◌≤◌, ◌^◌, ◌⊎◌, ℤ, List, [], ◌∷◌, ◌++◌, length, All, codes, Option, Some, None}
+use Rattle.std.specs.Prelude.{◌≡◌, ◌≢◌, ℕ, ◌<◌, ◌≤◌, ◌^◌, ◌⊎◌, ℤ, List, [], ◌∷◌, ◌++◌, length, All}
+use Rattle.std.specs.Prelude.{codes, Option, Some, None}
 use Rattle.std.specs.Int.{w64}
 use Rattle.std.specs.Int.RustNames.{FitsSigned}
 use Rattle.std.specs.Fmt.{decimal, signed_decimal}
@@ -95,10 +96,12 @@ IsKey text = (n : ℕ) × (n < 2 ^ 64) × (text ≡ decimal n)
 -- What may stand behind a verb.
 abbrev pub HasArguments : Verb → List ℕ → Type 0
 HasArguments Verb.Contains text = IsKey text
-HasArguments Verb.Add text = IsKey text ⊎ ((p g : ℕ) × (p < 2 ^ 64) × (g < 2 ^ 64) × (text ≡ decimal p ++ 32 ∷ decimal g))
+HasArguments Verb.Add text = IsKey text ⊎
+    ((p g : ℕ) × (p < 2 ^ 64) × (g < 2 ^ 64) × (text ≡ decimal p ++ 32 ∷ decimal g))
 HasArguments Verb.Remove text = IsKey text
 HasArguments Verb.Get text = IsKey text
-HasArguments Verb.Put text = (k : ℕ) × (v : List ℕ) × (k < 2 ^ 64) × All (λ b. b < 256) v × (text ≡ decimal k ++ 32 ∷ value_text v)
+HasArguments Verb.Put text = (k : ℕ) × (v : List ℕ) × (k < 2 ^ 64) × All (λ b. b < 256) v ×
+    (text ≡ decimal k ++ 32 ∷ value_text v)
 HasArguments Verb.Ceiling text = IsKey text
 HasArguments Verb.Bump text = (n : ℤ) × FitsSigned w64 n × (text ≡ signed_decimal n)
 HasArguments Verb.Release text = IsKey text
@@ -119,7 +122,8 @@ abbrev pub request_text : Request → List ℕ
 request_text (Request.Make kind name) = codes "make " ++ (kind_text kind ++ 32 ∷ name)
 request_text Request.Begin = codes "begin"
 request_text (Request.Call name o) = codes "call " ++ (name ++ 32 ∷ operation_text o)
-request_text (Request.Later name by) = codes "later " ++ (name ++ 32 ∷ operation_text (Operation.Call (Call.Bump by)))
+request_text (Request.Later name by) =
+    codes "later " ++ (name ++ 32 ∷ operation_text (Operation.Call (Call.Bump by)))
 request_text Request.Commit = codes "commit"
 request_text Request.Abort = codes "abort"
 request_text Request.Kept = codes "kept"
@@ -162,17 +166,21 @@ IsMakeOf r text = ⊥
 
 -- the text, behind the word call, asks for this operation
 abbrev pub IsCallOf : Request → List ℕ → Type 0
-IsCallOf (Request.Call name o) text = IsWord name × CanBeDone o × (text ≡ name ++ 32 ∷ operation_text o)
+IsCallOf (Request.Call name o) text =
+    IsWord name × CanBeDone o × (text ≡ name ++ 32 ∷ operation_text o)
 IsCallOf r text = ⊥
 
 -- the text, behind the word later, asks for this bump
 abbrev pub IsLaterOf : Request → List ℕ → Type 0
-IsLaterOf (Request.Later name by) text = IsWord name × FitsSigned w64 by × (text ≡ name ++ 32 ∷ operation_text (Operation.Call (Call.Bump by)))
+IsLaterOf (Request.Later name by) text =
+    IsWord name × FitsSigned w64 by ×
+    (text ≡ name ++ 32 ∷ operation_text (Operation.Call (Call.Bump by)))
 IsLaterOf r text = ⊥
 
 -- the text, behind the letter c, asks for this
 abbrev pub IsClientLine : Action → List ℕ → Type 0
-IsClientLine (Action.Client client r) text = IsClient client × CanBeAsked r × (text ≡ decimal client ++ 32 ∷ request_text r)
+IsClientLine (Action.Client client r) text =
+    IsClient client × CanBeAsked r × (text ≡ decimal client ++ 32 ∷ request_text r)
 IsClientLine a text = ⊥
 
 -- the line says this

@@ -11,19 +11,22 @@ abbrev pub at_front : ℕ → List (List ℕ) → List (List ℕ)
 at_front b [] = (b ∷ []) ∷ []
 at_front b (line ∷ lines) = (b ∷ line) ∷ lines
 
--- The lines of a text, which line feeds part. Behind the last line feed stands one line more, perhaps empty.
+-- The lines of a text, which line feeds part. Behind the last line feed stands one line more,
+-- perhaps empty.
 abbrev pub lines_of : List ℕ → List (List ℕ)
 lines_of [] = [] ∷ []
 lines_of (b ∷ text) = if b == 10 then [] ∷ lines_of text else at_front b (lines_of text)
 
 -- A line says nothing and is passed over, or it says one thing.
 abbrev pub LineSays : ℕ → List ℕ → List Line → Type 0
-LineSays n line said = (IsPassedOver line × (said ≡ [])) ⊎ ((a : Action) × IsLineOf a line × (said ≡ record { number = n; what = a } ∷ []))
+LineSays n line said = (IsPassedOver line × (said ≡ [])) ⊎
+    ((a : Action) × IsLineOf a line × (said ≡ record { number = n; what = a } ∷ []))
 
 -- what the lines say, the first of them with the number n
 abbrev pub Says : ℕ → List (List ℕ) → List Line → Type 0
 Says n [] said = said ≡ []
-Says n (line ∷ lines) said = (first others : List Line) × (said ≡ first ++ others) × LineSays n line first × Says (n + 1) lines others
+Says n (line ∷ lines) said = (first others : List Line) × (said ≡ first ++ others) ×
+    LineSays n line first × Says (n + 1) lines others
 
 -- A line that is neither passed over nor says anything.
 pub record IsNonsense (line : List ℕ) : Type 0 where
@@ -33,7 +36,8 @@ pub record IsNonsense (line : List ℕ) : Type 0 where
 -- The first line that is not understood has the number k.
 abbrev pub Stops : ℕ → List (List ℕ) → ℕ → Type 0
 Stops n [] k = ⊥
-Stops n (line ∷ lines) k = ((k ≡ n) × IsNonsense line) ⊎ ((said : List Line) × LineSays n line said × Stops (n + 1) lines k)
+Stops n (line ∷ lines) k = ((k ≡ n) × IsNonsense line) ⊎
+    ((said : List Line) × LineSays n line said × Stops (n + 1) lines k)
 
 -- why a line was refused, and why lines were
 abbrev pub IsWhyLine : ℕ → List ℕ → ScriptError → Type 0
@@ -52,4 +56,5 @@ pub record IsScriptOf (said : List Line) (script : List ℕ) : Type 0 where
 -- Why a script was refused: bytes that are no text count as a first line that is not understood.
 abbrev pub IsWhy : List ℕ → ScriptError → Type 0
 IsWhy script ScriptError.NoMemory = Unit {0}
-IsWhy script (ScriptError.NotUnderstood k) = ((IsUtf8 script → ⊥) × (k ≡ 1)) ⊎ (IsUtf8 script × Stops 1 (lines_of script) k)
+IsWhy script (ScriptError.NotUnderstood k) =
+    ((IsUtf8 script → ⊥) × (k ≡ 1)) ⊎ (IsUtf8 script × Stops 1 (lines_of script) k)

@@ -6,7 +6,8 @@ use calls::{Call, Kind, Name};
 pub enum Operation {
     /// The call.
     Call(Call),
-    /// What a map holds at the key is removed, or the element of a set: of which of the two, the name decides.
+    /// What a map holds at the key is removed, or the element of a set: of which of the two, the
+    /// name decides.
     Remove(u64),
 }
 

@@ -1,9 +1,11 @@
 // What a line asks of a collection.
-ghost use Rattle.std.specs.Prelude.{◌≡◌, ℕ, ◌<◌, ◌^◌, ◌++◌, ◌∷◌, List, Some, None, IfOk, IfSome, IfNone, MatchOption};
+ghost use Rattle.std.specs.Prelude.{◌≡◌, ℕ, ◌<◌, ◌^◌, ◌++◌, ◌∷◌, List, Some, None, IfOk, IfSome};
+ghost use Rattle.std.specs.Prelude.{IfNone, MatchOption};
 ghost use Rattle.std.specs.Fmt.{decimal};
 ghost use Rattle.script.specs.declared.action.Operation.{Operation};
 ghost use Rattle.script.specs.declared.operations.Verb.{Verb};
-ghost use Rattle.script.specs.ScriptTexts.{CanBeDone, verb_text, said, operation_text, HasArguments, IsKeyed};
+ghost use Rattle.script.specs.ScriptTexts.{CanBeDone, verb_text, said, operation_text};
+ghost use Rattle.script.specs.ScriptTexts.{HasArguments, IsKeyed};
 
 use crate::action::Operation;
 use crate::words::{natural, number, split_at_byte, value};
@@ -29,7 +31,8 @@ pub enum Verb {
 
 // The verb that the text is.
 fn verb_of(text: &[u8]) -> Option<Verb>
-    ensures { MatchOption result ((v : Verb) → text.now ≡ verb_text v → ⊥) (λ v. text.now ≡ verb_text v) }
+    ensures { MatchOption result ((v : Verb) → text.now ≡ verb_text v → ⊥)
+        (λ v. text.now ≡ verb_text v) }
 {
     match text {
         b"contains" => Some(Verb::Contains),
@@ -50,7 +53,8 @@ fn verb_of(text: &[u8]) -> Option<Verb>
 
 // The operation that is a verb alone.
 fn alone(verb: Verb) -> Option<Operation>
-    ensures { MatchOption result ((o : Operation) → CanBeDone o → said o ≡ Some (verb, None) → ⊥) (λ o. CanBeDone o × (said o ≡ Some (verb, None))) }
+    ensures { MatchOption result ((o : Operation) → CanBeDone o → said o ≡ Some (verb, None) → ⊥)
+        (λ o. CanBeDone o × (said o ≡ Some (verb, None))) }
 {
     match verb {
         Verb::Take => Some(Operation::Call(Call::Take)),
@@ -81,7 +85,8 @@ fn on_key(alloc: Global, verb: Verb, text: &[u8]) -> Result<Option<Operation>, A
     requires add { verb ≡ Verb.Add → ⊥ }
     requires put { verb ≡ Verb.Put → ⊥ }
     requires bump { verb ≡ Verb.Bump → ⊥ }
-    ensures { IfOk result (λ found. MatchOption found (HasArguments verb text.now → ⊥) (λ o. CanBeDone o × (said o ≡ Some (verb, Some text.now)))) }
+    ensures { IfOk result (λ found. MatchOption found (HasArguments verb text.now → ⊥)
+        (λ o. CanBeDone o × (said o ≡ Some (verb, Some text.now)))) }
 {
     match natural(alloc, text)? {
         Some(key) => Ok(keyed(verb, key)),
@@ -91,7 +96,8 @@ fn on_key(alloc: Global, verb: Verb, text: &[u8]) -> Result<Option<Operation>, A
 
 // An addition to a set, or to a queue.
 fn added(alloc: Global, text: &[u8]) -> Result<Option<Operation>, AllocError>
-    ensures { IfOk result (λ found. MatchOption found (HasArguments Verb.Add text.now → ⊥) (λ o. CanBeDone o × (said o ≡ Some (Verb.Add, Some text.now)))) }
+    ensures { IfOk result (λ found. MatchOption found (HasArguments Verb.Add text.now → ⊥)
+        (λ o. CanBeDone o × (said o ≡ Some (Verb.Add, Some text.now)))) }
 {
     let Some((front, back)) = split_at_byte(text, b' ') else {
         return match natural(alloc, text)? {
@@ -110,7 +116,8 @@ fn added(alloc: Global, text: &[u8]) -> Result<Option<Operation>, AllocError>
 
 // A value that is put at a key.
 fn put(alloc: Global, text: &[u8]) -> Result<Option<Operation>, AllocError>
-    ensures { IfOk result (λ found. MatchOption found (HasArguments Verb.Put text.now → ⊥) (λ o. CanBeDone o × (said o ≡ Some (Verb.Put, Some text.now)))) }
+    ensures { IfOk result (λ found. MatchOption found (HasArguments Verb.Put text.now → ⊥)
+        (λ o. CanBeDone o × (said o ≡ Some (Verb.Put, Some text.now)))) }
 {
     let Some((front, back)) = split_at_byte(text, b' ') else {
         return Ok(None);
@@ -126,7 +133,8 @@ fn put(alloc: Global, text: &[u8]) -> Result<Option<Operation>, AllocError>
 
 // A bump of a counter.
 fn bumped(alloc: Global, text: &[u8]) -> Result<Option<Operation>, AllocError>
-    ensures { IfOk result (λ found. MatchOption found (HasArguments Verb.Bump text.now → ⊥) (λ o. CanBeDone o × (said o ≡ Some (Verb.Bump, Some text.now)))) }
+    ensures { IfOk result (λ found. MatchOption found (HasArguments Verb.Bump text.now → ⊥)
+        (λ o. CanBeDone o × (said o ≡ Some (Verb.Bump, Some text.now)))) }
 {
     match number(alloc, text)? {
         Some(n) => Ok(Some(Operation::Call(Call::Bump(n)))),
@@ -136,7 +144,8 @@ fn bumped(alloc: Global, text: &[u8]) -> Result<Option<Operation>, AllocError>
 
 // The operation of a verb with what stands behind it.
 fn with_arguments(alloc: Global, verb: Verb, text: &[u8]) -> Result<Option<Operation>, AllocError>
-    ensures { IfOk result (λ found. MatchOption found (HasArguments verb text.now → ⊥) (λ o. CanBeDone o × (said o ≡ Some (verb, Some text.now)))) }
+    ensures { IfOk result (λ found. MatchOption found (HasArguments verb text.now → ⊥)
+        (λ o. CanBeDone o × (said o ≡ Some (verb, Some text.now)))) }
 {
     match verb {
         Verb::Add => added(alloc, text),
@@ -148,7 +157,8 @@ fn with_arguments(alloc: Global, verb: Verb, text: &[u8]) -> Result<Option<Opera
 
 // The operation of a verb with what stands behind it, if the word is a verb.
 fn after_word(alloc: Global, word: &[u8], rest: &[u8]) -> Result<Option<Operation>, AllocError>
-    ensures { IfOk result (λ found. MatchOption found ((v : Verb) → word.now ≡ verb_text v → HasArguments v rest.now → ⊥)
+    ensures { IfOk result (λ found. MatchOption found
+        ((v : Verb) → word.now ≡ verb_text v → HasArguments v rest.now → ⊥)
         (λ o. CanBeDone o × (operation_text o ≡ word.now ++ 32 ∷ rest.now))) }
 {
     match verb_of(word) {
@@ -159,7 +169,8 @@ fn after_word(alloc: Global, word: &[u8], rest: &[u8]) -> Result<Option<Operatio
 
 // The operation of a word alone, if the word is a verb.
 fn one_word(word: &[u8]) -> Option<Operation>
-    ensures { MatchOption result ((v : Verb) (o : Operation) → word.now ≡ verb_text v → CanBeDone o → said o ≡ Some (v, None) → ⊥)
+    ensures { MatchOption result ((v : Verb) (o : Operation) → word.now ≡ verb_text v →
+        CanBeDone o → said o ≡ Some (v, None) → ⊥)
         (λ o. CanBeDone o × (operation_text o ≡ word.now)) }
 {
     alone(verb_of(word)?)
@@ -167,7 +178,9 @@ fn one_word(word: &[u8]) -> Option<Operation>
 
 // The operation that the text asks for.
 pub fn operation(alloc: Global, text: &[u8]) -> Result<Option<Operation>, AllocError>
-    ensures { IfOk result (λ found. MatchOption found ((o : Operation) → CanBeDone o → text.now ≡ operation_text o → ⊥) (λ o. CanBeDone o × (text.now ≡ operation_text o))) }
+    ensures { IfOk result (λ found. MatchOption found
+        ((o : Operation) → CanBeDone o → text.now ≡ operation_text o → ⊥)
+        (λ o. CanBeDone o × (text.now ≡ operation_text o))) }
 {
     match split_at_byte(text, b' ') {
         Some((word, rest)) => after_word(alloc, word, rest),

@@ -7,7 +7,8 @@ ghost use Rattle.calls.specs.declared.kind.Kind.{Kind};
 ghost use Rattle.script.specs.declared.action.Operation.{Operation};
 ghost use Rattle.script.specs.declared.action.Request.{Request};
 ghost use Rattle.script.specs.declared.action.Action.{Action};
-ghost use Rattle.script.specs.ScriptTexts.{IsRequestOf, IsLineOf, IsClientLine, IsMakeOf, IsCallOf, IsLaterOf, kind_text, operation_text};
+ghost use Rattle.script.specs.ScriptTexts.{IsRequestOf, IsLineOf, IsClientLine, IsMakeOf, IsCallOf};
+ghost use Rattle.script.specs.ScriptTexts.{IsLaterOf, kind_text, operation_text};
 
 use crate::action::{Action, Request};
 use crate::operations::operation;
@@ -17,7 +18,8 @@ use std::alloc::{AllocError, Global};
 
 // What stands behind the word call.
 fn called(alloc: Global, text: &[u8]) -> Result<Option<Request>, AllocError>
-    ensures { IfOk result (λ found. MatchOption found ((r : Request) → IsCallOf r text.now → ⊥) (λ r. IsCallOf r text.now)) }
+    ensures { IfOk result (λ found. MatchOption found ((r : Request) → IsCallOf r text.now → ⊥)
+        (λ r. IsCallOf r text.now)) }
 {
     let Some((front, back)) = split_at_byte(text, b' ') else {
         return Ok(None);
@@ -33,7 +35,8 @@ fn called(alloc: Global, text: &[u8]) -> Result<Option<Request>, AllocError>
 
 // By how much a bump is.
 fn bump(alloc: Global, text: &[u8]) -> Result<Option<i64>, AllocError>
-    ensures { IfOk result (λ found. MatchOption found ((n : ℤ) → FitsSigned w64 n → text.now ≡ operation_text (Operation.Call (Call.Bump n)) → ⊥)
+    ensures { IfOk result (λ found. MatchOption found
+        ((n : ℤ) → FitsSigned w64 n → text.now ≡ operation_text (Operation.Call (Call.Bump n)) → ⊥)
         (λ n. FitsSigned w64 n × (text.now ≡ operation_text (Operation.Call (Call.Bump n))))) }
 {
     match behind(text, b"bump ") {
@@ -44,7 +47,8 @@ fn bump(alloc: Global, text: &[u8]) -> Result<Option<i64>, AllocError>
 
 // What stands behind the word later.
 fn put_off(alloc: Global, text: &[u8]) -> Result<Option<Request>, AllocError>
-    ensures { IfOk result (λ found. MatchOption found ((r : Request) → IsLaterOf r text.now → ⊥) (λ r. IsLaterOf r text.now)) }
+    ensures { IfOk result (λ found. MatchOption found ((r : Request) → IsLaterOf r text.now → ⊥)
+        (λ r. IsLaterOf r text.now)) }
 {
     let Some((front, back)) = split_at_byte(text, b' ') else {
         return Ok(None);
@@ -60,7 +64,8 @@ fn put_off(alloc: Global, text: &[u8]) -> Result<Option<Request>, AllocError>
 
 // The kind that the text names.
 fn kind_of(text: &[u8]) -> Option<Kind>
-    ensures { MatchOption result ((k : Kind) → text.now ≡ kind_text k → ⊥) (λ k. text.now ≡ kind_text k) }
+    ensures { MatchOption result ((k : Kind) → text.now ≡ kind_text k → ⊥)
+        (λ k. text.now ≡ kind_text k) }
 {
     match text {
         b"set" => Some(Kind::Set),
@@ -74,7 +79,8 @@ fn kind_of(text: &[u8]) -> Option<Kind>
 
 // What stands behind the word make.
 fn made(alloc: Global, text: &[u8]) -> Result<Option<Request>, AllocError>
-    ensures { IfOk result (λ found. MatchOption found ((r : Request) → IsMakeOf r text.now → ⊥) (λ r. IsMakeOf r text.now)) }
+    ensures { IfOk result (λ found. MatchOption found ((r : Request) → IsMakeOf r text.now → ⊥)
+        (λ r. IsMakeOf r text.now)) }
 {
     let Some((front, back)) = split_at_byte(text, b' ') else {
         return Ok(None);
@@ -90,7 +96,8 @@ fn made(alloc: Global, text: &[u8]) -> Result<Option<Request>, AllocError>
 
 // What a client asks for.
 fn request(alloc: Global, text: &[u8]) -> Result<Option<Request>, AllocError>
-    ensures { IfOk result (λ found. MatchOption found ((r : Request) → IsRequestOf r text.now → ⊥) (λ r. IsRequestOf r text.now)) }
+    ensures { IfOk result (λ found. MatchOption found ((r : Request) → IsRequestOf r text.now → ⊥)
+        (λ r. IsRequestOf r text.now)) }
 {
     if same(text, b"begin") {
         return Ok(Some(Request::Begin));
@@ -118,7 +125,8 @@ fn request(alloc: Global, text: &[u8]) -> Result<Option<Request>, AllocError>
 
 // What a client's line asks for, behind the letter c.
 fn of_client(alloc: Global, text: &[u8]) -> Result<Option<Action>, AllocError>
-    ensures { IfOk result (λ found. MatchOption found ((a : Action) → IsClientLine a text.now → ⊥) (λ a. IsClientLine a text.now)) }
+    ensures { IfOk result (λ found. MatchOption found ((a : Action) → IsClientLine a text.now → ⊥)
+        (λ a. IsClientLine a text.now)) }
 {
     let Some((front, back)) = split_at_byte(text, b' ') else {
         return Ok(None);
@@ -134,7 +142,8 @@ fn of_client(alloc: Global, text: &[u8]) -> Result<Option<Action>, AllocError>
 
 // What a line asks for.
 pub fn action(alloc: Global, line: &[u8]) -> Result<Option<Action>, AllocError>
-    ensures { IfOk result (λ found. MatchOption found ((a : Action) → IsLineOf a line.now → ⊥) (λ a. IsLineOf a line.now)) }
+    ensures { IfOk result (λ found. MatchOption found ((a : Action) → IsLineOf a line.now → ⊥)
+        (λ a. IsLineOf a line.now)) }
 {
     if same(line, b"turn") {
         return Ok(Some(Action::Turn));

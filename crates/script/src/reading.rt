@@ -1,7 +1,8 @@
 // Scripts, line by line.
 ghost use Rattle.std.specs.Prelude.{◌≡◌, ◌+◌, ◌<◌, ◌++◌, length, IfOk, IfErr, OnOk};
 ghost use Rattle.std.specs.Option.{option_to_list};
-ghost use Rattle.script.specs.Scripts.{lines_of, LineSays, Says, IsScriptOf, IsWhy, IsWhyLine, IsWhyLines};
+ghost use Rattle.script.specs.Scripts.{lines_of, LineSays, Says, IsScriptOf, IsWhy, IsWhyLine};
+ghost use Rattle.script.specs.Scripts.{IsWhyLines};
 
 use crate::line::{Line, ScriptError};
 use crate::phrases::action;
@@ -51,11 +52,14 @@ fn read_lines(alloc: Global, text: &[u8]) -> Result<Vec<Line>, ScriptError>
     Ok(lines)
 }
 
-/// What the lines of a script ask for, in their order. No line is understood but those that this program knows, word
-/// for word, with one space between two words. Lines end with a line feed; an empty line and one that begins with
+/// What the lines of a script ask for, in their order. No line is understood but those that this
+/// program knows, word
+/// for word, with one space between two words. Lines end with a line feed; an empty line and one
+/// that begins with
 /// `#` are passed over and counted.
 ///
-/// Refused NotUnderstood with the number of the first line that is not understood, which is 1 where the script is
+/// Refused NotUnderstood with the number of the first line that is not understood, which is 1 where
+/// the script is
 /// not UTF-8; and NoMemory.
 pub fn parse(alloc: Global, script: &[u8]) -> Result<Vec<Line>, ScriptError>
     ensures read { IfOk result (λ lines. IsScriptOf lines.items script.now) }

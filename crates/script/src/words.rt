@@ -1,5 +1,6 @@
 // The words of a line.
-ghost use Rattle.std.specs.Prelude.{◌≡◌, ◌≢◌, ℕ, ◌+◌, ◌<◌, ◌^◌, ◌++◌, ◌∷◌, List, ℤ, All, length, IfOk, IfSome, IfNone, MatchOption, IsTrue, ◌↔◌, Ok};
+ghost use Rattle.std.specs.Prelude.{◌≡◌, ◌≢◌, ℕ, ◌+◌, ◌<◌, ◌^◌, ◌++◌, ◌∷◌, List, ℤ, All, length};
+ghost use Rattle.std.specs.Prelude.{IfOk, IfSome, IfNone, MatchOption, IsTrue, ◌↔◌, Ok};
 ghost use Rattle.std.specs.Int.{w64};
 ghost use Rattle.std.specs.Int.RustNames.{FitsSigned};
 ghost use Rattle.std.specs.Fmt.{decimal, signed_decimal};
@@ -46,7 +47,8 @@ pub fn split_at_byte(text: &[u8], byte: u8) -> Option<(&[u8], &[u8])>
 
 // The text as a name, where it is a word.
 pub fn word(alloc: Global, text: &[u8]) -> Result<Option<Name>, AllocError>
-    ensures { IfOk result (λ found. MatchOption found (IsWord text.now → ⊥) (λ name. (name ≡ text.now) × IsWord name)) }
+    ensures { IfOk result (λ found. MatchOption found (IsWord text.now → ⊥)
+        (λ name. (name ≡ text.now) × IsWord name)) }
 {
     if text.is_empty() {
         return Ok(None);
@@ -60,9 +62,12 @@ pub fn word(alloc: Global, text: &[u8]) -> Result<Option<Name>, AllocError>
     }
 }
 
-// The number that the text writes in the one way that is understood: no sign but a minus, and no digit too many.
+// The number that the text writes in the one way that is understood: no sign but a minus, and no
+// digit too many.
 pub fn number(alloc: Global, text: &[u8]) -> Result<Option<i64>, AllocError>
-    ensures { IfOk result (λ found. MatchOption found ((n : ℤ) → FitsSigned w64 n → text.now ≡ signed_decimal n → ⊥) (λ n. FitsSigned w64 n × (text.now ≡ signed_decimal n))) }
+    ensures { IfOk result (λ found. MatchOption found
+        ((n : ℤ) → FitsSigned w64 n → text.now ≡ signed_decimal n → ⊥)
+        (λ n. FitsSigned w64 n × (text.now ≡ signed_decimal n))) }
 {
     let Ok(word) = std::str::from_utf8(text) else {
         return Ok(None);
@@ -78,9 +83,11 @@ pub fn number(alloc: Global, text: &[u8]) -> Result<Option<i64>, AllocError>
     }
 }
 
-// The natural number that the text writes in the one way that is understood: no sign, and no digit too many.
+// The natural number that the text writes in the one way that is understood: no sign, and no digit
+// too many.
 pub fn natural(alloc: Global, text: &[u8]) -> Result<Option<u64>, AllocError>
-    ensures { IfOk result (λ found. MatchOption found ((n : ℕ) → n < 2 ^ 64 → text.now ≡ decimal n → ⊥) (λ n. text.now ≡ decimal n)) }
+    ensures { IfOk result (λ found. MatchOption found
+        ((n : ℕ) → n < 2 ^ 64 → text.now ≡ decimal n → ⊥) (λ n. text.now ≡ decimal n)) }
 {
     let Ok(word) = std::str::from_utf8(text) else {
         return Ok(None);
@@ -105,7 +112,9 @@ fn is_client(number: u64) -> bool
 
 // The number of the client that the text names: from 1 to 64.
 pub fn client(alloc: Global, text: &[u8]) -> Result<Option<u8>, AllocError>
-    ensures { IfOk result (λ found. MatchOption found ((n : ℕ) → IsClient n → text.now ≡ decimal n → ⊥) (λ n. IsClient n × (text.now ≡ decimal n))) }
+    ensures { IfOk result (λ found. MatchOption found
+        ((n : ℕ) → IsClient n → text.now ≡ decimal n → ⊥)
+        (λ n. IsClient n × (text.now ≡ decimal n))) }
 {
     let Some(number) = natural(alloc, text)? else {
         return Ok(None);
@@ -120,7 +129,8 @@ pub fn client(alloc: Global, text: &[u8]) -> Result<Option<u8>, AllocError>
 
 // The bytes of pairs of digits, whatever the case of their letters.
 fn digits(alloc: Global, text: &[u8]) -> Result<Option<Vec<u8>>, AllocError>
-    ensures { IfOk result (λ found. MatchOption found ((v : List ℕ) → decode_of text.now ≡ Ok v → ⊥) (λ v. decode_of text.now ≡ Ok v.items)) }
+    ensures { IfOk result (λ found. MatchOption found ((v : List ℕ) → decode_of text.now ≡ Ok v → ⊥)
+        (λ v. decode_of text.now ≡ Ok v.items)) }
 {
     match hex::decode(alloc, text) {
         Ok(bytes) => Ok(Some(bytes)),
@@ -131,7 +141,9 @@ fn digits(alloc: Global, text: &[u8]) -> Result<Option<Vec<u8>>, AllocError>
 
 // The bytes that pairs of digits write, none of them for a dash alone.
 pub fn value(alloc: Global, text: &[u8]) -> Result<Option<Bytes>, AllocError>
-    ensures { IfOk result (λ found. MatchOption found ((v : List ℕ) → All (λ b. b < 256) v → text.now ≡ value_text v → ⊥) (λ v. All (λ b. b < 256) v × (text.now ≡ value_text v))) }
+    ensures { IfOk result (λ found. MatchOption found
+        ((v : List ℕ) → All (λ b. b < 256) v → text.now ≡ value_text v → ⊥)
+        (λ v. All (λ b. b < 256) v × (text.now ≡ value_text v))) }
 {
     if same(text, b"-") {
         return Ok(Some(Bytes::new(Vec::new(alloc))));

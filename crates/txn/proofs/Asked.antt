@@ -3,13 +3,14 @@ use Rattle.std.proofs.Common.{◌≡◌, ℕ, ◌<◌, Option, None, List}
 use Rattle.calls.specs.declared.call.Call.{Call}
 use Rattle.calls.specs.declared.reply.Reply.{Reply}
 use Rattle.calls.specs.Contents.{Collection, AnswersAt}
-use Rattle.calls.specs.Inverses.{Askable}
+use Rattle.calls.specs.Rules.{Askable}
 use Rattle.record_format.specs.Records.{IsNumber, IsRecord, FitsCall, FitsReply}
-use Rattle.records.specs.Told.{InverseAsTold}
 use Rattle.record_format.proofs.CallRecords.{call_is_record}
 use Rattle.txn.specs.Books.{record_of}
 
 -- The call has a record.
-pub is_record : (inverse : Call → Reply → Option Call) → InverseAsTold inverse → (n at : ℕ) (s : List Collection) (c : Call) (r : Reply) → IsNumber n → at < 256 → Askable c → AnswersAt s at c r → FitsCall c → FitsReply r →
-    IsRecord None (record_of inverse n (record { at = at; call = c; reply = r }))
-is_record inverse told n at s c r number few asked answered call reply = rw (told c r) (call_is_record None n at s c r number few asked answered call reply)
+pub is_record : (n at : ℕ) (s : List Collection) (c : Call) (r : Reply) → IsNumber n → at < 256 →
+    Askable c → AnswersAt s at c r → FitsCall c → FitsReply r →
+    IsRecord None (record_of n (record { at = at; call = c; reply = r }))
+is_record n at s c r number few asked answered call reply =
+    call_is_record None n at s c r number few asked answered call reply

@@ -1,11 +1,11 @@
 -- A book from its parts, before and after a step.
-use Rattle.std.proofs.Common.{◌≡◌, ℕ, suc, ◌+◌, ◌<◌, Option, List, [], ◌∷◌, ◌++◌, length, refl, sym, ◌∙◌, ap, arith}
+use Rattle.std.proofs.Common.{◌≡◌, ℕ, suc, ◌+◌, ◌<◌, Option, List, [], ◌∷◌, ◌++◌, length, refl, sym}
+use Rattle.std.proofs.Common.{◌∙◌, ap, arith}
 use Rattle.calls.specs.declared.call.Call.{Call}
 use Rattle.calls.specs.declared.reply.Reply.{Reply}
 use Rattle.calls.specs.Contents.{Collection}
 use Rattle.calls.specs.declared.refusal.Refusal.{Refusal}
-use Rattle.catalog.specs.Making as making
-use Rattle.catalog.specs.Making.{MakesNamed}
+use Rattle.catalog.specs.Making as naming
 use Rattle.record_format.specs.declared.record.Record.{Record}
 use Rattle.record_format.specs.Acts as acts
 use Rattle.record_format.specs.Records.{number}
@@ -26,11 +26,26 @@ pub mark_length : (n : ℕ) → 9 ≡ suc (length (number 8 n))
 mark_length n = ap suc (sym (length-number 8 n))
 
 module _ {S : Type 0} (s : State S) (w : Waiting) (places next : ℕ) where
-  -- The book's fields once a record waits behind the others: room was made first, and it was then written.
-  pub recorded : (r : Record) (t : State S) (reserved w' : Waiting) (places' next' : ℕ) → length (waiting w) < 16384 → waiting reserved ≡ waiting w → freezes reserved ≡ freezes w → reserved.handed ≡ w.handed →
-      waiting w' ≡ waiting reserved ++ r ∷ [] → freezes w' ≡ freezes reserved → w'.handed ≡ reserved.handed → places' ≡ places + acts.places (r ∷ []) → Appends (book_of s w places next) r (book_of t w' places' next')
+  -- The book's fields once a record waits behind the others: room was made first, and it was then
+  -- written.
+  pub recorded : (r : Record) (t : State S) (reserved w' : Waiting) (places' next' : ℕ) →
+      length (waiting w) < 16384 → waiting reserved ≡ waiting w → freezes reserved ≡ freezes w →
+      reserved.handed ≡ w.handed →
+      waiting w' ≡ waiting reserved ++ r ∷ [] → freezes w' ≡ freezes reserved →
+      w'.handed ≡ reserved.handed → places' ≡ places + acts.places (r ∷ []) →
+      Appends (book_of s w places next) r (book_of t w' places' next')
   recorded r t reserved w' places' next' room waits marks handed written marked also counted =
-      let with : List Record → List ℕ → Handed → ℕ → BookState S = λ pending marks h n. record { state = t; pending = pending; freezes = marks; end = h.end; place = h.place; places = n; next = next' } in
+      let with : List Record → List ℕ → Handed → ℕ → BookState S =
+      λ pending marks h n. record {
+        state =
+            t;
+        pending = pending;
+        freezes = marks;
+        end = h.end;
+        place = h.place;
+        places = n;
+        next = next';
+      } in
       let records : waiting w' ≡ waiting w ++ r ∷ [] = written ∙ ap (λ l. l ++ r ∷ []) waits in
       record {
         room = room;
@@ -42,40 +57,84 @@ module _ {S : Type 0} (s : State S) (w : Waiting) (places next : ℕ) where
       }
 
 -- a book with no live transaction and nothing pending
-pub opened_is : {S : Type 0} (now : S) (s : State S) (w : Waiting) (wear next : ℕ) → s ≡ resting now wear → waiting w ≡ [] → freezes w ≡ [] → w.handed ≡ record { end = 0; place = 0 } → book_of s w 0 next ≡ opened now next wear
+pub opened_is : {S : Type 0} (now : S) (s : State S) (w : Waiting) (wear next : ℕ) →
+    s ≡ resting now wear → waiting w ≡ [] → freezes w ≡ [] →
+    w.handed ≡ record { end = 0; place = 0 } → book_of s w 0 next ≡ opened now next wear
 opened_is {S} now s w wear next state records marks handed =
-    let with : State S → List Record → List ℕ → Handed → BookState S = λ v pending marks h. record { state = v; pending = pending; freezes = marks; end = h.end; place = h.place; places = 0; next = next } in
+    let with : State S → List Record → List ℕ → Handed → BookState S =
+    λ v pending marks h. record {
+      state =
+          v;
+      pending = pending;
+      freezes = marks;
+      end = h.end;
+      place = h.place;
+      places = 0;
+      next = next;
+    } in
     ap (λ v. with v (waiting w) (freezes w) w.handed) state
     ∙ ap (λ v. with (resting now wear) v (freezes w) w.handed) records
     ∙ ap (λ v. with (resting now wear) [] v w.handed) marks
     ∙ ap (λ v. with (resting now wear) [] [] v) handed
 
 -- What refuses a making in the collections refuses it in the book.
-pub make_refused : {S : Type 0} (names : List (List ℕ)) (b : BookState S) (name : List ℕ) (e : Refusal) → length b.pending < 16384 → making.MakeRefused names name e → MakeRefused names b name e
+pub make_refused : {S : Type 0} (names : List (List ℕ)) (b : BookState S) (name : List ℕ)
+    (e : Refusal) → length b.pending < 16384 → naming.MakeRefused names name e →
+    MakeRefused names b name e
 make_refused names b name Refusal.Backlog room is = absurd is
-make_refused names b name Refusal.NoMemory room is = (λ full. absurd (omega (arith, room, full)), is.good)
-make_refused names b name Refusal.NameTaken room is = (λ full. absurd (omega (arith, room, full)), is)
-make_refused names b name Refusal.TooManyCollections room is = (λ full. absurd (omega (arith, room, full)), is)
+make_refused names b name Refusal.NoMemory room is =
+    (λ full. absurd (omega (arith, room, full)), is.good)
+make_refused names b name Refusal.NameTaken room is =
+    (λ full. absurd (omega (arith, room, full)), is)
+make_refused names b name Refusal.TooManyCollections room is =
+    (λ full. absurd (omega (arith, room, full)), is)
 make_refused names b name Refusal.BadName room is = (λ full. absurd (omega (arith, room, full)), is)
 make_refused names b name Refusal.TooLong room is = (λ full. absurd (omega (arith, room, full)), is)
 make_refused names b name e room is = (λ full. absurd (omega (arith, room, full)), is)
 
 -- Nothing of the book changes where only room was made.
-pub reserved_same : {S : Type 0} (s t : State S) (w w' : Waiting) (places next : ℕ) → t ≡ s → waiting w' ≡ waiting w → freezes w' ≡ freezes w → w'.handed ≡ w.handed → book_of t w' places next ≡ book_of s w places next
+pub reserved_same : {S : Type 0} (s t : State S) (w w' : Waiting) (places next : ℕ) → t ≡ s →
+    waiting w' ≡ waiting w → freezes w' ≡ freezes w → w'.handed ≡ w.handed →
+    book_of t w' places next ≡ book_of s w places next
 reserved_same {S} s t w w' places next same waits marks handed =
-    let with : State S → List Record → List ℕ → Handed → BookState S = λ v pending marks h. record { state = v; pending = pending; freezes = marks; end = h.end; place = h.place; places = places; next = next } in
-    ap (λ v. with v (waiting w') (freezes w') w'.handed) same ∙ ap (λ v. with s v (freezes w') w'.handed) waits ∙ ap (λ v. with s (waiting w) v w'.handed) marks ∙ ap (λ v. with s (waiting w) (freezes w) v) handed
+    let with : State S → List Record → List ℕ → Handed → BookState S =
+    λ v pending marks h. record {
+      state =
+          v;
+      pending = pending;
+      freezes = marks;
+      end = h.end;
+      place = h.place;
+      places = places;
+      next = next;
+    } in
+    ap (λ v. with v (waiting w') (freezes w') w'.handed) same ∙
+    ap (λ v. with s v (freezes w') w'.handed) waits ∙
+    ap (λ v. with s (waiting w) v w'.handed) marks ∙
+    ap (λ v. with s (waiting w) (freezes w) v) handed
 
 -- Nothing but the freezes changes where the last block was sealed.
-pub only_sealed : {S : Type 0} (s : State S) (w w' : Waiting) (places next : ℕ) → waiting w' ≡ waiting w → w'.handed ≡ w.handed → book_of s w' places next ≡ record (book_of s w places next) { freezes = freezes w' }
+pub only_sealed : {S : Type 0} (s : State S) (w w' : Waiting) (places next : ℕ) →
+    waiting w' ≡ waiting w → w'.handed ≡ w.handed →
+    book_of s w' places next ≡ record (book_of s w places next) { freezes = freezes w' }
 only_sealed {S} s w w' places next waits handed =
-    let with : List Record → Handed → BookState S = λ pending h. record { state = s; pending = pending; freezes = freezes w'; end = h.end; place = h.place; places = places; next = next } in
+    let with : List Record → Handed → BookState S =
+    λ pending h. record {
+      state = s;
+      pending = pending;
+      freezes = freezes w';
+      end = h.end;
+      place = h.place;
+      places = places;
+      next = next;
+    } in
     ap (λ v. with v w'.handed) waits ∙ ap (λ v. with (waiting w) v) handed
 
 -- The image that was packed is one of the book.
-pub packed_image : {S : Type 0} (collections : S → List Collection) (inverse : Call → Reply → Option Call) (b : BookState S) (image : Image) → IsPackedImage collections inverse b.next b.state image.blocks.items →
-    image.end ≡ b.end + length b.pending → image.place ≡ b.places → IsImageOf collections inverse b image
-packed_image collections inverse b image packed end place = record {
+pub packed_image : {S : Type 0} (collections : S → List Collection) (b : BookState S)
+    (image : Image) → IsPackedImage collections b.next b.state image.blocks.items →
+    image.end ≡ b.end + length b.pending → image.place ≡ b.places → IsImageOf collections b image
+packed_image collections b image packed end place = record {
   numbers = packed.tells.numbers;
   are_live = packed.tells.are_live;
   records = joined packed.groups;

@@ -7,12 +7,16 @@ use Rattle.calls.specs.declared.reply.Reply.{Reply}
 use Rattle.calls.specs.declared.need.Need.{Need}
 use Rattle.calls.specs.declared.refusal.Refusal.{Refusal}
 use Rattle.calls.specs.Contents.{Collection}
-use Rattle.calls.specs.Transactions.{Leads, Asked, PutOff, Transaction, Act, Begins, Asks, Commits, Creates, committed, Serial}
+use Rattle.calls.specs.Transactions.{Leads, Asked, PutOff, Transaction, Act, Begins, Asks, Commits}
+use Rattle.calls.specs.Transactions.{Creates, committed, Serial}
 use Rattle.machine.specs.Machine.{State}
-use Rattle.txn.specs.Books.{BookState, MakeAnswers, EnterAnswers, CallAnswers, LaterAnswers, CommitAnswers, BackAnswers, EndedAnswers, CutAnswers}
+use Rattle.txn.specs.Books.{BookState, MakeAnswers, EnterAnswers, CallAnswers, LaterAnswers}
+use Rattle.txn.specs.Books.{CommitAnswers, BackAnswers, EndedAnswers, CutAnswers}
 use Rattle.txn.specs.Freezing.{FreezeAnswers}
 use Rattle.blocks.specs.declared.block.Block.{Block}
 use Rattle.blocks.specs.declared.block.Image.{Image}
+use Rattle.boosted.specs.Meaning.{Meaning}
+use Rattle.catalog.specs.Making.{Making}
 
 -- A step of a book, with its answer.
 pub data Step : Type 0 where
@@ -30,37 +34,43 @@ pub data Step : Type 0 where
 abbrev pub acts_of_step : Step → List Act
 acts_of_step (Make name kind (Ok place)) = Creates name kind ∷ []
 acts_of_step (Enter n (Ok done)) = Begins n ∷ []
-acts_of_step (Ask n at call (Ok reply)) = Asks n (Asked (record { at = at; call = call; reply = reply })) ∷ []
+acts_of_step (Ask n at call (Ok reply)) =
+    Asks n (Asked (record { at = at; call = call; reply = reply })) ∷ []
 acts_of_step (Later n at call (Ok done)) = Asks n (PutOff at call) ∷ []
 acts_of_step (Commit n (Ok place)) = Commits n ∷ []
 acts_of_step step = []
 
--- The transactions that the steps commit, in the order of their commits, each with the calls and replies that its steps show.
+-- The transactions that the steps commit, in the order of their commits, each with the calls and
+-- replies that its steps show.
 abbrev pub committed_by : List Step → List Transaction
 committed_by steps = committed (flat_map acts_of_step steps)
 
-module _ {S : Type 0} (answers : S → ℕ → calls.Call → Reply → Type 0) (leaves : S → ℕ → calls.Call → Reply → S) (makes : S → List ℕ → Kind → S → Type 0)
-    (belongs : S → ℕ → calls.Call → Type 0) (misplaced : S → ℕ → calls.Call → Refusal → Type 0) (names : S → List (List ℕ)) (need : calls.Call → Reply → Need) (inverse : calls.Call → Reply → Option calls.Call) (collections : S → List Collection) where
+module _ {S : Type 0} (meaning : Meaning S ℕ) (making : Making S)
+    (collections : S → List Collection) where
   -- The step leads from one book to another: one row of the histories of an object of one thread.
   abbrev pub Acts : BookState S → Step → BookState S → Type 0
-  Acts b (Make name kind a) c = MakeAnswers names makes b name kind a c
+  Acts b (Make name kind a) c = MakeAnswers making b name kind a c
   Acts b (Enter n a) c = EnterAnswers b n a c
-  Acts b (Ask n at call a) c = CallAnswers answers leaves belongs need inverse misplaced b n at call a c
-  Acts b (Later n at call a) c = LaterAnswers answers leaves belongs need misplaced b n at call a c
-  Acts b (Commit n a) c = CommitAnswers answers leaves b n a c
-  Acts b (Back n a) c = BackAnswers answers leaves inverse b n a c
+  Acts b (Ask n at call a) c = CallAnswers meaning b n at call a c
+  Acts b (Later n at call a) c = LaterAnswers meaning b n at call a c
+  Acts b (Commit n a) c = CommitAnswers meaning b n a c
+  Acts b (Back n a) c = BackAnswers meaning b n a c
   Acts b (Ended n a) c = EndedAnswers b n a c
   Acts b (Cut a) c = (waiting waits : List Block) × CutAnswers b waiting (Unit {0}) a waits c
-  Acts b (Freeze a) c = FreezeAnswers collections inverse b a c
+  Acts b (Freeze a) c = FreezeAnswers collections b a c
 
   -- The history leads from one book to another, step by step.
   abbrev pub IsLegal : BookState S → List Step → BookState S → Type 0
   IsLegal b steps c = Leads Acts steps b c
 
--- What a history comes to: a kept book, and a settled content to which the committed transactions lead, each run whole, one after another, with
+-- What a history comes to: a kept book, and a settled content to which the committed transactions
+-- lead, each run whole, one after another, with
 -- the replies that were got. The places count them.
--- kept: what holds of every book. collections: the content as named collections. settled: the contents without the live transactions.
-pub record ComesTo {S : Type 0} (kept : BookState S → Type 0) (collections : S → List Collection) (settled : State S → S → Type 0) (b : BookState S) (steps : List Step) (c : BookState S) : Type 0 where
+-- kept: what holds of every book. collections: the content as named collections. settled: the
+-- contents without the live transactions.
+pub record ComesTo {S : Type 0} (kept : BookState S → Type 0) (collections : S → List Collection)
+    (settled : State S → S → Type 0) (b : BookState S) (steps : List Step) (c : BookState S) : Type
+    0 where
   pub is_kept : kept c
   pub content : S
   pub is_settled : settled c.state content

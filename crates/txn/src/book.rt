@@ -1,20 +1,25 @@
 // The book: transactions on shared collections, one step at a time.
-ghost use Rattle.std.specs.Prelude.{◌≡◌, ℕ, ◌<◌, ◌≤◌, ◌^◌, ◌+◌, [], ◌∷◌, ◌++◌, IfOk, IfSome, IfErr, OnOk, OnErr, Ok, Err, IsOkUnless, length};
+ghost use Rattle.std.specs.Prelude.{◌≡◌, ℕ, ◌<◌, ◌≤◌, ◌^◌, ◌+◌, [], ◌∷◌, ◌++◌, IfOk, IfSome, IfErr};
+ghost use Rattle.std.specs.Prelude.{OnOk, OnErr, Ok, Err, IsOkUnless, length};
 ghost use Rattle.calls.specs.Names.{IsName};
 ghost use Rattle.calls.specs.Transactions.{Whole, own};
 ghost use Rattle.undo_log.specs.Entries.{event_of};
 ghost use Rattle.undo_log.specs.Logs.{Lives};
 ghost use Rattle.abstract_locks.specs.Holds.{IsClear};
 ghost use Rattle.calls.specs.declared.reply.Reply.{Reply};
-ghost use Rattle.boosted.specs.Shape.{CanAsk, CanDefer};
+ghost use Rattle.boosted.specs.Meaning.{CanAsk, CanDefer};
 ghost use Rattle.catalog.specs.Making.{IsPlaceOf, FindRefused};
 ghost use Rattle.record_format.specs.Records.{FitsCall, FitsReply};
 ghost use Rattle.record_format.specs.Short.{AreShort};
 ghost use Rattle.machine.specs.Machine.{IsRunning, IsSettled, CanCall};
-ghost use Rattle.txn.specs.Books.{opened, later_record, IsKept, IsOpen, IsFull, RunRefused, OpenRefused, CanEnter, EnterRefused, CallRefused, LaterRefused, MakeAnswers, EnterAnswers, CallAnswers, LaterAnswers, CommitAnswers, BackAnswers, EndedAnswers, CutAnswers};
+ghost use Rattle.txn.specs.Books.{opened, later_record, IsKept, IsOpen, IsFull, RunRefused};
+ghost use Rattle.txn.specs.Books.{OpenRefused, CanEnter, EnterRefused, CallRefused, LaterRefused};
+ghost use Rattle.txn.specs.Books.{MakeAnswers, EnterAnswers, CallAnswers, LaterAnswers};
+ghost use Rattle.txn.specs.Books.{CommitAnswers, BackAnswers, EndedAnswers, CutAnswers};
 ghost use Rattle.txn.specs.Freezing.{FreezeAnswers};
 ghost use Rattle.machine.specs.Transactions.{RunsWhole};
 ghost use Rattle.machine.specs.Sound.{IsSound};
+ghost use Rattle.calls.specs.Rules.{need_of, inverse_of};
 
 use blocks::{Image, Outbox, Pending};
 use calls::limits::{MAX_CALLS, MAX_LIVE, MAX_PENDING, NUMBER_END};
@@ -32,10 +37,12 @@ const MARK_LEN: usize = 9;
 
 const MAKE_HEAD: usize = 3;
 
-/// The collections with the live transactions on them, and the records of the steps that were not handed over yet
+/// The collections with the live transactions on them, and the records of the steps that were not
+/// handed over yet
 /// (transactional boosting: Herlihy and Koskinen, PPoPP 2008).
 ///
-/// Contracts see what the collections hold now, the live transactions with what they asked for and the needs that they
+/// Contracts see what the collections hold now, the live transactions with what they asked for and
+/// the needs that they
 /// hold, the wear, and the records that wait. A refused step changes nothing of that.
 #[derive(Drop)]
 pub struct Book<B: Parts + Coded> {
@@ -63,19 +70,21 @@ impl<B: Parts + Coded> Model for Book<B> {
 
     ghost view = { λ b. book_of b.machine b.pending b.places b.next };
 
-    ghost invariant = { λ b. IsKept B.names B.within (λ s. AreShort (B.collections s)) (IsSound B.answers B.leaves B.makes B.need B.inverse)
+    ghost invariant = { λ b. IsKept B.meaning B.making (λ s. AreShort (B.collections s))
+        (IsSound B.meaning B.making)
         (book_of b.machine b.pending b.places b.next) };
 }
 
 impl<B: Parts + Coded> Book<B> {
-    /// A book of collections that were opened, with no live transaction and nothing pending. `next` is above every
+    /// A book of collections that were opened, with no live transaction and nothing pending. `next`
+    /// is above every
     /// number that was entered before, and `wear` is what the collections are within.
     pub fn new(alloc: Global, parts: B, next: u64, wear: u64) -> Self
-        requires within { B.within parts wear }
+        requires within { B.meaning.within parts wear }
         requires worn { wear ≤ 2 ^ 61 + 65536 }
         requires next { (1 ≤ next) × (next ≤ 2 ^ 61) }
         requires short { AreShort (B.collections parts) }
-        requires few { length (B.names parts) ≤ 256 }
+        requires few { length (B.making.names parts) ≤ 256 }
         ensures { result ≡ opened parts next wear }
     {
         Self {
@@ -94,7 +103,8 @@ impl<B: Parts + Coded> Book<B> {
         self.machine.parts()
     }
 
-    /// A number above every number that was entered: the greater of the one that the book was made with and one more
+    /// A number above every number that was entered: the greater of the one that the book was made
+    /// with and one more
     /// than the greatest entered since. This is no step.
     pub fn next(&self) -> u64
         ensures { result ≡ self.now.next }
@@ -102,31 +112,36 @@ impl<B: Parts + Coded> Book<B> {
         self.next
     }
 
-    /// What holds of every book: its records have a spelling, its counts and numbers are in range, and what the laws of
+    /// What holds of every book: its records have a spelling, its counts and numbers are in range,
+    /// and what the laws of
     /// the collections give. It does nothing.
     pub fn upheld(&self)
-        ensures { IsKept B.names B.within (λ s. AreShort (B.collections s)) (IsSound B.answers B.leaves B.makes B.need B.inverse) self.now }
+        ensures { IsKept B.meaning B.making (λ s. AreShort (B.collections s))
+            (IsSound B.meaning B.making) self.now }
     {
         let _ = &self.places;
     }
 
     /// The collection of the name, as `Parts::find` answers. This is no step.
     pub fn find(&self, name: &str) -> Result<u8, Refusal>
-        ensures ok { IfOk result (λ at. IsName name.now × IsPlaceOf (B.names self.now.state.now) name.now at) }
-        ensures err { IfErr result (FindRefused (B.names self.now.state.now) name.now) }
+        ensures ok { IfOk result (λ at. IsName name.now ×
+            IsPlaceOf (B.making.names self.now.state.now) name.now at) }
+        ensures err { IfErr result (FindRefused (B.making.names self.now.state.now) name.now) }
     {
         self.machine.parts().find(name)
     }
 
-    /// Makes an empty collection: a committed transaction of its own. Answers the count of commits and makes since the
+    /// Makes an empty collection: a committed transaction of its own. Answers the count of commits
+    /// and makes since the
     /// book was opened, this one included.
     ///
-    /// Backlog at 16,384 pending records, then the refusals of `Parts::make`: BadName, TooLong, NameTaken,
+    /// Backlog at 16,384 pending records, then the refusals of `Parts::make`: BadName, TooLong,
+    /// NameTaken,
     /// TooManyCollections, NoMemory.
     pub fn make(&mut self, name: &str, kind: Kind) -> Result<u64, Refusal>
-        ensures answer { MakeAnswers B.names B.makes self.old name.now kind result self.new }
-        ensures settled { OnOk result ((c : B) → IsSettled B.answers B.leaves self.old.state c →
-            (d : B) × B.makes c name.now kind d × IsSettled B.answers B.leaves self.new.state d) }
+        ensures answer { MakeAnswers B.making self.old name.now kind result self.new }
+        ensures settled { OnOk result ((c : B) → IsSettled B.meaning self.old.state c →
+            (d : B) × B.making.makes c name.now kind d × IsSettled B.meaning self.new.state d) }
     {
         self.check_backlog()?;
         check_name(name)?;
@@ -140,11 +155,13 @@ impl<B: Parts + Coded> Book<B> {
 
     /// Makes the number live.
     ///
-    /// BadArg for 0 and from 2^61 on, AlreadyLive, TooManyLive where 64 are live, Worn where the wear is 2^61 or more,
+    /// BadArg for 0 and from 2^61 on, AlreadyLive, TooManyLive where 64 are live, Worn where the
+    /// wear is 2^61 or more,
     /// Backlog, NoMemory.
     pub fn enter(&mut self, number: u64) -> Result<(), Refusal>
         ensures answer { EnterAnswers self.old number result self.new }
-        ensures settled { (c : B) → IsSettled B.answers B.leaves self.old.state c → IsSettled B.answers B.leaves self.new.state c }
+        ensures settled { (c : B) → IsSettled B.meaning self.old.state c →
+            IsSettled B.meaning self.new.state c }
     {
         self.check_enter(number)?;
         self.pending.reserve(MARK_LEN)?;
@@ -154,15 +171,20 @@ impl<B: Parts + Coded> Book<B> {
         Ok(())
     }
 
-    /// The transaction's call on a collection, made at once under the need that it has with its reply.
+    /// The transaction's call on a collection, made at once under the need that it has with its
+    /// reply.
     ///
-    /// NoSuchTxn, Falling, NoSuchCollection, WrongKind, BadArg for a call that no client can ask, TooLong, Worn,
-    /// TooManyCalls at 1,024 calls and laters, Backlog, NoMemory in the look-up, AlreadyGoing where the transaction left
-    /// to its commit already what this call would leave, Busy with the least other transaction that holds a need in the
+    /// NoSuchTxn, Falling, NoSuchCollection, WrongKind, BadArg for a call that no client can ask,
+    /// TooLong, Worn,
+    /// TooManyCalls at 1,024 calls and laters, Backlog, NoMemory in the look-up, AlreadyGoing where
+    /// the transaction left
+    /// to its commit already what this call would leave, Busy with the least other transaction that
+    /// holds a need in the
     /// way, NoMemory.
     pub fn call(&mut self, number: u64, col: u8, call: &Call) -> Result<Reply, Refusal>
-        ensures answer { CallAnswers B.answers B.leaves B.belongs B.need B.inverse B.misplaced self.old number col call.now result self.new }
-        ensures settled { (c : B) → IsSettled B.answers B.leaves self.old.state c → IsSettled B.answers B.leaves self.new.state c }
+        ensures answer { CallAnswers B.meaning self.old number col call.now result self.new }
+        ensures settled { (c : B) → IsSettled B.meaning self.old.state c →
+            IsSettled B.meaning self.new.state c }
     {
         self.check_call(number, col, call)?;
         let reply = self.machine.parts().look(col, call)?;
@@ -175,17 +197,21 @@ impl<B: Parts + Coded> Book<B> {
         }
     }
 
-    /// Puts the call off to the transaction's commit, under the need that it has with the reply Done. Until then it shows
+    /// Puts the call off to the transaction's commit, under the need that it has with the reply
+    /// Done. Until then it shows
     /// in no reply, not even to its own transaction.
     ///
-    /// NoSuchTxn, Falling, NoSuchCollection, WrongKind, BadArg for a call that cannot be put off, Worn, TooManyCalls at
-    /// 1,024 calls and laters, Backlog, Busy with the least other transaction that holds a need in the way, NoMemory.
+    /// NoSuchTxn, Falling, NoSuchCollection, WrongKind, BadArg for a call that cannot be put off,
+    /// Worn, TooManyCalls at
+    /// 1,024 calls and laters, Backlog, Busy with the least other transaction that holds a need in
+    /// the way, NoMemory.
     pub fn later(&mut self, number: u64, col: u8, call: &Call) -> Result<(), Refusal>
-        ensures answer { LaterAnswers B.answers B.leaves B.belongs B.need B.misplaced self.old number col call.now result self.new }
-        ensures settled { (c : B) → IsSettled B.answers B.leaves self.old.state c → IsSettled B.answers B.leaves self.new.state c }
+        ensures answer { LaterAnswers B.meaning self.old number col call.now result self.new }
+        ensures settled { (c : B) → IsSettled B.meaning self.old.state c →
+            IsSettled B.meaning self.new.state c }
     {
         self.check_later(number, col, call)?;
-        let need = B::need(call, &Reply::Done);
+        let need = call.need(&Reply::Done);
         self.machine.test(number, col, &need)?;
         let put = Later {
             at: col,
@@ -195,15 +221,18 @@ impl<B: Parts + Coded> Book<B> {
         self.put_off(number, put, entry)
     }
 
-    /// Commits the transaction: what it put off, and what its calls left, runs in the order asked, all that it asked for
-    /// stays, and its needs go. Answers the count of commits and makes since the book was opened, this one included.
+    /// Commits the transaction: what it put off, and what its calls left, runs in the order asked,
+    /// all that it asked for
+    /// stays, and its needs go. Answers the count of commits and makes since the book was opened,
+    /// this one included.
     /// Nothing that was put off can refuse it.
     ///
     /// NoSuchTxn, Falling, Backlog, NoMemory.
     pub fn commit(&mut self, number: u64) -> Result<u64, Refusal>
-        ensures answer { CommitAnswers B.answers B.leaves self.old number result self.new }
-        ensures settled { OnOk result ((c : B) → IsSettled B.answers B.leaves self.old.state c →
-            (d : B) × RunsWhole B.answers B.leaves B.makes c (Whole (own number self.old.state.entries)) d × IsSettled B.answers B.leaves self.new.state d) }
+        ensures answer { CommitAnswers B.meaning self.old number result self.new }
+        ensures settled { OnOk result ((c : B) → IsSettled B.meaning self.old.state c →
+            (d : B) × RunsWhole B.meaning B.making c (Whole (own number self.old.state.entries)) d ×
+            IsSettled B.meaning self.new.state d) }
     {
         self.check_running(number)?;
         self.check_backlog()?;
@@ -214,13 +243,15 @@ impl<B: Parts + Coded> Book<B> {
         Ok(self.places)
     }
 
-    /// Undoes the newest call of the transaction that is not undone, and answers true; false where none is left. From
+    /// Undoes the newest call of the transaction that is not undone, and answers true; false where
+    /// none is left. From
     /// then on the transaction is falling. It holds its needs until `ended`.
     ///
     /// NoSuchTxn, Backlog, NoMemory.
     pub fn back(&mut self, number: u64) -> Result<bool, Refusal>
-        ensures answer { BackAnswers B.answers B.leaves B.inverse self.old number result self.new }
-        ensures settled { (c : B) → IsSettled B.answers B.leaves self.old.state c → IsSettled B.answers B.leaves self.new.state c }
+        ensures answer { BackAnswers B.meaning self.old number result self.new }
+        ensures settled { (c : B) → IsSettled B.meaning self.old.state c →
+            IsSettled B.meaning self.new.state c }
     {
         self.check_live(number)?;
         self.check_backlog()?;
@@ -234,12 +265,14 @@ impl<B: Parts + Coded> Book<B> {
         Ok(true)
     }
 
-    /// Ends a transaction whose calls are all undone: its needs go, and what it put off is never run.
+    /// Ends a transaction whose calls are all undone: its needs go, and what it put off is never
+    /// run.
     ///
     /// NoSuchTxn, Unfinished where a call is not undone, Backlog, NoMemory.
     pub fn ended(&mut self, number: u64) -> Result<(), Refusal>
         ensures answer { EndedAnswers self.old number result self.new }
-        ensures settled { (c : B) → IsSettled B.answers B.leaves self.old.state c → IsSettled B.answers B.leaves self.new.state c }
+        ensures settled { (c : B) → IsSettled B.meaning self.old.state c →
+            IsSettled B.meaning self.new.state c }
     {
         self.check_live(number)?;
         if self.machine.has_call(number) {
@@ -252,28 +285,37 @@ impl<B: Parts + Coded> Book<B> {
         Ok(())
     }
 
-    /// Hands the first pending records over as one block, as many whole ones as fit in 65,535 bytes and as come before the
-    /// next freeze, and answers true; false where nothing is pending. No record is copied, and no memory is taken.
+    /// Hands the first pending records over as one block, as many whole ones as fit in 65,535 bytes
+    /// and as come before the
+    /// next freeze, and answers true; false where nothing is pending. No record is copied, and no
+    /// memory is taken.
     ///
     /// NotNow, only where a record waits and the outbox is full.
     pub fn cut<O: Outbox>(&mut self, out: &mut O) -> Result<bool, Refusal>
-        ensures answer { CutAnswers self.old (O.waiting out.old) (O.is_full out.old) result (O.waiting out.new) self.new }
-        ensures settled { (c : B) → IsSettled B.answers B.leaves self.old.state c → IsSettled B.answers B.leaves self.new.state c }
+        ensures answer { CutAnswers self.old (O.waiting out.old) (O.is_full out.old) result
+            (O.waiting out.new) self.new }
+        ensures settled { (c : B) → IsSettled B.meaning self.old.state c →
+            IsSettled B.meaning self.new.state c }
     {
         self.pending.cut(out)
     }
 
-    /// An image of the book as it is now: what the collections hold, the live transactions, and what these asked for, but
-    /// for what a falling one put off. It marks the position behind the last record, which the image covers too: no block
-    /// that `cut` hands over from now on holds records from both sides of it. Nothing else is changed.
+    /// An image of the book as it is now: what the collections hold, the live transactions, and
+    /// what these asked for, but
+    /// for what a falling one put off. It marks the position behind the last record, which the
+    /// image covers too: no block
+    /// that `cut` hands over from now on holds records from both sides of it. Nothing else is
+    /// changed.
     ///
-    /// It takes time and memory in proportion to what the collections hold and the live transactions asked for, of which
+    /// It takes time and memory in proportion to what the collections hold and the live
+    /// transactions asked for, of which
     /// the image is one copy; beside it the items of one collection at a time are copied.
     ///
     /// NoMemory, which changes nothing.
     pub fn freeze(&mut self) -> Result<Image, Refusal>
-        ensures answer { FreezeAnswers B.collections B.inverse self.old result self.new }
-        ensures settled { (c : B) → IsSettled B.answers B.leaves self.old.state c → IsSettled B.answers B.leaves self.new.state c }
+        ensures answer { FreezeAnswers B.collections self.old result self.new }
+        ensures settled { (c : B) → IsSettled B.meaning self.old.state c →
+            IsSettled B.meaning self.new.state c }
     {
         let blocks = image_blocks(self.alloc, &self.machine, self.next)?;
         self.pending.seal()?;
@@ -286,18 +328,21 @@ impl<B: Parts + Coded> Book<B> {
 
     // Makes the call that gets the reply.
     fn ask(&mut self, number: u64, col: u8, call: &Call, reply: &Reply) -> Result<(), Refusal>
-        requires open { IsOpen (CanAsk B.belongs self.old.state.now col call.now) self.old number }
-        requires answered { B.answers self.old.state.now col call.now reply.now }
-        ensures ok { OnOk result (CallAnswers B.answers B.leaves B.belongs B.need B.inverse B.misplaced self.old number col call.now (Ok reply.now) self.new) }
-        ensures err { IfErr result (λ e. CallAnswers B.answers B.leaves B.belongs B.need B.inverse B.misplaced self.old number col call.now (Err e) self.new) }
-        ensures settled { (c : B) → IsSettled B.answers B.leaves self.old.state c → IsSettled B.answers B.leaves self.new.state c }
+        requires open { IsOpen (CanAsk B.meaning self.old.state.now col call.now) self.old number }
+        requires answered { B.meaning.answers self.old.state.now col call.now reply.now }
+        ensures ok { OnOk result (CallAnswers B.meaning self.old number col call.now (Ok reply.now)
+            self.new) }
+        ensures err { IfErr result (λ e. CallAnswers B.meaning self.old number col call.now (Err e)
+            self.new) }
+        ensures settled { (c : B) → IsSettled B.meaning self.old.state c →
+            IsSettled B.meaning self.new.state c }
     {
         if self.machine.goes_twice(number, col, call, reply) {
             return Err(Refusal::AlreadyGoing);
         }
-        let need = B::need(call, reply);
+        let need = call.need(reply);
         self.machine.test(number, col, &need)?;
-        let back = inverse::<B>(call, reply)?;
+        let back = inverse(call, reply)?;
         let noted = self.note_call(number, col, call, reply, &back);
         drop(back);
         noted
@@ -312,16 +357,19 @@ impl<B: Parts + Coded> Book<B> {
         reply: &Reply,
         back: &Option<Call>,
     ) -> Result<(), Refusal>
-        requires open { IsOpen (CanAsk B.belongs self.old.state.now col call.now) self.old number }
-        requires can { CanCall B.answers B.leaves B.belongs B.need self.old.state number (record { at = col; call = call.now; reply = reply.now }) }
-        requires back { back.now ≡ B.inverse call.now reply.now }
+        requires open { IsOpen (CanAsk B.meaning self.old.state.now col call.now) self.old number }
+        requires can { CanCall B.meaning self.old.state number
+            (record { at = col; call = call.now; reply = reply.now }) }
+        requires back { back.now ≡ inverse_of call.now reply.now }
         requires call { FitsCall call.now }
         requires reply { FitsReply reply.now }
         requires undone { IfSome back.now FitsCall }
-        ensures ok { OnOk result (CallAnswers B.answers B.leaves B.belongs B.need B.inverse B.misplaced self.old number col call.now (Ok reply.now) self.new) }
+        ensures ok { OnOk result (CallAnswers B.meaning self.old number col call.now (Ok reply.now)
+            self.new) }
         ensures same { OnErr result (self.new ≡ self.old) }
         ensures refusal { IsOkUnless result Refusal.NoMemory }
-        ensures settled { (c : B) → IsSettled B.answers B.leaves self.old.state c → IsSettled B.answers B.leaves self.new.state c }
+        ensures settled { (c : B) → IsSettled B.meaning self.old.state c →
+            IsSettled B.meaning self.new.state c }
     {
         self.pending.reserve(call_len(call, reply, back.as_ref()))?;
         let asked = logged(col, call, reply)?;
@@ -332,11 +380,13 @@ impl<B: Parts + Coded> Book<B> {
 
     // Puts a call off under its record.
     fn put_off(&mut self, number: u64, put: Later, entry: Record) -> Result<(), Refusal>
-        requires open { IsOpen (CanDefer B.belongs self.old.state.now put.at put.call) self.old number }
-        requires clear { IsClear self.old.state.holds number put.at (B.need put.call Reply.Done) }
+        requires open { IsOpen (CanDefer B.meaning self.old.state.now put.at put.call) self.old
+            number }
+        requires clear { IsClear self.old.state.holds number put.at (need_of put.call Reply.Done) }
         requires entry { entry ≡ later_record number put.at put.call }
-        ensures answer { LaterAnswers B.answers B.leaves B.belongs B.need B.misplaced self.old number put.at put.call result self.new }
-        ensures settled { (c : B) → IsSettled B.answers B.leaves self.old.state c → IsSettled B.answers B.leaves self.new.state c }
+        ensures answer { LaterAnswers B.meaning self.old number put.at put.call result self.new }
+        ensures settled { (c : B) → IsSettled B.meaning self.old.state c →
+            IsSettled B.meaning self.new.state c }
     {
         prove!(put.at <= u8::MAX);
         if let Err(refusal) = self.pending.reserve(encoded_len(&entry)) {
@@ -366,7 +416,8 @@ impl<B: Parts + Coded> Book<B> {
     // Whether the transaction is live.
     fn check_live(&self, number: u64) -> Result<(), Refusal>
         ensures ok { OnOk result (Lives self.now.state.live number) }
-        ensures err { IfErr result (λ e. (e ≡ Refusal.NoSuchTxn) × (Lives self.now.state.live number → ⊥)) }
+        ensures err { IfErr result (λ e. (e ≡ Refusal.NoSuchTxn) ×
+            (Lives self.now.state.live number → ⊥)) }
     {
         if self.machine.is_live(number) {
             Ok(())
@@ -409,8 +460,9 @@ impl<B: Parts + Coded> Book<B> {
 
     // Whether the transaction can ask for the call, and has room for it.
     fn check_call(&self, number: u64, col: u8, call: &Call) -> Result<(), Refusal>
-        ensures ok { OnOk result (IsOpen (CanAsk B.belongs self.now.state.now col call.now) self.now number) }
-        ensures err { IfErr result (CallRefused B.answers B.belongs B.misplaced B.need self.now number col call.now) }
+        ensures ok { OnOk result (IsOpen (CanAsk B.meaning self.now.state.now col call.now) self.now
+            number) }
+        ensures err { IfErr result (CallRefused B.meaning self.now number col call.now) }
     {
         self.check_running(number)?;
         self.machine.parts().askable(col, call)?;
@@ -419,8 +471,9 @@ impl<B: Parts + Coded> Book<B> {
 
     // Whether the transaction can put the call off, and has room for it.
     fn check_later(&self, number: u64, col: u8, call: &Call) -> Result<(), Refusal>
-        ensures ok { OnOk result (IsOpen (CanDefer B.belongs self.now.state.now col call.now) self.now number) }
-        ensures err { IfErr result (LaterRefused B.belongs B.misplaced B.need self.now number col call.now) }
+        ensures ok { OnOk result (IsOpen (CanDefer B.meaning self.now.state.now col call.now)
+            self.now number) }
+        ensures err { IfErr result (LaterRefused B.meaning self.now number col call.now) }
     {
         self.check_running(number)?;
         self.machine.parts().deferrable(col, call)?;
@@ -445,7 +498,8 @@ impl<B: Parts + Coded> Book<B> {
 
 // The call with its reply once more, for the log.
 fn logged(at: u8, call: &Call, reply: &Reply) -> Result<Logged, Refusal>
-    ensures ok { IfOk result (λ asked. event_of asked ≡ record { at = at; call = call.now; reply = reply.now }) }
+    ensures ok { IfOk result (λ asked. event_of asked ≡
+        record { at = at; call = call.now; reply = reply.now }) }
     ensures refusal { IsOkUnless result Refusal.NoMemory }
 {
     Ok(Logged {

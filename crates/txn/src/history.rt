@@ -12,18 +12,22 @@ ghost use Rattle.machine.specs.Theory.Collections.{collection_rules};
 use catalog::Parts;
 use records::Coded;
 
-/// One history, whatever is asked: the transactions that a book's steps commit lead from what its collections held to
-/// what they hold without the live transactions, each run whole, one after another, with the replies that were got.
+/// One history, whatever is asked: the transactions that a book's steps commit lead from what its
+/// collections held to
+/// what they hold without the live transactions, each run whole, one after another, with the
+/// replies that were got.
 pub fn one_history<B: Parts + Coded>(_parts: &B)
-    ensures { (steps : List Step) (b c : BookState B) → IsSound B.answers B.leaves B.makes B.need B.inverse b.state → b.state.live ≡ maps.empty →
-        IsLegal B.answers B.leaves B.makes B.belongs B.misplaced B.names B.need B.inverse B.collections b steps c →
-        ComesTo (λ v. IsSound B.answers B.leaves B.makes B.need B.inverse v.state) B.collections (IsSettled B.answers B.leaves) b steps c }
+    ensures { (steps : List Step) (b c : BookState B) → IsSound B.meaning B.making b.state →
+        b.state.live ≡ maps.empty →
+        IsLegal B.meaning B.making B.collections b steps c →
+        ComesTo (λ v. IsSound B.meaning B.making v.state) B.collections (IsSettled B.meaning) b
+        steps c }
 {}
 
 /// Images: what a book had in hand, and the records behind it, lose nothing.
 pub fn images<B: Parts + Coded>(_parts: &B)
-    ensures repeats { ImageRepeats (collection_rules B.answers B.leaves B.makes B.need B.inverse) }
-    ensures stands { ImageStands (collection_rules B.answers B.leaves B.makes B.need B.inverse) }
-    ensures sound { LoadsSound (collection_rules B.answers B.leaves B.makes B.need B.inverse) }
-    ensures loads { ImageLoads (collection_rules B.answers B.leaves B.makes B.need B.inverse) }
+    ensures repeats { ImageRepeats (collection_rules B.meaning B.making) }
+    ensures stands { ImageStands (collection_rules B.meaning B.making) }
+    ensures sound { LoadsSound (collection_rules B.meaning B.making) }
+    ensures loads { ImageLoads (collection_rules B.meaning B.making) }
 {}

@@ -1,2 +1,4 @@
+pub mod Owns
+pub mod Counts
 pub mod Slots
 pub mod Newest

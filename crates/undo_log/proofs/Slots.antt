@@ -1,5 +1,8 @@
 -- The live transactions in the slots, seen as a finite map, and who has room.
-use Rattle.std.proofs.Common.{◌≡◌, ◌≢◌, ℕ, suc, zero, ◌<◌, ◌≤◌, ◌+◌, min, IfSome, IfNone, ◌⊎◌, inl, inr, ⊎_elim, Bool, true, false, cond, Option, Some, None, is_some, List, [], ◌∷◌, map, get_or, count_by, refl, sym, ap, subst, ◌∙◌, ltb, arith}
+use Rattle.std.proofs.Common.{◌≡◌, ◌≢◌, ℕ, suc, zero, ◌<◌, ◌≤◌, ◌+◌, min, IfSome, IfNone, ◌⊎◌, inl}
+use Rattle.std.proofs.Common.{inr, ⊎_elim, Bool, true, false, cond, Option, Some, None, is_some}
+use Rattle.std.proofs.Common.{List, [], ◌∷◌, map, get_or, count_by, refl, sym, ap, subst, ◌∙◌, ltb}
+use Rattle.std.proofs.Common.{arith}
 use Rattle.std.specs.List.{Contains}
 use Rattle.std.specs.Option.{option_map_or}
 use Rattle.std.specs.Ordering.{nat_cmp}
@@ -7,73 +10,105 @@ use Rattle.std.specs.Cmp.{nat_cmp_total}
 use Rattle.std.specs.FinMap as maps
 use Rattle.std.proofs.lemmas.Bool.{cases_eq, lt-ltb, ltb-true}
 use Rattle.std.proofs.lemmas.Grind.{common_steps}
-use Rattle.std.proofs.lemmas.List.Elements.{Contains-push, Contains-push_cases, Contains-append_left, Contains-append_right, Contains-append_cases}
+use Rattle.std.proofs.lemmas.List.Elements.{Contains-push, Contains-push_cases}
+use Rattle.std.proofs.lemmas.List.Elements.{Contains-append_left, Contains-append_right}
+use Rattle.std.proofs.lemmas.List.Elements.{Contains-append_cases}
 use Rattle.slab.specs.Slab.{Slab, get, Updates}
 use Rattle.calls.proofs.Points.{get_insert, get_insert_other, get_remove, get_remove_other}
 use Rattle.undo_log.specs.declared.live.Transaction.{Transaction}
-use Rattle.undo_log.specs.Logs.{Statuses, statuses, live_of, rooms_of, fallen, EachOnce, IsSlotOf, Lives, IsLeastLive, IsLeastSlot, IsNextLive, IsNextSlot}
+use Rattle.undo_log.specs.Logs.{Statuses, statuses, live_of, rooms_of, fallen, EachOnce, IsSlotOf}
+use Rattle.undo_log.specs.Logs.{Lives, IsLeastLive, IsLeastSlot, IsNextLive, IsNextSlot}
 
 abbrev Once : List (Option Transaction) → Type 0
-Once slots = (i j : ℕ) (t u : Transaction) → get_or slots i None ≡ Some t → get_or slots j None ≡ Some u → t.number ≡ u.number → i ≡ j
+Once slots = (i j : ℕ) (t u : Transaction) → get_or slots i None ≡ Some t →
+    get_or slots j None ≡ Some u → t.number ≡ u.number → i ≡ j
 
-once_rest : (x : Option Transaction) (rest : List (Option Transaction)) → Once (x ∷ rest) → Once rest
-once_rest x rest once i j t u a b e = let same : suc i ≡ suc j = once (suc i) (suc j) t u a b e in omega arith
+once_rest : (x : Option Transaction) (rest : List (Option Transaction)) → Once (x ∷ rest) →
+    Once rest
+once_rest x rest once i j t u a b e = let same : suc i ≡ suc j = once (suc i) (suc j) t u a b e in
+    omega arith
 
 pub same_value : {X : Type 0} (x y : X) → Some x ≡ Some y → x ≡ y
 same_value x y e = cc
 
 -- what a slot holds is in the map
-at_slot : (slots : List (Option Transaction)) (k : ℕ) (t : Transaction) → Once slots → get_or slots k None ≡ Some t → maps.get (maps.from_entries {R = nat_cmp} (statuses slots)) t.number ≡ Some t.falling
+at_slot : (slots : List (Option Transaction)) (k : ℕ) (t : Transaction) → Once slots →
+    get_or slots k None ≡ Some t → maps.get (maps.from_entries {R = nat_cmp} (statuses slots))
+    t.number ≡ Some t.falling
 at_slot [] k t once h = cc
 at_slot (None ∷ rest) zero t once h = cc
 at_slot (None ∷ rest) (suc k) t once h = at_slot rest k t (once_rest None rest once) h
 at_slot (Some u ∷ rest) zero t once h =
     let same = same_value u t h in
-    subst (λ v. maps.get (maps.from_entries {R = nat_cmp} (statuses (Some u ∷ rest))) v.number ≡ Some v.falling) same (get_insert (maps.from_entries (statuses rest)) u.number u.falling u.number refl)
+    subst (λ v. maps.get (maps.from_entries {R = nat_cmp} (statuses (Some u ∷ rest))) v.number ≡
+    Some v.falling) same (get_insert (maps.from_entries (statuses rest)) u.number u.falling
+    u.number refl)
 at_slot (Some u ∷ rest) (suc k) t once h =
-    get_insert_other (maps.from_entries (statuses rest)) u.number u.falling t.number (λ same. let no : suc k ≡ 0 = once (suc k) 0 t u h refl same in omega arith)
+    get_insert_other (maps.from_entries (statuses rest)) u.number u.falling t.number
+    (λ same. let no : suc k ≡ 0 = once (suc k) 0 t u h refl same in omega arith)
     ∙ at_slot rest k t (once_rest (Some u) rest once) h
 
 -- what is in the map is in a slot
-from_slot : (slots : List (Option Transaction)) (n : ℕ) (b : Bool) → maps.get (maps.from_entries {R = nat_cmp} (statuses slots)) n ≡ Some b →
+from_slot : (slots : List (Option Transaction)) (n : ℕ) (b : Bool) →
+    maps.get (maps.from_entries {R = nat_cmp} (statuses slots)) n ≡ Some b →
     (k : ℕ) × (t : Transaction) × (get_or slots k None ≡ Some t) × (t.number ≡ n) × (t.falling ≡ b)
 from_slot [] n b h = let none = maps.get-empty {X = Bool} nat_cmp n in cc
 from_slot (None ∷ rest) n b h = let r = from_slot rest n b h in (suc r.0, r.1, r.2, r.3, r.4)
 from_slot (Some u ∷ rest) n b h =
     ⊎_elim
-    (λ (same : n ≡ u.number). (0, u, refl, sym same, same_value u.falling b (sym (get_insert (maps.from_entries (statuses rest)) u.number u.falling n same) ∙ h)))
-    (λ (other : n ≡ u.number → ⊥). let r = from_slot rest n b (sym (get_insert_other (maps.from_entries (statuses rest)) u.number u.falling n other) ∙ h) in (suc r.0, r.1, r.2, r.3, r.4))
+    (λ (same : n ≡ u.number). (
+      0,
+      u,
+      refl,
+      sym same,
+      same_value u.falling b (sym (get_insert (maps.from_entries (statuses rest)) u.number
+          u.falling n same) ∙ h),
+    ))
+    (λ (other : n ≡ u.number → ⊥). let r =
+    from_slot rest n b (sym (get_insert_other (maps.from_entries (statuses rest)) u.number
+    u.falling n other) ∙ h) in (suc r.0, r.1, r.2, r.3, r.4))
     (cases_eq n u.number)
 
-count_some : (u : Transaction) (rest : List (Option Transaction)) → count_by is_some (Some u ∷ rest) ≡ count_by is_some rest + 1
+count_some : (u : Transaction) (rest : List (Option Transaction)) →
+    count_by is_some (Some u ∷ rest) ≡ count_by is_some rest + 1
 count_some u rest = grind (arith, common_steps)
 
-count_none : (rest : List (Option Transaction)) → count_by {X = Option Transaction} is_some (None ∷ rest) ≡ count_by is_some rest
+count_none : (rest : List (Option Transaction)) →
+    count_by {X = Option Transaction} is_some (None ∷ rest) ≡ count_by is_some rest
 count_none rest = grind (arith, common_steps)
 
 not_some : {X : Type 0} (o : Option X) → ((x : X) → o ≡ Some x → ⊥) → is_some o ≡ false
 not_some None h = refl
 not_some (Some x) h = absurd (h x refl)
 
-len_slots : (slots : List (Option Transaction)) → Once slots → maps.len (maps.from_entries {R = nat_cmp} (statuses slots)) ≡ count_by is_some slots
+len_slots : (slots : List (Option Transaction)) → Once slots →
+    maps.len (maps.from_entries {R = nat_cmp} (statuses slots)) ≡ count_by is_some slots
 len_slots [] once = maps.len-empty nat_cmp Bool
 len_slots (None ∷ rest) once = len_slots rest (once_rest None rest once) ∙ sym (count_none rest)
 len_slots (Some u ∷ rest) once =
     let m : Statuses = maps.from_entries (statuses rest) in
-    let absent : maps.contains_key m u.number ≡ false = not_some (maps.get m u.number) (λ b h. let r = from_slot rest u.number b h in let no : suc r.0 ≡ 0 = once (suc r.0) 0 r.1 u r.2 refl r.3 in omega arith) in
-    maps.len-insert nat_cmp_total m u.number u.falling ∙ ap (λ b. cond b (maps.len m) (maps.len m + 1)) absent
+    let absent : maps.contains_key m u.number ≡ false =
+    not_some (maps.get m u.number) (λ b h. let r = from_slot rest u.number b h in
+    let no : suc r.0 ≡ 0 = once (suc r.0) 0 r.1 u r.2 refl r.3 in omega arith) in
+    maps.len-insert nat_cmp_total m u.number u.falling ∙
+    ap (λ b. cond b (maps.len m) (maps.len m + 1)) absent
     ∙ ap (λ k. k + 1) (len_slots rest (once_rest (Some u) rest once)) ∙ sym (count_some u rest)
 
-same_option : {X : Type 0} (o p : Option X) → ((x : X) → o ≡ Some x → p ≡ Some x) → ((x : X) → p ≡ Some x → o ≡ Some x) → o ≡ p
+same_option : {X : Type 0} (o p : Option X) → ((x : X) → o ≡ Some x → p ≡ Some x) →
+    ((x : X) → p ≡ Some x → o ≡ Some x) → o ≡ p
 same_option None None f g = refl
 same_option None (Some x) f g = g x refl
 same_option (Some x) p f g = sym (f x refl)
 
-same_statuses : (m n : Statuses) → ((q : ℕ) (b : Bool) → maps.get m q ≡ Some b → maps.get n q ≡ Some b) → ((q : ℕ) (b : Bool) → maps.get n q ≡ Some b → maps.get m q ≡ Some b) → m ≡ n
-same_statuses m n f g = maps.same_map nat_cmp_total maps.nat_cmp-IsAntisymmetric m n (λ q. same_option (maps.get m q) (maps.get n q) (f q) (g q))
+pub same_statuses : (m n : Statuses) →
+    ((q : ℕ) (b : Bool) → maps.get m q ≡ Some b → maps.get n q ≡ Some b) →
+    ((q : ℕ) (b : Bool) → maps.get n q ≡ Some b → maps.get m q ≡ Some b) → m ≡ n
+same_statuses m n f g = maps.same_map nat_cmp_total maps.nat_cmp-IsAntisymmetric m n
+    (λ q. same_option (maps.get m q) (maps.get n q) (f q) (g q))
 
 module _ (s : Slab Transaction) (once : EachOnce s) where
-  pub get_live : (k : ℕ) (t : Transaction) → get s k ≡ Some t → maps.get (live_of s.slots) t.number ≡ Some t.falling
+  pub get_live : (k : ℕ) (t : Transaction) → get s k ≡ Some t →
+      maps.get (live_of s.slots) t.number ≡ Some t.falling
   unfolding live_of
   get_live k t h = at_slot s.slots k t once h
 
@@ -82,19 +117,26 @@ module _ (s : Slab Transaction) (once : EachOnce s) where
   unfolding live_of
   len_live = len_slots s.slots once
 
-pub from_live : (s : Slab Transaction) (n : ℕ) (b : Bool) → maps.get (live_of s.slots) n ≡ Some b → (k : ℕ) × (t : Transaction) × (get s k ≡ Some t) × (t.number ≡ n) × (t.falling ≡ b)
+pub from_live : (s : Slab Transaction) (n : ℕ) (b : Bool) → maps.get (live_of s.slots) n ≡ Some b →
+    (k : ℕ) × (t : Transaction) × (get s k ≡ Some t) × (t.number ≡ n) × (t.falling ≡ b)
 unfolding live_of
 from_live s n b h = from_slot s.slots n b h
 
-module _ (old new : Slab Transaction) (once : EachOnce old) (key : ℕ) (t : Transaction) (put : Updates old new key (Some t)) where
-  from_put : (k : ℕ) (u : Transaction) → get new k ≡ Some u → ((k ≡ key) × (t ≡ u)) ⊎ ((k ≢ key) × (get old k ≡ Some u))
+module _ (old new : Slab Transaction) (once : EachOnce old) (key : ℕ) (t : Transaction)
+    (put : Updates old new key (Some t)) where
+  from_put : (k : ℕ) (u : Transaction) → get new k ≡ Some u →
+      ((k ≡ key) × (t ≡ u)) ⊎ ((k ≢ key) × (get old k ≡ Some u))
   from_put k u h =
       ⊎_elim
-      (λ (same : k ≡ key). inl (same, same_value t u (sym put.changed ∙ ap (get new) (sym same) ∙ h)))
+      (λ (same : k ≡ key). inl (
+        same,
+        same_value t u (sym put.changed ∙ ap (get new) (sym same) ∙ h),
+      ))
       (λ (other : k ≡ key → ⊥). inr (other, sym (put.others k other) ∙ h))
       (cases_eq k key)
 
-  module _ (mine : (u : Transaction) → get old key ≡ Some u → u.number ≡ t.number) (alone : (k : ℕ) (u : Transaction) → k ≢ key → get old k ≡ Some u → u.number ≢ t.number) where
+  module _ (mine : (u : Transaction) → get old key ≡ Some u → u.number ≡ t.number)
+      (alone : (k : ℕ) (u : Transaction) → k ≢ key → get old k ≡ Some u → u.number ≢ t.number) where
     -- no number comes twice
     pub put_once : EachOnce new
     put_once i j v w a b e =
@@ -115,23 +157,33 @@ module _ (old new : Slab Transaction) (once : EachOnce old) (key : ℕ) (t : Tra
         same_statuses (live_of new.slots) (maps.insert (live_of old.slots) t.number t.falling)
         (λ q b h. let r = from_live new q b h in
         ⊎_elim
-        (λ here. get_insert (live_of old.slots) t.number t.falling q (sym r.3 ∙ ap (λ x. x.number) (sym here.1)) ∙ ap Some (ap (λ x. x.falling) here.1 ∙ r.4))
-        (λ there. get_insert_other (live_of old.slots) t.number t.falling q (λ same. alone r.0 r.1 there.0 there.1 (r.3 ∙ same))
-        ∙ subst (λ n. maps.get (live_of old.slots) n ≡ Some b) r.3 (get_live old once r.0 r.1 there.1 ∙ ap Some r.4))
+        (λ here. get_insert (live_of old.slots) t.number t.falling q
+        (sym r.3 ∙ ap (λ x. x.number) (sym here.1)) ∙
+        ap Some (ap (λ x. x.falling) here.1 ∙ r.4))
+        (λ there. get_insert_other (live_of old.slots) t.number t.falling q
+        (λ same. alone r.0 r.1 there.0 there.1 (r.3 ∙ same))
+        ∙ subst (λ n. maps.get (live_of old.slots) n ≡ Some b) r.3
+        (get_live old once r.0 r.1 there.1 ∙ ap Some r.4))
         (from_put r.0 r.1 r.2))
         (λ q b h. ⊎_elim
         (λ (same : q ≡ t.number). subst (λ n. maps.get (live_of new.slots) n ≡ Some b) (sym same)
-        (get_live new put_once key t put.changed ∙ sym (get_insert (live_of old.slots) t.number t.falling q same) ∙ h))
-        (λ (other : q ≡ t.number → ⊥). let r = from_live old q b (sym (get_insert_other (live_of old.slots) t.number t.falling q other) ∙ h) in
+        (get_live new put_once key t put.changed ∙
+        sym (get_insert (live_of old.slots) t.number t.falling q same) ∙ h))
+        (λ (other : q ≡ t.number → ⊥). let r =
+        from_live old q b (sym (get_insert_other (live_of old.slots) t.number t.falling q
+        other) ∙ h) in
         let away : r.0 ≢ key = λ same. other (sym r.3 ∙ mine r.1 (ap (get old) (sym same) ∙ r.2)) in
-        subst (λ n. maps.get (live_of new.slots) n ≡ Some b) r.3 (get_live new put_once r.0 r.1 (put.others r.0 away ∙ r.2) ∙ ap Some r.4))
+        subst (λ n. maps.get (live_of new.slots) n ≡ Some b) r.3
+        (get_live new put_once r.0 r.1 (put.others r.0 away ∙ r.2) ∙ ap Some r.4))
         (cases_eq q t.number))
 
-module _ (old new : Slab Transaction) (once : EachOnce old) (key : ℕ) (t : Transaction) (there : get old key ≡ Some t) (gone : Updates old new key None) where
+module _ (old new : Slab Transaction) (once : EachOnce old) (key : ℕ) (t : Transaction)
+    (there : get old key ≡ Some t) (gone : Updates old new key None) where
   from_gone : (k : ℕ) (u : Transaction) → get new k ≡ Some u → (k ≢ key) × (get old k ≡ Some u)
   from_gone k u h =
       ⊎_elim
-      (λ (same : k ≡ key). let none : None ≡ Some u = sym gone.changed ∙ ap (get new) (sym same) ∙ h in cc)
+      (λ (same : k ≡ key). let none : None ≡ Some u =
+      sym gone.changed ∙ ap (get new) (sym same) ∙ h in cc)
       (λ (other : k ≡ key → ⊥). (other, sym (gone.others k other) ∙ h))
       (cases_eq k key)
 
@@ -143,62 +195,88 @@ module _ (old new : Slab Transaction) (once : EachOnce old) (key : ℕ) (t : Tra
   gone_live =
       same_statuses (live_of new.slots) (maps.remove (live_of old.slots) t.number)
       (λ q b h. let r = from_live new q b h in let was = from_gone r.0 r.1 r.2 in
-      get_remove_other (live_of old.slots) t.number q (λ same. was.0 (once r.0 key r.1 t was.1 there (r.3 ∙ same)))
-      ∙ subst (λ n. maps.get (live_of old.slots) n ≡ Some b) r.3 (get_live old once r.0 r.1 was.1 ∙ ap Some r.4))
+      get_remove_other (live_of old.slots) t.number q
+      (λ same. was.0 (once r.0 key r.1 t was.1 there (r.3 ∙ same)))
+      ∙ subst (λ n. maps.get (live_of old.slots) n ≡ Some b) r.3
+      (get_live old once r.0 r.1 was.1 ∙ ap Some r.4))
       (λ q b h. ⊎_elim
-      (λ (same : q ≡ t.number). let none = get_remove (live_of old.slots) t.number q same in let no : None ≡ Some b = sym none ∙ h in cc)
-      (λ (other : q ≡ t.number → ⊥). let r = from_live old q b (sym (get_remove_other (live_of old.slots) t.number q other) ∙ h) in
-      let away : r.0 ≢ key = λ same. other (sym r.3 ∙ ap (λ x. x.number) (same_value r.1 t (sym r.2 ∙ ap (get old) same ∙ there))) in
-      subst (λ n. maps.get (live_of new.slots) n ≡ Some b) r.3 (get_live new gone_once r.0 r.1 (gone.others r.0 away ∙ r.2) ∙ ap Some r.4))
+      (λ (same : q ≡ t.number). let none = get_remove (live_of old.slots) t.number q same in
+      let no : None ≡ Some b = sym none ∙ h in cc)
+      (λ (other : q ≡ t.number → ⊥). let r =
+      from_live old q b (sym (get_remove_other (live_of old.slots) t.number q other) ∙ h) in
+      let away : r.0 ≢ key = λ same. other
+      (sym r.3 ∙ ap (λ x. x.number) (same_value r.1 t (sym r.2 ∙ ap (get old) same ∙ there))) in
+      subst (λ n. maps.get (live_of new.slots) n ≡ Some b) r.3
+      (get_live new gone_once r.0 r.1 (gone.others r.0 away ∙ r.2) ∙ ap Some r.4))
       (cases_eq q t.number))
 
 -- to take out what is not there changes nothing
 pub remove_absent : (m : Statuses) (n : ℕ) → maps.get m n ≡ None → m ≡ maps.remove m n
-remove_absent m n none = maps.same_map nat_cmp_total maps.nat_cmp-IsAntisymmetric m (maps.remove m n) (λ q.
+remove_absent m n none = maps.same_map nat_cmp_total maps.nat_cmp-IsAntisymmetric m
+    (maps.remove m n) (λ q.
     ⊎_elim
     (λ (same : q ≡ n). ap (maps.get m) same ∙ none ∙ sym (get_remove m n q same))
     (λ (other : q ≡ n → ⊥). sym (get_remove_other m n q other))
     (cases_eq q n))
 
 -- the numbers of a map made of entries are those of the entries
-numbered : (es : List (ℕ × Bool)) (n : ℕ) → is_some (maps.get (maps.from_entries {R = nat_cmp} es) n) ≡ true → Contains (map (λ e. e.0) es) n
-numbered [] n h = let none = maps.get-empty {X = Bool} nat_cmp n in let no : is_some (maps.get (maps.empty {X = Bool} {R = nat_cmp}) n) ≡ false = ap is_some none in cc
+numbered : (es : List (ℕ × Bool)) (n : ℕ) →
+    is_some (maps.get (maps.from_entries {R = nat_cmp} es) n) ≡ true →
+    Contains (map (λ e. e.0) es) n
+numbered [] n h = let none = maps.get-empty {X = Bool} nat_cmp n in
+    let no : is_some (maps.get (maps.empty {X = Bool} {R = nat_cmp}) n) ≡ false = ap is_some none in
+    cc
 numbered (e ∷ es) n h =
     ⊎_elim
-    (λ (same : n ≡ e.0). subst (Contains (map (λ x. x.0) (e ∷ es))) (sym same) (Contains-append_left (e.0 ∷ []) (map (λ x. x.0) es) e.0 (Contains-push [] e.0)))
+    (λ (same : n ≡ e.0). subst (Contains (map (λ x. x.0) (e ∷ es))) (sym same)
+    (Contains-append_left (e.0 ∷ []) (map (λ x. x.0) es) e.0 (Contains-push [] e.0)))
     (λ (other : n ≡ e.0 → ⊥). Contains-append_right (e.0 ∷ []) (map (λ x. x.0) es) n
-    (numbered es n (ap is_some (sym (get_insert_other (maps.from_entries es) e.0 e.1 n other)) ∙ h)))
+    (numbered es n (ap is_some (sym (get_insert_other (maps.from_entries es) e.0 e.1 n other)) ∙
+    h)))
     (cases_eq n e.0)
 
 only : (x y : ℕ) → Contains (x ∷ []) y → x ≡ y
-only x y h = ⊎_elim (λ none. let lt = none.1 in absurd (omega arith)) (λ same. same) (Contains-push_cases [] x y h)
+only x y h = ⊎_elim (λ none. let lt = none.1 in absurd (omega arith)) (λ same. same)
+    (Contains-push_cases [] x y h)
 
-with_status : (es : List (ℕ × Bool)) (n : ℕ) → Contains (map (λ e. e.0) es) n → is_some (maps.get (maps.from_entries {R = nat_cmp} es) n) ≡ true
+with_status : (es : List (ℕ × Bool)) (n : ℕ) → Contains (map (λ e. e.0) es) n →
+    is_some (maps.get (maps.from_entries {R = nat_cmp} es) n) ≡ true
 with_status [] n h = let lt = h.1 in absurd (omega arith)
 with_status (e ∷ es) n h =
     ⊎_elim
     (λ (same : n ≡ e.0). ap is_some (get_insert (maps.from_entries es) e.0 e.1 n same))
     (λ (other : n ≡ e.0 → ⊥). ap is_some (get_insert_other (maps.from_entries es) e.0 e.1 n other)
-    ∙ with_status es n (⊎_elim (λ first. absurd (other (sym (only e.0 n first)))) (λ later. later) (Contains-append_cases (e.0 ∷ []) (map (λ x. x.0) es) n h)))
+    ∙ with_status es n (⊎_elim (λ first. absurd (other (sym (only e.0 n first)))) (λ later. later)
+    (Contains-append_cases (e.0 ∷ []) (map (λ x. x.0) es) n h)))
     (cases_eq n e.0)
 
 -- a transaction has room where one entry more fits and it is live
-pub room_given : (len capacity : ℕ) (slots : List (Option Transaction)) (n : ℕ) → len < capacity → is_some (maps.get (live_of slots) n) ≡ true → Contains (rooms_of len capacity slots) n
+pub room_given : (len capacity : ℕ) (slots : List (Option Transaction)) (n : ℕ) → len < capacity →
+    is_some (maps.get (live_of slots) n) ≡ true → Contains (rooms_of len capacity slots) n
 unfolding live_of rooms_of
-room_given len capacity slots n fits live = rw (lt-ltb len capacity fits) (numbered (statuses slots) n live)
+room_given len capacity slots n fits live =
+    rw (lt-ltb len capacity fits) (numbered (statuses slots) n live)
 
-pub room_taken : (len capacity : ℕ) (slots : List (Option Transaction)) (n : ℕ) → Contains (rooms_of len capacity slots) n → (len < capacity) × (is_some (maps.get (live_of slots) n) ≡ true)
+pub room_taken : (len capacity : ℕ) (slots : List (Option Transaction)) (n : ℕ) →
+    Contains (rooms_of len capacity slots) n →
+    (len < capacity) × (is_some (maps.get (live_of slots) n) ≡ true)
 unfolding live_of rooms_of
 room_taken len capacity slots n h = by (ltb len capacity) refl h
   where
-    by : (b : Bool) → ltb len capacity ≡ b → Contains (cond b (map (λ e. e.0) (statuses slots)) []) n → (len < capacity) × (is_some (maps.get (maps.from_entries {R = nat_cmp} (statuses slots)) n) ≡ true)
+    by : (b : Bool) → ltb len capacity ≡ b →
+        Contains (cond b (map (λ e. e.0) (statuses slots)) []) n →
+        (len < capacity) × (is_some (maps.get (maps.from_entries {R = nat_cmp} (statuses slots))
+        n) ≡ true)
     by true e h = (ltb-true len capacity e, with_status (statuses slots) n h)
     by false e h = let lt = h.1 in absurd (omega arith)
 
 -- who is still live keeps its room where none is lost
-pub room_stays : (len capacity len' capacity' : ℕ) (slots slots' : List (Option Transaction)) → (len < capacity → len' < capacity') →
-    (n : ℕ) → is_some (maps.get (live_of slots') n) ≡ true → Contains (rooms_of len capacity slots) n → Contains (rooms_of len' capacity' slots') n
-room_stays len capacity len' capacity' slots slots' more n live had = room_given len' capacity' slots' n (more (room_taken len capacity slots n had).0) live
+pub room_stays : (len capacity len' capacity' : ℕ) (slots slots' : List (Option Transaction)) →
+    (len < capacity → len' < capacity') →
+    (n : ℕ) → is_some (maps.get (live_of slots') n) ≡ true →
+    Contains (rooms_of len capacity slots) n → Contains (rooms_of len' capacity' slots') n
+room_stays len capacity len' capacity' slots slots' more n live had =
+    room_given len' capacity' slots' n (more (room_taken len capacity slots n had).0) live
 
 -- with no transaction
 pub live_none : (slots : List (Option Transaction)) → slots ≡ [] → live_of slots ≡ maps.empty
@@ -209,22 +287,31 @@ pub in_head : {X : Type 0} (x : X) (xs : List X) → Contains (x ∷ xs) x
 in_head x xs = Contains-append_left (x ∷ []) xs x (Contains-push [] x)
 
 -- a number that is not live is in no slot
-pub not_live_alone : (s : Slab Transaction) → EachOnce s → (n : ℕ) → (is_some (maps.get (live_of s.slots) n) ≡ true → ⊥) → (k : ℕ) (u : Transaction) → get s k ≡ Some u → u.number ≢ n
-not_live_alone s once n absent k u h e = absent (ap is_some (subst (λ m. maps.get (live_of s.slots) m ≡ Some u.falling) e (get_live s once k u h)))
+pub not_live_alone : (s : Slab Transaction) → EachOnce s → (n : ℕ) →
+    (is_some (maps.get (live_of s.slots) n) ≡ true → ⊥) → (k : ℕ) (u : Transaction) →
+    get s k ≡ Some u → u.number ≢ n
+not_live_alone s once n absent k u h e =
+    absent (ap is_some (subst (λ m. maps.get (live_of s.slots) m ≡ Some u.falling) e
+    (get_live s once k u h)))
 
 none_of : {X : Type 0} (o : Option X) → ((x : X) → o ≡ Some x → ⊥) → o ≡ None
 none_of None h = refl
 none_of (Some x) h = absurd (h x refl)
 
 -- a number that is in no slot is not live
-pub absent_live : (s : Slab Transaction) (n : ℕ) → ((key : ℕ) → IsSlotOf s n key → ⊥) → maps.get (live_of s.slots) n ≡ None
-absent_live s n free = none_of (maps.get (live_of s.slots) n) (λ b h. let r = from_live s n b h in free r.0 (r.1, r.2, r.3))
+pub absent_live : (s : Slab Transaction) (n : ℕ) → ((key : ℕ) → IsSlotOf s n key → ⊥) →
+    maps.get (live_of s.slots) n ≡ None
+absent_live s n free = none_of (maps.get (live_of s.slots) n)
+    (λ b h. let r = from_live s n b h in free r.0 (r.1, r.2, r.3))
 
 -- a number that is in a slot has its status
-pub slot_live : (s : Slab Transaction) → EachOnce s → (n key : ℕ) (t : Transaction) → get s key ≡ Some t → t.number ≡ n → maps.get (live_of s.slots) n ≡ Some t.falling
-slot_live s once n key t h e = subst (λ m. maps.get (live_of s.slots) m ≡ Some t.falling) e (get_live s once key t h)
+pub slot_live : (s : Slab Transaction) → EachOnce s → (n key : ℕ) (t : Transaction) →
+    get s key ≡ Some t → t.number ≡ n → maps.get (live_of s.slots) n ≡ Some t.falling
+slot_live s once n key t h e = subst (λ m. maps.get (live_of s.slots) m ≡ Some t.falling) e
+    (get_live s once key t h)
 
-pub fallen_there : (live : Statuses) (n : ℕ) (b : Bool) → maps.get live n ≡ Some b → fallen live n ≡ maps.insert live n true
+pub fallen_there : (live : Statuses) (n : ℕ) (b : Bool) → maps.get live n ≡ Some b →
+    fallen live n ≡ maps.insert live n true
 fallen_there live n b h = ap (λ x. cond x (maps.insert live n true) live) (ap is_some h)
 
 pub fallen_absent : (live : Statuses) (n : ℕ) → maps.get live n ≡ None → fallen live n ≡ live
@@ -235,52 +322,70 @@ abbrev pub Bounds : Option ℕ → ℕ → Type 0
 Bounds None m = ⊥
 Bounds (Some n) m = n ≤ m
 
--- one number more is looked at: the least so far is not above it, nor above what it was not above before,
+-- one number more is looked at: the least so far is not above it, nor above what it was not above
+-- before,
 pub bounds_this : (least : Option ℕ) (m : ℕ) → Bounds (Some (option_map_or (min m) least m)) m
 bounds_this None m = omega arith
 bounds_this (Some n) m = omega arith
 
-pub bounds_more : (least : Option ℕ) (m k : ℕ) → Bounds least k → Bounds (Some (option_map_or (min m) least m)) k
+pub bounds_more : (least : Option ℕ) (m k : ℕ) → Bounds least k →
+    Bounds (Some (option_map_or (min m) least m)) k
 bounds_more None m k b = absurd b
 bounds_more (Some n) m k b = omega arith
 
 -- and is one of those that were looked at
-pub least_is_one : (P : ℕ → Type 0) (least : Option ℕ) (m : ℕ) → IfSome least P → P m → P (option_map_or (min m) least m)
+pub least_is_one : (P : ℕ → Type 0) (least : Option ℕ) (m : ℕ) → IfSome least P → P m →
+    P (option_map_or (min m) least m)
 least_is_one P None m p q = q
-least_is_one P (Some n) m p q = ⊎_elim (λ (same : min m n ≡ m). subst P (sym same) q) (λ (other : min m n ≡ m → ⊥). let is : min m n ≡ n = omega arith in subst P (sym is) p) (cases_eq (min m n) m)
+least_is_one P (Some n) m p q =
+    ⊎_elim (λ (same : min m n ≡ m). subst P (sym same) q)
+    (λ (other : min m n ≡ m → ⊥). let is : min m n ≡ n = omega arith in subst P (sym is) p)
+    (cases_eq (min m n) m)
 
 -- the least number in the slots is the least that is live
-pub least_live : (s : Slab Transaction) → EachOnce s → (n : ℕ) → IsLeastSlot s n → IsLeastLive (live_of s.slots) n
+pub least_live : (s : Slab Transaction) → EachOnce s → (n : ℕ) → IsLeastSlot s n →
+    IsLeastLive (live_of s.slots) n
 least_live s once n least = record {
   lives = ap is_some (slot_live s once n least.key least.there.0 least.there.1 least.there.2);
   least = λ m lives. lives_in m (maps.get (live_of s.slots) m) refl lives;
 }
   where
-    lives_in : (m : ℕ) (o : Option Bool) → maps.get (live_of s.slots) m ≡ o → is_some o ≡ true → n ≤ m
+    lives_in : (m : ℕ) (o : Option Bool) → maps.get (live_of s.slots) m ≡ o → is_some o ≡ true →
+        n ≤ m
     lives_in m None is lives = cc
-    lives_in m (Some b) is lives = let r = from_live s m b is in subst (λ k. n ≤ k) r.3 (least.least r.0 r.1 r.2)
+    lives_in m (Some b) is lives = let r = from_live s m b is in
+        subst (λ k. n ≤ k) r.3 (least.least r.0 r.1 r.2)
 
 -- nobody is live where the slots are empty
-pub none_in_slots : (s : Slab Transaction) → ((key : ℕ) (t : Transaction) → get s key ≡ Some t → ⊥) → live_of s.slots ≡ maps.empty
+pub none_in_slots : (s : Slab Transaction) →
+    ((key : ℕ) (t : Transaction) → get s key ≡ Some t → ⊥) → live_of s.slots ≡ maps.empty
 none_in_slots s free =
     same_statuses (live_of s.slots) maps.empty
     (λ q b h. let r = from_live s q b h in absurd (free r.0 r.1 r.2))
-    (λ q b h. let none = maps.get-empty {X = Bool} nat_cmp q in let no : None ≡ Some b = sym none ∙ h in cc)
+    (λ q b h. let none = maps.get-empty {X = Bool} nat_cmp q in
+    let no : None ≡ Some b = sym none ∙ h in cc)
 
 -- the same of what was found
-pub least_slot : (s : Slab Transaction) (least : Option ℕ) → ((k : ℕ) (t : Transaction) → get s k ≡ Some t → Bounds least t.number) → IfSome least (λ n. (k : ℕ) × IsSlotOf s n k) → IfSome least (IsLeastSlot s)
+pub least_slot : (s : Slab Transaction) (least : Option ℕ) →
+    ((k : ℕ) (t : Transaction) → get s k ≡ Some t → Bounds least t.number) →
+    IfSome least (λ n. (k : ℕ) × IsSlotOf s n k) → IfSome least (IsLeastSlot s)
 least_slot s None bounds one = tt
 least_slot s (Some n) bounds one = record { key = one.0; there = one.1; least = bounds }
 
-pub no_slot : (s : Slab Transaction) (least : Option ℕ) → ((k : ℕ) (t : Transaction) → get s k ≡ Some t → Bounds least t.number) → IfNone least ((key : ℕ) (t : Transaction) → get s key ≡ Some t → ⊥)
+pub no_slot : (s : Slab Transaction) (least : Option ℕ) →
+    ((k : ℕ) (t : Transaction) → get s k ≡ Some t → Bounds least t.number) →
+    IfNone least ((key : ℕ) (t : Transaction) → get s key ≡ Some t → ⊥)
 no_slot s None bounds = bounds
 no_slot s (Some n) bounds = tt
 
-pub least_found : (s : Slab Transaction) → EachOnce s → (least : Option ℕ) → IfSome least (IsLeastSlot s) → IfSome least (IsLeastLive (live_of s.slots))
+pub least_found : (s : Slab Transaction) → EachOnce s → (least : Option ℕ) →
+    IfSome least (IsLeastSlot s) → IfSome least (IsLeastLive (live_of s.slots))
 least_found s once None found = tt
 least_found s once (Some n) found = least_live s once n found
 
-pub least_none : (s : Slab Transaction) (least : Option ℕ) → IfNone least ((key : ℕ) (t : Transaction) → get s key ≡ Some t → ⊥) → IfNone least (live_of s.slots ≡ maps.empty)
+pub least_none : (s : Slab Transaction) (least : Option ℕ) →
+    IfNone least ((key : ℕ) (t : Transaction) → get s key ≡ Some t → ⊥) →
+    IfNone least (live_of s.slots ≡ maps.empty)
 least_none s None none = none_in_slots s none
 least_none s (Some n) none = tt
 
@@ -292,38 +397,51 @@ IsPassed after next m = (m ≤ after) ⊎ Bounds next m
 abbrev pub IsAbove : Slab Transaction → (after n : ℕ) → Type 0
 IsAbove slots after n = (after < n) × ((k : ℕ) × IsSlotOf slots n k)
 
-pub passed_more : (after : ℕ) (next : Option ℕ) (m k : ℕ) → IsPassed after next k → IsPassed after (Some (option_map_or (min m) next m)) k
+pub passed_more : (after : ℕ) (next : Option ℕ) (m k : ℕ) → IsPassed after next k →
+    IsPassed after (Some (option_map_or (min m) next m)) k
 passed_more after next m k (inl low) = inl low
 passed_more after next m k (inr bounds) = inr (bounds_more next m k bounds)
 
 -- what is passed is not above the other, or not below the next
-pub next_slot : (s : Slab Transaction) (after : ℕ) (next : Option ℕ) → ((k : ℕ) (t : Transaction) → get s k ≡ Some t → IsPassed after next t.number) → IfSome next (IsAbove s after) → IfSome next (IsNextSlot s after)
+pub next_slot : (s : Slab Transaction) (after : ℕ) (next : Option ℕ) →
+    ((k : ℕ) (t : Transaction) → get s k ≡ Some t → IsPassed after next t.number) →
+    IfSome next (IsAbove s after) → IfSome next (IsNextSlot s after)
 next_slot s after None passed one = tt
 next_slot s after (Some n) passed one = record {
   key = one.1.0;
   there = one.1.1;
   above = one.0;
-  least = λ k t there above. elim (passed k t there) [ inl low ↦ absurd (omega arith) | inr bounds ↦ bounds ];
+  least = λ k t there above. elim (passed k t there)
+      [ inl low ↦ absurd (omega arith) | inr bounds ↦ bounds ];
 }
 
-pub no_next_slot : (s : Slab Transaction) (after : ℕ) (next : Option ℕ) → ((k : ℕ) (t : Transaction) → get s k ≡ Some t → IsPassed after next t.number) →
+pub no_next_slot : (s : Slab Transaction) (after : ℕ) (next : Option ℕ) →
+    ((k : ℕ) (t : Transaction) → get s k ≡ Some t → IsPassed after next t.number) →
     IfNone next ((key : ℕ) (t : Transaction) → get s key ≡ Some t → t.number ≤ after)
-no_next_slot s after None passed = λ k t there. elim (passed k t there) [ inl low ↦ low | inr bounds ↦ absurd bounds ]
+no_next_slot s after None passed =
+    λ k t there. elim (passed k t there) [ inl low ↦ low | inr bounds ↦ absurd bounds ]
 no_next_slot s after (Some n) passed = tt
 
 -- who lives is in a slot
-in_slot : (s : Slab Transaction) (P : ℕ → Type 0) (m : ℕ) → ((key : ℕ) (t : Transaction) → get s key ≡ Some t → P t.number) → (o : Option Bool) → maps.get (live_of s.slots) m ≡ o → is_some o ≡ true → P m
+in_slot : (s : Slab Transaction) (P : ℕ → Type 0) (m : ℕ) →
+    ((key : ℕ) (t : Transaction) → get s key ≡ Some t → P t.number) → (o : Option Bool) →
+    maps.get (live_of s.slots) m ≡ o → is_some o ≡ true → P m
 in_slot s P m all None is lives = cc
 in_slot s P m all (Some b) is lives = let r = from_live s m b is in subst P r.3 (all r.0 r.1 r.2)
 
-pub next_found : (s : Slab Transaction) → EachOnce s → (after : ℕ) (next : Option ℕ) → IfSome next (IsNextSlot s after) → IfSome next (IsNextLive (live_of s.slots) after)
+pub next_found : (s : Slab Transaction) → EachOnce s → (after : ℕ) (next : Option ℕ) →
+    IfSome next (IsNextSlot s after) → IfSome next (IsNextLive (live_of s.slots) after)
 next_found s once after None found = tt
 next_found s once after (Some n) found = record {
   lives = ap is_some (slot_live s once n found.key found.there.0 found.there.1 found.there.2);
   above = found.above;
-  least = λ m lives. in_slot s (λ k. after < k → n ≤ k) m found.least (maps.get (live_of s.slots) m) refl lives;
+  least = λ m lives. in_slot s (λ k. after < k → n ≤ k) m found.least (maps.get (live_of s.slots) m)
+      refl lives;
 }
 
-pub next_none : (s : Slab Transaction) (after : ℕ) (next : Option ℕ) → IfNone next ((key : ℕ) (t : Transaction) → get s key ≡ Some t → t.number ≤ after) → IfNone next ((n : ℕ) → Lives (live_of s.slots) n → n ≤ after)
-next_none s after None none = λ n lives. in_slot s (λ k. k ≤ after) n none (maps.get (live_of s.slots) n) refl lives
+pub next_none : (s : Slab Transaction) (after : ℕ) (next : Option ℕ) →
+    IfNone next ((key : ℕ) (t : Transaction) → get s key ≡ Some t → t.number ≤ after) →
+    IfNone next ((n : ℕ) → Lives (live_of s.slots) n → n ≤ after)
+next_none s after None none = λ n lives. in_slot s (λ k. k ≤ after) n none
+    (maps.get (live_of s.slots) n) refl lives
 next_none s after (Some n) none = tt

@@ -29,7 +29,8 @@ abbrev pub HasNoCall : ℕ → List (ℕ × transactions.Entry) → Type 0
 HasNoCall n es = calls_of (own n es) ≡ []
 
 -- The event is the newest call of the transaction, and rest is what is there without it.
-pub record IsNewestCall (n : ℕ) (es : List (ℕ × transactions.Entry)) (x : Event) (rest : List (ℕ × transactions.Entry)) : Type 0 where
+pub record IsNewestCall (n : ℕ) (es : List (ℕ × transactions.Entry)) (x : Event)
+    (rest : List (ℕ × transactions.Entry)) : Type 0 where
   pub before : List (ℕ × transactions.Entry)
   pub after : List (ℕ × transactions.Entry)
   pub is : es ≡ before ++ (n, transactions.Asked x) ∷ after
@@ -42,4 +43,5 @@ HasNewestCall n es x = (rest : List (ℕ × transactions.Entry)) × IsNewestCall
 
 -- The newest call of the transaction stands at the place: no call of it comes behind.
 abbrev pub IsNewestPlace : ℕ → List Owned → ℕ → Type 0
-IsNewestPlace n os i = (l : Logged) × (rest : List Owned) × (drop i os ≡ record { owner = n; entry = Asked l } ∷ rest) × HasNoCall n (map owned_entry rest)
+IsNewestPlace n os i = (l : Logged) × (rest : List Owned) ×
+    (drop i os ≡ record { owner = n; entry = Asked l } ∷ rest) × HasNoCall n (map owned_entry rest)

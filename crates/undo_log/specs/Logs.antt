@@ -1,5 +1,6 @@
 -- The live transactions, which of them are falling, and what they asked for.
-use Rattle.std.specs.Prelude.{◌≡◌, ℕ, ◌<◌, ◌≤◌, Bool, true, IsTrue, Option, Some, None, List, [], ◌∷◌, map, Contains, nat_lt, if◌then◌else◌}
+use Rattle.std.specs.Prelude.{◌≡◌, ℕ, ◌<◌, ◌≤◌, Bool, true, IsTrue, Option, Some, None, List, []}
+use Rattle.std.specs.Prelude.{◌∷◌, map, Contains, nat_lt, if◌then◌else◌}
 use Rattle.std.specs.Ordering.{nat_cmp}
 use Rattle.std.specs.FinMap as maps
 use Rattle.slab.specs.Slab.{Slab, get}
@@ -10,7 +11,8 @@ use Rattle.undo_log.specs.declared.live.Transaction.{Transaction}
 abbrev pub Statuses : Type 0
 Statuses = maps.FinMap nat_cmp Bool
 
--- The live transactions; all that they asked for and did not undo, each with the number of its transaction, in the order
+-- The live transactions; all that they asked for and did not undo, each with the number of its
+-- transaction, in the order
 -- asked; and the numbers of the transactions that have room for one entry more.
 pub record Log : Type 0 where
   pub live : Statuses
@@ -70,7 +72,8 @@ rooms_of len capacity slots = if nat_lt len capacity then map (λ s. s.0) (statu
 
 -- No two slots have one number.
 abbrev pub EachOnce : Slab Transaction → Type 0
-EachOnce slots = (i j : ℕ) (t u : Transaction) → get slots i ≡ Some t → get slots j ≡ Some u → t.number ≡ u.number → i ≡ j
+EachOnce slots = (i j : ℕ) (t u : Transaction) → get slots i ≡ Some t → get slots j ≡ Some u →
+    t.number ≡ u.number → i ≡ j
 
 -- The slot has the number.
 abbrev pub IsSlotOf : Slab Transaction → ℕ → ℕ → Type 0

@@ -1,4 +1,5 @@
-//! What the live transactions asked for and did not undo: by transaction, and all in the order asked.
+//! What the live transactions asked for and did not undo: by transaction, and all in the order
+//! asked.
 #![tactic(auto)]
 
 mod live;

@@ -1,12 +1,18 @@
 // The live transactions in the slots of a slab, and a plain list of what they asked for.
-ghost use Rattle.std.specs.Prelude.{◌≡◌, ◌↔◌, ◌≤◌, ℕ, List, [], ◌∷◌, ◌++◌, Some, false, min, IsTrue, IsOk, IsOkUnless, IfSome, IfNone, OnOk, OnErr, length, map, filter, ◌==◌};
+ghost use Rattle.std.specs.Prelude.{◌≡◌, ◌↔◌, ◌≤◌, ℕ, List, [], ◌∷◌, ◌++◌, Some, false, min};
+ghost use Rattle.std.specs.Prelude.{IsTrue, IsOk, IsOkUnless, IfSome, IfNone, OnOk, OnErr, length};
+ghost use Rattle.std.specs.Prelude.{map, ◌<◌, ◌+◌, ◌-◌, ◌^◌};
 ghost use Rattle.std.specs.FinMap as maps;
 ghost use Rattle.std.specs.Option.{option_map_or};
 ghost use Rattle.slab.specs.Slab.{get};
 ghost use Rattle.calls.specs.Transactions as transactions;
 ghost use Rattle.calls.specs.Transactions.{own, others, Asked, PutOff};
-ghost use Rattle.undo_log.specs.Entries.{event_of, owned_entry, HasNoCall, HasNewestCall, IsNewestCall, IsNewestPlace};
-ghost use Rattle.undo_log.specs.Logs.{Log, IsLive, IsFalling, HasRoom, KeepsRoom, fallen, live_of, EachOnce, IsSlotOf, IsLeastLive, IsLeastSlot, IsNextLive, IsNextSlot, Lives};
+ghost use Rattle.undo_log.specs.Entries.{event_of, owned_entry, HasNoCall, HasNewestCall};
+ghost use Rattle.undo_log.specs.Entries.{IsNewestCall, IsNewestPlace};
+ghost use Rattle.undo_log.specs.Logs.{Log, IsLive, IsFalling, HasRoom, KeepsRoom, fallen, live_of};
+ghost use Rattle.undo_log.specs.Logs.{EachOnce, IsSlotOf, IsLeastLive, IsLeastSlot, IsNextLive};
+ghost use Rattle.undo_log.specs.Logs.{IsNextSlot, Lives};
+ghost use Rattle.undo_log.specs.Counts.{IsRecounted};
 ghost use Rattle.undo_log.specs.declared.live.Transaction.{Transaction};
 
 use crate::{Entry, Later, Logged, Owned};
@@ -16,14 +22,16 @@ use std::alloc::Global;
 use std::marker::Model;
 use std::slice::Iter;
 
-/// A live transaction.
+/// A live transaction, with the count of its entries.
 #[derive(Clone, Copy, Debug)]
 struct Transaction {
     number: u64,
     falling: bool,
+    calls: usize,
 }
 
-/// The live transactions. Contracts see which numbers are live and which of them are falling; what they asked for and
+/// The live transactions. Contracts see which numbers are live and which of them are falling; what
+/// they asked for and
 /// did not undo, in the order asked; and which have room for one entry more.
 #[derive(Drop, Debug)]
 pub struct Live {
@@ -38,6 +46,7 @@ impl Model for Live {
     ghost use Rattle.std.specs.Coded.{codes, coded_ℕ, coded_bool};
     ghost use Rattle.undo_log.specs.Entries.{owned_entry};
     ghost use Rattle.undo_log.specs.Logs.{Log, live_of, rooms_of, EachOnce};
+    ghost use Rattle.undo_log.specs.Counts.{IsCounted};
 
     ghost Value = { Log };
 
@@ -49,7 +58,8 @@ impl Model for Live {
       rooms = rooms_of (vec_len log.entries) (vec_capacity log.entries) log.slots.slots;
     } };
 
-    ghost invariant = { λ log. EachOnce log.slots };
+    ghost invariant = { λ log.
+        EachOnce log.slots × IsCounted log.slots (map owned_entry log.entries.items) };
 }
 
 impl Live {
@@ -111,14 +121,19 @@ impl Live {
         self.entries.len()
     }
 
-    /// How many calls and laters of the transaction there are together.
+    /// How many calls and laters of the transaction there are together. The count is kept with the
+    /// transaction.
     pub fn count(&self, number: u64) -> usize
         ensures { result ≡ length (own number self.now.entries) }
     {
-        count_of(&self.entries, number)
+        match slot_of(&self.slots, number) {
+            Some(key) => self.slots[key].calls,
+            None => 0,
+        }
     }
 
-    /// Makes the transaction live and running, with nothing asked for. NoMemory leaves all as before.
+    /// Makes the transaction live and running, with nothing asked for. NoMemory leaves all as
+    /// before.
     pub fn enter(&mut self, number: u64) -> Result<(), Refusal>
         requires { IsLive self.old number → ⊥ }
         ensures live { OnOk result (self.new.live ≡ maps.insert self.old.live number false) }
@@ -130,11 +145,13 @@ impl Live {
         self.slots.insert(Transaction {
             number,
             falling: false,
+            calls: 0,
         })?;
         Ok(())
     }
 
-    /// Makes room for one more entry of the transaction, if it is live. NoMemory, which leaves all as before, only where
+    /// Makes room for one more entry of the transaction, if it is live. NoMemory, which leaves all
+    /// as before, only where
     /// it had no room.
     pub fn reserve(&mut self, number: u64) -> Result<(), Refusal>
         ensures room { OnOk result (IsLive self.old number → HasRoom self.new number) }
@@ -152,22 +169,27 @@ impl Live {
     pub fn push_call(&mut self, number: u64, logged: Logged)
         requires live { IsLive self.old number }
         requires room { HasRoom self.old number }
-        ensures entries { self.new.entries ≡ self.old.entries ++ (number, Asked (event_of logged)) ∷ [] }
+        ensures entries { self.new.entries ≡ self.old.entries ++ (number, Asked (event_of logged)) ∷
+            [] }
         ensures live { self.new.live ≡ self.old.live }
     {
+        count_up(&mut self.slots, number);
         self.entries.push_reserved(Owned {
             owner: number,
             entry: Entry::Asked(logged),
         });
     }
 
-    /// Notes a call that the transaction puts off to its commit as the newest entry. It takes no memory.
+    /// Notes a call that the transaction puts off to its commit as the newest entry. It takes no
+    /// memory.
     pub fn push_later(&mut self, number: u64, later: Later)
         requires live { IsLive self.old number }
         requires room { HasRoom self.old number }
-        ensures entries { self.new.entries ≡ self.old.entries ++ (number, PutOff later.at later.call) ∷ [] }
+        ensures entries { self.new.entries ≡ self.old.entries ++
+            (number, PutOff later.at later.call) ∷ [] }
         ensures live { self.new.live ≡ self.old.live }
     {
+        count_up(&mut self.slots, number);
         self.entries.push_reserved(Owned {
             owner: number,
             entry: Entry::PutOff(later),
@@ -176,7 +198,8 @@ impl Live {
 
     /// The newest call of the transaction, those that it put off not counted.
     pub fn newest(&self, number: u64) -> Option<&Logged>
-        ensures found { IfSome result (λ logged. HasNewestCall number self.now.entries (event_of logged.now)) }
+        ensures found { IfSome result (λ logged. HasNewestCall number self.now.entries
+            (event_of logged.now)) }
         ensures none { IfNone result (HasNoCall number self.now.entries) }
     {
         let place = newest_place(&self.entries, number)?;
@@ -186,16 +209,19 @@ impl Live {
         }
     }
 
-    /// Takes the newest call of the transaction out; the other entries stay in their order. Nothing changes where it has
+    /// Takes the newest call of the transaction out; the other entries stay in their order. Nothing
+    /// changes where it has
     /// no call.
     pub fn pop(&mut self, number: u64) -> Option<Logged>
-        ensures found { IfSome result (λ logged. IsNewestCall number self.old.entries (event_of logged) self.new.entries) }
+        ensures found { IfSome result (λ logged. IsNewestCall number self.old.entries
+            (event_of logged) self.new.entries) }
         ensures none { IfNone result (HasNoCall number self.old.entries) }
         ensures unchanged { IfNone result (self.new ≡ self.old) }
         ensures live { self.new.live ≡ self.old.live }
         ensures rooms { KeepsRoom self.old self.new }
     {
         let place = newest_place(&self.entries, number)?;
+        count_down(&mut self.slots, number);
         let Owned { owner: _, entry } = self.entries.remove(place);
         match entry {
             Entry::Asked(logged) => Some(logged),
@@ -224,7 +250,8 @@ impl Live {
         self.entries.retain(|owned| owned.owner != number);
     }
 
-    /// All entries, each with the number of its transaction, in the order asked. It takes no memory.
+    /// All entries, each with the number of its transaction, in the order asked. It takes no
+    /// memory.
     pub fn in_order(&self) -> Iter<'_, Owned>
         ensures { map owned_entry result.rest.now ≡ self.now.entries }
     {
@@ -260,7 +287,8 @@ fn least_of(slots: &Slab<Transaction>) -> Option<u64>
 // The least number above another in the slots.
 fn next_of(slots: &Slab<Transaction>, after: u64) -> Option<u64>
     ensures found { IfSome result (IsNextSlot slots.now after) }
-    ensures none { IfNone result ((key : ℕ) (t : Transaction) → get slots.now key ≡ Some t → t.number ≤ after) }
+    ensures none { IfNone result ((key : ℕ) (t : Transaction) → get slots.now key ≡ Some t →
+        t.number ≤ after) }
 {
     let mut next = None;
     for (_, transaction) in slots.iter() {
@@ -286,17 +314,38 @@ fn clear_slot(slots: &mut Slab<Transaction>, number: u64)
     requires { EachOnce slots.old }
     ensures once { EachOnce slots.new }
     ensures live { live_of slots.new.slots ≡ maps.remove (live_of slots.old.slots) number }
+    ensures others { (key : ℕ) (t : Transaction) → get slots.new key ≡ Some t →
+        get slots.old key ≡ Some t }
 {
     if let Some(key) = slot_of(slots, number) {
         let _gone = slots.remove(key);
     }
 }
 
-// How many entries a transaction has.
-fn count_of(entries: &[Owned], number: u64) -> usize
-    ensures { result ≡ length (filter (λ owned. owned.owner == number) entries.now) }
+// Counts one entry more of a transaction.
+fn count_up(slots: &mut Slab<Transaction>, number: u64)
+    requires live { Lives (live_of slots.old.slots) number }
+    requires fits { (key : ℕ) (t : Transaction) → get slots.old key ≡ Some t →
+        t.calls < 2 ^ 64 - 1 }
+    ensures { IsRecounted slots.old slots.new number (λ calls. calls + 1) }
 {
-    entries.iter().filter(|owned| owned.owner == number).count()
+    let Some(key) = slot_of(slots, number) else {
+        unreachable!();
+    };
+    slots[key].calls += 1;
+}
+
+// Counts one entry less of a transaction.
+fn count_down(slots: &mut Slab<Transaction>, number: u64)
+    requires live { Lives (live_of slots.old.slots) number }
+    requires some { (key : ℕ) (t : Transaction) → get slots.old key ≡ Some t → t.number ≡ number →
+        0 < t.calls }
+    ensures { IsRecounted slots.old slots.new number (λ calls. calls - 1) }
+{
+    let Some(key) = slot_of(slots, number) else {
+        unreachable!();
+    };
+    slots[key].calls -= 1;
 }
 
 // Where the newest call of a transaction stands.

@@ -14,21 +14,25 @@ pub record IsAt (area : Area) (bytes : List ℕ) (bodies : List (List ℕ)) : Ty
   pub position : position_of area ≡ length (row bodies)
 
 -- Behind the area's blocks stand blocks of the first of the records, and nothing changed elsewhere.
-pub record HoldsFirst (area : Area) (old : List ℕ) (bodies : List (List ℕ)) (records : List Record) (bytes : List ℕ) : Type 0 where
+pub record HoldsFirst (area : Area) (old : List ℕ) (bodies : List (List ℕ)) (records : List Record)
+    (bytes : List ℕ) : Type 0 where
   pub front : List (List Record)
   pub more : List Record
   pub is : records ≡ records_in front ++ more
   pub row_is : IsRow (bodies ++ map spelling front) (bytes_of area bytes)
   pub elsewhere : SameOutside (base_of area) (size_of area) old bytes
 
--- The records stand in blocks of 64 behind the blocks that were there, and nothing changed elsewhere.
-pub record IsAppended (records : List Record) (before after : Area) (old new : List ℕ) : Type 0 where
+-- The records stand in blocks of 64 behind the blocks that were there, and nothing changed
+-- elsewhere.
+pub record IsAppended (records : List Record) (before after : Area) (old new : List ℕ) : Type
+    0 where
   pub written : List (List Record)
   pub in_blocks : AreBlocksOf records written
   pub same_base : base_of after ≡ base_of before
   pub same_size : size_of after ≡ size_of before
   pub fine : has_failed after ≡ false
   pub position : position_of after ≡ position_of before + length (row (map spelling written))
-  pub counts : (bodies : List (List ℕ)) → IsAt before old bodies → IsRow (bodies ++ map spelling written) (bytes_of after new)
+  pub counts : (bodies : List (List ℕ)) → IsAt before old bodies →
+      IsRow (bodies ++ map spelling written) (bytes_of after new)
   pub elsewhere : SameOutside (base_of before) (size_of before) old new
   pub unwritten : written ≡ [] → new ≡ old

@@ -1,5 +1,6 @@
 -- The losers, transactions that were live when the store stopped, and the records of their undoing.
-use Rattle.std.specs.Prelude.{◌≡◌, ℕ, ◌+◌, ◌*◌, ◌/◌, ◌<◌, ◌↔◌, List, [], ◌∷◌, ◌++◌, length, take, drop, replicate, Contains}
+use Rattle.std.specs.Prelude.{◌≡◌, ℕ, ◌+◌, ◌*◌, ◌/◌, ◌<◌, ◌↔◌, List, [], ◌∷◌, ◌++◌, length, take}
+use Rattle.std.specs.Prelude.{drop, replicate, Contains}
 use Rattle.std.specs.List.{flat_map}
 use Rattle.std.specs.FinMap as maps
 use Rattle.calls.specs.Transactions.{Entry, own, calls_of}
@@ -22,7 +23,8 @@ undo_of n es = replicate (length (calls_of (own n es))) (Record.Back n) ++ Recor
 abbrev pub undo_records : List ℕ → List (ℕ × Entry) → List Record
 undo_records numbers es = flat_map (λ n. undo_of n es) numbers
 
--- The records lead from the state to one with no live transaction: they undo each that is live, by rising number.
+-- The records lead from the state to one with no live transaction: they undo each that is live, by
+-- rising number.
 pub record Undo (state : State) (records : List Record) (undone : State) : Type 0 where
   pub numbers : List ℕ
   pub losers : Losers numbers state.live
@@ -30,7 +32,8 @@ pub record Undo (state : State) (records : List Record) (undone : State) : Type 
   pub leads : Repeats records state undone
   pub over : undone.live ≡ maps.empty
 
--- The transaction is undone, and over: the records of that lead from s to t. The others are as they were.
+-- The transaction is undone, and over: the records of that lead from s to t. The others are as they
+-- were.
 pub record IsOver (n : ℕ) (s t : State) : Type 0 where
   pub leads : Repeats (undo_of n s.entries) s t
   pub live : (m : ℕ) → Lives t.live m ↔ (Lives s.live m × (m ≡ n → ⊥))
@@ -40,7 +43,8 @@ pub record IsOver (n : ℕ) (s t : State) : Type 0 where
 -- The records in blocks of 64, the last with the rest.
 abbrev pub AreBlocksOf : List Record → List (List Record) → Type 0
 AreBlocksOf records [] = records ≡ []
-AreBlocksOf records (block ∷ blocks) = (0 < length records) × (block ≡ take 64 records) × AreBlocksOf (drop 64 records) blocks
+AreBlocksOf records (block ∷ blocks) =
+    (0 < length records) × (block ≡ take 64 records) × AreBlocksOf (drop 64 records) blocks
 
 -- a record of an undoing
 abbrev pub IsUndoRecord : Record → Type 0

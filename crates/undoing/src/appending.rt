@@ -1,5 +1,6 @@
 // The records of an undoing, written behind the blocks of an area.
-ghost use Rattle.std.specs.Prelude.{◌≡◌, ◌≤◌, ◌<◌, ◌+◌, ◌-◌, ◌*◌, ℕ, List, ◌++◌, ◌∷◌, [], length, drop, OnOk, IfOk, IfErr, false, vec_len, vec_capacity};
+ghost use Rattle.std.specs.Prelude.{◌≡◌, ◌≤◌, ◌<◌, ◌+◌, ◌-◌, ◌*◌, ℕ, List, ◌++◌, ◌∷◌, [], length};
+ghost use Rattle.std.specs.Prelude.{drop, OnOk, IfOk, IfErr, false, vec_len, vec_capacity};
 ghost use Rattle.std.specs.List.{AllByRecursion};
 ghost use Rattle.std.specs.Int.{w32, to_be_bytes};
 ghost use Rattle.disk_model.specs.Disk.{LeavesOnly, Rises, IsAtRest};
@@ -59,7 +60,8 @@ fn pack(group: &[Record], bytes: &mut Vec<u8>)
     close_block(bytes);
 }
 
-/// Writes the records behind the area's blocks, 64 to a block, through the buffer. It takes no memory. A stop at any
+/// Writes the records behind the area's blocks, 64 to a block, through the buffer. It takes no
+/// memory. A stop at any
 /// moment of the call, on a disk that was at rest, leaves blocks of the first of them.
 ///
 /// Refused Fault where the disk failed.
@@ -75,13 +77,18 @@ pub fn append_all<D: Disk>(
     requires fine { has_failed area.old ≡ false }
     requires head { 5 ≤ length bytes.items }
     requires room { 582 ≤ vec_capacity bytes }
-    ensures appended { OnOk result (IsAppended records.now area.old area.new (D.seen disk.old) (D.seen disk.new)) }
+    ensures appended { OnOk result (IsAppended records.now area.old area.new (D.seen disk.old)
+        (D.seen disk.new)) }
     ensures untouched { OnOk result (length records.now ≡ 0 → disk.new ≡ disk.old) }
-    ensures stop { (bodies : List (List ℕ)) → IsAt area.old (D.seen disk.old) bodies → IsAtRest D.seen D.may_leave disk.old →
-        LeavesOnly D.moment D.left_since disk.old disk.new (HoldsFirst area.old (D.seen disk.old) bodies records.now) }
-    ensures durable { (bodies : List (List ℕ)) → IsAt area.old (D.seen disk.old) bodies → IsAtRest D.seen D.may_leave disk.old →
+    ensures stop { (bodies : List (List ℕ)) → IsAt area.old (D.seen disk.old) bodies →
+        IsAtRest D.seen D.may_leave disk.old →
+        LeavesOnly D.moment D.left_since disk.old disk.new
+        (HoldsFirst area.old (D.seen disk.old) bodies records.now) }
+    ensures durable { (bodies : List (List ℕ)) → IsAt area.old (D.seen disk.old) bodies →
+        IsAtRest D.seen D.may_leave disk.old →
         OnOk result (IsAtRest D.seen D.may_leave disk.new) }
-    ensures refused { IfErr result (λ e. (e ≡ Refusal.Fault) × Rises (D.fault_count disk.old) (D.fault_count disk.new)) }
+    ensures refused { IfErr result (λ e. (e ≡ Refusal.Fault) ×
+        Rises (D.fault_count disk.old) (D.fault_count disk.new)) }
     ensures honest { D.is_honest disk.new → D.is_honest disk.old }
     ensures faults { D.fault_count disk.old ≤ D.fault_count disk.new }
     ensures size { length (D.seen disk.new) ≡ length (D.seen disk.old) }

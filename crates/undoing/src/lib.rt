@@ -1,4 +1,5 @@
-//! The losers, transactions that were live when a store stopped: they are undone, and the records of that are written.
+//! The losers, transactions that were live when a store stopped: they are undone, and the records
+//! of that are written.
 #![tactic(auto)]
 
 mod appending;

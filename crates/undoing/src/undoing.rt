@@ -11,7 +11,8 @@ use machine::Machine;
 use record_format::Record;
 use std::alloc::Global;
 
-/// Undoes each live transaction, by rising number, its newest call first. Answers the records of that, which are still
+/// Undoes each live transaction, by rising number, its newest call first. Answers the records of
+/// that, which are still
 /// to be written: for each call a Back, and then an Ended.
 ///
 /// Refused only for want of memory.
@@ -36,7 +37,8 @@ fn undo_one(
     requires live { Lives machine.old.live number }
     requires undo { AllByRecursion IsUndoRecord records.old.items }
     ensures over { OnOk result (IsOver number machine.old machine.new) }
-    ensures noted { OnOk result (records.new.items ≡ records.old.items ++ undo_of number machine.old.entries) }
+    ensures noted { OnOk result (records.new.items ≡ records.old.items ++
+        undo_of number machine.old.entries) }
     ensures undo { OnOk result (AllByRecursion IsUndoRecord records.new.items) }
     ensures refusal { IsOkUnless result Refusal.NoMemory }
 {

@@ -11,7 +11,8 @@ use Rattle.world.specs.Pasts.{BookState, CoreStep, IsAnswerOf, alone, outcome}
 use Rattle.world.specs.Moves.{Whole}
 use Rattle.world.specs.OneStep.{TakesStep}
 
-pub core_answered : (s : BookState) (waiting : List Block) (mark : ℕ) (x : Step × Answer) (t : BookState) (waits : List Block) → CoreStep s waiting mark x t waits → IsAnswerOf x.0 x.1
+pub core_answered : (s : BookState) (waiting : List Block) (mark : ℕ) (x : Step × Answer)
+    (t : BookState) (waits : List Block) → CoreStep s waiting mark x t waits → IsAnswerOf x.0 x.1
 core_answered s waiting mark (Step.Draw, Answer.Drawn n) t waits step = tt
 core_answered s waiting mark (Step.Draw, Answer.Refused e) t waits step = tt
 core_answered s waiting mark (Step.Make name kind, Answer.Placed place) t waits step = tt
@@ -41,7 +42,8 @@ pub turn_answered : (r : Result Turn Refusal) → IsAnswerOf Step.Turn (outcome 
 turn_answered (Ok turn) = tt
 turn_answered (Err e) = tt
 
-pub freeze_answered : (r : Result (Unit {0}) Refusal) → IsAnswerOf Step.Freeze (outcome (alone Answer.Frozen) r)
+pub freeze_answered : (r : Result (Unit {0}) Refusal) →
+    IsAnswerOf Step.Freeze (outcome (alone Answer.Frozen) r)
 freeze_answered (Ok done) = tt
 freeze_answered (Err e) = tt
 
@@ -54,7 +56,9 @@ flip_answered (Ok place) = tt
 flip_answered (Err e) = tt
 
 -- a step that was taken is what was asked for, and its result is wrapped
-pub wrapped : {D T : Type 0} (g : Ghosts D) (old new : Whole D) (s step : Step) (done : T → Answer) (r : Result T Refusal) (a : Answer) → step ≡ s →
-    MatchResult r (λ x. a ≡ done x) (λ e. a ≡ Answer.Refused e) → TakesStep g old (s, outcome done r) new → TakesStep g old (step, a) new
+pub wrapped : {D T : Type 0} (g : Ghosts D) (old new : Whole D) (s step : Step) (done : T → Answer)
+    (r : Result T Refusal) (a : Answer) → step ≡ s →
+    MatchResult r (λ x. a ≡ done x) (λ e. a ≡ Answer.Refused e) →
+    TakesStep g old (s, outcome done r) new → TakesStep g old (step, a) new
 wrapped g old new s step done (Ok x) a asked is taken = rw (asked, is) taken
 wrapped g old new s step done (Err e) a asked is taken = rw (asked, is) taken

@@ -1,10 +1,10 @@
 -- Steps that call no keeper: one lemma for each, from what the book answers.
-use Rattle.std.proofs.Common.{ℕ, ◌≤◌, Bool, true, false, List, length, refl, arith, None, Result, Ok, Err}
+use Rattle.std.proofs.Common.{ℕ, ◌≤◌, Bool, true, false, List, length, refl, arith, None, Result}
+use Rattle.std.proofs.Common.{Ok, Err}
 use Rattle.std.specs.List.{AllByRecursion}
 use Rattle.calls.specs.Contents.{AnswersAt, after_at}
 use Rattle.calls.specs.Transactions.{Makes}
-use Rattle.calls.specs.Needs.{need_of}
-use Rattle.calls.specs.Inverses.{inverse_of}
+use Rattle.calls.specs.Rules.{need_of, inverse_of}
 use Rattle.calls.specs.declared.call.Call.{Call}
 use Rattle.calls.specs.declared.kind.Kind.{Kind}
 use Rattle.calls.specs.declared.reply.Reply.{Reply}
@@ -23,46 +23,57 @@ use Rattle.world.specs.Moves.{Whole, Moves}
 use Rattle.world.specs.OneStep.{parts, TakesStep}
 use Rattle.world.proofs.AnswerLemmas.{core_answered}
 use Rattle.world.proofs.StepLemmas.{AreGoodBehind, core_past, core_held, quiet}
+use Rattle.catalog.specs.Meaning.{catalog_meaning, catalog_making}
 
 -- ---- what the book answers is a row of its steps
 
-make_row : (s : BookState) (name : List ℕ) (kind : Kind) (r : Result ℕ Refusal) (t : BookState) → books.MakeAnswers names_of Makes s name kind r t →
+make_row : (s : BookState) (name : List ℕ) (kind : Kind) (r : Result ℕ Refusal) (t : BookState) →
+    books.MakeAnswers catalog_making s name kind r t →
     BookStep s (Step.Make name kind, outcome Answer.Placed r) t
 make_row s name kind (Ok place) t row = row
 make_row s name kind (Err e) t row = row
 
-enter_row : (s : BookState) (n : ℕ) (r : Result (Unit {0}) Refusal) (t : BookState) → books.EnterAnswers s n r t →
+enter_row : (s : BookState) (n : ℕ) (r : Result (Unit {0}) Refusal) (t : BookState) →
+    books.EnterAnswers s n r t →
     BookStep s (Step.Enter n, outcome (alone Answer.Entered) r) t
 enter_row s n (Ok done) t row = row
 enter_row s n (Err e) t row = row
 
 call_row : (s : BookState) (n at : ℕ) (call : Call) (r : Result Reply Refusal) (t : BookState) →
-    books.CallAnswers AnswersAt after_at Belongs need_of inverse_of Misplaced s n at call r t → BookStep s (Step.Call n at call, outcome Answer.Replied r) t
+    books.CallAnswers catalog_meaning s n at call r t →
+    BookStep s (Step.Call n at call, outcome Answer.Replied r) t
 call_row s n at call (Ok reply) t row = row
 call_row s n at call (Err e) t row = row
 
-later_row : (s : BookState) (n at : ℕ) (call : Call) (r : Result (Unit {0}) Refusal) (t : BookState) →
-    books.LaterAnswers AnswersAt after_at Belongs need_of Misplaced s n at call r t → BookStep s (Step.Later n at call, outcome (alone Answer.PutOff) r) t
+later_row : (s : BookState) (n at : ℕ) (call : Call) (r : Result (Unit {0}) Refusal)
+    (t : BookState) →
+    books.LaterAnswers catalog_meaning s n at call r t →
+    BookStep s (Step.Later n at call, outcome (alone Answer.PutOff) r) t
 later_row s n at call (Ok done) t row = row
 later_row s n at call (Err e) t row = row
 
-commit_row : (s : BookState) (n : ℕ) (r : Result ℕ Refusal) (t : BookState) → books.CommitAnswers AnswersAt after_at s n r t →
+commit_row : (s : BookState) (n : ℕ) (r : Result ℕ Refusal) (t : BookState) →
+    books.CommitAnswers catalog_meaning s n r t →
     BookStep s (Step.Commit n, outcome Answer.Placed r) t
 commit_row s n (Ok place) t row = row
 commit_row s n (Err e) t row = row
 
-back_row : (s : BookState) (n : ℕ) (r : Result Bool Refusal) (t : BookState) → books.BackAnswers AnswersAt after_at inverse_of s n r t →
+back_row : (s : BookState) (n : ℕ) (r : Result Bool Refusal) (t : BookState) →
+    books.BackAnswers catalog_meaning s n r t →
     BookStep s (Step.Back n, outcome Answer.Backed r) t
 back_row s n (Ok undone) t row = row
 back_row s n (Err e) t row = row
 
-ended_row : (s : BookState) (n : ℕ) (r : Result (Unit {0}) Refusal) (t : BookState) → books.EndedAnswers s n r t →
+ended_row : (s : BookState) (n : ℕ) (r : Result (Unit {0}) Refusal) (t : BookState) →
+    books.EndedAnswers s n r t →
     BookStep s (Step.Ended n, outcome (alone Answer.Ended) r) t
 ended_row s n (Ok done) t row = row
 ended_row s n (Err e) t row = row
 
-cut_row : (s : BookState) (waiting : List Block) (mark : ℕ) (r : Result Bool Refusal) (t : BookState) (waits : List Block) →
-    books.CutAnswers s waiting (4 ≤ length waiting) r waits t → CoreStep s waiting mark (Step.Cut, outcome Answer.Cut r) t waits
+cut_row : (s : BookState) (waiting : List Block) (mark : ℕ) (r : Result Bool Refusal)
+    (t : BookState) (waits : List Block) →
+    books.CutAnswers s waiting (4 ≤ length waiting) r waits t →
+    CoreStep s waiting mark (Step.Cut, outcome Answer.Cut r) t waits
 cut_row s waiting mark (Ok true) t waits row = row
 cut_row s waiting mark (Ok false) t waits row = row
 cut_row s waiting mark (Err e) t waits row = row
@@ -73,14 +84,20 @@ draw_row s (Err e) = refl
 
 -- ---- and so the step is taken
 
-module _ {D : Type 0} (g : Ghosts D) (w : Whole D) (only_now : (c : List ℕ) → g.left_since w.keeper.disk (g.moment w.keeper.disk) c → g.may_leave w.keeper.disk c) where
+module _ {D : Type 0} (g : Ghosts D) (w : Whole D)
+    (only_now : (c : List ℕ) → g.left_since w.keeper.disk (g.moment w.keeper.disk) c →
+    g.may_leave w.keeper.disk c) where
   -- a step that leaves the keeper and the mark
-  core_taken : (x : Step × Answer) (t : BookState) (waits : List Block) (next : ℕ) → AreGoodBehind x.0 t → CoreStep w.book w.transit w.mark x t waits → Draws w.next x next →
-      Moves g.fault_count w x (record w { book = t; transit = waits; next = next }) → TakesStep g w x (record w { book = t; transit = waits; next = next })
+  core_taken : (x : Step × Answer) (t : BookState) (waits : List Block) (next : ℕ) →
+      AreGoodBehind x.0 t → CoreStep w.book w.transit w.mark x t waits → Draws w.next x next →
+      Moves g.fault_count w x (record w { book = t; transit = waits; next = next }) →
+      TakesStep g w x (record w { book = t; transit = waits; next = next })
   core_taken x t waits next good core drawn moves = record {
     past = λ start past had.
-        core_past g.seen g.may_leave start past (parts w) had x t (queue w.keeper.held waits) good (core_held w.keeper.held w.book t w.transit waits w.mark x core);
-    any_moment = λ start past had. quiet g.seen g.may_leave start past (parts w) had g.moment g.left_since only_now x;
+        core_past g.seen g.may_leave start past (parts w) had x t (queue w.keeper.held waits) good
+        (core_held w.keeper.held w.book t w.transit waits w.mark x core);
+    any_moment = λ start past had. quiet g.seen g.may_leave start past (parts w) had g.moment
+        g.left_since only_now x;
     mark = omega arith;
     own = core_answered w.book w.transit w.mark x t waits core;
     drawn = drawn;
@@ -88,59 +105,77 @@ module _ {D : Type 0} (g : Ghosts D) (w : Whole D) (only_now : (c : List ℕ) �
     honest = λ h. h;
   }
 
-  pub draw_taken : (r : Result ℕ Refusal) (next : ℕ) → IsDraw w.next (outcome Answer.Drawn r) next → TakesStep g w (Step.Draw, outcome Answer.Drawn r) (record w { next = next })
+  pub draw_taken : (r : Result ℕ Refusal) (next : ℕ) → IsDraw w.next (outcome Answer.Drawn r) next →
+      TakesStep g w (Step.Draw, outcome Answer.Drawn r) (record w { next = next })
   draw_taken r next drawn =
       let row = draw_row w.book r in
-      core_taken (Step.Draw, outcome Answer.Drawn r) w.book w.transit next tt (row, refl) drawn ((row, refl), drawn, refl, refl)
+      core_taken (Step.Draw, outcome Answer.Drawn r) w.book w.transit next tt (row, refl) drawn
+      ((row, refl), drawn, refl, refl)
 
   pub look_taken : TakesStep g w (Step.Look, Answer.Marked w.mark) w
-  look_taken = core_taken (Step.Look, Answer.Marked w.mark) w.book w.transit w.next tt (refl, refl, refl) refl ((refl, refl, refl), refl, refl, refl)
+  look_taken = core_taken (Step.Look, Answer.Marked w.mark) w.book w.transit w.next tt
+      (refl, refl, refl) refl ((refl, refl, refl), refl, refl, refl)
 
-  pub cut_taken : (r : Result Bool Refusal) (t : BookState) (waits : List Block) → books.CutAnswers w.book w.transit (4 ≤ length w.transit) r waits t →
+  pub cut_taken : (r : Result Bool Refusal) (t : BookState) (waits : List Block) →
+      books.CutAnswers w.book w.transit (4 ≤ length w.transit) r waits t →
       TakesStep g w (Step.Cut, outcome Answer.Cut r) (record w { book = t; transit = waits })
   cut_taken r t waits row =
       let core = cut_row w.book w.transit w.mark r t waits row in
-      core_taken (Step.Cut, outcome Answer.Cut r) t waits w.next tt core refl (core, refl, refl, refl)
+      core_taken (Step.Cut, outcome Answer.Cut r) t waits w.next tt core refl
+      (core, refl, refl, refl)
 
   module _ (t : BookState) (good : AllByRecursion (IsRecord None) t.pending) where
-    pub make_taken : (name : List ℕ) (kind : Kind) (r : Result ℕ Refusal) → books.MakeAnswers names_of Makes w.book name kind r t →
+    pub make_taken : (name : List ℕ) (kind : Kind) (r : Result ℕ Refusal) →
+        books.MakeAnswers catalog_making w.book name kind r t →
         TakesStep g w (Step.Make name kind, outcome Answer.Placed r) (record w { book = t })
     make_taken name kind r made =
         let row = make_row w.book name kind r t made in
-        core_taken (Step.Make name kind, outcome Answer.Placed r) t w.transit w.next good (row, refl) refl ((row, refl), refl, refl, refl)
+        core_taken (Step.Make name kind, outcome Answer.Placed r) t w.transit w.next good
+        (row, refl) refl ((row, refl), refl, refl, refl)
 
     pub enter_taken : (n : ℕ) (r : Result (Unit {0}) Refusal) → books.EnterAnswers w.book n r t →
         TakesStep g w (Step.Enter n, outcome (alone Answer.Entered) r) (record w { book = t })
     enter_taken n r entered =
         let row = enter_row w.book n r t entered in
-        core_taken (Step.Enter n, outcome (alone Answer.Entered) r) t w.transit w.next good (row, refl) refl ((row, refl), refl, refl, refl)
+        core_taken (Step.Enter n, outcome (alone Answer.Entered) r) t w.transit w.next good
+        (row, refl) refl ((row, refl), refl, refl, refl)
 
-    pub call_taken : (n at : ℕ) (call : Call) (r : Result Reply Refusal) → books.CallAnswers AnswersAt after_at Belongs need_of inverse_of Misplaced w.book n at call r t →
+    pub call_taken : (n at : ℕ) (call : Call) (r : Result Reply Refusal) →
+        books.CallAnswers catalog_meaning w.book n at call r t →
         TakesStep g w (Step.Call n at call, outcome Answer.Replied r) (record w { book = t })
     call_taken n at call r called =
         let row = call_row w.book n at call r t called in
-        core_taken (Step.Call n at call, outcome Answer.Replied r) t w.transit w.next good (row, refl) refl ((row, refl), refl, refl, refl)
+        core_taken (Step.Call n at call, outcome Answer.Replied r) t w.transit w.next good
+        (row, refl) refl ((row, refl), refl, refl, refl)
 
-    pub later_taken : (n at : ℕ) (call : Call) (r : Result (Unit {0}) Refusal) → books.LaterAnswers AnswersAt after_at Belongs need_of Misplaced w.book n at call r t →
-        TakesStep g w (Step.Later n at call, outcome (alone Answer.PutOff) r) (record w { book = t })
+    pub later_taken : (n at : ℕ) (call : Call) (r : Result (Unit {0}) Refusal) →
+        books.LaterAnswers catalog_meaning w.book n at call r t →
+        TakesStep g w (Step.Later n at call, outcome (alone Answer.PutOff) r)
+        (record w { book = t })
     later_taken n at call r put_off =
         let row = later_row w.book n at call r t put_off in
-        core_taken (Step.Later n at call, outcome (alone Answer.PutOff) r) t w.transit w.next good (row, refl) refl ((row, refl), refl, refl, refl)
+        core_taken (Step.Later n at call, outcome (alone Answer.PutOff) r) t w.transit w.next good
+        (row, refl) refl ((row, refl), refl, refl, refl)
 
-    pub commit_taken : (n : ℕ) (r : Result ℕ Refusal) → books.CommitAnswers AnswersAt after_at w.book n r t →
+    pub commit_taken : (n : ℕ) (r : Result ℕ Refusal) →
+        books.CommitAnswers catalog_meaning w.book n r t →
         TakesStep g w (Step.Commit n, outcome Answer.Placed r) (record w { book = t })
     commit_taken n r committed =
         let row = commit_row w.book n r t committed in
-        core_taken (Step.Commit n, outcome Answer.Placed r) t w.transit w.next good (row, refl) refl ((row, refl), refl, refl, refl)
+        core_taken (Step.Commit n, outcome Answer.Placed r) t w.transit w.next good (row, refl) refl
+        ((row, refl), refl, refl, refl)
 
-    pub back_taken : (n : ℕ) (r : Result Bool Refusal) → books.BackAnswers AnswersAt after_at inverse_of w.book n r t →
+    pub back_taken : (n : ℕ) (r : Result Bool Refusal) →
+        books.BackAnswers catalog_meaning w.book n r t →
         TakesStep g w (Step.Back n, outcome Answer.Backed r) (record w { book = t })
     back_taken n r undone =
         let row = back_row w.book n r t undone in
-        core_taken (Step.Back n, outcome Answer.Backed r) t w.transit w.next good (row, refl) refl ((row, refl), refl, refl, refl)
+        core_taken (Step.Back n, outcome Answer.Backed r) t w.transit w.next good (row, refl) refl
+        ((row, refl), refl, refl, refl)
 
     pub ended_taken : (n : ℕ) (r : Result (Unit {0}) Refusal) → books.EndedAnswers w.book n r t →
         TakesStep g w (Step.Ended n, outcome (alone Answer.Ended) r) (record w { book = t })
     ended_taken n r ended =
         let row = ended_row w.book n r t ended in
-        core_taken (Step.Ended n, outcome (alone Answer.Ended) r) t w.transit w.next good (row, refl) refl ((row, refl), refl, refl, refl)
+        core_taken (Step.Ended n, outcome (alone Answer.Ended) r) t w.transit w.next good
+        (row, refl) refl ((row, refl), refl, refl, refl)

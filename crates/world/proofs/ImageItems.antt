@@ -1,5 +1,7 @@
 -- The collections that an image tells of are read one after another.
-use Rattle.std.proofs.Common.{◌≡◌, ℕ, zero, suc, ◌<◌, ◌≤◌, Option, Some, None, List, [], ◌∷◌, ◌++◌, length, map, slice_get, refl, sym, ap, subst, arith, append-nil, append_assoc}
+use Rattle.std.proofs.Common.{◌≡◌, ℕ, zero, suc, ◌<◌, ◌≤◌, Option, Some, None, List, [], ◌∷◌, ◌++◌}
+use Rattle.std.proofs.Common.{length, map, slice_get, refl, sym, ap, subst, arith, append-nil}
+use Rattle.std.proofs.Common.{append_assoc}
 use Rattle.std.specs.Prelude.{replicate}
 use Rattle.std.specs.List.{AllByRecursion, flat_map}
 use Rattle.std.specs.FinMap as maps
@@ -8,95 +10,63 @@ use Rattle.std.proofs.lemmas.Option.{slice_get_within, slice_get_read}
 use Rattle.calls.specs.declared.kind.Kind.{Kind}
 use Rattle.calls.specs.declared.item.Item.{Item}
 use Rattle.calls.specs.Contents.{Content, InSet, InMap, InQueue, InCounter, InPool, Collection}
+use Rattle.calls.specs.Contents.{kind_of_content, IsItemOf}
 use Rattle.calls.specs.Names.{IsName}
-use Rattle.calls.specs.Items.{kind_of_content}
 use Rattle.calls.specs.Transactions.{Leads}
-use Rattle.catalog.specs.Holdings.{AreNamed}
+use Rattle.catalog.specs.Holdings.{AreNamed, ListsContent, Precedes, Rise, AreInOrder, Follows}
 use Rattle.catalog.specs.Making.{names_of, IsNew, AreDistinct}
 use Rattle.catalog.specs.Places.{Reaches, IsWithin}
-use Rattle.catalog.specs.Shows.{ListsContent}
-use Rattle.catalog.specs.Loading.{Precedes, IsItemOf, Rise, AreInOrder, Follows}
-use Rattle.catalog.proofs.Orders.{listed_in_order}
+use Rattle.catalog.proofs.Orders.{listed_in_order, first_is_item, in_order_rise, rise_in_order}
 use Rattle.record_format.specs.declared.record.Record.{Record}
 use Rattle.records.specs.Images.{TellsOf, TellOf}
 use Rattle.record_format.specs.Reached.{IsReached}
+use Rattle.records.proofs.Items.{items_reached}
 use Rattle.machine.specs.Machines.{resting}
 use Rattle.repetition.specs.Steps.{State}
 use Rattle.repetition.specs.Reading.{Named, Progress, InCollections, Closes, Reads}
-use Rattle.repetition.proofs.Lists.{leads_append, all_append, all_first, all_last}
+use Rattle.repetition.proofs.Lists.{leads_append}
+use Rattle.boosted.proofs.Each.{each_append, each_front, each_back}
 
 -- ---- items in order
-
--- An item before another is one of the kind.
-first_is_item : (kind : Kind) (x y : Item) → Precedes kind x y → IsItemOf kind x
-first_is_item Kind.Set (Item.Element x) (Item.Element y) p = tt
-first_is_item Kind.Map (Item.Entry k v) (Item.Entry j w) p = tt
-first_is_item Kind.Queue (Item.Pair p g) (Item.Pair q h) b = tt
-first_is_item Kind.Pool (Item.Element x) (Item.Element y) p = tt
-first_is_item kind x y p = absurd p
 
 rise_item : (kind : Kind) (x : Item) (xs : List Item) → Rise kind x xs → IsItemOf kind x
 rise_item kind x [] rise = rise
 rise_item kind x (y ∷ xs) rise = first_is_item kind x y rise.0
 
-rise_front : (kind : Kind) (x : Item) (front : List Item) (i : Item) (back : List Item) → Rise kind x (front ++ i ∷ back) → Rise kind x (front ++ i ∷ [])
+rise_front : (kind : Kind) (x : Item) (front : List Item) (i : Item) (back : List Item) →
+    Rise kind x (front ++ i ∷ back) → Rise kind x (front ++ i ∷ [])
 rise_front kind x [] i back rise = (rise.0, rise_item kind i back rise.1)
 rise_front kind x (y ∷ front) i back rise = (rise.0, rise_front kind y front i back rise.1)
 
-in_order_rise : (kind : Kind) (x : Item) (xs : List Item) → AreInOrder kind (x ∷ xs) → Rise kind x xs
-in_order_rise Kind.Set x xs h = h
-in_order_rise Kind.Map x xs h = h
-in_order_rise Kind.Queue x xs h = h
-in_order_rise Kind.Counter x xs h = h
-in_order_rise Kind.Pool x xs h = h
-
-rise_in_order : (kind : Kind) (x : Item) (xs : List Item) → Rise kind x xs → AreInOrder kind (x ∷ xs)
-rise_in_order Kind.Set x xs h = h
-rise_in_order Kind.Map x xs h = h
-rise_in_order Kind.Queue x xs h = h
-rise_in_order Kind.Counter x xs h = h
-rise_in_order Kind.Pool x xs h = h
-
 -- Each item of items in order may come behind those before it.
-follows_front : (kind : Kind) (front : List Item) (i : Item) (back : List Item) → AreInOrder kind (front ++ i ∷ back) → Follows kind front i
-follows_front kind [] i back order = rise_in_order kind i [] (rise_item kind i back (in_order_rise kind i back order))
-follows_front kind (x ∷ front) i back order = rise_in_order kind x (front ++ i ∷ []) (rise_front kind x front i back (in_order_rise kind x (front ++ i ∷ back) order))
-
--- ---- items that the wear reaches
-
-none_bound : {X : Type 0} (n : ℕ) (f : X → Item) → ((x : X) → IsReached n (f x)) → (xs : List X) → AllByRecursion (IsReached n) (map f xs)
-none_bound n f reached [] = tt
-none_bound n f reached (x ∷ xs) = (reached x, none_bound n f reached xs)
-
-copies_reached : (n k : ℕ) (i : Item) → IsReached n i → AllByRecursion (IsReached n) (replicate k i)
-copies_reached n zero i reached = tt
-copies_reached n (suc k) i reached = (reached, copies_reached n k i reached)
-
-pairs_reached : (n : ℕ) (es : List ((ℕ × ℕ) × ℕ)) → AllByRecursion (IsReached n) (flat_map (λ e. replicate (suc e.1) (Item.Pair e.0.0 e.0.1)) es)
-pairs_reached n [] = tt
-pairs_reached n (e ∷ es) = all_append (IsReached n) (replicate (suc e.1) (Item.Pair e.0.0 e.0.1)) (flat_map (λ e. replicate (suc e.1) (Item.Pair e.0.0 e.0.1)) es) (copies_reached n (suc e.1) (Item.Pair e.0.0 e.0.1) tt) (pairs_reached n es)
-
-items_reached : (n : ℕ) (k : Content) (items : List Item) → ListsContent items k → Reaches k n → AllByRecursion (IsReached n) items
-items_reached n (InSet s) items lists reached = subst (AllByRecursion (IsReached n)) (sym lists.are) (none_bound n Item.Element (λ x. tt) lists.numbers)
-items_reached n (InMap m) items lists reached = subst (AllByRecursion (IsReached n)) (sym lists) (none_bound n (λ e. Item.Entry e.0 e.1) (λ e. tt) (maps.entries m))
-items_reached n (InQueue q) items lists reached = subst (AllByRecursion (IsReached n)) (sym lists) (pairs_reached n (maps.entries q))
-items_reached n (InCounter v) items lists reached = subst (AllByRecursion (IsReached n)) (sym lists) (reached, tt)
-items_reached n (InPool s) items lists reached = subst (AllByRecursion (IsReached n)) (sym lists.are) (none_bound n Item.Element (λ x. tt) lists.numbers)
+follows_front : (kind : Kind) (front : List Item) (i : Item) (back : List Item) →
+    AreInOrder kind (front ++ i ∷ back) → Follows kind front i
+follows_front kind [] i back order =
+    rise_in_order kind i [] (rise_item kind i back (in_order_rise kind i back order))
+follows_front kind (x ∷ front) i back order =
+    rise_in_order kind x (front ++ i ∷ [])
+    (rise_front kind x front i back (in_order_rise kind x (front ++ i ∷ back) order))
 
 -- ---- a collection
 
 abbrev named : List ℕ → Kind → List Item → Named
 named name kind items = record { name = name; kind = kind; items = items }
 
-items_read : (next : ℕ) (s : State) (name : List ℕ) (kind : Kind) (done todo : List Item) → AreInOrder kind (done ++ todo) → AllByRecursion (IsReached s.wear) todo →
-    Leads Reads (map Record.Item todo) (InCollections next s (Some (named name kind done))) (InCollections next s (Some (named name kind (done ++ todo))))
-items_read next s name kind done [] order reached = ap (λ l. InCollections next s (Some (named name kind l))) (sym (append-nil done))
+items_read : (next : ℕ) (s : State) (name : List ℕ) (kind : Kind) (done todo : List Item) →
+    AreInOrder kind (done ++ todo) → AllByRecursion (IsReached s.wear) todo →
+    Leads Reads (map Record.Item todo) (InCollections next s (Some (named name kind done)))
+    (InCollections next s (Some (named name kind (done ++ todo))))
+items_read next s name kind done [] order reached =
+    ap (λ l. InCollections next s (Some (named name kind l))) (sym (append-nil done))
 items_read next s name kind done (i ∷ todo) order reached =
     let assoc = append_assoc done (i ∷ []) todo in (
       InCollections next s (Some (named name kind (done ++ i ∷ []))),
       (follows_front kind done i todo order, reached.0, refl),
-      subst (λ l. Leads Reads (map Record.Item todo) (InCollections next s (Some (named name kind (done ++ i ∷ [])))) (InCollections next s (Some (named name kind l)))) assoc
-          (items_read next s name kind (done ++ i ∷ []) todo (subst (AreInOrder kind) (sym assoc) order) reached.1),
+      subst (λ l. Leads Reads (map Record.Item todo)
+          (InCollections next s (Some (named name kind (done ++ i ∷ []))))
+          (InCollections next s (Some (named name kind l)))) assoc
+          (items_read next s name kind (done ++ i ∷ []) todo
+          (subst (AreInOrder kind) (sym assoc) order) reached.1),
     )
 
 -- Records lead from there to where this state is reached once the last collection is told whole.
@@ -106,19 +76,25 @@ pub record IsTelling (next : ℕ) (rs : List Record) (p : Progress) (goal : Stat
   pub leads : Leads Reads rs p (InCollections next state last)
   pub closes : Closes state last goal
 
-collection_read : (next wear : ℕ) (ys : List Collection) (x : Collection) (rs : List Record) → TellsOf x rs → IsNew (names_of ys) x.name → Reaches x.content wear → IsWithin (ys ++ x ∷ []) wear →
-    (s : State) (last : Option Named) → Closes s last (resting ys wear) → IsTelling next rs (InCollections next s last) (resting (ys ++ x ∷ []) wear)
+collection_read : (next wear : ℕ) (ys : List Collection) (x : Collection) (rs : List Record) →
+    TellsOf x rs → IsNew (names_of ys) x.name → Reaches x.content wear →
+    IsWithin (ys ++ x ∷ []) wear →
+    (s : State) (last : Option Named) → Closes s last (resting ys wear) →
+    IsTelling next rs (InCollections next s last) (resting (ys ++ x ∷ []) wear)
 collection_read next wear ys x rs tells new reached within s last closes =
     let kind = kind_of_content x.content in
     let before : State = resting ys wear in
     record {
       state = before;
       last = Some (named x.name kind tells.items);
-      leads = subst (λ l. Leads Reads l (InCollections next s last) (InCollections next before (Some (named x.name kind tells.items)))) (sym tells.is) (
-        InCollections next before (Some (named x.name kind [])),
-        (before, closes, new, refl),
-        items_read next before x.name kind [] tells.items (listed_in_order x.content tells.items tells.lists) (items_reached wear x.content tells.items tells.lists reached),
-      );
+      leads = subst (λ l. Leads Reads l (InCollections next s last)
+          (InCollections next before (Some (named x.name kind tells.items)))) (sym tells.is) (
+            InCollections next before (Some (named x.name kind [])),
+            (before, closes, new, refl),
+            items_read next before x.name kind [] tells.items
+                (listed_in_order x.content tells.items tells.lists)
+                (items_reached wear x.content tells.items tells.lists reached),
+          );
       closes = record {
         new = new;
         next = ys ++ x ∷ [];
@@ -130,56 +106,80 @@ collection_read next wear ys x rs tells new reached within s last closes =
 
 -- ---- the name of the next collection is new
 
-stands_there : (ys : List Collection) (x : Collection) (xs : List Collection) → slice_get (names_of (ys ++ x ∷ xs)) (length ys) ≡ Some x.name
+stands_there : (ys : List Collection) (x : Collection) (xs : List Collection) →
+    slice_get (names_of (ys ++ x ∷ xs)) (length ys) ≡ Some x.name
 stands_there [] x xs = refl
 stands_there (y ∷ ys) x xs = stands_there ys x xs
 
-stands_still : (ys zs : List Collection) (at : ℕ) (name : List ℕ) → slice_get (names_of ys) at ≡ Some name → slice_get (names_of (ys ++ zs)) at ≡ Some name
+stands_still : (ys zs : List Collection) (at : ℕ) (name : List ℕ) →
+    slice_get (names_of ys) at ≡ Some name → slice_get (names_of (ys ++ zs)) at ≡ Some name
 stands_still [] zs at name e = absurd (cc)
 stands_still (y ∷ ys) zs zero name e = e
 stands_still (y ∷ ys) zs (suc at) name e = stands_still ys zs at name e
 
-next_new : (ys : List Collection) (x : Collection) (xs : List Collection) → AreNamed (ys ++ x ∷ xs) → AreDistinct (names_of (ys ++ x ∷ xs)) → length (names_of (ys ++ x ∷ xs)) ≤ 256 → IsNew (names_of ys) x.name
+next_new : (ys : List Collection) (x : Collection) (xs : List Collection) →
+    AreNamed (ys ++ x ∷ xs) → AreDistinct (names_of (ys ++ x ∷ xs)) →
+    length (names_of (ys ++ x ∷ xs)) ≤ 256 → IsNew (names_of ys) x.name
 next_new ys x xs good distinct few = record {
-  good = (all_last (λ x. IsName x.name) ys (x ∷ xs) good).0;
+  good = (each_back (λ x. IsName x.name) ys (x ∷ xs) good).0;
   free = λ taken.
       let at = taken.0 in
-      let there : slice_get (names_of ys) at ≡ Some x.name = slice_get_read (names_of ys) (length (names_of ys)) at x.name refl taken.1 (sym taken.2) in
-      let same : at ≡ length ys = distinct x.name at (length ys) (stands_still ys (x ∷ xs) at x.name there) (stands_there ys x xs) in
+      let there : slice_get (names_of ys) at ≡ Some x.name =
+      slice_get_read (names_of ys) (length (names_of ys)) at x.name refl taken.1
+      (sym taken.2) in
+      let same : at ≡ length ys = distinct x.name at (length ys)
+      (stands_still ys (x ∷ xs) at x.name there) (stands_there ys x xs) in
       let below : at < length (names_of ys) = taken.1 in
       let names : length (names_of ys) ≡ length ys = length-map ys (λ x. x.name) in
       absurd (omega arith);
   few =
       let below : length (names_of ys) < length (names_of (ys ++ x ∷ xs)) =
       let names : length (names_of ys) ≡ length ys = length-map ys (λ x. x.name) in
-      let inside : length ys < length (names_of (ys ++ x ∷ xs)) = slice_get_within (names_of (ys ++ x ∷ xs)) (length ys) x.name (stands_there ys x xs) in
+      let inside : length ys < length (names_of (ys ++ x ∷ xs)) =
+      slice_get_within (names_of (ys ++ x ∷ xs)) (length ys) x.name (stands_there ys x xs) in
       omega arith in
       omega arith;
 }
 
 -- ---- all collections
 
-collections_read : (next wear : ℕ) (xs ys : List Collection) (rs : List Record) → TellOf xs rs → AreNamed (ys ++ xs) → AreDistinct (names_of (ys ++ xs)) → length (names_of (ys ++ xs)) ≤ 256 → IsWithin (ys ++ xs) wear →
-    (s : State) (last : Option Named) → Closes s last (resting ys wear) → IsTelling next rs (InCollections next s last) (resting (ys ++ xs) wear)
+collections_read : (next wear : ℕ) (xs ys : List Collection) (rs : List Record) → TellOf xs rs →
+    AreNamed (ys ++ xs) → AreDistinct (names_of (ys ++ xs)) → length (names_of (ys ++ xs)) ≤ 256 →
+    IsWithin (ys ++ xs) wear →
+    (s : State) (last : Option Named) → Closes s last (resting ys wear) →
+    IsTelling next rs (InCollections next s last) (resting (ys ++ xs) wear)
 collections_read next wear [] ys rs tells good distinct few within s last closes = record {
   state = s;
   last = last;
-  leads = subst (λ l. Leads Reads l (InCollections next s last) (InCollections next s last)) (sym tells) refl;
+  leads = subst (λ l. Leads Reads l (InCollections next s last) (InCollections next s last))
+      (sym tells) refl;
   closes = subst (λ l. Closes s last (resting l wear)) (sym (append-nil ys)) closes;
 }
 collections_read next wear (x ∷ xs) ys rs tells good distinct few within s last closes =
     let assoc : (ys ++ x ∷ []) ++ xs ≡ ys ++ x ∷ xs = append_assoc ys (x ∷ []) xs in
     let each = subst (λ l. IsWithin l wear) (sym assoc) within in
-    let one = collection_read next wear ys x tells.0 tells.3 (next_new ys x xs good distinct few) (all_last (λ x. Reaches x.content wear) ys (x ∷ xs) within).0 (all_first (λ x. Reaches x.content wear) (ys ++ x ∷ []) xs each) s last closes in
-    let more = collections_read next wear xs (ys ++ x ∷ []) tells.1 tells.4 (subst AreNamed (sym assoc) good) (subst (λ l. AreDistinct (names_of l)) (sym assoc) distinct) (subst (λ l. length (names_of l) ≤ 256) (sym assoc) few) each one.state one.last one.closes in
+    let one = collection_read next wear ys x tells.0 tells.3 (next_new ys x xs good distinct few)
+    (each_back (λ x. Reaches x.content wear) ys (x ∷ xs) within).0
+    (each_front (λ x. Reaches x.content wear) (ys ++ x ∷ []) xs each) s last closes in
+    let more = collections_read next wear xs (ys ++ x ∷ []) tells.1 tells.4
+    (subst AreNamed (sym assoc) good)
+    (subst (λ l. AreDistinct (names_of l)) (sym assoc) distinct)
+    (subst (λ l. length (names_of l) ≤ 256) (sym assoc) few) each one.state one.last
+    one.closes in
     record {
       state = more.state;
       last = more.last;
-      leads = subst (λ l. Leads Reads l (InCollections next s last) (InCollections next more.state more.last)) (sym tells.2)
-          (leads_append Reads tells.0 tells.1 (InCollections next s last) (InCollections next one.state one.last) (InCollections next more.state more.last) one.leads more.leads);
+      leads = subst (λ l. Leads Reads l (InCollections next s last)
+          (InCollections next more.state more.last)) (sym tells.2)
+          (leads_append Reads tells.0 tells.1 (InCollections next s last)
+          (InCollections next one.state one.last) (InCollections next more.state more.last)
+          one.leads more.leads);
       closes = subst (λ l. Closes more.state more.last (resting l wear)) assoc more.closes;
     }
 
 -- From the marks on all collections are read.
-pub told_reads : (next wear : ℕ) (xs : List Collection) (rs : List Record) → TellOf xs rs → AreNamed xs → AreDistinct (names_of xs) → length (names_of xs) ≤ 256 → IsWithin xs wear → IsTelling next rs (InCollections next (resting [] wear) None) (resting xs wear)
-told_reads next wear xs rs tells good distinct few within = collections_read next wear xs [] rs tells good distinct few within (resting [] wear) None refl
+pub told_reads : (next wear : ℕ) (xs : List Collection) (rs : List Record) → TellOf xs rs →
+    AreNamed xs → AreDistinct (names_of xs) → length (names_of xs) ≤ 256 → IsWithin xs wear →
+    IsTelling next rs (InCollections next (resting [] wear) None) (resting xs wear)
+told_reads next wear xs rs tells good distinct few within =
+    collections_read next wear xs [] rs tells good distinct few within (resting [] wear) None refl

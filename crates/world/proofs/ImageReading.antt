@@ -1,11 +1,11 @@
 -- The image of a freeze is read: it leads to a state that lags behind the book's.
-use Rattle.std.proofs.Common.{◌≡◌, ℕ, ◌+◌, ◌<◌, ◌≤◌, ◌^◌, inr, ⊎_elim, Bool, not, ◌&&◌, None, List, [], ◌∷◌, ◌++◌, length, map, refl, sym, ◌∙◌, ap, subst, arith}
+use Rattle.std.proofs.Common.{◌≡◌, ℕ, ◌+◌, ◌<◌, ◌≤◌, ◌^◌, inr, ⊎_elim, Bool, not, ◌&&◌, None, List}
+use Rattle.std.proofs.Common.{[], ◌∷◌, ◌++◌, length, map, refl, sym, ◌∙◌, ap, subst, arith}
 use Rattle.std.specs.Prelude.{◌↔◌, Contains}
 use Rattle.std.specs.FinMap as maps
 use Rattle.std.specs.Ordering.{nat_cmp}
 use Rattle.calls.specs.Contents.{Collection, AnswersAt, after_at}
-use Rattle.calls.specs.Needs.{need_of}
-use Rattle.calls.specs.Inverses.{inverse_of}
+use Rattle.calls.specs.Rules.{need_of, inverse_of}
 use Rattle.calls.specs.Transactions.{Entry, Leads, Makes, calls_of, own}
 use Rattle.abstract_locks.specs.declared.table.Hold.{Hold}
 use Rattle.undo_log.specs.Logs.{Statuses, Lives, Falls}
@@ -32,16 +32,22 @@ use Rattle.machine.proofs.Theory.Loading.{image_loads}
 use Rattle.machine.proofs.Statuses.{nobody}
 use Rattle.machine.proofs.Owned.{owner}
 use Rattle.repetition.specs.Steps.{State, Repeats}
-use Rattle.repetition.specs.Reading.{Progress, Unread, InCollections, InJournal, Reads, Settles, AreAccepted}
+use Rattle.repetition.specs.Reading.{Progress, Unread, InCollections, InJournal, Reads, Settles}
+use Rattle.repetition.specs.Reading.{AreAccepted}
 use Rattle.repetition.specs.Lagging.{Lags, IsThinned}
 use Rattle.repetition.proofs.CatalogLaws.{laws}
 use Rattle.repetition.proofs.Lists.{leads_append}
 use Rattle.repetition.proofs.ReadLemmas.{IsBehind}
 use Rattle.world.proofs.ImageItems.{told_reads, IsTelling}
-use Rattle.world.proofs.ImageNumbers.{all_held, as_many, stood, stood_lives, stood_falls, stood_len, AreAbove, StandsAt, collections_stand, numbers_read, IsStanding}
-use Rattle.world.proofs.ImageEntries.{kept, entry_record, kept_records, kept_each, kept_calls, kept_thinned, kept_length, kept_own, kept_shown, all_placed, Placed}
+use Rattle.world.proofs.ImageNumbers.{all_held, as_many, stood, stood_lives, stood_falls, stood_len}
+use Rattle.world.proofs.ImageNumbers.{AreAbove, StandsAt, collections_stand, numbers_read}
+use Rattle.world.proofs.ImageNumbers.{IsStanding}
+use Rattle.world.proofs.ImageEntries.{kept, entry_record, kept_records, kept_each, kept_calls}
+use Rattle.world.proofs.ImageEntries.{kept_thinned, kept_length, kept_own, kept_shown, all_placed}
+use Rattle.world.proofs.ImageEntries.{Placed}
 use Rattle.world.proofs.ImageNames.{IsWell, step_well, reads_well}
 use Rattle.world.proofs.ImageCalls.{rules, Theirs, map_has, IsLater, AsksAt, HasAsked, entries_read}
+use Rattle.catalog.specs.Meaning.{catalog_meaning, catalog_making}
 
 -- ---- the numbers that are live
 
@@ -49,7 +55,9 @@ nobody_falls : (n : ℕ) → Falls maps.empty n → ⊥
 nobody_falls n falls = let none = maps.get-empty {X = Bool} nat_cmp n in cc
 
 -- The numbers of a book that are live, told in their order.
-module _ (s : State) (upheld : IsUpheld names_of IsWithin AreShort (IsSound AnswersAt after_at Makes need_of inverse_of) s) (ns : List ℕ) (are : (n : ℕ) → Contains ns n ↔ Lives s.live n) (rise : Rise ns) where
+module _ (s : State) (upheld : IsUpheld catalog_meaning catalog_making AreShort
+    (IsSound catalog_meaning catalog_making) s) (ns : List ℕ)
+    (are : (n : ℕ) → Contains ns n ↔ Lives s.live n) (rise : Rise ns) where
   abbrev begun : Statuses
   begun = stood maps.empty ns
 
@@ -58,11 +66,13 @@ module _ (s : State) (upheld : IsUpheld names_of IsWithin AreShort (IsSound Answ
   standing = record { now = s.now; live = begun; entries = []; holds = []; wear = s.wear }
 
   all_above : AreAbove maps.empty ns
-  all_above = all_held (λ n. (m : ℕ) → Lives maps.empty m → m < n) ns (λ n held m lives. absurd (nobody m lives))
+  all_above = all_held (λ n. (m : ℕ) → Lives maps.empty m → m < n) ns
+      (λ n held m lives. absurd (nobody m lives))
 
   begun_lives : (n : ℕ) → Lives begun n ↔ Lives s.live n
   begun_lives n = (
-    λ lives. ⊎_elim (λ (none : Lives maps.empty n). absurd (nobody n none)) (λ (held : Contains ns n). (are n).0 held) ((stood_lives ns maps.empty n).0 lives),
+    λ lives. ⊎_elim (λ (none : Lives maps.empty n). absurd (nobody n none))
+        (λ (held : Contains ns n). (are n).0 held) ((stood_lives ns maps.empty n).0 lives),
     λ lives. (stood_lives ns maps.empty n).1 (inr ((are n).1 lives)),
   )
 
@@ -70,14 +80,19 @@ module _ (s : State) (upheld : IsUpheld names_of IsWithin AreShort (IsSound Answ
   none_falls = stood_falls ns maps.empty nobody_falls
 
   begun_len : maps.len begun ≡ maps.len s.live
-  begun_len = let none = maps.len-empty nat_cmp Bool in let all = stood_len ns maps.empty rise all_above in let many = as_many ns s.live rise are in omega (arith, none, all, many)
+  begun_len = let none = maps.len-empty nat_cmp Bool in
+      let all = stood_len ns maps.empty rise all_above in let many = as_many ns s.live rise are in
+      omega (arith, none, all, many)
 
-  numbers_lead : (next : ℕ) (p : Progress) → ((n : ℕ) → Lives s.live n → n < next) → StandsAt next (resting s.now s.wear) p → IsStanding next (map Record.Begin ns) p standing
+  numbers_lead : (next : ℕ) (p : Progress) → ((n : ℕ) → Lives s.live n → n < next) →
+      StandsAt next (resting s.now s.wear) p → IsStanding next (map Record.Begin ns) p standing
   numbers_lead next p below stands =
       let none = maps.len-empty nat_cmp Bool in
       let many = as_many ns s.live rise are in
       let few = upheld.few_live in
-      numbers_read ns next (resting s.now s.wear) p stands rise (all_held IsNumber ns (λ n held. upheld.numbers n ((are n).0 held))) (all_held (λ n. n < next) ns (λ n held. below n ((are n).0 held))) all_above
+      numbers_read ns next (resting s.now s.wear) p stands rise
+      (all_held IsNumber ns (λ n held. upheld.numbers n ((are n).0 held)))
+      (all_held (λ n. n < next) ns (λ n held. below n ((are n).0 held))) all_above
       (omega (arith, none, many, few))
 
   -- ---- what they asked for
@@ -94,45 +109,62 @@ module _ (s : State) (upheld : IsUpheld names_of IsWithin AreShort (IsSound Answ
       record {
         now = shows.now;
         entries = refl;
-        live = λ n. (λ h. (begun_lives n).1 ((shows.live n).0 h), λ lives. (shows.live n).1 ((begun_lives n).0 lives));
+        live = λ n. (
+          λ h. (begun_lives n).1 ((shows.live n).0 h),
+          λ lives. (shows.live n).1 ((begun_lives n).0 lives),
+        );
         falling = λ n. (λ h. absurd h, λ falls. none_falls n falls);
         needs = λ h. (λ none. absurd none, λ held. let below = held.1 in absurd (omega arith));
       }
 
   image_entries : (image_of rules m).entries ≡ all_owned kept_here
-  image_entries = ap (shown owner m.falling) upheld.holds.shows.entries ∙ kept_shown s.live m.falling upheld.holds.shows.falling s.entries
+  image_entries = ap (shown owner m.falling) upheld.holds.shows.entries ∙
+      kept_shown s.live m.falling upheld.holds.shows.falling s.entries
 
-  image_read : loads.Loads rules (all_owned kept_here) (loads.loaded rules m.now m.live []) (image_of rules m)
-  image_read = subst (λ es. loads.Loads rules es (loads.loaded rules m.now m.live []) (image_of rules m)) image_entries (image_loads laws.rules m upheld.holds.sound)
+  image_read : loads.Loads rules (all_owned kept_here) (loads.loaded rules m.now m.live [])
+      (image_of rules m)
+  image_read = subst (λ es. loads.Loads rules es (loads.loaded rules m.now m.live [])
+      (image_of rules m)) image_entries (image_loads laws.rules m upheld.holds.sound)
 
   few_kept : (n : ℕ) → length (own n kept_here) ≤ 1024
-  few_kept n = let few = upheld.few_calls n in let fewer = kept_own n s.live s.entries in omega arith
+  few_kept n = let few = upheld.few_calls n in let fewer = kept_own n s.live s.entries in
+      omega arith
 
   room_kept : s.wear + length kept_here ≤ 2 ^ 61 + 65536
   room_kept = let room = upheld.unworn in let fewer = kept_length s.live s.entries in omega arith
 
-  asked_lead : (next : ℕ) (p : Progress) → AsksAt next standing p → HasAsked next kept_here p standing (image_of rules m)
+  asked_lead : (next : ℕ) (p : Progress) → AsksAt next standing p →
+      HasAsked next kept_here p standing (image_of rules m)
   asked_lead next p asks =
-      entries_read kept_here next standing p (loads.loaded rules m.now m.live []) (image_of rules m) asks standing_shown image_read
+      entries_read kept_here next standing p (loads.loaded rules m.now m.live []) (image_of rules m)
+      asks standing_shown image_read
       (kept_each (λ e. IsAskedEntry e.1) s.live s.entries upheld.asked)
-      (kept_each (λ e. Placed s.now e.1) s.live s.entries (all_placed s.entries upheld.holds.content s.now upheld.holds.settled))
+      (kept_each (λ e. Placed s.now e.1) s.live s.entries
+      (all_placed s.entries upheld.holds.content s.now upheld.holds.settled))
       few_kept room_kept
 
   -- ---- the state behind them
 
-  module _ (v : State) (shows : Shows v (image_of rules m)) (now : v.now ≡ s.now) (live : v.live ≡ begun) (wear : v.wear ≡ s.wear) (entries : v.entries ≡ kept_here) where
+  module _ (v : State) (shows : Shows v (image_of rules m)) (now : v.now ≡ s.now)
+      (live : v.live ≡ begun) (wear : v.wear ≡ s.wear) (entries : v.entries ≡ kept_here) where
     settles : Settles v
     settles = (
       upheld.holds.content,
-      subst (λ es. Leads (Does AnswersAt after_at) es upheld.holds.content v.now) (sym (ap (λ es. calls_of (map (λ e. e.1) es)) entries ∙ kept_calls s.live s.entries))
-          (subst (λ t. Leads (Does AnswersAt after_at) (calls_of (map (λ e. e.1) s.entries)) upheld.holds.content t) (sym now) upheld.holds.settled),
+      subst (λ es. Leads (Does catalog_meaning) es upheld.holds.content v.now)
+          (sym (ap (λ es. calls_of (map (λ e. e.1) es)) entries ∙ kept_calls s.live s.entries))
+          (subst (λ t. Leads (Does catalog_meaning) (calls_of (map (λ e. e.1) s.entries))
+          upheld.holds.content t) (sym now) upheld.holds.settled),
     )
 
     held_there : (h : Hold) → Contains v.holds h → Contains s.holds h
     held_there h held =
-        let one = map_has (λ e. rules.need (journal.event e)) (shown owner m.falling m.entries) h ((shows.needs h).1 held) in
-        let there = filter_has (λ e. not (is_put e && member m.falling (journal.asker owner e))) m.entries one.0 one.1 in
-        let need : Has m.needs (rules.need (journal.event one.0)) = at (λ e. Has m.needs (rules.need (journal.event e))) m.entries one.0 upheld.holds.sound.held there.0 in
+        let one = map_has (λ e. rules.need (journal.event e)) (shown owner m.falling m.entries) h
+        ((shows.needs h).1 held) in
+        let there = filter_has (λ e. not (is_put e && member m.falling (journal.asker owner e)))
+        m.entries one.0 one.1 in
+        let need : Has m.needs (rules.need (journal.event one.0)) =
+        at (λ e. Has m.needs (rules.need (journal.event e))) m.entries one.0
+        upheld.holds.sound.held there.0 in
         (upheld.holds.shows.needs h).0 (subst (Has m.needs) one.2 need)
 
     lags : Lags v s
@@ -142,7 +174,8 @@ module _ (s : State) (upheld : IsUpheld names_of IsWithin AreShort (IsSound Answ
       few = ap maps.len live ∙ begun_len;
       lives = λ n. subst (λ l. Lives l n ↔ Lives s.live n) (sym live) (begun_lives n);
       falls = λ n falls. absurd (none_falls n (subst (λ l. Falls l n) live falls));
-      entries = subst (λ es. IsThinned s.live es s.entries) (sym entries) (kept_thinned s.live s.entries);
+      entries = subst (λ es. IsThinned s.live es s.entries) (sym entries)
+          (kept_thinned s.live s.entries);
       holds = held_there;
     }
 
@@ -152,13 +185,19 @@ module _ (s : State) (upheld : IsUpheld names_of IsWithin AreShort (IsSound Answ
   abbrev Rests : (next : ℕ) → List Record → Progress → Type 0
   Rests next rs p = (v : State) × Leads Reads rs p (InJournal next v 0) × Lags v s
 
-  asked_rest : (next : ℕ) (p : Progress) → HasAsked next kept_here p standing (image_of rules m) → Rests next (map entry_record kept_here ++ Record.ImageEnd ∷ []) p
+  asked_rest : (next : ℕ) (p : Progress) → HasAsked next kept_here p standing (image_of rules m) →
+      Rests next (map entry_record kept_here ++ Record.ImageEnd ∷ []) p
   asked_rest next p asked =
       let v : State = asked.state in
       let goal : Progress = InJournal next v 0 in (
         v,
-        leads_append Reads (map entry_record kept_here) (Record.ImageEnd ∷ []) p asked.there goal asked.leads
-            (goal, asked.asks Record.ImageEnd goal tt (settles v asked.shows asked.now asked.live asked.wear asked.entries, refl), refl),
+        leads_append Reads (map entry_record kept_here) (Record.ImageEnd ∷ []) p asked.there goal
+            asked.leads (
+              goal,
+              asked.asks Record.ImageEnd goal tt
+                  (settles v asked.shows asked.now asked.live asked.wear asked.entries, refl),
+              refl,
+            ),
         lags v asked.shows asked.now asked.live asked.wear asked.entries,
       )
 
@@ -168,32 +207,67 @@ module _ (s : State) (upheld : IsUpheld names_of IsWithin AreShort (IsSound Answ
   later_behind Record.ImageEnd later = tt
   later_behind r later = absurd later
 
-  numbers_rest : (next : ℕ) (p : Progress) → IsStanding next (map Record.Begin ns) p standing → Rests next (map Record.Begin ns ++ (map entry_record kept_here ++ Record.ImageEnd ∷ [])) p
+  numbers_rest : (next : ℕ) (p : Progress) → IsStanding next (map Record.Begin ns) p standing →
+      Rests next (map Record.Begin ns ++ (map entry_record kept_here ++ Record.ImageEnd ∷ [])) p
   numbers_rest next p numbers =
-      let rest = asked_rest next numbers.there (asked_lead next numbers.there (λ r q later live. numbers.stands r q (later_behind r later) live)) in
-      (rest.0, leads_append Reads (map Record.Begin ns) (map entry_record kept_here ++ Record.ImageEnd ∷ []) p numbers.there (InJournal next rest.0 0) numbers.leads rest.1, rest.2)
+      let rest = asked_rest next numbers.there
+      (asked_lead next numbers.there (λ r q later live. numbers.stands r q
+      (later_behind r later) live)) in (
+        rest.0,
+        leads_append Reads (map Record.Begin ns)
+            (map entry_record kept_here ++ Record.ImageEnd ∷ []) p numbers.there
+            (InJournal next rest.0 0) numbers.leads rest.1,
+        rest.2,
+      )
 
-  told_rest : (next : ℕ) (told : List Record) (p : Progress) → ((n : ℕ) → Lives s.live n → n < next) → IsTelling next told p (resting s.now s.wear) → Rests next (told ++ (map Record.Begin ns ++ (map entry_record kept_here ++ Record.ImageEnd ∷ []))) p
+  told_rest : (next : ℕ) (told : List Record) (p : Progress) →
+      ((n : ℕ) → Lives s.live n → n < next) → IsTelling next told p (resting s.now s.wear) →
+      Rests next (told ++ (map Record.Begin ns ++
+      (map entry_record kept_here ++ Record.ImageEnd ∷ []))) p
   told_rest next told p below telling =
       let there : Progress = InCollections next telling.state telling.last in
-      let rest = numbers_rest next there (numbers_lead next there below (collections_stand next telling.state (resting s.now s.wear) telling.last telling.closes)) in
-      (rest.0, leads_append Reads told (map Record.Begin ns ++ (map entry_record kept_here ++ Record.ImageEnd ∷ [])) p there (InJournal next rest.0 0) telling.leads rest.1, rest.2)
+      let rest = numbers_rest next there
+      (numbers_lead next there below (collections_stand next telling.state
+      (resting s.now s.wear) telling.last telling.closes)) in (
+        rest.0,
+        leads_append Reads told
+            (map Record.Begin ns ++ (map entry_record kept_here ++ Record.ImageEnd ∷ [])) p there
+            (InJournal next rest.0 0) telling.leads rest.1,
+        rest.2,
+      )
 
-  image_lead : (next : ℕ) (live rs : List Record) → live ≡ map entry_record kept_here → IsImage next s.wear s.now ns live rs → ((n : ℕ) → Lives s.live n → n < next) → AreNamed s.now → AreDistinct (names_of s.now) → Rests next rs Unread
+  image_lead : (next : ℕ) (live rs : List Record) → live ≡ map entry_record kept_here →
+      IsImage next s.wear s.now ns live rs → ((n : ℕ) → Lives s.live n → n < next) →
+      AreNamed s.now → AreDistinct (names_of s.now) → Rests next rs Unread
   image_lead next live rs live_is image below good distinct =
       let p : Progress = InCollections next (resting [] s.wear) None in
-      let rest = told_rest next image.told p below (told_reads next s.wear s.now image.told image.tells good distinct upheld.few_names upheld.reached) in
+      let rest = told_rest next image.told p below
+      (told_reads next s.wear s.now image.told image.tells good distinct upheld.few_names
+      upheld.reached) in
       let worn = upheld.unworn in
       let low : s.wear ≤ 2 ^ 61 + 65536 = omega arith in
-      let is : Record.Marks next s.wear ∷ (image.told ++ (map Record.Begin ns ++ (map entry_record kept_here ++ Record.ImageEnd ∷ []))) ≡ rs =
-      ap (λ l. Record.Marks next s.wear ∷ (image.told ++ (map Record.Begin ns ++ (l ++ Record.ImageEnd ∷ [])))) (sym live_is) ∙ sym image.is in
-      (rest.0, subst (λ l. Leads Reads l Unread (InJournal next rest.0 0)) is (p, (low, refl), rest.1), rest.2)
+      let is : Record.Marks next s.wear ∷
+      (image.told ++ (map Record.Begin ns ++
+      (map entry_record kept_here ++ Record.ImageEnd ∷ []))) ≡ rs =
+      ap (λ l. Record.Marks next s.wear ∷
+      (image.told ++ (map Record.Begin ns ++ (l ++ Record.ImageEnd ∷ [])))) (sym live_is) ∙
+      sym image.is in (
+        rest.0,
+        subst (λ l. Leads Reads l Unread (InJournal next rest.0 0)) is
+            (p, (low, refl), rest.1),
+        rest.2,
+      )
 
 -- The image of a freeze is read.
-pub frozen_reads : (b : BookState (List Collection)) (image : Image) → IsKept names_of IsWithin AreShort (IsSound AnswersAt after_at Makes need_of inverse_of) b → AreNamed b.state.now → AreDistinct (names_of b.state.now) →
-    (is : IsImageOf (λ v. v) inverse_of b image) → (s : State) × Leads Reads is.records Unread (InJournal b.next s 0) × Lags s b.state
+pub frozen_reads : (b : BookState (List Collection)) (image : Image) →
+    IsKept catalog_meaning catalog_making AreShort (IsSound catalog_meaning catalog_making) b →
+    AreNamed b.state.now → AreDistinct (names_of b.state.now) →
+    (is : IsImageOf (λ v. v) b image) →
+    (s : State) × Leads Reads is.records Unread (InJournal b.next s 0) × Lags s b.state
 frozen_reads b image kept good distinct is =
-    image_lead b.state kept.upheld is.numbers is.are_live is.is_image.rise b.next (live_records inverse_of b.state) is.records (kept_records b.state.live b.state.entries) is.is_image kept.below good distinct
+    image_lead b.state kept.upheld is.numbers is.are_live is.is_image.rise b.next
+    (live_records b.state) is.records (kept_records b.state.live b.state.entries) is.is_image
+    kept.below good distinct
 
 -- ---- names
 
@@ -202,10 +276,14 @@ run_well [] p q run well = subst IsWell run well
 run_well (r ∷ rs) p q run well = run_well rs run.0 q run.2 (reads_well p r run.0 run.1 well)
 
 -- Names are good and each at one place: in what an image and a journal lead to,
-pub accepted_named : (rs : List Record) (n : ℕ) (s : State) (k : ℕ) → AreAccepted rs n s k → AreNamed s.now × AreDistinct (names_of s.now)
+pub accepted_named : (rs : List Record) (n : ℕ) (s : State) (k : ℕ) → AreAccepted rs n s k →
+    AreNamed s.now × AreDistinct (names_of s.now)
 accepted_named rs n s k run = run_well rs Unread (InJournal n s k) run tt
 
 -- and behind records that the machine repeats, where they were before.
-pub repeats_named : (rs : List Record) (s t : State) → Repeats rs s t → AreNamed s.now × AreDistinct (names_of s.now) → AreNamed t.now × AreDistinct (names_of t.now)
-repeats_named [] s t run well = subst (λ (v : State). AreNamed v.now × AreDistinct (names_of v.now)) run well
-repeats_named (r ∷ rs) s t run well = repeats_named rs run.0 t run.2 (step_well r s run.0 run.1 well)
+pub repeats_named : (rs : List Record) (s t : State) → Repeats rs s t →
+    AreNamed s.now × AreDistinct (names_of s.now) → AreNamed t.now × AreDistinct (names_of t.now)
+repeats_named [] s t run well =
+    subst (λ (v : State). AreNamed v.now × AreDistinct (names_of v.now)) run well
+repeats_named (r ∷ rs) s t run well =
+    repeats_named rs run.0 t run.2 (step_well r s run.0 run.1 well)

@@ -1,5 +1,6 @@
 -- Blocks that stand for the first records of a past stand for them once more has happened.
-use Rattle.std.proofs.Common.{◌≡◌, ℕ, ◌≤◌, List, [], ◌∷◌, ◌++◌, length, refl, sym, ◌∙◌, ap, subst, arith, append_assoc, inl, inr, ◌⊎◌, ⊎_elim}
+use Rattle.std.proofs.Common.{◌≡◌, ℕ, ◌≤◌, List, [], ◌∷◌, ◌++◌, length, refl, sym, ◌∙◌, ap, subst}
+use Rattle.std.proofs.Common.{arith, append_assoc, inl, inr, ◌⊎◌, ⊎_elim}
 use Rattle.std.proofs.lemmas.List.{append-nil}
 use Rattle.calls.specs.Contents.{Collection}
 use Rattle.machine.specs.Machine.{FallRow}
@@ -17,7 +18,8 @@ same_head : (x y : Record) (us vs : List Record) → x ∷ us ≡ y ∷ vs → (
 same_head x y us vs e = (cc, cc)
 
 -- two beginnings of one list of the same length are the same, and what is behind them too
-pub same_beginning : (xs ys us vs : List Record) → xs ++ us ≡ ys ++ vs → length xs ≡ length ys → (xs ≡ ys) × (us ≡ vs)
+pub same_beginning : (xs ys us vs : List Record) → xs ++ us ≡ ys ++ vs → length xs ≡ length ys →
+    (xs ≡ ys) × (us ≡ vs)
 same_beginning [] [] us vs e size = (refl, e)
 same_beginning [] (y ∷ ys) us vs e size = absurd (omega (arith, size))
 same_beginning (x ∷ xs) [] us vs e size = absurd (omega (arith, size))
@@ -27,7 +29,8 @@ same_beginning (x ∷ xs) (y ∷ ys) us vs e size =
     ((λ i. both.0 i ∷ rest.0 i), rest.1)
 
 -- the shorter of two beginnings of one list is a beginning of the longer one
-pub shorter_beginning : (xs ys us vs : List Record) → xs ++ us ≡ ys ++ vs → length xs ≤ length ys → (zs : List Record) × (ys ≡ xs ++ zs) × (us ≡ zs ++ vs)
+pub shorter_beginning : (xs ys us vs : List Record) → xs ++ us ≡ ys ++ vs → length xs ≤ length ys →
+    (zs : List Record) × (ys ≡ xs ++ zs) × (us ≡ zs ++ vs)
 shorter_beginning [] ys us vs e le = (ys, refl, e)
 shorter_beginning (x ∷ xs) [] us vs e le = absurd (omega (arith, le))
 shorter_beginning (x ∷ xs) (y ∷ ys) us vs e le =
@@ -36,7 +39,9 @@ shorter_beginning (x ∷ xs) (y ∷ ys) us vs e le =
     (rest.0, (λ i. sym both.0 i ∷ rest.1 i), rest.2)
 
 -- a beginning of a list and one more is a beginning of the list, or all of it
-begins_push : (rs : List Record) (r : Record) (first rest : List Record) → rs ++ r ∷ [] ≡ first ++ rest → ((more : List Record) × (rs ≡ first ++ more)) ⊎ (first ≡ rs ++ r ∷ [])
+begins_push : (rs : List Record) (r : Record) (first rest : List Record) →
+    rs ++ r ∷ [] ≡ first ++ rest → ((more : List Record) × (rs ≡ first ++ more)) ⊎
+    (first ≡ rs ++ r ∷ [])
 begins_push [] r [] rest e = inl ([], refl)
 begins_push [] r (f ∷ []) rest e = inr (λ i. sym (same_head r f [] rest e).0 i ∷ [])
 begins_push [] r (f ∷ g ∷ first) rest e = absurd (omega (arith, ap length e))
@@ -52,18 +57,31 @@ begins_push (x ∷ rs) r (f ∷ first) rest e =
 
 -- two states that lag behind one are level
 lag_level : (u v t : State) → Lags u t → Lags v t → IsLevel u v
-lag_level u v t a b = record { now = a.now ∙ sym b.now; calls = lags_calls u t a ∙ sym (lags_calls v t b) }
+lag_level u v t a b = record {
+  now = a.now ∙ sym b.now;
+  calls = lags_calls u t a ∙ sym (lags_calls v t b);
+}
 
-along_push : (rs : List Record) (r : Record) (s t u v : State) → GoAlong rs s t → Repeats (rs ++ r ∷ []) s u → Repeats (rs ++ r ∷ []) t v → IsLevel u v → GoAlong (rs ++ r ∷ []) s t
+along_push : (rs : List Record) (r : Record) (s t u v : State) → GoAlong rs s t →
+    Repeats (rs ++ r ∷ []) s u → Repeats (rs ++ r ∷ []) t v → IsLevel u v →
+    GoAlong (rs ++ r ∷ []) s t
 along_push rs r s t u v along left right level first rest is =
     ⊎_elim
     (λ (some : (more : List Record) × (rs ≡ first ++ more)). along first some.0 some.1)
-    (λ (all : first ≡ rs ++ r ∷ []). (u, v, subst (λ l. Repeats l s u) (sym all) left, subst (λ l. Repeats l t v) (sym all) right, level))
+    (λ (all : first ≡ rs ++ r ∷ []). (
+      u,
+      v,
+      subst (λ l. Repeats l s u) (sym all) left,
+      subst (λ l. Repeats l t v) (sym all) right,
+      level,
+    ))
     (begins_push rs r first rest is)
 
-module _ (start : List Collection) (wear : ℕ) (rs : List Record) (now : State) (blocks : List (List Record)) (covered : List Record) where
+module _ (start : List Collection) (wear : ℕ) (rs : List Record) (now : State)
+    (blocks : List (List Record)) (covered : List Record) where
   -- a past with the same records
-  pub stands_as : (ss : List Record) → rs ≡ ss → (old : StandIn start wear rs now blocks covered) → (new : StandIn start wear ss now blocks covered) × (new.since ≡ old.since)
+  pub stands_as : (ss : List Record) → rs ≡ ss → (old : StandIn start wear rs now blocks covered) →
+      (new : StandIn start wear ss now blocks covered) × (new.since ≡ old.since)
   stands_as ss same old = (
     record {
       since = old.since;
@@ -84,7 +102,9 @@ module _ (start : List Collection) (wear : ℕ) (rs : List Record) (now : State)
   )
 
   -- the book's state is the same
-  pub stands_still : (next : State) → next ≡ now → (old : StandIn start wear rs now blocks covered) → (new : StandIn start wear rs next blocks covered) × (new.since ≡ old.since)
+  pub stands_still : (next : State) → next ≡ now →
+      (old : StandIn start wear rs now blocks covered) →
+      (new : StandIn start wear rs next blocks covered) × (new.since ≡ old.since)
   stands_still next same old = (
     record {
       since = old.since;
@@ -105,7 +125,9 @@ module _ (start : List Collection) (wear : ℕ) (rs : List Record) (now : State)
   )
 
   -- a transaction falls, of which no record tells
-  pub stands_fall : (n : ℕ) (next : State) → FallRow now n next → (old : StandIn start wear rs now blocks covered) → (new : StandIn start wear rs next blocks covered) × (new.since ≡ old.since)
+  pub stands_fall : (n : ℕ) (next : State) → FallRow now n next →
+      (old : StandIn start wear rs now blocks covered) →
+      (new : StandIn start wear rs next blocks covered) × (new.since ≡ old.since)
   stands_fall n next row old = (
     record {
       since = old.since;
@@ -126,12 +148,17 @@ module _ (start : List Collection) (wear : ℕ) (rs : List Record) (now : State)
   )
 
   -- a record more
-  pub stands_push : (r : Record) (next : State) → Steps now r next → (old : StandIn start wear rs now blocks covered) → (new : StandIn start wear (rs ++ r ∷ []) next blocks covered) × (new.since ≡ old.since ++ r ∷ [])
+  pub stands_push : (r : Record) (next : State) → Steps now r next →
+      (old : StandIn start wear rs now blocks covered) →
+      (new : StandIn start wear (rs ++ r ∷ []) next blocks covered) ×
+      (new.since ≡ old.since ++ r ∷ [])
   stands_push r next row old =
       let trail = lags_step old.trail now old.trails r next row in
       let state = lags_step old.state now old.lags r next row in
-      let leads : Repeats (old.since ++ r ∷ []) old.there trail.0 = leads_push Steps old.since r old.there old.trail trail.0 old.leads trail.1 in
-      let repeats : Repeats (old.since ++ r ∷ []) old.base state.0 = leads_push Steps old.since r old.base old.state state.0 old.repeats state.1 in (
+      let leads : Repeats (old.since ++ r ∷ []) old.there trail.0 =
+      leads_push Steps old.since r old.there old.trail trail.0 old.leads trail.1 in
+      let repeats : Repeats (old.since ++ r ∷ []) old.base state.0 =
+      leads_push Steps old.since r old.base old.state state.0 old.repeats state.1 in (
         record {
           since = old.since ++ r ∷ [];
           split = ap (λ l. l ++ r ∷ []) old.split ∙ append_assoc covered old.since (r ∷ []);
@@ -145,13 +172,16 @@ module _ (start : List Collection) (wear : ℕ) (rs : List Record) (now : State)
           state = state.0;
           repeats = repeats;
           lags = state.2;
-          along = along_push old.since r old.there old.base trail.0 state.0 old.along leads repeats (lag_level trail.0 state.0 next trail.2 state.2);
+          along = along_push old.since r old.there old.base trail.0 state.0 old.along leads repeats
+              (lag_level trail.0 state.0 next trail.2 state.2);
         },
         refl,
       )
 
 -- Blocks that are read up to a state that lags behind the book's stand for all records of its past.
-pub stands_whole : (start : List Collection) (wear : ℕ) (rs : List Record) (now : State) (blocks : List (List Record)) (trail : State) → Repeats rs (resting start wear) trail → Lags trail now → (base : State) → AreReadTo blocks base → Lags base now →
+pub stands_whole : (start : List Collection) (wear : ℕ) (rs : List Record) (now : State)
+    (blocks : List (List Record)) (trail : State) → Repeats rs (resting start wear) trail →
+    Lags trail now → (base : State) → AreReadTo blocks base → Lags base now →
     (stands : StandIn start wear rs now blocks rs) × (stands.since ≡ [])
 stands_whole start wear rs now blocks trail leads trails base are_read lags = (
   record {

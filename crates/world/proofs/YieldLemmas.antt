@@ -1,12 +1,13 @@
 -- What bytes that hold blocks of a past yield.
-use Rattle.std.proofs.Common.{◌≡◌, ℕ, ◌+◌, ◌≤◌, List, [], ◌++◌, length, map, take, drop, append_assoc, refl, sym, ◌∙◌, ap, subst, arith, None}
+use Rattle.std.proofs.Common.{◌≡◌, ℕ, ◌+◌, ◌≤◌, List, [], ◌++◌, length, map, take, drop}
+use Rattle.std.proofs.Common.{append_assoc, refl, sym, ◌∙◌, ap, subst, arith, None}
 use Rattle.std.proofs.lemmas.List.{take-append-drop}
 use Rattle.std.specs.List.{AllByRecursion}
 use mathlib.Core.List.{IsPrefix}
 use Rattle.calls.specs.Contents.{Collection, AnswersAt, after_at}
-use Rattle.calls.specs.Transactions.{Transaction, Serial, committed, committed_after, Entry, Makes, Leads, calls_of}
-use Rattle.calls.specs.Needs.{need_of}
-use Rattle.calls.specs.Inverses.{inverse_of}
+use Rattle.calls.specs.Transactions.{Transaction, Serial, committed, committed_after, Entry, Makes}
+use Rattle.calls.specs.Transactions.{Leads, calls_of}
+use Rattle.calls.specs.Rules.{need_of, inverse_of}
 use Rattle.catalog.specs.Places.{Belongs, Misplaced}
 use Rattle.catalog.specs.Making.{names_of}
 use Rattle.gate_block.specs.declared.area.Area.{Area}
@@ -26,7 +27,8 @@ use Rattle.blocks.proofs.Places.{places_append}
 use Rattle.repetition.specs.Steps.{State, Steps, Repeats}
 use Rattle.repetition.specs.Reading.{Unread, InJournal, Reads, AreAccepted, IsSound, last_named}
 use Rattle.repetition.specs.Journals.{Holds, AreSpelt, records_in, StandsFor}
-use Rattle.repetition.proofs.Lists.{leads_append, flat_map-append, all_first, all_last}
+use Rattle.repetition.proofs.Lists.{leads_append, flat_map-append}
+use Rattle.boosted.proofs.Each.{each_front, each_back}
 use Rattle.repetition.proofs.CatalogLaws.{laws}
 use Rattle.repetition.proofs.LagLemmas.{lags_calls}
 use Rattle.repetition.proofs.Grammar.{records_spelt}
@@ -39,28 +41,39 @@ use Rattle.world.specs.Crash.{IsOneHistory, Yields}
 use Rattle.world.specs.Worlds.{IsLevel, StandIn, IsHeaded, Parts, HasPast}
 use Rattle.world.proofs.History.{length-committed}
 use Rattle.world.proofs.PastLemmas.{committed_in-records, take-longer}
+use Rattle.catalog.specs.Meaning.{catalog_meaning, catalog_making}
 
--- Records that no live transaction precedes lead on by what they commit, whatever was known of earlier ones, and always to one content.
+-- Records that no live transaction precedes lead on by what they commit, whatever was known of
+-- earlier ones, and always to one content.
 abbrev Comes : List (ℕ × Entry) → List Record → List Collection → State → Type 0
-Comes es rs start t = played.IsPlayed AnswersAt after_at Makes need_of inverse_of laws.rules Belongs Misplaced names_of es (acts_of rs) start t
+Comes es rs start t = played.IsPlayed catalog_meaning catalog_making laws.rules es (acts_of rs)
+    start t
 
-module _ (start : List Collection) (wear : ℕ) (rs : List Record) (t : State) (run : Repeats rs (resting start wear) t) where
+module _ (start : List Collection) (wear : ℕ) (rs : List Record) (t : State)
+    (run : Repeats rs (resting start wear) t) where
   abbrev comes : (es : List (ℕ × Entry)) → Comes es rs start t
-  comes es = played.all_repeated AnswersAt after_at Makes need_of inverse_of laws.rules Belongs Misplaced names_of rs es (resting start wear) t start
-      (steps.opened_sound AnswersAt after_at Makes need_of inverse_of laws.rules start wear) (λ n running. absurd (nobody n running.live)) refl run
+  comes es = played.all_repeated catalog_meaning catalog_making laws.rules rs es
+      (resting start wear) t start
+      (steps.opened_sound catalog_meaning catalog_making laws.rules start wear)
+      (λ n running. absurd (nobody n running.live)) refl run
 
   told : (es : List (ℕ × Entry)) → Serial (committed_after es (acts_of rs)) start (comes es).content
-  told es = serial_told AnswersAt after_at Makes (λ (s : List Collection). s) (λ s at c r h. h) (λ s at c r h. refl) (λ u v name kind m. m) (committed_after es (acts_of rs)) start (comes es).content (comes es).runs
+  told es = serial_told catalog_meaning catalog_making (λ (s : List Collection). s)
+      (λ s at c r h. h) (λ s at c r h. refl) (λ u v name kind m. m)
+      (committed_after es (acts_of rs)) start (comes es).content (comes es).runs
 
   abbrev content : List Collection
   content = (comes []).content
 
   told_always : (es : List (ℕ × Entry)) → Serial (committed_after es (acts_of rs)) start content
   told_always es = subst (Serial (committed_after es (acts_of rs)) start)
-      (steps.settles_once AnswersAt after_at Makes need_of inverse_of laws.rules t (comes es).content content (comes es).sound (comes es).settled (comes []).settled) (told es)
+      (steps.settles_once catalog_meaning catalog_making laws.rules t (comes es).content content
+      (comes es).sound (comes es).settled (comes []).settled) (told es)
 
 -- the bytes hold the blocks of a row in the area that the head picks
-holds_row : (area : Area) (blocks : List (List Record)) (c : List ℕ) → IsHeaded area c → IsRow (map spelling blocks) (bytes_of area c) → AreSpelt None (records_in blocks) → Holds c blocks
+holds_row : (area : Area) (blocks : List (List Record)) (c : List ℕ) → IsHeaded area c →
+    IsRow (map spelling blocks) (bytes_of area c) → AreSpelt None (records_in blocks) →
+    Holds c blocks
 holds_row area blocks c headed row spelt = record {
   size = size_of area;
   header = headed.header;
@@ -69,47 +82,62 @@ holds_row area blocks c headed row spelt = record {
 }
 
 -- where two states are level, they settle at the same contents
-level_settles : (u v : State) → IsLevel u v → (c : List Collection) → IsSettled AnswersAt after_at u c → IsSettled AnswersAt after_at v c
+level_settles : (u v : State) → IsLevel u v → (c : List Collection) →
+    IsSettled catalog_meaning u c → IsSettled catalog_meaning v c
 level_settles u v level c settled =
-    subst (λ es. Leads (Does AnswersAt after_at) es c v.now) level.calls (subst (Leads (Does AnswersAt after_at) (calls_of (map (λ e. e.1) u.entries)) c) level.now settled)
+    subst (λ es. Leads (Does catalog_meaning) es c v.now) level.calls
+    (subst (Leads (Does catalog_meaning) (calls_of (map (λ e. e.1) u.entries)) c) level.now
+    settled)
 
-module _ (start : List Collection) (wear : ℕ) (past : Past) (end : State) (blocks : List (List Record)) (covered : List Record) (stands : StandIn start wear (records_of past) end blocks covered)
-    (good : AllByRecursion (IsRecord None) (records_of past)) (kept : List (List Record)) (later : List Record) (split : stands.since ≡ records_in kept ++ later) where
+module _ (start : List Collection) (wear : ℕ) (past : Past) (end : State)
+    (blocks : List (List Record)) (covered : List Record)
+    (stands : StandIn start wear (records_of past) end blocks covered)
+    (good : AllByRecursion (IsRecord None) (records_of past)) (kept : List (List Record))
+    (later : List Record) (split : stands.since ≡ records_in kept ++ later) where
   -- where the kept records lead, from the start and from what the blocks are read up to
-  abbrev mid : (u v : State) × Repeats (records_in kept) stands.there u × Repeats (records_in kept) stands.base v × IsLevel u v
+  abbrev mid : (u v : State) × Repeats (records_in kept) stands.there u ×
+      Repeats (records_in kept) stands.base v × IsLevel u v
   mid = stands.along (records_in kept) later split
 
   abbrev stored : List Record
   stored = covered ++ records_in kept
 
   from_start : Repeats stored (resting start wear) mid.0
-  from_start = leads_append Steps covered (records_in kept) (resting start wear) stands.there mid.0 stands.led mid.2
+  from_start = leads_append Steps covered (records_in kept) (resting start wear) stands.there mid.0
+      stands.led mid.2
 
   abbrev base_parts : IsParts (records_in blocks) stands.base
-  base_parts = parts (records_in blocks) stands.are_read.next stands.base stands.are_read.count stands.are_read.accepted
+  base_parts = parts (records_in blocks) stands.are_read.next stands.base stands.are_read.count
+      stands.are_read.accepted
 
   run : Repeats (base_parts.journal ++ records_in kept) base_parts.first mid.1
-  run = on_from_first (records_in blocks) stands.are_read.next stands.base stands.are_read.count stands.are_read.accepted (records_in kept) mid.1 mid.3
+  run = on_from_first (records_in blocks) stands.are_read.next stands.base stands.are_read.count
+      stands.are_read.accepted (records_in kept) mid.1 mid.3
 
   is : records_in (blocks ++ kept) ≡ records_in blocks ++ records_in kept
   is = flat_map-append (λ rs. rs) blocks kept
 
   records : records_of past ≡ stored ++ later
-  records = stands.split ∙ ap (λ l. covered ++ l) split ∙ sym (append_assoc covered (records_in kept) later)
+  records = stands.split ∙ ap (λ l. covered ++ l) split ∙
+      sym (append_assoc covered (records_in kept) later)
 
   kept_good : AllByRecursion (IsRecord None) (records_in kept)
-  kept_good = all_last (IsRecord None) covered (records_in kept) (all_first (IsRecord None) stored later (subst (AllByRecursion (IsRecord None)) records good))
+  kept_good = each_back (IsRecord None) covered (records_in kept)
+      (each_front (IsRecord None) stored later
+      (subst (AllByRecursion (IsRecord None)) records good))
 
   all_good : AreRecords None (records_in (blocks ++ kept))
   all_good = subst (AreRecords None) (sym is)
-      (records_append None (records_in blocks) (records_in kept) stands.are_read.good (read_records (last_named None (records_in blocks)) (records_in kept) kept_good))
+      (records_append None (records_in blocks) (records_in kept) stands.are_read.good
+      (read_records (last_named None (records_in blocks)) (records_in kept) kept_good))
 
   spelt : AreSpelt None (records_in (blocks ++ kept))
   spelt = records_spelt None (records_in (blocks ++ kept)) all_good
 
   is_sound : (c : List ℕ) → Holds c (blocks ++ kept) → IsSound c
   is_sound c holds =
-      let more = journal_reads (records_in kept) stands.are_read.next stands.base mid.1 stands.are_read.count mid.3 in record {
+      let more = journal_reads (records_in kept) stands.are_read.next stands.base mid.1
+      stands.are_read.count mid.3 in record {
         blocks = blocks ++ kept;
         holds = holds;
         good = all_good;
@@ -118,61 +146,88 @@ module _ (start : List Collection) (wear : ℕ) (past : Past) (end : State) (blo
         count = more.1;
         accepted =
             subst (λ l. AreAccepted l more.0 mid.1 more.1) (sym is)
-            (leads_append Reads (records_in blocks) (records_in kept) Unread (InJournal stands.are_read.next stands.base stands.are_read.count) (InJournal more.0 mid.1 more.1) stands.are_read.accepted more.2);
+            (leads_append Reads (records_in blocks) (records_in kept) Unread
+            (InJournal stands.are_read.next stands.base stands.are_read.count)
+            (InJournal more.0 mid.1 more.1) stands.are_read.accepted more.2);
       }
 
   abbrev now : List Collection
   now = content start wear stored mid.0 from_start
 
   -- from the image on the records lead to the same content as from the start on
-  same_content : image.content (records_in blocks) stands.base base_parts (base_parts.journal ++ records_in kept) mid.1 run ≡ now
+  same_content : image.content (records_in blocks) stands.base base_parts
+      (base_parts.journal ++ records_in kept) mid.1 run ≡ now
   same_content =
       let last = comes start wear stored mid.0 from_start [] in
-      steps.settles_once AnswersAt after_at Makes need_of inverse_of laws.rules mid.1 (image.content (records_in blocks) stands.base base_parts (base_parts.journal ++ records_in kept) mid.1 run) now
-      (image.end_sound (records_in blocks) stands.base base_parts (base_parts.journal ++ records_in kept) mid.1 run)
-      (image.end_settled (records_in blocks) stands.base base_parts (base_parts.journal ++ records_in kept) mid.1 run) (level_settles mid.0 mid.1 mid.4 now last.settled)
+      steps.settles_once catalog_meaning catalog_making laws.rules mid.1
+      (image.content (records_in blocks) stands.base base_parts
+      (base_parts.journal ++ records_in kept) mid.1 run) now
+      (image.end_sound (records_in blocks) stands.base base_parts
+      (base_parts.journal ++ records_in kept) mid.1 run)
+      (image.end_settled (records_in blocks) stands.base base_parts
+      (base_parts.journal ++ records_in kept) mid.1 run)
+      (level_settles mid.0 mid.1 mid.4 now last.settled)
 
   stands_for : (c : List ℕ) → Holds c (blocks ++ kept) → StandsFor c now
   stands_for c holds = subst (StandsFor c) same_content
-      (image.stands_for (records_in blocks) stands.base base_parts (base_parts.journal ++ records_in kept) mid.1 run c (blocks ++ kept) holds
-      (is ∙ ap (λ l. l ++ records_in kept) base_parts.is ∙ append_assoc base_parts.image base_parts.journal (records_in kept)))
+      (image.stands_for (records_in blocks) stands.base base_parts
+      (base_parts.journal ++ records_in kept) mid.1 run c (blocks ++ kept) holds
+      (is ∙ ap (λ l. l ++ records_in kept) base_parts.is ∙
+      append_assoc base_parts.image base_parts.journal (records_in kept)))
 
   -- bytes that hold the blocks with others behind them yield what is known
-  yields : (m : ℕ) (c : List ℕ) → m ≤ places covered + places (records_in kept) → Holds c (blocks ++ kept) → Yields start past (take m (committed_in past)) c
+  yields : (m : ℕ) (c : List ℕ) → m ≤ places covered + places (records_in kept) →
+      Holds c (blocks ++ kept) → Yields start past (take m (committed_in past)) c
   yields m c few holds =
       let ks : List Transaction = committed (acts_of stored) in
       let more = committed_after (gathered [] (acts_of stored)) (acts_of later) in
       let parts : committed_in past ≡ ks ++ more =
-      committed_in-records past ∙ ap (λ rs. committed (acts_of rs)) records ∙ ap committed (flat_map-append acts_of_record stored later) ∙ committed_append (acts_of stored) (acts_of later) [] in
-      let enough : m ≤ length ks = omega (arith, few, length-committed stored [], places_append covered (records_in kept)) in
+      committed_in-records past ∙ ap (λ rs. committed (acts_of rs)) records ∙
+      ap committed (flat_map-append acts_of_record stored later) ∙
+      committed_append (acts_of stored) (acts_of later) [] in
+      let enough : m ≤ length ks = omega
+      (arith, few, length-committed stored [], places_append covered (records_in kept)) in
       record {
         sound = is_sound c holds;
         content = now;
         stands = stands_for c holds;
         kept = ks;
         begins = (more, sym parts);
-        holds = subst (λ l. IsPrefix l ks) (sym (ap (take m) parts ∙ take-longer ks more m enough)) (drop m ks, take-append-drop m ks);
+        holds = subst (λ l. IsPrefix l ks) (sym (ap (take m) parts ∙ take-longer ks more m enough))
+            (drop m ks, take-append-drop m ks);
         serial = told_always start wear stored mid.0 from_start [];
       }
 
   -- the same of a row in the area that the head picks
-  pub row_yields : (area : Area) (m : ℕ) (c : List ℕ) → m ≤ places covered + places (records_in kept) → IsHeaded area c → IsRow (map spelling (blocks ++ kept)) (bytes_of area c) → Yields start past (take m (committed_in past)) c
-  row_yields area m c few headed row = yields m c few (holds_row area (blocks ++ kept) c headed row spelt)
+  pub row_yields : (area : Area) (m : ℕ) (c : List ℕ) →
+      m ≤ places covered + places (records_in kept) → IsHeaded area c →
+      IsRow (map spelling (blocks ++ kept)) (bytes_of area c) →
+      Yields start past (take m (committed_in past)) c
+  row_yields area m c few headed row =
+      yields m c few (holds_row area (blocks ++ kept) c headed row spelt)
 
 -- what a past has committed leads to what its book holds without the live transactions
-module _ {D : Type 0} (seen : D → List ℕ) (may_leave : D → List ℕ → Type 0) (start : List Collection) (past : Past) (w : Parts D) (had : HasPast seen may_leave start past w) where
+module _ {D : Type 0} (seen : D → List ℕ) (may_leave : D → List ℕ → Type 0)
+    (start : List Collection) (past : Past) (w : Parts D)
+    (had : HasPast seen may_leave start past w) where
   abbrev trail : State
   trail = had.stands.trail
 
   all_run : Repeats (records_of past) (resting start had.wear) trail
   all_run = subst (λ rs. Repeats rs (resting start had.wear) trail) (sym had.stands.split)
-      (leads_append Steps had.covered had.stands.since (resting start had.wear) had.stands.there trail had.stands.led had.stands.leads)
+      (leads_append Steps had.covered had.stands.since (resting start had.wear) had.stands.there
+      trail had.stands.led had.stands.leads)
 
   pub one_history : IsOneHistory start past w.book
   one_history =
       let last = comes start had.wear (records_of past) trail all_run [] in
       record {
         content = last.content;
-        settled = level_settles trail w.book.state (record { now = had.stands.trails.now; calls = lags_calls trail w.book.state had.stands.trails }) last.content last.settled;
-        serial = subst (λ ts. Serial ts start last.content) (sym (committed_in-records past)) (told_always start had.wear (records_of past) trail all_run []);
+        settled = level_settles trail w.book.state
+            (record {
+              now = had.stands.trails.now;
+              calls = lags_calls trail w.book.state had.stands.trails;
+            }) last.content last.settled;
+        serial = subst (λ ts. Serial ts start last.content) (sym (committed_in-records past))
+            (told_always start had.wear (records_of past) trail all_run []);
       }

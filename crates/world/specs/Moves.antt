@@ -1,6 +1,7 @@
--- One step of a world, with its answer: what the book, the keeper and the mark answer, and what they leave.
+-- One step of a world, with its answer: what the book, the keeper and the mark answer, and what
+-- they leave.
 use Rattle.std.specs.Prelude.{◌≡◌, ◌⊎◌, ℕ, ◌+◌, ◌<◌, ◌≤◌, Bool, List, length, Result, Ok, Err}
-use Rattle.calls.specs.Inverses.{inverse_of}
+use Rattle.calls.specs.Rules.{inverse_of}
 use Rattle.calls.specs.declared.refusal.Refusal.{Refusal}
 use Rattle.disk_model.specs.Disk.{Rises}
 use Rattle.gate_block.specs.Area.{size_of, position_of}
@@ -24,11 +25,14 @@ pub record Whole (D : Type 0) : Type 0 where
   pub next : ℕ
 
 -- a world from its fields
-abbrev pub whole_of : {D : Type 0} → BookState → KeeperState D → List Block → (mark next : ℕ) → Whole D
-whole_of book keeper transit mark next = record { book = book; keeper = keeper; transit = transit; mark = mark; next = next }
+abbrev pub whole_of : {D : Type 0} → BookState → KeeperState D → List Block → (mark next : ℕ) →
+    Whole D
+whole_of book keeper transit mark next =
+    record { book = book; keeper = keeper; transit = transit; mark = mark; next = next }
 
 -- A turn is the keeper's, of the blocks in transit. The book and the next number stay.
-pub record IsTurn {D : Type 0} (fault_count : D → ℕ) (old : Whole D) (a : Answer) (new : Whole D) : Type 0 where
+pub record IsTurn {D : Type 0} (fault_count : D → ℕ) (old : Whole D) (a : Answer)
+    (new : Whole D) : Type 0 where
   pub turned : Result Turn Refusal
   pub answer : a ≡ outcome Answer.Turned turned
   pub answers :
@@ -43,14 +47,17 @@ pub record IsTurn {D : Type 0} (fault_count : D → ℕ) (old : Whole D) (a : An
   pub next : new.next ≡ old.next
 
 -- the image that a freeze answered is begun; or there is none
-abbrev pub IsBegun : {D : Type 0} → KeeperState D → Result Image Refusal → Answer → KeeperState D → Type 0
-IsBegun k (Ok image) a l = (begun : Result (Unit {0}) Refusal) × BeginAnswers k image l begun × (a ≡ outcome (alone Answer.Frozen) begun)
+abbrev pub IsBegun : {D : Type 0} → KeeperState D → Result Image Refusal → Answer → KeeperState D →
+    Type 0
+IsBegun k (Ok image) a l = (begun : Result (Unit {0}) Refusal) × BeginAnswers k image l begun ×
+    (a ≡ outcome (alone Answer.Frozen) begun)
 IsBegun k (Err e) a l = (l ≡ k) × (a ≡ Answer.Refused e)
 
--- A freeze is the book's, and then its image is begun by the keeper. Where the book refuses, the keeper is not asked.
+-- A freeze is the book's, and then its image is begun by the keeper. Where the book refuses, the
+-- keeper is not asked.
 pub record IsFreeze {D : Type 0} (old : Whole D) (a : Answer) (new : Whole D) : Type 0 where
   pub frozen : Result Image Refusal
-  pub froze : FreezeAnswers (λ v. v) inverse_of old.book frozen new.book
+  pub froze : FreezeAnswers (λ v. v) old.book frozen new.book
   pub begun : IsBegun old.keeper frozen a new.keeper
   pub transit : new.transit ≡ old.transit
   pub mark : new.mark ≡ old.mark
@@ -59,10 +66,13 @@ pub record IsFreeze {D : Type 0} (old : Whole D) (a : Answer) (new : Whole D) : 
 -- A piece is the keeper's where one is left, and else refused so.
 abbrev pub IsPieced : {D : Type 0} → (D → ℕ) → KeeperState D → Answer → KeeperState D → Type 0
 IsPieced fault_count k a l =
-    (HasPiece k.image × ((laid : Result Bool Refusal) × PieceAnswers k (Rises (fault_count k.disk) (fault_count l.disk)) l laid × (a ≡ outcome Answer.Laid laid)))
+    (HasPiece k.image × ((laid : Result Bool Refusal) ×
+    PieceAnswers k (Rises (fault_count k.disk) (fault_count l.disk)) l laid ×
+    (a ≡ outcome Answer.Laid laid)))
     ⊎ (¬ HasPiece k.image × (a ≡ Answer.Refused Refusal.Unfinished) × (l ≡ k))
 
-pub record IsPiece {D : Type 0} (fault_count : D → ℕ) (old : Whole D) (a : Answer) (new : Whole D) : Type 0 where
+pub record IsPiece {D : Type 0} (fault_count : D → ℕ) (old : Whole D) (a : Answer)
+    (new : Whole D) : Type 0 where
   pub pieced : IsPieced fault_count old.keeper a new.keeper
   pub book : new.book ≡ old.book
   pub transit : new.transit ≡ old.transit
@@ -70,9 +80,11 @@ pub record IsPiece {D : Type 0} (fault_count : D → ℕ) (old : Whole D) (a : A
   pub next : new.next ≡ old.next
 
 -- A flip is the keeper's.
-pub record IsFlip {D : Type 0} (fault_count : D → ℕ) (old : Whole D) (a : Answer) (new : Whole D) : Type 0 where
+pub record IsFlip {D : Type 0} (fault_count : D → ℕ) (old : Whole D) (a : Answer)
+    (new : Whole D) : Type 0 where
   pub flipped : Result ℕ Refusal
-  pub answers : FlipAnswers old.keeper (Rises (fault_count old.keeper.disk) (fault_count new.keeper.disk)) new.keeper flipped
+  pub answers : FlipAnswers old.keeper
+      (Rises (fault_count old.keeper.disk) (fault_count new.keeper.disk)) new.keeper flipped
   pub answer : a ≡ outcome Answer.Flipped flipped
   pub book : new.book ≡ old.book
   pub transit : new.transit ≡ old.transit

@@ -15,16 +15,21 @@ abbrev pub parts : {D : Type 0} → Whole D → Parts D
 parts w = parts_of w.book w.keeper w.transit w.mark
 
 -- The step is taken, with this answer, and leads from one world to another.
-pub record TakesStep {D : Type 0} (g : Ghosts D) (old : Whole D) (x : Step × Answer) (new : Whole D) : Type 0 where
+pub record TakesStep {D : Type 0} (g : Ghosts D) (old : Whole D) (x : Step × Answer)
+    (new : Whole D) : Type 0 where
   -- each past of the world goes on with it
-  pub past : (start : List Collection) (past : Past) → HasPast g.seen g.may_leave start past (parts old) →
+  pub past : (start : List Collection) (past : Past) →
+      HasPast g.seen g.may_leave start past (parts old) →
       HasPast g.seen g.may_leave start (past ++ x ∷ []) (parts new)
-  -- whatever a stop at any moment of it might have left is what that past yields, and holds all that the mark tells
-  pub any_moment : (start : List Collection) (past : Past) → HasPast g.seen g.may_leave start past (parts old) →
+  -- whatever a stop at any moment of it might have left is what that past yields, and holds all
+  -- that the mark tells
+  pub any_moment : (start : List Collection) (past : Past) →
+      HasPast g.seen g.may_leave start past (parts old) →
       LeavesOnly g.moment g.left_since old.keeper.disk new.keeper.disk
       (Yields start (past ++ x ∷ []) (take old.mark (committed_in past)))
   pub mark : old.mark ≤ new.mark
-  -- it is answered in its own way, as the book, the keeper or the mark answers it, and draws the next number or none
+  -- it is answered in its own way, as the book, the keeper or the mark answers it, and draws the
+  -- next number or none
   pub own : IsAnswerOf x.0 x.1
   pub drawn : Draws old.next x new.next
   pub moves : Moves g.fault_count old x new

@@ -1,10 +1,11 @@
 -- Pasts: steps with their answers; what they have committed, and what was acknowledged.
-use Rattle.std.specs.Prelude.{◌≡◌, ℕ, ◌+◌, ◌<◌, ◌≤◌, ◌^◌, max, true, List, [], ◌∷◌, length, take, Result, Ok, Err}
+use Rattle.std.specs.Prelude.{◌≡◌, ℕ, ◌+◌, ◌<◌, ◌≤◌, ◌^◌, max, true, List, [], ◌∷◌, length, take}
+use Rattle.std.specs.Prelude.{Result, Ok, Err}
 use Rattle.std.specs.List.{flat_map, AllByRecursion}
 use Rattle.calls.specs.Contents.{Collection, AnswersAt, after_at}
-use Rattle.calls.specs.Transactions.{Transaction, Act, Begins, Asks, Commits, Creates, Asked, PutOff, committed, Leads, Makes}
-use Rattle.calls.specs.Needs.{need_of}
-use Rattle.calls.specs.Inverses.{inverse_of}
+use Rattle.calls.specs.Transactions.{Transaction, Act, Begins, Asks, Commits, Creates, Asked}
+use Rattle.calls.specs.Transactions.{PutOff, committed, Leads, Makes}
+use Rattle.calls.specs.Rules.{need_of, inverse_of}
 use Rattle.calls.specs.declared.refusal.Refusal.{Refusal}
 use Rattle.catalog.specs.Places.{Belongs, Misplaced}
 use Rattle.catalog.specs.Making.{names_of}
@@ -17,6 +18,7 @@ use Rattle.txn.specs.Books as books
 use Rattle.txn.specs.Freezing.{FreezeAnswers}
 use Rattle.world.specs.declared.steps.Step.{Step}
 use Rattle.world.specs.declared.steps.Answer.{Answer}
+use Rattle.catalog.specs.Meaning.{catalog_meaning, catalog_making}
 
 -- A past is a list of steps, each with its answer.
 abbrev pub Past : Type 0
@@ -26,7 +28,8 @@ Past = List (Step × Answer)
 abbrev pub acts_of_step : Step → Answer → List Act
 acts_of_step (Step.Make name kind) (Answer.Placed place) = Creates name kind ∷ []
 acts_of_step (Step.Enter n) Answer.Entered = Begins n ∷ []
-acts_of_step (Step.Call n at call) (Answer.Replied reply) = Asks n (Asked (record { at = at; call = call; reply = reply })) ∷ []
+acts_of_step (Step.Call n at call) (Answer.Replied reply) =
+    Asks n (Asked (record { at = at; call = call; reply = reply })) ∷ []
 acts_of_step (Step.Later n at call) Answer.PutOff = Asks n (PutOff at call) ∷ []
 acts_of_step (Step.Commit n) (Answer.Placed place) = Commits n ∷ []
 acts_of_step s a = []
@@ -49,7 +52,8 @@ abbrev pub greatest_told : Past → ℕ
 greatest_told [] = 0
 greatest_told (x ∷ past) = max (told x.0 x.1) (greatest_told past)
 
--- The transactions of a past that were acknowledged: the first of those that it committed, up to the greatest place that was told.
+-- The transactions of a past that were acknowledged: the first of those that it committed, up to
+-- the greatest place that was told.
 abbrev pub acknowledged : Past → List Transaction
 acknowledged past = take (greatest_told past) (committed_in past)
 
@@ -57,7 +61,8 @@ acknowledged past = take (greatest_told past) (committed_in past)
 abbrev pub records_of_step : Step → Answer → List Record
 records_of_step (Step.Make name kind) (Answer.Placed place) = Record.Make kind name ∷ []
 records_of_step (Step.Enter n) Answer.Entered = Record.Begin n ∷ []
-records_of_step (Step.Call n at call) (Answer.Replied reply) = Record.Call (call_record n at call reply (inverse_of call reply)) ∷ []
+records_of_step (Step.Call n at call) (Answer.Replied reply) =
+    Record.Call (call_record n at call reply (inverse_of call reply)) ∷ []
 records_of_step (Step.Later n at call) Answer.PutOff = books.later_record n at call ∷ []
 records_of_step (Step.Commit n) (Answer.Placed place) = Record.Commit n ∷ []
 records_of_step (Step.Back n) (Answer.Backed true) = Record.Back n ∷ []
@@ -71,26 +76,37 @@ records_of past = flat_map (λ x. records_of_step x.0 x.1) past
 abbrev pub BookState : Type 0
 BookState = books.BookState (List Collection)
 
--- A step with its answer leads a book from one state to another: a row for each answer that the step can get.
+-- A step with its answer leads a book from one state to another: a row for each answer that the
+-- step can get.
 abbrev pub BookStep : BookState → Step × Answer → BookState → Type 0
-BookStep s (Step.Make name kind, Answer.Placed place) t = books.MakeAnswers names_of Makes s name kind (Ok place) t
-BookStep s (Step.Make name kind, Answer.Refused e) t = books.MakeAnswers names_of Makes s name kind (Err e) t
+BookStep s (Step.Make name kind, Answer.Placed place) t =
+    books.MakeAnswers catalog_making s name kind (Ok place) t
+BookStep s (Step.Make name kind, Answer.Refused e) t =
+    books.MakeAnswers catalog_making s name kind (Err e) t
 BookStep s (Step.Enter n, Answer.Entered) t = books.EnterAnswers s n (Ok tt) t
 BookStep s (Step.Enter n, Answer.Refused e) t = books.EnterAnswers s n (Err e) t
-BookStep s (Step.Call n at call, Answer.Replied reply) t = books.CallAnswers AnswersAt after_at Belongs need_of inverse_of Misplaced s n at call (Ok reply) t
-BookStep s (Step.Call n at call, Answer.Refused e) t = books.CallAnswers AnswersAt after_at Belongs need_of inverse_of Misplaced s n at call (Err e) t
-BookStep s (Step.Later n at call, Answer.PutOff) t = books.LaterAnswers AnswersAt after_at Belongs need_of Misplaced s n at call (Ok tt) t
-BookStep s (Step.Later n at call, Answer.Refused e) t = books.LaterAnswers AnswersAt after_at Belongs need_of Misplaced s n at call (Err e) t
-BookStep s (Step.Commit n, Answer.Placed place) t = books.CommitAnswers AnswersAt after_at s n (Ok place) t
-BookStep s (Step.Commit n, Answer.Refused e) t = books.CommitAnswers AnswersAt after_at s n (Err e) t
-BookStep s (Step.Back n, Answer.Backed undone) t = books.BackAnswers AnswersAt after_at inverse_of s n (Ok undone) t
-BookStep s (Step.Back n, Answer.Refused e) t = books.BackAnswers AnswersAt after_at inverse_of s n (Err e) t
+BookStep s (Step.Call n at call, Answer.Replied reply) t =
+    books.CallAnswers catalog_meaning s n at call (Ok reply) t
+BookStep s (Step.Call n at call, Answer.Refused e) t =
+    books.CallAnswers catalog_meaning s n at call (Err e) t
+BookStep s (Step.Later n at call, Answer.PutOff) t =
+    books.LaterAnswers catalog_meaning s n at call (Ok tt) t
+BookStep s (Step.Later n at call, Answer.Refused e) t =
+    books.LaterAnswers catalog_meaning s n at call (Err e) t
+BookStep s (Step.Commit n, Answer.Placed place) t =
+    books.CommitAnswers catalog_meaning s n (Ok place) t
+BookStep s (Step.Commit n, Answer.Refused e) t = books.CommitAnswers catalog_meaning s n (Err e) t
+BookStep s (Step.Back n, Answer.Backed undone) t =
+    books.BackAnswers catalog_meaning s n (Ok undone) t
+BookStep s (Step.Back n, Answer.Refused e) t = books.BackAnswers catalog_meaning s n (Err e) t
 BookStep s (Step.Ended n, Answer.Ended) t = books.EndedAnswers s n (Ok tt) t
 BookStep s (Step.Ended n, Answer.Refused e) t = books.EndedAnswers s n (Err e) t
-BookStep s (Step.Cut, Answer.Cut handed) t = (waiting waits : List Block) × books.CutAnswers s waiting (Unit {0}) (Ok handed) waits t
+BookStep s (Step.Cut, Answer.Cut handed) t =
+    (waiting waits : List Block) × books.CutAnswers s waiting (Unit {0}) (Ok handed) waits t
 BookStep s (Step.Cut, Answer.Refused e) t = t ≡ s
-BookStep s (Step.Freeze, Answer.Frozen) t = (image : Image) × FreezeAnswers (λ v. v) inverse_of s (Ok image) t
-BookStep s (Step.Freeze, Answer.Refused e) t = (frozen : Result Image Refusal) × FreezeAnswers (λ v. v) inverse_of s frozen t
+BookStep s (Step.Freeze, Answer.Frozen) t = (image : Image) × FreezeAnswers (λ v. v) s (Ok image) t
+BookStep s (Step.Freeze, Answer.Refused e) t =
+    (frozen : Result Image Refusal) × FreezeAnswers (λ v. v) s frozen t
 BookStep s (Step.Piece, Answer.Laid more) t = t ≡ s
 BookStep s (Step.Piece, Answer.Refused e) t = t ≡ s
 BookStep s (Step.Flip, Answer.Flipped place) t = t ≡ s
@@ -115,19 +131,24 @@ CallsKeeper Step.Piece = Unit {0}
 CallsKeeper Step.Flip = Unit {0}
 CallsKeeper s = ⊥
 
--- A step that calls no keeper, with its answer, leads a book and the blocks in transit on; the mark is the one that a look answers. No block is handed over
+-- A step that calls no keeper, with its answer, leads a book and the blocks in transit on; the mark
+-- is the one that a look answers. No block is handed over
 -- where four wait.
 abbrev pub CoreStep : BookState → List Block → ℕ → Step × Answer → BookState → List Block → Type 0
-CoreStep s waiting mark (Step.Cut, Answer.Cut handed) t waits = books.CutAnswers s waiting (Unit {0}) (Ok handed) waits t
-CoreStep s waiting mark (Step.Cut, Answer.Refused e) t waits = books.CutAnswers s waiting (4 ≤ length waiting) (Err e) waits t
-CoreStep s waiting mark (Step.Look, Answer.Marked m) t waits = (t ≡ s) × (m ≡ mark) × (waits ≡ waiting)
+CoreStep s waiting mark (Step.Cut, Answer.Cut handed) t waits =
+    books.CutAnswers s waiting (Unit {0}) (Ok handed) waits t
+CoreStep s waiting mark (Step.Cut, Answer.Refused e) t waits =
+    books.CutAnswers s waiting (4 ≤ length waiting) (Err e) waits t
+CoreStep s waiting mark (Step.Look, Answer.Marked m) t waits =
+    (t ≡ s) × (m ≡ mark) × (waits ≡ waiting)
 CoreStep s waiting mark (Step.Turn, a) t waits = ⊥
 CoreStep s waiting mark (Step.Freeze, a) t waits = ⊥
 CoreStep s waiting mark (Step.Piece, a) t waits = ⊥
 CoreStep s waiting mark (Step.Flip, a) t waits = ⊥
 CoreStep s waiting mark x t waits = BookStep s x t × (waits ≡ waiting)
 
--- A draw gives the next number, and none gives it again; from 2 ^ 61 on it is refused. No other step draws.
+-- A draw gives the next number, and none gives it again; from 2 ^ 61 on it is refused. No other
+-- step draws.
 abbrev pub IsDraw : ℕ → Answer → ℕ → Type 0
 IsDraw next (Answer.Drawn n) after = (n ≡ next) × (n < 2 ^ 61) × (after ≡ next + 1)
 IsDraw next (Answer.Refused Refusal.Worn) after = (2 ^ 61 ≤ next) × (after ≡ next)

@@ -1,5 +1,6 @@
 // The core as a list of steps.
-ghost use Rattle.std.specs.Prelude.{◌≡◌, ◌≤◌, ◌↔◌, IsTrue, ℕ, List, ◌++◌, ◌∷◌, [], length, IfOk, IfErr, OnErr, IsOkUnless};
+ghost use Rattle.std.specs.Prelude.{◌≡◌, ◌≤◌, ◌↔◌, IsTrue, ℕ, List, ◌++◌, ◌∷◌, [], length, IfOk};
+ghost use Rattle.std.specs.Prelude.{IfErr, OnErr, IsOkUnless};
 ghost use Rattle.std.specs.List.{zip};
 ghost use Rattle.std.specs.Option.{IsSomeAnd};
 ghost use Rattle.calls.specs.Contents.{Collection};
@@ -10,7 +11,8 @@ ghost use Rattle.checkpoint.specs.Keepers.{IsFresh};
 ghost use Rattle.recovery.specs.Openings.{IsOpened, IsReadyStore};
 ghost use Rattle.world.specs.declared.steps.Step.{Step};
 ghost use Rattle.world.specs.declared.steps.Answer.{Answer};
-ghost use Rattle.world.specs.Pasts.{Past, acknowledged, mark_behind, mark_flipped, AreAnswered, Draws, alone, outcome};
+ghost use Rattle.world.specs.Pasts.{Past, acknowledged, mark_behind, mark_flipped, AreAnswered};
+ghost use Rattle.world.specs.Pasts.{Draws, alone, outcome};
 ghost use Rattle.world.specs.Crash.{IsOneHistory, Yields};
 ghost use Rattle.world.specs.Worlds.{HasPast};
 ghost use Rattle.world.specs.Moves.{Moves};
@@ -29,8 +31,10 @@ use txn::Book;
 
 /// A book, a keeper, the blocks in transit, the mark and the next number. Contracts see all of it.
 ///
-/// Each step has a method of its own. Whatever it answers, also a refusal, is one step of the core (`TakesStep`): each past
-/// of the world goes on with it, and whatever a stop at any moment of it might have left is what that past yields.
+/// Each step has a method of its own. Whatever it answers, also a refusal, is one step of the core
+/// (`TakesStep`): each past
+/// of the world goes on with it, and whatever a stop at any moment of it might have left is what
+/// that past yields.
 #[derive(Drop)]
 pub struct World<D: Disk> {
     book: Book<Catalog>,
@@ -45,27 +49,36 @@ impl<D: Disk> Model for World<D> {
     ghost use Rattle.std.specs.Coded.{codes, coded_ℕ, coded_bool};
     ghost use Rattle.std.specs.FinMap as maps;
     ghost use Rattle.std.specs.Ordering.{nat_cmp};
-    ghost use Rattle.catalog.specs.Codes.{catalog_code};
+    ghost use Rattle.catalog.specs.Holdings.{catalog_code};
     ghost use Rattle.world.specs.Moves.{Whole};
 
     ghost Value = { Whole D };
 
     ghost coded = { Prim.hlevel (codes, catalog_code, maps.code {R = nat_cmp} coded_ℕ coded_bool) };
 
-    ghost view = { λ w. record { book = w.book; keeper = w.keeper; transit = w.transit.blocks.items; mark = w.mark; next = w.next } };
+    ghost view = { λ w. record {
+      book = w.book;
+      keeper = w.keeper;
+      transit = w.transit.blocks.items;
+      mark = w.mark;
+      next = w.next;
+    } };
 
     ghost invariant = { λ w. w.mark ≡ w.keeper.mark };
 }
 
 impl<D: Disk> World<D> {
-    /// A world of an opened book and its keeper, which has brought nothing to the disk yet, with nothing in transit. Its
+    /// A world of an opened book and its keeper, which has brought nothing to the disk yet, with
+    /// nothing in transit. Its
     /// past begins there: what a stop leaves is what it leaves of the store that was opened.
     ///
     /// Refused only for want of memory, and then the disk is handed back.
     pub fn new(alloc: Global, book: Book<Catalog>, keeper: Keeper<D>) -> Result<Self, (Refusal, D)>
         requires { IsFresh keeper }
-        ensures parts { IfOk result (λ w. (w.book ≡ book) × (w.keeper ≡ keeper) × (w.transit ≡ [])) }
-        ensures past { IfOk result (λ w. (bytes : List ℕ) → IsOpened bytes book keeper.area (D.seen keeper.disk) →
+        ensures parts { IfOk result (λ w. (w.book ≡ book) × (w.keeper ≡ keeper) ×
+            (w.transit ≡ [])) }
+        ensures past { IfOk result (λ w. (bytes : List ℕ) →
+            IsOpened bytes book keeper.area (D.seen keeper.disk) →
             IsReadyStore D.seen D.may_leave bytes book keeper.area keeper.disk →
             HasPast D.seen D.may_leave book.state.now [] (parts w)) }
         ensures refused { IfErr result (λ x. (x.0 ≡ Refusal.NoMemory) × (x.1 ≡ keeper.disk)) }
@@ -90,7 +103,8 @@ impl<D: Disk> World<D> {
         &self.book
     }
 
-    /// How many blocks of the image in progress are not yet written: none, where no image is in progress. This is no step.
+    /// How many blocks of the image in progress are not yet written: none, where no image is in
+    /// progress. This is no step.
     pub fn left(&self) -> Option<u64>
         ensures { result ≡ pieces_left self.now.keeper.image }
     {
@@ -109,7 +123,8 @@ impl<D: Disk> World<D> {
     ///
     /// Worn where it is 2^61.
     pub fn draw(&mut self) -> Result<u64, Refusal>
-        ensures { TakesStep ⟦<D as Disk>⟧ self.old (Step.Draw, outcome Answer.Drawn result) self.new }
+        ensures { TakesStep ⟦<D as Disk>⟧ self.old (Step.Draw, outcome Answer.Drawn result)
+            self.new }
     {
         if self.next >= NUMBER_END {
             return Err(Refusal::Worn);
@@ -121,7 +136,8 @@ impl<D: Disk> World<D> {
 
     /// Makes an empty collection, and answers its place: the refusals of `Book::make`.
     pub fn make(&mut self, name: &Name, kind: Kind) -> Result<u64, Refusal>
-        ensures { TakesStep ⟦<D as Disk>⟧ self.old (Step.Make name.now kind, outcome Answer.Placed result) self.new }
+        ensures { TakesStep ⟦<D as Disk>⟧ self.old
+            (Step.Make name.now kind, outcome Answer.Placed result) self.new }
     {
         let made = self.book.make(name.as_str(), kind);
         self.book.upheld();
@@ -130,7 +146,8 @@ impl<D: Disk> World<D> {
 
     /// Makes a number live: the refusals of `Book::enter`.
     pub fn enter(&mut self, number: u64) -> Result<(), Refusal>
-        ensures { TakesStep ⟦<D as Disk>⟧ self.old (Step.Enter number, outcome (alone Answer.Entered) result) self.new }
+        ensures { TakesStep ⟦<D as Disk>⟧ self.old
+            (Step.Enter number, outcome (alone Answer.Entered) result) self.new }
     {
         let entered = self.book.enter(number);
         self.book.upheld();
@@ -139,16 +156,20 @@ impl<D: Disk> World<D> {
 
     /// A call of a live transaction on a collection: the refusals of `Book::call`.
     pub fn call(&mut self, number: u64, collection: u8, asked: &Call) -> Result<Reply, Refusal>
-        ensures { TakesStep ⟦<D as Disk>⟧ self.old (Step.Call number collection asked.now, outcome Answer.Replied result) self.new }
+        ensures { TakesStep ⟦<D as Disk>⟧ self.old
+            (Step.Call number collection asked.now, outcome Answer.Replied result) self.new }
     {
         let replied = self.book.call(number, collection, asked);
         self.book.upheld();
         replied
     }
 
-    /// Puts a call of a live transaction on a collection off to its commit: the refusals of `Book::later`.
+    /// Puts a call of a live transaction on a collection off to its commit: the refusals of
+    /// `Book::later`.
     pub fn later(&mut self, number: u64, collection: u8, asked: &Call) -> Result<(), Refusal>
-        ensures { TakesStep ⟦<D as Disk>⟧ self.old (Step.Later number collection asked.now, outcome (alone Answer.PutOff) result) self.new }
+        ensures { TakesStep ⟦<D as Disk>⟧ self.old
+            (Step.Later number collection asked.now, outcome (alone Answer.PutOff) result)
+            self.new }
     {
         let put_off = self.book.later(number, collection, asked);
         self.book.upheld();
@@ -157,16 +178,19 @@ impl<D: Disk> World<D> {
 
     /// Commits a live transaction, and answers its place: the refusals of `Book::commit`.
     pub fn commit(&mut self, number: u64) -> Result<u64, Refusal>
-        ensures { TakesStep ⟦<D as Disk>⟧ self.old (Step.Commit number, outcome Answer.Placed result) self.new }
+        ensures { TakesStep ⟦<D as Disk>⟧ self.old
+            (Step.Commit number, outcome Answer.Placed result) self.new }
     {
         let placed = self.book.commit(number);
         self.book.upheld();
         placed
     }
 
-    /// Undoes the newest call of a live transaction, and answers whether there was one: the refusals of `Book::back`.
+    /// Undoes the newest call of a live transaction, and answers whether there was one: the
+    /// refusals of `Book::back`.
     pub fn back(&mut self, number: u64) -> Result<bool, Refusal>
-        ensures { TakesStep ⟦<D as Disk>⟧ self.old (Step.Back number, outcome Answer.Backed result) self.new }
+        ensures { TakesStep ⟦<D as Disk>⟧ self.old (Step.Back number, outcome Answer.Backed result)
+            self.new }
     {
         let backed = self.book.back(number);
         self.book.upheld();
@@ -175,7 +199,8 @@ impl<D: Disk> World<D> {
 
     /// Ends a live transaction whose calls are all undone: the refusals of `Book::ended`.
     pub fn ended(&mut self, number: u64) -> Result<(), Refusal>
-        ensures { TakesStep ⟦<D as Disk>⟧ self.old (Step.Ended number, outcome (alone Answer.Ended) result) self.new }
+        ensures { TakesStep ⟦<D as Disk>⟧ self.old
+            (Step.Ended number, outcome (alone Answer.Ended) result) self.new }
     {
         let ended = self.book.ended(number);
         self.book.upheld();
@@ -189,19 +214,23 @@ impl<D: Disk> World<D> {
         self.book.cut(&mut self.transit)
     }
 
-    /// Brings a block to the disk: the refusals of `Keeper::turn`. What it tells to be kept is the mark then.
+    /// Brings a block to the disk: the refusals of `Keeper::turn`. What it tells to be kept is the
+    /// mark then.
     pub fn turn(&mut self) -> Result<Turn, Refusal>
-        ensures { TakesStep ⟦<D as Disk>⟧ self.old (Step.Turn, outcome Answer.Turned result) self.new }
+        ensures { TakesStep ⟦<D as Disk>⟧ self.old (Step.Turn, outcome Answer.Turned result)
+            self.new }
     {
         let turned = self.keeper.turn(&mut self.transit);
         self.mark = mark_after(self.mark, &turned);
         turned
     }
 
-    /// Freezes the book, and begins to write its image: the refusals of `Book::freeze`, then those of
+    /// Freezes the book, and begins to write its image: the refusals of `Book::freeze`, then those
+    /// of
     /// `Keeper::begin_image`.
     pub fn freeze(&mut self) -> Result<(), Refusal>
-        ensures { TakesStep ⟦<D as Disk>⟧ self.old (Step.Freeze, outcome (alone Answer.Frozen) result) self.new }
+        ensures { TakesStep ⟦<D as Disk>⟧ self.old
+            (Step.Freeze, outcome (alone Answer.Frozen) result) self.new }
     {
         self.book.upheld();
         let image = self.book.freeze()?;
@@ -212,7 +241,8 @@ impl<D: Disk> World<D> {
     ///
     /// Unfinished where none is left, then the refusals of `Keeper::image_piece`.
     pub fn piece(&mut self) -> Result<bool, Refusal>
-        ensures { TakesStep ⟦<D as Disk>⟧ self.old (Step.Piece, outcome Answer.Laid result) self.new }
+        ensures { TakesStep ⟦<D as Disk>⟧ self.old (Step.Piece, outcome Answer.Laid result)
+            self.new }
     {
         if is_some_left(self.keeper.left()) {
             return self.keeper.image_piece();
@@ -222,7 +252,8 @@ impl<D: Disk> World<D> {
 
     /// Makes the image in progress the store, and answers the mark: the refusals of `Keeper::flip`.
     pub fn flip(&mut self) -> Result<u64, Refusal>
-        ensures { TakesStep ⟦<D as Disk>⟧ self.old (Step.Flip, outcome Answer.Flipped result) self.new }
+        ensures { TakesStep ⟦<D as Disk>⟧ self.old (Step.Flip, outcome Answer.Flipped result)
+            self.new }
     {
         let flipped = self.keeper.flip();
         self.mark = mark_then(self.mark, &flipped);
@@ -272,14 +303,21 @@ impl<D: Disk> World<D> {
     }
 }
 
-/// Takes the steps in order, and answers each. The list of answers is reserved before the first step.
+/// Takes the steps in order, and answers each. The list of answers is reserved before the first
+/// step.
 ///
-/// For every past that the world has, it afterwards has that past followed by the steps with their answers. The committed
-/// transactions, each run whole, one after another, with the replies that its client got, lead from the start of the past
-/// to what the collections hold without the live transactions. Whatever a stop at any moment since the call began might
-/// have left, also within a device write, is sound and stands for a content that some beginning of the committed
-/// transactions gives, run in the same way; and that beginning holds all that was acknowledged before. Each step is
-/// answered as the book, the keeper or the mark answers it there (`Moves`), in its own way or refused, and the draws among
+/// For every past that the world has, it afterwards has that past followed by the steps with their
+/// answers. The committed
+/// transactions, each run whole, one after another, with the replies that its client got, lead from
+/// the start of the past
+/// to what the collections hold without the live transactions. Whatever a stop at any moment since
+/// the call began might
+/// have left, also within a device write, is sound and stands for a content that some beginning of
+/// the committed
+/// transactions gives, run in the same way; and that beginning holds all that was acknowledged
+/// before. Each step is
+/// answered as the book, the keeper or the mark answers it there (`Moves`), in its own way or
+/// refused, and the draws among
 /// them give the next numbers, one after another.
 ///
 /// Refused only for want of memory, with no step taken.
@@ -290,21 +328,26 @@ pub fn play<D: Disk>(
 ) -> Result<Vec<Answer>, Refusal>
     ensures past { (start : List Collection) (past : Past) →
         HasPast D.seen D.may_leave start past (parts world.old) →
-        IfOk result (λ answers. HasPast D.seen D.may_leave start (past ++ zip steps.now answers.items) (parts world.new)) }
+        IfOk result (λ answers. HasPast D.seen D.may_leave start
+        (past ++ zip steps.now answers.items) (parts world.new)) }
     ensures any_moment { (start : List Collection) (past : Past) →
         HasPast D.seen D.may_leave start past (parts world.old) →
-        IfOk result (λ answers. LeavesOnly D.moment D.left_since world.old.keeper.disk world.new.keeper.disk
+        IfOk result (λ answers. LeavesOnly D.moment D.left_since world.old.keeper.disk
+        world.new.keeper.disk
         (Yields start (past ++ zip steps.now answers.items) (acknowledged past))) }
     ensures one_history { (start : List Collection) (past : Past) →
         HasPast D.seen D.may_leave start past (parts world.old) →
-        IfOk result (λ answers. IsOneHistory start (past ++ zip steps.now answers.items) world.new.book) }
+        IfOk result (λ answers. IsOneHistory start (past ++ zip steps.now answers.items)
+        world.new.book) }
     ensures each { IfOk result (λ answers. length answers.items ≡ length steps.now) }
     ensures own { IfOk result (λ answers. AreAnswered (zip steps.now answers.items)) }
-    ensures drawn { IfOk result (λ answers. Leads Draws (zip steps.now answers.items) world.old.next world.new.next) }
+    ensures drawn { IfOk result (λ answers. Leads Draws (zip steps.now answers.items) world.old.next
+        world.new.next) }
     ensures only { IsOkUnless result Refusal.NoMemory }
     ensures err { OnErr result (world.new ≡ world.old) }
     ensures honest { D.is_honest world.new.keeper.disk → D.is_honest world.old.keeper.disk }
-    ensures moves { IfOk result (λ answers. Leads (Moves D.fault_count) (zip steps.now answers.items)
+    ensures moves { IfOk result (λ answers. Leads (Moves D.fault_count)
+        (zip steps.now answers.items)
         world.old
         world.new) }
 {

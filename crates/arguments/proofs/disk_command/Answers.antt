@@ -6,5 +6,8 @@ use Rattle.arguments.proofs.disk_command.Goals as goal
 pub returns : goal.returns
 returns c =
     IfOk-weaker c.arg.result _ _
-    (λ whole h. (h.shape (search rules) ∙ ap₂ with_rule c.new.ensures.app c.path.ensures.rule, h.globals ∙ ap₂ ◌||◌ c.new.ensures.local c.path.ensures.alone))
+    (λ whole h. (
+      h.shape (search rules) ∙ ap₂ with_rule c.new.ensures.app c.path.ensures.rule,
+      h.globals ∙ ap₂ ◌||◌ c.new.ensures.local c.path.ensures.alone,
+    ))
     c.arg.ensures

@@ -4,4 +4,6 @@ use Rattle.clap.proofs.WalkLemmas.{first_value-rows}
 use Rattle.arguments.proofs.text.Goals as goal
 
 pub returns-in_ok-from_str-in-Some : goal.returns-in_ok-from_str-in-Some
-returns-in_ok-from_str-in-Some c = sym (first_value-rows (found_of c.args.found.now) c.args.id.now) ∙ sym c.in-Some.ensures ∙ ap (λ (t : List ℕ). Some t) (sym c.in_ok-from_str-in-Some.ensures.ok)
+returns-in_ok-from_str-in-Some c =
+    sym (first_value-rows (found_of c.args.found.now) c.args.id.now) ∙ sym c.in-Some.ensures ∙
+    ap (λ (t : List ℕ). Some t) (sym c.in_ok-from_str-in-Some.ensures.ok)

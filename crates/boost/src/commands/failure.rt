@@ -6,7 +6,8 @@ use script::ScriptError;
 use std::alloc::AllocError;
 use std::{fmt, io};
 
-/// Why a command was not done. Its text begins with the program's name; that of `Unwritten` is empty.
+/// Why a command was not done. Its text begins with the program's name; that of `Unwritten` is
+/// empty.
 #[derive(Clone, Copy, Debug, PartialEq, Eq)]
 pub enum Failure<'a> {
     /// The store refused, and no line of a script answers for it.

@@ -10,7 +10,8 @@ use recovery::Report;
 use std::fmt;
 use std::io::Write;
 
-/// Prints collections, by rising number: each in a line of its own, and its items in the lines behind it.
+/// Prints collections, by rising number: each in a line of its own, and its items in the lines
+/// behind it.
 pub fn show_collections<O: Write>(catalog: &Catalog, out: &mut O) -> Result<(), Failure<'static>>
     ensures { IfErr result IsOfStore }
 {

@@ -46,14 +46,16 @@ pub data Transaction (E M : Type 0) : Type 0 where
 
 -- The transaction leads from s to t: its calls one after another, and then what it put off.
 abbrev pub RunsWhole : {S E M N : Type 0} → Rules S E M N → S → Transaction E M → S → Type 0
-RunsWhole {S} rules s (Whole es) t = (m : S) × Leads rules.does (calls es) s m × Leads rules.does (laters rules.leaves es) m t
+RunsWhole {S} rules s (Whole es) t =
+    (m : S) × Leads rules.does (calls es) s m × Leads rules.does (laters rules.leaves es) m t
 RunsWhole rules s (Made k) t = rules.makes s k t
 
 -- The transactions lead from s to t, each run whole, one after another.
 abbrev pub Serial : {S E M N : Type 0} → Rules S E M N → List (Transaction E M) → S → S → Type 0
 Serial rules ts s t = Leads (RunsWhole rules) ts s t
 
--- What is known of each transaction's entries after one record more. A Begin forgets those of an earlier one of its number.
+-- What is known of each transaction's entries after one record more. A Begin forgets those of an
+-- earlier one of its number.
 abbrev pub gather : {E M : Type 0} → (E → ℕ) → List (Entry E) → Record E M → List (Entry E)
 gather owner es (Begin n) = others (asker owner) n es
 gather owner es (Call a) = es ++ Asked a ∷ []
@@ -66,8 +68,10 @@ commits owner es (Make k) = Made k ∷ []
 commits owner es (Commit n) = Whole (own (asker owner) n es) ∷ []
 commits owner es r = []
 
--- The transactions that the records commit, behind the entries es: each with its entries since its last Begin.
-abbrev pub committed : {E M : Type 0} → (E → ℕ) → List (Entry E) → List (Record E M) → List (Transaction E M)
+-- The transactions that the records commit, behind the entries es: each with its entries since its
+-- last Begin.
+abbrev pub committed : {E M : Type 0} → (E → ℕ) → List (Entry E) → List (Record E M) →
+    List (Transaction E M)
 committed owner es [] = []
 committed owner es (r ∷ rs) = commits owner es r ++ committed owner (gather owner es r) rs
 

@@ -16,7 +16,8 @@ abbrev pub AllDiffer : {X : Type 0} → List X → Type 0
 AllDiffer [] = Unit {0}
 AllDiffer (x ∷ xs) = Lacks xs x × AllDiffer xs
 
--- S: contents. E: calls with their replies and owners. M: what is made. N: needs, each with its owner.
+-- S: contents. E: calls with their replies and owners. M: what is made. N: needs, each with its
+-- owner.
 pub record Rules (S E M N : Type 0) : Type 1 where
   -- the call, answered so, leads from one content to another
   pub does : S → E → S → Type 0
@@ -48,20 +49,29 @@ pub record RuleLaws {S E M N : Type 0} (rules : Rules S E M N) : Type 0 where
   pub exact : (e : E) (s t u : S) → rules.does s e t → rules.does s e u → t ≡ u
   pub made_exact : (k : M) (s t u : S) → rules.makes s k t → rules.makes s k u → t ≡ u
   -- making moves left past each call
-  pub made_left : (a : E) (k : M) (s t u : S) → rules.asked a → rules.does s a t → rules.makes t k u → (v : S) × rules.makes s k v × rules.does v a u
+  pub made_left : (a : E) (k : M) (s t u : S) → rules.asked a → rules.does s a t →
+      rules.makes t k u → (v : S) × rules.makes s k v × rules.does v a u
   pub turn : (n k : N) → rules.clear n k → rules.clear k n
   pub held : (e : E) → rules.holder (rules.need e) ≡ rules.owner e
   -- what a call leaves: late, under the call's need, different, and ready once the call is made
   pub left_late : (a : E) → rules.asked a → AllByRecursion rules.late (rules.leaves a)
   pub left_need : (a : E) → AllByRecursion (λ d. rules.need d ≡ rules.need a) (rules.leaves a)
   pub left_differ : (a : E) → AllDiffer (rules.leaves a)
-  pub left_ready : (a : E) (s t : S) → rules.asked a → rules.does s a t → AllByRecursion (Ready rules.does t) (rules.leaves a)
+  pub left_ready : (a : E) (s t : S) → rules.asked a → rules.does s a t →
+      AllByRecursion (Ready rules.does t) (rules.leaves a)
   -- a later that is ready stays so past each call, and past another later of its owner
-  pub past_call : (a d : E) (s t : S) → rules.asked a → rules.late d → rules.does s a t → Ready rules.does s d → Ready rules.does t d
-  pub past_later : (b d : E) (s t : S) → rules.owner b ≡ rules.owner d → rules.late b → rules.late d → IsOther (Apart rules) b d → rules.does s b t → Ready rules.does s d → Ready rules.does t d
+  pub past_call : (a d : E) (s t : S) → rules.asked a → rules.late d → rules.does s a t →
+      Ready rules.does s d → Ready rules.does t d
+  pub past_later : (b d : E) (s t : S) → rules.owner b ≡ rules.owner d → rules.late b →
+      rules.late d → IsOther (Apart rules) b d → rules.does s b t → Ready rules.does s d →
+      Ready rules.does t d
   -- one that a client put off stays so past all that happens
   pub put_late : (d : E) → rules.put_off d → rules.late d
-  pub put_other : (b d : E) → rules.late b → rules.put_off d → IsOther (Apart rules) b d × IsOther (Apart rules) d b
-  pub put_past_later : (b d : E) (s t : S) → rules.late b → rules.put_off d → rules.does s b t → Ready rules.does s d → Ready rules.does t d
-  pub put_past_undo : (a d : E) (s t : S) → rules.asked a → rules.put_off d → rules.undoes a s t → Ready rules.does s d → Ready rules.does t d
-  pub put_past_made : (k : M) (d : E) (s t : S) → rules.put_off d → rules.makes s k t → Ready rules.does s d → Ready rules.does t d
+  pub put_other : (b d : E) → rules.late b → rules.put_off d →
+      IsOther (Apart rules) b d × IsOther (Apart rules) d b
+  pub put_past_later : (b d : E) (s t : S) → rules.late b → rules.put_off d → rules.does s b t →
+      Ready rules.does s d → Ready rules.does t d
+  pub put_past_undo : (a d : E) (s t : S) → rules.asked a → rules.put_off d → rules.undoes a s t →
+      Ready rules.does s d → Ready rules.does t d
+  pub put_past_made : (k : M) (d : E) (s t : S) → rules.put_off d → rules.makes s k t →
+      Ready rules.does s d → Ready rules.does t d

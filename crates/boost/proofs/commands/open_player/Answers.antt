@@ -11,13 +11,21 @@ returns-in_err-book-clause-kept_in_refusal g c =
 
 pub returns-in_err-new-clause-kept_in_refusal : goal.returns-in_err-new-clause-kept_in_refusal
 returns-in_err-new-clause-kept_in_refusal g c =
-    let p = err_from_is_err_and c.from_residual-in_err-new.result c.from_residual-in_err-new.ensures.1 in
+    let p = err_from_is_err_and c.from_residual-in_err-new.result
+    c.from_residual-in_err-new.ensures.1 in
     let is = c.in_err-new.ensures.refused.1 in
-    rw (p.1, p.2) (λ honest. subst (λ d. KeepsContent g.D.Disk.seen g.D.Disk.may_leave g.D.Disk.moment g.D.Disk.left_since c.args.disk d) (sym is) (c.in_ok-book.ensures.kept (subst g.D.Disk.is_honest is honest)))
+    rw (p.1, p.2) (λ honest. subst (λ d. KeepsContent g.D.Disk.seen g.D.Disk.may_leave
+    g.D.Disk.moment g.D.Disk.left_since c.args.disk d) (sym is)
+    (c.in_ok-book.ensures.kept (subst g.D.Disk.is_honest is honest)))
 
 pub returns-clause-past : goal.returns-clause-past
 returns-clause-past g c = λ honest content stands rest.
-    opened_past g.D.Disk c.new-2.result.world c.in_ok-new.field-0 c.new-2.ensures.world c.in_ok-book.keeper c.in_ok-new.ensures.parts.1 c.args.disk c.in_ok-book.book content c.in_ok-book.ensures.opened c.in_ok-book.ensures.ready (c.in_ok-book.ensures.content content stands) c.in_ok-new.ensures.past rest honest
+    opened_past g.D.Disk c.new-2.result.world c.in_ok-new.field-0 c.new-2.ensures.world
+    c.in_ok-book.keeper c.in_ok-new.ensures.parts.1 c.args.disk c.in_ok-book.book content
+    c.in_ok-book.ensures.opened c.in_ok-book.ensures.ready
+    (c.in_ok-book.ensures.content content stands) c.in_ok-new.ensures.past rest honest
 
 pub returns-clause-kept : goal.returns-clause-kept
-returns-clause-kept g c = λ honest. opened_keeps g.D.Disk c.new-2.result.world c.in_ok-new.field-0 c.new-2.ensures.world c.in_ok-book.keeper c.in_ok-new.ensures.parts.1 c.args.disk c.in_ok-book.ensures.kept honest
+returns-clause-kept g c = λ honest. opened_keeps g.D.Disk c.new-2.result.world c.in_ok-new.field-0
+    c.new-2.ensures.world c.in_ok-book.keeper c.in_ok-new.ensures.parts.1 c.args.disk
+    c.in_ok-book.ensures.kept honest

@@ -7,7 +7,8 @@ under (Ok x) P X is = λ p. is
 under (Err e) P X is = tt
 
 pub returns-in-Format-clause-formatted : goal.returns-in-Format-clause-formatted
-returns-in-Format-clause-formatted g c = under c.format_disk.result.0 _ _ c.format_disk.ensures.formatted
+returns-in-Format-clause-formatted g c =
+    under c.format_disk.result.0 _ _ c.format_disk.ensures.formatted
 
 pub returns-in-Play-clause-lines : goal.returns-in-Play-clause-lines
 returns-in-Play-clause-lines g c = under c.play_script.result.0 _ _ c.play_script.ensures.lines

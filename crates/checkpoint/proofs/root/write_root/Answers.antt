@@ -5,5 +5,6 @@ use Rattle.checkpoint.proofs.root.write_root.Goals as goal
 pub returns-clause-picks : goal.returns-clause-picks
 returns-clause-picks g c =
     on_ok_weaker c.write_and_sync.result
-    (λ written size place. root_picks c.args.base c.root_byte.result size _ _ c.requires written c.root_byte.ensures.first c.root_byte.ensures.second place)
+    (λ written size place. root_picks c.args.base c.root_byte.result size _ _ c.requires written
+    c.root_byte.ensures.first c.root_byte.ensures.second place)
     c.write_and_sync.ensures.written

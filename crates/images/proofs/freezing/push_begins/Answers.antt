@@ -6,4 +6,6 @@ loop-number-init c = begun_none c.args.packer.now c.args.live.now.live c.require
 
 pub loop-number-preserved : goal.loop-number-preserved
 loop-number-preserved c =
-    begun_one c.args.packer.now c.loop-number.packer c.push.new.self c.args.live.now.live c.loop-number.last c.in-Some.number c.loop-number.invariant c.in-Some.ensures.found (c.requires c.in-Some.number c.in-Some.ensures.found.lives) c.in_ok-push.ensures.written
+    begun_one c.args.packer.now c.loop-number.packer c.push.new.self c.args.live.now.live
+    c.loop-number.last c.in-Some.number c.loop-number.invariant c.in-Some.ensures.found
+    (c.requires c.in-Some.number c.in-Some.ensures.found.lives) c.in_ok-push.ensures.written

@@ -6,5 +6,6 @@ loop-at-init g c = told_none c.args.packer.now (g.B.Coded.collections c.args.par
 
 pub loop-at-preserved : goal.loop-at-preserved
 loop-at-preserved g c =
-    told_one c.args.packer.now c.loop-at.packer c.push_collection.new.packer (g.B.Coded.collections c.args.parts.now) c.loop-at.at c.loop-at.invariant
+    told_one c.args.packer.now c.loop-at.packer c.push_collection.new.packer
+    (g.B.Coded.collections c.args.parts.now) c.loop-at.at c.loop-at.invariant
     (c.in_ok-push_collection.ensures.there c.if-not-branch.false)

@@ -13,18 +13,26 @@ abbrev IsGood : ℕ × Entry → Type 0
 IsGood e = IsNumber e.0 × IsAskedEntry e.1
 
 pub loop-owned-init : goal.loop-owned-init
-loop-owned-init g c = logged_none (live_record g.B.Boosted.inverse c.args.live.now.live) IsGood c.args.packer.now _ (subst (AllByRecursion IsGood) (sym (ap (map owned_entry) c.as_slice-entries.ensures.value ∙ c.in_order.ensures)) c.requires)
+loop-owned-init c = logged_none (live_record c.args.live.now.live) IsGood c.args.packer.now _
+    (subst (AllByRecursion IsGood) (sym
+    (ap (map owned_entry) c.as_slice-entries.ensures.value ∙ c.in_order.ensures)) c.requires)
 
 pub push_entry-requires : goal.push_entry-requires
-push_entry-requires g c = logged_this (live_record g.B.Boosted.inverse c.args.live.now.live) IsGood c.args.packer.now _ c.loop-owned.packer c.loop-owned.owned-index c.loop-owned.invariant c.owned-item.result c.loop-owned-test.true c.owned-item.is
+push_entry-requires c = logged_this (live_record c.args.live.now.live) IsGood c.args.packer.now _
+    c.loop-owned.packer c.loop-owned.owned-index c.loop-owned.invariant c.owned-item.result
+    c.loop-owned-test.true c.owned-item.is
 
 pub loop-owned-preserved : goal.loop-owned-preserved
-loop-owned-preserved g c =
-    logged_one (live_record g.B.Boosted.inverse c.args.live.now.live) IsGood c.args.packer.now _ c.loop-owned.packer c.loop-owned.owned-index c.loop-owned.invariant c.owned-item.result c.loop-owned-test.true c.owned-item.is
+loop-owned-preserved c =
+    logged_one (live_record c.args.live.now.live) IsGood c.args.packer.now _ c.loop-owned.packer
+    c.loop-owned.owned-index c.loop-owned.invariant c.owned-item.result c.loop-owned-test.true
+    c.owned-item.is
     c.push_entry.new.packer c.in_ok-push_entry.ensures.told
 
 pub returns-clause-told : goal.returns-clause-told
-returns-clause-told g c =
-    let one = live_record g.B.Boosted.inverse c.args.live.now.live in
-    subst (λ es. Writes c.args.packer.now c.loop-owned.packer (λ rs. rs ≡ flat_map one es)) (ap (map owned_entry) c.as_slice-entries.ensures.value ∙ c.in_order.ensures)
-    (logged_all one IsGood c.args.packer.now _ c.loop-owned.packer c.loop-owned.owned-index c.loop-owned.invariant c.loop-owned-test.false)
+returns-clause-told c =
+    let one = live_record c.args.live.now.live in
+    subst (λ es. Writes c.args.packer.now c.loop-owned.packer (λ rs. rs ≡ flat_map one es))
+    (ap (map owned_entry) c.as_slice-entries.ensures.value ∙ c.in_order.ensures)
+    (logged_all one IsGood c.args.packer.now _ c.loop-owned.packer c.loop-owned.owned-index
+    c.loop-owned.invariant c.loop-owned-test.false)

@@ -5,4 +5,5 @@ use Rattle.images.proofs.Frozen.{AreLogged}
 use Rattle.images.proofs.freezing.push_entries.Given as goal
 
 abbrev pub invariant-loop-owned : goal.invariant-loop-owned
-invariant-loop-owned g l = AreLogged (live_record g.B.Boosted.inverse l.live.live) (λ e. IsNumber e.0 × IsAskedEntry e.1) l.initial.packer l.packer l.entries l.owned-index
+invariant-loop-owned l = AreLogged (live_record l.live.live) (λ e. IsNumber e.0 × IsAskedEntry e.1)
+    l.initial.packer l.packer l.entries l.owned-index

@@ -19,13 +19,9 @@ use Rattle.images.proofs.freezing.push_image.Given.{Over}
 use Rattle.images.proofs.freezing.push_image.Goals as goal
 
 -- the laws of the collections
-laws : (g : Over) → BookLaws g.B.Boosted.answers g.B.Boosted.leaves g.B.Parts.makes g.B.Boosted.need g.B.Boosted.inverse g.B.Parts.names g.B.Boosted.within (λ s. AreShort (g.B.Coded.collections s))
-laws g =
-    book_laws g.B.Boosted.answers g.B.Boosted.leaves g.B.Parts.makes g.B.Boosted.need g.B.Boosted.inverse g.B.Parts.names g.B.Boosted.within g.B.Boosted.after g.B.Coded.collections
-    g.met.B.Boosted.exact g.met.B.Boosted.goes_back g.met.B.Boosted.commutes g.met.B.Boosted.moves_left g.met.B.Boosted.wears g.met.B.Boosted.deferred_stays_ready g.met.B.Boosted.leaves_one g.met.B.Boosted.leaves_disposable
-    g.met.B.Boosted.leaves_need g.met.B.Boosted.leaves_ready g.met.B.Boosted.stays_past_calls g.met.B.Boosted.stays_past_laters g.met.B.Parts.deferred_is_other g.met.B.Parts.runs_keep_names g.met.B.Parts.makes_one
-    g.met.B.Parts.makes_named g.met.B.Parts.makes_before_calls g.met.B.Parts.makes_keep_deferred g.met.B.Parts.makes_keep_within g.met.B.Coded.answers_as_told g.met.B.Coded.leaves_as_told g.met.B.Coded.makes_as_told
-    g.met.B.Coded.within_as_told g.met.B.Coded.inverse_as_told g.met.B.Coded.after_as_told
+laws : (g : Over) → BookLaws g.B.Boosted.meaning g.B.Parts.making
+    (λ s. AreShort (g.B.Coded.collections s))
+laws g = book_laws g.met.B.Boosted.laws g.met.B.Parts.laws g.met.B.Coded.told
 
 abbrev IsGood : ℕ × Entry → Type 0
 IsGood e = IsNumber e.0 × IsAskedEntry e.1
@@ -35,7 +31,8 @@ push_entries-requires g c =
     let s = c.args.machine.now in
     let up = c.upheld.ensures in
     subst (AllByRecursion IsGood) (sym c.live-2.ensures.entries)
-    (each_both (λ e. Lives s.live e.0) (λ e. IsAskedEntry e.1) IsGood s.entries (steps.alive g.B.Boosted.answers g.B.Boosted.leaves g.B.Parts.makes g.B.Boosted.need g.B.Boosted.inverse (laws g).rules s up.holds) up.asked
+    (each_both (λ e. Lives s.live e.0) (λ e. IsAskedEntry e.1) IsGood s.entries
+    (steps.alive g.B.Boosted.meaning g.B.Parts.making (laws g).rules s up.holds) up.asked
     (λ e lives asked. (up.numbers e.0 lives, asked)))
 
 pub returns-clause-told : goal.returns-clause-told
@@ -44,11 +41,19 @@ returns-clause-told g c =
     let next = c.args.next in
     let a = c.args.packer.now in
     let worn : s.wear < 2 ^ 64 = let unworn = c.upheld.ensures.unworn in omega arith in
-    let marks = c.in_ok-push.ensures.written ∙ ap (λ w. joined a ++ Record.Marks next w ∷ []) c.wear.ensures in
-    let told = subst (λ v. Writes c.push.new.self c.push_collections.new.packer (TellOf (g.B.Coded.collections v))) c.parts.ensures c.in_ok-push_collections.ensures.told in
-    let begun = subst (λ live. Writes c.push_collections.new.packer c.push_begins.new.packer (TellsLive live)) c.live.ensures.live c.in_ok-push_begins.ensures.told in
-    let logged = subst (λ es. Writes c.push_begins.new.packer c.push_entries.new.packer (λ rs. rs ≡ flat_map (live_record g.B.Boosted.inverse s.live) es)) c.live-2.ensures.entries
-    (subst (λ live. Writes c.push_begins.new.packer c.push_entries.new.packer (λ rs. rs ≡ flat_map (live_record g.B.Boosted.inverse live) c.live-2.result.now.entries)) c.live-2.ensures.live c.in_ok-push_entries.ensures.told) in
+    let marks = c.in_ok-push.ensures.written ∙
+    ap (λ w. joined a ++ Record.Marks next w ∷ []) c.wear.ensures in
+    let told = subst (λ v. Writes c.push.new.self c.push_collections.new.packer
+    (TellOf (g.B.Coded.collections v))) c.parts.ensures c.in_ok-push_collections.ensures.told in
+    let begun = subst (λ live. Writes c.push_collections.new.packer c.push_begins.new.packer
+    (TellsLive live)) c.live.ensures.live c.in_ok-push_begins.ensures.told in
+    let logged = subst (λ es. Writes c.push_begins.new.packer c.push_entries.new.packer
+    (λ rs. rs ≡ flat_map (live_record s.live) es)) c.live-2.ensures.entries
+    (subst (λ live. Writes c.push_begins.new.packer c.push_entries.new.packer
+    (λ rs. rs ≡ flat_map (live_record live) c.live-2.result.now.entries)) c.live-2.ensures.live
+    c.in_ok-push_entries.ensures.told) in
     on_ok_weaker c.push-2.result
-    (λ end. image_writes g.B.Coded.collections g.B.Boosted.inverse next s a c.push.new.self c.push_collections.new.packer c.push_begins.new.packer c.push_entries.new.packer c.push-2.new.self c.requires worn marks told begun logged end)
+    (λ end. image_writes g.B.Coded.collections next s a c.push.new.self
+    c.push_collections.new.packer c.push_begins.new.packer c.push_entries.new.packer
+    c.push-2.new.self c.requires worn marks told begun logged end)
     c.push-2.ensures.written

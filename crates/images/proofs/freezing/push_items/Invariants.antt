@@ -7,4 +7,5 @@ use Rattle.images.proofs.freezing.push_items.Given as goal
 
 -- the items so far are written
 abbrev pub invariant-loop-item : goal.invariant-loop-item
-invariant-loop-item l = (joined l.packer ≡ joined l.initial.packer ++ map Record.Item l.yielded) × AllByRecursion FitsItem l.yielded
+invariant-loop-item l = (joined l.packer ≡ joined l.initial.packer ++ map Record.Item l.yielded) ×
+    AllByRecursion FitsItem l.yielded

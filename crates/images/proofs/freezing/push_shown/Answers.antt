@@ -8,5 +8,6 @@ push_items-requires c = each_short c.args.shown.kind c.args.shown.items.items c.
 pub returns-in-Ok-clause-told : goal.returns-in-Ok-clause-told
 returns-in-Ok-clause-told c =
     on_ok_weaker c.push_items.result
-    (λ told. shown_writes c.args.shown c.args.packer.now c.push.new.self c.push_items.new.packer c.requires.name c.requires.items told.1 c.in-Ok.ensures.written told.0)
+    (λ told. shown_writes c.args.shown c.args.packer.now c.push.new.self c.push_items.new.packer
+    c.requires.name c.requires.items told.1 c.in-Ok.ensures.written told.0)
     c.push_items.ensures.told

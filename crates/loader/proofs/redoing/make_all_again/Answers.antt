@@ -4,17 +4,22 @@ use Rattle.loader.proofs.redoing.make_all_again.Given.{Over}
 use Rattle.loader.proofs.redoing.make_all_again.Goals as goal
 
 -- the laws of the collections
-laws : (g : Over) → TakeLaws g.B.Boosted.answers g.B.Boosted.leaves g.B.Boosted.inverse g.B.Boosted.within
-laws g =
-    take_laws g.B.Boosted.answers g.B.Boosted.leaves g.B.Boosted.inverse g.B.Boosted.within g.B.Coded.collections g.met.B.Boosted.goes_back g.met.B.Boosted.wears
-    g.met.B.Coded.answers_as_told g.met.B.Coded.leaves_as_told g.met.B.Coded.within_as_told g.met.B.Coded.inverse_as_told g.met.B.Coded.told_apart
+laws : (g : Over) → TakeLaws g.B.Boosted.meaning
+laws g = take_laws g.met.B.Boosted.laws g.met.B.Coded.told
 
 pub make_again-requires : goal.make_again-requires
-make_again-requires g c = making_can g.B.Boosted.answers g.B.Boosted.leaves g.B.Boosted.inverse g.B.Boosted.within (laws g) c.args.entries.now c.args.parts.now c.loop-owned.owned-index c.owned-item.result c.loop-owned-test.true c.owned-item.is c.loop-owned.parts c.loop-owned.invariant
+make_again-requires g c = making_can g.B.Boosted.meaning (laws g) c.args.entries.now
+    c.args.parts.now c.loop-owned.owned-index c.owned-item.result c.loop-owned-test.true
+    c.owned-item.is c.loop-owned.parts c.loop-owned.invariant
 
 pub loop-owned-preserved : goal.loop-owned-preserved
 loop-owned-preserved g c =
-    making_next g.B.Boosted.answers g.B.Boosted.leaves g.B.Boosted.inverse g.B.Boosted.within (laws g) c.args.entries.now c.args.parts.now c.loop-owned.owned-index c.owned-item.result c.loop-owned-test.true c.owned-item.is c.loop-owned.parts c.loop-owned.invariant c.make_again.new.parts c.in_ok-make_again.ensures.ok
+    making_next g.B.Boosted.meaning (laws g) c.args.entries.now c.args.parts.now
+    c.loop-owned.owned-index c.owned-item.result c.loop-owned-test.true c.owned-item.is
+    c.loop-owned.parts c.loop-owned.invariant c.make_again.new.parts
+    c.in_ok-make_again.ensures.ok
 
 pub returns-clause-ok : goal.returns-clause-ok
-returns-clause-ok g c = making_end g.B.Boosted.answers g.B.Boosted.leaves g.B.Boosted.inverse g.B.Boosted.within (laws g) c.args.entries.now c.args.parts.now c.loop-owned.owned-index c.loop-owned.parts (omega (arith, c.loop-owned-test.false)) c.loop-owned.invariant
+returns-clause-ok g c = making_end g.B.Boosted.meaning (laws g) c.args.entries.now c.args.parts.now
+    c.loop-owned.owned-index c.loop-owned.parts (omega (arith, c.loop-owned-test.false))
+    c.loop-owned.invariant

@@ -6,7 +6,8 @@ use Rattle.loader.proofs.redoing.take_all_back.Given as goal
 
 -- the calls from the place on lead to what was there first
 abbrev pub invariant-loop-place : goal.invariant-loop-place
-invariant-loop-place g l = (l.place ≤ length l.entries) × Leads (Does g.B.Boosted.answers g.B.Boosted.leaves) (calls_in (drop l.place l.entries)) l.parts l.initial.parts
+invariant-loop-place g l = (l.place ≤ length l.entries) ×
+    Leads (Does g.B.Boosted.meaning) (calls_in (drop l.place l.entries)) l.parts l.initial.parts
 
 abbrev pub decreases-loop-place : goal.decreases-loop-place
 decreases-loop-place g l = l.place

@@ -2,4 +2,5 @@ use Rattle.machine.proofs.Running.{IsRunningSo}
 use Rattle.machine.proofs.laters.run_laters.Given as goal
 
 abbrev pub invariant-loop-owned : goal.invariant-loop-owned
-invariant-loop-owned g l = IsRunningSo g.B.Boosted.answers g.B.Boosted.leaves g.B.Boosted.within l.number l.entries l.initial.parts l.owned-index l.parts l.count
+invariant-loop-owned g l = IsRunningSo g.B.Boosted.meaning l.number l.entries l.initial.parts
+    l.owned-index l.parts l.count

@@ -3,7 +3,9 @@ use Rattle.player.proofs.CheckpointLemmas.{begun_before, begun_now}
 use Rattle.player.proofs.checkpointer.begin.Goals as goal
 
 pub returns-in-Some : goal.returns-in-Some
-returns-in-Some g c = begun_before g.D.Disk c.args.world.now c.in-Some.field-0 (sym c.left.ensures ∙ c.in-Some.is)
+returns-in-Some g c = begun_before g.D.Disk c.args.world.now c.in-Some.field-0
+    (sym c.left.ensures ∙ c.in-Some.is)
 
 pub returns-in-None : goal.returns-in-None
-returns-in-None g c = begun_now g.D.Disk c.args.world.now c.freeze.new.self c.freeze.result (sym c.left.ensures ∙ c.in-None.is) c.freeze.ensures
+returns-in-None g c = begun_now g.D.Disk c.args.world.now c.freeze.new.self c.freeze.result
+    (sym c.left.ensures ∙ c.in-None.is) c.freeze.ensures

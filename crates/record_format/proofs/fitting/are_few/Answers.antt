@@ -8,6 +8,7 @@ short_value v l h = record { short = l; bytes = All-from_get_or (λ b. b < 256) 
 
 pub returns-clause-fits : goal.returns-clause-fits
 returns-clause-fits c = (
-  λ t. let l : length c.args.bytes.now ≤ 256 = search rules in short_value c.args.bytes.now l (λ i. omega (arith, c.type_inv.bytes i)),
+  λ t. let l : length c.args.bytes.now ≤ 256 = search rules in
+      short_value c.args.bytes.now l (λ i. omega (arith, c.type_inv.bytes i)),
   λ v. let l = v.short in search rules,
 )

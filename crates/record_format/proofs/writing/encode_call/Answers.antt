@@ -4,5 +4,6 @@ use Rattle.record_format.proofs.writing.encode_call.Goals as goal
 pub put_byte-requires : goal.put_byte-requires
 put_byte-requires c =
     let some = c.call_len.ensures.positive in
-    let room : vec_len c.reserve.new.self + c.call_len.result ≤ vec_capacity c.reserve.new.self = search rules in
+    let room : vec_len c.reserve.new.self + c.call_len.result ≤ vec_capacity c.reserve.new.self =
+    search rules in
     omega arith

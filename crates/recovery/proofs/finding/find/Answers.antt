@@ -6,7 +6,8 @@ use Rattle.recovery.specs.Openings.{IsLoadRefusal}
 use Rattle.recovery.specs.Loading.{IsLoaded}
 use Rattle.undoing.proofs.Walks.{rises_before}
 use Rattle.recovery.proofs.LoadLemmas.{Spoils}
-use Rattle.recovery.proofs.FindLemmas.{head_find_refusal, load_find_refusal, stored_there, one_of_two}
+use Rattle.recovery.proofs.FindLemmas.{head_find_refusal, load_find_refusal, stored_there}
+use Rattle.recovery.proofs.FindLemmas.{one_of_two}
 use Rattle.recovery.proofs.finding.find.Goals as goal
 
 pub returns-in_err-base-clause-refused : goal.returns-in_err-base-clause-refused
@@ -17,12 +18,17 @@ returns-in_err-base-clause-refused g c =
 
 pub returns-in_err-repeated-clause-refused : goal.returns-in_err-repeated-clause-refused
 returns-in_err-repeated-clause-refused g c =
-    let p = err_from_is_err_and c.from_residual-in_err-repeated.result c.from_residual-in_err-repeated.ensures.1 in
+    let p = err_from_is_err_and c.from_residual-in_err-repeated.result
+    c.from_residual-in_err-repeated.ensures.1 in
     rw (p.1, p.2)
-    (load_find_refusal _ _ _ (g.D.Disk.is_honest c.load.new.disk) (g.D.Disk.seen c.args.disk.now) c.in_ok-base.size c.in_ok-base.base c.in_err-repeated.field-0.0
+    (load_find_refusal _ _ _ (g.D.Disk.is_honest c.load.new.disk) (g.D.Disk.seen c.args.disk.now)
+    c.in_ok-base.size c.in_ok-base.base c.in_err-repeated.field-0.0
     (rises_before _ _ _ c.area_in_use.ensures.faults c.load.ensures.faults)
     (λ true_read. c.in_ok-base.ensures.header (c.load.ensures.honest true_read))
-    (subst (λ b. IsLoadRefusal (Rises (g.D.Disk.fault_count c.area_in_use.new.disk) (g.D.Disk.fault_count c.load.new.disk)) (Spoils (g.D.Disk.is_honest c.load.new.disk) c.in_ok-base.base c.in_ok-base.size b) c.in_err-repeated.field-0.0)
+    (subst (λ b. IsLoadRefusal (Rises (g.D.Disk.fault_count c.area_in_use.new.disk)
+    (g.D.Disk.fault_count c.load.new.disk))
+    (Spoils (g.D.Disk.is_honest c.load.new.disk) c.in_ok-base.base c.in_ok-base.size b)
+    c.in_err-repeated.field-0.0)
     c.area_in_use.ensures.reads.same c.in_err-repeated.ensures.refused))
 
 pub returns-clause-found : goal.returns-clause-found
@@ -38,11 +44,15 @@ returns-clause-found g c =
       marks = c.in_ok-records.ensures.records;
       stored = λ true_read.
           let header = c.in_ok-base.ensures.header (c.load.ensures.honest true_read) in
-          stored_there old found.area base size found.repeated.machine found.repeated.next found.repeated.count header.0 header.1 area.0 area.1
-          (subst (λ b. IsLoaded base size b found.repeated.machine found.repeated.next found.repeated.count (position_of found.area)) c.area_in_use.ensures.reads.same (c.in_ok-repeated.ensures.loaded true_read));
+          stored_there old found.area base size found.repeated.machine found.repeated.next
+          found.repeated.count header.0 header.1 area.0 area.1
+          (subst (λ b. IsLoaded base size b found.repeated.machine found.repeated.next
+          found.repeated.count (position_of found.area)) c.area_in_use.ensures.reads.same
+          (c.in_ok-repeated.ensures.loaded true_read));
       placed = record {
         fine = area.2;
-        one = one_of_two found.area base size (length old) area.0 area.1 c.in_ok-base.ensures.one.0 c.in_ok-base.ensures.one.1;
+        one = one_of_two found.area base size (length old) area.0 area.1 c.in_ok-base.ensures.one.0
+            c.in_ok-base.ensures.one.1;
         small = omega (arith, area.1, c.in_ok-base.ensures.inside.1);
         behind = omega (arith, area.1, c.in_ok-repeated.ensures.place, found.area.inside);
       };

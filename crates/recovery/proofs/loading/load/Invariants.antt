@@ -5,8 +5,10 @@ use Rattle.recovery.proofs.loading.load.Given as goal
 
 abbrev pub invariant-loop-body : goal.invariant-loop-body
 invariant-loop-body g l =
-    IsLoading g.D.Disk.seen g.D.Disk.may_leave g.D.Disk.moment g.D.Disk.left_since g.D.Disk.is_honest g.D.Disk.fault_count
-    l.fn.disk l.disk l.fn.base l.fn.size l.area l.repetition.kind l.repetition.stage l.repetition.next l.place
+    IsLoading g.D.Disk.seen g.D.Disk.may_leave g.D.Disk.moment g.D.Disk.left_since
+    g.D.Disk.is_honest g.D.Disk.fault_count
+    l.fn.disk l.disk l.fn.base l.fn.size l.area l.repetition.kind l.repetition.stage
+    l.repetition.next l.place
 
 abbrev pub decreases-loop-body : goal.decreases-loop-body
 decreases-loop-body g l = l.fn.size - position_of l.area

@@ -12,10 +12,14 @@ returns-in-Ok-clause-content g c = λ content stands true_read.
 pub returns-in-Ok-clause-kept : goal.returns-in-Ok-clause-kept
 returns-in-Ok-clause-kept g c = λ true_read.
     let disk = ap (λ (k : KeeperState g.row.D.Denot). k.disk) c.new.ensures in
-    subst (KeepsContent g.D.Disk.seen g.D.Disk.may_leave g.D.Disk.moment g.D.Disk.left_since c.args.disk) (sym disk) (c.in-Ok.ensures.kept (subst g.D.Disk.is_honest disk true_read))
+    subst (KeepsContent g.D.Disk.seen g.D.Disk.may_leave g.D.Disk.moment g.D.Disk.left_since
+    c.args.disk) (sym disk) (c.in-Ok.ensures.kept (subst g.D.Disk.is_honest disk true_read))
 
 pub returns-in-Ok-clause-untouched : goal.returns-in-Ok-clause-untouched
 returns-in-Ok-clause-untouched g c =
     subst
-    (λ (k : KeeperState g.row.D.Denot). g.D.Disk.is_honest k.disk → (o : IsOpened (g.D.Disk.seen c.args.disk) c.in-Ok.book k.area (g.D.Disk.seen k.disk)) → o.undoing ≡ [] → ReadsOnly g.D.Disk.seen g.D.Disk.may_leave g.D.Disk.moment g.D.Disk.left_since c.args.disk k.disk)
+    (λ (k : KeeperState g.row.D.Denot). g.D.Disk.is_honest k.disk →
+    (o : IsOpened (g.D.Disk.seen c.args.disk) c.in-Ok.book k.area (g.D.Disk.seen k.disk)) →
+    o.undoing ≡ [] → ReadsOnly g.D.Disk.seen g.D.Disk.may_leave g.D.Disk.moment
+    g.D.Disk.left_since c.args.disk k.disk)
     (sym c.new.ensures) c.in-Ok.ensures.untouched

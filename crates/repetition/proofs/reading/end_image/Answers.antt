@@ -7,4 +7,8 @@ none_there : {T : Type 0} (m : Option T) (P : Type 0) → m ≡ None → IfNone 
 none_there m P is said = subst (λ o. IfNone o P) is said
 
 pub returns-in-None-clause-err : goal.returns-in-None-clause-err
-returns-in-None-clause-err c = (refl, λ settles. none_there c.in_ok-machine.field-0 _ c.in-None.is c.in_ok-machine.ensures.none settles.0 settles.1)
+returns-in-None-clause-err c = (
+  refl,
+  λ settles. none_there c.in_ok-machine.field-0 _ c.in-None.is c.in_ok-machine.ensures.none
+      settles.0 settles.1,
+)

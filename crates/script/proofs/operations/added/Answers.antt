@@ -10,11 +10,13 @@ returns-in-None c = λ has.
 pub returns-in_default-2 : goal.returns-in_default-2
 returns-in_default-2 c = λ has.
     let none = rw c.in_default-2.is at c.in_ok-priority.ensures in
-    let key = (added_pair c.args.text.now c.in-Some.front.now c.in-Some.back.now c.in-Some.ensures.some c.in-Some.ensures.first has).0 in
+    let key = (added_pair c.args.text.now c.in-Some.front.now c.in-Some.back.now
+    c.in-Some.ensures.some c.in-Some.ensures.first has).0 in
     none key.0 key.1 key.2
 
 pub returns-in-None-2 : goal.returns-in-None-2
 returns-in-None-2 c = λ has.
     let none = rw c.in-None-2.is at c.in_ok-tag.ensures in
-    let key = (added_pair c.args.text.now c.in-Some.front.now c.in-Some.back.now c.in-Some.ensures.some c.in-Some.ensures.first has).1 in
+    let key = (added_pair c.args.text.now c.in-Some.front.now c.in-Some.back.now
+    c.in-Some.ensures.some c.in-Some.ensures.first has).1 in
     none key.0 key.1 key.2

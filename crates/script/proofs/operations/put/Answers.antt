@@ -7,11 +7,13 @@ returns-in_default c = λ has. put_space c.args.text.now c.in_default.ensures.no
 pub returns-in_default-2 : goal.returns-in_default-2
 returns-in_default-2 c = λ has.
     let none = rw c.in_default-2.is at c.in_ok-key.ensures in
-    let key = (put_pair c.args.text.now c.in-Some.front.now c.in-Some.back.now c.in-Some.ensures.some c.in-Some.ensures.first has).0 in
+    let key = (put_pair c.args.text.now c.in-Some.front.now c.in-Some.back.now
+    c.in-Some.ensures.some c.in-Some.ensures.first has).0 in
     none key.0 key.1 key.2
 
 pub returns-in-None : goal.returns-in-None
 returns-in-None c = λ has.
     let none = rw c.in-None.is at c.in_ok-bytes.ensures in
-    let bytes = (put_pair c.args.text.now c.in-Some.front.now c.in-Some.back.now c.in-Some.ensures.some c.in-Some.ensures.first has).1 in
+    let bytes = (put_pair c.args.text.now c.in-Some.front.now c.in-Some.back.now
+    c.in-Some.ensures.some c.in-Some.ensures.first has).1 in
     none bytes.0 bytes.1 bytes.2

@@ -7,9 +7,11 @@ returns-in_default c = λ r. no_make_without_space c.args.text.now r c.in_defaul
 pub returns-in_default-kind_of : goal.returns-in_default-kind_of
 returns-in_default-kind_of c = λ r.
     let none = rw c.in_default-kind_of.is at c.kind_of.ensures in
-    kind_is_front c.args.text.now c.in-Some.front.now c.in-Some.back.now r c.in-Some.ensures.some c.in-Some.ensures.first none
+    kind_is_front c.args.text.now c.in-Some.front.now c.in-Some.back.now r c.in-Some.ensures.some
+    c.in-Some.ensures.first none
 
 pub returns-in-None : goal.returns-in-None
 returns-in-None c = λ r.
     let none = rw c.in-None.is at c.in_ok-name.ensures in
-    name_is_back c.args.text.now c.in-Some.front.now c.in-Some.back.now r c.in-Some.ensures.some c.in-Some.ensures.first none
+    name_is_back c.args.text.now c.in-Some.front.now c.in-Some.back.now r c.in-Some.ensures.some
+    c.in-Some.ensures.first none

@@ -7,9 +7,11 @@ returns-in_default c = λ a. no_client_without_space c.args.text.now a c.in_defa
 pub returns-in_default-2 : goal.returns-in_default-2
 returns-in_default-2 c = λ a.
     let none = rw c.in_default-2.is at c.in_ok-number.ensures in
-    client_is_front c.args.text.now c.in-Some.front.now c.in-Some.back.now a c.in-Some.ensures.some c.in-Some.ensures.first none
+    client_is_front c.args.text.now c.in-Some.front.now c.in-Some.back.now a c.in-Some.ensures.some
+    c.in-Some.ensures.first none
 
 pub returns-in-None : goal.returns-in-None
 returns-in-None c = λ a.
     let none = rw c.in-None.is at c.in_ok-asked.ensures in
-    request_is_back c.args.text.now c.in-Some.front.now c.in-Some.back.now a c.in-Some.ensures.some c.in-Some.ensures.first none
+    request_is_back c.args.text.now c.in-Some.front.now c.in-Some.back.now a c.in-Some.ensures.some
+    c.in-Some.ensures.first none

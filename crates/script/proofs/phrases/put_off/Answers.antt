@@ -7,9 +7,11 @@ returns-in_default c = λ r. no_later_without_space c.args.text.now r c.in_defau
 pub returns-in_default-2 : goal.returns-in_default-2
 returns-in_default-2 c = λ r is.
     let none = rw c.in_default-2.is at c.in_ok-name.ensures in
-    none (later_name_is_front c.args.text.now c.in-Some.front.now c.in-Some.back.now r c.in-Some.ensures.some c.in-Some.ensures.first is)
+    none (later_name_is_front c.args.text.now c.in-Some.front.now c.in-Some.back.now r
+    c.in-Some.ensures.some c.in-Some.ensures.first is)
 
 pub returns-in-None : goal.returns-in-None
 returns-in-None c = λ r.
     let none = rw c.in-None.is at c.in_ok-by.ensures in
-    bump_is_back c.args.text.now c.in-Some.front.now c.in-Some.back.now r c.in-Some.ensures.some c.in-Some.ensures.first none
+    bump_is_back c.args.text.now c.in-Some.front.now c.in-Some.back.now r c.in-Some.ensures.some
+    c.in-Some.ensures.first none

@@ -2,10 +2,13 @@ use Rattle.script.proofs.ScriptPhrases.{called_gives, put_off_gives, made_gives}
 use Rattle.script.proofs.phrases.request.Goals as goal
 
 pub returns-in-Some : goal.returns-in-Some
-returns-in-Some c = called_gives c.called.result c.args.text.now c.in-Some.rest.now c.in-Some.ensures.some c.called.ensures
+returns-in-Some c = called_gives c.called.result c.args.text.now c.in-Some.rest.now
+    c.in-Some.ensures.some c.called.ensures
 
 pub returns-in-Some-behind : goal.returns-in-Some-behind
-returns-in-Some-behind c = put_off_gives c.put_off.result c.args.text.now c.in-Some-behind.rest.now c.in-Some-behind.ensures.some c.put_off.ensures
+returns-in-Some-behind c = put_off_gives c.put_off.result c.args.text.now c.in-Some-behind.rest.now
+    c.in-Some-behind.ensures.some c.put_off.ensures
 
 pub returns-in-Some-behind-2 : goal.returns-in-Some-behind-2
-returns-in-Some-behind-2 c = made_gives c.made.result c.args.text.now c.in-Some-behind-2.rest.now c.in-Some-behind-2.ensures.some c.made.ensures
+returns-in-Some-behind-2 c = made_gives c.made.result c.args.text.now c.in-Some-behind-2.rest.now
+    c.in-Some-behind-2.ensures.some c.made.ensures

@@ -4,14 +4,19 @@ use Rattle.script.proofs.ScriptWords.{number_is_text, number_parses, number_show
 use Rattle.script.proofs.words.number.Goals as goal
 
 pub returns-in_default : goal.returns-in_default
-returns-in_default c = λ n fits e. c.in_default.ensures.cases.0 (number_is_text n c.args.text.now fits e)
+returns-in_default c = λ n fits e. c.in_default.ensures.cases.0
+    (number_is_text n c.args.text.now fits e)
 
 pub returns-in_default-parse : goal.returns-in_default-parse
-returns-in_default-parse c = λ n fits e. c.in_default-parse.not-Ok n (number_parses n c.in-Ok.word.now c.parse.result c.parse.ensures.value.0 fits (c.in-Ok.ensures.cases.0 ∙ e))
+returns-in_default-parse c = λ n fits e. c.in_default-parse.not-Ok n
+    (number_parses n c.in-Ok.word.now c.parse.result c.parse.ensures.value.0 fits
+    (c.in-Ok.ensures.cases.0 ∙ e))
 
 pub returns : goal.returns
 returns c = λ n fits e.
-    let parsed = number_parses n c.in-Ok.word.now c.parse.result c.parse.ensures.value.0 fits (c.in-Ok.ensures.cases.0 ∙ e) in
-    let shown = number_shown n c.in-Ok-parse.n c.in_ok-again.again.bytes.items c.args.text.now c.parse.result fits c.in-Ok-parse.is parsed c.in_ok-again.ensures.ok e in
+    let parsed = number_parses n c.in-Ok.word.now c.parse.result c.parse.ensures.value.0 fits
+    (c.in-Ok.ensures.cases.0 ∙ e) in
+    let shown = number_shown n c.in-Ok-parse.n c.in_ok-again.again.bytes.items c.args.text.now
+    c.parse.result fits c.in-Ok-parse.is parsed c.in_ok-again.ensures.ok e in
     let is : c.same.result ≡ true = c.same.ensures.1 (c.as_bytes.ensures.value ∙ shown) in
     true≢false (sym is ∙ c.if-same.false)

@@ -4,12 +4,14 @@ use Rattle.slab.specs.Slab.{get}
 use Rattle.slab.proofs.SlabLemmas.{Contains-cons, Contains-cons_cases, Contains-entries}
 use Rattle.undo_log.specs.declared.live.Transaction.{Transaction}
 use Rattle.undo_log.specs.Logs.{IsSlotOf}
-use Rattle.undo_log.proofs.Slots.{in_head, bounds_this, bounds_more, least_is_one, least_slot, no_slot, Bounds}
+use Rattle.undo_log.proofs.Slots.{in_head, bounds_this, bounds_more, least_is_one, least_slot}
+use Rattle.undo_log.proofs.Slots.{no_slot, Bounds}
 use Rattle.undo_log.proofs.live.least_of.Goals as goal
 
 pub loop-transaction-init : goal.loop-transaction-init
 loop-transaction-init c =
-    let left = c.into_iter-transaction-iterator.ensures.into_iter_gives ∙ c.iter-transaction-items.ensures.rest in (
+    let left = c.into_iter-transaction-iterator.ensures.into_iter_gives ∙
+    c.iter-transaction-items.ensures.rest in (
       tt,
       tt,
       λ k t found. inl (rw left ((Contains-entries c.args.slots.now k t).1 found)),
@@ -26,25 +28,37 @@ loop-transaction-preserved c =
       tt,
       λ k t found. rw c.lesser.ensures (elim (c.loop-transaction.invariant.2 k t found) [
         | inl there ↦ elim (Contains-cons_cases _ _ _ (rw at at there)) [
-          | inl same ↦ inr (subst (λ (e : ℕ × _). Bounds (Some (option_map_or (min number) least number)) e.1.number) same (bounds_this least number))
+          | inl same ↦ inr (subst (λ (e : ℕ × _). Bounds
+              (Some (option_map_or (min number) least number)) e.1.number) same
+              (bounds_this least number))
           | inr rest ↦ inl rest
         ]
         | inr below ↦ inr (bounds_more least number t.number below)
       ]),
       λ k t there. c.loop-transaction.invariant.3 k t (rw at (Contains-cons _ _ _ there)),
-      rw c.lesser.ensures (least_is_one (λ n. (k : ℕ) × IsSlotOf c.args.slots.now n k) least number c.loop-transaction.invariant.4
-          (c.in-Some.field-0-0, (c.in-Some.transaction.now, c.loop-transaction.invariant.3 _ _ (rw at (in_head _ _)), refl))),
+      rw c.lesser.ensures (least_is_one (λ n. (k : ℕ) × IsSlotOf c.args.slots.now n k) least number
+          c.loop-transaction.invariant.4 (
+            c.in-Some.field-0-0,
+            (
+              c.in-Some.transaction.now,
+              c.loop-transaction.invariant.3 _ _ (rw at (in_head _ _)),
+              refl,
+            ),
+          )),
     )
 
 -- every slot was seen
-seen : (c : goal.In-None) (k : ℕ) (t : Transaction) → get c.args.slots.now k ≡ Some t → Bounds c.loop-transaction.least t.number
+seen : (c : goal.In-None) (k : ℕ) (t : Transaction) → get c.args.slots.now k ≡ Some t →
+    Bounds c.loop-transaction.least t.number
 seen c k t found = elim (c.loop-transaction.invariant.2 k t found) [
-  | inl there ↦ let none = rw (c.in-None.ensures.steps.0) at there in let below = none.1 in absurd (omega arith)
+  | inl there ↦ let none = rw (c.in-None.ensures.steps.0) at there in let below = none.1 in
+      absurd (omega arith)
   | inr below ↦ below
 ]
 
 pub returns-clause-found : goal.returns-clause-found
-returns-clause-found c = least_slot c.args.slots.now c.loop-transaction.least (seen c) c.loop-transaction.invariant.4
+returns-clause-found c = least_slot c.args.slots.now c.loop-transaction.least (seen c)
+    c.loop-transaction.invariant.4
 
 pub returns-clause-none : goal.returns-clause-none
 returns-clause-none c = no_slot c.args.slots.now c.loop-transaction.least (seen c)

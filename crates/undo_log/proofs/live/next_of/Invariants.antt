@@ -4,11 +4,13 @@ use Rattle.undo_log.specs.declared.live.Transaction.{Transaction}
 use Rattle.undo_log.proofs.Slots.{IsPassed, IsAbove}
 use Rattle.undo_log.proofs.live.next_of.Given as goal
 
--- each slot is among the entries that are left, or was passed; every entry left is the slab's; and the next so far is one of them
+-- each slot is among the entries that are left, or was passed; every entry left is the slab's; and
+-- the next so far is one of them
 abbrev pub invariant-loop-transaction : goal.invariant-loop-transaction
 invariant-loop-transaction l =
     (goal.iterator-loop-transaction).can_next l.transaction-iterator ×
     (goal.iterator-loop-transaction).is_finite l.transaction-iterator ×
-    ((k : ℕ) (t : Transaction) → get l.slots k ≡ Some t → Contains l.transaction-iterator (k, t) ⊎ IsPassed l.after l.next t.number) ×
+    ((k : ℕ) (t : Transaction) → get l.slots k ≡ Some t →
+    Contains l.transaction-iterator (k, t) ⊎ IsPassed l.after l.next t.number) ×
     ((k : ℕ) (t : Transaction) → Contains l.transaction-iterator (k, t) → get l.slots k ≡ Some t) ×
     IfSome l.next (IsAbove l.slots l.after)

@@ -17,14 +17,19 @@ loop-key-preserved c =
     let at = c.in-Some.ensures.steps in (
       tt,
       tt,
-      λ k t found mine. elim (Contains-cons_cases _ _ _ (rw at at (c.loop-key.invariant.2 k t found mine))) [
-        | inl same ↦ elim (c.if-transaction-number.false (ap (λ e. e.1.number) same ∙ mine)) [ ]
-        | inr rest ↦ rest
-      ],
+      λ k t found mine. elim (Contains-cons_cases _ _ _
+          (rw at at (c.loop-key.invariant.2 k t found mine))) [
+            | inl same ↦ elim (c.if-transaction-number.false (ap (λ e. e.1.number) same ∙ mine)) [ ]
+            | inr rest ↦ rest
+          ],
       λ k t there. c.loop-key.invariant.3 k t (rw at (Contains-cons _ _ _ there)),
     )
 
 pub returns-then-transaction-number-clause-found : goal.returns-then-transaction-number-clause-found
 returns-then-transaction-number-clause-found c =
-    let at = c.in-Some.ensures.steps in
-    (c.in-Some.transaction.now, c.loop-key.invariant.3 c.in-Some.key c.in-Some.transaction.now (rw at (in_head _ _)), c.if-transaction-number.true)
+    let at = c.in-Some.ensures.steps in (
+      c.in-Some.transaction.now,
+      c.loop-key.invariant.3 c.in-Some.key c.in-Some.transaction.now
+          (rw at (in_head _ _)),
+      c.if-transaction-number.true,
+    )

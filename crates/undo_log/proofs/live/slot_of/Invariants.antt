@@ -8,5 +8,6 @@ abbrev pub invariant-loop-key : goal.invariant-loop-key
 invariant-loop-key l =
     (goal.iterator-loop-key).can_next l.key-iterator ×
     (goal.iterator-loop-key).is_finite l.key-iterator ×
-    ((k : ℕ) (t : Transaction) → get l.slots k ≡ Some t → t.number ≡ l.number → Contains l.key-iterator (k, t)) ×
+    ((k : ℕ) (t : Transaction) → get l.slots k ≡ Some t → t.number ≡ l.number →
+    Contains l.key-iterator (k, t)) ×
     ((k : ℕ) (t : Transaction) → Contains l.key-iterator (k, t) → get l.slots k ≡ Some t)

@@ -1,4 +1,5 @@
-use Rattle.std.proofs.Common.{◌≡◌, ◌<◌, ◌+◌, ◌++◌, ◌∙◌, ap, length, take, arith, length-append, vec_capacity}
+use Rattle.std.proofs.Common.{◌≡◌, ◌<◌, ◌+◌, ◌++◌, ◌∙◌, ap, length, take, arith, length-append}
+use Rattle.std.proofs.Common.{vec_capacity}
 use Rattle.std.proofs.lemmas.List.{length-take-le}
 use Rattle.record_format.specs.Records.{spelling}
 use Rattle.blocks.proofs.DraftLemmas.{whole}
@@ -8,15 +9,26 @@ use Rattle.undoing.proofs.appending.pack.Goals as goal
 
 pub close_block-requires-clause-short : goal.close_block-requires-clause-short
 close_block-requires-clause-short c =
-    let five : length (take 5 c.args.bytes.now.items) ≡ 5 = length-take-le 5 c.args.bytes.now.items c.requires.head in
-    omega (arith, ap length (c.spell.ensures.items ∙ ap (λ l. l ++ spelling c.args.group.now) c.truncate.ensures.items), length-append (take 5 c.args.bytes.now.items) (spelling c.args.group.now), five, spelling_len c.args.group.now c.requires.undo, c.requires.few)
+    let five : length (take 5 c.args.bytes.now.items) ≡ 5 =
+    length-take-le 5 c.args.bytes.now.items c.requires.head in
+    omega (
+      arith,
+      ap length (c.spell.ensures.items ∙
+          ap (λ l. l ++ spelling c.args.group.now) c.truncate.ensures.items),
+      length-append (take 5 c.args.bytes.now.items) (spelling c.args.group.now),
+      five,
+      spelling_len c.args.group.now c.requires.undo,
+      c.requires.few,
+    )
 
 pub close_block-requires-clause-room : goal.close_block-requires-clause-room
 close_block-requires-clause-room c =
-    let five : length (take 5 c.args.bytes.now.items) ≡ 5 = length-take-le 5 c.args.bytes.now.items c.requires.head in
+    let five : length (take 5 c.args.bytes.now.items) ≡ 5 =
+    length-take-le 5 c.args.bytes.now.items c.requires.head in
     omega (
       arith,
-      ap length (c.spell.ensures.items ∙ ap (λ l. l ++ spelling c.args.group.now) c.truncate.ensures.items),
+      ap length (c.spell.ensures.items ∙
+          ap (λ l. l ++ spelling c.args.group.now) c.truncate.ensures.items),
       length-append (take 5 c.args.bytes.now.items) (spelling c.args.group.now),
       five,
       spelling_len c.args.group.now c.requires.undo,
@@ -29,9 +41,25 @@ close_block-requires-clause-room c =
 
 pub returns-clause-block : goal.returns-clause-block
 returns-clause-block c =
-    let five : length (take 5 c.args.bytes.now.items) ≡ 5 = length-take-le 5 c.args.bytes.now.items c.requires.head in
-    let is : c.spell.new.bytes.items ≡ take 5 c.args.bytes.now.items ++ spelling c.args.group.now = c.spell.ensures.items ∙ ap (λ l. l ++ spelling c.args.group.now) c.truncate.ensures.items in
-    let size : length c.spell.new.bytes.items ≡ 5 + length (spelling c.args.group.now) = ap length is ∙ length-append (take 5 c.args.bytes.now.items) (spelling c.args.group.now) ∙ ap (λ n. n + length (spelling c.args.group.now)) five in
+    let five : length (take 5 c.args.bytes.now.items) ≡ 5 =
+    length-take-le 5 c.args.bytes.now.items c.requires.head in
+    let is : c.spell.new.bytes.items ≡ take 5 c.args.bytes.now.items ++ spelling c.args.group.now =
+    c.spell.ensures.items ∙ ap (λ l. l ++ spelling c.args.group.now) c.truncate.ensures.items in
+    let size : length c.spell.new.bytes.items ≡ 5 + length (spelling c.args.group.now) =
+    ap length is ∙ length-append (take 5 c.args.bytes.now.items) (spelling c.args.group.now) ∙
+    ap (λ n. n + length (spelling c.args.group.now)) five in
     let nine = spelling_len c.args.group.now c.requires.undo in
-    let room : length c.spell.new.bytes.items < vec_capacity c.spell.new.bytes = omega (arith, size, nine, c.requires.few, c.requires.room, c.truncate.ensures.capacity, c.spell.ensures.capacity) in
-    whole c.spell.new.bytes.items c.close_block.new.bytes.items (vec_capacity c.spell.new.bytes) c.args.group.now (spelled_draft c.args.group.now c.args.bytes.now.items c.spell.new.bytes.items (vec_capacity c.spell.new.bytes) five is room) c.requires.some (omega (arith, nine, c.requires.few)) c.close_block.ensures.block
+    let room : length c.spell.new.bytes.items < vec_capacity c.spell.new.bytes =
+    omega (
+      arith,
+      size,
+      nine,
+      c.requires.few,
+      c.requires.room,
+      c.truncate.ensures.capacity,
+      c.spell.ensures.capacity,
+    ) in
+    whole c.spell.new.bytes.items c.close_block.new.bytes.items (vec_capacity c.spell.new.bytes)
+    c.args.group.now (spelled_draft c.args.group.now c.args.bytes.now.items
+    c.spell.new.bytes.items (vec_capacity c.spell.new.bytes) five is room) c.requires.some
+    (omega (arith, nine, c.requires.few)) c.close_block.ensures.block

@@ -4,7 +4,8 @@ use Rattle.undoing.proofs.UndoLemmas.{IsTakingBack}
 use Rattle.undoing.proofs.undoing.undo_one.Given as goal
 
 abbrev pub invariant-loop-machine : goal.invariant-loop-machine
-invariant-loop-machine l = IsTakingBack l.fn.number l.fn.machine l.machine l.fn.records.items l.records.items
+invariant-loop-machine l = IsTakingBack l.fn.number l.fn.machine l.machine l.fn.records.items
+    l.records.items
 
 abbrev pub decreases-loop-machine : goal.decreases-loop-machine
 decreases-loop-machine l = length (calls_of (own l.fn.number l.machine.entries))

@@ -8,4 +8,5 @@ abbrev pub invariant-loop-step : goal.invariant-loop-step
 invariant-loop-step g l =
     (length l.answers.items ≡ l.step-index)
     × (length l.steps ≤ vec_capacity l.answers)
-    × Leads (TakesStep g.D.Disk) (zip (take l.step-index l.steps) l.answers.items) l.fn.world l.world
+    × Leads (TakesStep g.D.Disk) (zip (take l.step-index l.steps) l.answers.items) l.fn.world
+    l.world

@@ -8,8 +8,12 @@ loop-hold-preserved c =
     let i = c.loop-hold.hold-index in
     elim c.if-blocks.branch [
       | then-blocks w ↦ rw (w.least-is, w.least_with-least.ensures)
-          (step_blocked c.args.owner c.args.col c.args.need.now items i _ c.loop-hold-test.true c.loop-hold.least (c.blocks-in-loop-hold.ensures.0 w.if-blocks.true) c.loop-hold.invariant)
+          (step_blocked c.args.owner c.args.col c.args.need.now items i _ c.loop-hold-test.true
+          c.loop-hold.least (c.blocks-in-loop-hold.ensures.0 w.if-blocks.true)
+          c.loop-hold.invariant)
       | else-blocks w ↦ rw w.least-is
-          (step_free c.args.owner c.args.col c.args.need.now items i _ c.loop-hold-test.true c.loop-hold.least
-          (λ b. let yes = c.blocks-in-loop-hold.ensures.1 b in let no = w.if-blocks.false in cc) c.loop-hold.invariant)
+          (step_free c.args.owner c.args.col c.args.need.now items i _ c.loop-hold-test.true
+          c.loop-hold.least
+          (λ b. let yes = c.blocks-in-loop-hold.ensures.1 b in let no = w.if-blocks.false in cc)
+          c.loop-hold.invariant)
     ]

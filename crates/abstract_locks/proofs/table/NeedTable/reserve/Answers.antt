@@ -9,13 +9,15 @@ returns-in_err-reserve-clause-rooms c =
     let new = c.reserve.new.self in
     let len = c.reserve.ensures.len in
     let more = c.reserve.ensures.capacity in
-    rw (← c.self.view_is) (room_stays (vec_capacity old - vec_len old) (vec_capacity new - vec_len new) (omega arith))
+    rw (← c.self.view_is) (room_stays (vec_capacity old - vec_len old)
+    (vec_capacity new - vec_len new) (omega arith))
 
 pub returns-in_err-reserve-clause-succeeds : goal.returns-in_err-reserve-clause-succeeds
 returns-in_err-reserve-clause-succeeds c room =
     let old = c.self.inside.holds in
     let full = c.in_err-reserve.ensures.full in
-    absurd (no_room (vec_capacity old - vec_len old) c.args.col (omega arith) (subst (λ t. HasRoom t c.args.col) (sym c.self.view_is) room))
+    absurd (no_room (vec_capacity old - vec_len old) c.args.col (omega arith)
+    (subst (λ t. HasRoom t c.args.col) (sym c.self.view_is) room))
 
 pub returns-clause-room : goal.returns-clause-room
 returns-clause-room c =
@@ -30,4 +32,5 @@ returns-clause-rooms c =
     let new = c.reserve.new.self in
     let len = c.reserve.ensures.len in
     let more = c.reserve.ensures.capacity in
-    rw (← c.self.view_is) (room_stays (vec_capacity old - vec_len old) (vec_capacity new - vec_len new) (omega arith))
+    rw (← c.self.view_is) (room_stays (vec_capacity old - vec_len old)
+    (vec_capacity new - vec_len new) (omega arith))

@@ -6,12 +6,22 @@ use Rattle.blocks.proofs.draft.Draft.offer.Goals as goal
 
 pub invariant_of-block : goal.invariant_of-block
 invariant_of-block g c =
-    let same : noted_records c.self.inside.noted ≡ c.args.self.records = ap (λ d. d.records) c.self.view_is in
-    let block = whole c.self.inside.bytes.items _ _ (noted_records c.self.inside.noted) c.self.invariant.0 (omega (arith, ap length same, c.requires.some)) (omega (arith, ap (λ rs. length (spelling rs)) same, c.requires.short)) c.close_block.ensures.block in
+    let same : noted_records c.self.inside.noted ≡ c.args.self.records =
+    ap (λ d. d.records) c.self.view_is in
+    let block = whole c.self.inside.bytes.items _ _ (noted_records c.self.inside.noted)
+    c.self.invariant.0 (omega (arith, ap length same, c.requires.some))
+    (omega (arith, ap (λ rs. length (spelling rs)) same, c.requires.short))
+    c.close_block.ensures.block in
     record { whole = block_whole _ _ block }
 
 pub returns-in-Ok-clause-handed : goal.returns-in-Ok-clause-handed
 returns-in-Ok-clause-handed g c =
-    let same : noted_records c.self.inside.noted ≡ c.args.self.records = ap (λ d. d.records) c.self.view_is in
-    let block = whole c.self.inside.bytes.items _ _ (noted_records c.self.inside.noted) c.self.invariant.0 (omega (arith, ap length same, c.requires.some)) (omega (arith, ap (λ rs. length (spelling rs)) same, c.requires.short)) c.close_block.ensures.block in
-    offered _ _ _ _ _ _ _ same c.in-Ok.ensures.taken block (ap (λ n. c.args.handed.now.end + n) c.self.invariant.1) (ap (λ n. c.args.handed.now.place + n) c.self.invariant.2) refl
+    let same : noted_records c.self.inside.noted ≡ c.args.self.records =
+    ap (λ d. d.records) c.self.view_is in
+    let block = whole c.self.inside.bytes.items _ _ (noted_records c.self.inside.noted)
+    c.self.invariant.0 (omega (arith, ap length same, c.requires.some))
+    (omega (arith, ap (λ rs. length (spelling rs)) same, c.requires.short))
+    c.close_block.ensures.block in
+    offered _ _ _ _ _ _ _ same c.in-Ok.ensures.taken block
+    (ap (λ n. c.args.handed.now.end + n) c.self.invariant.1)
+    (ap (λ n. c.args.handed.now.place + n) c.self.invariant.2) refl

@@ -8,20 +8,44 @@ use Rattle.blocks.proofs.pending.Pending.cut.Goals as goal
 pub offer-requires-clause-place : goal.offer-requires-clause-place
 offer-requires-clause-place g c =
     let seen = c.self.view_is in
-    omega (arith, c.requires.place, ap (λ w. places (waiting w)) seen, ap (λ w. w.handed.place) seen, first_places c.self.inside.full.items c.pop_front.new.self.items c.in-Some.first c.self.inside.last.records c.in-Some.ensures.items)
+    omega (
+      arith,
+      c.requires.place,
+      ap (λ w. places (waiting w)) seen,
+      ap (λ w. w.handed.place) seen,
+      first_places c.self.inside.full.items
+          c.pop_front.new.self.items c.in-Some.first c.self.inside.last.records
+          c.in-Some.ensures.items,
+    )
 
 pub returns-in-Some : goal.returns-in-Some
-returns-in-Some g c = rw (← c.self.view_is) (first_over _ c.in-Some.first _ c.self.inside.count _ _ _ c.self.invariant c.in-Some.ensures.items c.in_default-offer.ensures.handed)
+returns-in-Some g c = rw (← c.self.view_is)
+    (first_over _ c.in-Some.first _ c.self.inside.count _ _ _ c.self.invariant
+    c.in-Some.ensures.items c.in_default-offer.ensures.handed)
 
 pub returns : goal.returns
 returns g c =
     let last = c.self.inside.last in
     let after = c.pop_front.new.self.items in
-    let same : c.replace-last.result.records ≡ last.records = ap (λ d. d.records) c.replace-last.ensures.value in
-    let left : after ≡ [] = none_long after (omega (arith, c.in_default.ensures.cases.1, c.pop_front.new.self.ok.0)) in
+    let same : c.replace-last.result.records ≡ last.records =
+    ap (λ d. d.records) c.replace-last.ensures.value in
+    let left : after ≡ [] = none_long after
+    (omega (arith, c.in_default.ensures.cases.1, c.pop_front.new.self.ok.0)) in
     let none : c.self.inside.full.items ≡ [] = c.in_default.ensures.items ∙ left in
-    let empty : c.replace-last.new.dest.records ≡ [] = ap (λ d. d.records) c.replace-last.ensures.after ∙ c.new.ensures in
-    let some : 0 < length last.records = some_long last.records (λ e. let yes = c.is_empty.ensures.1 e in let no' = c.if-is_empty.false in cc) in
+    let empty : c.replace-last.new.dest.records ≡ [] =
+    ap (λ d. d.records) c.replace-last.ensures.after ∙ c.new.ensures in
+    let some : 0 < length last.records =
+    some_long last.records (λ e. let yes = c.is_empty.ensures.1 e in
+    let no' = c.if-is_empty.false in cc) in
     rw (← c.self.view_is)
-    (last_over (record { full = c.self.inside.full.items; last = last; spare = c.self.inside.spare; most = 0; handed = c.self.inside.handed }) _ _ _ after c.replace-last.new.dest none some left empty
-    (subst (λ rs. IsOffered rs c.self.inside.handed c.offer-2.new.handed (g.O.Outbox.waiting c.args.out.now) (g.O.Outbox.waiting c.offer-2.new.out)) same c.in_default-offer-2.ensures.handed))
+    (last_over (record {
+      full = c.self.inside.full.items;
+      last = last;
+      spare = c.self.inside.spare;
+      most = 0;
+      handed = c.self.inside.handed;
+    }) _ _ _ after c.replace-last.new.dest none some
+    left empty
+    (subst (λ rs. IsOffered rs c.self.inside.handed c.offer-2.new.handed
+    (g.O.Outbox.waiting c.args.out.now) (g.O.Outbox.waiting c.offer-2.new.out)) same
+    c.in_default-offer-2.ensures.handed))

@@ -9,7 +9,12 @@ pub invariant_of-self : goal.invariant_of-self
 invariant_of-self c =
     let fits = c.fits-fits.ensures.0 c.if-fits.true in
     counted_more _ c.push.new.self c.args.entry c.self.inside.count c.self.invariant c.push.ensures
-    (omega (arith, fits, ap (λ w. length (spelling w.last.records)) c.self.view_is, c.encoded_len.ensures.len))
+    (omega (
+      arith,
+      fits,
+      ap (λ w. length (spelling w.last.records)) c.self.view_is,
+      c.encoded_len.ensures.len,
+    ))
 
 pub invariant_of-self-2 : goal.invariant_of-self-2
 invariant_of-self-2 c =
@@ -18,15 +23,34 @@ invariant_of-self-2 c =
     let bound = c.encoded_len.ensures.bound in
     let inside = c.self.inside in
     let seen = ap (λ w. length (spelling w.last.records)) c.self.view_is in
-    let one = ap (λ d. d.records) c.replace-draft.ensures.after ∙ ap (λ d. d.records) c.replace-next.ensures.value ∙ c.push-2.ensures ∙ ap (λ l. l ++ entry ∷ []) c.self.invariant.unused in
-    let w : Waiting = record { full = inside.full.items; last = inside.last; spare = inside.spare; most = deque_capacity inside.full; handed = inside.handed } in
-    counted_next w _ _ c.replace-draft.new.dest c.replace-next.new.dest _ c.push_back_reserved.ensures.items (ap (λ d. d.records) c.replace-draft.ensures.value) entry inside.count c.self.invariant one
+    let one = ap (λ d. d.records) c.replace-draft.ensures.after ∙
+    ap (λ d. d.records) c.replace-next.ensures.value ∙ c.push-2.ensures ∙
+    ap (λ l. l ++ entry ∷ []) c.self.invariant.unused in
+    let w : Waiting = record {
+      full = inside.full.items;
+      last = inside.last;
+      spare = inside.spare;
+      most = deque_capacity inside.full;
+      handed = inside.handed;
+    } in
+    counted_next w _ _ c.replace-draft.new.dest c.replace-next.new.dest _
+    c.push_back_reserved.ensures.items (ap (λ d. d.records) c.replace-draft.ensures.value) entry
+    inside.count c.self.invariant one
     (ap (λ d. d.records) c.replace-next.ensures.after ∙ c.new.ensures)
     (omega (arith, len, bound))
-    (λ suits. let yes = c.fits-fits.ensures.1 (omega (arith, suits, seen, len)) in let no' = c.if-fits.false in cc)
+    (λ suits. let yes = c.fits-fits.ensures.1 (omega (arith, suits, seen, len)) in
+    let no' = c.if-fits.false in cc)
 
 pub returns-clause-freezes : goal.returns-clause-freezes
 returns-clause-freezes c =
     let inside = c.self.inside in
-    let w : Waiting = record { full = inside.full.items; last = inside.last; spare = inside.spare; most = deque_capacity inside.full; handed = inside.handed } in
-    filled_ends w _ _ c.replace-draft.new.dest c.replace-next.new.dest 0 c.push_back_reserved.ensures.items (ap (λ d. d.records) c.replace-draft.ensures.value) refl ∙ ap freezes c.self.view_is
+    let w : Waiting = record {
+      full = inside.full.items;
+      last = inside.last;
+      spare = inside.spare;
+      most = deque_capacity inside.full;
+      handed = inside.handed;
+    } in
+    filled_ends w _ _ c.replace-draft.new.dest c.replace-next.new.dest 0
+    c.push_back_reserved.ensures.items (ap (λ d. d.records) c.replace-draft.ensures.value)
+    refl ∙ ap freezes c.self.view_is

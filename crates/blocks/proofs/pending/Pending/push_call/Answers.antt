@@ -10,27 +10,51 @@ pub invariant_of-self : goal.invariant_of-self
 invariant_of-self c =
     let a = c.args in
     let fits = c.fits-fits.ensures.0 c.if-fits.true in
-    let len = call_size a.number a.at a.asked.now a.answer.now _ a.back.now c.call_len.result c.call_len.ensures.len c.as_ref.ensures.value in
-    counted_more _ c.push_call.new.self (Record.Call (call_record a.number a.at a.asked.now a.answer.now a.back.now)) c.self.inside.count c.self.invariant c.push_call.ensures
+    let len = call_size a.number a.at a.asked.now a.answer.now _ a.back.now c.call_len.result
+    c.call_len.ensures.len c.as_ref.ensures.value in
+    counted_more _ c.push_call.new.self
+    (Record.Call (call_record a.number a.at a.asked.now a.answer.now a.back.now))
+    c.self.inside.count c.self.invariant c.push_call.ensures
     (omega (arith, fits, ap (λ w. length (spelling w.last.records)) c.self.view_is, len))
 
 pub invariant_of-self-2 : goal.invariant_of-self-2
 invariant_of-self-2 c =
     let a = c.args in
-    let entry : Record = Record.Call (call_record a.number a.at a.asked.now a.answer.now a.back.now) in
-    let len = call_size a.number a.at a.asked.now a.answer.now _ a.back.now c.call_len.result c.call_len.ensures.len c.as_ref.ensures.value in
+    let entry : Record = Record.Call
+    (call_record a.number a.at a.asked.now a.answer.now a.back.now) in
+    let len = call_size a.number a.at a.asked.now a.answer.now _ a.back.now c.call_len.result
+    c.call_len.ensures.len c.as_ref.ensures.value in
     let bound = c.call_len.ensures.bound in
     let inside = c.self.inside in
     let seen = ap (λ w. length (spelling w.last.records)) c.self.view_is in
-    let one = ap (λ d. d.records) c.replace-draft.ensures.after ∙ ap (λ d. d.records) c.replace-next.ensures.value ∙ c.push_call-2.ensures ∙ ap (λ l. l ++ entry ∷ []) c.self.invariant.unused in
-    let w : Waiting = record { full = inside.full.items; last = inside.last; spare = inside.spare; most = deque_capacity inside.full; handed = inside.handed } in
-    counted_next w _ _ c.replace-draft.new.dest c.replace-next.new.dest _ c.push_back_reserved.ensures.items (ap (λ d. d.records) c.replace-draft.ensures.value) entry inside.count c.self.invariant one
+    let one = ap (λ d. d.records) c.replace-draft.ensures.after ∙
+    ap (λ d. d.records) c.replace-next.ensures.value ∙ c.push_call-2.ensures ∙
+    ap (λ l. l ++ entry ∷ []) c.self.invariant.unused in
+    let w : Waiting = record {
+      full = inside.full.items;
+      last = inside.last;
+      spare = inside.spare;
+      most = deque_capacity inside.full;
+      handed = inside.handed;
+    } in
+    counted_next w _ _ c.replace-draft.new.dest c.replace-next.new.dest _
+    c.push_back_reserved.ensures.items (ap (λ d. d.records) c.replace-draft.ensures.value) entry
+    inside.count c.self.invariant one
     (ap (λ d. d.records) c.replace-next.ensures.after ∙ c.new.ensures)
     (omega (arith, len, bound))
-    (λ suits. let yes = c.fits-fits.ensures.1 (omega (arith, suits, seen, len)) in let no' = c.if-fits.false in cc)
+    (λ suits. let yes = c.fits-fits.ensures.1 (omega (arith, suits, seen, len)) in
+    let no' = c.if-fits.false in cc)
 
 pub returns-clause-freezes : goal.returns-clause-freezes
 returns-clause-freezes c =
     let inside = c.self.inside in
-    let w : Waiting = record { full = inside.full.items; last = inside.last; spare = inside.spare; most = deque_capacity inside.full; handed = inside.handed } in
-    filled_ends w _ _ c.replace-draft.new.dest c.replace-next.new.dest 0 c.push_back_reserved.ensures.items (ap (λ d. d.records) c.replace-draft.ensures.value) refl ∙ ap freezes c.self.view_is
+    let w : Waiting = record {
+      full = inside.full.items;
+      last = inside.last;
+      spare = inside.spare;
+      most = deque_capacity inside.full;
+      handed = inside.handed;
+    } in
+    filled_ends w _ _ c.replace-draft.new.dest c.replace-next.new.dest 0
+    c.push_back_reserved.ensures.items (ap (λ d. d.records) c.replace-draft.ensures.value)
+    refl ∙ ap freezes c.self.view_is

@@ -1,6 +1,5 @@
 use Rattle.std.proofs.Common.{sym, ◌∙◌, ap}
-use Rattle.catalog.specs.Holdings.{content_of}
-use Rattle.catalog.specs.Loading.{filled}
+use Rattle.catalog.specs.Holdings.{content_of, filled}
 use Rattle.catalog.proofs.Orders.{filled-push}
 use Rattle.catalog.proofs.holding.Holding.of_items.Goals as goal
 

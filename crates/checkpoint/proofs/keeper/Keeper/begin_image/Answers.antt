@@ -7,6 +7,7 @@ returns-clause-answer g c =
     rw (← c.self.view_is) (
       c.if-self.false,
       none_is _ c.is_some.result c.is_some.ensures c.if-is_some.false,
-      not_too_long c.is_too_long.result _ c.size.result c.args.image.blocks.items c.size.ensures c.is_too_long.ensures c.if-is_too_long.false,
+      not_too_long c.is_too_long.result _ c.size.result c.args.image.blocks.items c.size.ensures
+          c.is_too_long.ensures c.if-is_too_long.false,
       (c.other_area-area.result, c.other_area-area.ensures, refl),
     )

@@ -6,7 +6,8 @@ use Rattle.collections.proofs.map.MapCol.run.Goals as goal
 pub returns-in_ok-insert-in-Put-default-clause-ok : goal.returns-in_ok-insert-in-Put-default-clause-ok
 returns-in_ok-insert-in-Put-default-clause-ok c =
     rw c.in-Put-default.is-0
-    (table_of-insert c.self.inside.values c.insert.new.self _ _ c.in_ok-insert-in-Put-default.ensures.updates
+    (table_of-insert c.self.inside.values c.insert.new.self _ _
+    c.in_ok-insert-in-Put-default.ensures.updates
     ∙ ap (λ m. map.insert m c.in-Put-default.key c.in_ok-copy-in-Put-default.field-0) c.self.view_is
     ∙ ap (map.insert c.args.self.now c.in-Put-default.key) c.in_ok-copy-in-Put-default.ensures)
 

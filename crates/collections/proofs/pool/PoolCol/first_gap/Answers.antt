@@ -15,13 +15,15 @@ loop-x-init c =
           ap (λ s. set.contains s q) (sym c.self.view_is)
           ∙ set.contains-from_list_nat c.self.inside.taken.keys q
           ∙ ap (λ l. is_among l q) (sym gives.0);
-      room = let e : length ks ≡ length c.self.inside.taken.keys = ap length gives.0 in let l : length c.self.inside.taken.keys < 2 ^ 63 = gives.1 in omega arith;
+      room = let e : length ks ≡ length c.self.inside.taken.keys = ap length gives.0 in
+          let l : length c.self.inside.taken.keys < 2 ^ 63 = gives.1 in omega arith;
     }
 
 pub returns-then-x-gap : goal.returns-then-x-gap
 returns-then-x-gap c =
     c.loop-x.invariant.members c.loop-x.gap (omega arith)
-    ∙ gap_at c.loop-x.x-iterator c.in-Some.x.now c.loop-x.gap c.next.new.self c.in-Some.ensures.steps c.loop-x.invariant.rises c.if-x-gap.true
+    ∙ gap_at c.loop-x.x-iterator c.in-Some.x.now c.loop-x.gap c.next.new.self
+    c.in-Some.ensures.steps c.loop-x.invariant.rises c.if-x-gap.true
 
 pub overflow_add-gap : goal.overflow_add-gap
 overflow_add-gap c = let l = c.loop-x.invariant.room in omega arith
@@ -33,10 +35,12 @@ loop-x-preserved c =
     let rest = c.next.new.self in
     let e : length ks ≡ length (c.in-Some.x.now ∷ rest) = ap length is in
     record {
-      rises = rises_next ks c.in-Some.x.now c.loop-x.gap rest is c.loop-x.invariant.rises c.if-x-gap.false;
+      rises = rises_next ks c.in-Some.x.now c.loop-x.gap rest is c.loop-x.invariant.rises
+          c.if-x-gap.false;
       members = λ q l.
           c.loop-x.invariant.members q (omega arith)
-          ∙ among_next ks c.in-Some.x.now c.loop-x.gap rest is c.loop-x.invariant.rises q c.if-x-gap.false l;
+          ∙ among_next ks c.in-Some.x.now c.loop-x.gap rest is c.loop-x.invariant.rises q
+          c.if-x-gap.false l;
       room = let l = c.loop-x.invariant.room in omega arith;
     }
 

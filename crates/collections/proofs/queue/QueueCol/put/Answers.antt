@@ -8,10 +8,12 @@ pub invariant_of-self-2 : goal.invariant_of-self-2
 invariant_of-self-2 c =
     rw c.in_ok-insert.ensures.items
     (falling-insert c.self.inside.items.items c.place_for-at.result _ c.self.invariant
-    (subst (λ l. IsPlaceFor l (record { 0 = (c.args.priority, c.args.tag) }) c.place_for-at.result) c.deref.ensures.value c.place_for-at.ensures))
+    (subst (λ l. IsPlaceFor l (record { 0 = (c.args.priority, c.args.tag) }) c.place_for-at.result)
+    c.deref.ensures.value c.place_for-at.ensures))
 
 pub returns-clause-ok : goal.returns-clause-ok
 returns-clause-ok c =
     rw c.in_ok-insert.ensures.items
-    (bag_of-insert c.self.inside.items.items c.place_for-at.result (record { 0 = (c.args.priority, c.args.tag) })
+    (bag_of-insert c.self.inside.items.items c.place_for-at.result
+    (record { 0 = (c.args.priority, c.args.tag) })
     ∙ ap (λ b. add b (c.args.priority, c.args.tag)) c.self.view_is)

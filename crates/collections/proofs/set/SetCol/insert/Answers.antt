@@ -4,4 +4,5 @@ use Rattle.collections.proofs.Trees.{set_of-insert}
 use Rattle.collections.proofs.set.SetCol.insert.Goals as goal
 
 pub returns-clause-ok : goal.returns-clause-ok
-returns-clause-ok c = set_of-insert _ _ _ c.in_ok-insert.ensures.updates ∙ ap (λ s. set.insert s c.args.element) c.self.view_is
+returns-clause-ok c = set_of-insert _ _ _ c.in_ok-insert.ensures.updates ∙
+    ap (λ s. set.insert s c.args.element) c.self.view_is

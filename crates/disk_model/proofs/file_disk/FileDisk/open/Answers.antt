@@ -1,4 +1,5 @@
-use Rattle.std.proofs.Common.{◌++◌, ℕ, List, false, replicate, length, refl, sym, ap, ◌∙◌, arith, length-append, subst}
+use Rattle.std.proofs.Common.{◌++◌, ℕ, List, false, replicate, length, refl, sym, ap, ◌∙◌, arith}
+use Rattle.std.proofs.Common.{length-append, subst}
 use Rattle.std.proofs.lemmas.List.{length-take-le, length-replicate}
 use Rattle.disk_model.specs.Marks.{Leaves}
 use Rattle.disk_model.specs.Events.{Event, padded, seen_of, marks_of}
@@ -10,12 +11,18 @@ returns-clause-content g c =
     let n = c.len-size.result in
     let content = g.S.Content.content in
     let opened = ap (λ (es : List Event). seen_of (padded content n) es) c.new.ensures in
-    opened ∙ ap (λ (k : ℕ). padded content k) (sym (ap length opened ∙ length-take-le n (content ++ replicate n 0) (omega (arith, length-append content (replicate n 0), length-replicate {A = ℕ} n 0))))
+    opened ∙ ap (λ (k : ℕ). padded content k)
+    (sym (ap length opened ∙ length-take-le n (content ++ replicate n 0)
+    (omega (arith, length-append content (replicate n 0), length-replicate {A = ℕ} n 0))))
 
 pub returns-clause-at_rest : goal.returns-clause-at_rest
 returns-clause-at_rest g c = λ d left.
     let n = c.len-size.result in
     let content = g.S.Content.content in
-    let now : Leaves (padded content n) (replicate n false) d = subst (λ (es : List Event). Leaves (seen_of (padded content n) es) (marks_of n es) d) c.new.ensures left in
-    leaves_only (padded content n) d (replicate n false) n refl (sym (length-take-le n (content ++ replicate n 0) (omega (arith, length-append content (replicate n 0), length-replicate {A = ℕ} n 0)))) now
+    let now : Leaves (padded content n) (replicate n false) d =
+    subst (λ (es : List Event). Leaves (seen_of (padded content n) es) (marks_of n es) d)
+    c.new.ensures left in
+    leaves_only (padded content n) d (replicate n false) n refl
+    (sym (length-take-le n (content ++ replicate n 0)
+    (omega (arith, length-append content (replicate n 0), length-replicate {A = ℕ} n 0)))) now
     ∙ sym (ap (λ (es : List Event). seen_of (padded content n) es) c.new.ensures)

@@ -5,9 +5,11 @@ use Rattle.disk_model.proofs.file_disk.FileDiskDisk.sync.Goals as goal
 pub returns-clause-durable : goal.returns-clause-durable
 returns-clause-durable g c =
     let d = c.args.self.now in
-    at_rest (padded g.S.Content.content d.size) d.size d.log.events c.note.new.self.events d.sized d.marked _ c.note.ensures c.if-not-ok.false
+    at_rest (padded g.S.Content.content d.size) d.size d.log.events c.note.new.self.events d.sized
+    d.marked _ c.note.ensures c.if-not-ok.false
 
 pub returns-clause-stop : goal.returns-clause-stop
 returns-clause-stop g c =
     let d = c.args.self.now in
-    sync_adds_nothing (padded g.S.Content.content d.size) d.size d.log.events c.note.new.self.events d.sized d.marked _ c.note.ensures c.if-not-ok.false
+    sync_adds_nothing (padded g.S.Content.content d.size) d.size d.log.events c.note.new.self.events
+    d.sized d.marked _ c.note.ensures c.if-not-ok.false

@@ -5,9 +5,11 @@ use Rattle.disk_model.proofs.file_disk.FileDiskDisk.write_at.Goals as goal
 pub returns-then-not-ok-clause-stop : goal.returns-then-not-ok-clause-stop
 returns-then-not-ok-clause-stop g c =
     let d = c.args.self.now in
-    after_write (padded g.S.Content.content d.size) d.size d.log.events c.note.new.self.events d.sized d.marked c.args.at c.args.bytes.now _ c.note.ensures c.requires
+    after_write (padded g.S.Content.content d.size) d.size d.log.events c.note.new.self.events
+    d.sized d.marked c.args.at c.args.bytes.now _ c.note.ensures c.requires
 
 pub returns-clause-stop : goal.returns-clause-stop
 returns-clause-stop g c =
     let d = c.args.self.now in
-    after_write (padded g.S.Content.content d.size) d.size d.log.events c.note.new.self.events d.sized d.marked c.args.at c.args.bytes.now _ c.note.ensures c.requires
+    after_write (padded g.S.Content.content d.size) d.size d.log.events c.note.new.self.events
+    d.sized d.marked c.args.at c.args.bytes.now _ c.note.ensures c.requires

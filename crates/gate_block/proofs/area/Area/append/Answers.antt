@@ -8,15 +8,24 @@ use Rattle.gate_block.proofs.area.Area.append.Goals as goal
 pub returns-clause-kept : goal.returns-clause-kept
 returns-clause-kept g c = λ bodies body is ready.
     let a = c.args.self.now in
-    let fine : is_err c.write_block.result ≡ false = sym c.is_err.ensures.value ∙ c.if-is_err.false in
-    let kept : HoldsRow g.D.Disk.seen g.D.Disk.may_leave a c.write_block.new.disk (bodies ++ body ∷ []) = use_ok _ c.write_block.result fine (c.write_block.ensures.kept bodies body is ready) in
+    let fine : is_err c.write_block.result ≡ false =
+    sym c.is_err.ensures.value ∙ c.if-is_err.false in
+    let kept : HoldsRow g.D.Disk.seen g.D.Disk.may_leave a c.write_block.new.disk
+    (bodies ++ body ∷ []) = use_ok _ c.write_block.result fine
+    (c.write_block.ensures.kept bodies body is ready) in
     record {
       holds = kept.holds;
-      position = omega (arith, ready.position, ap length is.is, length-row_push bodies body c.args.block.now is);
+      position = omega (
+        arith,
+        ready.position,
+        ap length is.is,
+        length-row_push bodies body c.args.block.now is,
+      );
       at_rest = λ d left. ap (λ (l : List ℕ). bytes_of a l) (kept.at_rest d left);
     }
 
 pub returns-clause-counts : goal.returns-clause-counts
 returns-clause-counts g c = λ bodies body is holds here.
-    let fine : is_err c.write_block.result ≡ false = sym c.is_err.ensures.value ∙ c.if-is_err.false in
+    let fine : is_err c.write_block.result ≡ false =
+    sym c.is_err.ensures.value ∙ c.if-is_err.false in
     use_ok _ c.write_block.result fine (c.write_block.ensures.counts bodies body is holds here)

@@ -8,12 +8,16 @@ use Rattle.gate_block.proofs.area.Area.lay.Goals as goal
 pub returns-then-is_err-clause-any_moment_elsewhere : goal.returns-then-is_err-clause-any_moment_elsewhere
 returns-then-is_err-clause-any_moment_elsewhere g c =
     let disk = c.args.disk.now in
-    leaves_elsewhere g.D.Disk.moment g.D.Disk.left_since (g.D.Disk.may_leave disk) _ disk c.write_at.new.self c.args.self.now (length c.args.block.now) (has_room _ _ c.in_ok-check_place.ensures.1) (g.met.D.Disk.only_now disk) c.write_at.ensures.time c.write_at.ensures.stop
+    leaves_elsewhere g.D.Disk.moment g.D.Disk.left_since (g.D.Disk.may_leave disk) _ disk
+    c.write_at.new.self c.args.self.now (length c.args.block.now)
+    (has_room _ _ c.in_ok-check_place.ensures.1) (g.met.D.Disk.only_now disk)
+    c.write_at.ensures.time c.write_at.ensures.stop
 
 pub returns-then-is_err-clause-elsewhere : goal.returns-then-is_err-clause-elsewhere
 returns-then-is_err-clause-elsewhere g c =
     let a = c.args.self.now in
-    outside a.base a.size (a.base + a.position) a.position (length c.args.block.now) refl (has_room _ _ c.in_ok-check_place.ensures.1) _ _ c.write_at.ensures.seen
+    outside a.base a.size (a.base + a.position) a.position (length c.args.block.now) refl
+    (has_room _ _ c.in_ok-check_place.ensures.1) _ _ c.write_at.ensures.seen
 
 pub returns-clause-laid : goal.returns-clause-laid
 returns-clause-laid g c = λ bodies body is laid.
@@ -22,16 +26,27 @@ returns-clause-laid g c = λ bodies body is laid.
     let fine : is_err c.write_at.result ≡ false = sym c.is_err.ensures.value ∙ c.if-is_err.false in
     let written = use_ok _ c.write_at.result fine c.write_at.ensures.written in
     record {
-      position = omega (arith, laid.position, ap length is.is, length-row_push bodies body block is);
-      holds = λ _. lays a.base a.size a.position bodies body block _ _ is (has_room _ _ c.in_ok-check_place.ensures.1) c.requires.disk laid.position laid.holds written c.write_at.ensures.seen;
+      position = omega (
+        arith,
+        laid.position,
+        ap length is.is,
+        length-row_push bodies body block is,
+      );
+      holds = λ _. lays a.base a.size a.position bodies body block _ _ is
+          (has_room _ _ c.in_ok-check_place.ensures.1) c.requires.disk laid.position laid.holds
+          written c.write_at.ensures.seen;
     }
 
 pub returns-clause-any_moment_elsewhere : goal.returns-clause-any_moment_elsewhere
 returns-clause-any_moment_elsewhere g c =
     let disk = c.args.disk.now in
-    leaves_elsewhere g.D.Disk.moment g.D.Disk.left_since (g.D.Disk.may_leave disk) _ disk c.write_at.new.self c.args.self.now (length c.args.block.now) (has_room _ _ c.in_ok-check_place.ensures.1) (g.met.D.Disk.only_now disk) c.write_at.ensures.time c.write_at.ensures.stop
+    leaves_elsewhere g.D.Disk.moment g.D.Disk.left_since (g.D.Disk.may_leave disk) _ disk
+    c.write_at.new.self c.args.self.now (length c.args.block.now)
+    (has_room _ _ c.in_ok-check_place.ensures.1) (g.met.D.Disk.only_now disk)
+    c.write_at.ensures.time c.write_at.ensures.stop
 
 pub returns-clause-elsewhere : goal.returns-clause-elsewhere
 returns-clause-elsewhere g c =
     let a = c.args.self.now in
-    outside a.base a.size (a.base + a.position) a.position (length c.args.block.now) refl (has_room _ _ c.in_ok-check_place.ensures.1) _ _ c.write_at.ensures.seen
+    outside a.base a.size (a.base + a.position) a.position (length c.args.block.now) refl
+    (has_room _ _ c.in_ok-check_place.ensures.1) _ _ c.write_at.ensures.seen

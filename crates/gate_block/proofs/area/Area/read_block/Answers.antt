@@ -1,7 +1,9 @@
 use Rattle.std.proofs.Common.{◌≡◌, ◌+◌, List, ℕ, take, drop, refl, sym, ◌∙◌, ap, arith}
 use Rattle.gate_block.proofs.Reading.{stands, broken}
 use Rattle.gate_block.proofs.area.Area.read_block.Goals as goal
-use Rattle.gate_block.proofs.area.Area.read_block.Goals.{then-n-eq0-via-then-n-eq0, then-n-eq0-via-else-n-eq0+then-n, then-n-eq0-via-else-n-eq0+else-n+then-n-room}
+use Rattle.gate_block.proofs.area.Area.read_block.Goals.{then-n-eq0-via-then-n-eq0}
+use Rattle.gate_block.proofs.area.Area.read_block.Goals.{then-n-eq0-via-else-n-eq0+then-n}
+use Rattle.gate_block.proofs.area.Area.read_block.Goals.{then-n-eq0-via-else-n-eq0+else-n+then-n-room}
 
 pub returns-then-n-eq0-clause-error : goal.returns-then-n-eq0-clause-error
 returns-then-n-eq0-clause-error g c = record {
@@ -11,8 +13,10 @@ returns-then-n-eq0-clause-error g c = record {
       let s = g.D.Disk.seen c.args.disk.now in
       let gate = a.base + a.position in
       let one_is = c.in_ok-read.ensures.bytes (c.read-2.ensures.honest honest) in
-      let four_is = c.in_ok-read-2.ensures.bytes honest ∙ ap (λ (l : List ℕ). take 4 (drop (gate + 1) l)) c.read.ensures.reads.same in
-      broken a.base a.size a.position s c.requires gate (gate + 1) c.read.new.out c.read-2.new.out refl refl (omega arith) one_is four_is c.if-open.false
+      let four_is = c.in_ok-read-2.ensures.bytes honest ∙
+      ap (λ (l : List ℕ). take 4 (drop (gate + 1) l)) c.read.ensures.reads.same in
+      broken a.base a.size a.position s c.requires gate (gate + 1) c.read.new.out c.read-2.new.out
+      refl refl (omega arith) one_is four_is c.if-open.false
       (λ n is low high room.
       let n_is : n ≡ c.number-n.result = is ∙ sym c.number-n.ensures.is in
       elim c.then-n-eq0.branch [
@@ -29,6 +33,12 @@ returns-clause-found g c = λ honest.
     let gate = a.base + a.position in
     let honest2 = c.read_bytes.ensures.honest honest in
     let one_is = c.in_ok-read.ensures.bytes (c.read-2.ensures.honest honest2) in
-    let four_is = c.in_ok-read-2.ensures.bytes honest2 ∙ ap (λ (l : List ℕ). take 4 (drop (gate + 1) l)) c.read.ensures.reads.same in
-    let body_is = c.in_ok-read_bytes.ensures.bytes honest ∙ ap (λ (l : List ℕ). take c.number-n.result (drop (gate + 5) l)) (c.read-2.ensures.reads.same ∙ c.read.ensures.reads.same) in
-    stands a.base a.size a.position s c.requires gate (gate + 1) (gate + 5) c.number-n.result c.read.new.out c.read-2.new.out c.in_ok-read_bytes.field-0.items refl refl refl one_is four_is body_is c.if-open.false c.number-n.ensures.spelled (omega arith) (omega arith) (omega arith)
+    let four_is = c.in_ok-read-2.ensures.bytes honest2 ∙
+    ap (λ (l : List ℕ). take 4 (drop (gate + 1) l)) c.read.ensures.reads.same in
+    let body_is = c.in_ok-read_bytes.ensures.bytes honest ∙
+    ap (λ (l : List ℕ). take c.number-n.result (drop (gate + 5) l))
+    (c.read-2.ensures.reads.same ∙ c.read.ensures.reads.same) in
+    stands a.base a.size a.position s c.requires gate (gate + 1) (gate + 5) c.number-n.result
+    c.read.new.out c.read-2.new.out c.in_ok-read_bytes.field-0.items refl refl refl one_is
+    four_is body_is c.if-open.false c.number-n.ensures.spelled (omega arith) (omega arith)
+    (omega arith)

@@ -2,4 +2,5 @@ use Rattle.loader.proofs.LoadAlikes.{live_answers_alike}
 use Rattle.loader.proofs.loader.Loader.hold.Goals as goal
 
 pub returns : goal.returns
-returns g c = live_answers_alike g.B.Boosted.answers g.B.Boosted.belongs g.B.Boosted.need c.args.self.now c.args.entry c.step.result c.step.new.self c.step.ensures
+returns g c = live_answers_alike g.B.Boosted.meaning c.args.self.now c.args.entry c.step.result
+    c.step.new.self c.step.ensures

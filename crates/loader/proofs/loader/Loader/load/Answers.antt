@@ -2,43 +2,57 @@ use Rattle.std.proofs.Common.{Ok, refl, sym, ◌∙◌, ap, subst}
 use Rattle.std.specs.List.{AllByRecursion}
 use Rattle.record_format.specs.Reached.{IsReached}
 use Rattle.record_format.specs.Short.{AreShort}
-use Rattle.records.proofs.ShortValues.{short_loaded}
+use Rattle.records.proofs.Items.{short_loaded}
 use Rattle.machine.specs.Machine.{State}
 use Rattle.machine.specs.Machines.{unmade}
 use Rattle.loader.specs.Loading.{LoadRow, LoadAnswers}
 use Rattle.loader.proofs.LoadRows.{read_unreached, read_answered, read_refused}
 use Rattle.loader.proofs.Loaded.{read_kept}
-use Rattle.machine.specs.Views.{state_of}
+use Rattle.machine.specs.Ledgers.{needs_of, log_of}
+use Rattle.machine.specs.Views.{state_with}
 use Rattle.machine.proofs.BookLaws.{BookLaws, book_laws}
 use Rattle.loader.proofs.loader.Loader.load.Given.{Over}
 use Rattle.loader.proofs.loader.Loader.load.Goals as goal
 use Rattle.loader.proofs.loader.Loader.load.Goals.{in-Ok, in-Err}
 
 -- the laws of the collections
-laws : (g : Over) → BookLaws g.B.Boosted.answers g.B.Boosted.leaves g.B.Parts.makes g.B.Boosted.need g.B.Boosted.inverse g.B.Parts.names g.B.Boosted.within (λ s. AreShort (g.B.Coded.collections s))
-laws g =
-    book_laws g.B.Boosted.answers g.B.Boosted.leaves g.B.Parts.makes g.B.Boosted.need g.B.Boosted.inverse g.B.Parts.names g.B.Boosted.within g.B.Boosted.after g.B.Coded.collections
-    g.met.B.Boosted.exact g.met.B.Boosted.goes_back g.met.B.Boosted.commutes g.met.B.Boosted.moves_left g.met.B.Boosted.wears g.met.B.Boosted.deferred_stays_ready g.met.B.Boosted.leaves_one g.met.B.Boosted.leaves_disposable
-    g.met.B.Boosted.leaves_need g.met.B.Boosted.leaves_ready g.met.B.Boosted.stays_past_calls g.met.B.Boosted.stays_past_laters g.met.B.Parts.deferred_is_other g.met.B.Parts.runs_keep_names g.met.B.Parts.makes_one
-    g.met.B.Parts.makes_named g.met.B.Parts.makes_before_calls g.met.B.Parts.makes_keep_deferred g.met.B.Parts.makes_keep_within g.met.B.Coded.answers_as_told g.met.B.Coded.leaves_as_told g.met.B.Coded.makes_as_told
-    g.met.B.Coded.within_as_told g.met.B.Coded.inverse_as_told g.met.B.Coded.after_as_told
+laws : (g : Over) → BookLaws g.B.Boosted.meaning g.B.Parts.making
+    (λ s. AreShort (g.B.Coded.collections s))
+laws g = book_laws g.met.B.Boosted.laws g.met.B.Parts.laws g.met.B.Coded.told
 
 pub returns-then-not-are_reached : goal.returns-then-not-are_reached
 returns-then-not-are_reached g c =
     let i = c.self.inside in
-    let none = read_unreached g.B.Coded.collections g.B.Parts.names g.B.Boosted.within g.met.B.Coded.names_as_told g.met.B.Coded.within_as_told i.parts i.needs i.live i.wear c.args.name.now c.args.kind c.args.items.items
-    (λ reached. let yes = c.are_reached.ensures.1 (subst (AllByRecursion (IsReached i.wear)) (sym c.as_slice.ensures.value) reached) in let no_one = c.if-not-are_reached.true in cc) in
-    (refl, λ v row. none v (subst (λ (s : State _). LoadRow g.B.Coded.collections g.B.Parts.names g.B.Boosted.within s c.args.name.now c.args.kind c.args.items.items v) (sym c.self.view_is) row))
+    let none = read_unreached g.B.Coded.collections g.B.Boosted.meaning g.B.Parts.making
+    g.met.B.Coded.told i.parts (needs_of i.ledger) (log_of i.ledger) i.wear c.args.name.now
+    c.args.kind c.args.items.items
+    (λ reached. let yes = c.are_reached.ensures.1
+    (subst (AllByRecursion (IsReached i.wear)) (sym c.as_slice.ensures.value) reached) in
+    let no_one = c.if-not-are_reached.true in cc) in (
+      refl,
+      λ v row. none v (subst (λ (s : State _). LoadRow g.B.Coded.collections
+          g.B.Boosted.meaning g.B.Parts.making s c.args.name.now c.args.kind c.args.items.items v)
+          (sym c.self.view_is) row),
+    )
 
 -- the wear reaches each item
-reached : (g : Over) (c : goal.Joined-load g) → AllByRecursion (IsReached c.self.inside.wear) c.args.items.items
-reached g c = subst (AllByRecursion (IsReached c.self.inside.wear)) c.as_slice.ensures.value (c.are_reached.ensures.0 c.if-not-are_reached.false)
+reached : (g : Over) (c : goal.Joined-load g) →
+    AllByRecursion (IsReached c.self.inside.wear) c.args.items.items
+reached g c = subst (AllByRecursion (IsReached c.self.inside.wear)) c.as_slice.ensures.value
+    (c.are_reached.ensures.0 c.if-not-are_reached.false)
 
 pub invariant_of-self : goal.invariant_of-self
 invariant_of-self g c = (
-  read_kept g.B.Boosted.answers g.B.Boosted.leaves g.B.Parts.makes g.B.Boosted.need g.B.Boosted.inverse g.B.Parts.names g.B.Boosted.within (λ s. AreShort (g.B.Coded.collections s)) (laws g) g.B.Coded.collections g.met.B.Coded.names_as_told g.met.B.Coded.within_as_told (λ s t name kind items loads. short_loaded (g.B.Coded.collections s) (g.B.Coded.collections t) name kind items loads)
-      c.self.inside.parts c.self.inside.needs c.self.inside.live c.self.inside.wear c.args.name.now c.args.kind c.args.items.items c.load.new.self c.load.result c.self.invariant.0
-      (ap (λ (s : State _). s.live) c.self.view_is ∙ c.requires.none_live) c.requires.short (reached g c) c.load.ensures.new c.load.ensures.loads c.load.ensures.not c.load.ensures.as_before,
+  read_kept g.B.Boosted.meaning g.B.Parts.making (λ s. AreShort (g.B.Coded.collections s)) (laws g)
+      g.B.Coded.collections g.met.B.Coded.told
+      (λ s t name kind items loads. short_loaded (g.B.Coded.collections s) (g.B.Coded.collections t)
+      name kind items loads)
+      c.self.inside.parts (needs_of c.self.inside.ledger) (log_of c.self.inside.ledger)
+      c.self.inside.wear c.args.name.now c.args.kind c.args.items.items c.load.new.self
+      c.load.result c.self.invariant.0
+      (ap (λ (s : State _). s.live) c.self.view_is ∙ c.requires.none_live) c.requires.short
+      (reached g c) c.load.ensures.new c.load.ensures.loads c.load.ensures.not
+      c.load.ensures.as_before,
   c.self.invariant.1,
 )
 
@@ -47,11 +61,22 @@ returns g c =
     let i = c.self.inside in
     elim c.match-load.branch [
       | in-Ok w ↦ rw w.result-is
-          (subst (λ (s : State _). LoadAnswers (LoadRow g.B.Coded.collections g.B.Parts.names g.B.Boosted.within s c.args.name.now c.args.kind c.args.items.items) s (Ok w.in-Ok.loaded) (state_of c.load.new.self i.needs i.live i.wear)) c.self.view_is
-          (read_answered g.B.Coded.collections g.B.Parts.names g.B.Boosted.within g.met.B.Coded.names_as_told g.met.B.Coded.within_as_told i.parts i.needs i.live i.wear c.args.name.now c.args.kind c.args.items.items
-          c.load.new.self w.in-Ok.loaded (reached g c) c.self.invariant.0.reached w.in-Ok.ensures.new w.in-Ok.ensures.loads w.in-Ok.ensures.not))
+          (subst (λ (s : State _). LoadAnswers
+          (LoadRow g.B.Coded.collections g.B.Boosted.meaning g.B.Parts.making s c.args.name.now
+          c.args.kind c.args.items.items) s (Ok w.in-Ok.loaded)
+          (state_with c.load.new.self i.ledger i.wear)) c.self.view_is
+          (read_answered g.B.Coded.collections g.B.Boosted.meaning g.B.Parts.making
+          g.met.B.Coded.told i.parts (needs_of i.ledger) (log_of i.ledger) i.wear
+          c.args.name.now c.args.kind c.args.items.items
+          c.load.new.self w.in-Ok.loaded (reached g c) c.self.invariant.0.reached
+          w.in-Ok.ensures.new w.in-Ok.ensures.loads w.in-Ok.ensures.not))
       | in-Err w ↦ rw (w.result-is, w.unmade.ensures)
-          (subst (λ (s : State _). LoadAnswers (LoadRow g.B.Coded.collections g.B.Parts.names g.B.Boosted.within s c.args.name.now c.args.kind c.args.items.items) s (unmade w.in-Err.refusal) (state_of c.load.new.self i.needs i.live i.wear)) c.self.view_is
-          (read_refused g.B.Coded.collections g.B.Parts.names g.B.Boosted.within g.met.B.Coded.names_as_told g.met.B.Coded.within_as_told i.parts i.needs i.live i.wear c.args.name.now c.args.kind c.args.items.items
+          (subst (λ (s : State _). LoadAnswers
+          (LoadRow g.B.Coded.collections g.B.Boosted.meaning g.B.Parts.making s c.args.name.now
+          c.args.kind c.args.items.items) s (unmade w.in-Err.refusal)
+          (state_with c.load.new.self i.ledger i.wear)) c.self.view_is
+          (read_refused g.B.Coded.collections g.B.Boosted.meaning g.B.Parts.making
+          g.met.B.Coded.told i.parts (needs_of i.ledger) (log_of i.ledger) i.wear
+          c.args.name.now c.args.kind c.args.items.items
           c.load.new.self w.in-Err.refusal w.in-Err.ensures.as_before w.in-Err.ensures.err))
     ]

@@ -2,6 +2,7 @@ use Rattle.std.proofs.Common.{sym, subst}
 use Rattle.record_format.specs.Short.{AreShort}
 use Rattle.machine.proofs.BookLaws.{BookLaws, book_laws}
 use Rattle.machine.proofs.Rows.{resting_is}
+use Rattle.machine.specs.Ledgers.{needs_of, log_of}
 use Rattle.machine.specs.Machines.{IsUpheld}
 use Rattle.machine.specs.Sound.{IsLoaded}
 use Rattle.loader.proofs.LoadRows.{last_none}
@@ -10,17 +11,18 @@ use Rattle.loader.proofs.loader.Loader.new.Given.{Over}
 use Rattle.loader.proofs.loader.Loader.new.Goals as goal
 
 -- the laws of the collections
-laws : (g : Over) → BookLaws g.B.Boosted.answers g.B.Boosted.leaves g.B.Parts.makes g.B.Boosted.need g.B.Boosted.inverse g.B.Parts.names g.B.Boosted.within (λ s. AreShort (g.B.Coded.collections s))
-laws g =
-    book_laws g.B.Boosted.answers g.B.Boosted.leaves g.B.Parts.makes g.B.Boosted.need g.B.Boosted.inverse g.B.Parts.names g.B.Boosted.within g.B.Boosted.after g.B.Coded.collections
-    g.met.B.Boosted.exact g.met.B.Boosted.goes_back g.met.B.Boosted.commutes g.met.B.Boosted.moves_left g.met.B.Boosted.wears g.met.B.Boosted.deferred_stays_ready g.met.B.Boosted.leaves_one g.met.B.Boosted.leaves_disposable
-    g.met.B.Boosted.leaves_need g.met.B.Boosted.leaves_ready g.met.B.Boosted.stays_past_calls g.met.B.Boosted.stays_past_laters g.met.B.Parts.deferred_is_other g.met.B.Parts.runs_keep_names g.met.B.Parts.makes_one
-    g.met.B.Parts.makes_named g.met.B.Parts.makes_before_calls g.met.B.Parts.makes_keep_deferred g.met.B.Parts.makes_keep_within g.met.B.Coded.answers_as_told g.met.B.Coded.leaves_as_told g.met.B.Coded.makes_as_told
-    g.met.B.Coded.within_as_told g.met.B.Coded.inverse_as_told g.met.B.Coded.after_as_told
+laws : (g : Over) → BookLaws g.B.Boosted.meaning g.B.Parts.making
+    (λ s. AreShort (g.B.Coded.collections s))
+laws g = book_laws g.met.B.Boosted.laws g.met.B.Parts.laws g.met.B.Coded.told
 
 pub invariant_of-result : goal.invariant_of-result
 invariant_of-result g c = (
-  subst (IsUpheld g.B.Parts.names g.B.Boosted.within (λ s. AreShort (g.B.Coded.collections s)) (IsLoaded g.B.Boosted.answers g.B.Boosted.leaves g.B.Parts.makes g.B.Boosted.need g.B.Boosted.inverse)) (sym (resting_is c.args.parts c.new.result c.new-2.result c.args.wear c.new.ensures c.new-2.ensures.live c.new-2.ensures.entries))
-      (resting_told g.B.Boosted.answers g.B.Boosted.leaves g.B.Parts.makes g.B.Boosted.need g.B.Boosted.inverse g.B.Parts.names g.B.Boosted.within (λ s. AreShort (g.B.Coded.collections s)) (laws g) c.args.parts c.args.wear c.requires.within c.requires.worn c.requires.few c.requires.short),
-  last_none c.new-2.result.live c.new-2.ensures.live,
+  subst (IsUpheld g.B.Boosted.meaning g.B.Parts.making (λ s. AreShort (g.B.Coded.collections s))
+      (IsLoaded g.B.Boosted.meaning g.B.Parts.making))
+      (sym (resting_is c.args.parts (needs_of c.new.result) (log_of c.new.result) c.args.wear
+      c.new.ensures.holds c.new.ensures.live c.new.ensures.entries))
+      (resting_told g.B.Boosted.meaning g.B.Parts.making (λ s. AreShort (g.B.Coded.collections s))
+      (laws g) c.args.parts c.args.wear c.requires.within c.requires.worn c.requires.few
+      c.requires.short),
+  last_none c.new.result.live c.new.ensures.live,
 )

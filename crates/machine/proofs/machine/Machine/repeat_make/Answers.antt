@@ -1,10 +1,13 @@
 use Rattle.std.proofs.Common.{subst}
-use Rattle.catalog.specs.Making as making
+use Rattle.catalog.specs.Making as naming
 use Rattle.machine.specs.Machine.{Steps}
 use Rattle.machine.proofs.Rows.{make_stuck}
 use Rattle.machine.proofs.machine.Machine.repeat_make.Goals as goal
 
 pub returns-in-Err : goal.returns-in-Err
 returns-in-Err g c =
-    let refused = subst (λ n. making.MakeRefused (g.B.Parts.names c.args.self.now.now) n c.in-Err.refusal) c.as_str.ensures c.in-Err.ensures.err in
-    rw c.unmade.ensures (make_stuck g.B.Parts.names g.B.Parts.makes (Steps g.B.Boosted.answers g.B.Boosted.leaves g.B.Boosted.belongs g.B.Parts.names g.B.Parts.makes g.B.Boosted.need g.B.Boosted.inverse) c.args.self.now _ c.args.name.now c.args.kind c.in-Err.refusal (λ v row. row) c.in-Err.ensures.same refused)
+    let refused = subst (λ n. naming.MakeRefused (g.B.Parts.making.names c.args.self.now.now) n
+    c.in-Err.refusal) c.as_str.ensures c.in-Err.ensures.err in
+    rw c.unmade.ensures (make_stuck g.B.Parts.making (Steps g.B.Boosted.meaning g.B.Parts.making)
+    c.args.self.now _ c.args.name.now c.args.kind c.in-Err.refusal (λ v row. row)
+    c.in-Err.ensures.same refused)

@@ -11,17 +11,34 @@ use Rattle.player.proofs.client.Client.call.Goals as goal
 pub returns-in_err-number : goal.returns-in_err-number
 returns-in_err-number g c =
     let p = err_from_is_err_and c.from_residual.result c.from_residual.ensures.1 in
-    rw (p.1, p.2) (call_not_entered g.D.Disk c.args.self.now c.args.world.now c.args.name.now (AsksFor c.args.operation) c.enter.new.self c.enter.new.world c.in_err-number.field-0.0 c.in_err-number.ensures)
+    rw (p.1, p.2) (call_not_entered g.D.Disk c.args.self.now c.args.world.now c.args.name.now
+    (AsksFor c.args.operation) c.enter.new.self c.enter.new.world c.in_err-number.field-0.0
+    c.in_err-number.ensures)
 
 pub returns-in_err-collection : goal.returns-in_err-collection
 returns-in_err-collection g c =
-    let p = err_from_is_err_and c.from_residual-in_err-collection.result c.from_residual-in_err-collection.ensures.1 in
-    let refused : FindRefused (names_of c.enter.new.world.book.state.now) c.args.name.now c.in_err-collection.field-0.0 = rw (c.as_str.ensures, c.book.ensures) at c.in_err-collection.ensures.err in
-    rw (p.1, p.2) (call_not_found g.D.Disk c.args.self.now c.args.world.now c.args.name.now (AsksFor c.args.operation) c.enter.new.self c.enter.new.world c.in_ok-number.number c.in_err-collection.field-0.0 c.in_ok-number.ensures refused)
+    let p = err_from_is_err_and c.from_residual-in_err-collection.result
+    c.from_residual-in_err-collection.ensures.1 in
+    let refused : FindRefused (names_of c.enter.new.world.book.state.now) c.args.name.now
+    c.in_err-collection.field-0.0 =
+    rw (c.as_str.ensures, c.book.ensures) at c.in_err-collection.ensures.err in
+    rw (p.1, p.2) (call_not_found g.D.Disk c.args.self.now c.args.world.now c.args.name.now
+    (AsksFor c.args.operation) c.enter.new.self c.enter.new.world c.in_ok-number.number
+    c.in_err-collection.field-0.0 c.in_ok-number.ensures refused)
 
 pub returns : goal.returns
 returns g c =
-    let found : IsName c.args.name.now × IsPlaceOf (names_of c.enter.new.world.book.state.now) c.args.name.now c.in_ok-collection.collection = rw (c.as_str.ensures, c.book.ensures) at c.in_ok-collection.ensures.ok in
-    let is_asked : AskedFor c.enter.new.world.book.state.now c.in_ok-collection.collection c.args.operation c.call_of-call.result = rw (c.parts.ensures, c.book-2.ensures) at c.call_of-call.ensures in
-    let ran = asked g.D.Disk c.enter.new.world c.call.new.self (Step.Call c.in_ok-number.number c.in_ok-collection.collection c.call_of-call.result) Answer.Replied c.call.result c.call.ensures in
-    call_asked g.D.Disk c.args.self.now c.args.world.now c.args.name.now (AsksFor c.args.operation) c.enter.new.self c.enter.new.world c.in_ok-number.number c.in_ok-collection.collection c.call.result c.call.new.self c.in_ok-number.ensures found (ran.0, (c.call_of-call.result, is_asked, ran.1), ran.2)
+    let found : IsName c.args.name.now ×
+    IsPlaceOf (names_of c.enter.new.world.book.state.now) c.args.name.now
+    c.in_ok-collection.collection =
+    rw (c.as_str.ensures, c.book.ensures) at c.in_ok-collection.ensures.ok in
+    let is_asked : AskedFor c.enter.new.world.book.state.now c.in_ok-collection.collection
+    c.args.operation c.call_of-call.result =
+    rw (c.parts.ensures, c.book-2.ensures) at c.call_of-call.ensures in
+    let ran = asked g.D.Disk c.enter.new.world c.call.new.self
+    (Step.Call c.in_ok-number.number c.in_ok-collection.collection c.call_of-call.result)
+    Answer.Replied c.call.result c.call.ensures in
+    call_asked g.D.Disk c.args.self.now c.args.world.now c.args.name.now (AsksFor c.args.operation)
+    c.enter.new.self c.enter.new.world c.in_ok-number.number c.in_ok-collection.collection
+    c.call.result c.call.new.self c.in_ok-number.ensures found
+    (ran.0, (c.call_of-call.result, is_asked, ran.1), ran.2)

@@ -9,6 +9,7 @@ pub returns : goal.returns
 returns g c =
     let looked : Past = (Step.Look, Answer.Marked c.look-mark.result) ∷ [] in (
       looked,
-      subst (λ o. Looks o (Some (leb c.in_ok-ticket.ticket c.look-mark.result)) looked) (sym c.in_ok-ticket.was) (c.look-mark.result, refl, search (rules, tests)),
+      subst (λ o. Looks o (Some (leb c.in_ok-ticket.ticket c.look-mark.result)) looked)
+          (sym c.in_ok-ticket.was) (c.look-mark.result, refl, search (rules, tests)),
       (c.args.world.now, c.look-mark.ensures, refl),
     )

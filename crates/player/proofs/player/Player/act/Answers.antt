@@ -8,5 +8,7 @@ returns-in-Client g c =
     rw c.in-Client.is (
       c.obey.new.client,
       ap (λ m. slice_set clients (m % 64) c.obey.new.client) c.from.ensures,
-      subst (λ m. Obeys g.D.Disk (get_or clients (m % 64) nobody) c.args.self.now.world c.in-Client.request c.obey.result c.obey.new.client c.obey.new.world) c.from.ensures c.obey.ensures,
+      subst (λ m. Obeys g.D.Disk (get_or clients (m % 64) nobody) c.args.self.now.world
+          c.in-Client.request c.obey.result c.obey.new.client c.obey.new.world) c.from.ensures
+          c.obey.ensures,
     )

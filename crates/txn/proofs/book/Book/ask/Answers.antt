@@ -4,7 +4,7 @@ use Rattle.record_format.specs.Records.{call_record}
 use Rattle.record_format.specs.Short.{AreShort}
 use Rattle.abstract_locks.specs.Holds.{IsClear}
 use Rattle.calls.specs.Transactions.{Event}
-use Rattle.boosted.specs.Shape.{CanAsk}
+use Rattle.boosted.specs.Meaning.{CanAsk}
 use Rattle.machine.specs.Machine.{CanCall, CallRow}
 use Rattle.txn.specs.Books.{AppendsTo, IsOpen, record_of}
 use Rattle.txn.specs.Views.{book_of}
@@ -19,26 +19,34 @@ use Rattle.txn.proofs.book.Book.ask.Given.{Over}
 use Rattle.txn.proofs.book.Book.ask.Goals as goal
 
 -- the laws of the collections
-laws : (g : Over) → BookLaws g.B.Boosted.answers g.B.Boosted.leaves g.B.Parts.makes g.B.Boosted.need g.B.Boosted.inverse g.B.Parts.names g.B.Boosted.within (λ s. AreShort (g.B.Coded.collections s))
-laws g =
-    book_laws g.B.Boosted.answers g.B.Boosted.leaves g.B.Parts.makes g.B.Boosted.need g.B.Boosted.inverse g.B.Parts.names g.B.Boosted.within g.B.Boosted.after g.B.Coded.collections
-    g.met.B.Boosted.exact g.met.B.Boosted.goes_back g.met.B.Boosted.commutes g.met.B.Boosted.moves_left g.met.B.Boosted.wears g.met.B.Boosted.deferred_stays_ready g.met.B.Boosted.leaves_one g.met.B.Boosted.leaves_disposable
-    g.met.B.Boosted.leaves_need g.met.B.Boosted.leaves_ready g.met.B.Boosted.stays_past_calls g.met.B.Boosted.stays_past_laters g.met.B.Parts.deferred_is_other g.met.B.Parts.runs_keep_names g.met.B.Parts.makes_one
-    g.met.B.Parts.makes_named g.met.B.Parts.makes_before_calls g.met.B.Parts.makes_keep_deferred g.met.B.Parts.makes_keep_within g.met.B.Coded.answers_as_told g.met.B.Coded.leaves_as_told g.met.B.Coded.makes_as_told
-    g.met.B.Coded.within_as_told g.met.B.Coded.inverse_as_told g.met.B.Coded.after_as_told
+laws : (g : Over) → BookLaws g.B.Boosted.meaning g.B.Parts.making
+    (λ s. AreShort (g.B.Coded.collections s))
+laws g = book_laws g.met.B.Boosted.laws g.met.B.Parts.laws g.met.B.Coded.told
 
 pub inverse-requires-clause-short : goal.inverse-requires-clause-short
 inverse-requires-clause-short g c =
-    let answered = subst (λ b. g.B.Boosted.answers b.state.now c.args.col c.args.call.now c.args.reply.now) (sym c.self.view_is) c.requires.answered in
-    (c.requires.open.asked.2, (laws g).short_replies c.self.inside.machine.now c.args.col c.args.call.now c.args.reply.now c.self.invariant.upheld.spells answered)
+    let answered = subst (λ b. g.B.Boosted.meaning.answers b.state.now c.args.col c.args.call.now
+    c.args.reply.now) (sym c.self.view_is) c.requires.answered in (
+      c.requires.open.asked.2,
+      (laws g).short_replies c.self.inside.machine.now c.args.col
+          c.args.call.now c.args.reply.now c.self.invariant.upheld.spells answered,
+    )
 
 pub note_call-noted-requires-clause-can : goal.note_call-noted-requires-clause-can
 note_call-noted-requires-clause-can g c =
-    subst (λ b. CanCall g.B.Boosted.answers g.B.Boosted.leaves g.B.Boosted.belongs g.B.Boosted.need b.state c.args.number (record { at = c.args.col; call = c.args.call.now; reply = c.args.reply.now })) c.self.view_is (record {
-      running = (subst (λ b. IsOpen (CanAsk g.B.Boosted.belongs b.state.now c.args.col c.args.call.now) b c.args.number) (sym c.self.view_is) c.requires.open).running;
-      asked = (subst (λ b. IsOpen (CanAsk g.B.Boosted.belongs b.state.now c.args.col c.args.call.now) b c.args.number) (sym c.self.view_is) c.requires.open).asked;
-      few = (subst (λ b. IsOpen (CanAsk g.B.Boosted.belongs b.state.now c.args.col c.args.call.now) b c.args.number) (sym c.self.view_is) c.requires.open).few;
-      answered = subst (λ b. g.B.Boosted.answers b.state.now c.args.col c.args.call.now c.args.reply.now) (sym c.self.view_is) c.requires.answered;
-      once = λ twice. let yes = c.goes_twice.ensures.1 twice in let no' = c.if-goes_twice.false in cc;
-      clear = subst (λ k. IsClear c.self.inside.machine.holds c.args.number c.args.col k) c.need-need.ensures c.in_ok-test.ensures.clear;
+    subst (λ b. CanCall g.B.Boosted.meaning b.state c.args.number
+    (record { at = c.args.col; call = c.args.call.now; reply = c.args.reply.now }))
+    c.self.view_is (record {
+      running = (subst (λ b. IsOpen (CanAsk g.B.Boosted.meaning b.state.now c.args.col
+          c.args.call.now) b c.args.number) (sym c.self.view_is) c.requires.open).running;
+      asked = (subst (λ b. IsOpen (CanAsk g.B.Boosted.meaning b.state.now c.args.col
+          c.args.call.now) b c.args.number) (sym c.self.view_is) c.requires.open).asked;
+      few = (subst (λ b. IsOpen (CanAsk g.B.Boosted.meaning b.state.now c.args.col c.args.call.now)
+          b c.args.number) (sym c.self.view_is) c.requires.open).few;
+      answered = subst (λ b. g.B.Boosted.meaning.answers b.state.now c.args.col c.args.call.now
+          c.args.reply.now) (sym c.self.view_is) c.requires.answered;
+      once = λ twice. let yes = c.goes_twice.ensures.1 twice in let no' = c.if-goes_twice.false in
+          cc;
+      clear = subst (λ k. IsClear c.self.inside.machine.holds c.args.number c.args.col k)
+          c.need-need.ensures c.in_ok-test.ensures.clear;
     })

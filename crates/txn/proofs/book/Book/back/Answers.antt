@@ -14,42 +14,53 @@ use Rattle.txn.proofs.book.Book.back.Given.{Over}
 use Rattle.txn.proofs.book.Book.back.Goals as goal
 
 pub push-requires-clause-room : goal.push-requires-clause-room
-push-requires-clause-room g c = subst (HasRoomFor c.reserve.new.self) (mark_length c.args.number) c.in_ok-reserve.ensures.room
+push-requires-clause-room g c =
+    subst (HasRoomFor c.reserve.new.self) (mark_length c.args.number) c.in_ok-reserve.ensures.room
 
 pub fall-requires-clause-live : goal.fall-requires-clause-live
-fall-requires-clause-live g c = subst (λ (b : BookState _). Lives b.state.live c.args.number) (sym c.self.view_is) c.in_ok-check_live.ensures.ok
+fall-requires-clause-live g c =
+    subst (λ (b : BookState _). Lives b.state.live c.args.number) (sym c.self.view_is)
+    c.in_ok-check_live.ensures.ok
 
 pub back-requires-clause-live : goal.back-requires-clause-live
-back-requires-clause-live g c = subst (λ (b : BookState _). Lives b.state.live c.args.number) (sym c.self.view_is) c.in_ok-check_live.ensures.ok
+back-requires-clause-live g c =
+    subst (λ (b : BookState _). Lives b.state.live c.args.number) (sym c.self.view_is)
+    c.in_ok-check_live.ensures.ok
 
 -- the laws of the collections
-laws : (g : Over) → BookLaws g.B.Boosted.answers g.B.Boosted.leaves g.B.Parts.makes g.B.Boosted.need g.B.Boosted.inverse g.B.Parts.names g.B.Boosted.within (λ s. AreShort (g.B.Coded.collections s))
-laws g =
-    book_laws g.B.Boosted.answers g.B.Boosted.leaves g.B.Parts.makes g.B.Boosted.need g.B.Boosted.inverse g.B.Parts.names g.B.Boosted.within g.B.Boosted.after g.B.Coded.collections
-    g.met.B.Boosted.exact g.met.B.Boosted.goes_back g.met.B.Boosted.commutes g.met.B.Boosted.moves_left g.met.B.Boosted.wears g.met.B.Boosted.deferred_stays_ready g.met.B.Boosted.leaves_one g.met.B.Boosted.leaves_disposable
-    g.met.B.Boosted.leaves_need g.met.B.Boosted.leaves_ready g.met.B.Boosted.stays_past_calls g.met.B.Boosted.stays_past_laters g.met.B.Parts.deferred_is_other g.met.B.Parts.runs_keep_names g.met.B.Parts.makes_one
-    g.met.B.Parts.makes_named g.met.B.Parts.makes_before_calls g.met.B.Parts.makes_keep_deferred g.met.B.Parts.makes_keep_within g.met.B.Coded.answers_as_told g.met.B.Coded.leaves_as_told g.met.B.Coded.makes_as_told
-    g.met.B.Coded.within_as_told g.met.B.Coded.inverse_as_told g.met.B.Coded.after_as_told
+laws : (g : Over) → BookLaws g.B.Boosted.meaning g.B.Parts.making
+    (λ s. AreShort (g.B.Coded.collections s))
+laws g = book_laws g.met.B.Boosted.laws g.met.B.Parts.laws g.met.B.Coded.told
 
 -- the step that was taken
 step : (g : Over) (c : goal.After-push g) → let i = c.self.inside in
     let old = book_of i.machine i.pending i.places i.next in
-    BackRow g.B.Boosted.answers g.B.Boosted.leaves g.B.Boosted.inverse old.state c.args.number c.back.new.self × AppendsTo old (Record.Back c.args.number) (book_of c.back.new.self c.push.new.self i.places i.next)
+    BackRow g.B.Boosted.meaning old.state c.args.number c.back.new.self ×
+    AppendsTo old (Record.Back c.args.number)
+    (book_of c.back.new.self c.push.new.self i.places i.next)
 step g c =
     let i = c.self.inside in
-    let written = recorded i.machine i.pending i.places i.next (Record.Back c.args.number) c.back.new.self c.reserve.new.self c.push.new.self i.places i.next
+    let written = recorded i.machine i.pending i.places i.next (Record.Back c.args.number)
+    c.back.new.self c.reserve.new.self c.push.new.self i.places i.next
     (subst (λ b. length b.pending < 16384) (sym c.self.view_is) c.in_ok-check_backlog.ensures.ok)
-    c.in_ok-reserve.ensures.records c.in_ok-reserve.ensures.freezes c.in_ok-reserve.ensures.handed c.push.ensures.records c.push.ensures.freezes c.push.ensures.handed (omega arith) in
+    c.in_ok-reserve.ensures.records c.in_ok-reserve.ensures.freezes c.in_ok-reserve.ensures.handed
+    c.push.ensures.records c.push.ensures.freezes c.push.ensures.handed (omega arith) in
     (c.in_ok-back.ensures.ok, record { appends = written; next = refl })
 
 pub invariant_of-self : goal.invariant_of-self
-invariant_of-self g c = fall_keeps g.B.Boosted.answers g.B.Boosted.leaves g.B.Parts.makes g.B.Boosted.need g.B.Boosted.inverse g.B.Boosted.belongs g.B.Parts.names g.B.Boosted.within (λ s. AreShort (g.B.Coded.collections s)) (laws g) _ c.self.invariant c.args.number _ c.fall.ensures refl
+invariant_of-self g c = fall_keeps g.B.Boosted.meaning g.B.Parts.making
+    (λ s. AreShort (g.B.Coded.collections s)) (laws g) _ c.self.invariant c.args.number _
+    c.fall.ensures refl
 
 pub invariant_of-self-2 : goal.invariant_of-self-2
-invariant_of-self-2 g c = let done = step g c in back_keeps g.B.Boosted.answers g.B.Boosted.leaves g.B.Parts.makes g.B.Boosted.need g.B.Boosted.inverse g.B.Boosted.belongs g.B.Parts.names g.B.Boosted.within (λ s. AreShort (g.B.Coded.collections s)) (laws g) _ c.self.invariant c.args.number _ done.0 done.1
+invariant_of-self-2 g c = let done = step g c in
+    back_keeps g.B.Boosted.meaning g.B.Parts.making (λ s. AreShort (g.B.Coded.collections s))
+    (laws g) _ c.self.invariant c.args.number _ done.0 done.1
 
 pub returns-clause-answer : goal.returns-clause-answer
 returns-clause-answer g c = rw (← c.self.view_is) (step g c)
 
 pub returns-clause-settled : goal.returns-clause-settled
-returns-clause-settled g c = rw (← c.self.view_is) (λ d w. back_settles g.B.Boosted.answers g.B.Boosted.leaves g.B.Parts.makes g.B.Boosted.need g.B.Boosted.inverse (laws g).rules _ c.self.invariant.upheld.holds c.args.number _ d (step g c).0 w)
+returns-clause-settled g c = rw (← c.self.view_is)
+    (λ d w. back_settles g.B.Boosted.meaning g.B.Parts.making (laws g).rules _
+    c.self.invariant.upheld.holds c.args.number _ d (step g c).0 w)

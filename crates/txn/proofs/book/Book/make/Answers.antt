@@ -2,7 +2,7 @@ use Rattle.std.proofs.Common.{◌≡◌, ◌<◌, ◌+◌, ◌++◌, ◌∷◌, 
 use Rattle.std.proofs.lemmas.Result.{err_from_is_err_and}
 use Rattle.record_format.specs.declared.record.Record.{Record}
 use Rattle.record_format.specs.Short.{AreShort}
-use Rattle.catalog.specs.Making as making
+use Rattle.catalog.specs.Making as naming
 use Rattle.machine.specs.Machine.{MakeRow}
 use Rattle.txn.specs.Books.{AppendsTo}
 use Rattle.txn.specs.Views.{book_of}
@@ -15,39 +15,58 @@ use Rattle.txn.proofs.book.Book.make.Given.{Over}
 use Rattle.txn.proofs.book.Book.make.Goals as goal
 
 -- the laws of the collections
-laws : (g : Over) → BookLaws g.B.Boosted.answers g.B.Boosted.leaves g.B.Parts.makes g.B.Boosted.need g.B.Boosted.inverse g.B.Parts.names g.B.Boosted.within (λ s. AreShort (g.B.Coded.collections s))
-laws g =
-    book_laws g.B.Boosted.answers g.B.Boosted.leaves g.B.Parts.makes g.B.Boosted.need g.B.Boosted.inverse g.B.Parts.names g.B.Boosted.within g.B.Boosted.after g.B.Coded.collections
-    g.met.B.Boosted.exact g.met.B.Boosted.goes_back g.met.B.Boosted.commutes g.met.B.Boosted.moves_left g.met.B.Boosted.wears g.met.B.Boosted.deferred_stays_ready g.met.B.Boosted.leaves_one g.met.B.Boosted.leaves_disposable
-    g.met.B.Boosted.leaves_need g.met.B.Boosted.leaves_ready g.met.B.Boosted.stays_past_calls g.met.B.Boosted.stays_past_laters g.met.B.Parts.deferred_is_other g.met.B.Parts.runs_keep_names g.met.B.Parts.makes_one
-    g.met.B.Parts.makes_named g.met.B.Parts.makes_before_calls g.met.B.Parts.makes_keep_deferred g.met.B.Parts.makes_keep_within g.met.B.Coded.answers_as_told g.met.B.Coded.leaves_as_told g.met.B.Coded.makes_as_told
-    g.met.B.Coded.within_as_told g.met.B.Coded.inverse_as_told g.met.B.Coded.after_as_told
+laws : (g : Over) → BookLaws g.B.Boosted.meaning g.B.Parts.making
+    (λ s. AreShort (g.B.Coded.collections s))
+laws g = book_laws g.met.B.Boosted.laws g.met.B.Parts.laws g.met.B.Coded.told
 
 -- the step that was taken
 step : (g : Over) (c : goal.After-self-1 g) → let i = c.self.inside in
     let old = book_of i.machine i.pending i.places i.next in
-    MakeRow g.B.Parts.names g.B.Parts.makes old.state c.args.name.now c.args.kind c.make.new.self × AppendsTo old (Record.Make c.args.kind c.args.name.now) (book_of c.make.new.self c.push.new.self (i.places + 1) i.next)
+    MakeRow g.B.Parts.making old.state c.args.name.now c.args.kind c.make.new.self ×
+    AppendsTo old (Record.Make c.args.kind c.args.name.now)
+    (book_of c.make.new.self c.push.new.self (i.places + 1) i.next)
 step g c =
     let i = c.self.inside in
     let same = c.new-spelled.ensures ∙ c.in_ok-to_string.ensures.ok in
-    let put : waiting c.push.new.self ≡ waiting c.reserve.new.self ++ Record.Make c.args.kind c.args.name.now ∷ [] = subst (λ v. waiting c.push.new.self ≡ waiting c.reserve.new.self ++ Record.Make c.args.kind v ∷ []) same c.push.ensures.records in
-    let written = recorded i.machine i.pending i.places i.next (Record.Make c.args.kind c.args.name.now) c.make.new.self c.reserve.new.self c.push.new.self (i.places + 1) i.next
-    (subst (λ b. length b.pending < 16384) (sym c.self.view_is) c.in_ok-check_backlog.ensures.ok) c.in_ok-reserve.ensures.records c.in_ok-reserve.ensures.freezes c.in_ok-reserve.ensures.handed put c.push.ensures.freezes c.push.ensures.handed (omega arith) in
+    let put : waiting c.push.new.self ≡ waiting c.reserve.new.self ++
+    Record.Make c.args.kind c.args.name.now ∷ [] =
+    subst (λ v. waiting c.push.new.self ≡ waiting c.reserve.new.self ++
+    Record.Make c.args.kind v ∷ []) same c.push.ensures.records in
+    let written = recorded i.machine i.pending i.places i.next
+    (Record.Make c.args.kind c.args.name.now) c.make.new.self c.reserve.new.self c.push.new.self
+    (i.places + 1) i.next
+    (subst (λ b. length b.pending < 16384) (sym c.self.view_is) c.in_ok-check_backlog.ensures.ok)
+    c.in_ok-reserve.ensures.records c.in_ok-reserve.ensures.freezes
+    c.in_ok-reserve.ensures.handed put c.push.ensures.freezes c.push.ensures.handed
+    (omega arith) in
     (c.in_ok-make.ensures.ok, record { appends = written; next = refl })
 
 pub returns-clause-answer : goal.returns-clause-answer
 returns-clause-answer g c = rw (← c.self.view_is) ((step g c).0, (step g c).1, refl)
 
 pub invariant_of-self-2 : goal.invariant_of-self-2
-invariant_of-self-2 g c = make_keeps g.B.Boosted.answers g.B.Boosted.leaves g.B.Parts.makes g.B.Boosted.need g.B.Boosted.inverse g.B.Boosted.belongs g.B.Parts.names g.B.Boosted.within (λ s. AreShort (g.B.Coded.collections s)) (laws g) _ c.self.invariant c.args.name.now c.args.kind _ (step g c).0 (step g c).1
+invariant_of-self-2 g c = make_keeps g.B.Boosted.meaning g.B.Parts.making
+    (λ s. AreShort (g.B.Coded.collections s)) (laws g) _ c.self.invariant c.args.name.now
+    c.args.kind _ (step g c).0 (step g c).1
 
 pub returns-clause-settled : goal.returns-clause-settled
-returns-clause-settled g c = rw (← c.self.view_is) (λ d w. make_settles g.B.Boosted.answers g.B.Boosted.leaves g.B.Parts.makes g.B.Boosted.need g.B.Boosted.inverse (laws g).rules _ c.self.invariant.upheld.holds g.B.Parts.names c.args.name.now c.args.kind _ d (step g c).0 w)
+returns-clause-settled g c = rw (← c.self.view_is)
+    (λ d w. make_settles g.B.Boosted.meaning g.B.Parts.making (laws g).rules _
+    c.self.invariant.upheld.holds c.args.name.now c.args.kind _ d (step g c).0 w)
 
 pub returns-in_err-make-clause-answer : goal.returns-in_err-make-clause-answer
 returns-in_err-make-clause-answer g c =
     let i = c.self.inside in
-    let p = err_from_is_err_and c.from_residual-in_err-make.result c.from_residual-in_err-make.ensures.1 in
-    let same = reserved_same i.machine c.make.new.self i.pending c.reserve.new.self i.places i.next c.in_err-make.ensures.same c.in_ok-reserve.ensures.records c.in_ok-reserve.ensures.freezes c.in_ok-reserve.ensures.handed ∙ c.self.view_is in
-    let refused = subst (λ b. making.MakeRefused (g.B.Parts.names b.state.now) c.args.name.now c.in_err-make.field-0.0) c.self.view_is c.in_err-make.ensures.err in
-    rw (p.1, p.2) (same, make_refused (g.B.Parts.names c.args.self.now.state.now) c.args.self.now c.args.name.now c.in_err-make.field-0.0 c.in_ok-check_backlog.ensures.ok refused)
+    let p = err_from_is_err_and c.from_residual-in_err-make.result
+    c.from_residual-in_err-make.ensures.1 in
+    let same = reserved_same i.machine c.make.new.self i.pending c.reserve.new.self i.places i.next
+    c.in_err-make.ensures.same c.in_ok-reserve.ensures.records c.in_ok-reserve.ensures.freezes
+    c.in_ok-reserve.ensures.handed ∙ c.self.view_is in
+    let refused = subst (λ b. naming.MakeRefused (g.B.Parts.making.names b.state.now)
+    c.args.name.now c.in_err-make.field-0.0) c.self.view_is c.in_err-make.ensures.err in
+    rw (p.1, p.2) (
+      same,
+      make_refused (g.B.Parts.making.names c.args.self.now.state.now)
+          c.args.self.now c.args.name.now c.in_err-make.field-0.0 c.in_ok-check_backlog.ensures.ok
+          refused,
+    )

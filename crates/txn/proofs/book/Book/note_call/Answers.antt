@@ -4,7 +4,7 @@ use Rattle.record_format.specs.Records.{call_record}
 use Rattle.record_format.specs.Short.{AreShort}
 use Rattle.abstract_locks.specs.Holds.{IsClear}
 use Rattle.calls.specs.Transactions.{Event}
-use Rattle.boosted.specs.Shape.{CanAsk}
+use Rattle.boosted.specs.Meaning.{CanAsk}
 use Rattle.machine.specs.Machine.{CanCall, CallRow}
 use Rattle.txn.specs.Books.{AppendsTo, IsOpen, record_of}
 use Rattle.txn.specs.Views.{book_of}
@@ -19,30 +19,38 @@ use Rattle.txn.proofs.book.Book.note_call.Given.{Over}
 use Rattle.txn.proofs.book.Book.note_call.Goals as goal
 
 -- the laws of the collections
-laws : (g : Over) → BookLaws g.B.Boosted.answers g.B.Boosted.leaves g.B.Parts.makes g.B.Boosted.need g.B.Boosted.inverse g.B.Parts.names g.B.Boosted.within (λ s. AreShort (g.B.Coded.collections s))
-laws g =
-    book_laws g.B.Boosted.answers g.B.Boosted.leaves g.B.Parts.makes g.B.Boosted.need g.B.Boosted.inverse g.B.Parts.names g.B.Boosted.within g.B.Boosted.after g.B.Coded.collections
-    g.met.B.Boosted.exact g.met.B.Boosted.goes_back g.met.B.Boosted.commutes g.met.B.Boosted.moves_left g.met.B.Boosted.wears g.met.B.Boosted.deferred_stays_ready g.met.B.Boosted.leaves_one g.met.B.Boosted.leaves_disposable
-    g.met.B.Boosted.leaves_need g.met.B.Boosted.leaves_ready g.met.B.Boosted.stays_past_calls g.met.B.Boosted.stays_past_laters g.met.B.Parts.deferred_is_other g.met.B.Parts.runs_keep_names g.met.B.Parts.makes_one
-    g.met.B.Parts.makes_named g.met.B.Parts.makes_before_calls g.met.B.Parts.makes_keep_deferred g.met.B.Parts.makes_keep_within g.met.B.Coded.answers_as_told g.met.B.Coded.leaves_as_told g.met.B.Coded.makes_as_told
-    g.met.B.Coded.within_as_told g.met.B.Coded.inverse_as_told g.met.B.Coded.after_as_told
+laws : (g : Over) → BookLaws g.B.Boosted.meaning g.B.Parts.making
+    (λ s. AreShort (g.B.Coded.collections s))
+laws g = book_laws g.met.B.Boosted.laws g.met.B.Parts.laws g.met.B.Coded.told
 
 pub call-requires-clause-can : goal.call-requires-clause-can
 call-requires-clause-can g c =
-    let can = subst (λ b. CanCall g.B.Boosted.answers g.B.Boosted.leaves g.B.Boosted.belongs g.B.Boosted.need b.state c.args.number (record { at = c.args.col; call = c.args.call.now; reply = c.args.reply.now })) (sym c.self.view_is) c.requires.can in
-    subst (λ e. CanCall g.B.Boosted.answers g.B.Boosted.leaves g.B.Boosted.belongs g.B.Boosted.need c.self.inside.machine c.args.number e) (sym c.in_ok-asked.ensures.ok) can
+    let can = subst (λ b. CanCall g.B.Boosted.meaning b.state c.args.number
+    (record { at = c.args.col; call = c.args.call.now; reply = c.args.reply.now }))
+    (sym c.self.view_is) c.requires.can in
+    subst (λ e. CanCall g.B.Boosted.meaning c.self.inside.machine c.args.number e)
+    (sym c.in_ok-asked.ensures.ok) can
 
 pub call-requires-clause-room : goal.call-requires-clause-room
 call-requires-clause-room g c =
-    let asked = subst (λ b. IsOpen (CanAsk g.B.Boosted.belongs b.state.now c.args.col c.args.call.now) b c.args.number) (sym c.self.view_is) c.requires.open in
-    (call_room g.B.Boosted.answers g.B.Boosted.leaves g.B.Parts.makes g.B.Boosted.need g.B.Boosted.inverse g.B.Boosted.belongs g.B.Parts.names g.B.Boosted.within (λ s. AreShort (g.B.Coded.collections s)) (laws g) c.self.inside.machine c.self.invariant.upheld c.args.number c.args.col c.args.call.now asked.running asked.few asked.unworn).0
+    let asked = subst (λ b. IsOpen (CanAsk g.B.Boosted.meaning b.state.now c.args.col
+    c.args.call.now) b c.args.number) (sym c.self.view_is) c.requires.open in
+    (call_room g.B.Boosted.meaning g.B.Parts.making (λ s. AreShort (g.B.Coded.collections s))
+    (laws g) c.self.inside.machine c.self.invariant.upheld c.args.number c.args.col
+    c.args.call.now asked.running asked.few asked.unworn).0
 
 -- the call can be asked for, and gets the reply
-asks : (g : Over) (c : goal.After-push_call g) → let i = c.self.inside in IsOpen (CanAsk g.B.Boosted.belongs i.machine.now c.args.col c.args.call.now) (book_of i.machine i.pending i.places i.next) c.args.number
-asks g c = subst (λ b. IsOpen (CanAsk g.B.Boosted.belongs b.state.now c.args.col c.args.call.now) b c.args.number) (sym c.self.view_is) c.requires.open
+asks : (g : Over) (c : goal.After-push_call g) → let i = c.self.inside in
+    IsOpen (CanAsk g.B.Boosted.meaning i.machine.now c.args.col c.args.call.now)
+    (book_of i.machine i.pending i.places i.next) c.args.number
+asks g c = subst (λ b. IsOpen (CanAsk g.B.Boosted.meaning b.state.now c.args.col c.args.call.now) b
+    c.args.number) (sym c.self.view_is) c.requires.open
 
-answered : (g : Over) (c : goal.After-push_call g) → g.B.Boosted.answers c.self.inside.machine.now c.args.col c.args.call.now c.args.reply.now
-answered g c = subst (λ b. g.B.Boosted.answers b.state.now c.args.col c.args.call.now c.args.reply.now) (sym c.self.view_is) c.requires.can.answered
+answered : (g : Over) (c : goal.After-push_call g) →
+    g.B.Boosted.meaning.answers c.self.inside.machine.now c.args.col c.args.call.now
+    c.args.reply.now
+answered g c = subst (λ b. g.B.Boosted.meaning.answers b.state.now c.args.col c.args.call.now
+    c.args.reply.now) (sym c.self.view_is) c.requires.can.answered
 
 -- the call with its reply
 abbrev event : (g : Over) → goal.After-push_call g → Event
@@ -51,15 +59,23 @@ event g c = record { at = c.args.col; call = c.args.call.now; reply = c.args.rep
 -- the step that was taken
 step : (g : Over) (c : goal.After-push_call g) → let i = c.self.inside in
     let old = book_of i.machine i.pending i.places i.next in
-    CallRow g.B.Boosted.answers g.B.Boosted.leaves g.B.Boosted.belongs g.B.Boosted.need old.state c.args.number (event g c) c.call.new.self × AppendsTo old (record_of g.B.Boosted.inverse c.args.number (event g c)) (book_of c.call.new.self c.push_call.new.self i.places i.next)
+    CallRow g.B.Boosted.meaning old.state c.args.number (event g c) c.call.new.self ×
+    AppendsTo old (record_of c.args.number (event g c))
+    (book_of c.call.new.self c.push_call.new.self i.places i.next)
 step g c =
     let i = c.self.inside in
-    let entry = record_of g.B.Boosted.inverse c.args.number (event g c) in
+    let entry = record_of c.args.number (event g c) in
     let put : waiting c.push_call.new.self ≡ waiting c.reserve.new.self ++ entry ∷ [] =
-    subst (λ b. waiting c.push_call.new.self ≡ waiting c.reserve.new.self ++ Record.Call (call_record c.args.number c.args.col c.args.call.now c.args.reply.now b) ∷ []) c.requires.back c.push_call.ensures.records in
-    let written = recorded i.machine i.pending i.places i.next entry c.call.new.self c.reserve.new.self c.push_call.new.self i.places i.next
-    (asks g c).room c.in_ok-reserve.ensures.records c.in_ok-reserve.ensures.freezes c.in_ok-reserve.ensures.handed put c.push_call.ensures.freezes c.push_call.ensures.handed (omega arith) in (
-      subst (λ e. CallRow g.B.Boosted.answers g.B.Boosted.leaves g.B.Boosted.belongs g.B.Boosted.need i.machine c.args.number e c.call.new.self) c.in_ok-asked.ensures.ok c.in_ok-call.ensures.ok,
+    subst (λ b. waiting c.push_call.new.self ≡ waiting c.reserve.new.self ++
+    Record.Call (call_record c.args.number c.args.col c.args.call.now c.args.reply.now b) ∷ [])
+    c.requires.back c.push_call.ensures.records in
+    let written = recorded i.machine i.pending i.places i.next entry c.call.new.self
+    c.reserve.new.self c.push_call.new.self i.places i.next
+    (asks g c).room c.in_ok-reserve.ensures.records c.in_ok-reserve.ensures.freezes
+    c.in_ok-reserve.ensures.handed put c.push_call.ensures.freezes c.push_call.ensures.handed
+    (omega arith) in (
+      subst (λ e. CallRow g.B.Boosted.meaning i.machine c.args.number e c.call.new.self)
+          c.in_ok-asked.ensures.ok c.in_ok-call.ensures.ok,
       record { appends = written; next = refl },
     )
 
@@ -70,9 +86,14 @@ pub invariant_of-self-2 : goal.invariant_of-self-2
 invariant_of-self-2 g c =
     let asked = asks g c in
     let number = c.self.invariant.upheld.numbers c.args.number asked.running.live in
-    let good = is_record g.B.Boosted.inverse g.met.B.Coded.inverse_as_told c.args.number c.args.col (g.B.Coded.collections c.self.inside.machine.now) c.args.call.now c.args.reply.now number c.ranges.col.fits asked.asked.1
-    ((g.met.B.Coded.answers_as_told c.self.inside.machine.now c.args.col c.args.call.now c.args.reply.now).0 (answered g c)) c.requires.call c.requires.reply in
-    call_keeps g.B.Boosted.answers g.B.Boosted.leaves g.B.Parts.makes g.B.Boosted.need g.B.Boosted.inverse g.B.Boosted.belongs g.B.Parts.names g.B.Boosted.within (λ s. AreShort (g.B.Coded.collections s)) (laws g) _ c.self.invariant c.args.number (event g c) _ (step g c).0 (step g c).1 good
+    let good = is_record c.args.number c.args.col (g.B.Coded.collections c.self.inside.machine.now)
+    c.args.call.now c.args.reply.now number c.ranges.col.fits asked.asked.1
+    ((g.met.B.Coded.told.answers c.self.inside.machine.now c.args.col c.args.call.now
+    c.args.reply.now).0 (answered g c)) c.requires.call c.requires.reply in
+    call_keeps g.B.Boosted.meaning g.B.Parts.making (λ s. AreShort (g.B.Coded.collections s))
+    (laws g) _ c.self.invariant c.args.number (event g c) _ (step g c).0 (step g c).1 good
 
 pub returns-clause-settled : goal.returns-clause-settled
-returns-clause-settled g c = rw (← c.self.view_is) (λ d w. call_settles g.B.Boosted.answers g.B.Boosted.leaves g.B.Parts.makes g.B.Boosted.need g.B.Boosted.inverse (laws g).rules _ c.self.invariant.upheld.holds g.B.Boosted.belongs c.args.number (event g c) _ d (step g c).0 w)
+returns-clause-settled g c = rw (← c.self.view_is)
+    (λ d w. call_settles g.B.Boosted.meaning g.B.Parts.making (laws g).rules _
+    c.self.invariant.upheld.holds c.args.number (event g c) _ d (step g c).0 w)

@@ -6,4 +6,5 @@ use Rattle.txn.proofs.book.Book.upheld.Goals as goal
 
 pub returns : goal.returns
 returns g c =
-    subst (IsKept g.B.Parts.names g.B.Boosted.within (λ s. AreShort (g.B.Coded.collections s)) (IsSound g.B.Boosted.answers g.B.Boosted.leaves g.B.Parts.makes g.B.Boosted.need g.B.Boosted.inverse)) c.self.view_is c.self.invariant
+    subst (IsKept g.B.Boosted.meaning g.B.Parts.making (λ s. AreShort (g.B.Coded.collections s))
+    (IsSound g.B.Boosted.meaning g.B.Parts.making)) c.self.view_is c.self.invariant

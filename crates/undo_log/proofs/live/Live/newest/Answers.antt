@@ -11,8 +11,11 @@ returns-clause-found c =
     let items = c.self.inside.entries.items in
     let place = c.in_ok-place.place in
     let rest = map owned_entry (remove items place) in
-    let found = subst (λ os. IsNewestPlace number os place) c.deref.ensures.value c.in_ok-place.ensures.found in (
+    let found = subst (λ os. IsNewestPlace number os place) c.deref.ensures.value
+    c.in_ok-place.ensures.found in (
       rest,
-      subst (λ log. let l : Log = log in IsNewestCall number l.entries (event_of c.in-Asked.logged) rest) c.self.view_is
-          (newest_here number items place c.index.result.now c.index.ensures c.in-Asked.logged c.in-Asked.is found),
+      subst (λ log. let l : Log = log in
+          IsNewestCall number l.entries (event_of c.in-Asked.logged) rest) c.self.view_is
+          (newest_here number items place c.index.result.now c.index.ensures c.in-Asked.logged
+          c.in-Asked.is found),
     )

@@ -4,4 +4,5 @@ use Rattle.world.proofs.world.World.cut.Goals as goal
 pub returns : goal.returns
 returns g c =
     rw (← c.self.view_is)
-    (cut_taken g.D.Disk _ (g.met.D.Disk.only_now c.self.inside.keeper.disk) c.cut.result c.cut.new.self c.cut.new.out.blocks.items c.cut.ensures.answer)
+    (cut_taken g.D.Disk _ (g.met.D.Disk.only_now c.self.inside.keeper.disk) c.cut.result
+    c.cut.new.self c.cut.new.out.blocks.items c.cut.ensures.answer)

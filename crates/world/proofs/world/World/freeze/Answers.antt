@@ -19,26 +19,45 @@ returns-in_err-image g c =
     let w = c.self.inside in
     let e = c.in_err-image.field-0.0 in
     rw (← c.self.view_is, p.1, p.2) (record {
-      past = λ start past had. unfrozen g.D.Disk.seen g.D.Disk.may_leave start past _ had c.freeze.new.self e c.in_err-image.ensures.answer;
-      any_moment = λ start past had. quiet g.D.Disk.seen g.D.Disk.may_leave start past _ had g.D.Disk.moment g.D.Disk.left_since (g.met.D.Disk.only_now w.keeper.disk) (Step.Freeze, Answer.Refused e);
+      past = λ start past had. unfrozen g.D.Disk.seen g.D.Disk.may_leave start past _ had
+          c.freeze.new.self e c.in_err-image.ensures.answer;
+      any_moment = λ start past had. quiet g.D.Disk.seen g.D.Disk.may_leave start past _ had
+          g.D.Disk.moment g.D.Disk.left_since (g.met.D.Disk.only_now w.keeper.disk)
+          (Step.Freeze, Answer.Refused e);
       mark = omega arith;
       own = tt;
       drawn = refl;
-      moves = record { frozen = Err e; froze = c.in_err-image.ensures.answer; begun = (refl, refl); transit = refl; mark = refl; next = refl };
+      moves = record {
+        frozen = Err e;
+        froze = c.in_err-image.ensures.answer;
+        begun = (refl, refl);
+        transit = refl;
+        mark = refl;
+        next = refl;
+      };
       honest = λ h. h;
     })
 
 -- the past goes on, at each moment of the freeze
 goes_on : (g : Over) (c : goal.After-begin_image g) (start : List Collection) (past : Past) →
-    HasPast g.D.Disk.seen g.D.Disk.may_leave start past (parts_of c.self.inside.book c.self.inside.keeper c.self.inside.transit.blocks.items c.self.inside.mark) →
-    HasPast g.D.Disk.seen g.D.Disk.may_leave start (past ++ (Step.Freeze, outcome (alone Answer.Frozen) c.begin_image.result) ∷ [])
-    (parts_of c.freeze.new.self c.begin_image.new.self c.self.inside.transit.blocks.items c.self.inside.mark)
-    × LeavesOnly g.D.Disk.moment g.D.Disk.left_since c.self.inside.keeper.disk c.begin_image.new.self.disk
-    (Yields start (past ++ (Step.Freeze, outcome (alone Answer.Frozen) c.begin_image.result) ∷ []) (take c.self.inside.mark (committed_in past)))
+    HasPast g.D.Disk.seen g.D.Disk.may_leave start past
+    (parts_of c.self.inside.book c.self.inside.keeper c.self.inside.transit.blocks.items
+    c.self.inside.mark) →
+    HasPast g.D.Disk.seen g.D.Disk.may_leave start
+    (past ++ (Step.Freeze, outcome (alone Answer.Frozen) c.begin_image.result) ∷ [])
+    (parts_of c.freeze.new.self c.begin_image.new.self c.self.inside.transit.blocks.items
+    c.self.inside.mark)
+    × LeavesOnly g.D.Disk.moment g.D.Disk.left_since c.self.inside.keeper.disk
+    c.begin_image.new.self.disk
+    (Yields start (past ++ (Step.Freeze, outcome (alone Answer.Frozen) c.begin_image.result) ∷ [])
+    (take c.self.inside.mark (committed_in past)))
 goes_on g c start past had =
     let w = c.self.inside in
-    freeze_past g.D.Disk.seen g.D.Disk.may_leave g.D.Disk.moment g.D.Disk.left_since start past w.book c.freeze.new.self w.keeper c.begin_image.new.self w.transit.blocks.items w.mark had (g.met.D.Disk.only_now w.keeper.disk)
-    c.in_ok-image.image c.in_ok-image.ensures.answer c.upheld.ensures c.begin_image.result c.begin_image.ensures.answer c.begin_image.ensures.begun
+    freeze_past g.D.Disk.seen g.D.Disk.may_leave g.D.Disk.moment g.D.Disk.left_since start past
+    w.book c.freeze.new.self w.keeper c.begin_image.new.self w.transit.blocks.items w.mark had
+    (g.met.D.Disk.only_now w.keeper.disk)
+    c.in_ok-image.image c.in_ok-image.ensures.answer c.upheld.ensures c.begin_image.result
+    c.begin_image.ensures.answer c.begin_image.ensures.begun
 
 pub returns : goal.returns
 returns g c = rw (← c.self.view_is) (record {
@@ -55,5 +74,7 @@ returns g c = rw (← c.self.view_is) (record {
     mark = refl;
     next = refl;
   };
-  honest = λ h. subst g.D.Disk.is_honest (begun_disk c.self.inside.keeper c.in_ok-image.image c.begin_image.new.self c.begin_image.result c.begin_image.ensures.answer) h;
+  honest = λ h. subst g.D.Disk.is_honest
+      (begun_disk c.self.inside.keeper c.in_ok-image.image c.begin_image.new.self
+      c.begin_image.result c.begin_image.ensures.answer) h;
 })

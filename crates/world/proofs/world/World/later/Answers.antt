@@ -4,4 +4,6 @@ use Rattle.world.proofs.world.World.later.Goals as goal
 pub returns : goal.returns
 returns g c =
     rw (← c.self.view_is)
-    (later_taken g.D.Disk _ (g.met.D.Disk.only_now c.self.inside.keeper.disk) c.later-put_off.new.self c.upheld.ensures.records c.args.number c.args.collection c.args.asked.now c.later-put_off.result c.later-put_off.ensures.answer)
+    (later_taken g.D.Disk _ (g.met.D.Disk.only_now c.self.inside.keeper.disk)
+    c.later-put_off.new.self c.upheld.ensures.records c.args.number c.args.collection
+    c.args.asked.now c.later-put_off.result c.later-put_off.ensures.answer)

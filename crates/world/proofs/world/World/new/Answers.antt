@@ -3,4 +3,5 @@ use Rattle.world.proofs.world.World.new.Goals as goal
 
 pub returns-in-Ok-clause-past : goal.returns-in-Ok-clause-past
 returns-in-Ok-clause-past g c = λ bytes opened ready.
-    past_begins g.D.Disk.seen g.D.Disk.may_leave bytes c.args.book c.args.keeper c.in-Ok.transit.blocks.items c.requires c.in-Ok.ensures opened ready
+    past_begins g.D.Disk.seen g.D.Disk.may_leave bytes c.args.book c.args.keeper
+    c.in-Ok.transit.blocks.items c.requires c.in-Ok.ensures opened ready

@@ -1,0 +1,268 @@
+-- What a collection of each kind can look up, that what is answered is of its kind, and what keeps
+-- laters ready.
+use Rattle.std.proofs.Common.{inl, inr, ◌≡◌, ℤ, ◌⊎◌, ⊎_elim, refl, ℕ, ◌≤◌, sym, ◌∙◌, ap, subst}
+use Rattle.std.proofs.Common.{arith, length}
+use Rattle.calls.specs.declared.kind.Kind.{Kind}
+use Rattle.calls.specs.declared.call.Call.{Call}
+use Rattle.calls.specs.declared.reply.Reply.{Reply}
+use Rattle.calls.specs.Rules.{kind_of, Askable, inverse_of, Undoes, Deferrable, Disposable, left_by}
+use Rattle.calls.specs.Rules.{need_of, Apart}
+use Rattle.calls.specs.Bags.{Bag}
+use Rattle.calls.specs.Sets as sets
+use Rattle.calls.specs.Maps as maps
+use Rattle.calls.specs.Queues as queues
+use Rattle.calls.specs.Counters as counters
+use Rattle.calls.specs.Pools as pools
+use Rattle.std.specs.List.{AllByRecursion}
+use Rattle.calls.proofs.Points.{in_remove_other}
+use Rattle.calls.proofs.PoolLaws.{free_kept, free_kept_past_free}
+
+-- A client can ask for the call, or it has a reply now.
+abbrev HasReply : {C : Type 0} → (C → Call → Reply → Type 0) → C → Call → Type 0
+HasReply Answers s c = Askable c ⊎ ((r : Reply) × Answers s c r)
+
+pub set_can_look : (s : sets.NumberSet) (c : Call) → kind_of c ≡ Kind.Set →
+    HasReply sets.Answers s c → sets.CanLook s c
+set_can_look s (Call.Contains x) k h = tt
+set_can_look s (Call.SetAdd x) k h = tt
+set_can_look s (Call.SetRemove x) k h = tt
+set_can_look s c k h = cc
+
+pub map_can_look : (s : maps.Table) (c : Call) → kind_of c ≡ Kind.Map → HasReply maps.Answers s c →
+    maps.CanLook s c
+map_can_look s (Call.Get x) k h = tt
+map_can_look s (Call.Put x v) k h = tt
+map_can_look s (Call.MapRemove x) k h = tt
+map_can_look s (Call.Ceiling x) k h = tt
+map_can_look s c k h = cc
+
+plucks : (s : Bag) (p g : _) (r : Reply) → queues.Answers s (Call.Pluck p g) r →
+    queues.Answers s (Call.Pluck p g) Reply.Done
+plucks s p g Reply.Done h = h
+plucks s p g r h = absurd h.1
+
+pub queue_can_look : (s : Bag) (c : Call) → kind_of c ≡ Kind.Queue → HasReply queues.Answers s c →
+    queues.CanLook s c
+queue_can_look s (Call.QueueAdd p g) k h = tt
+queue_can_look s Call.Take k h = tt
+queue_can_look s Call.Least k h = tt
+queue_can_look s (Call.Pluck p g) k h =
+    ⊎_elim (λ a. absurd a) (λ (w : (r : Reply) × queues.Answers s (Call.Pluck p g) r). plucks s p g
+    w.0 w.1) h
+queue_can_look s c k h = cc
+
+pub counter_can_look : (s : ℤ) (c : Call) → kind_of c ≡ Kind.Counter →
+    HasReply counters.Answers s c → counters.CanLook s c
+counter_can_look s (Call.Bump n) k h =
+    ⊎_elim (λ a. a) (λ (w : (r : Reply) × counters.Answers s (Call.Bump n) r). w.1.0.0) h
+counter_can_look s Call.Read k h = tt
+counter_can_look s c k h = cc
+
+frees : (s : sets.NumberSet) (x : _) (r : Reply) → pools.Answers s (Call.Free x) r →
+    pools.Answers s (Call.Free x) Reply.Done
+frees s x Reply.Done h = h
+frees s x r h = absurd h.1
+
+pub pool_can_look : (s : sets.NumberSet) (c : Call) → kind_of c ≡ Kind.Pool →
+    HasReply pools.Answers s c → pools.CanLook s c
+pool_can_look s Call.Draw k h = tt
+pool_can_look s (Call.Release x) k h = tt
+pool_can_look s (Call.Free x) k h =
+    ⊎_elim (λ a. absurd a) (λ (w : (r : Reply) × pools.Answers s (Call.Free x) r). frees s x w.0
+    w.1) h
+pool_can_look s c k h = cc
+
+pub set_answered : (s : sets.NumberSet) (c : Call) (r : Reply) → sets.Answers s c r →
+    kind_of c ≡ Kind.Set
+set_answered s (Call.Contains x) r h = refl
+set_answered s (Call.SetAdd x) r h = refl
+set_answered s (Call.SetRemove x) r h = refl
+set_answered s c r h = absurd h.1
+
+pub map_answered : (s : maps.Table) (c : Call) (r : Reply) → maps.Answers s c r →
+    kind_of c ≡ Kind.Map
+map_answered s (Call.Get x) r h = refl
+map_answered s (Call.Put x v) r h = refl
+map_answered s (Call.MapRemove x) r h = refl
+map_answered s (Call.Ceiling x) r h = refl
+map_answered s c r h = absurd h.1
+
+pub queue_answered : (s : Bag) (c : Call) (r : Reply) → queues.Answers s c r →
+    kind_of c ≡ Kind.Queue
+queue_answered s (Call.QueueAdd p g) r h = refl
+queue_answered s Call.Take r h = refl
+queue_answered s Call.Least r h = refl
+queue_answered s (Call.Pluck p g) r h = refl
+queue_answered s c r h = absurd h.1
+
+pub counter_answered : (s : ℤ) (c : Call) (r : Reply) → counters.Answers s c r →
+    kind_of c ≡ Kind.Counter
+counter_answered s (Call.Bump n) r h = refl
+counter_answered s Call.Read r h = refl
+counter_answered s c r h = absurd h.1
+
+pub pool_answered : (s : sets.NumberSet) (c : Call) (r : Reply) → pools.Answers s c r →
+    kind_of c ≡ Kind.Pool
+pool_answered s Call.Draw r h = refl
+pool_answered s (Call.Release x) r h = refl
+pool_answered s (Call.Free x) r h = refl
+pool_answered s c r h = absurd h.1
+
+pub deferrable_disposable : (d : Call) → Deferrable d → Disposable d
+deferrable_disposable (Call.Bump n) h = tt
+deferrable_disposable d h = absurd h
+
+pub leaves_one : (c : Call) (r : Reply) → length (left_by c r) ≤ 1
+leaves_one (Call.Release x) Reply.Queued = omega arith
+leaves_one c r = omega arith
+
+-- A later that a set, a map, a queue or a counter answers, it answers at every content.
+pub set_same : (s t : sets.NumberSet) (d : Call) → Disposable d → sets.Answers s d Reply.Done →
+    sets.Answers t d Reply.Done
+set_same s t (Call.Bump n) l h = absurd h.1
+set_same s t (Call.Free x) l h = absurd h.1
+set_same s t d l h = absurd l
+
+pub map_same : (s t : maps.Table) (d : Call) → Disposable d → maps.Answers s d Reply.Done →
+    maps.Answers t d Reply.Done
+map_same s t (Call.Bump n) l h = absurd h.1
+map_same s t (Call.Free x) l h = absurd h.1
+map_same s t d l h = absurd l
+
+pub queue_same : (s t : Bag) (d : Call) → Disposable d → queues.Answers s d Reply.Done →
+    queues.Answers t d Reply.Done
+queue_same s t (Call.Bump n) l h = absurd h.1
+queue_same s t (Call.Free x) l h = absurd h.1
+queue_same s t d l h = absurd l
+
+pub counter_same : (s t : ℤ) (d : Call) → Disposable d → counters.Answers s d Reply.Done →
+    counters.Answers t d Reply.Done
+counter_same s t (Call.Bump n) l h = h
+counter_same s t (Call.Free x) l h = absurd h.1
+counter_same s t d l h = absurd l
+
+-- Only a bump can be put off, and only a counter has bumps.
+pub set_deferred : (s : sets.NumberSet) (d : Call) → kind_of d ≡ Kind.Set → Deferrable d →
+    sets.Answers s d Reply.Done
+set_deferred s (Call.Bump n) k l = cc
+set_deferred s d k l = absurd l
+
+pub map_deferred : (s : maps.Table) (d : Call) → kind_of d ≡ Kind.Map → Deferrable d →
+    maps.Answers s d Reply.Done
+map_deferred s (Call.Bump n) k l = cc
+map_deferred s d k l = absurd l
+
+pub queue_deferred : (s : Bag) (d : Call) → kind_of d ≡ Kind.Queue → Deferrable d →
+    queues.Answers s d Reply.Done
+queue_deferred s (Call.Bump n) k l = cc
+queue_deferred s d k l = absurd l
+
+pub counter_deferred : (s : ℤ) (d : Call) → kind_of d ≡ Kind.Counter → Deferrable d →
+    counters.Answers s d Reply.Done
+counter_deferred s (Call.Bump n) k l = ((l, tt), tt)
+counter_deferred s d k l = absurd l
+
+pub pool_deferred : (s : sets.NumberSet) (d : Call) → kind_of d ≡ Kind.Pool → Deferrable d →
+    pools.Answers s d Reply.Done
+pool_deferred s (Call.Bump n) k l = cc
+pool_deferred s d k l = absurd l
+
+pub pool_deferred_stays : (s t : sets.NumberSet) (d : Call) → Deferrable d →
+    pools.Answers s d Reply.Done → pools.Answers t d Reply.Done
+pool_deferred_stays s t (Call.Bump n) l h = absurd h.1
+pool_deferred_stays s t d l h = absurd l
+
+-- A later of a pool stays ready past every call that a client can ask,
+pub pool_past_call : (s : sets.NumberSet) (c : Call) (r : Reply) (d : Call) → Askable c →
+    Disposable d → pools.Answers s c r → pools.Answers s d Reply.Done →
+    pools.Answers (pools.after s c r) d Reply.Done
+pool_past_call s c r (Call.Free x) k l h t = free_kept s x c r k h t
+pool_past_call s c r (Call.Bump n) k l h t = absurd t.1
+pool_past_call s c r d k l h t = absurd l
+
+-- past another later, or one whose need does not conflict,
+pub pool_past_later : (s : sets.NumberSet) (b d : Call) → Disposable b → Disposable d →
+    (b ≡ d → ⊥) ⊎ Apart b Reply.Done d Reply.Done →
+    pools.Answers s b Reply.Done → pools.Answers s d Reply.Done →
+    pools.Answers (pools.after s b Reply.Done) d Reply.Done
+pool_past_later s (Call.Free y) (Call.Free x) m l other h t =
+    free_kept_past_free s x y (λ e. ⊎_elim
+    (λ (k : Call.Free y ≡ Call.Free x → ⊥). k (ap Call.Free (sym e)))
+    (λ (k : Apart (Call.Free y) Reply.Done (Call.Free x) Reply.Done). k
+    ((omega arith, omega arith), λ n. n))
+    other) t
+pool_past_later s (Call.Bump n) d m l other h t = absurd h.1
+pool_past_later s (Call.Free y) (Call.Bump n) m l other h t = absurd t.1
+pool_past_later s (Call.Free y) d m l other h t = absurd l
+pool_past_later s b d m l other h t = absurd m
+
+-- and past the undoing of a call whose need does not conflict.
+free_past_undoing : (s u : sets.NumberSet) (c : Call) (r : Reply) (x : ℕ) →
+    Apart c r (Call.Free x) Reply.Done → Undoes pools.does inverse_of s c r u →
+    pools.Answers s (Call.Free x) Reply.Done → pools.Answers u (Call.Free x) Reply.Done
+free_past_undoing s u Call.Draw (Reply.Id y) x apart back t = (
+  t.0,
+  rw back.1.1 (in_remove_other s y x (λ e. apart ((omega arith, omega arith), λ n. n)) ∙
+      t.1),
+)
+free_past_undoing s u (Call.SetAdd y) Reply.Yes x apart back t = absurd back.1.0.1
+free_past_undoing s u (Call.SetRemove y) Reply.Yes x apart back t = absurd back.1.0.1
+free_past_undoing s u (Call.Put k v) Reply.Nothing x apart back t = absurd back.1.0.1
+free_past_undoing s u (Call.Put k v) (Reply.Value o) x apart back t = absurd back.1.0.1
+free_past_undoing s u (Call.MapRemove k) (Reply.Value o) x apart back t = absurd back.1.0.1
+free_past_undoing s u (Call.QueueAdd p g) Reply.Done x apart back t = absurd back.1.0.1
+free_past_undoing s u Call.Take (Reply.Item p g) x apart back t = absurd back.1.0.1
+free_past_undoing s u (Call.Bump n) Reply.Done x apart back t = absurd back.1.0.1
+free_past_undoing s u c r x apart back t =
+    subst (λ v. pools.Answers v (Call.Free x) Reply.Done) (sym back) t
+
+pub pool_past_undoing : (s u : sets.NumberSet) (c : Call) (r : Reply) (d : Call) → Disposable d →
+    Apart c r d Reply.Done → Undoes pools.does inverse_of s c r u → pools.Answers s d Reply.Done →
+    pools.Answers u d Reply.Done
+pool_past_undoing s u c r (Call.Free x) l apart back t = free_past_undoing s u c r x apart back t
+pool_past_undoing s u c r (Call.Bump n) l apart back t = absurd t.1
+pool_past_undoing s u c r d l apart back t = absurd l
+
+pub leaves_disposable : (c : Call) (r : Reply) → AllByRecursion Disposable (left_by c r)
+leaves_disposable (Call.Release x) Reply.Queued = (tt, tt)
+leaves_disposable c r = tt
+
+pub leaves_need : (c : Call) (r : Reply) →
+    AllByRecursion (λ d. need_of d Reply.Done ≡ need_of c r) (left_by c r)
+leaves_need (Call.Release x) Reply.Queued = (refl, tt)
+leaves_need c r = tt
+
+-- What can be put off is another later than each that may run, or apart from it: a bump is apart
+-- from every bump.
+pub deferred_is_other : (b d : Call) → Disposable b → Deferrable d →
+    (b ≡ d → ⊥) ⊎ Apart b Reply.Done d Reply.Done
+deferred_is_other (Call.Bump n) (Call.Bump m) l k = inr (λ h. h.1 tt)
+deferred_is_other (Call.Free x) (Call.Bump m) l k = inl (λ e. cc)
+deferred_is_other b (Call.Bump m) l k = absurd l
+deferred_is_other b d l k = absurd k
+
+-- What a call leaves is Done right after it. Only a pool answers a release.
+pub set_leaves : (s : sets.NumberSet) (c : Call) (r : Reply) → sets.Answers s c r →
+    AllByRecursion (λ d. sets.Answers (sets.after s c r) d Reply.Done) (left_by c r)
+set_leaves s (Call.Release x) Reply.Queued h = absurd h.1
+set_leaves s c r h = tt
+
+pub map_leaves : (s : maps.Table) (c : Call) (r : Reply) → maps.Answers s c r →
+    AllByRecursion (λ d. maps.Answers (maps.after s c r) d Reply.Done) (left_by c r)
+map_leaves s (Call.Release x) Reply.Queued h = absurd h.1
+map_leaves s c r h = tt
+
+pub queue_leaves : (s : Bag) (c : Call) (r : Reply) → queues.Answers s c r →
+    AllByRecursion (λ d. queues.Answers (queues.after s c r) d Reply.Done) (left_by c r)
+queue_leaves s (Call.Release x) Reply.Queued h = absurd h.1
+queue_leaves s c r h = tt
+
+pub counter_leaves : (s : ℤ) (c : Call) (r : Reply) → counters.Answers s c r →
+    AllByRecursion (λ d. counters.Answers (counters.after s c r) d Reply.Done) (left_by c r)
+counter_leaves s (Call.Release x) Reply.Queued h = absurd h.1
+counter_leaves s c r h = tt
+
+pub pool_leaves : (s : sets.NumberSet) (c : Call) (r : Reply) → pools.Answers s c r →
+    AllByRecursion (λ d. pools.Answers (pools.after s c r) d Reply.Done) (left_by c r)
+pool_leaves s (Call.Release x) Reply.Queued h = (h, tt)
+pool_leaves s c r h = tt

@@ -1,0 +1,161 @@
+// What of a call does not depend on a content: its need, its inverse, what it leaves, and who may
+// ask for it.
+ghost use Rattle.std.specs.Prelude.{◌≡◌, ◌↔◌, IsTrue, IsOk, IfOk, IfErr, IsOkUnless};
+ghost use Rattle.std.specs.Option.{option_to_list};
+ghost use Rattle.calls.specs.declared.refusal.Refusal.{Refusal};
+ghost use Rattle.calls.specs.Rules.{need_of, inverse_of, undone_by, left_by, Pairs, Askable};
+ghost use Rattle.calls.specs.Rules.{IsShort, CallRefused, Deferrable, Disposable};
+
+use crate::limits::MAX_VALUE;
+use crate::{Call, Mode, Need, Refusal, Reply};
+
+impl Call {
+    /// The keys that the call, answered so, uses, and how. It takes no memory.
+    pub fn need(&self, reply: &Reply) -> Need
+        ensures { result ≡ need_of self.now reply.now }
+    {
+        match (self, reply) {
+            (Call::Contains(x), _) => at(*x, Mode::Read),
+            (Call::SetAdd(x), Reply::Yes) => at(*x, Mode::Write),
+            (Call::SetAdd(x), Reply::No) => at(*x, Mode::Read),
+            (Call::SetRemove(x), Reply::Yes) => at(*x, Mode::Write),
+            (Call::SetRemove(x), Reply::No) => at(*x, Mode::Read),
+            (Call::Get(key), _) => at(*key, Mode::Read),
+            (Call::Put(key, _), _) => at(*key, Mode::Write),
+            (Call::MapRemove(key), Reply::Value(_)) => at(*key, Mode::Write),
+            (Call::MapRemove(key), Reply::Nothing) => at(*key, Mode::Read),
+            (Call::Ceiling(key), Reply::Entry(found, _)) => over(*key, *found, Mode::Read),
+            (Call::Ceiling(key), Reply::Nothing) => over(*key, u64::MAX, Mode::Read),
+            (Call::QueueAdd(priority, _), _) => at(*priority, Mode::Add),
+            (Call::Take, Reply::Item(priority, _)) => over(0, *priority, Mode::Write),
+            (Call::Take, Reply::Nothing) => over(0, u64::MAX, Mode::Read),
+            (Call::Least, Reply::Item(priority, _)) => over(0, *priority, Mode::Read),
+            (Call::Least, Reply::Nothing) => over(0, u64::MAX, Mode::Read),
+            (Call::Bump(_), _) => over(0, u64::MAX, Mode::Add),
+            (Call::Read, _) => over(0, u64::MAX, Mode::Read),
+            (Call::Draw, Reply::Id(x)) => at(*x, Mode::Write),
+            (Call::Release(x), Reply::Queued) => at(*x, Mode::Write),
+            (Call::Release(x), Reply::Absent) => at(*x, Mode::Read),
+            (Call::Free(x), _) => at(*x, Mode::Write),
+            (Call::Pluck(priority, _), _) => at(*priority, Mode::Write),
+            _ => over(0, u64::MAX, Mode::Write),
+        }
+    }
+
+    /// The call that takes back what the call did, answered so; none where it changed nothing.
+    /// NoMemory only for a
+    /// value that is put back.
+    pub fn inverse(&self, reply: &Reply) -> Result<Option<Call>, Refusal>
+        requires { Askable self.now }
+        ensures ok { IfOk result (λ back. back ≡ inverse_of self.now reply.now) }
+        ensures refusal { IsOkUnless result Refusal.NoMemory }
+    {
+        match (self, reply) {
+            (Call::SetAdd(x), Reply::Yes) => Ok(Some(Call::SetRemove(*x))),
+            (Call::SetRemove(x), Reply::Yes) => Ok(Some(Call::SetAdd(*x))),
+            (Call::Put(key, _), Reply::Nothing) => Ok(Some(Call::MapRemove(*key))),
+            (Call::Put(key, _), Reply::Value(old)) => Ok(Some(Call::Put(*key, old.copy()?))),
+            (Call::MapRemove(key), Reply::Value(old)) => Ok(Some(Call::Put(*key, old.copy()?))),
+            (Call::QueueAdd(priority, tag), Reply::Done) => Ok(Some(Call::Pluck(*priority, *tag))),
+            (Call::Take, Reply::Item(priority, tag)) => Ok(Some(Call::QueueAdd(*priority, *tag))),
+            (Call::Bump(by), Reply::Done) => Ok(Some(Call::Bump(-*by))),
+            (Call::Draw, Reply::Id(x)) => Ok(Some(Call::Free(*x))),
+            _ => Ok(None),
+        }
+    }
+
+    /// What the inverse of the call is answered where it takes back what the call did, answered so.
+    /// NoMemory only for a
+    /// value, which is copied.
+    pub fn undone_by(&self, reply: &Reply) -> Result<Reply, Refusal>
+        ensures ok { IfOk result (λ undone. undone ≡ undone_by self.now reply.now) }
+        ensures refusal { IsOkUnless result Refusal.NoMemory }
+    {
+        match (self, reply) {
+            (Call::SetAdd(_) | Call::SetRemove(_), Reply::Yes) => Ok(Reply::Yes),
+            (Call::Put(_, value), Reply::Nothing | Reply::Value(_)) => {
+                Ok(Reply::Value(value.copy()?))
+            }
+            (Call::MapRemove(_), Reply::Value(_)) => Ok(Reply::Nothing),
+            _ => Ok(Reply::Done),
+        }
+    }
+
+    /// Whether the call has such a reply in some content. It takes no memory.
+    pub fn pairs(&self, reply: &Reply) -> bool
+        ensures { IsTrue result ↔ Pairs self.now reply.now }
+    {
+        match (self, reply) {
+            (Call::Contains(_) | Call::SetAdd(_) | Call::SetRemove(_), Reply::Yes | Reply::No) => {
+                true
+            }
+            (
+                Call::Get(_) | Call::Put(_, _) | Call::MapRemove(_),
+                Reply::Value(_) | Reply::Nothing,
+            ) => true,
+            (Call::Ceiling(_), Reply::Entry(_, _) | Reply::Nothing) => true,
+            (Call::Take | Call::Least, Reply::Item(_, _) | Reply::Nothing) => true,
+            (Call::QueueAdd(_, _) | Call::Bump(_), Reply::Done) => true,
+            (Call::Read, Reply::Total(_)) => true,
+            (Call::Draw, Reply::Id(_)) => true,
+            (Call::Release(_), Reply::Queued | Reply::Absent) => true,
+            _ => false,
+        }
+    }
+
+    /// The later that the call, answered so, leaves to the commit. It takes no memory.
+    pub fn after(&self, reply: &Reply) -> Option<Call>
+        ensures { option_to_list result ≡ left_by self.now reply.now }
+    {
+        match (self, reply) {
+            (Call::Release(x), Reply::Queued) => Some(Call::Free(*x)),
+            _ => None,
+        }
+    }
+
+    /// Whether the call may run in a commit: a Bump, or a Free. It takes no memory.
+    pub fn is_disposable(&self) -> bool
+        ensures { IsTrue result ↔ Disposable self.now }
+    {
+        matches!(self, Call::Bump(_) | Call::Free(_))
+    }
+
+    /// Whether a client can put the call off to its commit: a Bump, but not by -2^63, which has no
+    /// inverse. It takes no
+    /// memory.
+    pub fn is_deferrable(&self) -> bool
+        ensures { IsTrue result ↔ Deferrable self.now }
+    {
+        match self {
+            Call::Bump(by) => *by > i64::MIN,
+            _ => false,
+        }
+    }
+}
+
+/// Whether a client can ask for the call. It takes no memory.
+///
+/// BadArg for Pluck, for Free and for a Bump of -2^63, which has no inverse; TooLong for a value
+/// over 256 bytes.
+pub fn check_call(call: &Call) -> Result<(), Refusal>
+    ensures ok { IsOk result ↔ (Askable call.now × IsShort call.now) }
+    ensures err { IfErr result (CallRefused call.now) }
+{
+    match call {
+        Call::Pluck(_, _) | Call::Free(_) | Call::Bump(i64::MIN) => Err(Refusal::BadArg),
+        Call::Put(_, value) if value.as_slice().len() > MAX_VALUE => Err(Refusal::TooLong),
+        _ => Ok(()),
+    }
+}
+
+fn at(key: u64, mode: Mode) -> Need
+    ensures { result ≡ record { low = key; high = key; mode = mode } }
+{
+    over(key, key, mode)
+}
+
+fn over(low: u64, high: u64, mode: Mode) -> Need
+    ensures { result ≡ record { low = low; high = high; mode = mode } }
+{
+    Need { low, high, mode }
+}
