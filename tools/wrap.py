@@ -1,6 +1,6 @@
 #!/usr/bin/env python3
-"""wrap.py FILE..: breaks lines over 100 columns in .antt files, and in the contracts, comments and
-`ghost use` lines of .rt files."""
+"""wrap.py FILE..: breaks lines over 100 columns in .antt files, and in the contracts and `ghost use`
+lines of .rt files, and fills paragraphs of comments. Texts in quotes stay as they are."""
 import re
 import sys
 
@@ -26,19 +26,53 @@ def names(line):
     return out
 
 
-def comment(line):
-    match = re.match(r'(\s*)(-- |/// |// |//! )(.*)$', line)
-    if not match:
-        return None
-    pad, mark, text = match.groups()
+def filled(pad, mark, words):
     out, run = [], ''
-    for word in text.split(' '):
+    for word in words:
         if run and len(pad + mark + run + ' ' + word) > WIDTH:
             out.append(pad + mark + run)
             run = word
         else:
             run = f'{run} {word}' if run else word
-    out.append(pad + mark + run)
+    return out + [pad + mark + run]
+
+
+def is_broken(pad, mark, texts):
+    """Whether a line is too long, or ends within a sentence before it is full."""
+    if any(len(pad + mark + text) > WIDTH for text in texts):
+        return True
+    return any(
+        len(pad + mark + text + ' ' + behind.split(' ')[0]) <= WIDTH
+        and text[-1] not in '.:;`' and re.match(r'[\w`("]', behind)
+        for text, behind in zip(texts, texts[1:]))
+
+
+def comments(lines):
+    """The lines, with each paragraph of comments filled that is broken."""
+    out, run, mark_of = [], [], None
+    fenced = False
+
+    def end():
+        if run:
+            pad, mark = mark_of
+            out.extend(filled(pad, mark, ' '.join(run).split(' ')) if is_broken(pad, mark, run)
+                       else [pad + mark + text for text in run])
+            run.clear()
+
+    for line in lines:
+        match = re.match(r'(\s*)(-- |/// |// |//! )(\S.*)$', line)
+        plain = match and not re.match(r'([-*#|>]|\d+\.|```|use )', match[3]) and not match[3].endswith('  ')
+        if match and match[3].startswith('```'):
+            fenced = not fenced
+        if not plain or fenced:
+            end()
+            out.append(line)
+            continue
+        if run and mark_of != (match[1], match[2]):
+            end()
+        mark_of = (match[1], match[2])
+        run.append(match[3])
+    end()
     return out
 
 
@@ -96,14 +130,15 @@ def wrap(path):
     out = []
     rust = path.endswith('.rt')
     inside = False
-    for line in text.split('\n'):
+    for line in comments(text.split('\n')):
         if rust and re.match(r'\s*(ensures|requires|ghost) ', line):
             inside = True
         if len(line) <= WIDTH:
             out.append(line)
         else:
-            done = names(line) or comment(line)
-            if not done and (not rust or inside):
+            done = names(line)
+            # a text is one text, however long
+            if not done and (not rust or inside) and not (rust and '"' in line):
                 done = code(line)
             out += done or [line]
         if rust and inside and line.count('{') + 0 and line.rstrip().endswith('}'):

@@ -56,10 +56,9 @@ impl NeedTable {
     }
 
     /// Lets the owner hold the need on the collection, beside what is held. Refusals, in their
-    /// order, each of which
-    /// leaves the table as it was: Busy with the least other owner of a need on the collection that
-    /// conflicts, exactly
-    /// where there is one; NoMemory, only where no room is reserved for the collection.
+    /// order, each of which leaves the table as it was: Busy with the least other owner of a need
+    /// on the collection that conflicts, exactly where there is one; NoMemory, only where no room
+    /// is reserved for the collection.
     pub fn ask(&mut self, owner: u64, col: u8, need: Need) -> Result<(), Refusal>
         ensures clear { OnOk result (IsClear self.old.holds owner col need) }
         ensures held { OnOk result (IsAdded self.old.holds self.new.holds (hold owner col need)) }
@@ -99,8 +98,7 @@ impl NeedTable {
     }
 
     /// Makes room for one more hold on the collection. NoMemory, which leaves the table as it was,
-    /// only where no room
-    /// was reserved for the collection.
+    /// only where no room was reserved for the collection.
     pub fn reserve(&mut self, col: u8) -> Result<(), Refusal>
         ensures room { OnOk result (HasRoom self.new col) }
         ensures rooms { KeepsRoom self.old self.new }

@@ -1,1 +1,2 @@
+pub mod ArgumentCommands
 pub mod ArgumentNumbers

@@ -3,9 +3,10 @@
 
 ghost use Rattle.std.specs.Prelude.{◌≡◌, codes, false, true, map, IfOk, IfErr, Some, IfSome};
 ghost use Rattle.std.specs.Prelude.{IsSomeAnd, string_bytes};
+ghost use Rattle.std.specs.Result.{IsOkAnd};
 ghost use Rattle.clap.specs.declared.builder.command.Command.TheViews.{out-Command};
 ghost use Rattle.clap.specs.Words.{app_of, found_of, first_of, rows_of, rule_of};
-ghost use Rattle.clap.specs.Words.{subcommand_rows_of};
+ghost use Rattle.clap.specs.Words.{subcommand_rows_of, with_subcommand};
 ghost use Rattle.arguments.specs.Arguments.{path_rule, area_rule, disk_app, format_app, play_app};
 ghost use Rattle.arguments.specs.Arguments.{program_app, Asks, IsNumberOf, IsAskedBy};
 
@@ -49,24 +50,6 @@ fn area<'a>(alloc: Global) -> Arg<'a>
         .value_parser(value_parser!(u64))
 }
 
-// The command that formats a disk.
-fn format_command<'a>(alloc: Global) -> Result<clap::Command<'a>, AllocError>
-    ensures { IfOk result (λ c. (app_of c ≡ format_app) × ((out-Command c).has_globals ≡ false)) }
-{
-    clap::Command::new(alloc, "format")
-        .arg(path(alloc, "DISK"))?
-        .arg(area(alloc))
-}
-
-// The command that plays a script on a disk.
-fn play_command<'a>(alloc: Global) -> Result<clap::Command<'a>, AllocError>
-    ensures { IfOk result (λ c. (app_of c ≡ play_app) × ((out-Command c).has_globals ≡ false)) }
-{
-    clap::Command::new(alloc, "play")
-        .arg(path(alloc, "DISK"))?
-        .arg(path(alloc, "SCRIPT"))
-}
-
 // A command on a disk alone.
 fn disk_command<'a>(alloc: Global, name: &'a str) -> Result<clap::Command<'a>, AllocError>
     ensures { IfOk result (λ c. (app_of c ≡ disk_app name.entry.now) ×
@@ -75,17 +58,41 @@ fn disk_command<'a>(alloc: Global, name: &'a str) -> Result<clap::Command<'a>, A
     clap::Command::new(alloc, name).arg(path(alloc, "DISK"))
 }
 
+// The command that formats a disk.
+fn format_command<'a>(alloc: Global) -> Result<clap::Command<'a>, AllocError>
+    ensures { IfOk result (λ c. (app_of c ≡ format_app) × ((out-Command c).has_globals ≡ false)) }
+{
+    disk_command(alloc, "format")?.arg(area(alloc))
+}
+
+// The command that plays a script on a disk.
+fn play_command<'a>(alloc: Global) -> Result<clap::Command<'a>, AllocError>
+    ensures { IfOk result (λ c. (app_of c ≡ play_app) × ((out-Command c).has_globals ≡ false)) }
+{
+    disk_command(alloc, "play")?.arg(path(alloc, "SCRIPT"))
+}
+
+// The program with one command more, where that could be made.
+fn with<'a>(
+    program: clap::Command<'a>,
+    made: Result<clap::Command<'a>, AllocError>,
+) -> Result<clap::Command<'a>, AllocError>
+    ensures { IfOk result (λ c. IsOkAnd made.entry (λ more. (out-Command more).has_globals ≡ false →
+        app_of c ≡ with_subcommand (app_of program.entry) (app_of more).top)) }
+{
+    program.subcommand(made?)
+}
+
 // The command lines that are understood.
 fn program<'a>(alloc: Global) -> Result<clap::Command<'a>, AllocError>
     ensures { IfOk result (λ c. app_of c ≡ program_app) }
 {
-    clap::Command::new(alloc, "boost")
-        .subcommand_required(true)
-        .subcommand(format_command(alloc)?)?
-        .subcommand(play_command(alloc)?)?
-        .subcommand(disk_command(alloc, "show")?)?
-        .subcommand(disk_command(alloc, "check")?)?
-        .subcommand(clap::Command::new(alloc, "demo"))
+    let program = clap::Command::new(alloc, "boost").subcommand_required(true);
+    let program = with(program, format_command(alloc))?;
+    let program = with(program, play_command(alloc))?;
+    let program = with(program, disk_command(alloc, "show"))?;
+    let program = with(program, disk_command(alloc, "check"))?;
+    program.subcommand(clap::Command::new(alloc, "demo"))
 }
 
 fn text(alloc: Global, found: &ArgMatches<'_>, id: &str) -> Result<Option<String>, AllocError>
@@ -105,32 +112,29 @@ fn number(found: &ArgMatches<'_>, id: &str) -> Option<u64>
     found.get_str(id)?.parse().ok()
 }
 
-// The command that the matches name.
-fn named(alloc: Global, matches: &ArgMatches<'_>) -> Result<Option<Task>, AllocError>
+// The task of the command of the name.
+fn named(alloc: Global, name: &str, found: &ArgMatches<'_>) -> Result<Option<Task>, AllocError>
     ensures { IfOk result (λ task. IfSome task
-        (λ t. IsSomeAnd (subcommand_rows_of matches.now) (Asks t))) }
+        (λ t. Asks t (name.now, rows_of (found_of found.now)))) }
 {
-    let Some((name, found)) = matches.subcommand() else {
-        return Ok(None);
-    };
     match name {
         "format" => {
-            let Some(disk) = text(alloc, found, "DISK")? else {
-                return Ok(None);
-            };
             let Some(area) = number(found, "area") else {
                 return Ok(None);
             };
-            Ok(Some(Task::Format { disk, area }))
+            match text(alloc, found, "DISK")? {
+                Some(disk) => Ok(Some(Task::Format { disk, area })),
+                None => Ok(None),
+            }
         }
         "play" => {
             let Some(disk) = text(alloc, found, "DISK")? else {
                 return Ok(None);
             };
-            let Some(script) = text(alloc, found, "SCRIPT")? else {
-                return Ok(None);
-            };
-            Ok(Some(Task::Play { disk, script }))
+            match text(alloc, found, "SCRIPT")? {
+                Some(script) => Ok(Some(Task::Play { disk, script })),
+                None => Ok(None),
+            }
         }
         "show" => match text(alloc, found, "DISK")? {
             Some(disk) => Ok(Some(Task::Show { disk })),
@@ -145,16 +149,40 @@ fn named(alloc: Global, matches: &ArgMatches<'_>) -> Result<Option<Task>, AllocE
     }
 }
 
+// The task that the matches ask for.
+fn asked(alloc: Global, matches: ArgMatches<'_>) -> Result<Option<Task>, AllocError>
+    ensures { IfOk result (λ task. IfSome task
+        (λ t. IsSomeAnd (subcommand_rows_of matches.entry) (Asks t))) }
+{
+    match matches.subcommand() {
+        Some((name, found)) => named(alloc, name, found),
+        None => Ok(None),
+    }
+}
+
+// The command that the words ask the program for.
+fn answer<'a>(
+    alloc: Global,
+    program: &mut clap::Command<'a>,
+    words: &'a [&'a str],
+) -> Result<Task, Error>
+    ensures { app_of program.old ≡ program_app →
+        IfOk result (λ task. IsAskedBy task (map (λ word. word.now) words.entry.now)) }
+{
+    let matches = program.try_get_matches_from_mut(words)?;
+    match asked(alloc, matches)? {
+        Some(task) => Ok(task),
+        None => Err(program.error(ErrorKind::MissingSubcommand, "no command")?),
+    }
+}
+
 /// The command that the words ask for; the first word is the program's name. Refused with clap's
-/// error, which has
-/// the text to print.
+/// error, which has the text to print.
 pub fn command<'a>(alloc: Global, words: &'a [&'a str]) -> Result<Task, Error>
     ensures { IfOk result (λ task. IsAskedBy task (map (λ word. word.now) words.entry.now)) }
 {
     let mut program = program(alloc)?;
-    let matches = program.try_get_matches_from_mut(words)?;
-    match named(alloc, &matches)? {
-        Some(asked) => Ok(asked),
-        None => Err(program.error(ErrorKind::MissingSubcommand, "no command")?),
-    }
+    let task = answer(alloc, &mut program, words);
+    drop(program);
+    task
 }

@@ -353,7 +353,11 @@ first_over w first full count after before waits is same offered =
         apart = λ n there. elim (Contains-append_cases (sealed_end first.sealed end)
             (sealed_ends end full) n (subst (λ l. Contains l n) ends there)) [
               | inl here ↦ omega (arith, block_end, end_only first.sealed end n here)
-              | inr later ↦ omega (arith, block_end, ends_above end full w.last.records n all.3 later)
+              | inr later ↦ omega (
+                arith,
+                block_end,
+                ends_above end full w.last.records n all.3 later,
+              )
             ];
         ends = offered.end;
         commits = offered.place;
@@ -371,7 +375,12 @@ first_over w first full count after before waits is same offered =
         λ there. subst (λ e. Contains (sealed_ends e full) n) (sym after_end)
             (elim (Contains-append_cases (sealed_end first.sealed end) (sealed_ends end full) n
             (subst (λ l. Contains l n) ends there.0)) [
-              | inl here ↦ absurd (omega (arith, there.1, block_end, end_only first.sealed end n here))
+              | inl here ↦ absurd (omega (
+                arith,
+                there.1,
+                block_end,
+                end_only first.sealed end n here,
+              ))
               | inr later ↦ later
             ]),
       ),

@@ -25,9 +25,8 @@ pub record HandsOver (pending : List Record) (freezes : List ℕ) (end place : �
   pub commits : block.place ≡ place + places first
 
 -- What a cut answers of the records that are pending, of the freezes that stood between them, and
--- of how many were handed over before: one block goes
--- behind those that wait in the outbox, and the freezes behind its end are left; or nothing where
--- nothing is pending. A refusal leaves all.
+-- of how many were handed over before: one block goes behind those that wait in the outbox, and the
+-- freezes behind its end are left; or nothing where nothing is pending. A refusal leaves all.
 abbrev pub CutsOff : (pending : List Record) (freezes : List ℕ) (end place : ℕ) → List Block →
     Type 0 → Result Bool Refusal → List Block →
     (rest : List Record) (freezes_then : List ℕ) (end_then place_then : ℕ) → Type 0

@@ -6,8 +6,8 @@ ghost use Rattle.blocks.specs.Wholes.{IsWhole};
 use std::collections::VecDeque;
 
 /// A whole block: an open gate, the length, the body, a closed gate. `end` is the position after
-/// its last record,
-/// counted since the store was opened, and `place` the count of commits and makes up to there.
+/// its last record, counted since the store was opened, and `place` the count of commits and makes
+/// up to there.
 #[derive(Drop, Debug)]
 pub struct Block {
     pub bytes: Vec<u8>,
@@ -17,9 +17,8 @@ pub struct Block {
 }
 
 /// Whole blocks that hold an image of a book, as `Book::freeze` answers it. `end` is the position
-/// after the last record
-/// that it covers, counted since the store was opened, and `place` the count of commits and makes
-/// up to there.
+/// after the last record that it covers, counted since the store was opened, and `place` the count
+/// of commits and makes up to there.
 #[derive(Drop, Debug)]
 pub struct Image {
     pub blocks: VecDeque<Vec<u8>>,

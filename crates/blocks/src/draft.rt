@@ -27,13 +27,26 @@ pub struct Handed {
 }
 
 /// Records spelled one behind another, into the block in which they will be handed over.
-#[derive(Drop)]
 pub(crate) struct Draft {
     bytes: Vec<u8>,
     noted: Noted,
     // how many records they are, and how many of them commit something
     count: usize,
     places: u64,
+}
+
+// Written out, so that the crates above call it in place of proving it again.
+impl Drop for Draft {
+    fn drop(self) {
+        let Self {
+            bytes,
+            noted,
+            count: _count,
+            places: _places,
+        } = self;
+        drop(bytes);
+        drop(noted);
+    }
 }
 
 impl Model for Draft {
@@ -150,14 +163,19 @@ impl Draft {
         requires short { length (spelling self.records) ≤ 65535 }
         ensures { IsBlockOf (spelling self.records) result.items }
     {
-        let Self { mut bytes, .. } = self;
+        let Self {
+            mut bytes,
+            noted,
+            count: _count,
+            places: _places,
+        } = self;
+        drop(noted);
         close_block(&mut bytes);
         bytes
     }
 
     // Hands the records over as one block, behind those that wait in the outbox, and counts them.
-    // Where the outbox is
-    // full they come back, and nothing is changed.
+    // Where the outbox is full they come back, and nothing is changed.
     pub(crate) fn offer<O: Outbox>(self, handed: &mut Handed, out: &mut O) -> Result<(), Draft>
         requires some { 0 < length self.records }
         requires short { length (spelling self.records) ≤ 65535 }

@@ -27,8 +27,7 @@ pub(crate) struct Filled {
 /// over.
 ///
 /// Contracts see the records that wait, in order, the positions that no block may cross, and how
-/// many records were
-/// handed over before.
+/// many records were handed over before.
 #[derive(Drop)]
 pub struct Pending {
     alloc: Global,
@@ -98,8 +97,7 @@ impl Pending {
     }
 
     /// Makes room for a record of the length, so that `push` can write it: in the block that is
-    /// filled now, or in one more
-    /// where it does not fit there.
+    /// filled now, or in one more where it does not fit there.
     ///
     /// NoMemory, which leaves the records.
     pub fn reserve(&mut self, len: usize) -> Result<(), Refusal>
@@ -144,8 +142,7 @@ impl Pending {
     }
 
     /// Writes the record of a call behind the others, from its parts, in the room that was made for
-    /// it. No call is copied,
-    /// and no memory is taken.
+    /// it. No call is copied, and no memory is taken.
     pub fn push_call(
         &mut self,
         number: u64,
@@ -189,8 +186,7 @@ impl Pending {
     }
 
     /// Seals the block that is filled now, where there is a record in it: no later one goes into
-    /// it, so no block crosses
-    /// the position behind the last record.
+    /// it, so no block crosses the position behind the last record.
     ///
     /// NoMemory, which changes nothing.
     pub fn seal(&mut self) -> Result<(), Refusal>
@@ -217,8 +213,8 @@ impl Pending {
     }
 
     /// Hands the first records over as one block, as many whole ones as fit in it and as come
-    /// before the next freeze, and
-    /// answers true; false where no record waits. No record is copied, and no memory is taken.
+    /// before the next freeze, and answers true; false where no record waits. No record is copied,
+    /// and no memory is taken.
     ///
     /// NotNow, only where a record waits and the outbox is full. It leaves the records.
     pub fn cut<O: Outbox>(&mut self, out: &mut O) -> Result<bool, Refusal>

@@ -16,9 +16,8 @@ use Rattle.player.specs.declared.client.Client.{Client}
 use Rattle.script.specs.declared.line.Line.{Line}
 
 -- Steps were taken from the content. Whatever a stop at any moment since old might have left is
--- sound, and stands for a content that some beginning of
--- what they committed gives, each transaction run whole, one after another, with the replies that
--- were got.
+-- sound, and stands for a content that some beginning of what they committed gives, each
+-- transaction run whole, one after another, with the replies that were got.
 pub record WasPlayed {D : Type 0} (moment : D → ℕ) (left_since : D → ℕ → List ℕ → Type 0)
     (content : List Collection) (old new : D) : Type 0 where
   pub steps : Past
@@ -38,8 +37,7 @@ StartsFrom g old w = (content : List Collection) → StandsFor (g.seen old) cont
     IsAtRest g.seen g.may_leave old → HasPast g.seen g.may_leave content [] (parts w)
 
 -- Lines are played on a disk: it was opened, the lines were carried out, one after another, for 64
--- clients that had done nothing before, and the disk is that
--- of the world behind them.
+-- clients that had done nothing before, and the disk is that of the world behind them.
 pub record ArePlayedOn {D : Type 0} (g : Ghosts D) (lines : List Line) (old new : D) : Type 0 where
   pub opened : Whole D
   pub starts : StartsFrom g old opened

@@ -31,32 +31,23 @@ use world::World;
 /// Carries a command out on a disk, and answers the status of the program with the disk.
 ///
 /// Format makes the disk an empty store. Play runs the script, and prints for each line that is not
-/// passed over its
-/// number and its answer. Show prints for each collection, by rising number, a line with its kind
-/// and name, and then
-/// each of its items in a line of its own, after two spaces. Check prints how many collections,
-/// unfinished transactions
-/// and journal records the store has, and writes nothing. Demo runs a stored script on a disk in
-/// memory of its own and
-/// prints what Play does, and then what Show does: it touches neither the disk nor the script.
+/// passed over its number and its answer. Show prints for each collection, by rising number, a line
+/// with its kind and name, and then each of its items in a line of its own, after two spaces. Check
+/// prints how many collections, unfinished transactions and journal records the store has, and
+/// writes nothing. Demo runs a stored script on a disk in memory of its own and prints what Play
+/// does, and then what Show does: it touches neither the disk nor the script.
 ///
 /// Play and Show open the store: transactions that have not ended are undone, and that is written
-/// to the disk. On a disk
-/// at rest that reads true and whose bytes are sound, a stop at any moment of a Show leaves the
-/// content, and one of a
-/// Play a beginning of what its steps committed; a Format leaves an empty store, at rest, and a
-/// stop in it what
-/// `recovery::format` says. After a Play with status 0 all lines of the script were carried out,
-/// one after another, on
-/// the store that was opened, those that were refused among them.
+/// to the disk. On a disk at rest that reads true and whose bytes are sound, a stop at any moment
+/// of a Show leaves the content, and one of a Play a beginning of what its steps committed; a
+/// Format leaves an empty store, at rest, and a stop in it what `recovery::format` says. After a
+/// Play with status 0 all lines of the script were carried out, one after another, on the store
+/// that was opened, those that were refused among them.
 ///
 /// The status is 0 where the command was done, lines of the script that were refused among it; else
-/// a text goes to
-/// `err`, as `Failure` says: 3 for a script with a line that is not understood, of which no line is
-/// run and for
-/// which the store is not opened; 1 for a refusal that answers no line; and 4, with no text, where
-/// output could not
-/// be written.
+/// a text goes to `err`, as `Failure` says: 3 for a script with a line that is not understood, of
+/// which no line is run and for which the store is not opened; 1 for a refusal that answers no
+/// line; and 4, with no text, where output could not be written.
 pub fn run<D: Disk, O: Write, E: Write>(
     alloc: Global,
     task: &Task,
@@ -94,8 +85,7 @@ pub fn run<D: Disk, O: Write, E: Write>(
 }
 
 /// Says why a command was not done, in a line of its own, and answers the status; of `Unwritten` it
-/// says nothing. A
-/// text that cannot be written is passed over.
+/// says nothing. A text that cannot be written is passed over.
 pub fn report<E: Write>(failure: &Failure<'_>, err: &mut E) -> u8
     ensures status { result ≡ status_of failure.now }
     ensures silent { failure.now ≡ Failure.Unwritten → err.new ≡ err.old }
@@ -217,8 +207,8 @@ fn play_script<D: Disk, O: Write>(
 }
 
 // The player of a store that is opened. Where the disk is at rest and reads true, the past of its
-// world begins with the
-// content of the store, and a stop at any moment of the opening leaves that content.
+// world begins with the content of the store, and a stop at any moment of the opening leaves that
+// content.
 fn open_player<D: Disk>(alloc: Global, disk: D) -> Result<Player<D>, (Refusal, D)>
     ensures clients { IfOk result (λ player. player.clients ≡ replicate 64 nobody) }
     ensures past { IfOk result (λ player. D.is_honest player.world.keeper.disk →

@@ -25,8 +25,7 @@ abbrev pub Apart : {A : Type 0} → A → Call → Reply → A → Call → Repl
 Apart at a ra bt b rb = at ≡ bt → Conflict (need_of a ra) (need_of b rb) → ⊥
 
 -- A client's call is refused so: where it is misplaced, else where it cannot be asked, else where a
--- value
--- is too long.
+-- value is too long.
 abbrev pub AskRefusal : (belongs : Type 0) → (misplaced : Refusal → Type 0) → Call → Refusal →
     Type 0
 AskRefusal belongs misplaced c Refusal.BadArg = belongs × (Askable c → ⊥)

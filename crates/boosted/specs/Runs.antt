@@ -3,8 +3,7 @@ use Rattle.std.specs.Prelude.{◌≡◌, ℕ, ◌==◌, not, ◌⊎◌, List, []
 use Rattle.std.specs.List.{filter, AllByRecursion}
 
 -- does s e t: the event e leads from the state s to the state t. The events lead from s to t one
--- after another
--- by `Leads` of the crate calls.
+-- after another by `Leads` of the crate calls.
 
 -- Where a and then b lead from s to t, b and then a do too.
 abbrev pub Swaps : {S E : Type 0} → (S → E → S → Type 0) → E → E → Type 0

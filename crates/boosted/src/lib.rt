@@ -1,10 +1,8 @@
 //! Collections whose calls can be undone, and change places where their needs do not conflict.
 //!
 //! The trait `Boosted` is what Herlihy and Koskinen's transactional boosting (PPoPP 2008) asks of a
-//! base object: what
-//! each call does, which calls commute, and the inverse of each. Its laws are all that the layers
-//! above know of a
-//! collection.
+//! base object: what each call does, which calls commute, and the inverse of each. Its laws are all
+//! that the layers above know of a collection.
 #![tactic(auto)]
 
 ghost use Rattle.std.specs.Prelude.{◌≡◌, ◌↔◌, IsTrue, OnOk, OnErr, IfOk, IfErr, IsOk, IsOkUnless};
@@ -45,8 +43,7 @@ pub trait Boosted: Drop {
         ensures { IsTrue result ↔ meaning.answers self.now at call.now reply.now };
 
     /// Makes the call, answered so. NoMemory leaves the content as before, and does not come for a
-    /// call that may run
-    /// in a commit.
+    /// call that may run in a commit.
     fn run(&mut self, at: Self::At, call: &Call, reply: &Reply) -> Result<(), Refusal>
         requires can { meaning.answers self.old at call.now reply.now }
         requires room { HasRoom meaning self.old }
@@ -56,9 +53,8 @@ pub trait Boosted: Drop {
         ensures disposable { Disposable call.now → IsOk result };
 
     /// Whether a client can ask for the call. Where not: the refusals of a call that is not of the
-    /// place, then BadArg
-    /// for one that a client cannot ask, then TooLong for a value over 256 bytes. It takes no
-    /// memory.
+    /// place, then BadArg for one that a client cannot ask, then TooLong for a value over 256
+    /// bytes. It takes no memory.
     fn askable(&self, at: Self::At, call: &Call) -> Result<(), Refusal>
         ensures ok { IsOk result ↔ CanAsk meaning self.now at call.now }
         ensures err { IfErr result (AskRefused meaning self.now at call.now) };
@@ -85,8 +81,7 @@ pub trait Boosted: Drop {
     }
 
     /// The call that takes back what a call did, answered so; none where it changed nothing.
-    /// NoMemory only for a call
-    /// that holds a value.
+    /// NoMemory only for a call that holds a value.
     fn inverse(call: &Call, reply: &Reply) -> Result<Option<Call>, Refusal>
         requires { Askable call.now }
         ensures ok { IfOk result (λ back. back ≡ inverse_of call.now reply.now) }
@@ -103,7 +98,7 @@ pub trait Boosted: Drop {
     }
 
     /// Calls are taken back by their inverses; those whose needs do not conflict commute, and a
-    /// later moves left past
-    /// them; a run wears by one; what is put off or left to the commit can run there.
+    /// later moves left past them; a run wears by one; what is put off or left to the commit can
+    /// run there.
     ghost laws: { BoostedLaws meaning };
 }

@@ -1,7 +1,11 @@
 -- What a collection of each kind can look up, that what is answered is of its kind, and what keeps
 -- laters ready.
 use Rattle.std.proofs.Common.{inl, inr, ◌≡◌, ℤ, ◌⊎◌, ⊎_elim, refl, ℕ, ◌≤◌, sym, ◌∙◌, ap, subst}
-use Rattle.std.proofs.Common.{arith, length}
+use Rattle.std.proofs.Common.{arith, length, ◌≢◌, ◌<◌, ◌==◌, ◌&&◌, not, Bool, true, false, zero}
+use Rattle.std.proofs.Common.{suc}
+use Rattle.std.proofs.Common.{List, [], ◌∷◌, All, get_or, codes}
+use Rattle.std.proofs.lemmas.Bool.{eq-eqb, true≢false}
+use Rattle.calls.specs.Contents.{kind_text}
 use Rattle.calls.specs.declared.kind.Kind.{Kind}
 use Rattle.calls.specs.declared.call.Call.{Call}
 use Rattle.calls.specs.declared.reply.Reply.{Reply}
@@ -266,3 +270,37 @@ pub pool_leaves : (s : sets.NumberSet) (c : Call) (r : Reply) → pools.Answers 
     AllByRecursion (λ d. pools.Answers (pools.after s c r) d Reply.Done) (left_by c r)
 pool_leaves s (Call.Release x) Reply.Queued h = (h, tt)
 pool_leaves s c r h = tt
+
+-- ---- names of kinds
+
+no_space : (xs : List ℕ) → AllByRecursion (λ b. b ≢ 32) xs → (k d : ℕ) → k < length xs →
+    get_or xs k d ≢ 32
+no_space [] all k d lt = absurd (omega arith)
+no_space (x ∷ xs) all zero d lt = all.0
+no_space (x ∷ xs) all (suc k) d lt = no_space xs all.1 k d (omega arith)
+
+abbrev pub spaceless : List ℕ → Bool
+spaceless [] = true
+spaceless (x ∷ xs) = not (x == 32) && spaceless xs
+
+both : (a b : Bool) → (not a && b) ≡ true → (a ≡ false) × (b ≡ true)
+both false true is = (refl, refl)
+both false false is = cc
+both true b is = cc
+
+by_test : (xs : List ℕ) → spaceless xs ≡ true → AllByRecursion (λ b. b ≢ 32) xs
+by_test [] is = tt
+by_test (x ∷ xs) is =
+    let parts = both (x == 32) (spaceless xs) is in
+    (λ e. true≢false (sym (eq-eqb x 32 e) ∙ parts.0), by_test xs parts.1)
+
+-- A text that is written out has no space, by a test.
+pub whole_by_test : (xs : List ℕ) → spaceless xs ≡ true → All (λ b. b ≢ 32) xs
+whole_by_test xs is = no_space xs (by_test xs is)
+
+pub kind_whole : (k : Kind) → All (λ b. b ≢ 32) (kind_text k)
+kind_whole Kind.Set = whole_by_test (codes "set") refl
+kind_whole Kind.Map = whole_by_test (codes "map") refl
+kind_whole Kind.Queue = whole_by_test (codes "queue") refl
+kind_whole Kind.Counter = whole_by_test (codes "counter") refl
+kind_whole Kind.Pool = whole_by_test (codes "pool") refl

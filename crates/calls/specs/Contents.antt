@@ -1,5 +1,5 @@
 -- What a collection holds, and what a list of named collections holds.
-use Rattle.std.specs.Prelude.{◌≡◌, ℕ, zero, suc, ℤ, pos, List, [], ◌∷◌, map, replicate}
+use Rattle.std.specs.Prelude.{◌≡◌, ℕ, zero, suc, ℤ, pos, List, [], ◌∷◌, map, replicate, codes}
 use Rattle.std.specs.List.{flat_map}
 use Rattle.std.specs.FinMap as maps_of
 use Rattle.std.specs.FinSet as sets_of
@@ -38,6 +38,14 @@ kind_of_content (InMap m) = Kind.Map
 kind_of_content (InQueue q) = Kind.Queue
 kind_of_content (InCounter n) = Kind.Counter
 kind_of_content (InPool s) = Kind.Pool
+
+-- The name of a kind in scripts, and in what the program prints.
+abbrev pub kind_text : Kind → List ℕ
+kind_text Kind.Set = codes "set"
+kind_text Kind.Map = codes "map"
+kind_text Kind.Queue = codes "queue"
+kind_text Kind.Counter = codes "counter"
+kind_text Kind.Pool = codes "pool"
 
 -- The item is one of a collection of the kind.
 abbrev pub IsItemOf : Kind → Item → Type 0

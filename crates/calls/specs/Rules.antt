@@ -1,6 +1,5 @@
 -- What of a call does not depend on a content: its kind, its replies, its ranges, what it needs,
--- its inverse, what it
--- leaves to the commit, and who may ask for it.
+-- its inverse, what it leaves to the commit, and who may ask for it.
 use Rattle.std.specs.Prelude.{ℕ, ◌≤◌, ◌-◌, ◌^◌, ℤ, pos, negsuc, ◌<ℤ◌, List, [], ◌∷◌, ◌≡◌, Option}
 use Rattle.std.specs.Prelude.{Some, None, MatchOption, neg_ℤ, length}
 use Rattle.calls.specs.declared.call.Call.{Call}

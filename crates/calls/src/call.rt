@@ -5,8 +5,7 @@ use crate::{Bytes, Kind};
 use std::alloc::AllocError;
 
 /// What a collection can be asked. Elements, keys, priorities, tags and identifiers are any u64. A
-/// client cannot ask
-/// `Pluck` and `Free`, which are inverses.
+/// client cannot ask `Pluck` and `Free`, which are inverses.
 #[derive(Drop, Debug)]
 pub enum Call {
     /// Whether the element is in the set.

@@ -2,8 +2,7 @@
 use crate::Bytes;
 
 /// A part of what a collection holds, by the collection's kind. A set, a map, a pool and a queue
-/// have any number of
-/// them; a counter has one.
+/// have any number of them; a counter has one.
 #[derive(Drop, Debug)]
 pub enum Item {
     /// An element of a set, or a taken identifier of a pool.

@@ -1,4 +1,8 @@
 // What a collection is.
+ghost use Rattle.std.specs.Prelude.{◌≡◌, MatchOption};
+ghost use Rattle.calls.specs.declared.kind.Kind.{Kind};
+ghost use Rattle.calls.specs.Contents.{kind_text};
+
 use std::fmt;
 
 /// What a collection is.
@@ -16,14 +20,38 @@ pub enum Kind {
     Pool,
 }
 
+impl Kind {
+    /// The name of the kind in scripts, and in what the program prints.
+    pub fn name(&self) -> &'static str
+        ensures { result.now ≡ kind_text self.now }
+    {
+        match self {
+            Kind::Set => "set",
+            Kind::Map => "map",
+            Kind::Queue => "queue",
+            Kind::Counter => "counter",
+            Kind::Pool => "pool",
+        }
+    }
+
+    /// The kind of this name, if there is one. It takes no memory.
+    pub fn named(text: &[u8]) -> Option<Self>
+        ensures { MatchOption result ((k : Kind) → text.now ≡ kind_text k → ⊥)
+            (λ k. text.now ≡ kind_text k) }
+    {
+        match text {
+            b"set" => Some(Kind::Set),
+            b"map" => Some(Kind::Map),
+            b"queue" => Some(Kind::Queue),
+            b"counter" => Some(Kind::Counter),
+            b"pool" => Some(Kind::Pool),
+            _ => None,
+        }
+    }
+}
+
 impl fmt::Display for Kind {
     fn fmt<W: fmt::Write>(&self, f: &mut fmt::Formatter<W>) -> fmt::Result {
-        match self {
-            Kind::Set => write!(f, "set"),
-            Kind::Map => write!(f, "map"),
-            Kind::Queue => write!(f, "queue"),
-            Kind::Counter => write!(f, "counter"),
-            Kind::Pool => write!(f, "pool"),
-        }
+        f.write_str(self.name())
     }
 }

@@ -1,6 +1,5 @@
 //! The calls of a store's collections and their replies, the needs that keep two transactions
-//! apart, the refusals
-//! and the limits of the store.
+//! apart, the refusals and the limits of the store.
 #![tactic(auto)]
 
 mod bytes;

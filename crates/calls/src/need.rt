@@ -20,8 +20,7 @@ pub struct Need {
 
 impl Need {
     /// Whether calls of two transactions on one collection may not both have these needs: the spans
-    /// overlap, and the
-    /// modes are neither Read with Read nor Add with Add. It takes no memory.
+    /// overlap, and the modes are neither Read with Read nor Add with Add. It takes no memory.
     pub fn conflicts(&self, other: &Need) -> bool
         ensures { IsTrue result ↔ Conflict self.now other.now }
     {

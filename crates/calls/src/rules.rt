@@ -43,8 +43,7 @@ impl Call {
     }
 
     /// The call that takes back what the call did, answered so; none where it changed nothing.
-    /// NoMemory only for a
-    /// value that is put back.
+    /// NoMemory only for a value that is put back.
     pub fn inverse(&self, reply: &Reply) -> Result<Option<Call>, Refusal>
         requires { Askable self.now }
         ensures ok { IfOk result (λ back. back ≡ inverse_of self.now reply.now) }
@@ -65,8 +64,7 @@ impl Call {
     }
 
     /// What the inverse of the call is answered where it takes back what the call did, answered so.
-    /// NoMemory only for a
-    /// value, which is copied.
+    /// NoMemory only for a value, which is copied.
     pub fn undone_by(&self, reply: &Reply) -> Result<Reply, Refusal>
         ensures ok { IfOk result (λ undone. undone ≡ undone_by self.now reply.now) }
         ensures refusal { IsOkUnless result Refusal.NoMemory }
@@ -121,8 +119,7 @@ impl Call {
     }
 
     /// Whether a client can put the call off to its commit: a Bump, but not by -2^63, which has no
-    /// inverse. It takes no
-    /// memory.
+    /// inverse. It takes no memory.
     pub fn is_deferrable(&self) -> bool
         ensures { IsTrue result ↔ Deferrable self.now }
     {

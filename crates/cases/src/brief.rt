@@ -30,7 +30,7 @@ pub fn write_line(line: &str, out: &mut impl Write) -> io::Result<()> {
         count = count.saturating_add(1);
     }
     write_run(last, count, out)?;
-    writeln!(out, "")
+    out.write_all(b"\n")
 }
 
 /// Writes the last lines of a text, so many of them, each behind a mark, and how many stand before
@@ -41,7 +41,7 @@ pub fn write_last(text: &str, last: usize, mark: &str, out: &mut impl Write) -> 
         writeln!(out, "({before} lines)")?;
     }
     for line in text.lines().skip(before) {
-        write!(out, "{mark}")?;
+        out.write_all(mark.as_bytes())?;
         write_line(line, out)?;
     }
     Ok(())
@@ -52,5 +52,5 @@ pub fn write_bytes(bytes: &[u8], out: &mut impl Write) -> io::Result<()> {
     for byte in bytes {
         write!(out, "{byte:02x}")?;
     }
-    writeln!(out, "")
+    out.write_all(b"\n")
 }

@@ -1,68 +1,83 @@
 // Stores with bytes that no program wrote: what a check and a show make of them.
 use crate::bench::{Bench, empty_store};
 use crate::brief::write_line;
-use crate::disks::{bytes_at, put_at};
+use crate::disks::{self, bytes_at, disk_of};
 use crate::runs::{Ran, run_on, text, to_check, to_show};
-use crate::values::{byte, bytes, number, pair};
+use crate::values::{byte, bytes, number, three};
+use boost::Task;
 use disk_model::{Disk, MemDisk};
 use std::alloc::{AllocError, Global};
 use std::io::{self, Write};
 
-// What a run answered: its status, and what it printed, in one line.
-fn line_of(alloc: Global, ran: &Ran) -> Result<String, AllocError> {
-    let (status, printed, errors) = (ran.status, text(&ran.out), text(&ran.err));
-    let mut line = format!(in alloc; "{status}")?;
-    for part in printed.lines().chain(errors.lines()) {
+// Adds the lines of a text to a line.
+fn add_lines(line: &mut String, text: &str) -> Result<(), AllocError> {
+    for part in text.lines() {
         line.push_str(" / ")?;
         line.push_str(part)?;
     }
+    Ok(())
+}
+
+// What a run answered: its status, and what it printed, in one line.
+fn line_of(alloc: Global, ran: &Ran) -> Result<String, AllocError> {
+    let mut line = format!(in alloc; "{}", ran.status)?;
+    add_lines(&mut line, text(&ran.out))?;
+    add_lines(&mut line, text(&ran.err))?;
     Ok(line)
 }
 
-// What a check answers, and what a show answers where that is otherwise.
-fn found_on(alloc: Global, disk: MemDisk) -> io::Result<String> {
-    let checked = run_on(alloc, &to_check(alloc), disk, &[]);
-    let mut found = line_of(alloc, &checked)?;
-    let Ran { disk, .. } = checked;
-    let shown = run_on(alloc, &to_show(alloc), disk, &[]);
-    let line = line_of(alloc, &shown)?;
-    if line.as_str() != found.as_str() {
+// What a task answers on a disk, in one line, and the disk.
+fn line_on(alloc: Global, task: Task, disk: MemDisk) -> Result<(String, MemDisk), AllocError> {
+    let (ran, disk) = run_on(alloc, task, disk, &[]);
+    Ok((line_of(alloc, &ran)?, disk))
+}
+
+// What a check answered, and what a show answered where that is otherwise.
+fn joined(checked: String, shown: &str) -> Result<String, AllocError> {
+    let mut found = checked;
+    if shown != found.as_str() {
         found.push_str(", shows ")?;
-        found.push_str(line.as_str())?;
+        found.push_str(shown)?;
     }
     Ok(found)
+}
+
+// What a check answers, and what a show answers where that is otherwise.
+fn found_on(alloc: Global, disk: MemDisk) -> Result<String, AllocError> {
+    let (checked, disk) = line_on(alloc, to_check(alloc), disk)?;
+    let (shown, _) = line_on(alloc, to_show(alloc), disk)?;
+    joined(checked, shown.as_str())
+}
+
+// An empty store whose first area begins with these bytes.
+fn store_with(alloc: Global, text: &str) -> io::Result<MemDisk> {
+    let area = bytes(alloc, text)?;
+    disks::changed(empty_store(alloc)?, 4096, area.as_slice())
 }
 
 /// An empty store whose first area begins with these bytes: prints what a check and a show make of
 /// it.
 pub fn tell_area(alloc: Global, text: &str, out: &mut impl Write) -> io::Result<()> {
-    let mut disk = empty_store(alloc)?;
-    let area = bytes(alloc, text)?;
-    put_at(&mut disk, 4096, area.as_slice())?;
-    let found = found_on(alloc, disk)?;
+    let found = found_on(alloc, store_with(alloc, text)?)?;
     write_line(found.as_str(), out)
 }
 
-// A disk of these bytes but for one.
-fn changed(alloc: Global, bytes: &[u8], at: u64, value: u8) -> io::Result<MemDisk> {
-    let mut disk = MemDisk::new(alloc, bytes.len() as u64)?;
-    put_at(&mut disk, 0, bytes)?;
-    put_at(&mut disk, at, &[value])?;
-    Ok(disk)
+// What a check and a show make of a disk of these bytes but for one.
+fn found_with(alloc: Global, bytes: &[u8], at: u64, value: u8) -> io::Result<String> {
+    let disk = disks::changed(disk_of(alloc, bytes)?, at, &[value])?;
+    Ok(found_on(alloc, disk)?)
 }
 
 /// Changes each byte of the disk from the first to the end, which is left out, to a value, one at a
-/// time. Prints what a
-/// check and a show make of it, where that is not what they made of the byte before. The disk of
-/// the case stays.
+/// time. Prints what a check and a show make of it, where that is not what they made of the byte
+/// before. The disk of the case stays.
 pub fn change_each(
     alloc: Global,
     bench: &mut Bench,
     text: &str,
     out: &mut impl Write,
 ) -> io::Result<()> {
-    let (first, rest) = pair(text, " ")?;
-    let (end, value) = pair(rest, " ")?;
+    let (first, end, value) = three(text)?;
     let (first, end, value) = (number(first)?, number(end)?, byte(value)?);
     let size = bench.disk.size();
     let bytes = bytes_at(alloc, &mut bench.disk, 0, size)?;
@@ -79,12 +94,16 @@ fn change_all(
 ) -> io::Result<()> {
     let mut last = String::new(alloc);
     for at in first..end {
-        let found = found_on(alloc, changed(alloc, bytes, at, value)?)?;
+        let found = found_with(alloc, bytes, at, value)?;
         if found.as_str() != last.as_str() {
-            write!(out, "{at}: ")?;
-            write_line(found.as_str(), out)?;
-            last = found;
+            write_found(at, found.as_str(), out)?;
         }
+        last = found;
     }
     Ok(())
+}
+
+fn write_found(at: u64, found: &str, out: &mut impl Write) -> io::Result<()> {
+    write!(out, "{at}: ")?;
+    write_line(found, out)
 }

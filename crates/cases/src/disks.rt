@@ -1,7 +1,7 @@
 // Questions of the disk itself: its bytes, a call that fails, and a stop.
 use crate::bench::Bench;
 use crate::brief::write_bytes;
-use crate::values::{self, not_understood, number, pair};
+use crate::values::{self, not_understood, number, numbers, pair};
 use disk_model::{Disk, MemDisk};
 use std::alloc::{AllocError, Global};
 use std::io::{self, Write};
@@ -29,18 +29,31 @@ pub fn put_at(disk: &mut MemDisk, at: u64, bytes: &[u8]) -> io::Result<()> {
     }
 }
 
+/// A disk with bytes in the place of those that stood there.
+pub fn changed(disk: MemDisk, at: u64, bytes: &[u8]) -> io::Result<MemDisk> {
+    let mut disk = disk;
+    put_at(&mut disk, at, bytes)?;
+    Ok(disk)
+}
+
+/// A disk of these bytes.
+pub fn disk_of(alloc: Global, bytes: &[u8]) -> io::Result<MemDisk> {
+    changed(MemDisk::new(alloc, bytes.len() as u64)?, 0, bytes)
+}
+
 /// Prints bytes of the disk: where they begin, and how many.
 pub fn read(alloc: Global, bench: &mut Bench, text: &str, out: &mut impl Write) -> io::Result<()> {
-    let (at, count) = pair(text, " ")?;
-    let bytes = bytes_at(alloc, &mut bench.disk, number(at)?, number(count)?)?;
+    let (at, count) = numbers(text)?;
+    let bytes = bytes_at(alloc, &mut bench.disk, at, count)?;
     write_bytes(bytes.as_slice(), out)
 }
 
 /// Writes bytes to the disk: where they begin, and which.
 pub fn write(alloc: Global, bench: &mut Bench, text: &str) -> io::Result<()> {
     let (at, rest) = pair(text, " ")?;
+    let at = number(at)?;
     let bytes = values::bytes(alloc, rest)?;
-    put_at(&mut bench.disk, number(at)?, bytes.as_slice())
+    put_at(&mut bench.disk, at, bytes.as_slice())
 }
 
 /// A disk of so many zeros.
@@ -64,12 +77,17 @@ pub fn all_as(alloc: Global, size: u64, value: u8) -> Result<Vec<(u64, u8)>, All
     Ok(picks)
 }
 
-// The bytes that are named, each as its place, a colon and its value.
+// A byte that is named: its place, a colon and its value.
+fn pick(word: &str) -> io::Result<(u64, u8)> {
+    let (at, value) = pair(word, ":")?;
+    Ok((number(at)?, values::byte(value)?))
+}
+
+// The bytes that are named.
 fn chosen(alloc: Global, text: &str) -> io::Result<Vec<(u64, u8)>> {
     let mut picks = Vec::new(alloc);
     for word in text.split(' ') {
-        let (at, value) = pair(word, ":")?;
-        picks.push((number(at)?, values::byte(value)?))?;
+        picks.push(pick(word)?)?;
     }
     Ok(picks)
 }

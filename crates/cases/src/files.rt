@@ -1,9 +1,8 @@
 // The program on files.
 use crate::bench::Bench;
 use crate::brief::write_bytes;
-use crate::runs::{text, to_play, words, write_ran};
-use crate::values::{bytes, not_understood, number, pair};
-use boost::run;
+use crate::runs::{Ran, run_on, to_play, words, write_ran};
+use crate::values::{bytes, not_understood, number, numbers, pair, three};
 use command_line::obey;
 use disk_model::{FileDisk, Unknown};
 use std::fs::{self, File};
@@ -17,9 +16,15 @@ pub fn run_program(
     out: &mut impl Write,
 ) -> io::Result<()> {
     let words = words(rt.alloc(), line)?;
-    let (mut printed, mut errors) = (Vec::new(rt.alloc()), Vec::new(rt.alloc()));
-    let status = obey(rt, words.as_slice(), &mut printed, &mut errors);
-    write_ran(status, text(&printed), text(&errors), usize::MAX, out)
+    let ran = obeyed(rt, words.as_slice());
+    write_ran(&ran, usize::MAX, out)
+}
+
+// What the program answers to the words of a command line.
+fn obeyed(rt: &(impl Files<File = File> + AllocGlobal), words: &[&str]) -> Ran {
+    let (mut out, mut err) = (Vec::new(rt.alloc()), Vec::new(rt.alloc()));
+    let status = obey(rt, words, &mut out, &mut err);
+    Ran { status, out, err }
 }
 
 /// Writes the script to a file.
@@ -35,18 +40,23 @@ pub fn write_script(
 /// Gives a file a size.
 pub fn set_size(rt: &impl Files<File = File>, line: &str) -> io::Result<()> {
     let (path, size) = pair(line, " ")?;
+    let size = number(size)?;
     let file = File::options().write(true).create(true).open(rt, path)?;
-    file.set_len(number(size)?)
+    file.set_len(size)
 }
 
 /// Writes bytes into a file: where they begin, and which.
 pub fn write(rt: &(impl Files<File = File> + AllocGlobal), line: &str) -> io::Result<()> {
-    let (path, rest) = pair(line, " ")?;
-    let (at, rest) = pair(rest, " ")?;
+    let (path, at, rest) = three(line)?;
+    let at = number(at)?;
     let added = bytes(rt.alloc(), rest)?;
+    write_at(rt, path, at, added.as_slice())
+}
+
+fn write_at(rt: &impl Files<File = File>, path: &str, at: u64, added: &[u8]) -> io::Result<()> {
     let mut file = File::options().write(true).open(rt, path)?;
-    file.seek(SeekFrom::Start(number(at)?))?;
-    file.write_all(added.as_slice())
+    file.seek(SeekFrom::Start(at))?;
+    file.write_all(added)
 }
 
 /// Prints bytes of a file: where they begin, and how many.
@@ -56,9 +66,13 @@ pub fn read(
     out: &mut impl Write,
 ) -> io::Result<()> {
     let (path, rest) = pair(line, " ")?;
-    let (at, count) = pair(rest, " ")?;
-    let (at, count) = (number(at)? as usize, number(count)? as usize);
+    let (at, count) = numbers(rest)?;
     let bytes = fs::read(rt, path)?;
+    write_range(bytes.as_slice(), at as usize, count as usize, out)
+}
+
+// Prints so many of the bytes, from one place on.
+fn write_range(bytes: &[u8], at: usize, count: usize, out: &mut impl Write) -> io::Result<()> {
     match bytes.get(at..at.saturating_add(count)) {
         Some(found) => write_bytes(found, out),
         None => Err(not_understood()),
@@ -83,18 +97,8 @@ pub fn play_read_only(
     path: &str,
     out: &mut impl Write,
 ) -> io::Result<()> {
-    let alloc = rt.alloc();
-    let script = bench.take_script(alloc);
     let disk: FileDisk<Unknown> = FileDisk::open(File::open(rt, path)?)?;
-    let (mut printed, mut errors) = (Vec::new(alloc), Vec::new(alloc));
-    let task = to_play(alloc);
-    let (status, _disk) = run(
-        alloc,
-        &task,
-        disk,
-        script.as_slice(),
-        &mut printed,
-        &mut errors,
-    );
-    write_ran(status, text(&printed), text(&errors), usize::MAX, out)
+    let script = bench.take_script(rt.alloc());
+    let (ran, _) = run_on(rt.alloc(), to_play(rt.alloc()), disk, script.as_slice());
+    write_ran(&ran, usize::MAX, out)
 }

@@ -1,9 +1,8 @@
 // Images that are written to a disk by hand.
 use crate::bench::{Bench, empty_store};
 use crate::disks::put_at;
-use crate::runs::{self, Ran, run_on, text, write_ran};
+use crate::runs::{run_told, to_check, to_show};
 use crate::values::{bytes, not_understood};
-use boost::Task;
 use disk_model::MemDisk;
 use std::alloc::Global;
 use std::io::{self, Write};
@@ -24,8 +23,7 @@ fn block(alloc: Global, body: &[u8]) -> io::Result<Vec<u8>> {
 }
 
 // Writes a block with the body that is told at this place, and answers where the next one stands. A
-// dash is for none: the
-// closed gate stays.
+// dash is for none: the closed gate stays.
 fn write_block(alloc: Global, disk: &mut MemDisk, at: u64, body: &str) -> io::Result<u64> {
     if body == "-" {
         return Ok(at);
@@ -37,8 +35,7 @@ fn write_block(alloc: Global, disk: &mut MemDisk, at: u64, body: &str) -> io::Re
 }
 
 // Writes blocks from the first area's beginning on, with a bar between the bodies of each two.
-// Answers where the last one
-// stands.
+// Answers where the last one stands.
 fn write_blocks(alloc: Global, disk: &mut MemDisk, bodies: &str) -> io::Result<u64> {
     let mut last = FIRST;
     let mut next = FIRST;
@@ -50,31 +47,16 @@ fn write_blocks(alloc: Global, disk: &mut MemDisk, bodies: &str) -> io::Result<u
 }
 
 /// An empty store whose image is these blocks: prints where the last one stands, what the store is
-/// checked as, and what
-/// it shows, which opens it. That is what the disk of the case is then.
+/// checked as, and what it shows, which opens it. That is what the disk of the case is then.
 pub fn open(
     alloc: Global,
     bench: &mut Bench,
     bodies: &str,
     out: &mut impl Write,
 ) -> io::Result<()> {
-    let mut disk = empty_store(alloc)?;
-    let last = write_blocks(alloc, &mut disk, bodies)?;
+    bench.disk = empty_store(alloc)?;
+    let last = write_blocks(alloc, &mut bench.disk, bodies)?;
     writeln!(out, "last block at {last}")?;
-    let checked = run_told(alloc, &runs::to_check(alloc), disk, out)?;
-    bench.disk = run_told(alloc, &runs::to_show(alloc), checked, out)?;
-    Ok(())
-}
-
-// Carries a task out on a disk, prints what it answers, and hands the disk back.
-fn run_told(
-    alloc: Global,
-    task: &Task,
-    disk: MemDisk,
-    out: &mut impl Write,
-) -> io::Result<MemDisk> {
-    let ran = run_on(alloc, task, disk, &[]);
-    write_ran(ran.status, text(&ran.out), text(&ran.err), usize::MAX, out)?;
-    let Ran { disk, .. } = ran;
-    Ok(disk)
+    run_told(alloc, bench, to_check(alloc), &[], usize::MAX, out)?;
+    run_told(alloc, bench, to_show(alloc), &[], usize::MAX, out)
 }

@@ -1,7 +1,6 @@
 //! Plays cases that are data: each is a list of scripts and questions, on disks in memory and on
-//! files. What is asked and
-//! what is answered is printed, and the file `stdout` says what it must be. A line that is no
-//! question ends the run.
+//! files. What is asked and what is answered is printed, and the file `stdout` says what it must
+//! be. A line that is no question ends the run.
 #![tactic(auto)]
 
 mod bench;
@@ -24,20 +23,25 @@ use std::fs::{self, File};
 use std::io::{self, BufWriter, Write};
 use std::rt::Files;
 
+// Tells an error with the line that it comes from.
+fn tell_error(name: &str, number: u64, error: io::Error, out: &mut impl Write) -> io::Result<()> {
+    writeln!(out, "{name}: line {number}: {error}")?;
+    Err(error)
+}
+
 // Asks what the lines of a text ask, one after another. An error is told with its line.
 fn ask_all(
     rt: &(impl Files<File = File> + AllocGlobal),
+    bench: &mut Bench,
     name: &str,
     text: &str,
     out: &mut impl Write,
 ) -> io::Result<()> {
-    let mut bench = Bench::new(rt.alloc())?;
     let mut number = 0u64;
     for line in text.lines() {
         number = number.saturating_add(1);
-        if let Err(error) = questions::ask(rt, &mut bench, line, out) {
-            writeln!(out, "{name}: line {number}: {error}")?;
-            return Err(error);
+        if let Err(error) = questions::ask(rt, bench, line, out) {
+            return tell_error(name, number, error, out);
         }
     }
     Ok(())
@@ -49,8 +53,9 @@ fn play_file(
     name: &str,
     out: &mut impl Write,
 ) -> io::Result<()> {
+    let mut bench = Bench::new(rt.alloc())?;
     let text = fs::read_to_string(rt, name)?;
-    ask_all(rt, name, text.as_str(), out)
+    ask_all(rt, &mut bench, name, text.as_str(), out)
 }
 
 // Plays the cases of each file that is named.

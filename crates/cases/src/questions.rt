@@ -11,8 +11,7 @@ use std::io::{self, Write};
 use std::rt::Files;
 
 /// Asks what a line asks, and prints what is answered. An empty line and one that begins with `#`
-/// ask nothing; one with
-/// a bar in front, and a line that is repeated, are lines of the script.
+/// ask nothing; one with a bar in front, and a line that is repeated, are lines of the script.
 pub fn ask(
     rt: &(impl Files<File = File> + AllocGlobal),
     bench: &mut Bench,
@@ -26,7 +25,7 @@ pub fn ask(
         return Ok(scripts::add_line(&mut bench.script, text)?);
     }
     if let Some(text) = line.strip_prefix("repeat ") {
-        return scripts::repeat(rt.alloc(), bench, text);
+        return scripts::repeat(bench, text);
     }
     brief::write_line(line, out)?;
     let (word, rest) = line.split_once(" ").unwrap_or((line, ""));

@@ -3,17 +3,16 @@ use crate::bench::Bench;
 use crate::brief::write_last;
 use crate::values::{not_understood, number};
 use boost::{Task, command, run};
-use disk_model::MemDisk;
+use disk_model::{Disk, MemDisk};
 use std::alloc::{AllocError, Global};
 use std::io::{self, ErrorKind, Write};
 
-/// What a run answered: its status, what it printed, and its disk.
+/// What a run answered: its status, and what it printed.
 #[derive(Drop)]
 pub struct Ran {
     pub status: u8,
     pub out: Vec<u8>,
     pub err: Vec<u8>,
-    pub disk: MemDisk,
 }
 
 /// A task that plays.
@@ -46,17 +45,11 @@ pub fn to_format(alloc: Global, area: u64) -> Task {
     }
 }
 
-/// Carries a task out on a disk.
-pub fn run_on(alloc: Global, task: &Task, disk: MemDisk, script: &[u8]) -> Ran {
-    let mut out = Vec::new(alloc);
-    let mut err = Vec::new(alloc);
-    let (status, disk) = run(alloc, task, disk, script, &mut out, &mut err);
-    Ran {
-        status,
-        out,
-        err,
-        disk,
-    }
+/// Carries a task out on a disk. Answers the disk behind what the run answered.
+pub fn run_on<D: Disk>(alloc: Global, task: Task, disk: D, script: &[u8]) -> (Ran, D) {
+    let (mut out, mut err) = (Vec::new(alloc), Vec::new(alloc));
+    let (status, disk) = run(alloc, &task, disk, script, &mut out, &mut err);
+    (Ran { status, out, err }, disk)
 }
 
 /// What was printed, as a text.
@@ -66,48 +59,49 @@ pub fn text(bytes: &Vec<u8>) -> &str {
 
 /// Prints what a run answered: its status, the last lines of what it printed, and each line of its
 /// errors behind a mark.
-pub fn write_ran(
-    status: u8,
-    printed: &str,
-    errors: &str,
+pub fn write_ran(ran: &Ran, last: usize, out: &mut impl Write) -> io::Result<()> {
+    writeln!(out, "= {}", ran.status)?;
+    write_last(text(&ran.out), last, "", out)?;
+    write_last(text(&ran.err), usize::MAX, "! ", out)
+}
+
+/// Carries a task out on the disk of the case with a script, and prints the last lines of what it
+/// answered.
+pub fn run_told(
+    alloc: Global,
+    bench: &mut Bench,
+    task: Task,
+    script: &[u8],
     last: usize,
     out: &mut impl Write,
 ) -> io::Result<()> {
-    writeln!(out, "= {status}")?;
-    write_last(printed, last, "", out)?;
-    write_last(errors, usize::MAX, "! ", out)
+    let disk = bench.take_disk(alloc)?;
+    let (ran, disk) = run_on(alloc, task, disk, script);
+    bench.disk = disk;
+    write_ran(&ran, last, out)
 }
 
 // Carries a task out on the disk of the case with the script that was written, and prints what it
 // answered.
-fn carry_out(
-    alloc: Global,
-    bench: &mut Bench,
-    task: &Task,
-    out: &mut impl Write,
-) -> io::Result<()> {
+fn carry_out(alloc: Global, bench: &mut Bench, task: Task, out: &mut impl Write) -> io::Result<()> {
     let script = bench.take_script(alloc);
     let last = bench.take_last();
-    let disk = bench.take_disk(alloc)?;
-    let ran = run_on(alloc, task, disk, script.as_slice());
-    write_ran(ran.status, text(&ran.out), text(&ran.err), last, out)?;
-    bench.disk = ran.disk;
-    Ok(())
+    run_told(alloc, bench, task, script.as_slice(), last, out)
 }
 
 /// Plays the script that was written.
 pub fn play(alloc: Global, bench: &mut Bench, out: &mut impl Write) -> io::Result<()> {
-    carry_out(alloc, bench, &to_play(alloc), out)
+    carry_out(alloc, bench, to_play(alloc), out)
 }
 
 /// Shows the store.
 pub fn show(alloc: Global, bench: &mut Bench, out: &mut impl Write) -> io::Result<()> {
-    carry_out(alloc, bench, &to_show(alloc), out)
+    carry_out(alloc, bench, to_show(alloc), out)
 }
 
 /// Checks the store.
 pub fn check(alloc: Global, bench: &mut Bench, out: &mut impl Write) -> io::Result<()> {
-    carry_out(alloc, bench, &to_check(alloc), out)
+    carry_out(alloc, bench, to_check(alloc), out)
 }
 
 /// Formats the disk, with areas of so many bytes.
@@ -118,12 +112,12 @@ pub fn format(
     out: &mut impl Write,
 ) -> io::Result<()> {
     let area = number(area)?;
-    carry_out(alloc, bench, &to_format(alloc, area), out)
+    carry_out(alloc, bench, to_format(alloc, area), out)
 }
 
 /// Carries the stored run out.
 pub fn demo(alloc: Global, bench: &mut Bench, out: &mut impl Write) -> io::Result<()> {
-    carry_out(alloc, bench, &Task::Demo, out)
+    carry_out(alloc, bench, Task::Demo, out)
 }
 
 /// Plays a script of one line, which stands between two marks.
@@ -159,9 +153,13 @@ pub fn words(alloc: Global, text: &str) -> Result<Vec<&str>, AllocError> {
 pub fn understand(alloc: Global, text: &str, out: &mut impl Write) -> io::Result<()> {
     let words = words(alloc, text)?;
     match command(alloc, words.as_slice()) {
-        Ok(task) => writeln!(out, "{task:?}"),
+        Ok(task) => write_task(task, out),
         Err(error) => write_refused(alloc, &error, out),
     }
+}
+
+fn write_task(task: Task, out: &mut impl Write) -> io::Result<()> {
+    writeln!(out, "{task:?}")
 }
 
 fn write_refused(alloc: Global, error: &clap::Error, out: &mut impl Write) -> io::Result<()> {
@@ -196,12 +194,14 @@ impl Write for Short {
 /// output and of errors.
 pub fn run_short(alloc: Global, text: &str, out: &mut impl Write) -> io::Result<()> {
     let room = number(text)? as usize;
-    let (mut printed, mut errors) = (Short { room }, Short { room });
     let disk = MemDisk::new(alloc, 0)?;
+    let (mut printed, mut errors) = (Short { room }, Short { room });
     let (status, disk) = run(alloc, &Task::Demo, disk, &[], &mut printed, &mut errors);
-    let left = errors.room;
-    writeln!(out, "= {status}, {left} bytes of errors left")?;
-    let (status, _disk) = run(alloc, &to_show(alloc), disk, &[], &mut printed, &mut errors);
-    let left = errors.room;
+    write_left(status, errors.room, out)?;
+    let (status, _) = run(alloc, &to_show(alloc), disk, &[], &mut printed, &mut errors);
+    write_left(status, errors.room, out)
+}
+
+fn write_left(status: u8, left: usize, out: &mut impl Write) -> io::Result<()> {
     writeln!(out, "= {status}, {left} bytes of errors left")
 }

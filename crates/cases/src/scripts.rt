@@ -1,8 +1,8 @@
 // The script that is being written.
 use crate::bench::Bench;
-use crate::values::{bytes, number, pair};
+use crate::values::{bytes, number, three};
 use std::alloc::{AllocError, Global};
-use std::io;
+use std::io::{self, Write};
 
 /// Adds a line.
 pub fn add_line(script: &mut Vec<u8>, line: &str) -> Result<(), AllocError> {
@@ -18,20 +18,18 @@ pub fn add_bytes(alloc: Global, bench: &mut Bench, text: &str) -> io::Result<()>
 
 /// Adds a line for each number from the first to the end, which is left out; `#` in it stands for
 /// the number.
-pub fn repeat(alloc: Global, bench: &mut Bench, text: &str) -> io::Result<()> {
-    let (first, rest) = pair(text, " ")?;
-    let (end, line) = pair(rest, " ")?;
-    let (front, back) = line.split_once("#").unwrap_or((line, ""));
-    let has_number = line.len() > front.len();
+pub fn repeat(bench: &mut Bench, text: &str) -> io::Result<()> {
+    let (first, end, line) = three(text)?;
     for n in number(first)?..number(end)? {
-        let middle = if has_number {
-            format!(in alloc; "{n}")?
-        } else {
-            String::new(alloc)
-        };
-        bench.script.extend_from_slice(front.as_bytes())?;
-        bench.script.extend_from_slice(middle.as_str().as_bytes())?;
-        add_line(&mut bench.script, back)?;
+        add_numbered(&mut bench.script, line, n)?;
     }
     Ok(())
+}
+
+// Adds a line with a number in the place of its `#`.
+fn add_numbered(script: &mut Vec<u8>, line: &str, number: u64) -> io::Result<()> {
+    match line.split_once("#") {
+        Some((front, back)) => writeln!(script, "{front}{number}{back}"),
+        None => Ok(add_line(script, line)?),
+    }
 }

@@ -10,14 +10,7 @@ use std::io::{self, Write};
 
 // The kind of this name.
 fn kind(name: &str) -> io::Result<Kind> {
-    match name {
-        "set" => Ok(Kind::Set),
-        "map" => Ok(Kind::Map),
-        "queue" => Ok(Kind::Queue),
-        "counter" => Ok(Kind::Counter),
-        "pool" => Ok(Kind::Pool),
-        _ => Err(not_understood()),
-    }
+    Kind::named(name.as_bytes()).ok_or_else(not_understood)
 }
 
 // The kind that was named last, if one is told, and what stands behind it.
@@ -34,7 +27,11 @@ pub fn read(alloc: Global, text: &str, out: &mut impl Write) -> io::Result<()> {
     let (last, rest) = parted(text)?;
     let bytes = bytes(alloc, rest)?;
     match decode(alloc, bytes.as_slice(), last, 4096) {
-        Ok((record, rest)) => tell(alloc, record, rest.len(), bytes.as_slice(), out),
+        Ok((record, rest)) => {
+            let told = tell(alloc, &record, rest.len(), bytes.as_slice(), out);
+            drop(record);
+            told
+        }
         Err(refusal) => writeln!(out, "{refusal}"),
     }
 }
@@ -42,22 +39,26 @@ pub fn read(alloc: Global, text: &str, out: &mut impl Write) -> io::Result<()> {
 // Prints a record, and how it is spelled where the bytes say otherwise.
 fn tell(
     alloc: Global,
-    entry: Record,
+    entry: &Record,
     behind: usize,
     bytes: &[u8],
     out: &mut impl Write,
 ) -> io::Result<()>
-    requires { Fits entry }
+    requires { Fits entry.now }
 {
-    let text = format!(in alloc; "{entry:?}")?;
-    write_line(text.as_str(), out)?;
+    write_record(alloc, entry, out)?;
     if behind > 0 {
         writeln!(out, "and {behind} bytes behind it")?;
     }
     let mut again = Vec::new(alloc);
-    if encode(&entry, &mut again).is_err() || !bytes.starts_with(again.as_slice()) {
-        write!(out, "spelled ")?;
-        write_bytes(again.as_slice(), out)?;
+    if encode(entry, &mut again).is_ok() && bytes.starts_with(again.as_slice()) {
+        return Ok(());
     }
-    Ok(())
+    out.write_all(b"spelled ")?;
+    write_bytes(again.as_slice(), out)
+}
+
+fn write_record(alloc: Global, entry: &Record, out: &mut impl Write) -> io::Result<()> {
+    let text = format!(in alloc; "{entry:?}")?;
+    write_line(text.as_str(), out)
 }

@@ -3,7 +3,8 @@ ghost use Rattle.checkpoint.specs.Keepers.{IsFresh};
 
 use crate::bench::Bench;
 use crate::runs::text;
-use crate::values::{byte, not_understood, number, pair};
+use crate::texts::write_said;
+use crate::values::{byte, not_understood, number, pair, three};
 use boost::Said;
 use calls::{Call, Kind, Name, Refusal};
 use catalog::Catalog;
@@ -34,8 +35,7 @@ fn call(text: &str) -> io::Result<Call> {
 
 // A transaction's number, a collection and a call.
 fn asked(text: &str) -> io::Result<(u64, u8, Call)> {
-    let (owner, rest) = pair(text, " ")?;
-    let (collection, asked) = pair(rest, " ")?;
+    let (owner, collection, asked) = three(text)?;
     Ok((number(owner)?, byte(collection)?, call(asked)?))
 }
 
@@ -43,7 +43,6 @@ fn asked(text: &str) -> io::Result<(u64, u8, Call)> {
 fn step_of(alloc: Global, word: &str, rest: &str) -> io::Result<Step> {
     match word {
         "make" => Ok(Step::Make(Name::new(String::from_str(alloc, rest)?), Kind::Counter)),
-        "enter" => Ok(Step::Enter(number(rest)?)),
         "call" => {
             let (owner, collection, call) = asked(rest)?;
             Ok(Step::Call(owner, collection, call))
@@ -52,9 +51,17 @@ fn step_of(alloc: Global, word: &str, rest: &str) -> io::Result<Step> {
             let (owner, collection, call) = asked(rest)?;
             Ok(Step::Later(owner, collection, call))
         }
-        "commit" => Ok(Step::Commit(number(rest)?)),
-        "back" => Ok(Step::Back(number(rest)?)),
-        "ended" => Ok(Step::Ended(number(rest)?)),
+        _ => step_with(word, number(rest)?),
+    }
+}
+
+// A step of the transaction with this number.
+fn step_with(word: &str, owner: u64) -> io::Result<Step> {
+    match word {
+        "enter" => Ok(Step::Enter(owner)),
+        "commit" => Ok(Step::Commit(owner)),
+        "back" => Ok(Step::Back(owner)),
+        "ended" => Ok(Step::Ended(owner)),
         _ => Err(not_understood()),
     }
 }
@@ -104,23 +111,17 @@ fn world_on(alloc: Global, disk: MemDisk) -> Result<World<MemDisk>, (Refusal, Me
 }
 
 /// Takes the steps that the script tells in the world of the disk, and prints what each is
-/// answered, a turn as a script
-/// is told it.
+/// answered, a turn as a script is told it.
 pub fn take(alloc: Global, bench: &mut Bench, out: &mut impl Write) -> io::Result<()> {
     let script = bench.take_script(alloc);
     let steps = steps(alloc, text(&script))?;
     let disk = bench.take_disk(alloc)?;
-    bench.disk = match world_on(alloc, disk) {
-        Ok(world) => take_on(alloc, world, steps.as_slice(), out)?,
-        Err((refusal, disk)) => tell_refused(refusal, disk, out)?,
+    let (disk, told) = match world_on(alloc, disk) {
+        Ok(world) => take_on(alloc, world, steps.as_slice(), out),
+        Err((refusal, disk)) => (disk, writeln!(out, "{refusal}")),
     };
-    Ok(())
-}
-
-// Prints why there is no world, and answers the disk.
-fn tell_refused(refusal: Refusal, disk: MemDisk, out: &mut impl Write) -> io::Result<MemDisk> {
-    writeln!(out, "{refusal}")?;
-    Ok(disk)
+    bench.disk = disk;
+    told
 }
 
 // Takes steps in a world, prints what they are answered, and answers its disk.
@@ -129,13 +130,13 @@ fn take_on(
     world: World<MemDisk>,
     steps: &[Step],
     out: &mut impl Write,
-) -> io::Result<MemDisk> {
+) -> (MemDisk, io::Result<()>) {
     let mut world = world;
-    match play(alloc, &mut world, steps) {
-        Ok(answers) => tell_all(&answers, out)?,
-        Err(refusal) => writeln!(out, "{refusal}")?,
-    }
-    Ok(world.into_disk())
+    let told = match play(alloc, &mut world, steps) {
+        Ok(answers) => tell_all(&answers, out),
+        Err(refusal) => writeln!(out, "{refusal}"),
+    };
+    (world.into_disk(), told)
 }
 
 fn tell_all(answers: &Vec<Answer>, out: &mut impl Write) -> io::Result<()> {
@@ -150,8 +151,8 @@ fn tell_all(answers: &Vec<Answer>, out: &mut impl Write) -> io::Result<()> {
 
 fn tell(answer: &Answer, out: &mut impl Write) -> io::Result<()> {
     match answer {
-        Answer::Turned(turn) => writeln!(out, "{}", Said::Turned(*turn)),
-        Answer::Refused(refusal) => writeln!(out, "{}", Said::Refused(*refusal)),
+        Answer::Turned(turn) => write_said(Said::Turned(*turn), out),
+        Answer::Refused(refusal) => write_said(Said::Refused(*refusal), out),
         _ => writeln!(out, "{answer:?}"),
     }
 }

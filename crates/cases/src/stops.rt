@@ -1,10 +1,11 @@
 // What is stopped at each call of the disk, in each of four ways, and then opened.
 use crate::bench::Bench;
-use crate::disks::{all_as, bytes_at, put_at};
+use crate::disks::{self, all_as, bytes_at};
 use crate::runs::{Ran, run_on, text, to_check, to_format, to_play, to_show};
 use crate::values::number;
+use boost::Task;
 use disk_model::{Disk, MemDisk};
-use std::alloc::Global;
+use std::alloc::{AllocError, Global};
 use std::fs;
 use std::io::{self, Write};
 use std::rt::Files;
@@ -30,70 +31,69 @@ enum Trial<'a> {
 }
 
 /// Stops the script that was written at each call of the disk, and prints in how many calls it was
-/// stopped, and what was
-/// found that is not as the file tells. The file has what is shown after each place behind what the
-/// disk shows now, with a
-/// line `.` between each two.
+/// stopped, and what was found that is not as the file tells. The file has what is shown after each
+/// place behind what the disk shows now, with a line `.` between each two.
 pub fn stop_story(
     rt: &(impl Files + AllocGlobal),
     bench: &mut Bench,
     file: &str,
     out: &mut impl Write,
 ) -> io::Result<()> {
-    let alloc = rt.alloc();
     let told = fs::read_to_string(rt, file)?;
+    stop_told_story(rt.alloc(), bench, told.as_str(), out)
+}
+
+// Stops the script that was written at each call of the disk. The text has what is shown after each
+// place.
+fn stop_told_story(
+    alloc: Global,
+    bench: &mut Bench,
+    told: &str,
+    out: &mut impl Write,
+) -> io::Result<()> {
     let bytes = ground(alloc, bench)?;
-    let front = run_on(
-        alloc,
-        &to_show(alloc),
-        disk_of(alloc, bytes.as_slice())?,
-        &[],
-    );
+    let disk = disk_of(alloc, bytes.as_slice())?;
     let script = bench.take_script(alloc);
+    let (front, _) = run_on(alloc, to_show(alloc), disk, &[]);
     let trial = Trial::Story {
         script: script.as_slice(),
-        shown: told.as_str(),
+        shown: told,
         front: text(&front.out),
     };
     stop_in_each_way(alloc, trial, bytes.as_slice(), out)
 }
 
 /// Stops the opening of the disk at each of its calls, and prints in how many, and what the store
-/// is checked as then, where
-/// that is not what it was at the call before. It is stopped at that call three times over, and
-/// then opened to the end.
+/// is checked as then, where that is not what it was at the call before. It is stopped at that call
+/// three times over, and then opened to the end.
 pub fn stop_opening(alloc: Global, bench: &mut Bench, out: &mut impl Write) -> io::Result<()> {
     let bytes = ground(alloc, bench)?;
-    let opened = run_on(
-        alloc,
-        &to_show(alloc),
-        disk_of(alloc, bytes.as_slice())?,
-        &[],
-    );
-    let Ran {
-        out: shown,
-        disk,
-        ..
-    } = opened;
-    let checked = run_on(alloc, &to_check(alloc), disk, &[]);
+    let disk = disk_of(alloc, bytes.as_slice())?;
+    let (shown, checked) = show_and_check(alloc, disk);
     let trial = Trial::Opening {
-        shown: text(&shown),
+        shown: text(&shown.out),
         checked: text(&checked.out),
     };
     stop_in_each_way(alloc, trial, bytes.as_slice(), out)
 }
 
+// What a show answers, and a check behind it.
+fn show_and_check(alloc: Global, disk: MemDisk) -> (Ran, Ran) {
+    let (shown, disk) = run_on(alloc, to_show(alloc), disk, &[]);
+    let (checked, _) = run_on(alloc, to_check(alloc), disk, &[]);
+    (shown, checked)
+}
+
 /// Stops a format at each of its calls, and prints in how many, and what the disk shows then, where
-/// that is not what it
-/// showed at the call before.
+/// that is not what it showed at the call before.
 pub fn stop_format(
     alloc: Global,
     bench: &mut Bench,
     area: &str,
     out: &mut impl Write,
 ) -> io::Result<()> {
-    let bytes = ground(alloc, bench)?;
     let area = number(area)?;
+    let bytes = ground(alloc, bench)?;
     stop_in_each_way(alloc, Trial::Format { area }, bytes.as_slice(), out)
 }
 
@@ -105,9 +105,7 @@ fn ground(alloc: Global, bench: &mut Bench) -> io::Result<Vec<u8>> {
 
 // A disk of these bytes, at rest.
 fn disk_of(alloc: Global, bytes: &[u8]) -> io::Result<MemDisk> {
-    let mut disk = MemDisk::new(alloc, bytes.len() as u64)?;
-    put_at(&mut disk, 0, bytes)?;
-    Ok(disk.stop(&[]))
+    Ok(disks::disk_of(alloc, bytes)?.stop(&[]))
 }
 
 fn stop_in_each_way(
@@ -146,15 +144,15 @@ fn stop_in_way(
 ) -> io::Result<()> {
     let mut last = String::new(alloc);
     for k in 1..1_000u64 {
-        let (is_reached, found) = stop_at(alloc, trial, disk_of(alloc, ground)?, k, picks)?;
+        let (is_reached, found) = stop_at(alloc, trial, ground, k, picks)?;
         if !is_reached {
             let calls = k - 1;
             return writeln!(out, "{way}: {calls} calls");
         }
         if found.as_str() != last.as_str() {
             writeln!(out, "{way}, call {k}: {found}")?;
-            last = found;
         }
+        last = found;
     }
     writeln!(out, "{way}: no end")
 }
@@ -163,11 +161,12 @@ fn stop_in_way(
 fn stop_at(
     alloc: Global,
     trial: Trial<'_>,
-    disk: MemDisk,
+    ground: &[u8],
     k: u64,
     picks: &[(u64, u8)],
 ) -> io::Result<(bool, String)> {
-    match trial {
+    let disk = disk_of(alloc, ground)?;
+    let stopped = match trial {
         Trial::Story {
             script,
             shown,
@@ -175,7 +174,25 @@ fn stop_at(
         } => stop_play(alloc, disk, script, k, picks, shown, front),
         Trial::Opening { shown, checked } => stop_open(alloc, disk, k, picks, shown, checked),
         Trial::Format { area } => stop_making(alloc, disk, area, k, picks),
-    }
+    };
+    Ok(stopped?)
+}
+
+// Carries a task out on a disk with a failure at this call, and stops the disk. Answers also whether
+// the call was reached.
+fn run_until(
+    alloc: Global,
+    task: Task,
+    disk: MemDisk,
+    script: &[u8],
+    k: u64,
+    picks: &[(u64, u8)],
+) -> (Ran, bool, MemDisk) {
+    let mut disk = disk;
+    disk.fail_at(k);
+    let (ran, disk) = run_on(alloc, task, disk, script);
+    let is_reached = disk.faults() > 0;
+    (ran, is_reached, disk.stop(picks))
 }
 
 // Stops a script, and then makes a counter more.
@@ -187,28 +204,34 @@ fn stop_play(
     picks: &[(u64, u8)],
     shown: &str,
     front: &str,
-) -> io::Result<(bool, String)> {
-    let mut disk = disk;
-    disk.fail_at(k);
-    let played = run_on(alloc, &to_play(alloc), disk, script);
-    let is_reached = played.disk.faults() > 0;
-    let (first, last) = may_show(text(&played.out));
-    let more = go_on(alloc, played.disk.stop(picks));
-    let found = behind(front, text(&more.out));
-    let told = match found {
-        Some(found) if is_among(shown, first, last, found) => String::new(alloc),
-        _ => format!(in alloc;
-            "not as told of places {first} to {last}:\n{}",
-            text(&more.out)
-        )?,
-    };
+) -> Result<(bool, String), AllocError> {
+    let (played, is_reached, disk) = run_until(alloc, to_play(alloc), disk, script, k, picks);
+    let more = go_on(alloc, disk);
+    let places = may_show(text(&played.out));
+    let told = unlike(alloc, shown, places, text(&more.out), front)?;
     Ok((is_reached, told))
+}
+
+// What is shown, where no text from the first place to the last has it behind the front.
+fn unlike(
+    alloc: Global,
+    shown: &str,
+    places: (u64, u64),
+    more: &str,
+    front: &str,
+) -> Result<String, AllocError> {
+    let (first, last) = places;
+    match behind(front, more) {
+        Some(found) if is_among(shown, first, last, found) => Ok(String::new(alloc)),
+        _ => format!(in alloc; "not as told of places {first} to {last}:\n{more}"),
+    }
 }
 
 // Makes a counter more and shows all.
 fn go_on(alloc: Global, disk: MemDisk) -> Ran {
-    let more = run_on(alloc, &to_play(alloc), disk, b"c1 make counter y\nturn");
-    run_on(alloc, &to_show(alloc), more.disk, &[])
+    let (_, disk) = run_on(alloc, to_play(alloc), disk, b"c1 make counter y\nturn");
+    let (shown, _) = run_on(alloc, to_show(alloc), disk, &[]);
+    shown
 }
 
 // What is shown behind the front and before the counter that was made last.
@@ -247,11 +270,14 @@ fn is_among(texts: &str, first: u64, last: u64, found: &str) -> bool {
 
 // Opens a disk with a failure at this call, and stops it. Answers whether the call was reached.
 fn open_until(alloc: Global, disk: MemDisk, k: u64, picks: &[(u64, u8)]) -> (bool, MemDisk) {
-    let mut disk = disk;
-    disk.fail_at(k);
-    let ran = run_on(alloc, &to_show(alloc), disk, &[]);
-    let is_reached = ran.disk.faults() > 0;
-    (is_reached, ran.disk.stop(picks))
+    let (_, is_reached, disk) = run_until(alloc, to_show(alloc), disk, &[], k, picks);
+    (is_reached, disk)
+}
+
+// Whether a disk shows this, and is checked as that behind it.
+fn goes_on(alloc: Global, disk: MemDisk, shown: &str, checked: &str) -> bool {
+    let (opened, counted) = show_and_check(alloc, disk);
+    text(&opened.out) == shown && text(&counted.out) == checked
 }
 
 // Stops an opening three times over at one call, and then opens the disk to the end.
@@ -262,17 +288,17 @@ fn stop_open(
     picks: &[(u64, u8)],
     shown: &str,
     checked: &str,
-) -> io::Result<(bool, String)> {
+) -> Result<(bool, String), AllocError> {
     let (is_reached, disk) = open_until(alloc, disk, k, picks);
-    let between = run_on(alloc, &to_check(alloc), disk, &[]);
-    let (_, disk) = open_until(alloc, between.disk, k, picks);
+    let (between, disk) = run_on(alloc, to_check(alloc), disk, &[]);
     let (_, disk) = open_until(alloc, disk, k, picks);
-    let opened = run_on(alloc, &to_show(alloc), disk, &[]);
-    let counted = run_on(alloc, &to_check(alloc), opened.disk, &[]);
-    let mut told = String::from_str(alloc, text(&between.out).trim_end())?;
-    if text(&opened.out) != shown || text(&counted.out) != checked {
-        told.push_str(", and it does not go on")?;
-    }
+    let (_, disk) = open_until(alloc, disk, k, picks);
+    let end = if goes_on(alloc, disk, shown, checked) {
+        ""
+    } else {
+        ", and it does not go on"
+    };
+    let told = format!(in alloc; "{}{end}", text(&between.out).trim_end())?;
     Ok((is_reached, told))
 }
 
@@ -283,15 +309,10 @@ fn stop_making(
     area: u64,
     k: u64,
     picks: &[(u64, u8)],
-) -> io::Result<(bool, String)> {
-    let mut disk = disk;
-    disk.fail_at(k);
-    let made = run_on(alloc, &to_format(alloc, area), disk, &[]);
-    let is_reached = made.disk.faults() > 0;
-    let shown = run_on(alloc, &to_show(alloc), made.disk.stop(picks), &[]);
-    let said = (text(&shown.out), text(&shown.err));
-    Ok((
-        is_reached,
-        format!(in alloc; "shows\n{}{}", said.0, said.1)?,
-    ))
+) -> Result<(bool, String), AllocError> {
+    let task = to_format(alloc, area);
+    let (_, is_reached, disk) = run_until(alloc, task, disk, &[], k, picks);
+    let (shown, _) = run_on(alloc, to_show(alloc), disk, &[]);
+    let told = format!(in alloc; "shows\n{}{}", text(&shown.out), text(&shown.err))?;
+    Ok((is_reached, told))
 }

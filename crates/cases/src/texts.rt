@@ -38,10 +38,15 @@ const REFUSALS: [Refusal; 26] = [
 
 /// Prints how each refusal is told.
 pub fn write_all(out: &mut impl Write) -> io::Result<()> {
-    for refusal in REFUSALS {
-        writeln!(out, "{}", Said::Refused(refusal))?;
+    for refusal in &REFUSALS {
+        write_said(Said::Refused(*refusal), out)?;
     }
     Ok(())
+}
+
+/// Prints what a line of a script would be answered.
+pub fn write_said(said: Said, out: &mut impl Write) -> io::Result<()> {
+    writeln!(out, "{said}")
 }
 
 /// Prints how many bytes a disk's past takes, a file, and a disk that is a file.

@@ -31,6 +31,19 @@ pub fn pair<'a>(text: &'a str, mark: &str) -> io::Result<(&'a str, &'a str)> {
     }
 }
 
+/// Two words and what stands behind them.
+pub fn three(text: &str) -> io::Result<(&str, &str, &str)> {
+    let (first, rest) = pair(text, " ")?;
+    let (second, rest) = pair(rest, " ")?;
+    Ok((first, second, rest))
+}
+
+/// Two numbers.
+pub fn numbers(text: &str) -> io::Result<(u64, u64)> {
+    let (first, second) = pair(text, " ")?;
+    Ok((number(first)?, number(second)?))
+}
+
 /// The bytes of words of base 16, of which each has whole bytes.
 pub fn bytes(alloc: Global, text: &str) -> io::Result<Vec<u8>> {
     let mut all = Vec::new(alloc);

@@ -27,7 +27,8 @@ use Rattle.catalog.specs.Holdings.{Follows, with_item, filled}
 use Rattle.catalog.proofs.Listings.{entry_item, entry_items, spread, pair_items}
 use Rattle.std.specs.FinMap.{nat_cmp-IsAntisymmetric}
 use Rattle.calls.specs.Maps.{Table}
-use Rattle.calls.proofs.BagPoints.{not_tied, pair_cmp_total, pair_cmp-IsAntisymmetric, pair_cases, copies-add}
+use Rattle.calls.proofs.BagPoints.{not_tied, pair_cmp_total, pair_cmp-IsAntisymmetric, pair_cases}
+use Rattle.calls.proofs.BagPoints.{copies-add}
 use Rattle.calls.proofs.BagPoints.{copies-add_other, same_bag}
 
 -- ---- items that are filled in from the last to the first

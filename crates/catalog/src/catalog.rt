@@ -22,11 +22,17 @@ use std::alloc::{AllocError, Global};
 use std::marker::Model;
 
 /// Named collections, at most 256, in the order of making: the place of a collection is its number.
-/// Contracts see the
-/// list of them, each with its name and what it holds.
-#[derive(Drop)]
+/// Contracts see the list of them, each with its name and what it holds.
 pub struct Catalog {
     collections: IndexMap<String, Holding>,
+}
+
+// Written out, so that the crates above call it in place of proving it again.
+impl Drop for Catalog {
+    fn drop(self) {
+        let Self { collections } = self;
+        drop(collections);
+    }
 }
 
 impl Model for Catalog {
@@ -138,12 +144,10 @@ impl Catalog {
     }
 
     /// Puts a collection of the name, the kind and these items at the end; false, with nothing
-    /// changed, where no
-    /// collection of the kind has these items in this order.
+    /// changed, where no collection of the kind has these items in this order.
     ///
     /// BadName and TooLong as `check_name` says, then NameTaken, TooManyCollections where there are
-    /// 256, and NoMemory
-    /// only where it is not false. Each of them leaves everything as before.
+    /// 256, and NoMemory only where it is not false. Each of them leaves everything as before.
     pub fn load(&mut self, name: &str, kind: Kind, items: Vec<Item>) -> Result<bool, Refusal>
         ensures new { IfOk result (λ loaded. IsNew (names_of self.old) name.now) }
         ensures loads { IfOk result (λ loaded. IsTrue loaded →

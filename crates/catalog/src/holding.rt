@@ -93,8 +93,7 @@ impl Holding {
     }
 
     // Makes the call, answered so. NoMemory leaves the collection as before, and does not come for
-    // a call that may
-    // run in a commit.
+    // a call that may run in a commit.
     pub(crate) fn run(&mut self, call: &Call, reply: &Reply) -> Result<(), Refusal>
         requires can { Answers (content_of self.old) call.now reply.now }
         requires room { IsRoomy (Reaches (content_of self.old)) }
@@ -243,8 +242,7 @@ pub fn one_content()
 
 impl Holding {
     // A collection of the kind, into which the items are put. The last goes first: a queue keeps
-    // its least pair at the
-    // end.
+    // its least pair at the end.
     pub(crate) fn of_items(kind: Kind, mut items: Vec<Item>, alloc: Global) -> Result<Self, Refusal>
         ensures ok { IfOk result (λ holding. content_of holding ≡ filled (empty kind) items.items) }
         ensures refusal { IsOkUnless result Refusal.NoMemory }

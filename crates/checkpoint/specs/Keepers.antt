@@ -10,8 +10,8 @@ use Rattle.checkpoint.specs.declared.laying.Laying.{Laying}
 use Rattle.checkpoint.specs.Imaging.{IsLaidBeside}
 
 -- A disk with its area in use, the place up to which commits are kept, a block that was held back,
--- whether the disk has failed, the position up
--- to which the image of the area in use covers the records, and the image in progress.
+-- whether the disk has failed, the position up to which the image of the area in use covers the
+-- records, and the image in progress.
 pub record KeeperState (D : Type 0) : Type 0 where
   pub disk : D
   pub area : Area
@@ -64,8 +64,7 @@ AppendAnswers block mark is_full is_same is_risen (Err Refusal.Fault) held next 
 AppendAnswers block mark is_full is_same is_risen r held next failed = ⊥
 
 -- A block that the image of the area in use covers is let go, with nothing else changed; one that
--- is past the image in progress is held, with
--- nothing else changed; each other one is appended.
+-- is past the image in progress is held, with nothing else changed; each other one is appended.
 abbrev pub BringAnswers : Block → ℕ → Type 0 → Type 0 → Type 0 → Type 0 → Type 0 →
     Result Turn Refusal → Option Block → ℕ → Bool → Type 0
 BringAnswers block mark is_covered is_past is_full is_same is_risen (Ok Turn.Held) held next

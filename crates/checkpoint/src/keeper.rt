@@ -27,12 +27,10 @@ use gate_block::Area;
 use std::marker::Model;
 
 /// A disk with its area in use, the mark, a block that was held back, the position up to which the
-/// image of the area
-/// covers the records, and the image in progress.
+/// image of the area covers the records, and the image in progress.
 ///
 /// The area is one of the two of the disk, and the image goes into the other one. Contracts see the
-/// keeper as a
-/// `KeeperState`.
+/// keeper as a `KeeperState`.
 #[derive(Drop)]
 pub struct Keeper<D: Disk> {
     disk: D,
@@ -73,8 +71,8 @@ impl<D: Disk> Model for Keeper<D> {
 
 impl<D: Disk> Keeper<D> {
     /// A keeper of an area in use, with nothing held, the mark 0 and no image in progress; the
-    /// image of the area covers
-    /// no block that is brought to it. The area has not failed, and is one of the two of the disk.
+    /// image of the area covers no block that is brought to it. The area has not failed, and is one
+    /// of the two of the disk.
     pub fn new(disk: D, area: Area) -> Self
         requires fine { has_failed area ≡ false }
         requires one { IsOneOfTwo area (length (D.seen disk)) }
@@ -155,8 +153,7 @@ impl<D: Disk> Keeper<D> {
     }
 
     // Lets a block go that the image of the area in use covers, holds one that is past the image in
-    // progress, and
-    // appends each other one.
+    // progress, and appends each other one.
     fn bring(&mut self, block: Block) -> Result<Turn, Refusal>
         requires held { self.old.held ≡ None }
         requires failed { self.old.failed ≡ false }
@@ -196,13 +193,10 @@ impl<D: Disk> Keeper<D> {
     }
 
     /// Brings the held block, or else the next one, to the disk. Answers Idle where there is none,
-    /// or that all commits
-    /// up to a place are kept, which is the mark then. A block that the image of the area in use
-    /// covers is let go, as it
-    /// is kept by that, and no device is called. While an image is in progress, a block that ends
-    /// past it is held, which
-    /// is answered, and each other one goes into the area in use. It takes no memory and copies no
-    /// block.
+    /// or that all commits up to a place are kept, which is the mark then. A block that the image
+    /// of the area in use covers is let go, as it is kept by that, and no device is called. While
+    /// an image is in progress, a block that ends past it is held, which is answered, and each
+    /// other one goes into the area in use. It takes no memory and copies no block.
     ///
     /// Refused Failed after a Fault, with everything as before; Full where the block does not fit,
     /// and then it is held;
@@ -255,13 +249,11 @@ impl<D: Disk> Keeper<D> {
     }
 
     /// Begins to write an image into the area that is not in use. No device is called, no memory is
-    /// taken and no block
-    /// copied.
+    /// taken and no block copied.
     ///
     /// Refusals, in this order, each with everything as before: Failed after a Fault; Imaging where
-    /// an image is in
-    /// progress; Full where the blocks, with a closed gate behind the last, need more bytes than an
-    /// area has.
+    /// an image is in progress; Full where the blocks, with a closed gate behind the last, need
+    /// more bytes than an area has.
     pub fn begin_image(&mut self, image: Image) -> Result<(), Refusal>
         ensures answer { BeginAnswers self.old image self.new result }
         // All of it is left.
@@ -283,16 +275,13 @@ impl<D: Disk> Keeper<D> {
     }
 
     /// Writes the next block of the image, in one write and without a sync, and answers whether
-    /// another one is left. It
-    /// takes no memory.
+    /// another one is left. It takes no memory.
     ///
     /// A stop at any moment of the call leaves each byte outside the image's area, and so the area
-    /// in use, as a stop could
-    /// have left it before.
+    /// in use, as a stop could have left it before.
     ///
     /// Refused Failed after a Fault, with everything as before; Fault where the disk failed, and
-    /// then the keeper has
-    /// failed, and the block is not written.
+    /// then the keeper has failed, and the block is not written.
     pub fn image_piece(&mut self) -> Result<bool, Refusal>
         requires piece { HasPiece self.old.image }
         ensures answer { PieceAnswers self.old
@@ -327,19 +316,15 @@ impl<D: Disk> Keeper<D> {
     }
 
     /// Makes the image the store, and answers the mark then, which is at least the image's place.
-    /// What was written is
-    /// synced, and then the root byte is written, whose lowest bit picks the area, and synced. The
-    /// area that was in use is
-    /// out of use then. It takes no memory.
+    /// What was written is synced, and then the root byte is written, whose lowest bit picks the
+    /// area, and synced. The area that was in use is out of use then. It takes no memory.
     ///
     /// A stop at any moment of the call leaves what it could have left before; or what a read gave
-    /// before, with any root
-    /// byte.
+    /// before, with any root byte.
     ///
     /// Refused Failed after a Fault, and then Unfinished where no image is in progress or pieces of
-    /// it remain, both with
-    /// everything as before; Fault where the disk failed, and then the keeper has failed, and no
-    /// image is in progress.
+    /// it remain, both with everything as before; Fault where the disk failed, and then the keeper
+    /// has failed, and no image is in progress.
     pub fn flip(&mut self) -> Result<u64, Refusal>
         ensures answer { FlipAnswers self.old
             (Rises (D.fault_count self.old.disk) (D.fault_count self.new.disk)) self.new result }

@@ -3,13 +3,11 @@
 //! What it has brought is kept: a stop at any later moment leaves it.
 //!
 //! It also writes images of the book: whole blocks, into the area that is not in use, while it goes
-//! on appending to the
-//! one in use; then one byte makes the image the store.
+//! on appending to the one in use; then one byte makes the image the store.
 //!
 //! Contracts see a keeper as a `KeeperState`: its disk, the area in use, the mark (the place up to
-//! which commits are
-//! kept), the block that was held back, whether the disk has failed, the position up to which the
-//! image of the area in
+//! which commits are kept), the block that was held back, whether the disk has failed, the position
+//! up to which the image of the area in
 //! use covers the records, and the image in progress.
 #![tactic(auto)]
 

@@ -8,8 +8,7 @@ use disk_model::{Disk, Fault, write_and_sync};
 use gate_block::layout::{AREAS_AT, ROOT_AT};
 
 /// Makes the root byte pick the area that begins there, behind all that was written before: the
-/// disk is synced first,
-/// and then the byte is written and synced.
+/// disk is synced first, and then the byte is written and synced.
 pub fn pick_area<D: Disk>(disk: &mut D, base: u64) -> Result<(), Fault>
     requires { 513 ≤ length (D.seen disk.old) }
     ensures picks { OnOk result ((size : ℕ) → (base ≡ 4096) ⊎ (base ≡ 4096 + size) →

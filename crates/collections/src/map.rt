@@ -165,8 +165,7 @@ impl MapCol {
     }
 
     /// Makes the call, which is answered so. NoMemory, which leaves the map as before, only where a
-    /// value is put into
-    /// it.
+    /// value is put into it.
     pub fn run(&mut self, call: &Call, reply: &Reply) -> Result<(), Refusal>
         requires { Answers self.old call.now reply.now }
         ensures ok { OnOk result (self.new ≡ after self.old call.now reply.now) }

@@ -99,8 +99,7 @@ impl PoolCol {
     }
 
     /// Makes the call, which is answered so. NoMemory, which leaves the pool as before, only where
-    /// an identifier is
-    /// drawn: to free one takes no memory.
+    /// an identifier is drawn: to free one takes no memory.
     pub fn run(&mut self, call: &Call, reply: &Reply) -> Result<(), Refusal>
         requires { Answers self.old call.now reply.now }
         ensures ok { OnOk result (self.new ≡ after self.old call.now reply.now) }
@@ -122,10 +121,9 @@ impl PoolCol {
     }
 
     // An identifier that is not taken: the one after the greatest that is taken; where that is the
-    // greatest of all,
-    // the one before the least; and where both ends are taken, the first in between. Only the last
-    // looks at more
-    // than the ends, and comes only where a reply was run that no look gave, or after 2^64 draws.
+    // greatest of all, the one before the least; and where both ends are taken, the first in
+    // between. Only the last looks at more than the ends, and comes only where a reply was run that
+    // no look gave, or after 2^64 draws.
     fn untaken(&self) -> u64
         ensures { set.contains self.now result ≡ false }
     {

@@ -151,8 +151,7 @@ impl QueueCol {
     }
 
     /// Makes the call, which is answered so. NoMemory, which leaves the queue as before, only where
-    /// a pair is put into
-    /// it: to pluck one takes no memory.
+    /// a pair is put into it: to pluck one takes no memory.
     pub fn run(&mut self, call: &Call, reply: &Reply) -> Result<(), Refusal>
         requires { Answers self.old call.now reply.now }
         ensures ok { OnOk result (self.new ≡ after self.old call.now reply.now) }

@@ -105,8 +105,7 @@ impl SetCol {
     }
 
     /// Makes the call, which is answered so. NoMemory, which leaves the set as before, only where
-    /// an element is put
-    /// into it.
+    /// an element is put into it.
     pub fn run(&mut self, call: &Call, reply: &Reply) -> Result<(), Refusal>
         requires { Answers self.old call.now reply.now }
         ensures ok { OnOk result (self.new ≡ after self.old call.now reply.now) }

@@ -15,8 +15,7 @@ use std::marker::PhantomData;
 use std::os::unix::fs::FileExt;
 
 /// What a file held as it was opened, which no code can know. A function over `S: Content` is
-/// proved for any, and a
-/// clause that cites `S` speaks of the file only where that is what it held.
+/// proved for any, and a clause that cites `S` speaks of the file only where that is what it held.
 pub trait Content {
     ghost content: { List ℕ };
 }
@@ -30,16 +29,13 @@ impl Content for Unknown {
 }
 
 /// A disk that is a file, which held what `S` says. What a read gives and what a stop may leave is
-/// read off a record
-/// of the calls, which only clauses read.
+/// read off a record of the calls, which only clauses read.
 ///
 /// That the file is such a disk is a premise, which no code can test: all of it is on the device as
-/// it is opened,
-/// nobody else writes it, a write that succeeds is what a read gives from then on, one that fails
-/// is not seen, and a
-/// stop leaves each byte as it is, but for those that were written, or were to be, since the last
-/// sync that
-/// succeeded. `is_honest` says the part of it that reads can show.
+/// it is opened, nobody else writes it, a write that succeeds is what a read gives from then on,
+/// one that fails is not seen, and a stop leaves each byte as it is, but for those that were
+/// written, or were to be, since the last sync that succeeded. `is_honest` says the part of it that
+/// reads can show.
 #[derive(Drop)]
 pub struct FileDisk<S: Content> {
     file: File,
@@ -54,9 +50,8 @@ pub struct FileDisk<S: Content> {
 
 impl<S: Content> FileDisk<S> {
     /// Takes a file as a disk of the file's length, and syncs it first. The file is open for
-    /// reading and writing, and
-    /// the caller has given it its size, as by `set_len`. Refused where the file's length or the
-    /// sync is.
+    /// reading and writing, and the caller has given it its size, as by `set_len`. Refused where
+    /// the file's length or the sync is.
     pub fn open(file: File) -> io::Result<FileDisk<S>>
         ensures content { IfOk result (λ disk. ⟦<FileDisk<S> as Disk>⟧.seen disk ≡
             padded S.Content.content (length (⟦<FileDisk<S> as Disk>⟧.seen disk))) }
@@ -79,8 +74,7 @@ impl<S: Content> FileDisk<S> {
 }
 
 // Syncs the file, and answers whether it did. After a sync that failed, the system may answer the
-// next one well with
-// nothing kept: none is asked again.
+// next one well with nothing kept: none is asked again.
 fn sync_unless_broken(file: &File, is_broken: &mut bool) -> bool
     ensures stays { is_broken.old ≡ true → result ≡ false }
     ensures breaks { is_broken.new ≡ not result }

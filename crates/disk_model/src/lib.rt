@@ -1,7 +1,6 @@
 //! What a store knows of a disk: what a read gives, what a stop may leave, and what a stop at each
-//! moment since an
-//! earlier one might have left. A disk in memory does all that a stop may do to a disk; a file is
-//! one by a premise.
+//! moment since an earlier one might have left. A disk in memory does all that a stop may do to a
+//! disk; a file is one by a premise.
 #![tactic(auto)]
 
 mod call;

@@ -60,10 +60,8 @@ impl MemDisk {
     }
 
     /// What a stop leaves, as a disk at rest: the listed bytes that no sync has reached take the
-    /// listed values, the
-    /// last one where a byte is listed twice, and each other byte what a read gives. Others that
-    /// are listed are passed
-    /// over.
+    /// listed values, the last one where a byte is listed twice, and each other byte what a read
+    /// gives. Others that are listed are passed over.
     pub fn stop(self, pick: &[(u64, u8)]) -> MemDisk
         ensures picked { mem_bytes result ≡ picked (mem_bytes self) (mem_marks self) pick.now }
         ensures left { ⟦<MemDisk as Disk>⟧.may_leave self (mem_bytes result) }

@@ -6,8 +6,7 @@ ghost use Rattle.disk_model.specs.Disk.{ReadsOnly, HasCause};
 use crate::{Disk, Fault};
 
 /// Writes, and then syncs. A stop at any moment of the call leaves what it could have left before,
-/// with any bytes
-/// in the range.
+/// with any bytes in the range.
 pub fn write_and_sync<D: Disk>(disk: &mut D, at: u64, bytes: &[u8]) -> Result<(), Fault>
     requires { at + length bytes.now ≤ length (D.seen disk.old) }
     ensures written { OnOk result (Overwritten at bytes.now (D.seen disk.old) (D.seen disk.new)) }

@@ -107,19 +107,16 @@ impl Area {
     }
 
     /// Adds a block at the next gate, which is closed. The block is its gate, the length of its
-    /// body in four bytes,
-    /// the body, and the next gate, closed.
+    /// body in four bytes, the body, and the next gate, closed.
     ///
     /// A stop at any moment of the call leaves the blocks from before it, with the new one or
-    /// without, and nothing
-    /// else of the disk changes; at `Ok` the new one is kept. All but the gate is written and
-    /// synced before the gate
-    /// is opened, and that synced too, in the manner of a log that is written ahead. It takes no
-    /// memory.
+    /// without, and nothing else of the disk changes; at `Ok` the new one is kept. All but the gate
+    /// is written and synced before the gate is opened, and that synced too, in the manner of a log
+    /// that is written ahead. It takes no memory.
     ///
     /// Refusals, in this order: `Failed` where the area has failed, and `Full` where the block ends
-    /// behind the area's
-    /// end, both with everything as before; then `Fault`, after which the area has failed.
+    /// behind the area's end, both with everything as before; then `Fault`, after which the area
+    /// has failed.
     pub fn append<D: Disk>(&mut self, disk: &mut D, block: &[u8]) -> Result<(), Refusal>
         requires block { (body : List ℕ) × IsBlockOf body block.now }
         requires disk { base_of self.old + size_of self.old ≤ length (D.seen disk.old) }
@@ -144,8 +141,7 @@ impl Area {
         ensures any_moment_elsewhere { LeavesOnly D.moment D.left_since disk.old disk.new
             (LeavesElsewhere (D.may_leave disk.old) self.old) }
         // Also where a stop might leave another: where a read gives blocks up to the next gate, it
-        // gives the new one behind
-        // them then.
+        // gives the new one behind them then.
         ensures counts { (bodies : List (List ℕ)) (body : List ℕ) → IsBlockOf body block.now →
             IsRow bodies (bytes_of self.old (D.seen disk.old)) →
             position_of self.old ≡ length (row bodies) →
@@ -165,17 +161,16 @@ impl Area {
     }
 
     /// Lays a block at the next gate, with its gate open and the closed gate behind it, over
-    /// whatever stands there. It is
-    /// one write, and no sync: the block is kept once the disk is synced.
+    /// whatever stands there. It is one write, and no sync: the block is kept once the disk is
+    /// synced.
     ///
     /// At `Ok` a read gives the blocks that were laid so far, the new one last, and the closed gate
-    /// behind them. A stop at
-    /// any moment of the call leaves each byte outside the area as a stop could have left it
-    /// before. It takes no memory.
+    /// behind them. A stop at any moment of the call leaves each byte outside the area as a stop
+    /// could have left it before. It takes no memory.
     ///
     /// Refusals, in this order: `Failed` where the area has failed, and `Full` where the block ends
-    /// behind the area's
-    /// end, both with everything as before; then `Fault`, after which the area has failed.
+    /// behind the area's end, both with everything as before; then `Fault`, after which the area
+    /// has failed.
     pub fn lay<D: Disk>(&mut self, disk: &mut D, block: &[u8]) -> Result<(), Refusal>
         requires block { (body : List ℕ) × IsBlockOf body block.now }
         requires disk { base_of self.old + size_of self.old ≤ length (D.seen disk.old) }
@@ -246,10 +241,9 @@ impl Area {
     /// It writes nothing.
     ///
     /// Refusals: `Failed` where the area has failed; `Damaged`, with the gate's place on the disk,
-    /// where the gate is
-    /// open and the length behind it is 0, over 65,535, or more than has room; `NoMemory` where
-    /// there is none for the
-    /// body; `Fault`, after which the area has failed. The position stays at each of them.
+    /// where the gate is open and the length behind it is 0, over 65,535, or more than has room;
+    /// `NoMemory` where there is none for the body; `Fault`, after which the area has failed. The
+    /// position stays at each of them.
     pub fn next_block<D: Disk>(
         &mut self,
         alloc: Global,

@@ -9,9 +9,8 @@ use crate::layout::OPEN;
 pub const BLOCK_HEAD: usize = 5;
 
 /// Makes bytes a whole block, whose body stands behind room for the head: writes an open gate and
-/// the body's length into
-/// that room, and a closed gate behind the body. It takes no memory, and copies nothing of the
-/// body.
+/// the body's length into that room, and a closed gate behind the body. It takes no memory, and
+/// copies nothing of the body.
 pub fn close_block(bytes: &mut Vec<u8>)
     requires head { 5 ≤ length bytes.old.items }
     requires short { length bytes.old.items ≤ 5 + 65535 }

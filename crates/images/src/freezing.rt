@@ -29,13 +29,12 @@ use std::collections::VecDeque;
 use undo_log::{Entry, Later, Live, Logged, Owned};
 
 /// The records of an image of the machine, in whole blocks, with the mark of the next number:
-/// marks, collections with
-/// their items, live numbers rising, what these asked for in its order, but for what a falling one
-/// put off, and the end.
+/// marks, collections with their items, live numbers rising, what these asked for in its order, but
+/// for what a falling one put off, and the end.
 ///
 /// It takes time and memory in proportion to what the collections hold and the live transactions
-/// asked for, of which the
-/// image is one copy; beside it the items of one collection at a time are copied.
+/// asked for, of which the image is one copy; beside it the items of one collection at a time are
+/// copied.
 ///
 /// NoMemory.
 pub fn image_blocks<B: Parts + Coded>(

@@ -97,10 +97,9 @@ impl<B: Parts + Coded> Loader<B> {
     }
 
     /// Puts a collection of the name, the kind and these items at the end, where the wear reaches
-    /// it, and answers true;
-    /// false, with nothing changed, where that cannot be: the name is none or is taken, there are
-    /// 256, no collection of
-    /// the kind has these items in this order, or the wear does not reach one of them.
+    /// it, and answers true; false, with nothing changed, where that cannot be: the name is none or
+    /// is taken, there are 256, no collection of the kind has these items in this order, or the
+    /// wear does not reach one of them.
     ///
     /// NoMemory leaves all as before.
     pub fn load(&mut self, name: &str, kind: Kind, items: Vec<Item>) -> Result<bool, Refusal>
@@ -119,8 +118,7 @@ impl<B: Parts + Coded> Loader<B> {
     }
 
     /// Takes what the record tells of a live transaction, where it can be so, and answers true;
-    /// false, with nothing
-    /// changed, where it cannot.
+    /// false, with nothing changed, where it cannot.
     ///
     /// NoMemory leaves all as before.
     pub fn hold(&mut self, entry: Record) -> Result<bool, Refusal>
@@ -131,8 +129,7 @@ impl<B: Parts + Coded> Loader<B> {
     }
 
     /// The machine of what was told, where the live calls lead from some content to what the
-    /// collections hold; none where
-    /// they lead there from nowhere.
+    /// collections hold; none where they lead there from nowhere.
     ///
     /// NoMemory for values, which are copied one at a time, and for what the collections need to
     /// take them.

@@ -139,7 +139,8 @@ module _ {S : Type 0} (meaning : Meaning S ℕ) (making : Making S)
 
     -- What says the acts leads from where the entries es are known and d is the settled content to
     -- the state t.
-    pub record IsPlayed (es : List (ℕ × Entry)) (acts : List Act) (d : S) (t : State S) : Type 0 where
+    pub record IsPlayed (es : List (ℕ × Entry)) (acts : List Act) (d : S) (t : State S) : Type
+        0 where
       pub sound : Sound t
       pub tells : Tells (gathered es acts) t
       pub content : S
@@ -230,7 +231,8 @@ module _ {S : Type 0} (meaning : Meaning S ℕ) (making : Making S)
             (ap (λ v. v.entries) row.is);
         content = d;
         runs = refl;
-        settled = steps.later_settles meaning making laws s sound l.number l.collection l.call t d row
+        settled = steps.later_settles meaning making laws s sound l.number l.collection l.call t d
+            row
             settled;
       }
       one_step (Record.Commit n) t row =
@@ -291,8 +293,10 @@ module _ {S : Type 0} (meaning : Meaning S ℕ) (making : Making S)
 
     -- Records lead the settled content on by the transactions that they commit, each run whole, one
     -- after another.
-    pub all_repeated : (rs : List Record) (es : List (ℕ × Entry)) (s t : State S) (d : S) → Sound s →
-        Tells es s → Settled s d → Leads (Steps meaning making) rs s t → IsPlayed es (acts_of rs) d t
+    pub all_repeated : (rs : List Record) (es : List (ℕ × Entry)) (s t : State S) (d : S) →
+        Sound s →
+        Tells es s → Settled s d → Leads (Steps meaning making) rs s t →
+        IsPlayed es (acts_of rs) d t
     all_repeated [] es s t d sound tells settled leads =
         subst (IsPlayed es [] d) leads (stays es s sound tells d settled)
     all_repeated (r ∷ rs) es s t d sound tells settled leads =
@@ -320,4 +324,5 @@ module _ {S : Type 0} (meaning : Meaning S ℕ) (making : Making S)
           played.settled in
           let told = serial_told meaning making collections answers_as_told leaves_as_told
           makes_as_told (committed_after [] (acts_of rs)) start played.content played.runs in
-          subst (λ c. Serial (committed (acts_of rs)) (collections start) (collections c)) none.1 told
+          subst (λ c. Serial (committed (acts_of rs)) (collections start) (collections c)) none.1
+          told

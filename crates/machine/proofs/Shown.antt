@@ -239,7 +239,8 @@ module _ {S : Type 0} (meaning : Meaning S ℕ) (making : Making S) where
     left_shows n next wear t left =
         subst (λ v. Shows v (theory.ended_at rules next n m)) (sym left.is) (record {
           now = refl;
-          entries = ap (runs.others (journal.asker owner) n) shows.entries ∙ others_owned n s.entries;
+          entries = ap (runs.others (journal.asker owner) n) shows.entries ∙
+              others_owned n s.entries;
           live = live_left s m shows n;
           falling = falling_left s m shows n;
           needs = λ h. (

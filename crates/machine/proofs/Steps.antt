@@ -183,7 +183,8 @@ module _ {S : Type 0} (meaning : Meaning S ℕ) (making : Making S)
         (laters_there n) row.does) in (
           row.next,
           subst (λ l. Leads (Does meaning) l s.now row.next) (laters_are fs)
-              (leads_map (λ e. e.1) (Does meaning) (journal.laters left (all_owned fs)) s.now row.next
+              (leads_map (λ e. e.1) (Does meaning) (journal.laters left (all_owned fs)) s.now
+              row.next
               there),
         )
 

@@ -25,8 +25,7 @@ resting now wear = record { now = now; live = maps.empty; entries = []; holds = 
 -- ---- what holds of every state
 
 -- It may stand among what was asked for: a call that a client can ask for, with a reply that it
--- has, neither with a value too long to be spelled; or a call
--- that a client can put off.
+-- has, neither with a value too long to be spelled; or a call that a client can put off.
 abbrev pub IsAskedEntry : Entry → Type 0
 IsAskedEntry (Asked e) = Askable e.call × IsShort e.call × Pairs e.call e.reply ×
     IsShortReply e.reply
@@ -94,8 +93,8 @@ pub record Alike {S : Type 0} (s t : State S) : Type 0 where
   pub wear : s.wear ≡ t.wear
 
 -- When each answer of repeating a record comes. It was its step, and leads from each state alike to
--- one alike; or none leads from there, nor from any
--- state alike, and nothing changed; or there was no memory, and nothing changed.
+-- one alike; or none leads from there, nor from any state alike, and nothing changed; or there was
+-- no memory, and nothing changed.
 abbrev pub RepeatAnswers : {S : Type 0} → (State S → Record → State S → Type 0) → State S → Record →
     Result Bool Refusal → State S → Type 0
 RepeatAnswers {S} steps s r (Ok true) t =

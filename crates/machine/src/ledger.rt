@@ -20,10 +20,18 @@ use undo_log::{Later, Live, Logged};
 /// The live transactions, with the needs that they hold, and what they asked for and did not undo.
 ///
 /// Contracts see these three, and where there is room.
-#[derive(Drop)]
 pub struct Ledger {
     needs: NeedTable,
     live: Live,
+}
+
+// Written out, so that the crates above call it in place of proving it again.
+impl Drop for Ledger {
+    fn drop(self) {
+        let Self { needs, live } = self;
+        drop(needs);
+        drop(live);
+    }
 }
 
 impl Model for Ledger {
@@ -94,8 +102,7 @@ impl Ledger {
     }
 
     /// Notes a call of the transaction as the newest entry, with the need that it has. That is
-    /// free,
-    /// and room is reserved. It takes no memory.
+    /// free, and room is reserved. It takes no memory.
     pub fn note_call(&mut self, number: u64, asked: Logged, need: Need)
         requires live { Lives self.old.live number }
         requires room { HasRoomToNote self.old number asked.at }
@@ -125,8 +132,7 @@ impl Ledger {
     }
 
     /// Takes the newest call of the transaction out; its need stays, and so do the other entries,
-    /// in
-    /// their order. Nothing changes where it has no call.
+    /// in their order. Nothing changes where it has no call.
     pub fn pop(&mut self, number: u64) -> Option<Logged>
         ensures found { IfSome result (λ logged.
             IsNewestCall number self.old.entries (event_of logged) self.new.entries) }

@@ -39,8 +39,7 @@ use undo_log::{Later, Live, Logged};
 /// record.
 ///
 /// Contracts see what the collections hold now, the live transactions with what they asked for and
-/// did not undo, the
-/// needs that they hold, and the wear.
+/// did not undo, the needs that they hold, and the wear.
 #[derive(Drop)]
 pub struct Machine<B: Parts + Coded> {
     parts: B,
@@ -101,8 +100,7 @@ impl<B: Parts + Coded> Machine<B> {
     }
 
     /// What holds of every machine: the limits, that each call may still be undone, and what the
-    /// laws of the collections
-    /// give. It does nothing.
+    /// laws of the collections give. It does nothing.
     pub fn upheld(&self)
         ensures { IsUpheld B.meaning B.making (λ s. AreShort (B.collections s))
             (IsSound B.meaning B.making) self.now }
@@ -134,8 +132,7 @@ impl<B: Parts + Coded> Machine<B> {
     }
 
     /// Takes the record's step, where it is one from here, and answers true; false, with nothing
-    /// changed, where it is
-    /// none.
+    /// changed, where it is none.
     ///
     /// NoMemory leaves all as before.
     pub fn repeat(&mut self, entry: Record) -> Result<bool, Refusal>
@@ -208,8 +205,7 @@ impl<B: Parts + Coded> Machine<B> {
     /// Makes an empty collection at the end.
     ///
     /// The refusals of `Parts::make`, in its order: BadName, TooLong, NameTaken,
-    /// TooManyCollections, NoMemory. Each leaves
-    /// all as before.
+    /// TooManyCollections, NoMemory. Each leaves all as before.
     pub fn make(&mut self, name: &str, kind: Kind) -> Result<(), Refusal>
         ensures ok { OnOk result (MakeRow B.making self.old name.now kind self.new) }
         ensures same { OnErr result (self.new ≡ self.old) }
@@ -272,8 +268,7 @@ impl<B: Parts + Coded> Machine<B> {
     }
 
     /// Commits a transaction: what it put off, and what its calls left, runs in the order asked.
-    /// All that it asked for
-    /// stays done, and its needs go. It takes no memory.
+    /// All that it asked for stays done, and its needs go. It takes no memory.
     pub fn commit(&mut self, number: u64)
         requires { IsRunning self.old number }
         ensures { CommitRow B.meaning self.old number self.new }

@@ -46,8 +46,8 @@ FinishesAs n (Ok done) r steps = Finishes n r steps
 FinishesAs n (Err e) r steps = (r ≡ Err e) × (steps ≡ [])
 
 -- The book is frozen, unless an image is in progress. Behind that, in the world that is left by it,
--- the pieces that are left are written, and the
--- image is made the store, of which this is the result; or the first refusal is.
+-- the pieces that are left are written, and the image is made the store, of which this is the
+-- result; or the first refusal is.
 pub record Checkpoints {D : Type 0} (g : Ghosts D) (old : Whole D) (r : Result ℕ Refusal)
     (new : Whole D) : Type 0 where
   pub begun : Result (Unit {0}) Refusal

@@ -8,14 +8,11 @@ use disk_model::Disk;
 use world::World;
 
 /// Freezes the book, unless an image is in progress, writes what is left of the image, and makes it
-/// the store. Answers
-/// the mark then: so many commits are kept.
+/// the store. Answers the mark then: so many commits are kept.
 ///
 /// Each refusal is handed on at once, and no step is taken behind it. In this order: NoMemory,
-/// Failed after a Fault, and
-/// Full where the image needs more bytes than an area has, all with no image begun; then Fault
-/// where the disk failed, in
-/// a piece or in the flip.
+/// Failed after a Fault, and Full where the image needs more bytes than an area has, all with no
+/// image begun; then Fault where the disk failed, in a piece or in the flip.
 pub fn checkpoint<D: Disk>(world: &mut World<D>) -> Result<u64, Refusal>
     ensures { Checkpoints ⟦<D as Disk>⟧ world.old result world.new }
 {

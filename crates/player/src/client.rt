@@ -13,7 +13,7 @@ use script::Operation;
 use world::World;
 
 /// A client's open transaction: its number, and whether the book knows it.
-#[derive(Clone, Copy, Debug)]
+#[derive(Clone, Copy)]
 pub struct Begun {
     pub number: u64,
     pub is_entered: bool,
@@ -23,7 +23,7 @@ pub struct Begun {
 /// made.
 ///
 /// Each request takes steps of a world.
-#[derive(Clone, Copy, Debug)]
+#[derive(Clone, Copy)]
 pub struct Client {
     pub begun: Option<Begun>,
     pub ticket: Option<u64>,
@@ -37,8 +37,7 @@ impl Client {
     };
 
     /// Makes a collection, as `Book::make` does. Its place is the client's ticket then; a refusal
-    /// leaves the client as
-    /// before.
+    /// leaves the client as before.
     pub fn make<D: Disk>(
         &mut self,
         world: &mut World<D>,
@@ -54,8 +53,7 @@ impl Client {
     }
 
     /// Begins a transaction under the next number, which is drawn. The book learns of it with the
-    /// first call, or with
-    /// the commit.
+    /// first call, or with the commit.
     ///
     /// AlreadyLive where one is open, then Worn where the next number is 2^61; both leave all as
     /// before.
@@ -97,8 +95,7 @@ impl Client {
     /// Asks for an operation on the collection of the name.
     ///
     /// NoSuchTxn where no transaction is open; where the book does not know it yet, the refusals of
-    /// `Book::enter`; then
-    /// those of `Book::find`, and of `Book::call`. The transaction stays open.
+    /// `Book::enter`; then those of `Book::find`, and of `Book::call`. The transaction stays open.
     pub fn call<D: Disk>(
         &mut self,
         world: &mut World<D>,
@@ -117,8 +114,7 @@ impl Client {
     /// Puts a bump of the counter of the name off to the commit.
     ///
     /// NoSuchTxn where no transaction is open; where the book does not know it yet, the refusals of
-    /// `Book::enter`; then
-    /// those of `Book::find`, and of `Book::later`. The transaction stays open.
+    /// `Book::enter`; then those of `Book::find`, and of `Book::later`. The transaction stays open.
     pub fn later<D: Disk>(
         &mut self,
         world: &mut World<D>,
@@ -136,8 +132,7 @@ impl Client {
     /// Commits the open transaction, which is none then. Its place is the client's ticket.
     ///
     /// NoSuchTxn where no transaction is open; where the book does not know it yet, the refusals of
-    /// `Book::enter`; then
-    /// those of `Book::commit`. At a refusal the transaction stays open.
+    /// `Book::enter`; then those of `Book::commit`. At a refusal the transaction stays open.
     pub fn commit<D: Disk>(&mut self, world: &mut World<D>) -> Result<u64, Refusal>
         ensures { Runs ⟦<D as Disk>⟧ world.old (λ steps. Commits self.old result steps self.new)
             world.new }
@@ -152,12 +147,10 @@ impl Client {
     }
 
     /// Takes the open transaction back: its calls are undone, the newest first, and it is none
-    /// then. Where the book does
-    /// not know it, there is nothing to undo.
+    /// then. Where the book does not know it, there is nothing to undo.
     ///
     /// NoSuchTxn where no transaction is open, then the refusals of `Book::back` and `Book::ended`.
-    /// At a refusal the
-    /// transaction stays open.
+    /// At a refusal the transaction stays open.
     pub fn abort<D: Disk>(&mut self, world: &mut World<D>) -> Result<(), Refusal>
         ensures { Runs ⟦<D as Disk>⟧ world.old (λ steps. Aborts self.old result steps self.new)
             world.new }

@@ -4,7 +4,7 @@ use checkpoint::Turn;
 use std::fmt;
 
 /// What a line answers.
-#[derive(Drop, Debug)]
+#[derive(Drop)]
 pub enum Said {
     /// The count of commits and makes since the store was opened, this one included.
     Placed(u64),
@@ -29,48 +29,47 @@ pub enum Said {
 
 impl fmt::Display for Said {
     fn fmt<W: fmt::Write>(&self, f: &mut fmt::Formatter<W>) -> fmt::Result {
-        match self {
-            Said::Placed(place) => write!(f, "place {place}"),
-            Said::Begun(number) => write!(f, "begun {number}"),
-            Said::Replied(reply) => write_reply(f, reply),
-            Said::PutOff => write!(f, "done"),
-            Said::Aborted => write!(f, "aborted"),
-            Said::Kept => write!(f, "kept"),
-            Said::NotYet => write!(f, "not yet"),
-            Said::NoTicket => write!(f, "no ticket"),
-            Said::Turned(Turn::Idle) => write!(f, "idle"),
-            Said::Turned(Turn::Kept(place)) => write!(f, "kept {place}"),
-            Said::Turned(Turn::Held) => write!(f, "held"),
-            Said::Flipped(mark) => write!(f, "flipped {mark}"),
+        let (text, number) = match self {
+            Said::Placed(place) => ("place", Some(*place)),
+            Said::Begun(number) => ("begun", Some(*number)),
+            Said::Replied(reply) => return write_reply(f, reply),
+            Said::PutOff => ("done", None),
+            Said::Aborted => ("aborted", None),
+            Said::Kept => ("kept", None),
+            Said::NotYet => ("not yet", None),
+            Said::NoTicket => ("no ticket", None),
+            Said::Turned(Turn::Idle) => ("idle", None),
+            Said::Turned(Turn::Kept(place)) => ("kept", Some(*place)),
+            Said::Turned(Turn::Held) => ("held", None),
+            Said::Flipped(mark) => ("flipped", Some(*mark)),
             Said::Refused(refusal) => {
                 let number = refusal.number();
-                write!(f, "refused {number} {refusal}")
+                return write!(f, "refused {number} {refusal}");
             }
+        };
+        match number {
+            Some(number) => write!(f, "{text} {number}"),
+            None => f.write_str(text),
         }
     }
 }
 
 // Writes a reply, its bytes in hexadecimal digits.
 fn write_reply<W: fmt::Write>(f: &mut fmt::Formatter<W>, reply: &Reply) -> fmt::Result {
-    match reply {
-        Reply::Done => write!(f, "done"),
-        Reply::No => write!(f, "no"),
-        Reply::Yes => write!(f, "yes"),
-        Reply::Nothing => write!(f, "nothing"),
-        Reply::Value(value) => {
-            let hex = Hex(value.as_slice());
-            write!(f, "value {hex}")
-        }
-        Reply::Entry(key, value) => {
-            let hex = Hex(value.as_slice());
-            write!(f, "entry {key} {hex}")
-        }
-        Reply::Item(priority, tag) => write!(f, "item {priority} {tag}"),
-        Reply::Total(total) => write!(f, "total {total}"),
-        Reply::Id(id) => write!(f, "id {id}"),
-        Reply::Queued => write!(f, "queued"),
-        Reply::Absent => write!(f, "absent"),
-    }
+    let text = match reply {
+        Reply::Done => "done",
+        Reply::No => "no",
+        Reply::Yes => "yes",
+        Reply::Nothing => "nothing",
+        Reply::Value(value) => return write!(f, "value {}", Hex(value.as_slice())),
+        Reply::Entry(key, value) => return write!(f, "entry {key} {}", Hex(value.as_slice())),
+        Reply::Item(priority, tag) => return write!(f, "item {priority} {tag}"),
+        Reply::Total(total) => return write!(f, "total {total}"),
+        Reply::Id(id) => return write!(f, "id {id}"),
+        Reply::Queued => "queued",
+        Reply::Absent => "absent",
+    };
+    f.write_str(text)
 }
 
 /// Bytes in pairs of digits, or a dash for none.
@@ -80,7 +79,7 @@ pub struct Hex<'a>(pub &'a [u8]);
 impl fmt::Display for Hex<'_> {
     fn fmt<W: fmt::Write>(&self, f: &mut fmt::Formatter<W>) -> fmt::Result {
         if self.0.is_empty() {
-            return write!(f, "-");
+            return f.write_str("-");
         }
         for byte in self.0 {
             write!(f, "{byte:02x}")?;

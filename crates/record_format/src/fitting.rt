@@ -74,8 +74,7 @@ pub fn fits_item(item: &Item) -> bool
 }
 
 /// Whether so many runs can reach the item: the number of a counter is at most `wear` times 2^63
-/// from 0, and other items
-/// have no bound.
+/// from 0, and other items have no bound.
 pub fn is_reached(item: &Item, wear: u64) -> bool
     ensures { IsTrue result ↔ IsReached wear item.now }
 {

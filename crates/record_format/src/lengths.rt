@@ -67,8 +67,7 @@ fn back_len(back: Option<&Call>) -> usize
 }
 
 /// How many bytes the record of a call takes, with its reply and the call that takes it back, whose
-/// values have at most
-/// 256 bytes: from 12 to 811.
+/// values have at most 256 bytes: from 12 to 811.
 #[tactic(auto, using(crate::proofs::RecordLengths::lengths))]
 pub fn call_len(asked: &Call, answer: &Reply, back: Option<&Call>) -> usize
     requires asked { FitsCall asked.now }

@@ -373,9 +373,8 @@ pub fn encode(entry: &Record, out: &mut Vec<u8>) -> Result<(), Refusal>
 }
 
 /// Puts the record of a call, whose values have at most 256 bytes, behind what `out` holds, in
-/// place: the transaction's
-/// number, the collection, the call, its reply, and the call that takes it back. Nothing is copied
-/// but into `out`.
+/// place: the transaction's number, the collection, the call, its reply, and the call that takes it
+/// back. Nothing is copied but into `out`.
 ///
 /// NoMemory, only where room was missing; it leaves `out` as it was.
 pub fn encode_call(

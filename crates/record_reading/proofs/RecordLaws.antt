@@ -58,7 +58,8 @@ IsValue-taken : (len : ℕ) (bytes : List ℕ) → len ≤ 256 → len ≤ lengt
 IsValue-taken len bytes short long f =
     record {
       short = omega (arith, length-take len bytes);
-      bytes = All-from_get_or (λ b. b < 256) (take len bytes) 0 (λ i lt. IsBytes-take len bytes f i);
+      bytes = All-from_get_or (λ b. b < 256) (take len bytes) 0
+          (λ i lt. IsBytes-take len bytes f i);
     }
 
 value_takes : (bytes : List ℕ) (x : List ℕ × List ℕ) → IsBytes bytes → value_in bytes ≡ Some x →

@@ -1,7 +1,6 @@
 -- What the functions of reading.rt return, one by one: the field at the front of the bytes, and the
--- bytes behind it. No
--- public contract cites this. That what is read so is what Records spells, and the other way round,
--- is proved.
+-- bytes behind it. No public contract cites this. That what is read so is what Records spells, and
+-- the other way round, is proved.
 use Rattle.std.specs.Prelude.{◌≡◌, ℕ, Bool, ◌&&◌, ◌||◌, List, [], ◌∷◌, length, take, drop, Option}
 use Rattle.std.specs.Prelude.{Some, None, Result, Ok, Err, nat_lt, nat_le, ◌==◌, if◌then◌else◌}
 use Rattle.std.specs.List.{list_all}

@@ -1,6 +1,7 @@
 -- What holds of the items and the values of a content: none is too long to be spelled, and so many
 -- runs reach them.
-use Rattle.std.proofs.Common.{refl, ◌≡◌, ℕ, zero, suc, ◌≤◌, Bool, true, false, cond, Option, Some, None}
+use Rattle.std.proofs.Common.{refl, ◌≡◌, ℕ, zero, suc, ◌≤◌, Bool, true, false, cond, Option, Some}
+use Rattle.std.proofs.Common.{None}
 use Rattle.std.proofs.Common.{List, [], ◌∷◌, ◌++◌, map, length, sym, ◌∙◌, ap, subst, Ordering, Less}
 use Rattle.std.proofs.Common.{Equal, Greater, ⊎_elim}
 use Rattle.std.specs.Prelude.{IfSome, T, replicate}

@@ -40,8 +40,8 @@ Rise [] = Unit {0}
 Rise (n ∷ ns) = AllByRecursion (λ m. n < m) ns × Rise ns
 
 -- The records are an image: the marks, which are a number above all that were entered and the wear;
--- the collections; the numbers that were live,
--- rising; what these had asked for, in the order asked; and the end.
+-- the collections; the numbers that were live, rising; what these had asked for, in the order
+-- asked; and the end.
 pub record IsImage (next wear : ℕ) (shown : List Collection) (numbers : List ℕ)
     (live rs : List Record) : Type 0 where
   pub told : List Record

@@ -10,8 +10,7 @@ use calls::{Item, Kind, Refusal};
 use catalog::{Catalog, Parts, Shown};
 
 /// Named collections that records tell of: what is in a journal says what their calls do, and what
-/// is in an image says
-/// what they hold.
+/// is in an image says what they hold.
 pub trait Coded: Parts {
     /// The content, as named collections in the order of making.
     ghost collections: { Self → List Collection };
@@ -25,12 +24,10 @@ pub trait Coded: Parts {
         ensures err { IfErr result (ShowRefused (collections self.now) at) };
 
     /// Puts a collection of the name, the kind and these items at the end; false, with nothing
-    /// changed, where no
-    /// collection of the kind has these items in this order.
+    /// changed, where no collection of the kind has these items in this order.
     ///
     /// BadName and TooLong as `check_name` says, then NameTaken, TooManyCollections where there are
-    /// 256, and NoMemory
-    /// only where it is not false. Each of them leaves everything as before.
+    /// 256, and NoMemory only where it is not false. Each of them leaves everything as before.
     fn load(&mut self, name: &str, kind: Kind, items: Vec<Item>) -> Result<bool, Refusal>
         ensures new { IfOk result (λ loaded. IsNew (Self.making.names self.old) name.now) }
         ensures loads { IfOk result (λ loaded. IsTrue loaded →

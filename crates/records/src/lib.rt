@@ -1,6 +1,5 @@
 //! What a journal and a checkpoint image say, record by record, the one spelling of each record,
-//! and collections that
-//! records tell of.
+//! and collections that records tell of.
 #![tactic(auto)]
 
 mod coded;

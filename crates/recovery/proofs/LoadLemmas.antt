@@ -331,7 +331,8 @@ loading_starts seen may_leave moment left_since is_honest fault_count disk base 
       place_is = omega (arith, none);
       fit = subst IsFit (sym unread) tt;
       few = let zero_count : count_of stage ≡ 0 = ap count_of unread in omega (arith, zero_count);
-      has_read = λ true_read. nothing_read (part base size (seen disk)) (position_of area) kind stage
+      has_read = λ true_read. nothing_read (part base size (seen disk)) (position_of area) kind
+          stage
           next none unnamed unread;
     }
 
@@ -454,7 +455,8 @@ module _ {D : Type 0} {seen : D → List ℕ} {may_leave : D → List ℕ → Ty
         few = omega (arith, few, l.few, position_is);
         has_read = λ true_read. reads_on (part base size (seen old)) body (position_of area)
             (position_of after) kind later stage now next above (l.has_read (honest true_read))
-            (subst (λ b. StandsAt b (position_of area) body) bytes_same (stands true_read)) position_is
+            (subst (λ b. StandsAt b (position_of area) body) bytes_same (stands true_read))
+            position_is
             repeats;
       }
 

@@ -36,8 +36,7 @@ pub record IsFilled (area : ℕ) (bytes : List ℕ) : Type 0 where
   pub image : take 24 (drop 4096 bytes) ≡ empty_area
 
 -- The bytes are those of a format: a head with an open gate, a root byte that picks the first area,
--- and in it the image of nothing alone. They are
--- sound, and stand for a store with no collection.
+-- and in it the image of nothing alone. They are sound, and stand for a store with no collection.
 pub record IsEmptyStore (bytes : List ℕ) : Type 0 where
   pub area : ℕ
   pub header : IsHeader area bytes

@@ -7,8 +7,7 @@ use Rattle.repetition.specs.Steps.{State}
 use Rattle.recovery.specs.Openings.{IsRead}
 
 -- The area is a row of blocks up to this position, of an image and a journal of so many records,
--- which lead to the state; the number is above every
--- number that they enter.
+-- which lead to the state; the number is above every number that they enter.
 pub record IsLoaded (base size : ℕ) (bytes : List ℕ) (state : State) (next count place : ℕ) : Type
     0 where
   pub blocks : List (List Record)

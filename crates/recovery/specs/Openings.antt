@@ -22,8 +22,7 @@ use Rattle.repetition.specs.Repetitions.{AreRead}
 use Rattle.undoing.specs.Undoing.{Undo, AreBlocksOf}
 
 -- The area is a row of these blocks, of an image and a journal of so many records, which lead to
--- the state; the number is above every number that
--- they enter.
+-- the state; the number is above every number that they enter.
 pub record IsRead (base size : ℕ) (bytes : List ℕ) (blocks : List (List Record)) (next : ℕ)
     (state : State) (count : ℕ) : Type 0 where
   pub good : AreRecords None (records_in blocks)
@@ -38,8 +37,8 @@ pub record AreSound (base size : ℕ) (bytes : List ℕ) (blocks : List (List Re
   pub is_read : IsRead base size bytes blocks next end count
 
 -- At this place of the disk stands the first fault of an area. Before it stand whole blocks, whose
--- records are read. There the gate is open, and no
--- block stands with which the reading goes on; or it is closed, and the image has not ended.
+-- records are read. There the gate is open, and no block stands with which the reading goes on; or
+-- it is closed, and the image has not ended.
 pub record IsFirstFault (base : ℕ) (area : List ℕ) (place : ℕ) : Type 0 where
   pub blocks : List (List Record)
   pub good : AreRecords None (records_in blocks)
@@ -76,8 +75,8 @@ pub record IsDamagedAt (bytes : List ℕ) (place : ℕ) : Type 0 where
   pub unsound : IsSound bytes → ⊥
 
 -- A store was opened: its head picks the area, and that was read. Whatever was live is undone, and
--- the records of the undoing stand in blocks
--- behind the others, in the area and nowhere else. The book is of the state that they lead to.
+-- the records of the undoing stand in blocks behind the others, in the area and nowhere else. The
+-- book is of the state that they lead to.
 pub record IsOpened (old : List ℕ) (book : BookState (List Collection)) (area : Area)
     (new : List ℕ) : Type 0 where
   pub header : IsHeader (size_of area) old

@@ -16,14 +16,12 @@ const EMPTY_IMAGE: [u8; 24] = [
 ];
 
 /// Makes the disk an empty store with two areas of so many bytes: a head, a root byte that picks
-/// the first area, and in it
-/// the image of nothing, with no number drawn and no wear. A stop at any moment of the call, on a
-/// disk that was at rest,
-/// leaves the old bytes with any value for the gate of the head, or no store, or the empty one.
+/// the first area, and in it the image of nothing, with no number drawn and no wear. A stop at any
+/// moment of the call, on a disk that was at rest, leaves the old bytes with any value for the gate
+/// of the head, or no store, or the empty one.
 ///
 /// Refused BadArg where the area is below 65,536 or over 2^30 bytes, or where the disk has another
-/// size than 4096 and
-/// two areas, with nothing touched; Fault where the disk failed.
+/// size than 4096 and two areas, with nothing touched; Fault where the disk failed.
 pub fn format<D: Disk>(disk: &mut D, area: u64) -> Result<(), Refusal>
     ensures answer { IsFormatAnswer (IsRoomFor area (length (D.seen disk.old)))
         (Rises (D.fault_count disk.old) (D.fault_count disk.new)) result }

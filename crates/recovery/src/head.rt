@@ -57,8 +57,7 @@ fn read_size<D: Disk>(disk: &mut D) -> Result<u64, Refusal>
 }
 
 /// Where the area in use begins, and its size. Refused Fault where the disk failed, and NotAStore
-/// where no head is
-/// read.
+/// where no head is read.
 pub fn area_in_use<D: Disk>(disk: &mut D) -> Result<(u64, u64), Refusal>
     ensures inside { IfOk result (λ x. (0 < x.1) × (x.1 ≤ 2 ^ 30) × (x.0 + x.1 < 2 ^ 63) ×
         (x.0 + x.1 ≤ length (D.seen disk.old))) }

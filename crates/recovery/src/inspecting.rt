@@ -11,15 +11,12 @@ use disk_model::Disk;
 use std::alloc::Global;
 
 /// Looks at the store on a disk: how many collections it has, how many transactions that have not
-/// ended, and how many
-/// records stand behind its image. It reads all that an opening reads, undoes the losers in memory,
-/// and writes nothing.
+/// ended, and how many records stand behind its image. It reads all that an opening reads, undoes
+/// the losers in memory, and writes nothing.
 ///
 /// Refused NotAStore, where the disk read true only if it has no head of a store; Fault where the
-/// disk failed; Damaged
-/// with the position of the gate of the block in which the first damage stands, where the disk read
-/// true only if the
-/// bytes are not sound; NoMemory.
+/// disk failed; Damaged with the position of the gate of the block in which the first damage
+/// stands, where the disk read true only if the bytes are not sound; NoMemory.
 pub fn inspect<D: Disk>(alloc: Global, disk: &mut D) -> Result<Report, Refusal>
     ensures report { IfOk result (λ report. D.is_honest disk.new →
         IsReport (D.seen disk.old) report) }

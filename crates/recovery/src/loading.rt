@@ -23,8 +23,7 @@ pub struct Loaded {
 /// Reads the records of all blocks of an area, one block at a time.
 ///
 /// Refused NoMemory, Fault where the disk failed, and Damaged with the position of the gate of the
-/// block in which the
-/// first damage stands.
+/// block in which the first damage stands.
 pub fn load<D: Disk>(alloc: Global, disk: &mut D, base: u64, size: u64) -> Result<Loaded, Refusal>
     requires room { 0 < size }
     requires fits { base + size < 2 ^ 63 }

@@ -79,27 +79,20 @@ fn open_on<D: Disk>(alloc: Global, disk: &mut D) -> Result<(Book<Catalog>, Area)
 }
 
 /// Opens the store on a disk, in the manner of ARIES: reads the area in use and repeats all its
-/// records; undoes each
-/// transaction that has not ended, by rising number; and writes the records of that, a Back for
-/// each call and then an
-/// Ended, behind the others, 64 to a block. Nothing is written where none was live, and none is
-/// live in the book. The
-/// keeper's mark is 0. A stop at any moment leaves a store of the same content, that can be opened
-/// again.
+/// records; undoes each transaction that has not ended, by rising number; and writes the records of
+/// that, a Back for each call and then an Ended, behind the others, 64 to a block. Nothing is
+/// written where none was live, and none is live in the book. The keeper's mark is 0. A stop at any
+/// moment leaves a store of the same content, that can be opened again.
 ///
 /// It holds the body of one block at a time, beside what the collections hold, the live
-/// transactions asked for, and the
-/// records of the undoing. Each record is read once, and repeated in the time of its call and of
-/// the needs and live calls
-/// that stand then.
+/// transactions asked for, and the records of the undoing. Each record is read once, and repeated
+/// in the time of its call and of the needs and live calls that stand then.
 ///
 /// Refused NotAStore, where the disk read true only if it has no head of a store; Fault where the
-/// disk failed; Damaged
-/// with the position of the gate of the block in which the first damage stands, where the disk read
-/// true only if the
-/// bytes are not sound; NoMemory; Full, where the disk read true only if the records of the undoing
-/// do not fit. All but
-/// Fault come with nothing written. A refusal hands the disk back.
+/// disk failed; Damaged with the position of the gate of the block in which the first damage
+/// stands, where the disk read true only if the bytes are not sound; NoMemory; Full, where the disk
+/// read true only if the records of the undoing do not fit. All but Fault come with nothing
+/// written. A refusal hands the disk back.
 pub fn open<D: Disk>(alloc: Global, disk: D) -> Result<(Book<Catalog>, Keeper<D>), (Refusal, D)>
     ensures opened { IfOk result (λ x. D.is_honest x.1.disk →
         IsOpened (D.seen disk) x.0 x.1.area (D.seen x.1.disk)) }

@@ -1,6 +1,5 @@
 -- Records that are read: the progress that they lead to is the only one but for the order of the
--- needs, and a refusal comes only where they lead
--- nowhere.
+-- needs, and a refusal comes only where they lead nowhere.
 use Rattle.std.proofs.Common.{◌≡◌, ℕ, ◌+◌, ◌<◌, ◌≤◌, List, [], ◌∷◌, ◌++◌, length, append_assoc}
 use Rattle.std.proofs.Common.{length-append, refl, sym, ◌∙◌, ap, subst, arith, Result, Ok, Err}
 use Rattle.std.proofs.Common.{IfOk, IfErr, Option, None}

@@ -1,6 +1,5 @@
 -- What the bytes of a disk stand for: by the grammar of blocks and records, and by transactions run
--- whole. No need, no inverse and no
--- machine is named.
+-- whole. No need, no inverse and no machine is named.
 use Rattle.std.specs.Prelude.{◌≡◌, ℕ, ◌+◌, ◌*◌, ◌≤◌, ◌^◌, List, [], ◌∷◌, ◌++◌, length, take, drop}
 use Rattle.std.specs.Prelude.{map, get_or, codes, Option, None}
 use Rattle.std.specs.List.{flat_map, AllByRecursion}
@@ -53,9 +52,8 @@ IsJournalRecord (Record.Begin n) = Unit {0}
 IsJournalRecord r = ⊥
 
 -- The bytes stand for the content: the area in use is an image and a journal; from some content the
--- live calls of the image lead to
--- the image's, and from it the transactions that image and journal show as committed lead, each run
--- whole, to the content.
+-- live calls of the image lead to the image's, and from it the transactions that image and journal
+-- show as committed lead, each run whole, to the content.
 pub record StandsFor (bytes : List ℕ) (content : List Collection) : Type 0 where
   pub blocks : List (List Record)
   pub holds : Holds bytes blocks

@@ -19,8 +19,7 @@ IsThinned live few (e ∷ all) = (IsInVain live e × IsThinned live few all) ⊎
     ((rest : List (ℕ × Entry)) × (few ≡ e ∷ rest) × IsThinned live rest all)
 
 -- The first state lags behind the second. The same transactions are live, but one may be falling in
--- the second alone; some of what falling ones put
--- off, and some of the needs held, may be missing.
+-- the second alone; some of what falling ones put off, and some of the needs held, may be missing.
 pub record Lags (s t : State) : Type 0 where
   pub now : s.now ≡ t.now
   pub wear : s.wear ≡ t.wear

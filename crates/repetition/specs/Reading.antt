@@ -1,6 +1,5 @@
 -- The records of an area, read one after another: what each of them asks, and where it leads. This
--- is the grammar of image and journal with all
--- that is tested; and sound bytes.
+-- is the grammar of image and journal with all that is tested; and sound bytes.
 use Rattle.std.specs.Prelude.{◌≡◌, ℕ, ◌+◌, ◌≤◌, ◌^◌, max, List, [], ◌∷◌, ◌++◌, Option, Some, None}
 use Rattle.calls.specs.declared.kind.Kind.{Kind}
 use Rattle.calls.specs.declared.item.Item.{Item}
@@ -91,8 +90,7 @@ Reads (InJournal next s count) r p =
 Reads q r p = ⊥
 
 -- The records are an image that can be read and a journal of so many records that the machine
--- repeats: they lead to the state, and the number is
--- above every number that they enter.
+-- repeats: they lead to the state, and the number is above every number that they enter.
 abbrev pub AreAccepted : List Record → (next : ℕ) → State → (count : ℕ) → Type 0
 AreAccepted rs next s count = Leads Reads rs Unread (InJournal next s count)
 

@@ -1,6 +1,5 @@
 //! The records of an area, read one after another: an image, and a journal behind it that is
-//! repeated. What bytes stand
-//! for, and which are sound.
+//! repeated. What bytes stand for, and which are sound.
 #![tactic(auto)]
 
 mod reading;

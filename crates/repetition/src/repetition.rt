@@ -55,8 +55,7 @@ impl Repetition {
     }
 
     /// Reads the records of a block's body, one behind another. Refused Damaged with the place that
-    /// was handed in, or
-    /// NoMemory.
+    /// was handed in, or NoMemory.
     pub fn read_body(self, alloc: Global, body: &[u8], place: u64) -> Result<Self, Refusal>
         requires fit { IsFit self.stage }
         requires few { count_of self.stage + length body.now < 2 ^ 64 }

@@ -7,6 +7,7 @@ use Rattle.std.proofs.lemmas.Bool.{eq-eqb, true≢false}
 use Rattle.std.specs.List.{AllByRecursion}
 use Rattle.std.specs.Fmt.{decimal}
 use Rattle.calls.specs.declared.call.Call.{Call}
+use Rattle.calls.proofs.KindLaws.{whole_by_test}
 use Rattle.script.specs.declared.action.Operation.{Operation}
 use Rattle.script.specs.declared.operations.Verb.{Verb}
 use Rattle.script.specs.ScriptTexts.{CanBeDone, verb_text, said, said_text, operation_text}
@@ -160,40 +161,19 @@ put_space text whole has = not_whole 32 text (decimal has.0) (value_text has.1) 
 
 -- ---- the verb
 
-no_space : (xs : List ℕ) → AllByRecursion (λ b. b ≢ 32) xs → (k d : ℕ) → k < length xs →
-    get_or xs k d ≢ 32
-no_space [] all k d lt = absurd (omega arith)
-no_space (x ∷ xs) all zero d lt = all.0
-no_space (x ∷ xs) all (suc k) d lt = no_space xs all.1 k d (omega arith)
-
-abbrev spaceless : List ℕ → Bool
-spaceless [] = true
-spaceless (x ∷ xs) = not (x == 32) && spaceless xs
-
-both : (a b : Bool) → (not a && b) ≡ true → (a ≡ false) × (b ≡ true)
-both false true is = (refl, refl)
-both false false is = cc
-both true b is = cc
-
-by_test : (xs : List ℕ) → spaceless xs ≡ true → AllByRecursion (λ b. b ≢ 32) xs
-by_test [] is = tt
-by_test (x ∷ xs) is =
-    let parts = both (x == 32) (spaceless xs) is in
-    (λ e. true≢false (sym (eq-eqb x 32 e) ∙ parts.0), by_test xs parts.1)
-
 pub verb_whole : (v : Verb) → All (λ b. b ≢ 32) (verb_text v)
-verb_whole Verb.Contains = no_space (codes "contains") (by_test (codes "contains") refl)
-verb_whole Verb.Add = no_space (codes "add") (by_test (codes "add") refl)
-verb_whole Verb.Remove = no_space (codes "remove") (by_test (codes "remove") refl)
-verb_whole Verb.Get = no_space (codes "get") (by_test (codes "get") refl)
-verb_whole Verb.Put = no_space (codes "put") (by_test (codes "put") refl)
-verb_whole Verb.Ceiling = no_space (codes "ceiling") (by_test (codes "ceiling") refl)
-verb_whole Verb.Take = no_space (codes "take") (by_test (codes "take") refl)
-verb_whole Verb.Least = no_space (codes "least") (by_test (codes "least") refl)
-verb_whole Verb.Bump = no_space (codes "bump") (by_test (codes "bump") refl)
-verb_whole Verb.Read = no_space (codes "read") (by_test (codes "read") refl)
-verb_whole Verb.Draw = no_space (codes "draw") (by_test (codes "draw") refl)
-verb_whole Verb.Release = no_space (codes "release") (by_test (codes "release") refl)
+verb_whole Verb.Contains = whole_by_test (codes "contains") refl
+verb_whole Verb.Add = whole_by_test (codes "add") refl
+verb_whole Verb.Remove = whole_by_test (codes "remove") refl
+verb_whole Verb.Get = whole_by_test (codes "get") refl
+verb_whole Verb.Put = whole_by_test (codes "put") refl
+verb_whole Verb.Ceiling = whole_by_test (codes "ceiling") refl
+verb_whole Verb.Take = whole_by_test (codes "take") refl
+verb_whole Verb.Least = whole_by_test (codes "least") refl
+verb_whole Verb.Bump = whole_by_test (codes "bump") refl
+verb_whole Verb.Read = whole_by_test (codes "read") refl
+verb_whole Verb.Draw = whole_by_test (codes "draw") refl
+verb_whole Verb.Release = whole_by_test (codes "release") refl
 
 -- the verb that a text is: its first, second or third letter tells
 abbrev read_verb : List ℕ → Verb
@@ -228,6 +208,28 @@ read_back Verb.Release = refl
 -- no two verbs are one text
 pub same_verb : (v w : Verb) → verb_text v ≡ verb_text w → v ≡ w
 same_verb v w is = sym (read_back v) ∙ ap read_verb is ∙ read_back w
+
+-- each verb, in the order of the program's table
+abbrev pub verbs : List Verb
+verbs = Verb.Contains ∷ Verb.Add ∷ Verb.Remove ∷ Verb.Get ∷ Verb.Put ∷ Verb.Ceiling ∷
+    Verb.Take ∷ Verb.Least ∷ Verb.Bump ∷ Verb.Read ∷ Verb.Draw ∷ Verb.Release ∷ []
+
+-- a text that is none of the table's verbs is no verb
+pub no_verb : (text : List ℕ) →
+    ((k : ℕ) → k < 12 → text ≡ verb_text (get_or verbs k Verb.Add) → ⊥) → (v : Verb) →
+    text ≡ verb_text v → ⊥
+no_verb text none Verb.Contains = none 0 (omega arith)
+no_verb text none Verb.Add = none 1 (omega arith)
+no_verb text none Verb.Remove = none 2 (omega arith)
+no_verb text none Verb.Get = none 3 (omega arith)
+no_verb text none Verb.Put = none 4 (omega arith)
+no_verb text none Verb.Ceiling = none 5 (omega arith)
+no_verb text none Verb.Take = none 6 (omega arith)
+no_verb text none Verb.Least = none 7 (omega arith)
+no_verb text none Verb.Bump = none 8 (omega arith)
+no_verb text none Verb.Read = none 9 (omega arith)
+no_verb text none Verb.Draw = none 10 (omega arith)
+no_verb text none Verb.Release = none 11 (omega arith)
 
 -- what is found behind a verb is found behind the word
 pub word_gives : {E : Type 0} (r : Result (Option Operation) E) (v : Verb) (word rest : List ℕ) →

@@ -13,7 +13,9 @@ use Rattle.calls.specs.declared.kind.Kind.{Kind}
 use Rattle.script.specs.declared.action.Operation.{Operation}
 use Rattle.script.specs.declared.action.Request.{Request}
 use Rattle.script.specs.declared.action.Action.{Action}
-use Rattle.script.specs.ScriptTexts.{IsWord, IsClient, CanBeDone, kind_text, operation_text}
+use Rattle.calls.specs.Contents.{kind_text}
+use Rattle.calls.proofs.KindLaws.{kind_whole}
+use Rattle.script.specs.ScriptTexts.{IsWord, IsClient, CanBeDone, operation_text}
 use Rattle.script.specs.ScriptTexts.{request_text, IsRequestOf, IsMakeOf, IsCallOf, IsLaterOf}
 use Rattle.script.specs.ScriptTexts.{IsClientLine, IsLineOf}
 use Rattle.std.specs.Fmt.{decimal, signed_decimal}
@@ -48,18 +50,15 @@ abbrev bump_of : ℤ → Operation
 bump_of n = Operation.Call (Call.Bump n)
 
 -- what is found behind the word bump is found in the whole text
-pub bump_gives : {E : Type 0} (r : Result (Option ℤ) E) (text rest : List ℕ) →
-    text ≡ codes "bump " ++ rest
-    → IfOk r (λ found. MatchOption found ((n : ℤ) → FitsSigned w64 n → rest ≡ signed_decimal n → ⊥)
-    (λ n. FitsSigned w64 n × (rest ≡ signed_decimal n)))
-    → IfOk r (λ found. MatchOption found
-    ((n : ℤ) → FitsSigned w64 n → text ≡ operation_text (bump_of n) → ⊥)
-    (λ n. FitsSigned w64 n × (text ≡ operation_text (bump_of n))))
-bump_gives (Ok None) text rest e none =
+pub bump_gives : (found : Option ℤ) (text rest : List ℕ) → text ≡ codes "bump " ++ rest →
+    MatchOption found ((n : ℤ) → FitsSigned w64 n → rest ≡ signed_decimal n → ⊥)
+    (λ n. FitsSigned w64 n × (rest ≡ signed_decimal n)) →
+    MatchOption found ((n : ℤ) → FitsSigned w64 n → text ≡ operation_text (bump_of n) → ⊥)
+    (λ n. FitsSigned w64 n × (text ≡ operation_text (bump_of n)))
+bump_gives None text rest e none =
     λ n fits is. none n fits (append_cancel_left (codes "bump ") rest (signed_decimal n)
     (sym e ∙ is))
-bump_gives (Ok (Some n)) text rest e is = (is.0, e ∙ ap (λ (t : List ℕ). codes "bump " ++ t) is.1)
-bump_gives (Err why) text rest e h = tt
+bump_gives (Some n) text rest e is = (is.0, e ∙ ap (λ (t : List ℕ). codes "bump " ++ t) is.1)
 
 -- what is put off is said as a call of the same bump is
 pub no_later_without_space : (text : List ℕ) (r : Request) → All (λ b. b ≢ 32) text →
@@ -84,48 +83,6 @@ bump_is_back text front back (Request.Later name n) e first none is =
 bump_is_back text front back r e first none is = is
 
 -- ---- makings
-
-no_space : (xs : List ℕ) → AllByRecursion (λ b. b ≢ 32) xs → (k d : ℕ) → k < length xs →
-    get_or xs k d ≢ 32
-no_space [] all k d lt = absurd (omega arith)
-no_space (x ∷ xs) all zero d lt = all.0
-no_space (x ∷ xs) all (suc k) d lt = no_space xs all.1 k d (omega arith)
-
-other : (b : ℕ) → 32 < b → b ≢ 32
-other b lt = λ e. absurd (omega arith)
-
-pub kind_whole : (k : Kind) → All (λ b. b ≢ 32) (kind_text k)
-kind_whole Kind.Set = no_space (kind_text Kind.Set)
-    (other 115 (omega arith), (other 101 (omega arith), (other 116 (omega arith), tt)))
-kind_whole Kind.Map = no_space (kind_text Kind.Map)
-    (other 109 (omega arith), (other 97 (omega arith), (other 112 (omega arith), tt)))
-kind_whole Kind.Queue = no_space (kind_text Kind.Queue) (
-  other 113 (omega arith),
-  (
-    other 117 (omega arith),
-    (other 101 (omega arith), (other 117 (omega arith), (other 101 (omega arith), tt))),
-  ),
-)
-kind_whole Kind.Counter = no_space (kind_text Kind.Counter) (
-  other 99 (omega arith),
-  (
-    other 111 (omega arith),
-    (
-      other 117 (omega arith),
-      (
-        other 110 (omega arith),
-        (other 116 (omega arith), (other 101 (omega arith), (other 114 (omega arith), tt))),
-      ),
-    ),
-  ),
-)
-kind_whole Kind.Pool = no_space (kind_text Kind.Pool) (
-  other 112 (omega arith),
-  (
-    other 111 (omega arith),
-    (other 111 (omega arith), (other 108 (omega arith), tt)),
-  ),
-)
 
 pub no_make_without_space : (text : List ℕ) (r : Request) → All (λ b. b ≢ 32) text →
     IsMakeOf r text → ⊥

@@ -6,7 +6,7 @@ use Rattle.std.specs.Int.RustNames.{FitsSigned}
 use Rattle.std.specs.Fmt.{decimal, signed_decimal}
 use Rattle.std.specs.Str.{IsUtf8}
 use Rattle.hex.specs.Hex.{encode_lower}
-use Rattle.calls.specs.declared.kind.Kind.{Kind}
+use Rattle.calls.specs.Contents.{kind_text}
 use Rattle.calls.specs.declared.call.Call.{Call}
 use Rattle.script.specs.declared.action.Operation.{Operation}
 use Rattle.script.specs.declared.action.Request.{Request}
@@ -18,13 +18,6 @@ pub record IsWord (word : List ℕ) : Type 0 where
   pub text : IsUtf8 word
   pub not_empty : 0 < length word
   pub whole : All (λ b. b ≢ 32) word
-
-abbrev pub kind_text : Kind → List ℕ
-kind_text Kind.Set = codes "set"
-kind_text Kind.Map = codes "map"
-kind_text Kind.Queue = codes "queue"
-kind_text Kind.Counter = codes "counter"
-kind_text Kind.Pool = codes "pool"
 
 -- a value of a map: each byte in two digits, and a dash where there is none
 abbrev pub value_text : List ℕ → List ℕ

@@ -22,6 +22,10 @@ abbrev pub LineSays : ℕ → List ℕ → List Line → Type 0
 LineSays n line said = (IsPassedOver line × (said ≡ [])) ⊎
     ((a : Action) × IsLineOf a line × (said ≡ record { number = n; what = a } ∷ []))
 
+-- what stands behind what was said before is what the line says
+abbrev pub SaysMore : ℕ → List ℕ → List Line → List Line → Type 0
+SaysMore n line before after = (said : List Line) × (after ≡ before ++ said) × LineSays n line said
+
 -- what the lines say, the first of them with the number n
 abbrev pub Says : ℕ → List (List ℕ) → List Line → Type 0
 Says n [] said = said ≡ []

@@ -2,7 +2,7 @@
 use calls::{Call, Kind, Name};
 
 /// What a client asks of a collection.
-#[derive(Drop, Debug)]
+#[derive(Drop)]
 pub enum Operation {
     /// The call.
     Call(Call),
@@ -12,7 +12,7 @@ pub enum Operation {
 }
 
 /// What a client asks for.
-#[derive(Drop, Debug)]
+#[derive(Drop)]
 pub enum Request {
     /// A collection of the kind and the name is made.
     Make(Kind, Name),
@@ -31,7 +31,7 @@ pub enum Request {
 }
 
 /// What a line asks for.
-#[derive(Drop, Debug)]
+#[derive(Drop)]
 pub enum Action {
     /// A client's request; clients are numbered from 1 to 64.
     Client(u8, Request),

@@ -6,7 +6,7 @@ use crate::action::Action;
 use std::alloc::{AllocError, AllocFailed};
 
 /// A line that is not passed over.
-#[derive(Drop, Debug)]
+#[derive(Drop)]
 pub struct Line {
     /// The number of the line, from 1, those that are passed over counted.
     pub number: u64,

@@ -8,12 +8,12 @@ ghost use Rattle.script.specs.ScriptTexts.{CanBeDone, verb_text, said, operation
 ghost use Rattle.script.specs.ScriptTexts.{HasArguments, IsKeyed};
 
 use crate::action::Operation;
-use crate::words::{natural, number, split_at_byte, value};
+use crate::words::{natural, number, same, split_at_byte, value};
 use calls::Call;
 use std::alloc::{AllocError, Global};
 
 /// The first word of an operation.
-#[derive(Clone, Copy, Debug, PartialEq, Eq)]
+#[derive(Clone, Copy)]
 pub enum Verb {
     Contains,
     Add,
@@ -29,26 +29,57 @@ pub enum Verb {
     Release,
 }
 
+// Each verb.
+const VERBS: [Verb; 12] = [
+    Verb::Contains,
+    Verb::Add,
+    Verb::Remove,
+    Verb::Get,
+    Verb::Put,
+    Verb::Ceiling,
+    Verb::Take,
+    Verb::Least,
+    Verb::Bump,
+    Verb::Read,
+    Verb::Draw,
+    Verb::Release,
+];
+
+impl Verb {
+    ghost use Rattle.script.specs.ScriptTexts.{verb_text};
+
+    // Its text.
+    fn text(self) -> &'static str
+        ensures { result.now ≡ verb_text self }
+    {
+        match self {
+            Verb::Contains => "contains",
+            Verb::Add => "add",
+            Verb::Remove => "remove",
+            Verb::Get => "get",
+            Verb::Put => "put",
+            Verb::Ceiling => "ceiling",
+            Verb::Take => "take",
+            Verb::Least => "least",
+            Verb::Bump => "bump",
+            Verb::Read => "read",
+            Verb::Draw => "draw",
+            Verb::Release => "release",
+        }
+    }
+}
+
 // The verb that the text is.
 fn verb_of(text: &[u8]) -> Option<Verb>
     ensures { MatchOption result ((v : Verb) → text.now ≡ verb_text v → ⊥)
         (λ v. text.now ≡ verb_text v) }
 {
-    match text {
-        b"contains" => Some(Verb::Contains),
-        b"add" => Some(Verb::Add),
-        b"remove" => Some(Verb::Remove),
-        b"get" => Some(Verb::Get),
-        b"put" => Some(Verb::Put),
-        b"ceiling" => Some(Verb::Ceiling),
-        b"take" => Some(Verb::Take),
-        b"least" => Some(Verb::Least),
-        b"bump" => Some(Verb::Bump),
-        b"read" => Some(Verb::Read),
-        b"draw" => Some(Verb::Draw),
-        b"release" => Some(Verb::Release),
-        _ => None,
+    for verb in VERBS {
+        if same(text, verb.text().as_bytes()) {
+            return Some(verb);
+        }
     }
+    None
 }
 
 // The operation that is a verb alone.
@@ -81,36 +112,34 @@ fn keyed(verb: Verb, key: u64) -> Option<Operation>
 }
 
 // An operation on one key.
-fn on_key(alloc: Global, verb: Verb, text: &[u8]) -> Result<Option<Operation>, AllocError>
+fn on_key(verb: Verb, text: &[u8]) -> Option<Operation>
     requires add { verb ≡ Verb.Add → ⊥ }
     requires put { verb ≡ Verb.Put → ⊥ }
     requires bump { verb ≡ Verb.Bump → ⊥ }
-    ensures { IfOk result (λ found. MatchOption found (HasArguments verb text.now → ⊥)
-        (λ o. CanBeDone o × (said o ≡ Some (verb, Some text.now)))) }
+    ensures { MatchOption result (HasArguments verb text.now → ⊥)
+        (λ o. CanBeDone o × (said o ≡ Some (verb, Some text.now))) }
 {
-    match natural(alloc, text)? {
-        Some(key) => Ok(keyed(verb, key)),
-        None => Ok(None),
+    match natural(text) {
+        Some(key) => keyed(verb, key),
+        None => None,
     }
 }
 
 // An addition to a set, or to a queue.
-fn added(alloc: Global, text: &[u8]) -> Result<Option<Operation>, AllocError>
-    ensures { IfOk result (λ found. MatchOption found (HasArguments Verb.Add text.now → ⊥)
-        (λ o. CanBeDone o × (said o ≡ Some (Verb.Add, Some text.now)))) }
+fn added(text: &[u8]) -> Option<Operation>
+    ensures { MatchOption result (HasArguments Verb.Add text.now → ⊥)
+        (λ o. CanBeDone o × (said o ≡ Some (Verb.Add, Some text.now))) }
 {
-    let Some((front, back)) = split_at_byte(text, b' ') else {
-        return match natural(alloc, text)? {
-            Some(element) => Ok(Some(Operation::Call(Call::SetAdd(element)))),
-            None => Ok(None),
-        };
-    };
-    let Some(priority) = natural(alloc, front)? else {
-        return Ok(None);
-    };
-    match natural(alloc, back)? {
-        Some(tag) => Ok(Some(Operation::Call(Call::QueueAdd(priority, tag)))),
-        None => Ok(None),
+    match split_at_byte(text, b' ') {
+        Some((front, back)) => {
+            let priority = natural(front)?;
+            let tag = natural(back)?;
+            Some(Operation::Call(Call::QueueAdd(priority, tag)))
+        }
+        None => {
+            let element = natural(text)?;
+            Some(Operation::Call(Call::SetAdd(element)))
+        }
     }
 }
 
@@ -122,7 +151,7 @@ fn put(alloc: Global, text: &[u8]) -> Result<Option<Operation>, AllocError>
     let Some((front, back)) = split_at_byte(text, b' ') else {
         return Ok(None);
     };
-    let Some(key) = natural(alloc, front)? else {
+    let Some(key) = natural(front) else {
         return Ok(None);
     };
     match value(alloc, back)? {
@@ -132,13 +161,13 @@ fn put(alloc: Global, text: &[u8]) -> Result<Option<Operation>, AllocError>
 }
 
 // A bump of a counter.
-fn bumped(alloc: Global, text: &[u8]) -> Result<Option<Operation>, AllocError>
-    ensures { IfOk result (λ found. MatchOption found (HasArguments Verb.Bump text.now → ⊥)
-        (λ o. CanBeDone o × (said o ≡ Some (Verb.Bump, Some text.now)))) }
+fn bumped(text: &[u8]) -> Option<Operation>
+    ensures { MatchOption result (HasArguments Verb.Bump text.now → ⊥)
+        (λ o. CanBeDone o × (said o ≡ Some (Verb.Bump, Some text.now))) }
 {
-    match number(alloc, text)? {
-        Some(n) => Ok(Some(Operation::Call(Call::Bump(n)))),
-        None => Ok(None),
+    match number(text) {
+        Some(n) => Some(Operation::Call(Call::Bump(n))),
+        None => None,
     }
 }
 
@@ -148,10 +177,10 @@ fn with_arguments(alloc: Global, verb: Verb, text: &[u8]) -> Result<Option<Opera
         (λ o. CanBeDone o × (said o ≡ Some (verb, Some text.now)))) }
 {
     match verb {
-        Verb::Add => added(alloc, text),
+        Verb::Add => Ok(added(text)),
         Verb::Put => put(alloc, text),
-        Verb::Bump => bumped(alloc, text),
-        _ => on_key(alloc, verb, text),
+        Verb::Bump => Ok(bumped(text)),
+        _ => Ok(on_key(verb, text)),
     }
 }
 

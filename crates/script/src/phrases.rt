@@ -3,12 +3,11 @@ ghost use Rattle.std.specs.Prelude.{◌≡◌, ℤ, IfOk, MatchOption};
 ghost use Rattle.std.specs.Int.{w64};
 ghost use Rattle.std.specs.Int.RustNames.{FitsSigned};
 ghost use Rattle.calls.specs.declared.call.Call.{Call};
-ghost use Rattle.calls.specs.declared.kind.Kind.{Kind};
 ghost use Rattle.script.specs.declared.action.Operation.{Operation};
 ghost use Rattle.script.specs.declared.action.Request.{Request};
 ghost use Rattle.script.specs.declared.action.Action.{Action};
 ghost use Rattle.script.specs.ScriptTexts.{IsRequestOf, IsLineOf, IsClientLine, IsMakeOf, IsCallOf};
-ghost use Rattle.script.specs.ScriptTexts.{IsLaterOf, kind_text, operation_text};
+ghost use Rattle.script.specs.ScriptTexts.{IsLaterOf, operation_text};
 
 use crate::action::{Action, Request};
 use crate::operations::operation;
@@ -34,14 +33,14 @@ fn called(alloc: Global, text: &[u8]) -> Result<Option<Request>, AllocError>
 }
 
 // By how much a bump is.
-fn bump(alloc: Global, text: &[u8]) -> Result<Option<i64>, AllocError>
-    ensures { IfOk result (λ found. MatchOption found
+fn bump(text: &[u8]) -> Option<i64>
+    ensures { MatchOption result
         ((n : ℤ) → FitsSigned w64 n → text.now ≡ operation_text (Operation.Call (Call.Bump n)) → ⊥)
-        (λ n. FitsSigned w64 n × (text.now ≡ operation_text (Operation.Call (Call.Bump n))))) }
+        (λ n. FitsSigned w64 n × (text.now ≡ operation_text (Operation.Call (Call.Bump n)))) }
 {
     match behind(text, b"bump ") {
-        Some(rest) => number(alloc, rest),
-        None => Ok(None),
+        Some(rest) => number(rest),
+        None => None,
     }
 }
 
@@ -53,27 +52,12 @@ fn put_off(alloc: Global, text: &[u8]) -> Result<Option<Request>, AllocError>
     let Some((front, back)) = split_at_byte(text, b' ') else {
         return Ok(None);
     };
-    let Some(name) = word(alloc, front)? else {
+    let Some(by) = bump(back) else {
         return Ok(None);
     };
-    match bump(alloc, back)? {
-        Some(by) => Ok(Some(Request::Later(name, by))),
+    match word(alloc, front)? {
+        Some(name) => Ok(Some(Request::Later(name, by))),
         None => Ok(None),
-    }
-}
-
-// The kind that the text names.
-fn kind_of(text: &[u8]) -> Option<Kind>
-    ensures { MatchOption result ((k : Kind) → text.now ≡ kind_text k → ⊥)
-        (λ k. text.now ≡ kind_text k) }
-{
-    match text {
-        b"set" => Some(Kind::Set),
-        b"map" => Some(Kind::Map),
-        b"queue" => Some(Kind::Queue),
-        b"counter" => Some(Kind::Counter),
-        b"pool" => Some(Kind::Pool),
-        _ => None,
     }
 }
 
@@ -85,7 +69,7 @@ fn made(alloc: Global, text: &[u8]) -> Result<Option<Request>, AllocError>
     let Some((front, back)) = split_at_byte(text, b' ') else {
         return Ok(None);
     };
-    let Some(kind) = kind_of(front) else {
+    let Some(kind) = Kind::named(front) else {
         return Ok(None);
     };
     match word(alloc, back)? {
@@ -131,7 +115,7 @@ fn of_client(alloc: Global, text: &[u8]) -> Result<Option<Action>, AllocError>
     let Some((front, back)) = split_at_byte(text, b' ') else {
         return Ok(None);
     };
-    let Some(number) = client(alloc, front)? else {
+    let Some(number) = client(front) else {
         return Ok(None);
     };
     match request(alloc, back)? {

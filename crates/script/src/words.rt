@@ -10,6 +10,7 @@ ghost use Rattle.script.specs.ScriptTexts.{IsWord, IsClient, value_text};
 use calls::limits::MAX_LIVE;
 use calls::{Bytes, Name};
 use hex::FromHexError;
+use itoa::Buffer;
 use std::alloc::{AllocError, Global};
 
 // Whether two texts are one.
@@ -64,42 +65,43 @@ pub fn word(alloc: Global, text: &[u8]) -> Result<Option<Name>, AllocError>
 
 // The number that the text writes in the one way that is understood: no sign but a minus, and no
 // digit too many.
-pub fn number(alloc: Global, text: &[u8]) -> Result<Option<i64>, AllocError>
-    ensures { IfOk result (λ found. MatchOption found
-        ((n : ℤ) → FitsSigned w64 n → text.now ≡ signed_decimal n → ⊥)
-        (λ n. FitsSigned w64 n × (text.now ≡ signed_decimal n))) }
+pub fn number(text: &[u8]) -> Option<i64>
+    ensures { MatchOption result ((n : ℤ) → FitsSigned w64 n → text.now ≡ signed_decimal n → ⊥)
+        (λ n. FitsSigned w64 n × (text.now ≡ signed_decimal n)) }
 {
     let Ok(word) = std::str::from_utf8(text) else {
-        return Ok(None);
+        return None;
     };
     let Ok(n) = word.parse::<i64>() else {
-        return Ok(None);
+        return None;
     };
-    let again = format!(in alloc; "{n}")?;
+    let mut buffer = Buffer::new();
+    let again = buffer.format(n);
     if same(again.as_bytes(), text) {
-        Ok(Some(n))
+        Some(n)
     } else {
-        Ok(None)
+        None
     }
 }
 
 // The natural number that the text writes in the one way that is understood: no sign, and no digit
 // too many.
-pub fn natural(alloc: Global, text: &[u8]) -> Result<Option<u64>, AllocError>
-    ensures { IfOk result (λ found. MatchOption found
-        ((n : ℕ) → n < 2 ^ 64 → text.now ≡ decimal n → ⊥) (λ n. text.now ≡ decimal n)) }
+pub fn natural(text: &[u8]) -> Option<u64>
+    ensures { MatchOption result ((n : ℕ) → n < 2 ^ 64 → text.now ≡ decimal n → ⊥)
+        (λ n. text.now ≡ decimal n) }
 {
     let Ok(word) = std::str::from_utf8(text) else {
-        return Ok(None);
+        return None;
     };
     let Ok(whole) = word.parse::<u64>() else {
-        return Ok(None);
+        return None;
     };
-    let again = format!(in alloc; "{whole}")?;
+    let mut buffer = Buffer::new();
+    let again = buffer.format(whole);
     if same(again.as_bytes(), text) {
-        Ok(Some(whole))
+        Some(whole)
     } else {
-        Ok(None)
+        None
     }
 }
 
@@ -111,19 +113,18 @@ fn is_client(number: u64) -> bool
 }
 
 // The number of the client that the text names: from 1 to 64.
-pub fn client(alloc: Global, text: &[u8]) -> Result<Option<u8>, AllocError>
-    ensures { IfOk result (λ found. MatchOption found
-        ((n : ℕ) → IsClient n → text.now ≡ decimal n → ⊥)
-        (λ n. IsClient n × (text.now ≡ decimal n))) }
+pub fn client(text: &[u8]) -> Option<u8>
+    ensures { MatchOption result ((n : ℕ) → IsClient n → text.now ≡ decimal n → ⊥)
+        (λ n. IsClient n × (text.now ≡ decimal n)) }
 {
-    let Some(number) = natural(alloc, text)? else {
-        return Ok(None);
+    let Some(number) = natural(text) else {
+        return None;
     };
     prove!(number <= u64::MAX);
     if is_client(number) {
-        Ok(Some(number as u8))
+        Some(number as u8)
     } else {
-        Ok(None)
+        None
     }
 }
 

@@ -105,8 +105,8 @@ module _ {S : Type 0} (meaning : Meaning S ℕ) (making : Making S)
       one collections (Freeze (Err Refusal.NoMemory)) c acts = refused c acts
       one collections (Freeze (Err e)) c acts = absurd acts
 
-    -- A history leads the settled content on by the transactions that it commits, each run whole, one
-    -- after another.
+    -- A history leads the settled content on by the transactions that it commits, each run whole,
+    -- one after another.
     all_played : (collections : S → List Collection) (steps : List Step) (es : List (ℕ × Entry))
         (b c : BookState S) (d : S) → Sound b.state → Tells es b.state → Settled b.state d →
         IsLegal meaning making collections b steps c →
@@ -143,8 +143,10 @@ module _ {S : Type 0} (meaning : Meaning S ℕ) (making : Making S)
           b.state.live ≡ maps.empty → IsLegal meaning making collections b steps c →
           ComesTo (λ v. Sound v.state) collections (IsSettled meaning) b steps c
       history steps b c sound empty legal =
-          let none = none_live meaning making laws b.state sound sound.content empty sound.settled in
-          let settled : Settled b.state b.state.now = subst (Settled b.state) none.1 sound.settled in
+          let none = none_live meaning making laws b.state sound sound.content empty
+          sound.settled in
+          let settled : Settled b.state b.state.now =
+          subst (Settled b.state) none.1 sound.settled in
           let tells : Tells [] b.state = λ n run. sym (ap (own n) none.0) in
           let all = all_played collections steps [] b c b.state.now sound tells settled legal in
           let played = all.played in

@@ -18,8 +18,8 @@ use Rattle.images.specs.LiveRecords.{live_records}
 use Rattle.txn.specs.Books.{BookState}
 
 -- The image is one of the book: its records tell of what the collections hold, of the live
--- transactions and of what these asked for, and stand in blocks
--- that are each as full as they can be. It covers every record up to now.
+-- transactions and of what these asked for, and stand in blocks that are each as full as they can
+-- be. It covers every record up to now.
 pub record IsImageOf {S : Type 0} (collections : S → List Collection) (b : BookState S)
     (image : Image) : Type 0 where
   pub numbers : List ℕ

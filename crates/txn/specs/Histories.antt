@@ -64,8 +64,7 @@ module _ {S : Type 0} (meaning : Meaning S ℕ) (making : Making S)
   IsLegal b steps c = Leads Acts steps b c
 
 -- What a history comes to: a kept book, and a settled content to which the committed transactions
--- lead, each run whole, one after another, with
--- the replies that were got. The places count them.
+-- lead, each run whole, one after another, with the replies that were got. The places count them.
 -- kept: what holds of every book. collections: the content as named collections. settled: the
 -- contents without the live transactions.
 pub record ComesTo {S : Type 0} (kept : BookState S → Type 0) (collections : S → List Collection)

@@ -38,12 +38,11 @@ const MARK_LEN: usize = 9;
 const MAKE_HEAD: usize = 3;
 
 /// The collections with the live transactions on them, and the records of the steps that were not
-/// handed over yet
-/// (transactional boosting: Herlihy and Koskinen, PPoPP 2008).
+/// handed over yet (transactional boosting: Herlihy and Koskinen, PPoPP 2008).
 ///
 /// Contracts see what the collections hold now, the live transactions with what they asked for and
-/// the needs that they
-/// hold, the wear, and the records that wait. A refused step changes nothing of that.
+/// the needs that they hold, the wear, and the records that wait. A refused step changes nothing of
+/// that.
 #[derive(Drop)]
 pub struct Book<B: Parts + Coded> {
     alloc: Global,
@@ -77,8 +76,8 @@ impl<B: Parts + Coded> Model for Book<B> {
 
 impl<B: Parts + Coded> Book<B> {
     /// A book of collections that were opened, with no live transaction and nothing pending. `next`
-    /// is above every
-    /// number that was entered before, and `wear` is what the collections are within.
+    /// is above every number that was entered before, and `wear` is what the collections are
+    /// within.
     pub fn new(alloc: Global, parts: B, next: u64, wear: u64) -> Self
         requires within { B.meaning.within parts wear }
         requires worn { wear ≤ 2 ^ 61 + 65536 }
@@ -104,8 +103,7 @@ impl<B: Parts + Coded> Book<B> {
     }
 
     /// A number above every number that was entered: the greater of the one that the book was made
-    /// with and one more
-    /// than the greatest entered since. This is no step.
+    /// with and one more than the greatest entered since. This is no step.
     pub fn next(&self) -> u64
         ensures { result ≡ self.now.next }
     {
@@ -113,8 +111,7 @@ impl<B: Parts + Coded> Book<B> {
     }
 
     /// What holds of every book: its records have a spelling, its counts and numbers are in range,
-    /// and what the laws of
-    /// the collections give. It does nothing.
+    /// and what the laws of the collections give. It does nothing.
     pub fn upheld(&self)
         ensures { IsKept B.meaning B.making (λ s. AreShort (B.collections s))
             (IsSound B.meaning B.making) self.now }
@@ -132,12 +129,10 @@ impl<B: Parts + Coded> Book<B> {
     }
 
     /// Makes an empty collection: a committed transaction of its own. Answers the count of commits
-    /// and makes since the
-    /// book was opened, this one included.
+    /// and makes since the book was opened, this one included.
     ///
     /// Backlog at 16,384 pending records, then the refusals of `Parts::make`: BadName, TooLong,
-    /// NameTaken,
-    /// TooManyCollections, NoMemory.
+    /// NameTaken, TooManyCollections, NoMemory.
     pub fn make(&mut self, name: &str, kind: Kind) -> Result<u64, Refusal>
         ensures answer { MakeAnswers B.making self.old name.now kind result self.new }
         ensures settled { OnOk result ((c : B) → IsSettled B.meaning self.old.state c →
@@ -156,8 +151,7 @@ impl<B: Parts + Coded> Book<B> {
     /// Makes the number live.
     ///
     /// BadArg for 0 and from 2^61 on, AlreadyLive, TooManyLive where 64 are live, Worn where the
-    /// wear is 2^61 or more,
-    /// Backlog, NoMemory.
+    /// wear is 2^61 or more, Backlog, NoMemory.
     pub fn enter(&mut self, number: u64) -> Result<(), Refusal>
         ensures answer { EnterAnswers self.old number result self.new }
         ensures settled { (c : B) → IsSettled B.meaning self.old.state c →
@@ -175,12 +169,9 @@ impl<B: Parts + Coded> Book<B> {
     /// reply.
     ///
     /// NoSuchTxn, Falling, NoSuchCollection, WrongKind, BadArg for a call that no client can ask,
-    /// TooLong, Worn,
-    /// TooManyCalls at 1,024 calls and laters, Backlog, NoMemory in the look-up, AlreadyGoing where
-    /// the transaction left
-    /// to its commit already what this call would leave, Busy with the least other transaction that
-    /// holds a need in the
-    /// way, NoMemory.
+    /// TooLong, Worn, TooManyCalls at 1,024 calls and laters, Backlog, NoMemory in the look-up,
+    /// AlreadyGoing where the transaction left to its commit already what this call would leave,
+    /// Busy with the least other transaction that holds a need in the way, NoMemory.
     pub fn call(&mut self, number: u64, col: u8, call: &Call) -> Result<Reply, Refusal>
         ensures answer { CallAnswers B.meaning self.old number col call.now result self.new }
         ensures settled { (c : B) → IsSettled B.meaning self.old.state c →
@@ -198,13 +189,11 @@ impl<B: Parts + Coded> Book<B> {
     }
 
     /// Puts the call off to the transaction's commit, under the need that it has with the reply
-    /// Done. Until then it shows
-    /// in no reply, not even to its own transaction.
+    /// Done. Until then it shows in no reply, not even to its own transaction.
     ///
     /// NoSuchTxn, Falling, NoSuchCollection, WrongKind, BadArg for a call that cannot be put off,
-    /// Worn, TooManyCalls at
-    /// 1,024 calls and laters, Backlog, Busy with the least other transaction that holds a need in
-    /// the way, NoMemory.
+    /// Worn, TooManyCalls at 1,024 calls and laters, Backlog, Busy with the least other transaction
+    /// that holds a need in the way, NoMemory.
     pub fn later(&mut self, number: u64, col: u8, call: &Call) -> Result<(), Refusal>
         ensures answer { LaterAnswers B.meaning self.old number col call.now result self.new }
         ensures settled { (c : B) → IsSettled B.meaning self.old.state c →
@@ -222,10 +211,8 @@ impl<B: Parts + Coded> Book<B> {
     }
 
     /// Commits the transaction: what it put off, and what its calls left, runs in the order asked,
-    /// all that it asked for
-    /// stays, and its needs go. Answers the count of commits and makes since the book was opened,
-    /// this one included.
-    /// Nothing that was put off can refuse it.
+    /// all that it asked for stays, and its needs go. Answers the count of commits and makes since
+    /// the book was opened, this one included. Nothing that was put off can refuse it.
     ///
     /// NoSuchTxn, Falling, Backlog, NoMemory.
     pub fn commit(&mut self, number: u64) -> Result<u64, Refusal>
@@ -244,8 +231,7 @@ impl<B: Parts + Coded> Book<B> {
     }
 
     /// Undoes the newest call of the transaction that is not undone, and answers true; false where
-    /// none is left. From
-    /// then on the transaction is falling. It holds its needs until `ended`.
+    /// none is left. From then on the transaction is falling. It holds its needs until `ended`.
     ///
     /// NoSuchTxn, Backlog, NoMemory.
     pub fn back(&mut self, number: u64) -> Result<bool, Refusal>
@@ -286,9 +272,8 @@ impl<B: Parts + Coded> Book<B> {
     }
 
     /// Hands the first pending records over as one block, as many whole ones as fit in 65,535 bytes
-    /// and as come before the
-    /// next freeze, and answers true; false where nothing is pending. No record is copied, and no
-    /// memory is taken.
+    /// and as come before the next freeze, and answers true; false where nothing is pending. No
+    /// record is copied, and no memory is taken.
     ///
     /// NotNow, only where a record waits and the outbox is full.
     pub fn cut<O: Outbox>(&mut self, out: &mut O) -> Result<bool, Refusal>
@@ -301,15 +286,13 @@ impl<B: Parts + Coded> Book<B> {
     }
 
     /// An image of the book as it is now: what the collections hold, the live transactions, and
-    /// what these asked for, but
-    /// for what a falling one put off. It marks the position behind the last record, which the
-    /// image covers too: no block
-    /// that `cut` hands over from now on holds records from both sides of it. Nothing else is
-    /// changed.
+    /// what these asked for, but for what a falling one put off. It marks the position behind the
+    /// last record, which the image covers too: no block that `cut` hands over from now on holds
+    /// records from both sides of it. Nothing else is changed.
     ///
     /// It takes time and memory in proportion to what the collections hold and the live
-    /// transactions asked for, of which
-    /// the image is one copy; beside it the items of one collection at a time are copied.
+    /// transactions asked for, of which the image is one copy; beside it the items of one
+    /// collection at a time are copied.
     ///
     /// NoMemory, which changes nothing.
     pub fn freeze(&mut self) -> Result<Image, Refusal>

@@ -13,9 +13,8 @@ use catalog::Parts;
 use records::Coded;
 
 /// One history, whatever is asked: the transactions that a book's steps commit lead from what its
-/// collections held to
-/// what they hold without the live transactions, each run whole, one after another, with the
-/// replies that were got.
+/// collections held to what they hold without the live transactions, each run whole, one after
+/// another, with the replies that were got.
 pub fn one_history<B: Parts + Coded>(_parts: &B)
     ensures { (steps : List Step) (b c : BookState B) → IsSound B.meaning B.making b.state →
         b.state.live ≡ maps.empty →

@@ -12,8 +12,8 @@ abbrev pub Statuses : Type 0
 Statuses = maps.FinMap nat_cmp Bool
 
 -- The live transactions; all that they asked for and did not undo, each with the number of its
--- transaction, in the order
--- asked; and the numbers of the transactions that have room for one entry more.
+-- transaction, in the order asked; and the numbers of the transactions that have room for one entry
+-- more.
 pub record Log : Type 0 where
   pub live : Statuses
   pub entries : List (ℕ × Entry)

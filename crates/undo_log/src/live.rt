@@ -31,8 +31,7 @@ struct Transaction {
 }
 
 /// The live transactions. Contracts see which numbers are live and which of them are falling; what
-/// they asked for and
-/// did not undo, in the order asked; and which have room for one entry more.
+/// they asked for and did not undo, in the order asked; and which have room for one entry more.
 #[derive(Drop, Debug)]
 pub struct Live {
     slots: Slab<Transaction>,
@@ -151,8 +150,7 @@ impl Live {
     }
 
     /// Makes room for one more entry of the transaction, if it is live. NoMemory, which leaves all
-    /// as before, only where
-    /// it had no room.
+    /// as before, only where it had no room.
     pub fn reserve(&mut self, number: u64) -> Result<(), Refusal>
         ensures room { OnOk result (IsLive self.old number → HasRoom self.new number) }
         ensures rooms { KeepsRoom self.old self.new }
@@ -210,8 +208,7 @@ impl Live {
     }
 
     /// Takes the newest call of the transaction out; the other entries stay in their order. Nothing
-    /// changes where it has
-    /// no call.
+    /// changes where it has no call.
     pub fn pop(&mut self, number: u64) -> Option<Logged>
         ensures found { IfSome result (λ logged. IsNewestCall number self.old.entries
             (event_of logged) self.new.entries) }

@@ -61,8 +61,8 @@ fn pack(group: &[Record], bytes: &mut Vec<u8>)
 }
 
 /// Writes the records behind the area's blocks, 64 to a block, through the buffer. It takes no
-/// memory. A stop at any
-/// moment of the call, on a disk that was at rest, leaves blocks of the first of them.
+/// memory. A stop at any moment of the call, on a disk that was at rest, leaves blocks of the first
+/// of them.
 ///
 /// Refused Fault where the disk failed.
 pub fn append_all<D: Disk>(

@@ -12,8 +12,7 @@ use record_format::Record;
 use std::alloc::Global;
 
 /// Undoes each live transaction, by rising number, its newest call first. Answers the records of
-/// that, which are still
-/// to be written: for each call a Back, and then an Ended.
+/// that, which are still to be written: for each call a Back, and then an Ended.
 ///
 /// Refused only for want of memory.
 pub fn undo_all(alloc: Global, machine: &mut Machine<Catalog>) -> Result<Vec<Record>, Refusal>

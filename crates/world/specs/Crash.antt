@@ -10,17 +10,16 @@ use Rattle.world.specs.Pasts.{Past, BookState, committed_in}
 use Rattle.catalog.specs.Meaning.{catalog_meaning}
 
 -- The committed transactions of the past, each run whole, one after another, with the replies that
--- its client got, lead from the start to what the
--- collections of the book hold without the live transactions.
+-- its client got, lead from the start to what the collections of the book hold without the live
+-- transactions.
 pub record IsOneHistory (start : List Collection) (past : Past) (book : BookState) : Type 0 where
   pub content : List Collection
   pub settled : IsSettled catalog_meaning book.state content
   pub serial : Serial (committed_in past) start content
 
 -- The bytes are sound, and stand for a content that some beginning of the committed transactions of
--- the past gives, each run whole, one
--- after another, with the replies that its client got; and that beginning holds the transactions
--- that are known.
+-- the past gives, each run whole, one after another, with the replies that its client got; and that
+-- beginning holds the transactions that are known.
 pub record Yields (start : List Collection) (past : Past) (known : List Transaction)
     (bytes : List ℕ) : Type 0 where
   pub sound : IsSound bytes

@@ -132,8 +132,7 @@ CallsKeeper Step.Flip = Unit {0}
 CallsKeeper s = ⊥
 
 -- A step that calls no keeper, with its answer, leads a book and the blocks in transit on; the mark
--- is the one that a look answers. No block is handed over
--- where four wait.
+-- is the one that a look answers. No block is handed over where four wait.
 abbrev pub CoreStep : BookState → List Block → ℕ → Step × Answer → BookState → List Block → Type 0
 CoreStep s waiting mark (Step.Cut, Answer.Cut handed) t waits =
     books.CutAnswers s waiting (Unit {0}) (Ok handed) waits t

@@ -59,8 +59,8 @@ GoAlong rs s t = (first rest : List Record) → rs ≡ first ++ rest →
     (u v : State) × Repeats first s u × Repeats first t v × IsLevel u v
 
 -- The blocks stand for the first records of a past that led a book from the start to the state: for
--- the covered ones. The others lead on from what
--- the blocks are read up to as they do from where the covered ones lead.
+-- the covered ones. The others lead on from what the blocks are read up to as they do from where
+-- the covered ones lead.
 pub record StandIn (start : List Collection) (wear : ℕ) (records : List Record) (now : State)
     (blocks : List (List Record)) (covered : List Record) : Type 0 where
   pub since : List Record
@@ -123,8 +123,8 @@ IsBetween front groups book position =
     ⊎ ((book.end < position) × Contains book.freezes position))
 
 -- The image in progress is one of the book after a beginning of the past. So many records were
--- brought to the disk, or are covered by the image in
--- use, and the blocks that wait begin behind so many.
+-- brought to the disk, or are covered by the image in use, and the blocks that wait begin behind so
+-- many.
 pub record IsImaging {D : Type 0} (seen : D → List ℕ) (start : List Collection) (wear : ℕ)
     (past : Past) (w : Parts D) (stored front : ℕ) (groups : List (List Record)) (l : Laying) : Type
     0 where
@@ -140,8 +140,7 @@ pub record IsImaging {D : Type 0} (seen : D → List ℕ) (start : List Collecti
   pub between : IsBetween front groups w.book l.image.end
 
 -- The world is one to which the steps of the past, with their answers, led from the start, and a
--- stop now leaves what `Yields` says of what the
--- mark tells.
+-- stop now leaves what `Yields` says of what the mark tells.
 pub record HasPast {D : Type 0} (seen : D → List ℕ) (may_leave : D → List ℕ → Type 0)
     (start : List Collection) (past : Past) (w : Parts D) : Type 0 where
   -- the book that was opened, and its steps since

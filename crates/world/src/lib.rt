@@ -1,6 +1,5 @@
 //! The core as a list of steps: the same book, keeper and recovery that threads use, on one thread.
-//! Its theorem is the
-//! crash theorem.
+//! Its theorem is the crash theorem.
 #![tactic(auto)]
 
 mod steps;

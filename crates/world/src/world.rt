@@ -32,9 +32,8 @@ use txn::Book;
 /// A book, a keeper, the blocks in transit, the mark and the next number. Contracts see all of it.
 ///
 /// Each step has a method of its own. Whatever it answers, also a refusal, is one step of the core
-/// (`TakesStep`): each past
-/// of the world goes on with it, and whatever a stop at any moment of it might have left is what
-/// that past yields.
+/// (`TakesStep`): each past of the world goes on with it, and whatever a stop at any moment of it
+/// might have left is what that past yields.
 #[derive(Drop)]
 pub struct World<D: Disk> {
     book: Book<Catalog>,
@@ -69,8 +68,8 @@ impl<D: Disk> Model for World<D> {
 
 impl<D: Disk> World<D> {
     /// A world of an opened book and its keeper, which has brought nothing to the disk yet, with
-    /// nothing in transit. Its
-    /// past begins there: what a stop leaves is what it leaves of the store that was opened.
+    /// nothing in transit. Its past begins there: what a stop leaves is what it leaves of the store
+    /// that was opened.
     ///
     /// Refused only for want of memory, and then the disk is handed back.
     pub fn new(alloc: Global, book: Book<Catalog>, keeper: Keeper<D>) -> Result<Self, (Refusal, D)>
@@ -226,8 +225,7 @@ impl<D: Disk> World<D> {
     }
 
     /// Freezes the book, and begins to write its image: the refusals of `Book::freeze`, then those
-    /// of
-    /// `Keeper::begin_image`.
+    /// of `Keeper::begin_image`.
     pub fn freeze(&mut self) -> Result<(), Refusal>
         ensures { TakesStep ⟦<D as Disk>⟧ self.old
             (Step.Freeze, outcome (alone Answer.Frozen) result) self.new }
@@ -307,18 +305,13 @@ impl<D: Disk> World<D> {
 /// step.
 ///
 /// For every past that the world has, it afterwards has that past followed by the steps with their
-/// answers. The committed
-/// transactions, each run whole, one after another, with the replies that its client got, lead from
-/// the start of the past
-/// to what the collections hold without the live transactions. Whatever a stop at any moment since
-/// the call began might
-/// have left, also within a device write, is sound and stands for a content that some beginning of
-/// the committed
+/// answers. The committed transactions, each run whole, one after another, with the replies that
+/// its client got, lead from the start of the past to what the collections hold without the live
+/// transactions. Whatever a stop at any moment since the call began might have left, also within a
+/// device write, is sound and stands for a content that some beginning of the committed
 /// transactions gives, run in the same way; and that beginning holds all that was acknowledged
-/// before. Each step is
-/// answered as the book, the keeper or the mark answers it there (`Moves`), in its own way or
-/// refused, and the draws among
-/// them give the next numbers, one after another.
+/// before. Each step is answered as the book, the keeper or the mark answers it there (`Moves`), in
+/// its own way or refused, and the draws among them give the next numbers, one after another.
 ///
 /// Refused only for want of memory, with no step taken.
 pub fn play<D: Disk>(

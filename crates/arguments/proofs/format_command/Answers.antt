@@ -5,13 +5,10 @@ use Rattle.arguments.proofs.format_command.Goals as goal
 
 pub returns : goal.returns
 returns c =
-    let first_is = c.in_ok-arg.ensures.shape (search rules) ∙
-    ap₂ with_rule c.new.ensures.app c.path.ensures.rule in
-    let first_alone = c.in_ok-arg.ensures.globals ∙
-    ap₂ ◌||◌ c.new.ensures.local c.path.ensures.alone in
-    IfOk-weaker c.arg-2.result _ _
+    let on_disk = c.in_ok-disk_command.ensures in
+    IfOk-weaker c.arg.result _ _
     (λ whole h. (
-      h.shape (search rules) ∙ ap₂ with_rule first_is c.area.ensures.rule,
-      h.globals ∙ ap₂ ◌||◌ first_alone c.area.ensures.alone,
+      h.shape (search rules) ∙ ap₂ with_rule on_disk.0 c.area.ensures.rule,
+      h.globals ∙ ap₂ ◌||◌ on_disk.1 c.area.ensures.alone,
     ))
-    c.arg-2.ensures
+    c.arg.ensures

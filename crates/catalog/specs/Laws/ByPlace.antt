@@ -15,8 +15,7 @@ use Rattle.catalog.specs.Laws.OneContent.{part_past_later, part_past_inverse, By
 use Rattle.catalog.specs.Laws.OneContent.{whole_back, part_back}
 
 -- A law P of a list, at a place where the call is answered: it holds at the first place by the law
--- of one content,
--- and goes on to the next place as it is.
+-- of one content, and goes on to the next place as it is.
 module _ (c : Call) (r : Reply) (P : List Collection → ℕ → Type 0)
     (here : (x : Collection) (xs : List Collection) → Answers x.content c r → P (x ∷ xs) zero)
     (next : (x : Collection) (xs : List Collection) (at : ℕ) → P xs at → P (x ∷ xs) (suc at)) where
@@ -26,8 +25,7 @@ module _ (c : Call) (r : Reply) (P : List Collection → ℕ → Type 0)
   by_place (x ∷ xs) (suc at) h = next x xs at (by_place xs at h)
 
 -- A law of two places: what is answered at one stays so past a call at the other, where a law of
--- one content says so
--- of the same place.
+-- one content says so of the same place.
 pub kept_at : (c : Call) (r : Reply) (d : Call) (q : Reply) (i j : ℕ) →
     (i ≡ j → (x : Content) → Answers x c r → Answers x d q → Answers (after x c r) d q) →
     (s : List Collection) → AnswersAt s i c r → AnswersAt s j d q →

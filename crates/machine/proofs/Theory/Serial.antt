@@ -203,7 +203,8 @@ module _ {S E M N : Type 0} {rules : Rules S E M N} (laws : RuleLaws rules) wher
           more.2.0,
           Leads-append (RunsWhole rules) (commits rules.owner es r)
               (committed rules.owner (gather rules.owner es r) rs) c one.1.0 more.2.0
-              (subst (λ l. Serial rules l c one.1.0) (step_commits r es s run.0 tells run.1) one.1.1)
+              (subst (λ l. Serial rules l c one.1.0) (step_commits r es s run.0 tells run.1)
+              one.1.1)
               more.2.1,
           more.2.2,
         ),

@@ -38,8 +38,7 @@ CrashYields {S} {E} {M} {N} rules =
     Recovers rules before after rs t c
 
 -- A book that goes on from what was opened, over the old image and its journal: what a beginning of
--- its records leaves stands for
--- what the committed transactions among them give.
+-- its records leaves stands for what the committed transactions among them give.
 abbrev pub GoesOn : {S E M N : Type 0} → Rules S E M N → Type 0
 GoesOn {S} {E} {M} {N} rules = (s u : State S E N) (old rs more : List (Record E M))
     (after : List (Move E M)) (c : S) →

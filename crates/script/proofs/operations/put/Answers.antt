@@ -4,9 +4,9 @@ use Rattle.script.proofs.operations.put.Goals as goal
 pub returns-in_default : goal.returns-in_default
 returns-in_default c = λ has. put_space c.args.text.now c.in_default.ensures.none has
 
-pub returns-in_default-2 : goal.returns-in_default-2
-returns-in_default-2 c = λ has.
-    let none = rw c.in_default-2.is at c.in_ok-key.ensures in
+pub returns-in_default-natural : goal.returns-in_default-natural
+returns-in_default-natural c = λ has.
+    let none = rw c.in_default-natural.is at c.natural.ensures in
     let key = (put_pair c.args.text.now c.in-Some.front.now c.in-Some.back.now
     c.in-Some.ensures.some c.in-Some.ensures.first has).0 in
     none key.0 key.1 key.2

@@ -4,14 +4,14 @@ use Rattle.script.proofs.phrases.put_off.Goals as goal
 pub returns-in_default : goal.returns-in_default
 returns-in_default c = λ r. no_later_without_space c.args.text.now r c.in_default.ensures.none
 
-pub returns-in_default-2 : goal.returns-in_default-2
-returns-in_default-2 c = λ r is.
-    let none = rw c.in_default-2.is at c.in_ok-name.ensures in
-    none (later_name_is_front c.args.text.now c.in-Some.front.now c.in-Some.back.now r
-    c.in-Some.ensures.some c.in-Some.ensures.first is)
-
-pub returns-in-None : goal.returns-in-None
-returns-in-None c = λ r.
-    let none = rw c.in-None.is at c.in_ok-by.ensures in
+pub returns-in_default-bump : goal.returns-in_default-bump
+returns-in_default-bump c = λ r.
+    let none = rw c.in_default-bump.is at c.bump.ensures in
     bump_is_back c.args.text.now c.in-Some.front.now c.in-Some.back.now r c.in-Some.ensures.some
     c.in-Some.ensures.first none
+
+pub returns-in-None : goal.returns-in-None
+returns-in-None c = λ r is.
+    let none = rw c.in-None.is at c.in_ok-name.ensures in
+    none (later_name_is_front c.args.text.now c.in-Some.front.now c.in-Some.back.now r
+    c.in-Some.ensures.some c.in-Some.ensures.first is)

@@ -12,11 +12,11 @@ returns-in_default-parse c = λ n fits e. c.in_default-parse.not-Ok n
     (number_parses n c.in-Ok.word.now c.parse.result c.parse.ensures.value.0 fits
     (c.in-Ok.ensures.cases.0 ∙ e))
 
-pub returns : goal.returns
-returns c = λ n fits e.
+pub returns-else-same : goal.returns-else-same
+returns-else-same c = λ n fits e.
     let parsed = number_parses n c.in-Ok.word.now c.parse.result c.parse.ensures.value.0 fits
     (c.in-Ok.ensures.cases.0 ∙ e) in
-    let shown = number_shown n c.in-Ok-parse.n c.in_ok-again.again.bytes.items c.args.text.now
-    c.parse.result fits c.in-Ok-parse.is parsed c.in_ok-again.ensures.ok e in
+    let shown = number_shown n c.in-Ok-parse.n c.format-again.result.now c.args.text.now
+    c.parse.result fits c.in-Ok-parse.is parsed c.format-again.ensures.text e in
     let is : c.same.result ≡ true = c.same.ensures.1 (c.as_bytes.ensures.value ∙ shown) in
     true≢false (sym is ∙ c.if-same.false)

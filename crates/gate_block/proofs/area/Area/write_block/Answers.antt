@@ -55,7 +55,8 @@ returns-in_err-write_and_sync-clause-any_moment_elsewhere g c =
       torn.0,
       torn.1,
       first_outside a.base a.size a.position [] c.requires.block.0 block
-          (behind_gate block) s c.requires.block.1 (take_rest block 1) c.requires.room c.requires.disk
+          (behind_gate block) s c.requires.block.1 (take_rest block 1) c.requires.room
+          c.requires.disk
           torn.0 d torn.2,
     ))
 
