@@ -178,8 +178,8 @@ fn stop_at(
     Ok(stopped?)
 }
 
-// Carries a task out on a disk with a failure at this call, and stops the disk. Answers also whether
-// the call was reached.
+// Carries a task out on a disk with a failure at this call, and stops the disk. Answers also
+// whether the call was reached.
 fn run_until(
     alloc: Global,
     task: Task,
