@@ -1,3 +1,4 @@
+use Rattle.std.proofs.lemmas.Grind.{common_steps}
 use Rattle.std.proofs.Common.{◌+◌, ◌≤◌, vec_len, vec_capacity, rules, arith}
 use Rattle.record_format.proofs.writing.encode_call.Goals as goal
 
@@ -7,3 +8,9 @@ put_byte-requires c =
     let room : vec_len c.reserve.new.self + c.call_len.result ≤ vec_capacity c.reserve.new.self =
     search rules in
     omega arith
+
+pub returns-clause-len : goal.returns-clause-len
+returns-clause-len c = search rules
+
+pub returns-clause-ok : goal.returns-clause-ok
+returns-clause-ok c = grind (arith, common_steps)

@@ -1,3 +1,4 @@
+use Rattle.std.proofs.Common.{rules}
 use Rattle.script.proofs.ScriptPhrases.{called_gives, put_off_gives, made_gives}
 use Rattle.script.proofs.phrases.request.Goals as goal
 
@@ -12,3 +13,6 @@ returns-in-Some-behind c = put_off_gives c.put_off.result c.args.text.now c.in-S
 pub returns-in-Some-behind-2 : goal.returns-in-Some-behind-2
 returns-in-Some-behind-2 c = made_gives c.made.result c.args.text.now c.in-Some-behind-2.rest.now
     c.in-Some-behind-2.ensures.some c.made.ensures
+
+pub returns-then-same-2 : goal.returns-then-same-2
+returns-then-same-2 c = search rules

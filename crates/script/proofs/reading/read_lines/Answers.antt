@@ -1,3 +1,4 @@
+use Rattle.std.proofs.Common.{rules}
 use Rattle.std.proofs.Common.{◌∷◌, arith, length, length-append, ap}
 use Rattle.std.proofs.lemmas.Result.{err_from_is_err_and}
 use Rattle.script.specs.Scripts.{lines_of}
@@ -40,3 +41,6 @@ returns-clause-read c =
     let more = c.in_ok-read_line-2.ensures.read in
     rw more.1 (says_last c.loop-front.number c.loop-front.rest.now c.loop-front.lines.items more.0
     (lines_of c.args.text.now) c.in_default.ensures.none more.2 c.loop-front.invariant.says)
+
+pub loop-front-init : goal.loop-front-init
+loop-front-init c = search rules

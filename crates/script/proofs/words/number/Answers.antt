@@ -1,3 +1,4 @@
+use Rattle.std.proofs.Common.{rules}
 use Rattle.std.proofs.Common.{◌≡◌, true, sym, ◌∙◌}
 use Rattle.std.proofs.lemmas.Bool.{true≢false}
 use Rattle.script.proofs.ScriptWords.{number_is_text, number_parses, number_shown}
@@ -20,3 +21,6 @@ returns-else-same c = λ n fits e.
     c.parse.result fits c.in-Ok-parse.is parsed c.format-again.ensures.text e in
     let is : c.same.result ≡ true = c.same.ensures.1 (c.as_bytes.ensures.value ∙ shown) in
     true≢false (sym is ∙ c.if-same.false)
+
+pub returns-then-same : goal.returns-then-same
+returns-then-same c = search rules

@@ -1,3 +1,6 @@
+use Rattle.std.proofs.lemmas.Grind.{common_steps}
+use Rattle.std.proofs.lemmas.Grind.{common_steps}
+use Rattle.std.proofs.Common.{arith, rules}
 use Rattle.std.proofs.Common.{◌≡◌, ◌<◌, [], length, arith, ap, ◌∙◌, subst}
 use Rattle.record_format.specs.Acts.{places}
 use Rattle.blocks.specs.Offers.{IsOffered}
@@ -49,3 +52,18 @@ returns g c =
     (subst (λ rs. IsOffered rs c.self.inside.handed c.offer-2.new.handed
     (g.O.Outbox.waiting c.args.out.now) (g.O.Outbox.waiting c.offer-2.new.out)) same
     c.in_default-offer-2.ensures.handed))
+
+pub offer-requires-clause-some : goal.offer-requires-clause-some
+offer-requires-clause-some g c = search rules
+
+pub offer-requires-clause-short : goal.offer-requires-clause-short
+offer-requires-clause-short g c = search rules
+
+pub invariant_of-self : goal.invariant_of-self
+invariant_of-self g c = search rules
+
+pub returns-in-Err : goal.returns-in-Err
+returns-in-Err g c = grind (arith, common_steps)
+
+pub invariant_of-self-in-Some : goal.invariant_of-self-in-Some
+invariant_of-self-in-Some g c = grind (arith, common_steps)

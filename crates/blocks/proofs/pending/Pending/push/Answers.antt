@@ -1,3 +1,5 @@
+use Rattle.std.proofs.lemmas.Grind.{common_steps}
+use Rattle.std.proofs.Common.{arith}
 use Rattle.std.proofs.Common.{[], ◌∷◌, ◌++◌, length, refl, arith, ap, ◌∙◌}
 use Rattle.record_format.specs.Records.{spelling}
 use Rattle.std.specs.VecDeque.{deque_capacity}
@@ -54,3 +56,6 @@ returns-clause-freezes c =
     filled_ends w _ _ c.replace-draft.new.dest c.replace-next.new.dest 0
     c.push_back_reserved.ensures.items (ap (λ d. d.records) c.replace-draft.ensures.value)
     refl ∙ ap freezes c.self.view_is
+
+pub returns-clause-records : goal.returns-clause-records
+returns-clause-records c = grind (arith, common_steps)

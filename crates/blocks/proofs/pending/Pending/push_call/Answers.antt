@@ -1,3 +1,5 @@
+use Rattle.std.proofs.lemmas.Grind.{common_steps}
+use Rattle.std.proofs.Common.{arith}
 use Rattle.std.proofs.Common.{[], ◌∷◌, ◌++◌, length, refl, arith, ap, ◌∙◌}
 use Rattle.record_format.specs.declared.record.Record.{Record}
 use Rattle.record_format.specs.Records.{call_record, spelling}
@@ -58,3 +60,6 @@ returns-clause-freezes c =
     filled_ends w _ _ c.replace-draft.new.dest c.replace-next.new.dest 0
     c.push_back_reserved.ensures.items (ap (λ d. d.records) c.replace-draft.ensures.value)
     refl ∙ ap freezes c.self.view_is
+
+pub returns-then-fits-clause-records : goal.returns-then-fits-clause-records
+returns-then-fits-clause-records c = grind (arith, common_steps)

@@ -1,3 +1,4 @@
+use Rattle.std.proofs.Common.{rules}
 use Rattle.std.proofs.Common.{◌≡◌, ◌<◌, ◌+◌, sym, ◌∙◌, refl, subst, Bool, true, false, true≢false}
 use Rattle.std.proofs.Common.{Option, None, Err, List, ℕ, length}
 use Rattle.calls.specs.declared.refusal.Refusal.{Refusal}
@@ -67,3 +68,6 @@ returns-in_default-clause-answer g c =
     keeper_faulted g.D.Disk.fault_count _ c.in-Err.refusal c.append.new.self c.append.new.disk
     c.args.block _ c.self.view_is c.self.invariant.fine c.in_default.not-Full _
     c.as_slice.ensures.value c.in-Err.ensures.answer c.requires.failed c.requires.held
+
+pub returns-in-Ok-clause-answer : goal.returns-in-Ok-clause-answer
+returns-in-Ok-clause-answer g c = search rules

@@ -1,3 +1,4 @@
+use Rattle.std.proofs.Common.{rules}
 use Rattle.std.proofs.Common.{length}
 use Rattle.disk_model.proofs.Walk.{leaves_now}
 use Rattle.gate_block.specs.Area.{LeavesElsewhere}
@@ -27,3 +28,6 @@ returns-clause-kept g c = rw (← c.self.view_is) (λ bodies ready.
     (LeavesElsewhere (g.D.Disk.may_leave old) w.area) (g.D.Disk.may_leave new)
     c.lay_next-written.ensures.any_moment (g.met.D.Disk.counts_now new))
     ready)
+
+pub invariant_of-self : goal.invariant_of-self
+invariant_of-self g c = search rules

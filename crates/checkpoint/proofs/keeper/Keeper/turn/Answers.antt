@@ -1,3 +1,4 @@
+use Rattle.std.proofs.Common.{rules}
 use Rattle.std.proofs.Common.{◌≡◌, sym, ◌∙◌, subst}
 use Rattle.gate_block.specs.Row.{IsBlockOf}
 use Rattle.blocks.specs.declared.block.Block.{Block}
@@ -22,3 +23,6 @@ pub returns-in-Some-clause-laid : goal.returns-in-Some-clause-laid
 returns-in-Some-clause-laid g c =
     rw (← c.self.view_is) (λ w bodies is was. laid_on g.D.Disk.seen _ w _ bodies c.self.invariant is
     c.bring.ensures.elsewhere was)
+
+pub returns-in-None-clause-answer : goal.returns-in-None-clause-answer
+returns-in-None-clause-answer g c = search rules

@@ -1,3 +1,4 @@
+use Rattle.std.proofs.Common.{rules}
 use Rattle.std.proofs.Common.{◌++◌, ℕ, List, false, replicate, length, refl, sym, ap, ◌∙◌, arith}
 use Rattle.std.proofs.Common.{length-append, subst}
 use Rattle.std.proofs.lemmas.List.{length-take-le, length-replicate}
@@ -26,3 +27,6 @@ returns-clause-at_rest g c = λ d left.
     (sym (length-take-le n (content ++ replicate n 0)
     (omega (arith, length-append content (replicate n 0), length-replicate {A = ℕ} n 0)))) now
     ∙ sym (ap (λ (es : List Event). seen_of (padded content n) es) c.new.ensures)
+
+pub returns-clause-faults : goal.returns-clause-faults
+returns-clause-faults g c = search rules

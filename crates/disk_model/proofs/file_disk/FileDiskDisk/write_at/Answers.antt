@@ -1,3 +1,4 @@
+use Rattle.std.proofs.Common.{rules}
 use Rattle.disk_model.specs.Events.{padded}
 use Rattle.disk_model.proofs.Calls.{after_write}
 use Rattle.disk_model.proofs.file_disk.FileDiskDisk.write_at.Goals as goal
@@ -13,3 +14,6 @@ returns-clause-stop g c =
     let d = c.args.self.now in
     after_write (padded g.S.Content.content d.size) d.size d.log.events c.note.new.self.events
     d.sized d.marked c.args.at c.args.bytes.now _ c.note.ensures c.requires
+
+pub returns-clause-written : goal.returns-clause-written
+returns-clause-written g c = search rules
