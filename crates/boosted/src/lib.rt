@@ -22,6 +22,8 @@ mod queue;
 mod set;
 mod table;
 
+pub use table::{check_asked, check_deferred};
+
 /// A collection, or many at their places, with calls that can be undone.
 pub trait Boosted: Drop {
     /// Where a call goes: `()` for one collection, and a collection's number for many.

@@ -6,8 +6,11 @@ ghost use Rattle.boosted.specs.Meaning.{AskRefusal, DeferRefusal};
 
 use calls::{Call, Kind, Refusal, check_call};
 
-// Whether a client can ask a collection of the kind for the call.
-pub(crate) fn check_asked(kind: Kind, call: &Call) -> Result<(), Refusal>
+/// Whether a client can ask a collection of the kind for the call. It takes no memory.
+///
+/// WrongKind for a call of another kind, else BadArg for one that no client can ask, else TooLong
+/// for a value over 256 bytes.
+pub fn check_asked(kind: Kind, call: &Call) -> Result<(), Refusal>
     ensures ok { IsOk result ↔ (IsOf kind call.now × Askable call.now × IsShort call.now) }
     ensures err { IfErr result (AskRefusal (IsOf kind call.now) (IsWrong kind call.now) call.now) }
 {
@@ -17,8 +20,10 @@ pub(crate) fn check_asked(kind: Kind, call: &Call) -> Result<(), Refusal>
     check_call(call)
 }
 
-// Whether a client can put off the call to a collection of the kind.
-pub(crate) fn check_deferred(kind: Kind, call: &Call) -> Result<(), Refusal>
+/// Whether a client can put off the call to a collection of the kind. It takes no memory.
+///
+/// WrongKind for a call of another kind, else BadArg for one that cannot be put off.
+pub fn check_deferred(kind: Kind, call: &Call) -> Result<(), Refusal>
     ensures ok { IsOk result ↔ (IsOf kind call.now × Deferrable call.now) }
     ensures err { IfErr result (DeferRefusal (IsOf kind call.now) (IsWrong kind call.now)
         call.now) }

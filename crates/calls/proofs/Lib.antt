@@ -9,3 +9,4 @@ pub mod PoolLaws
 pub mod ContentLaws
 pub mod KindLaws
 pub mod Conflicts
+mod KindNames

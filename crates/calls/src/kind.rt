@@ -20,6 +20,9 @@ pub enum Kind {
     Pool,
 }
 
+// Each kind.
+const KINDS: [Kind; 5] = [Kind::Set, Kind::Map, Kind::Queue, Kind::Counter, Kind::Pool];
+
 impl Kind {
     /// The name of the kind in scripts, and in what the program prints.
     pub fn name(&self) -> &'static str
@@ -39,14 +42,12 @@ impl Kind {
         ensures { MatchOption result ((k : Kind) → text.now ≡ kind_text k → ⊥)
             (λ k. text.now ≡ kind_text k) }
     {
-        match text {
-            b"set" => Some(Kind::Set),
-            b"map" => Some(Kind::Map),
-            b"queue" => Some(Kind::Queue),
-            b"counter" => Some(Kind::Counter),
-            b"pool" => Some(Kind::Pool),
-            _ => None,
+        for kind in KINDS {
+            if kind.name().as_bytes() == text {
+                return Some(kind);
+            }
         }
+        None
     }
 }
 

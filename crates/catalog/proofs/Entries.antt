@@ -26,7 +26,8 @@ use Rattle.calls.specs.Names.{IsName}
 use Rattle.calls.specs.Rules.{Askable}
 use Rattle.calls.specs.Contents.{kind_of_content, Content, Answers, after, Collection, AnswersAt}
 use Rattle.calls.specs.Contents.{after_at}
-use Rattle.boosted.specs.Kinds.{IsOf}
+use Rattle.boosted.specs.Kinds.{IsOf, IsWrong}
+use Rattle.boosted.specs.Meaning.{AskRefusal, DeferRefusal}
 use Rattle.catalog.specs.declared.holding.Holding.{Holding}
 use Rattle.catalog.specs.Holdings.{content_of, collections_of, AreNamed}
 use Rattle.catalog.specs.Making.{names_of, IsPlaceOf, IsFree, AreDistinct}
@@ -252,6 +253,22 @@ module _ (s : List Collection) (at : ℕ) (k : Content) (c : Call)
 
   pub strange_there : (IsOf (kind_of_content k) c → ⊥) → Misplaced s at c Refusal.WrongKind
   strange_there h = at_of k (λ v. IsOf (kind_of_content v) c → ⊥) s at (sym there) h
+
+  -- what the kind's own test refuses is refused so at the place
+  pub asked_there : (e : Refusal) →
+      AskRefusal (IsOf (kind_of_content k) c) (IsWrong (kind_of_content k) c) c e →
+      AskRefusal (Belongs s at c) (Misplaced s at c) c e
+  asked_there Refusal.BadArg h = (belongs_there h.0, h.1)
+  asked_there Refusal.TooLong h = (belongs_there h.0, h.1, h.2)
+  asked_there Refusal.WrongKind h = strange_there h.0
+  asked_there e h = let is : e ≡ Refusal.WrongKind = h.1 in absurd (cc)
+
+  pub deferred_there : (e : Refusal) →
+      DeferRefusal (IsOf (kind_of_content k) c) (IsWrong (kind_of_content k) c) c e →
+      DeferRefusal (Belongs s at c) (Misplaced s at c) c e
+  deferred_there Refusal.BadArg h = (belongs_there h.0, h.1)
+  deferred_there Refusal.WrongKind h = strange_there h.0
+  deferred_there e h = let is : e ≡ Refusal.WrongKind = h.1 in absurd (cc)
 
   pub reply_there : Askable c ⊎ ((r : Reply) × AnswersAt s at c r) →
       Askable c ⊎ ((r : Reply) × Answers k c r)

@@ -82,23 +82,6 @@ impl Catalog {
         }
     }
 
-    // Whether the call is one of what is at the place.
-    pub(crate) fn check_place(&self, at: u8, call: &Call) -> Result<(), Refusal>
-        ensures ok { IsOk result ↔ Belongs self.now at call.now }
-        ensures err { IfErr result (Misplaced self.now at call.now) }
-    {
-        match self.holding(at) {
-            None => Err(Refusal::NoSuchCollection),
-            Some(holding) => {
-                if holding.is_for(call) {
-                    Ok(())
-                } else {
-                    Err(Refusal::WrongKind)
-                }
-            }
-        }
-    }
-
     // Makes the call at the place, which has a collection that answers it so.
     pub(crate) fn run_at(&mut self, at: u8, call: &Call, reply: &Reply) -> Result<(), Refusal>
         requires can { AnswersAt self.old at call.now reply.now }

@@ -55,13 +55,6 @@ impl Holding {
         }
     }
 
-    // Whether the call is one of the kind.
-    pub(crate) fn is_for(&self, call: &Call) -> bool
-        ensures { IsTrue result ↔ IsOf (kind_of_content (content_of self.now)) call.now }
-    {
-        call.kind() == self.kind()
-    }
-
     // Whether the call may get this reply now. It takes no memory.
     pub(crate) fn fits(&self, call: &Call, reply: &Reply) -> bool
         ensures { IsTrue result ↔ Answers (content_of self.now) call.now reply.now }

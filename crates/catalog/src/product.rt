@@ -3,8 +3,8 @@ ghost use Rattle.catalog.specs.Meaning.{catalog_meaning};
 ghost use Rattle.catalog.specs.Laws.Catalogs.{catalog_laws};
 
 use crate::Catalog;
-use boosted::Boosted;
-use calls::{Call, Refusal, Reply, check_call};
+use boosted::{Boosted, check_asked, check_deferred};
+use calls::{Call, Refusal, Reply};
 
 impl Boosted for Catalog {
     type At = u8;
@@ -30,16 +30,17 @@ impl Boosted for Catalog {
     }
 
     fn askable(&self, at: u8, call: &Call) -> Result<(), Refusal> {
-        self.check_place(at, call)?;
-        check_call(call)
+        match self.holding(at) {
+            Some(holding) => check_asked(holding.kind(), call),
+            None => Err(Refusal::NoSuchCollection),
+        }
     }
 
     fn deferrable(&self, at: u8, call: &Call) -> Result<(), Refusal> {
-        self.check_place(at, call)?;
-        if !call.is_deferrable() {
-            return Err(Refusal::BadArg);
+        match self.holding(at) {
+            Some(holding) => check_deferred(holding.kind(), call),
+            None => Err(Refusal::NoSuchCollection),
         }
-        Ok(())
     }
 
     ghost laws = { catalog_laws };

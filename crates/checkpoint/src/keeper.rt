@@ -202,6 +202,7 @@ impl<D: Disk> Keeper<D> {
     /// and then it is held;
     /// Fault where the disk failed, and then the keeper has failed.
     pub fn turn<I: Inbox>(&mut self, inbox: &mut I) -> Result<Turn, Refusal>
+        // What it answers, and which blocks wait then.
         ensures answer { TurnAnswers (queue self.old.held (I.waiting inbox.old)) self.old.failed
             self.old.mark
             (λ b. b.end ≤ self.old.covered) (λ b. IsPast self.old.image b.end)
@@ -209,15 +210,15 @@ impl<D: Disk> Keeper<D> {
             ((self.new.area ≡ self.old.area) × (self.new.disk ≡ self.old.disk))
             (Rises (D.fault_count self.old.disk) (D.fault_count self.new.disk))
             result (I.waiting inbox.new) self.new.held self.new.mark self.new.failed }
-        // The block that is brought is behind the others, once it is kept, unless the image of the
-        // area covers it.
+        // What the disk holds then: the block that is brought is behind the others, once it is
+        // kept, unless the image of the area covers it.
         ensures kept { (bodies : List (List ℕ)) (body : List ℕ) (b : Block) (rest : List Block) →
             queue self.old.held (I.waiting inbox.old) ≡ b ∷ rest → IsBlockOf body b.bytes.items →
             self.old.covered < b.end →
             IsReady D.seen D.may_leave self.old.area self.old.disk bodies →
             OnKept result (IsReady D.seen D.may_leave self.new.area self.new.disk
             (bodies ++ body ∷ [])) }
-        // A stop at any moment of the turn leaves the blocks from before it, with that one or
+        // What a stop leaves: at any moment of the turn the blocks from before it, with that one or
         // without.
         ensures any_moment { (bodies : List (List ℕ)) (body : List ℕ) (b : Block)
             (rest : List Block) →
@@ -226,16 +227,18 @@ impl<D: Disk> Keeper<D> {
             IsReady D.seen D.may_leave self.old.area self.old.disk bodies →
             LeavesOnly D.moment D.left_since self.old.disk self.new.disk
             (LeavesBlocks (D.may_leave self.old.disk) self.old.area bodies body) }
+        // What of the disk stays: all outside the area, and what was laid of an image.
         ensures elsewhere { SameOutside (base_of self.old.area) (size_of self.old.area)
             (D.seen self.old.disk) (D.seen self.new.disk) }
-        // What was laid of an image stays.
         ensures laid { (w : Laying) (bodies : List (List ℕ)) → self.old.image ≡ Some w →
             IsBeingLaid w (D.seen self.old.disk) bodies →
             IsBeingLaid w (D.seen self.new.disk) bodies }
+        // What of the keeper stays.
         ensures base { base_of self.new.area ≡ base_of self.old.area }
         ensures size { size_of self.new.area ≡ size_of self.old.area }
         ensures covered { self.new.covered ≡ self.old.covered }
         ensures image { self.new.image ≡ self.old.image }
+        // What of the device stays: its length, and that it reads true only if it did before.
         ensures length { length (D.seen self.new.disk) ≡ length (D.seen self.old.disk) }
         ensures honest { D.is_honest self.new.disk → D.is_honest self.old.disk }
     {

@@ -120,34 +120,38 @@ impl Area {
     pub fn append<D: Disk>(&mut self, disk: &mut D, block: &[u8]) -> Result<(), Refusal>
         requires block { (body : List ℕ) × IsBlockOf body block.now }
         requires disk { base_of self.old + size_of self.old ≤ length (D.seen disk.old) }
+        // What it answers, and that a refusal without a Fault changes nothing.
         ensures answer { IsAppendAnswer (has_failed self.old) (has_failed self.new)
             (size_of self.old < position_of self.old + length block.now)
             (Rises (D.fault_count disk.old) (D.fault_count disk.new)) result }
         ensures failed { IsErrOf result Refusal.Failed →
             (self.new ≡ self.old) × (disk.new ≡ disk.old) }
         ensures full { IsErrOf result Refusal.Full → (self.new ≡ self.old) × (disk.new ≡ disk.old) }
+        // Where the area is then, and its next gate.
         ensures base { base_of self.new ≡ base_of self.old }
         ensures size { size_of self.new ≡ size_of self.old }
         ensures position { OnOk result (position_of self.new + 1 ≡
             position_of self.old + length block.now) }
         ensures position_err { OnErr result (position_of self.new ≡ position_of self.old) }
+        // What the disk holds then. Also where a stop might leave another: where a read gives
+        // blocks up to the next gate, it gives the new one behind them then.
         ensures kept { (bodies : List (List ℕ)) (body : List ℕ) → IsBlockOf body block.now →
             IsReady D.seen D.may_leave self.old disk.old bodies →
             OnOk result (IsReady D.seen D.may_leave self.new disk.new (bodies ++ body ∷ [])) }
-        ensures any_moment { (bodies : List (List ℕ)) (body : List ℕ) → IsBlockOf body block.now →
-            IsReady D.seen D.may_leave self.old disk.old bodies →
-            LeavesOnly D.moment D.left_since disk.old disk.new
-            (LeavesBlocks (D.may_leave disk.old) self.old bodies body) }
-        ensures any_moment_elsewhere { LeavesOnly D.moment D.left_since disk.old disk.new
-            (LeavesElsewhere (D.may_leave disk.old) self.old) }
-        // Also where a stop might leave another: where a read gives blocks up to the next gate, it
-        // gives the new one behind them then.
         ensures counts { (bodies : List (List ℕ)) (body : List ℕ) → IsBlockOf body block.now →
             IsRow bodies (bytes_of self.old (D.seen disk.old)) →
             position_of self.old ≡ length (row bodies) →
             OnOk result (IsRow (bodies ++ body ∷ []) (bytes_of self.new (D.seen disk.new))) }
         ensures elsewhere { SameOutside (base_of self.old) (size_of self.old)
             (D.seen disk.old) (D.seen disk.new) }
+        // What a stop leaves.
+        ensures any_moment { (bodies : List (List ℕ)) (body : List ℕ) → IsBlockOf body block.now →
+            IsReady D.seen D.may_leave self.old disk.old bodies →
+            LeavesOnly D.moment D.left_since disk.old disk.new
+            (LeavesBlocks (D.may_leave disk.old) self.old bodies body) }
+        ensures any_moment_elsewhere { LeavesOnly D.moment D.left_since disk.old disk.new
+            (LeavesElsewhere (D.may_leave disk.old) self.old) }
+        // What the device tells.
         ensures honest { D.is_honest disk.new → D.is_honest disk.old }
         ensures faults { D.fault_count disk.old ≤ D.fault_count disk.new }
     {
@@ -174,24 +178,29 @@ impl Area {
     pub fn lay<D: Disk>(&mut self, disk: &mut D, block: &[u8]) -> Result<(), Refusal>
         requires block { (body : List ℕ) × IsBlockOf body block.now }
         requires disk { base_of self.old + size_of self.old ≤ length (D.seen disk.old) }
+        // What it answers, and that a refusal without a Fault changes nothing.
         ensures answer { IsAppendAnswer (has_failed self.old) (has_failed self.new)
             (size_of self.old < position_of self.old + length block.now)
             (Rises (D.fault_count disk.old) (D.fault_count disk.new)) result }
         ensures failed { IsErrOf result Refusal.Failed →
             (self.new ≡ self.old) × (disk.new ≡ disk.old) }
         ensures full { IsErrOf result Refusal.Full → (self.new ≡ self.old) × (disk.new ≡ disk.old) }
+        // Where the area is then, and its next gate.
         ensures base { base_of self.new ≡ base_of self.old }
         ensures size { size_of self.new ≡ size_of self.old }
         ensures position { OnOk result (position_of self.new + 1 ≡
             position_of self.old + length block.now) }
         ensures position_err { OnErr result (position_of self.new ≡ position_of self.old) }
+        // What the disk holds then.
         ensures laid { (bodies : List (List ℕ)) (body : List ℕ) → IsBlockOf body block.now →
             IsLaid self.old (D.seen disk.old) bodies →
             OnOk result (IsLaid self.new (D.seen disk.new) (bodies ++ body ∷ [])) }
-        ensures any_moment_elsewhere { LeavesOnly D.moment D.left_since disk.old disk.new
-            (LeavesElsewhere (D.may_leave disk.old) self.old) }
         ensures elsewhere { SameOutside (base_of self.old) (size_of self.old)
             (D.seen disk.old) (D.seen disk.new) }
+        // What a stop leaves.
+        ensures any_moment_elsewhere { LeavesOnly D.moment D.left_since disk.old disk.new
+            (LeavesElsewhere (D.may_leave disk.old) self.old) }
+        // What the device tells.
         ensures honest { D.is_honest disk.new → D.is_honest disk.old }
         ensures faults { D.fault_count disk.old ≤ D.fault_count disk.new }
     {

@@ -119,7 +119,7 @@ fn is_name(bytes: &[u8]) -> bool
     !bytes.is_empty() && bytes.len() <= MAX_NAME && has_name_bytes(bytes)
 }
 
-#[tactic(auto, using(crate::proofs::RecordNames::is_good_name_utf8), unfolding(crate::specs::RecordReading::name_in))]
+#[tactic(auto, unfolding(crate::specs::RecordReading::name_in))]
 fn read_name(alloc: Global, bytes: &[u8]) -> Result<(Name, &[u8]), Unread>
     ensures { Gives (λ x. (x.0, x.1.now)) result (name_in bytes.now) }
 {

@@ -294,13 +294,16 @@ pub record IsLoading {D : Type 0} (seen : D → List ℕ) (may_leave : D → Lis
     (moment : D → ℕ) (left_since : D → ℕ → List ℕ → Type 0) (is_honest : D → Type 0)
     (fault_count : D → ℕ) (old new : D) (base size : ℕ) (area : Area) (kind : Option Kind)
     (stage : Stage) (next place : ℕ) : Type 0 where
+  -- what the device tells
   pub reads : ReadsOnly seen may_leave moment left_since old new
   pub honest : is_honest new → is_honest old
   pub faults : fault_count old ≤ fault_count new
+  -- where the area is
   pub base_is : base_of area ≡ base
   pub size_is : size_of area ≡ size
   pub fine : has_failed area ≡ false
   pub place_is : place ≡ base + position_of area
+  -- what was read
   pub fit : IsFit stage
   pub few : count_of stage ≤ position_of area
   pub has_read : is_honest new → HasRead (part base size (seen old)) (position_of area) kind stage

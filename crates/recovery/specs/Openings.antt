@@ -79,22 +79,27 @@ pub record IsDamagedAt (bytes : List ℕ) (place : ℕ) : Type 0 where
 -- book is of the state that they lead to.
 pub record IsOpened (old : List ℕ) (book : BookState (List Collection)) (area : Area)
     (new : List ℕ) : Type 0 where
+  -- the head of the store
   pub header : IsHeader (size_of area) old
   pub picks : base_of area ≡ base_in_use (size_of area) old
+  -- what was read of the area
   pub blocks : List (List Record)
   pub next : ℕ
   pub state : State
   pub count : ℕ
   pub is_read : IsRead (base_of area) (size_of area) old blocks next state count
+  -- what undoes all that was live, and the book behind it
   pub undoing : List Record
   pub undone : State
   pub undo : Undo state undoing undone
   pub book_is : book ≡ opened undone.now next undone.wear
+  -- the blocks of that, and where they stand
   pub written : List (List Record)
   pub in_blocks : AreBlocksOf undoing written
   pub read_too : AllByRecursion AreRead written
   pub row_is : IsRow (map spelling (blocks ++ written)) (part (base_of area) (size_of area) new)
   pub position : position_of area ≡ length (row (map spelling (blocks ++ written)))
+  -- what else the area and the disk are
   pub elsewhere : SameOutside (base_of area) (size_of area) old new
   pub unwritten : written ≡ [] → new ≡ old
   pub fine : has_failed area ≡ false
@@ -108,16 +113,20 @@ pub record IsReadyStore {D : Type 0} (seen : D → List ℕ) (may_leave : D → 
 
 -- The blocks of the undoing do not fit behind the others.
 pub record HasNoRoom (bytes : List ℕ) : Type 0 where
+  -- the head of the store
   pub size : ℕ
   pub header : IsHeader size bytes
+  -- what is read of the area in use
   pub blocks : List (List Record)
   pub next : ℕ
   pub state : State
   pub count : ℕ
   pub is_read : IsRead (base_in_use size bytes) size bytes blocks next state count
+  -- what undoes all that was live
   pub undoing : List Record
   pub undone : State
   pub undo : Undo state undoing undone
+  -- the blocks of that, and that they end behind the area
   pub written : List (List Record)
   pub in_blocks : AreBlocksOf undoing written
   pub full : size < length (row (map spelling (blocks ++ written))) + 1
@@ -149,13 +158,16 @@ KeepsContent seen may_leave moment left_since old new =
 -- What a store holds: so many collections, so many transactions that have not ended, and so many
 -- records in the journal.
 pub record IsReport (bytes : List ℕ) (report : Report) : Type 0 where
+  -- the head of the store
   pub size : ℕ
   pub header : IsHeader size bytes
+  -- what is read of the area in use
   pub blocks : List (List Record)
   pub next : ℕ
   pub state : State
   pub count : ℕ
   pub is_read : IsRead (base_in_use size bytes) size bytes blocks next state count
+  -- what is told of that
   pub collections : report.collections ≡ length state.now
   pub unfinished : report.unfinished ≡ maps.len state.live
   pub records : report.records ≡ count

@@ -36,19 +36,24 @@ fn fits(room: u64, count: usize) -> bool
 
 // Opens the store on a disk.
 fn open_on<D: Disk>(alloc: Global, disk: &mut D) -> Result<(Book<Catalog>, Area), Refusal>
+    // What it answers, of a disk that read true.
     ensures opened { IfOk result (λ x. D.is_honest disk.new →
         IsOpened (D.seen disk.old) x.0 x.1 (D.seen disk.new)) }
     ensures content { (content : List Collection) → StandsFor (D.seen disk.old) content →
         IfOk result (λ x. D.is_honest disk.new → x.0.state.now ≡ content) }
+    // What a stop leaves.
     ensures kept { D.is_honest disk.new →
         KeepsContent D.seen D.may_leave D.moment D.left_since disk.old disk.new }
+    // What the disk holds then.
     ensures untouched { IfOk result
         (λ x. D.is_honest disk.new → (o : IsOpened (D.seen disk.old) x.0 x.1 (D.seen disk.new)) →
         o.undoing ≡ [] → ReadsOnly D.seen D.may_leave D.moment D.left_since disk.old disk.new) }
     ensures durable { IfOk result (λ x. D.is_honest disk.new →
         IsAtRest D.seen D.may_leave disk.old → IsAtRest D.seen D.may_leave disk.new) }
+    // Where the area is.
     ensures area { IfOk result (λ x. (has_failed x.1 ≡ false) ×
         IsOneOfTwo x.1 (length (D.seen disk.new))) }
+    // Why it is refused, and that nothing is written then, but at a Fault.
     ensures refused { IfErr result (IsOpenRefusal
         (Rises (D.fault_count disk.old) (D.fault_count disk.new))
         (D.is_honest disk.new → HasNoHeader (D.seen disk.old))
@@ -57,6 +62,7 @@ fn open_on<D: Disk>(alloc: Global, disk: &mut D) -> Result<(Book<Catalog>, Area)
     ensures unchanged { IfErr result
         (λ e. (e ≡ Refusal.Fault → ⊥) →
         ReadsOnly D.seen D.may_leave D.moment D.left_since disk.old disk.new) }
+    // What the device tells, and its length.
     ensures honest { D.is_honest disk.new → D.is_honest disk.old }
     ensures faults { D.fault_count disk.old ≤ D.fault_count disk.new }
     ensures size { length (D.seen disk.new) ≡ length (D.seen disk.old) }
@@ -94,20 +100,24 @@ fn open_on<D: Disk>(alloc: Global, disk: &mut D) -> Result<(Book<Catalog>, Area)
 /// read true only if the records of the undoing do not fit. All but Fault come with nothing
 /// written. A refusal hands the disk back.
 pub fn open<D: Disk>(alloc: Global, disk: D) -> Result<(Book<Catalog>, Keeper<D>), (Refusal, D)>
+    // What it answers, of a disk that read true.
     ensures opened { IfOk result (λ x. D.is_honest x.1.disk →
         IsOpened (D.seen disk) x.0 x.1.area (D.seen x.1.disk)) }
     ensures content { (content : List Collection) → StandsFor (D.seen disk) content →
         IfOk result (λ x. D.is_honest x.1.disk → x.0.state.now ≡ content) }
+    // What a stop leaves.
     ensures kept { IfOk result (λ x. D.is_honest x.1.disk →
         KeepsContent D.seen D.may_leave D.moment D.left_since disk x.1.disk) }
     ensures kept_in_refusal { IfErr result
         (λ x. D.is_honest x.1 → KeepsContent D.seen D.may_leave D.moment D.left_since disk x.1) }
+    // What the disk and the keeper hold then.
     ensures untouched { IfOk result
         (λ x. D.is_honest x.1.disk → (o : IsOpened (D.seen disk) x.0 x.1.area (D.seen x.1.disk)) →
         o.undoing ≡ [] → ReadsOnly D.seen D.may_leave D.moment D.left_since disk x.1.disk) }
     ensures fresh { IfOk result (λ x. IsFresh x.1) }
     ensures ready { IfOk result (λ x. D.is_honest x.1.disk → IsAtRest D.seen D.may_leave disk →
         IsReadyStore D.seen D.may_leave (D.seen disk) x.0 x.1.area x.1.disk) }
+    // Why it is refused, and that nothing is written then, but at a Fault.
     ensures refused { IfErr result (λ x. IsOpenRefusal
         (Rises (D.fault_count disk) (D.fault_count x.1))
         (D.is_honest x.1 → HasNoHeader (D.seen disk))
@@ -116,6 +126,7 @@ pub fn open<D: Disk>(alloc: Global, disk: D) -> Result<(Book<Catalog>, Keeper<D>
     ensures unchanged { IfErr result
         (λ x. (x.0 ≡ Refusal.Fault → ⊥) →
         ReadsOnly D.seen D.may_leave D.moment D.left_since disk x.1) }
+    // What the device tells, and its length.
     ensures honest { IfOk result (λ x. D.is_honest x.1.disk → D.is_honest disk) }
     ensures honest_in_refusal { IfErr result (λ x. D.is_honest x.1 → D.is_honest disk) }
     ensures size { IfOk result (λ x. length (D.seen x.1.disk) ≡ length (D.seen disk)) }

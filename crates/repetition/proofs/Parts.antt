@@ -117,13 +117,16 @@ calls_rest (r ∷ rs) n m s end k run = absurd run.1
 
 -- The numbers that were live, and all that is behind them.
 pub record NumbersRest (rs : List Record) (s : State) (end : State) : Type 0 where
+  -- the records, part by part
   pub numbers : List ℕ
   pub live : List Record
   pub journal : List Record
   pub is : rs ≡ map Record.Begin numbers ++ (live ++ Record.ImageEnd ∷ journal)
+  -- what each part is
   pub rise : Rise numbers
   pub above : AllByRecursion (λ m. (k : ℕ) → Lives s.live k → k < m) numbers
   pub all_live : AllByRecursion IsLiveRecord live
+  -- where they lead
   pub first : State
   pub leads : Leads HoldsLive (map Record.Begin numbers ++ live) s first
   pub settles : Settles first
@@ -324,15 +327,18 @@ collections_rest (r ∷ rs) n m s last end k run =
 -- The records are an image, from whose live calls the machine begins, and a journal that leads to
 -- the end.
 pub record IsParts (rs : List Record) (end : State) : Type 0 where
+  -- what the image shows
   pub next : ℕ
   pub wear : ℕ
   pub shown : List Collection
   pub numbers : List ℕ
   pub live : List Record
+  -- the image, and the journal behind it
   pub image : List Record
   pub journal : List Record
   pub is : rs ≡ image ++ journal
   pub is_image : IsImage next wear shown numbers live image
+  -- where they lead
   pub first : State
   pub leads : Leads HoldsLive (map Record.Begin numbers ++ live) (resting shown wear) first
   pub settles : Settles first

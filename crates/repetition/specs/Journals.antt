@@ -55,18 +55,22 @@ IsJournalRecord r = ⊥
 -- live calls of the image lead to the image's, and from it the transactions that image and journal
 -- show as committed lead, each run whole, to the content.
 pub record StandsFor (bytes : List ℕ) (content : List Collection) : Type 0 where
+  -- the records that the disk holds
   pub blocks : List (List Record)
   pub holds : Holds bytes blocks
+  -- which of them are the image, and which the journal
   pub image : List Record
   pub journal : List Record
   pub split : records_in blocks ≡ image ++ journal
   pub all_journal : AllByRecursion IsJournalRecord journal
+  -- what the image shows
   pub next : ℕ
   pub wear : ℕ
   pub shown : List Collection
   pub numbers : List ℕ
   pub live : List Record
   pub is_image : IsImage next wear shown numbers live image
+  -- to where the live calls of the image lead, and the committed transactions
   pub start : List Collection
   pub leads : Leads Does (calls_of (map (λ e. e.1) (owned_entries live))) start shown
   pub serial : Serial (committed (acts_of (records_in blocks))) start content

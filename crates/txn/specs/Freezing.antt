@@ -22,16 +22,19 @@ use Rattle.txn.specs.Books.{BookState}
 -- be. It covers every record up to now.
 pub record IsImageOf {S : Type 0} (collections : S → List Collection) (b : BookState S)
     (image : Image) : Type 0 where
+  -- the records, and what they tell
   pub numbers : List ℕ
   pub are_live : (n : ℕ) → Contains numbers n ↔ Lives b.state.live n
   pub records : List Record
   pub is_image : IsImage b.next b.state.wear (collections b.state.now) numbers
       (live_records b.state) records
   pub good : AreRecords None records
+  -- their blocks
   pub groups : List (List Record)
   pub are : records ≡ flat_map (λ g. g) groups
   pub packed : ArePacked groups × AllByRecursion (λ g. 0 < length g) groups
   pub blocks : AreWhole image.blocks.items groups
+  -- the position behind the last record, and the count of commits and makes
   pub end : image.end ≡ b.end + length b.pending
   pub place : image.place ≡ b.places
 

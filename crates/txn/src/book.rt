@@ -415,7 +415,7 @@ impl<B: Parts + Coded> Book<B> {
         ensures err { IfErr result (RunRefused self.now number) }
     {
         self.check_live(number)?;
-        if !self.machine.is_running(number) {
+        if self.machine.live().is_falling(number) {
             return Err(Refusal::Falling);
         }
         Ok(())

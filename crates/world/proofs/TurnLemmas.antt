@@ -92,12 +92,14 @@ pub record IsTurned {D : Type 0} (seen : D → List ℕ) (may_leave : D → List
     (start : List Collection) (past : Past) (w : Parts D)
     (had : HasPast seen may_leave start past w) (disk : D) (area : Area) (fails : Bool)
     (waits : List Block) (mark : ℕ) : Type 0 where
+  -- the records that were brought, and the blocks that wait
   pub front : List Record
   pub groups : List (List Record)
   pub records : records_of past ≡ front ++ (records_in groups ++ w.book.pending)
   pub carried : Carries (length front) (places front) waits groups
   pub end : w.book.end ≡ length front + length (records_in groups)
   pub place : w.book.place ≡ places front + places (records_in groups)
+  -- the blocks that were kept
   pub kept : List (List Record)
   pub later : List Record
   pub split : had.stands.since ≡ records_in kept ++ later
@@ -105,13 +107,17 @@ pub record IsTurned {D : Type 0} (seen : D → List ℕ) (may_leave : D → List
   pub even : length front < length had.covered + length (records_in kept) → kept ≡ []
   pub between : (position : ℕ) → IsBetween (length had.front) had.groups w.book position →
       IsBetween (length front) groups w.book position
+  -- the mark
   pub rises : w.mark ≤ mark
   pub marked : mark ≤ places had.covered + places (records_in kept)
+  -- what a stop leaves
   pub stop : (c : List ℕ) → may_leave disk c → Yields start past (take mark (committed_in past)) c
+  -- the area in use, until a fault
   pub was_fine : fails ≡ false → w.failed ≡ false
   pub in_use : fails ≡ false → IsInUse seen may_leave area disk (had.old ++ kept)
   pub base : base_of area ≡ base_of w.area
   pub size : size_of area ≡ size_of w.area
+  -- the image that is laid beside it
   pub laid : (l : Laying) (bodies : List (List ℕ)) → w.image ≡ Some l →
       IsBeingLaid l (seen w.disk) bodies → IsBeingLaid l (seen disk) bodies
   pub ahead : fails ≡ false → (l : Laying) → w.image ≡ Some l →

@@ -63,6 +63,7 @@ GoAlong rs s t = (first rest : List Record) → rs ≡ first ++ rest →
 -- the covered ones lead.
 pub record StandIn (start : List Collection) (wear : ℕ) (records : List Record) (now : State)
     (blocks : List (List Record)) (covered : List Record) : Type 0 where
+  -- the records behind those that are covered
   pub since : List Record
   pub split : records ≡ covered ++ since
   -- where the covered records lead, and the others from there
@@ -128,14 +129,18 @@ IsBetween front groups book position =
 pub record IsImaging {D : Type 0} (seen : D → List ℕ) (start : List Collection) (wear : ℕ)
     (past : Past) (w : Parts D) (stored front : ℕ) (groups : List (List Record)) (l : Laying) : Type
     0 where
+  -- the other area, into which it is laid
   pub other : IsOther w.area l.area
+  -- the records that it covers, and its blocks, which stand for them
   pub covered : List Record
   pub blocks : List (List Record)
   pub some : blocks ≢ []
   pub stands : StandIn start wear (records_of past) w.book.state blocks covered
+  -- its end, and what the disk holds of it
   pub end : l.image.end ≡ length covered
   pub place : l.image.place ≡ places covered
   pub laid : IsBeingLaid l (seen w.disk) (map spelling blocks)
+  -- its end among the blocks that were brought and those that wait
   pub ahead : stored ≤ l.image.end
   pub between : IsBetween front groups w.book l.image.end
 

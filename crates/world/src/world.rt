@@ -319,25 +319,31 @@ pub fn play<D: Disk>(
     world: &mut World<D>,
     steps: &[Step],
 ) -> Result<Vec<Answer>, Refusal>
+    // Which past the world has then.
     ensures past { (start : List Collection) (past : Past) →
         HasPast D.seen D.may_leave start past (parts world.old) →
         IfOk result (λ answers. HasPast D.seen D.may_leave start
         (past ++ zip steps.now answers.items) (parts world.new)) }
+    // What a stop leaves.
     ensures any_moment { (start : List Collection) (past : Past) →
         HasPast D.seen D.may_leave start past (parts world.old) →
         IfOk result (λ answers. LeavesOnly D.moment D.left_since world.old.keeper.disk
         world.new.keeper.disk
         (Yields start (past ++ zip steps.now answers.items) (acknowledged past))) }
+    // What the past says of the book.
     ensures one_history { (start : List Collection) (past : Past) →
         HasPast D.seen D.may_leave start past (parts world.old) →
         IfOk result (λ answers. IsOneHistory start (past ++ zip steps.now answers.items)
         world.new.book) }
+    // What it answers, step by step.
     ensures each { IfOk result (λ answers. length answers.items ≡ length steps.now) }
     ensures own { IfOk result (λ answers. AreAnswered (zip steps.now answers.items)) }
     ensures drawn { IfOk result (λ answers. Leads Draws (zip steps.now answers.items) world.old.next
         world.new.next) }
+    // Why it is refused, and that no step is taken then.
     ensures only { IsOkUnless result Refusal.NoMemory }
     ensures err { OnErr result (world.new ≡ world.old) }
+    // What the device tells, and how each step moves the parts.
     ensures honest { D.is_honest world.new.keeper.disk → D.is_honest world.old.keeper.disk }
     ensures moves { IfOk result (λ answers. Leads (Moves D.fault_count)
         (zip steps.now answers.items)

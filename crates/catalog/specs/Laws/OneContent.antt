@@ -1,6 +1,6 @@
 -- The laws of one content, from those of the five kinds.
 use Rattle.std.proofs.Common.{◌≡◌, Option, Some, None, MatchOption, refl, ◌∙◌, ap, ℕ, ◌+◌, ◌⊎◌, sym}
-use Rattle.std.proofs.Common.{subst, inl, inr, arith}
+use Rattle.std.proofs.Common.{subst, arith}
 use Rattle.calls.specs.declared.kind.Kind.{Kind}
 use Rattle.calls.specs.declared.call.Call.{Call}
 use Rattle.calls.specs.declared.reply.Reply.{Reply}

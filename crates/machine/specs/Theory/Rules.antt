@@ -19,11 +19,13 @@ AllDiffer (x ∷ xs) = Lacks xs x × AllDiffer xs
 -- S: contents. E: calls with their replies and owners. M: what is made. N: needs, each with its
 -- owner.
 pub record Rules (S E M N : Type 0) : Type 1 where
+  -- ---- what calls and makings do
   -- the call, answered so, leads from one content to another
   pub does : S → E → S → Type 0
   -- what the call did is taken back, from the first content to the second
   pub undoes : E → S → S → Type 0
   pub makes : S → M → S → Type 0
+  -- ---- what a call leaves, and who can ask for it where
   -- the calls that it puts off to the commit
   pub leaves : E → List E
   -- a client can ask for it
@@ -32,6 +34,7 @@ pub record Rules (S E M N : Type 0) : Type 1 where
   pub put_off : E → Type 0
   -- it can run in a commit
   pub late : E → Type 0
+  -- ---- whose calls and needs are, and which needs stand side by side
   pub owner : E → ℕ
   pub need : E → N
   pub holder : N → ℕ
@@ -44,6 +47,7 @@ Apart rules a b = rules.clear (rules.need a) (rules.need b)
 
 -- What must hold of the rules.
 pub record RuleLaws {S E M N : Type 0} (rules : Rules S E M N) : Type 0 where
+  -- ---- calls and makings
   pub calls : Laws rules.does rules.undoes (Apart rules) rules.asked rules.late
   -- the end state is exact
   pub exact : (e : E) (s t u : S) → rules.does s e t → rules.does s e u → t ≡ u
@@ -51,8 +55,10 @@ pub record RuleLaws {S E M N : Type 0} (rules : Rules S E M N) : Type 0 where
   -- making moves left past each call
   pub made_left : (a : E) (k : M) (s t u : S) → rules.asked a → rules.does s a t →
       rules.makes t k u → (v : S) × rules.makes s k v × rules.does v a u
+  -- ---- needs
   pub turn : (n k : N) → rules.clear n k → rules.clear k n
   pub held : (e : E) → rules.holder (rules.need e) ≡ rules.owner e
+  -- ---- laters
   -- what a call leaves: late, under the call's need, different, and ready once the call is made
   pub left_late : (a : E) → rules.asked a → AllByRecursion rules.late (rules.leaves a)
   pub left_need : (a : E) → AllByRecursion (λ d. rules.need d ≡ rules.need a) (rules.leaves a)
@@ -65,6 +71,7 @@ pub record RuleLaws {S E M N : Type 0} (rules : Rules S E M N) : Type 0 where
   pub past_later : (b d : E) (s t : S) → rules.owner b ≡ rules.owner d → rules.late b →
       rules.late d → IsOther (Apart rules) b d → rules.does s b t → Ready rules.does s d →
       Ready rules.does t d
+  -- ---- calls that a client put off
   -- one that a client put off stays so past all that happens
   pub put_late : (d : E) → rules.put_off d → rules.late d
   pub put_other : (b d : E) → rules.late b → rules.put_off d →

@@ -1,12 +1,7 @@
-use Rattle.std.proofs.Common.{refl}
-use Rattle.std.proofs.lemmas.Grind.{common_steps}
-use Rattle.std.proofs.lemmas.Grind.{common_steps}
-use Rattle.std.proofs.lemmas.Grind.{common_steps}
-use Rattle.std.proofs.Common.{arith, rules}
+use Rattle.std.proofs.Common.{arith}
+use Rattle.calls.proofs.KindNames.{no_kind}
 use Rattle.calls.proofs.kind.Kind.named.Goals as goal
 
-pub returns-in-pool : goal.returns-in-pool
-returns-in-pool c = grind (arith, common_steps)
-
-pub returns-in-queue : goal.returns-in-queue
-returns-in-queue c = grind (arith, common_steps)
+pub returns : goal.returns
+returns c = λ k. no_kind c.args.text.now
+    (λ k lt. c.loop-kind.invariant.others k (omega (arith, c.loop-kind-test.false))) k
