@@ -1,4 +1,4 @@
-use Rattle.std.proofs.Common.{refl, arith, rules}
+use Rattle.std.proofs.Common.{refl, arith}
 use Rattle.record_reading.proofs.RecordLaws.{Fits-read, is_found, is_only, is_unsound, is_nothing}
 use Rattle.record_reading.proofs.RecordLaws.{refuted}
 use Rattle.record_reading.proofs.decoding.decode.Goals as goal
