@@ -214,10 +214,11 @@ module _ (w : Waiting) (full : List Filled) (f : Filled) (last spare : Drafted) 
       draft
 
   -- one that was filled is no freeze
-  pub filled_ends : f.sealed ≡ false → freezes closed ≡ freezes w
-  filled_ends is = closed_ends ∙ ap
-      (λ s. freezes w ++ sealed_end s (w.handed.end + length (waiting w))) is ∙
-      append-nil (freezes w)
+  pub filled_ends : (before : Waiting) → w ≡ before → f.sealed ≡ false →
+      freezes closed ≡ freezes before
+  filled_ends before same is =
+      closed_ends ∙ ap (λ s. freezes w ++ sealed_end s (w.handed.end + length (waiting w))) is ∙
+      append-nil (freezes w) ∙ ap freezes same
 
   -- one that was sealed is
   pub sealed_there : f.sealed ≡ true → 0 < length w.last.records → (n : ℕ) →

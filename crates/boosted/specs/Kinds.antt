@@ -1,12 +1,14 @@
 -- The calls of a kind of collection, the refusal of others, what they mean, and their laws.
-use Rattle.std.specs.Prelude.{◌≡◌, ℕ, ℤ, pos}
+use Rattle.std.specs.Prelude.{◌≡◌, ℕ, ◌+◌, ◌⊎◌, ℤ, pos}
+use Rattle.std.specs.List.{AllByRecursion}
 use Rattle.std.specs.FinSet as set
 use Rattle.std.specs.FinMap as map
 use Rattle.calls.specs.declared.kind.Kind.{Kind}
 use Rattle.calls.specs.declared.call.Call.{Call}
 use Rattle.calls.specs.declared.reply.Reply.{Reply}
 use Rattle.calls.specs.declared.refusal.Refusal.{Refusal}
-use Rattle.calls.specs.Rules.{kind_of}
+use Rattle.calls.specs.Rules.{kind_of, left_by, inverse_of, Undoes, Apart, Askable, Deferrable}
+use Rattle.calls.specs.Rules.{Disposable}
 use Rattle.calls.specs.Bags.{Bag}
 use Rattle.calls.specs.Sets as sets
 use Rattle.calls.specs.Maps as maps
@@ -28,7 +30,7 @@ use Rattle.calls.proofs.KindLaws.{queue_deferred, counter_deferred, pool_deferre
 use Rattle.calls.proofs.KindLaws.{map_leaves, queue_leaves, counter_leaves, pool_leaves}
 use Rattle.calls.proofs.KindLaws.{pool_deferred_stays, pool_past_call, pool_past_later}
 use Rattle.calls.proofs.KindLaws.{pool_past_undoing}
-use Rattle.boosted.specs.Laws.{ContentLaws, BoostedLaws}
+use Rattle.boosted.specs.Laws.{BoostedLaws}
 
 abbrev pub IsOf : Kind → Call → Type 0
 IsOf k c = kind_of c ≡ k
@@ -64,96 +66,89 @@ counter_meaning =
 abbrev pub pool_meaning : Meaning sets.NumberSet (Unit {0})
 pool_meaning = meaning_of Kind.Pool pools.Answers pools.after set.empty (λ s n. Unit {0})
 
-set_content : (s : sets.NumberSet) → ContentLaws set_meaning s
-set_content s = record {
-  goes_back = λ t at c r ask d. (set_back s t c r d, λ u. set_back_only s t u c r d);
-  commutes = λ at bt a ra b rb ask also apart m t. set_commutes s m t a ra b rb (apart refl);
-  moves_left = λ at bt a ra b rb ask late apart m t. set_commutes s m t a ra b rb (apart refl);
-  answered_belongs = λ at c r. set_answered s c r;
-  wears = λ n at c r reached h. tt;
-  deferred_is_ready = λ at d. set_deferred s d;
-  deferred_stays_ready = λ at bt c r d l h. set_same s (sets.after s c r) d
-      (deferrable_disposable d l);
-  leaves_ready = λ at c r. set_leaves s c r;
-  stays_past_calls = λ at bt c r d ask l h. set_same s (sets.after s c r) d l;
-  stays_past_laters = λ at bt b d m l other h. set_same s (sets.after s b Reply.Done) d l;
-  stays_past_undoing = λ u at bt c r d ask l apart back. set_same s u d l;
-}
+-- The laws of one collection of a kind, from those of its calls.
+module _ {S : Type 0} (answers : S → Call → Reply → Type 0) (after : S → Call → Reply → S) where
+  abbrev Does : S → Call → Reply → S → Type 0
+  Does s c r t = answers s c r × (t ≡ after s c r)
+
+  abbrev Back : S → Call → Reply → S → Type 0
+  Back = Undoes Does inverse_of
+
+  module _ {kind : Kind} {empty : S} {within : S → ℕ → Type 0} (starts : within empty 0)
+      (wears : (s : S) (n : ℕ) (c : Call) (r : Reply) → within s n → answers s c r →
+      within (after s c r) (n + 1))
+      (answered : (s : S) (c : Call) (r : Reply) → answers s c r → IsOf kind c)
+      (deferred : (s : S) (d : Call) → IsOf kind d → Deferrable d → answers s d Reply.Done)
+      (leaves : (s : S) (c : Call) (r : Reply) → answers s c r →
+      AllByRecursion (λ d. answers (after s c r) d Reply.Done) (left_by c r))
+      (commutes : (s m t : S) (a : Call) (ra : Reply) (b : Call) (rb : Reply) →
+      Apart a ra b rb → Does s a ra m → Does m b rb t → (u : S) × Does s b rb u × Does u a ra t)
+      (back : (s t : S) (c : Call) (r : Reply) → Askable c → Does s c r t → Back t c r s)
+      (back_only : (s t u : S) (c : Call) (r : Reply) → Askable c → Does s c r t → Back t c r u →
+      u ≡ s) where
+    -- A later that is Done stays so past what is put off, calls, laters and undoings.
+    laws_of : ((s t : S) (d : Call) → Deferrable d → answers s d Reply.Done →
+        answers t d Reply.Done) →
+        ((s : S) (c : Call) (r : Reply) (d : Call) → Askable c → Disposable d → answers s c r →
+        answers s d Reply.Done → answers (after s c r) d Reply.Done) →
+        ((s : S) (b d : Call) → Disposable b → Disposable d →
+        (b ≡ d → ⊥) ⊎ Apart b Reply.Done d Reply.Done → answers s b Reply.Done →
+        answers s d Reply.Done → answers (after s b Reply.Done) d Reply.Done) →
+        ((s u : S) (c : Call) (r : Reply) (d : Call) → Disposable d → Apart c r d Reply.Done →
+        Back s c r u → answers s d Reply.Done → answers u d Reply.Done) →
+        BoostedLaws (meaning_of kind answers after empty within)
+    laws_of put_off calls laters undoings = record {
+      starts_within = starts;
+      holds = λ s. record {
+        goes_back = λ t at c r ask d. (back s t c r ask d, λ u. back_only s t u c r ask d);
+        commutes = λ at bt a ra b rb ask also apart m t. commutes s m t a ra b rb (apart refl);
+        moves_left = λ at bt a ra b rb ask late apart m t. commutes s m t a ra b rb (apart refl);
+        answered_belongs = λ at. answered s;
+        wears = λ n at. wears s n;
+        deferred_is_ready = λ at. deferred s;
+        deferred_stays_ready = λ at bt c r d l h. put_off s (after s c r) d l;
+        leaves_ready = λ at. leaves s;
+        stays_past_calls = λ at bt. calls s;
+        stays_past_laters = λ at bt b d m l other. laters s b d m l (other refl);
+        stays_past_undoing = λ u at bt c r d ask l apart. undoings s u c r d l (apart refl);
+      };
+    }
+
+    -- It does where it is Done at every content once it is at one.
+    laws_where_same : ((s t : S) (d : Call) → Disposable d → answers s d Reply.Done →
+        answers t d Reply.Done) → BoostedLaws (meaning_of kind answers after empty within)
+    laws_where_same same =
+        laws_of (λ s t d l. same s t d (deferrable_disposable d l))
+        (λ s c r d ask l h. same s (after s c r) d l)
+        (λ s b d m l other h. same s (after s b Reply.Done) d l)
+        (λ s u c r d l apart back. same s u d l)
 
 pub set_laws : BoostedLaws set_meaning
-set_laws = record { starts_within = tt; holds = set_content }
-
-map_content : (s : maps.Table) → ContentLaws map_meaning s
-map_content s = record {
-  goes_back = λ t at c r ask d. (map_back s t c r d, λ u. map_back_only s t u c r d);
-  commutes = λ at bt a ra b rb ask also apart m t. map_commutes s m t a ra b rb (apart refl);
-  moves_left = λ at bt a ra b rb ask late apart m t. map_commutes s m t a ra b rb (apart refl);
-  answered_belongs = λ at c r. map_answered s c r;
-  wears = λ n at c r reached h. tt;
-  deferred_is_ready = λ at d. map_deferred s d;
-  deferred_stays_ready = λ at bt c r d l h. map_same s (maps.after s c r) d
-      (deferrable_disposable d l);
-  leaves_ready = λ at c r. map_leaves s c r;
-  stays_past_calls = λ at bt c r d ask l h. map_same s (maps.after s c r) d l;
-  stays_past_laters = λ at bt b d m l other h. map_same s (maps.after s b Reply.Done) d l;
-  stays_past_undoing = λ u at bt c r d ask l apart back. map_same s u d l;
-}
+set_laws =
+    laws_where_same sets.Answers sets.after tt (λ s n c r w h. tt) set_answered set_deferred
+    set_leaves set_commutes (λ s t c r ask. set_back s t c r)
+    (λ s t u c r ask. set_back_only s t u c r) set_same
 
 pub map_laws : BoostedLaws map_meaning
-map_laws = record { starts_within = tt; holds = map_content }
-
-queue_content : (s : Bag) → ContentLaws queue_meaning s
-queue_content s = record {
-  goes_back = λ t at c r ask d. (queue_back s t c r ask d, λ u. queue_back_only s t u c r ask d);
-  commutes = λ at bt a ra b rb ask also apart m t. queue_commutes s m t a ra b rb (apart refl);
-  moves_left = λ at bt a ra b rb ask late apart m t. queue_commutes s m t a ra b rb (apart refl);
-  answered_belongs = λ at c r. queue_answered s c r;
-  wears = λ n at c r reached h. tt;
-  deferred_is_ready = λ at d. queue_deferred s d;
-  deferred_stays_ready = λ at bt c r d l h. queue_same s (queues.after s c r) d
-      (deferrable_disposable d l);
-  leaves_ready = λ at c r. queue_leaves s c r;
-  stays_past_calls = λ at bt c r d ask l h. queue_same s (queues.after s c r) d l;
-  stays_past_laters = λ at bt b d m l other h. queue_same s (queues.after s b Reply.Done) d l;
-  stays_past_undoing = λ u at bt c r d ask l apart back. queue_same s u d l;
-}
+map_laws =
+    laws_where_same maps.Answers maps.after tt (λ s n c r w h. tt) map_answered map_deferred
+    map_leaves map_commutes (λ s t c r ask. map_back s t c r)
+    (λ s t u c r ask. map_back_only s t u c r) map_same
 
 pub queue_laws : BoostedLaws queue_meaning
-queue_laws = record { starts_within = tt; holds = queue_content }
-
-counter_content : (s : ℤ) → ContentLaws counter_meaning s
-counter_content s = record {
-  goes_back = λ t at c r ask d. (counter_back s t c r d, λ u. counter_back_only s t u c r d);
-  commutes = λ at bt a ra b rb ask also apart m t. counter_commutes s m t a ra b rb (apart refl);
-  moves_left = λ at bt a ra b rb ask late apart m t. counter_commutes s m t a ra b rb (apart refl);
-  answered_belongs = λ at c r. counter_answered s c r;
-  wears = λ n at c r. counter_within s n c r;
-  deferred_is_ready = λ at d. counter_deferred s d;
-  deferred_stays_ready = λ at bt c r d l h. counter_same s (counters.after s c r) d
-      (deferrable_disposable d l);
-  leaves_ready = λ at c r. counter_leaves s c r;
-  stays_past_calls = λ at bt c r d ask l h. counter_same s (counters.after s c r) d l;
-  stays_past_laters = λ at bt b d m l other h. counter_same s (counters.after s b Reply.Done) d l;
-  stays_past_undoing = λ u at bt c r d ask l apart back. counter_same s u d l;
-}
+queue_laws =
+    laws_where_same queues.Answers queues.after tt (λ s n c r w h. tt) queue_answered
+    queue_deferred queue_leaves queue_commutes queue_back queue_back_only queue_same
 
 pub counter_laws : BoostedLaws counter_meaning
-counter_laws = record { starts_within = counter_starts; holds = counter_content }
-
-pool_content : (s : sets.NumberSet) → ContentLaws pool_meaning s
-pool_content s = record {
-  goes_back = λ t at c r ask d. (pool_back s t c r ask d, λ u. pool_back_only s t u c r ask d);
-  commutes = λ at bt a ra b rb ask also apart m t. pool_commutes s m t a ra b rb (apart refl);
-  moves_left = λ at bt a ra b rb ask late apart m t. pool_commutes s m t a ra b rb (apart refl);
-  answered_belongs = λ at c r. pool_answered s c r;
-  wears = λ n at c r reached h. tt;
-  deferred_is_ready = λ at d. pool_deferred s d;
-  deferred_stays_ready = λ at bt c r d l h. pool_deferred_stays s (pools.after s c r) d l;
-  leaves_ready = λ at c r. pool_leaves s c r;
-  stays_past_calls = λ at bt c r d ask l. pool_past_call s c r d ask l;
-  stays_past_laters = λ at bt b d m l other. pool_past_later s b d m l (other refl);
-  stays_past_undoing = λ u at bt c r d ask l apart. pool_past_undoing s u c r d l (apart refl);
-}
+counter_laws =
+    laws_where_same counters.Answers counters.after counter_starts counter_within
+    counter_answered counter_deferred counter_leaves counter_commutes
+    (λ s t c r ask. counter_back s t c r)
+    (λ s t u c r ask. counter_back_only s t u c r) counter_same
 
 pub pool_laws : BoostedLaws pool_meaning
-pool_laws = record { starts_within = tt; holds = pool_content }
+pool_laws =
+    laws_of pools.Answers pools.after tt (λ s n c r w h. tt) pool_answered pool_deferred
+    pool_leaves pool_commutes pool_back pool_back_only pool_deferred_stays pool_past_call pool_past_later
+    pool_past_undoing

@@ -6,7 +6,7 @@ use Rattle.std.proofs.lemmas.Bool.{eqb-true}
 use Rattle.record_format.specs.Records.{number}
 use Rattle.record_reading.specs.RecordReading.{Reader, plain, made, both, entry_at, read_at}
 use Rattle.record_reading.specs.RecordReading.{number_in, numbered}
-use Rattle.record_reading.proofs.RecordFields.{IsBytes, which, went, some_is, Takes, Takes-then}
+use Rattle.record_reading.proofs.RecordFields.{IsBytes, bound, went, some_is, Takes, Takes-then}
 use Rattle.record_reading.proofs.RecordFields.{number_takes, number_again}
 
 -- what is known of what was read
@@ -31,25 +31,13 @@ both_takes : {X Y : Type 0} (sx : X → List ℕ) (fx : X → Type 0) (rx : Read
     → (bytes : List ℕ) (p : (X × Y) × List ℕ) → IsBytes bytes → both rx ry bytes ≡ Some p →
     IsTaken (λ (z : X × Y). sx z.0 ++ sy z.1) (λ (z : X × Y). fx z.0 × fy z.1) bytes p
 both_takes {X} {Y} sx fx rx sy fy ry reads_x reads_y bytes p f e =
-    elim (which (rx bytes)) [
-      | inl h ↦ let e1 = simp h at e in absurd cc
-      | inr (x, h) ↦
-          let e1 = simp h at e in
-          let first = reads_x.takes bytes x f h in
-          elim (which (ry x.1)) [
-            | inl k ↦ let e2 = simp k at e1 in absurd cc
-            | inr (y, k) ↦
-                let e2 = simp k at e1 in
-                let second = reads_y.takes x.1 y first.0.rest_fits k in
-                let found : (X × Y) × List ℕ = ((x.0, y.0), y.1) in
-                subst (IsTaken (λ (z : X × Y). sx z.0 ++ sy z.1) (λ (z : X × Y). fx z.0 × fy z.1)
-                bytes) (some_is found p e2) (
-                  Takes-then bytes (sx x.0) x.1 (sy y.0) y.1 first.0
-                      second.0,
-                  (first.1, second.1),
-                )
-          ]
-    ]
+    let x = bound (rx bytes) _ p e in
+    let first = reads_x.takes bytes x.0 f x.1 in
+    let y = bound (ry x.0.1) _ p x.2 in
+    let second = reads_y.takes x.0.1 y.0 first.0.rest_fits y.1 in
+    let found : (X × Y) × List ℕ = ((x.0.0, y.0.0), y.0.1) in
+    subst (IsTaken (λ (z : X × Y). sx z.0 ++ sy z.1) (λ (z : X × Y). fx z.0 × fy z.1) bytes)
+    (some_is found p y.2) (Takes-then _ _ _ _ _ first.0 second.0, (first.1, second.1))
 
 both_again : {X Y : Type 0} (sx : X → List ℕ) (fx : X → Type 0) (rx : Reader X) (sy : Y → List ℕ)
     (fy : Y → Type 0) (ry : Reader Y) → Reads sx fx rx → Reads sy fy ry
@@ -106,16 +94,12 @@ pub made_taken : {X Y : Type 0} (sx : X → List ℕ) (fx : X → Type 0) (rx : 
     (bytes : List ℕ) (y : Y × List ℕ) → IsBytes bytes → made make rx bytes ≡ Some y →
     IsTaken spell fits (front ++ bytes) y
 made_taken {X} {Y} sx fx rx reads spell fits front make is good bytes y f e =
-    elim (which (rx bytes)) [
-      | inl h ↦ let e1 = simp h at e in absurd cc
-      | inr (x, h) ↦
-          let e1 = simp h at e in
-          let t = reads.takes bytes x f h in
-          let found : Y × List ℕ = (make x.0, x.1) in
-          let whole : Takes (front ++ bytes) (spell (make x.0)) x.1 =
-          rw (is x.0 t.1) (Takes-behind front bytes (sx x.0) x.1 t.0) in
-          subst (IsTaken spell fits (front ++ bytes)) (some_is found y e1) (whole, good x.0 t.1)
-    ]
+    let x = bound (rx bytes) _ y e in
+    let t = reads.takes bytes x.0 f x.1 in
+    let found : Y × List ℕ = (make x.0.0, x.0.1) in
+    let whole : Takes (front ++ bytes) (spell (make x.0.0)) x.0.1 =
+    rw (is x.0.0 t.1) (Takes-behind front bytes (sx x.0.0) x.0.1 t.0) in
+    subst (IsTaken spell fits (front ++ bytes)) (some_is found y x.2) (whole, good x.0.0 t.1)
 
 pub made_behind : {X Y : Type 0} (sx : X → List ℕ) (fx : X → Type 0) (rx : Reader X) →
     Reads sx fx rx → (spell : Y → List ℕ) (fits : Y → Type 0) (code : ℕ) (make : X → Y)
@@ -168,19 +152,11 @@ pub numbered_behind_code : {X : Type 0} (spell : X → List ℕ) (fits : X → T
     (λ (e : ℕ × (ℕ → X)). IsNumbered spell fits e.0 e.1) table
     → (code : ℕ) → Behind spell fits code (numbered table code)
 numbered_behind_code {X} spell fits table good code bytes y f e =
-    elim (which (number_in 8 bytes)) [
-      | inl h ↦ let e1 = simp h at e in absurd cc
-      | inr (n, h) ↦
-          let e1 = simp h at e in
-          let t = number_takes 8 bytes n f h in
-          elim (which (entry_at table code)) [
-            | inl k ↦ let e2 = simp k at e1 in absurd cc
-            | inr (make, k) ↦
-                let e2 = simp k at e1 in
-                let is = entry_numbered spell fits table good code make k n.0 t.1 in
-                let found : X × List ℕ = (make n.0, n.1) in
-                let whole : Takes (code ∷ bytes) (spell (make n.0)) n.1 =
-                rw (is.0) (Takes-behind (code ∷ []) bytes (number 8 n.0) n.1 t.0) in
-                subst (IsTaken spell fits (code ∷ bytes)) (some_is found y e2) (whole, is.1)
-          ]
-    ]
+    let n = bound (number_in 8 bytes) _ y e in
+    let t = number_takes 8 bytes n.0 f n.1 in
+    let m = bound (entry_at table code) _ y n.2 in
+    let is = entry_numbered spell fits table good code m.0 m.1 n.0.0 t.1 in
+    let found : X × List ℕ = (m.0 n.0.0, n.0.1) in
+    let whole : Takes (code ∷ bytes) (spell (m.0 n.0.0)) n.0.1 =
+    rw (is.0) (Takes-behind (code ∷ []) bytes (number 8 n.0.0) n.0.1 t.0) in
+    subst (IsTaken spell fits (code ∷ bytes)) (some_is found y m.2) (whole, is.1)

@@ -12,7 +12,7 @@ use Rattle.byteorder.specs.Endian.{big_from, big_number}
 use Rattle.byteorder.specs.Numbers.{big_from-cons, big_from-take, big_from-lt}
 use Rattle.byteorder.specs.Numbers.{big_number-reads_back, length-bytes_high_first}
 use Rattle.record_format.specs.Records.{number}
-use Rattle.record_reading.specs.RecordReading.{number_in}
+use Rattle.record_reading.specs.RecordReading.{◌>>=◌, number_in}
 
 abbrev pub IsBytes : List ℕ → Type 0
 IsBytes bytes = (i : ℕ) → get_or bytes i 0 < 256
@@ -37,6 +37,12 @@ IsBytes-rest b bytes h i = h (suc i)
 pub which : {A : Type 0} (r : Option A) → (r ≡ None) ⊎ ((x : A) × (r ≡ Some x))
 which None = inl refl
 which (Some x) = inr (x, refl)
+
+-- what is read in two steps was read in each
+pub bound : {A B : Type 0} (r : Option A) (f : A → Option B) (y : B) → r >>= f ≡ Some y →
+    (x : A) × (r ≡ Some x) × (f x ≡ Some y)
+bound None f y e = absurd cc
+bound (Some x) f y e = (x, refl, e)
 
 pub went : (b : Bool) → (b ≡ true) ⊎ (b ≡ false)
 went true = inl refl

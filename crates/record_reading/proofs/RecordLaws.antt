@@ -32,7 +32,7 @@ use Rattle.record_reading.specs.RecordReading.{numbered_behind, journal_records,
 use Rattle.record_reading.specs.RecordReading.{image_records, record_behind, record_in}
 use Rattle.record_reading.proofs.RecordNames.{IsName-from_test, test_from_IsName}
 use Rattle.record_reading.proofs.RecordFields.{IsBytes, IsBytes-drop, IsBytes-take, IsBytes-rest}
-use Rattle.record_reading.proofs.RecordFields.{which, went, some_is, Takes, Takes-then}
+use Rattle.record_reading.proofs.RecordFields.{which, bound, went, some_is, Takes, Takes-then}
 use Rattle.record_reading.proofs.RecordFields.{number_takes, number_again}
 use Rattle.record_reading.proofs.Readers.{IsTaken, Reads, number_reads, both_reads, made_again}
 use Rattle.record_reading.proofs.Readers.{Behind, plain_behind, made_taken, made_behind}
@@ -189,32 +189,17 @@ named_takes : (bytes : List ℕ) (x : Kind × List ℕ × List ℕ) → IsBytes 
     named_in bytes ≡ Some x → Takes bytes (named x.0 x.1) x.2 × IsName x.1
 unfolding named_in
 named_takes bytes x f e =
-    elim (which (byte_in bytes)) [
-      | inl h ↦ let e1 = simp h at e in absurd cc
-      | inr (code, h) ↦
-          let e1 = simp h at e in
-          let first = byte_takes bytes code f h in
-          elim (which (kind_of code.0)) [
-            | inl k ↦ let e2 = simp k at e1 in absurd cc
-            | inr (kind, k) ↦
-                let e2 = simp k at e1 in
-                let code_is = code_of-kind code.0 kind k in
-                elim (which (name_in code.1)) [
-                  | inl n ↦ let e3 = simp n at e2 in absurd cc
-                  | inr (name, n) ↦
-                      let e3 = simp n at e2 in
-                      let second = name_takes code.1 name first.0.rest_fits n in
-                      let both = Takes-then bytes (code.0 ∷ []) code.1 (length name.0 ∷ name.0)
-                      name.1 first.0 second.0 in
-                      let whole : Takes bytes (named kind name.0) name.1 =
-                      subst (λ (b : ℕ). Takes bytes (b ∷ length name.0 ∷ name.0) name.1)
-                      (sym code_is) both in
-                      let found : Kind × List ℕ × List ℕ = (kind, name.0, name.1) in
-                      subst (λ (y : Kind × List ℕ × List ℕ). Takes bytes (named y.0 y.1) y.2 ×
-                      IsName y.1) (some_is found x e3) (whole, second.1)
-                ]
-          ]
-    ]
+    let code = bound (byte_in bytes) _ x e in
+    let first = byte_takes bytes code.0 f code.1 in
+    let kind = bound (kind_of code.0.0) _ x code.2 in
+    let name = bound (name_in code.0.1) _ x kind.2 in
+    let second = name_takes code.0.1 name.0 first.0.rest_fits name.1 in
+    let whole : Takes bytes (named kind.0 name.0.0) name.0.1 =
+    subst (λ (b : ℕ). Takes bytes (b ∷ length name.0.0 ∷ name.0.0) name.0.1)
+    (sym (code_of-kind code.0.0 kind.0 kind.1)) (Takes-then _ _ _ _ _ first.0 second.0) in
+    let found : Kind × List ℕ × List ℕ = (kind.0, name.0.0, name.0.1) in
+    subst (λ (y : Kind × List ℕ × List ℕ). Takes bytes (named y.0 y.1) y.2 × IsName y.1)
+    (some_is found x name.2) (whole, second.1)
 
 named_again : (kind : Kind) (name rest : List ℕ) → IsName name →
     named_in (named kind name ++ rest) ≡ Some (kind, name, rest)
@@ -420,14 +405,10 @@ inverse_takes (code ∷ bytes) x f e =
           subst (IsTaken inverse FitsInverse (code ∷ bytes)) (some_is found x e1) (whole, tt)
       | inr other ↦
           let e1 = simp other at e in
-          elim (which (call_behind code bytes)) [
-            | inl h ↦ let e2 = simp h at e1 in absurd cc
-            | inr (c, h) ↦
-                let e2 = simp h at e1 in
-                let taken = call_takes code bytes c (IsBytes-rest code bytes f) h in
-                let found : Option Call × List ℕ = (Some c.0, c.1) in
-                subst (IsTaken inverse FitsInverse (code ∷ bytes)) (some_is found x e2) taken
-          ]
+          let c = bound (call_behind code bytes) _ x e1 in
+          let found : Option Call × List ℕ = (Some c.0.0, c.0.1) in
+          subst (IsTaken inverse FitsInverse (code ∷ bytes)) (some_is found x c.2)
+          (call_takes code bytes c.0 (IsBytes-rest code bytes f) c.1)
     ]
 
 inverse_again : (o : Option Call) (rest : List ℕ) → FitsInverse o →
@@ -464,66 +445,39 @@ called_takes : (bytes : List ℕ) (x : CallRecord × List ℕ) → IsBytes bytes
     called_in bytes ≡ Some x → IsTaken called FitsCalled bytes x
 unfolding called_in
 called_takes bytes x f e =
-    elim (which (number_in 8 bytes)) [
-      | inl h ↦ let e1 = simp h at e in absurd cc
-      | inr (n, h) ↦
-          let e1 = simp h at e in
-          let t1 = number_takes 8 bytes n f h in
-          elim (which (byte_in n.1)) [
-            | inl h2 ↦ let e2 = simp h2 at e1 in absurd cc
-            | inr (b, h2) ↦
-                let e2 = simp h2 at e1 in
-                let t2 = byte_takes n.1 b t1.0.rest_fits h2 in
-                elim (which (call_in b.1)) [
-                  | inl h3 ↦ let e3 = simp h3 at e2 in absurd cc
-                  | inr (c, h3) ↦
-                      let e3 = simp h3 at e2 in
-                      let t3 = call_in_takes b.1 c t2.0.rest_fits h3 in
-                      elim (which (reply_in c.1)) [
-                        | inl h4 ↦ let e4 = simp h4 at e3 in absurd cc
-                        | inr (r, h4) ↦
-                            let e4 = simp h4 at e3 in
-                            let t4 = reply_in_takes c.1 r t3.0.rest_fits h4 in
-                            elim (which (inverse_in r.1)) [
-                              | inl h5 ↦ let e5 = simp h5 at e4 in absurd cc
-                              | inr (o, h5) ↦
-                                  let e5 = simp h5 at e4 in
-                                  let t5 = inverse_takes r.1 o t4.0.rest_fits h5 in
-                                  let found : CallRecord × List ℕ = (
-                                    record {
-                                      number = n.0;
-                                      collection = b.0;
-                                      call = c.0;
-                                      reply = r.0;
-                                      inverse = o.0;
-                                    },
-                                    o.1,
-                                  ) in
-                                  let d1 = Takes-then bytes (number 8 n.0) n.1 (b.0 ∷ []) b.1 t1.0
-                                  t2.0 in
-                                  let d2 = Takes-then bytes (number 8 n.0 ++ b.0 ∷ []) b.1
-                                  (call c.0) c.1 d1 t3.0 in
-                                  let d3 = Takes-then bytes ((number 8 n.0 ++ b.0 ∷ []) ++ call c.0)
-                                  c.1 (reply r.0) r.1 d2 t4.0 in
-                                  let d4 = Takes-then bytes (((number 8 n.0 ++ b.0 ∷ []) ++
-                                  call c.0) ++ reply r.0) r.1 (inverse o.0) o.1 d3 t5.0 in
-                                  let whole : Takes bytes (called found.0) o.1 =
-                                  simp append_assoc (simp append_assoc at d4) in
-                                  subst (IsTaken called FitsCalled bytes) (some_is found x e5) (
-                                    whole,
-                                    record {
-                                      number = t1.1;
-                                      collection = t2.1;
-                                      call = t3.1;
-                                      reply = t4.1;
-                                      inverse = t5.1;
-                                    },
-                                  )
-                            ]
-                      ]
-                ]
-          ]
-    ]
+    let n = bound (number_in 8 bytes) _ x e in
+    let t1 = number_takes 8 bytes n.0 f n.1 in
+    let b = bound (byte_in n.0.1) _ x n.2 in
+    let t2 = byte_takes n.0.1 b.0 t1.0.rest_fits b.1 in
+    let c = bound (call_in b.0.1) _ x b.2 in
+    let t3 = call_in_takes b.0.1 c.0 t2.0.rest_fits c.1 in
+    let r = bound (reply_in c.0.1) _ x c.2 in
+    let t4 = reply_in_takes c.0.1 r.0 t3.0.rest_fits r.1 in
+    let o = bound (inverse_in r.0.1) _ x r.2 in
+    let t5 = inverse_takes r.0.1 o.0 t4.0.rest_fits o.1 in
+    let found : CallRecord × List ℕ = (
+      record {
+        number = n.0.0;
+        collection = b.0.0;
+        call = c.0.0;
+        reply = r.0.0;
+        inverse = o.0.0;
+      },
+      o.0.1,
+    ) in
+    let d3 = Takes-then _ _ _ _ _ t1.0 (Takes-then _ _ _ _ _ t2.0 t3.0) in
+    let d4 = Takes-then _ _ _ _ _ d3 t4.0 in
+    let whole : Takes bytes (called found.0) o.0.1 = Takes-then _ _ _ _ _ d4 t5.0 in
+    subst (IsTaken called FitsCalled bytes) (some_is found x o.2) (
+      whole,
+      record {
+        number = t1.1;
+        collection = t2.1;
+        call = t3.1;
+        reply = t4.1;
+        inverse = t5.1;
+      },
+    )
 
 called_again : (c : CallRecord) (rest : List ℕ) → FitsCalled c →
     called_in (called c ++ rest) ≡ Some (c, rest)
@@ -548,32 +502,18 @@ put_off_takes : (bytes : List ℕ) (x : LaterRecord × List ℕ) → IsBytes byt
     put_off_in bytes ≡ Some x → IsTaken put_off FitsPutOff bytes x
 unfolding put_off_in
 put_off_takes bytes x f e =
-    elim (which (number_in 8 bytes)) [
-      | inl h ↦ let e1 = simp h at e in absurd cc
-      | inr (n, h) ↦
-          let e1 = simp h at e in
-          let t1 = number_takes 8 bytes n f h in
-          elim (which (byte_in n.1)) [
-            | inl h2 ↦ let e2 = simp h2 at e1 in absurd cc
-            | inr (b, h2) ↦
-                let e2 = simp h2 at e1 in
-                let t2 = byte_takes n.1 b t1.0.rest_fits h2 in
-                elim (which (call_in b.1)) [
-                  | inl h3 ↦ let e3 = simp h3 at e2 in absurd cc
-                  | inr (c, h3) ↦
-                      let e3 = simp h3 at e2 in
-                      let t3 = call_in_takes b.1 c t2.0.rest_fits h3 in
-                      let found : LaterRecord × List ℕ =
-                      (record { number = n.0; collection = b.0; call = c.0 }, c.1) in
-                      let d1 = Takes-then bytes (number 8 n.0) n.1 (b.0 ∷ []) b.1 t1.0 t2.0 in
-                      let d2 = Takes-then bytes (number 8 n.0 ++ b.0 ∷ []) b.1 (call c.0) c.1 d1
-                      t3.0 in
-                      let whole : Takes bytes (put_off found.0) c.1 = simp append_assoc at d2 in
-                      subst (IsTaken put_off FitsPutOff bytes) (some_is found x e3)
-                      (whole, record { number = t1.1; collection = t2.1; call = t3.1 })
-                ]
-          ]
-    ]
+    let n = bound (number_in 8 bytes) _ x e in
+    let t1 = number_takes 8 bytes n.0 f n.1 in
+    let b = bound (byte_in n.0.1) _ x n.2 in
+    let t2 = byte_takes n.0.1 b.0 t1.0.rest_fits b.1 in
+    let c = bound (call_in b.0.1) _ x b.2 in
+    let t3 = call_in_takes b.0.1 c.0 t2.0.rest_fits c.1 in
+    let found : LaterRecord × List ℕ =
+    (record { number = n.0.0; collection = b.0.0; call = c.0.0 }, c.0.1) in
+    let whole : Takes bytes (put_off found.0) c.0.1 =
+    Takes-then _ _ _ _ _ t1.0 (Takes-then _ _ _ _ _ t2.0 t3.0) in
+    subst (IsTaken put_off FitsPutOff bytes) (some_is found x c.2)
+    (whole, record { number = t1.1; collection = t2.1; call = t3.1 })
 
 put_off_again : (l : LaterRecord) (rest : List ℕ) → FitsPutOff l →
     put_off_in (put_off l ++ rest) ≡ Some (l, rest)

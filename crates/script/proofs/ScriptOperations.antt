@@ -1,10 +1,8 @@
 -- What a line asks of a collection is told by its verb.
-use Rattle.std.proofs.Common.{◌≡◌, ◌≢◌, ℕ, ◌<◌, ◌==◌, ◌&&◌, not, if◌then◌else◌, Bool, true, false}
+use Rattle.std.proofs.Common.{◌≡◌, ◌≢◌, ℕ, ◌<◌, ◌==◌, if◌then◌else◌}
 use Rattle.std.proofs.Common.{List, [], ◌∷◌, ◌++◌, All, Option, Some, None, MatchOption, IfSome}
 use Rattle.std.proofs.Common.{IfNone, IfOk, Result, Ok, Err, inl, inr, refl, sym, ◌∙◌, subst, ap}
-use Rattle.std.proofs.Common.{codes, get_or, zero, suc, length, arith}
-use Rattle.std.proofs.lemmas.Bool.{eq-eqb, true≢false}
-use Rattle.std.specs.List.{AllByRecursion}
+use Rattle.std.proofs.Common.{codes, get_or, arith}
 use Rattle.std.specs.Fmt.{decimal}
 use Rattle.calls.specs.declared.call.Call.{Call}
 use Rattle.calls.proofs.KindLaws.{whole_by_test}

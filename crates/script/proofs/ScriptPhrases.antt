@@ -1,11 +1,10 @@
 -- What a text asks for is told by its first words.
-use Rattle.std.proofs.Common.{◌≡◌, ◌≢◌, ℕ, zero, suc, ◌<◌, length, List, [], ◌∷◌, ◌++◌, get_or, All}
+use Rattle.std.proofs.Common.{◌≡◌, ◌≢◌, ℕ, ◌+◌, ◌*◌, List, ◌∷◌, ◌++◌, get_or, All}
 use Rattle.std.proofs.Common.{ℤ, sym, subst, ◌∙◌, ap, arith, codes, Option, Some, None, Result, Ok}
 use Rattle.std.proofs.Common.{Err, Bool, false}
 use Rattle.std.specs.Prelude.{IfOk, MatchOption, IsTrue, ◌↔◌}
 use Rattle.std.specs.Int.{w64}
 use Rattle.std.specs.Int.RustNames.{FitsSigned}
-use Rattle.std.specs.List.{AllByRecursion}
 use Rattle.std.proofs.lemmas.Bool.{true≢false}
 use Rattle.std.proofs.lemmas.List.{append_cancel_left}
 use Rattle.calls.specs.declared.call.Call.{Call}
@@ -108,33 +107,21 @@ name_is_back text front back r e first none is = is
 
 -- ---- requests
 
-abbrev first : List ℕ → ℕ
-first t = get_or t 0 0
-
-abbrev second : List ℕ → ℕ
-second t = get_or t 1 0
+-- The first two letters as one number: no two requests have the same.
+abbrev letters : List ℕ → ℕ
+letters t = get_or t 0 0 * 256 + get_or t 1 0
 
 -- behind the word call stands a call and nothing else
 pub request_is_call : (text rest : List ℕ) (r : Request) → text ≡ codes "call " ++ rest →
     IsRequestOf r text → IsCallOf r rest
-request_is_call text rest (Request.Make kind name) e is =
-    let h : ◌≡◌ {A = ℕ} 99 109 = ap first (sym e ∙ is.is) in absurd (omega arith)
-request_is_call text rest Request.Begin e is =
-    let h : ◌≡◌ {A = ℕ} 99 98 = ap first (sym e ∙ is.is) in absurd (omega arith)
 request_is_call text rest (Request.Call name o) e is = (
   is.said.0,
   is.said.1,
   append_cancel_left (codes "call ") rest (name ++ 32 ∷ operation_text o)
       (sym e ∙ is.is),
 )
-request_is_call text rest (Request.Later name n) e is =
-    let h : ◌≡◌ {A = ℕ} 99 108 = ap first (sym e ∙ is.is) in absurd (omega arith)
-request_is_call text rest Request.Commit e is =
-    let h : ◌≡◌ {A = ℕ} 97 111 = ap second (sym e ∙ is.is) in absurd (omega arith)
-request_is_call text rest Request.Abort e is =
-    let h : ◌≡◌ {A = ℕ} 99 97 = ap first (sym e ∙ is.is) in absurd (omega arith)
-request_is_call text rest Request.Kept e is =
-    let h : ◌≡◌ {A = ℕ} 99 107 = ap first (sym e ∙ is.is) in absurd (omega arith)
+request_is_call text rest r e is =
+    let other = ap letters (sym e ∙ is.is) in absurd (omega arith)
 
 pub call_is_request : (text rest : List ℕ) (r : Request) → text ≡ codes "call " ++ rest →
     IsCallOf r rest → IsRequestOf r text
@@ -145,24 +132,14 @@ call_is_request text rest r e is = absurd is
 -- behind the word later stands a bump and nothing else
 request_is_later : (text rest : List ℕ) (r : Request) → text ≡ codes "later " ++ rest →
     IsRequestOf r text → IsLaterOf r rest
-request_is_later text rest (Request.Make kind name) e is =
-    let h : ◌≡◌ {A = ℕ} 108 109 = ap first (sym e ∙ is.is) in absurd (omega arith)
-request_is_later text rest Request.Begin e is =
-    let h : ◌≡◌ {A = ℕ} 108 98 = ap first (sym e ∙ is.is) in absurd (omega arith)
-request_is_later text rest (Request.Call name o) e is =
-    let h : ◌≡◌ {A = ℕ} 108 99 = ap first (sym e ∙ is.is) in absurd (omega arith)
 request_is_later text rest (Request.Later name n) e is = (
   is.said.0,
   is.said.1,
   append_cancel_left (codes "later ") rest
       (name ++ 32 ∷ operation_text (bump_of n)) (sym e ∙ is.is),
 )
-request_is_later text rest Request.Commit e is =
-    let h : ◌≡◌ {A = ℕ} 108 99 = ap first (sym e ∙ is.is) in absurd (omega arith)
-request_is_later text rest Request.Abort e is =
-    let h : ◌≡◌ {A = ℕ} 108 97 = ap first (sym e ∙ is.is) in absurd (omega arith)
-request_is_later text rest Request.Kept e is =
-    let h : ◌≡◌ {A = ℕ} 108 107 = ap first (sym e ∙ is.is) in absurd (omega arith)
+request_is_later text rest r e is =
+    let other = ap letters (sym e ∙ is.is) in absurd (omega arith)
 
 later_is_request : (text rest : List ℕ) (r : Request) → text ≡ codes "later " ++ rest →
     IsLaterOf r rest → IsRequestOf r text
@@ -175,18 +152,8 @@ request_is_make : (text rest : List ℕ) (r : Request) → text ≡ codes "make 
     IsRequestOf r text → IsMakeOf r rest
 request_is_make text rest (Request.Make kind name) e is =
     (is.said, append_cancel_left (codes "make ") rest (kind_text kind ++ 32 ∷ name) (sym e ∙ is.is))
-request_is_make text rest Request.Begin e is =
-    let h : ◌≡◌ {A = ℕ} 109 98 = ap first (sym e ∙ is.is) in absurd (omega arith)
-request_is_make text rest (Request.Call name o) e is =
-    let h : ◌≡◌ {A = ℕ} 109 99 = ap first (sym e ∙ is.is) in absurd (omega arith)
-request_is_make text rest (Request.Later name n) e is =
-    let h : ◌≡◌ {A = ℕ} 109 108 = ap first (sym e ∙ is.is) in absurd (omega arith)
-request_is_make text rest Request.Commit e is =
-    let h : ◌≡◌ {A = ℕ} 109 99 = ap first (sym e ∙ is.is) in absurd (omega arith)
-request_is_make text rest Request.Abort e is =
-    let h : ◌≡◌ {A = ℕ} 109 97 = ap first (sym e ∙ is.is) in absurd (omega arith)
-request_is_make text rest Request.Kept e is =
-    let h : ◌≡◌ {A = ℕ} 109 107 = ap first (sym e ∙ is.is) in absurd (omega arith)
+request_is_make text rest r e is =
+    let other = ap letters (sym e ∙ is.is) in absurd (omega arith)
 
 make_is_request : (text rest : List ℕ) (r : Request) → text ≡ codes "make " ++ rest →
     IsMakeOf r rest → IsRequestOf r text
@@ -208,6 +175,14 @@ no_request text Request.Commit b c a k l p m is = c is.is
 no_request text Request.Abort b c a k l p m is = a is.is
 no_request text Request.Kept b c a k l p m is = k is.is
 
+-- What is found under one meaning is found under another that says the same.
+found_gives : {A E : Type 0} {P Q : A → Type 0} → ((a : A) → P a → Q a) → ((a : A) → Q a → P a) →
+    (r : Result (Option A) E) → IfOk r (λ found. MatchOption found ((a : A) → P a → ⊥) P) →
+    IfOk r (λ found. MatchOption found ((a : A) → Q a → ⊥) Q)
+found_gives there back (Ok None) none = λ a is. none a (back a is)
+found_gives there back (Ok (Some a)) is = there a is
+found_gives there back (Err why) h = tt
+
 -- what is found behind the word call is found in the whole text
 pub called_gives : {E : Type 0} (r : Result (Option Request) E) (text rest : List ℕ) →
     text ≡ codes "call " ++ rest
@@ -215,9 +190,8 @@ pub called_gives : {E : Type 0} (r : Result (Option Request) E) (text rest : Lis
     (λ q. IsCallOf q rest))
     → IfOk r (λ found. MatchOption found ((q : Request) → IsRequestOf q text → ⊥)
     (λ q. IsRequestOf q text))
-called_gives (Ok None) text rest e none = λ q is. none q (request_is_call text rest q e is)
-called_gives (Ok (Some q)) text rest e is = call_is_request text rest q e is
-called_gives (Err why) text rest e h = tt
+called_gives r text rest e =
+    found_gives (λ q. call_is_request text rest q e) (λ q. request_is_call text rest q e) r
 
 -- what is found behind the word later is found in the whole text
 pub put_off_gives : {E : Type 0} (r : Result (Option Request) E) (text rest : List ℕ) →
@@ -226,9 +200,8 @@ pub put_off_gives : {E : Type 0} (r : Result (Option Request) E) (text rest : Li
     (λ q. IsLaterOf q rest))
     → IfOk r (λ found. MatchOption found ((q : Request) → IsRequestOf q text → ⊥)
     (λ q. IsRequestOf q text))
-put_off_gives (Ok None) text rest e none = λ q is. none q (request_is_later text rest q e is)
-put_off_gives (Ok (Some q)) text rest e is = later_is_request text rest q e is
-put_off_gives (Err why) text rest e h = tt
+put_off_gives r text rest e =
+    found_gives (λ q. later_is_request text rest q e) (λ q. request_is_later text rest q e) r
 
 -- what is found behind the word make is found in the whole text
 pub made_gives : {E : Type 0} (r : Result (Option Request) E) (text rest : List ℕ) →
@@ -237,9 +210,8 @@ pub made_gives : {E : Type 0} (r : Result (Option Request) E) (text rest : List 
     (λ q. IsMakeOf q rest))
     → IfOk r (λ found. MatchOption found ((q : Request) → IsRequestOf q text → ⊥)
     (λ q. IsRequestOf q text))
-made_gives (Ok None) text rest e none = λ q is. none q (request_is_make text rest q e is)
-made_gives (Ok (Some q)) text rest e is = make_is_request text rest q e is
-made_gives (Err why) text rest e h = tt
+made_gives r text rest e =
+    found_gives (λ q. make_is_request text rest q e) (λ q. request_is_make text rest q e) r
 
 -- ---- clients
 
@@ -277,7 +249,7 @@ line_is_client line rest (Action.Client n r) e k is = (
       (sym e ∙ is.is),
 )
 line_is_client line rest Action.Turn e k is =
-    let h : ◌≡◌ {A = ℕ} 99 116 = ap first (sym e ∙ is.is) in absurd (omega arith)
+    let other = ap (λ (t : List ℕ). get_or t 0 0) (sym e ∙ is.is) in absurd (omega arith)
 line_is_client line rest Action.Checkpoint e k is = absurd (k is.is)
 
 client_is_line : (line rest : List ℕ) (a : Action) → line ≡ codes "c" ++ rest →
@@ -293,9 +265,8 @@ pub client_gives : {E : Type 0} (r : Result (Option Action) E) (line rest : List
     (λ a. IsClientLine a rest))
     → IfOk r (λ found. MatchOption found ((a : Action) → IsLineOf a line → ⊥)
     (λ a. IsLineOf a line))
-client_gives (Ok None) line rest e k none = λ a is. none a (line_is_client line rest a e k is)
-client_gives (Ok (Some a)) line rest e k is = client_is_line line rest a e is
-client_gives (Err why) line rest e k h = tt
+client_gives r line rest e k =
+    found_gives (λ a. client_is_line line rest a e) (λ a. line_is_client line rest a e k) r
 
 pub no_line : (line : List ℕ) (a : Action) → (line ≡ codes "turn" → ⊥) →
     (line ≡ codes "checkpoint" → ⊥) → ((rest : List ℕ) → line ≡ codes "c" ++ rest → ⊥) →

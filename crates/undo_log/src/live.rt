@@ -7,7 +7,7 @@ ghost use Rattle.std.specs.Option.{option_map_or};
 ghost use Rattle.slab.specs.Slab.{get};
 ghost use Rattle.calls.specs.Transactions as transactions;
 ghost use Rattle.calls.specs.Transactions.{own, others, Asked, PutOff};
-ghost use Rattle.undo_log.specs.Entries.{event_of, owned_entry, HasNoCall, HasNewestCall};
+ghost use Rattle.undo_log.specs.Entries.{event_of, entry_of, owned_entry, HasNoCall, HasNewestCall};
 ghost use Rattle.undo_log.specs.Entries.{IsNewestCall, IsNewestPlace};
 ghost use Rattle.undo_log.specs.Logs.{Log, IsLive, IsFalling, HasRoom, KeepsRoom, fallen, live_of};
 ghost use Rattle.undo_log.specs.Logs.{EachOnce, IsSlotOf, IsLeastLive, IsLeastSlot, IsNextLive};
@@ -163,6 +163,20 @@ impl Live {
         Ok(self.entries.reserve(1)?)
     }
 
+    // Notes the entry of the transaction as the newest one.
+    fn push(&mut self, number: u64, entry: Entry)
+        requires live { IsLive self.old number }
+        requires room { HasRoom self.old number }
+        ensures entries { self.new.entries ≡ self.old.entries ++ (number, entry_of entry) ∷ [] }
+        ensures live { self.new.live ≡ self.old.live }
+    {
+        count_up(&mut self.slots, number);
+        self.entries.push_reserved(Owned {
+            owner: number,
+            entry,
+        });
+    }
+
     /// Notes a call of the transaction as the newest entry. It takes no memory.
     pub fn push_call(&mut self, number: u64, logged: Logged)
         requires live { IsLive self.old number }
@@ -171,11 +185,7 @@ impl Live {
             [] }
         ensures live { self.new.live ≡ self.old.live }
     {
-        count_up(&mut self.slots, number);
-        self.entries.push_reserved(Owned {
-            owner: number,
-            entry: Entry::Asked(logged),
-        });
+        self.push(number, Entry::Asked(logged));
     }
 
     /// Notes a call that the transaction puts off to its commit as the newest entry. It takes no
@@ -187,11 +197,7 @@ impl Live {
             (number, PutOff later.at later.call) ∷ [] }
         ensures live { self.new.live ≡ self.old.live }
     {
-        count_up(&mut self.slots, number);
-        self.entries.push_reserved(Owned {
-            owner: number,
-            entry: Entry::PutOff(later),
-        });
+        self.push(number, Entry::PutOff(later));
     }
 
     /// The newest call of the transaction, those that it put off not counted.

@@ -1,4 +1,4 @@
-use Rattle.std.proofs.Common.{◌≡◌, ℕ, ◌≤◌, ◌⊎◌, Some, IfSome, Contains}
+use Rattle.std.proofs.Common.{◌≡◌, ℕ, ◌⊎◌, Some, IfSome, Contains}
 use Rattle.slab.specs.Slab.{get}
 use Rattle.undo_log.specs.declared.live.Transaction.{Transaction}
 use Rattle.undo_log.specs.Logs.{IsSlotOf}

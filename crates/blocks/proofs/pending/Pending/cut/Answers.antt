@@ -1,6 +1,6 @@
 use Rattle.std.proofs.lemmas.Grind.{common_steps}
 use Rattle.std.proofs.lemmas.Grind.{common_steps}
-use Rattle.std.proofs.Common.{arith, rules}
+use Rattle.std.proofs.Common.{rules}
 use Rattle.std.proofs.Common.{◌≡◌, ◌<◌, [], length, arith, ap, ◌∙◌, subst}
 use Rattle.record_format.specs.Acts.{places}
 use Rattle.blocks.specs.Offers.{IsOffered}

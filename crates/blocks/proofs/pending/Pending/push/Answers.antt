@@ -1,9 +1,6 @@
 use Rattle.std.proofs.lemmas.Grind.{common_steps}
-use Rattle.std.proofs.Common.{arith}
 use Rattle.std.proofs.Common.{[], ◌∷◌, ◌++◌, length, refl, arith, ap, ◌∙◌}
 use Rattle.record_format.specs.Records.{spelling}
-use Rattle.std.specs.VecDeque.{deque_capacity}
-use Rattle.blocks.specs.Waits.{Waiting, freezes}
 use Rattle.blocks.proofs.PendingLemmas.{counted_more, counted_next, filled_ends}
 use Rattle.blocks.proofs.pending.Pending.push.Goals as goal
 
@@ -23,21 +20,13 @@ invariant_of-self-2 c =
     let entry = c.args.entry in
     let len = c.encoded_len.ensures.len in
     let bound = c.encoded_len.ensures.bound in
-    let inside = c.self.inside in
     let seen = ap (λ w. length (spelling w.last.records)) c.self.view_is in
     let one = ap (λ d. d.records) c.replace-draft.ensures.after ∙
     ap (λ d. d.records) c.replace-next.ensures.value ∙ c.push-2.ensures ∙
     ap (λ l. l ++ entry ∷ []) c.self.invariant.unused in
-    let w : Waiting = record {
-      full = inside.full.items;
-      last = inside.last;
-      spare = inside.spare;
-      most = deque_capacity inside.full;
-      handed = inside.handed;
-    } in
-    counted_next w _ _ c.replace-draft.new.dest c.replace-next.new.dest _
+    counted_next _ _ _ c.replace-draft.new.dest c.replace-next.new.dest _
     c.push_back_reserved.ensures.items (ap (λ d. d.records) c.replace-draft.ensures.value) entry
-    inside.count c.self.invariant one
+    c.self.inside.count c.self.invariant one
     (ap (λ d. d.records) c.replace-next.ensures.after ∙ c.new.ensures)
     (omega (arith, len, bound))
     (λ suits. let yes = c.fits-fits.ensures.1 (omega (arith, suits, seen, len)) in
@@ -45,17 +34,9 @@ invariant_of-self-2 c =
 
 pub returns-clause-freezes : goal.returns-clause-freezes
 returns-clause-freezes c =
-    let inside = c.self.inside in
-    let w : Waiting = record {
-      full = inside.full.items;
-      last = inside.last;
-      spare = inside.spare;
-      most = deque_capacity inside.full;
-      handed = inside.handed;
-    } in
-    filled_ends w _ _ c.replace-draft.new.dest c.replace-next.new.dest 0
+    filled_ends _ _ _ c.replace-draft.new.dest c.replace-next.new.dest 0
     c.push_back_reserved.ensures.items (ap (λ d. d.records) c.replace-draft.ensures.value)
-    refl ∙ ap freezes c.self.view_is
+    _ c.self.view_is refl
 
 pub returns-clause-records : goal.returns-clause-records
 returns-clause-records c = grind (arith, common_steps)

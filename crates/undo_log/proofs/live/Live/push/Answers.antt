@@ -1,13 +1,12 @@
 use Rattle.std.proofs.Common.{◌∙◌, ◌∷◌, ◌++◌, [], sym, ap, subst, map, arith, vec_len, vec_capacity}
-use Rattle.calls.specs.Transactions as transactions
-use Rattle.undo_log.specs.Entries.{owned_entry, event_of}
+use Rattle.undo_log.specs.Entries.{owned_entry, entry_of}
 use Rattle.undo_log.specs.Logs.{Log, HasRoom, IsLive}
 use Rattle.undo_log.specs.Counts.{IsCounted}
 use Rattle.undo_log.proofs.Slots.{room_taken}
 use Rattle.std.proofs.lemmas.List.{map-append}
 use Rattle.undo_log.proofs.Counts.{recounted_once, recounted_live, recounted, counts_fit}
 use Rattle.undo_log.proofs.Owns.{own_pushed, own_pushed_other}
-use Rattle.undo_log.proofs.live.Live.push_call.Goals as goal
+use Rattle.undo_log.proofs.live.Live.push.Goals as goal
 
 pub count_up-requires-clause-live : goal.count_up-requires-clause-live
 count_up-requires-clause-live c =
@@ -34,7 +33,7 @@ invariant_of-self c =
     let new = c.count_up.new.slots in
     let n = c.args.number in
     let es = map owned_entry c.self.inside.entries.items in
-    let x = transactions.Asked (event_of c.args.logged) in
+    let x = entry_of c.args.entry in
     let noted = ap (map owned_entry) c.push_reserved.ensures.items
     ∙ map-append owned_entry c.self.inside.entries.items _ in (
       recounted_once old new c.self.invariant.0 n _ c.count_up.ensures,
