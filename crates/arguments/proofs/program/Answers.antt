@@ -13,13 +13,17 @@ returns c =
     rw c.subcommand_required-program.ensures
     (ap (λ (a : App). record a { top = record a.top { subcommand_required = true } })
     c.new.ensures.app) in
-    let first_is = with_gives c.format_command.result app_of (λ command. (out-Command command).has_globals) _ _ _ _
+    let first_is = with_gives c.format_command.result app_of
+    (λ command. (out-Command command).has_globals) _ _ _ _
     c.format_command.ensures c.in_ok-program.ensures bare_is in
-    let second_is = with_gives c.play_command.result app_of (λ command. (out-Command command).has_globals) _ _ _ _
+    let second_is = with_gives c.play_command.result app_of
+    (λ command. (out-Command command).has_globals) _ _ _ _
     c.play_command.ensures c.in_ok-program-2.ensures first_is in
-    let third_is = with_gives c.disk_command.result app_of (λ command. (out-Command command).has_globals) _ _ _ _
+    let third_is = with_gives c.disk_command.result app_of
+    (λ command. (out-Command command).has_globals) _ _ _ _
     c.disk_command.ensures c.in_ok-program-3.ensures second_is in
-    let fourth_is = with_gives c.disk_command-2.result app_of (λ command. (out-Command command).has_globals) _ _ _ _
+    let fourth_is = with_gives c.disk_command-2.result app_of
+    (λ command. (out-Command command).has_globals) _ _ _ _
     c.disk_command-2.ensures c.in_ok-program-4.ensures third_is in
     IfOk-weaker c.subcommand.result _ _
     (λ whole h. h.shape c.new-2.ensures.local ∙

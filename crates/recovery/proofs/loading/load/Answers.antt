@@ -28,7 +28,8 @@ returns-in-Err-clause-refused g c =
     c.next_block.ensures.honest c.next_block.ensures.faults (Option (Vec ℕ Global)) _
     c.in-Err.refusal c.in-Err.ensures.answer)
 
-pub returns-in_err-repetition-in-Ok-Some-clause-refused : goal.returns-in_err-repetition-in-Ok-Some-clause-refused
+pub returns-in_err-repetition-in-Ok-Some-clause-refused :
+    goal.returns-in_err-repetition-in-Ok-Some-clause-refused
 returns-in_err-repetition-in-Ok-Some-clause-refused g c =
     let p = err_from_is_err_and c.from_residual.result c.from_residual.ensures.1 in
     rw (p.1, p.2)

@@ -18,7 +18,8 @@ loop-transaction-init c =
       tt,
     )
 
-pub loop-transaction-preserved-then-transaction-after : goal.loop-transaction-preserved-then-transaction-after
+pub loop-transaction-preserved-then-transaction-after :
+    goal.loop-transaction-preserved-then-transaction-after
 loop-transaction-preserved-then-transaction-after c =
     let at = c.in-Some.ensures.steps in
     let next = c.loop-transaction.next in

@@ -9,7 +9,8 @@ returns-then-contains_key-clause-err c = (
       (sym c.contains_key.ensures ∙ c.if-contains_key.true),
 )
 
-pub returns-then-len-ge-MAX_COLLECTIONS-clause-err : goal.returns-then-len-ge-MAX_COLLECTIONS-clause-err
+pub returns-then-len-ge-MAX_COLLECTIONS-clause-err :
+    goal.returns-then-len-ge-MAX_COLLECTIONS-clause-err
 returns-then-len-ge-MAX_COLLECTIONS-clause-err c =
     let all = many _ c.self.inside.collections.entries c.self.view_is c.args.name.now in (
       c.in_ok-check_name.ensures.ok.0 refl,

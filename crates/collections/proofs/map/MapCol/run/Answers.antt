@@ -3,7 +3,8 @@ use Rattle.std.specs.FinMap as map
 use Rattle.collections.proofs.Tables.{table_of-insert, table_of-remove}
 use Rattle.collections.proofs.map.MapCol.run.Goals as goal
 
-pub returns-in_ok-insert-in-Put-default-clause-ok : goal.returns-in_ok-insert-in-Put-default-clause-ok
+pub returns-in_ok-insert-in-Put-default-clause-ok :
+    goal.returns-in_ok-insert-in-Put-default-clause-ok
 returns-in_ok-insert-in-Put-default-clause-ok c =
     rw c.in-Put-default.is-0
     (table_of-insert c.self.inside.values c.insert.new.self _ _

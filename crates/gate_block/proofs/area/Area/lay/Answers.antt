@@ -5,7 +5,8 @@ use Rattle.gate_block.proofs.Rows.{length-row_push}
 use Rattle.gate_block.proofs.Laying.{lays, leaves_elsewhere, has_room, use_ok}
 use Rattle.gate_block.proofs.area.Area.lay.Goals as goal
 
-pub returns-then-is_err-clause-any_moment_elsewhere : goal.returns-then-is_err-clause-any_moment_elsewhere
+pub returns-then-is_err-clause-any_moment_elsewhere :
+    goal.returns-then-is_err-clause-any_moment_elsewhere
 returns-then-is_err-clause-any_moment_elsewhere g c =
     let disk = c.args.disk.now in
     leaves_elsewhere g.D.Disk.moment g.D.Disk.left_since (g.D.Disk.may_leave disk) _ disk

@@ -13,7 +13,8 @@ use Rattle.gate_block.proofs.area.Area.write_block.Goals as goal
 abbrev behind_gate : List ℕ → List ℕ
 behind_gate block = take (length block - 1) (drop 1 block)
 
-pub returns-in_err-write_and_sync-clause-elsewhere : goal.returns-in_err-write_and_sync-clause-elsewhere
+pub returns-in_err-write_and_sync-clause-elsewhere :
+    goal.returns-in_err-write_and_sync-clause-elsewhere
 returns-in_err-write_and_sync-clause-elsewhere g c =
     let a = c.args.self.now in
     let block = c.args.block.now in
@@ -22,7 +23,8 @@ returns-in_err-write_and_sync-clause-elsewhere g c =
     c.requires.block.1 (take_rest block 1) c.requires.room c.requires.disk s _
     c.write_and_sync.ensures.seen
 
-pub returns-in_err-write_and_sync-clause-any_moment : goal.returns-in_err-write_and_sync-clause-any_moment
+pub returns-in_err-write_and_sync-clause-any_moment :
+    goal.returns-in_err-write_and_sync-clause-any_moment
 returns-in_err-write_and_sync-clause-any_moment g c = λ bodies body is ready.
     let a = c.args.self.now in
     let block = c.args.block.now in
@@ -43,7 +45,8 @@ returns-in_err-write_and_sync-clause-any_moment g c = λ bodies body is ready.
       );
     })
 
-pub returns-in_err-write_and_sync-clause-any_moment_elsewhere : goal.returns-in_err-write_and_sync-clause-any_moment_elsewhere
+pub returns-in_err-write_and_sync-clause-any_moment_elsewhere :
+    goal.returns-in_err-write_and_sync-clause-any_moment_elsewhere
 returns-in_err-write_and_sync-clause-any_moment_elsewhere g c =
     let a = c.args.self.now in
     let block = c.args.block.now in
