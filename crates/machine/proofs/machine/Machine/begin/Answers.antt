@@ -1,3 +1,4 @@
+use Rattle.std.proofs.Common.{rules}
 use Rattle.std.proofs.Common.{◌+◌, ◌∙◌, sym, subst, arith}
 use Rattle.record_format.specs.Short.{AreShort}
 use Rattle.machine.specs.Views.{state_with}
@@ -38,3 +39,6 @@ invariant_of-self-2 g c = begin_upheld g.B.Boosted.meaning g.B.Parts.making
 
 pub returns-clause-ok : goal.returns-clause-ok
 returns-clause-ok g c = rw (← c.self.view_is) (step g c)
+
+pub enter-requires : goal.enter-requires
+enter-requires g c = search rules

@@ -1,3 +1,4 @@
+use Rattle.std.proofs.Common.{rules}
 use Rattle.std.proofs.Common.{◌+◌, sym, subst}
 use Rattle.record_format.specs.Short.{AreShort}
 use Rattle.machine.specs.Views.{state_with}
@@ -44,3 +45,6 @@ invariant_of-self-2 g c = call_upheld g.B.Boosted.meaning g.B.Parts.making
 
 pub returns-clause-ok : goal.returns-clause-ok
 returns-clause-ok g c = rw (← c.self.view_is) (step g c)
+
+pub note_call-requires-clause-clear : goal.note_call-requires-clause-clear
+note_call-requires-clause-clear g c = search rules
