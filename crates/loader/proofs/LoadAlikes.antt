@@ -3,9 +3,7 @@ use Rattle.std.proofs.Common.{ℕ, false, true, Result, Ok, Err, List, [], ◌�
 use Rattle.std.proofs.Common.{subst}
 use Rattle.std.specs.Prelude.{Bool}
 use Rattle.std.specs.FinMap as maps
-use Rattle.calls.specs.declared.call.Call.{Call}
 use Rattle.calls.specs.declared.reply.Reply.{Reply}
-use Rattle.calls.specs.declared.need.Need.{Need}
 use Rattle.calls.specs.declared.refusal.Refusal.{Refusal}
 use Rattle.calls.specs.Transactions.{Asked, PutOff}
 use Rattle.abstract_locks.specs.declared.table.Hold.{Hold}

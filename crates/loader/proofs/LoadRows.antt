@@ -1,24 +1,24 @@
 -- What an image's records are answered, from the parts of the state before and after.
-use Rattle.std.proofs.Common.{◌≡◌, ℕ, zero, suc, ◌<◌, ◌≤◌, inl, ⊎_elim, Bool, true, false, Ok, List}
-use Rattle.std.proofs.Common.{[], ◌∷◌, ◌++◌, length, map, refl, sym, ◌∙◌, ap, subst, arith}
-use Rattle.std.specs.Prelude.{IsTrue, replicate}
-use Rattle.std.specs.List.{AllByRecursion, flat_map}
+use Rattle.std.proofs.Common.{◌≡◌, ℕ, ◌<◌, ◌≤◌, inl, ⊎_elim, Bool, true, false, Ok, List}
+use Rattle.std.proofs.Common.{[], ◌∷◌, ◌++◌, length, refl, sym, ◌∙◌, ap, subst, arith}
+use Rattle.std.specs.Prelude.{IsTrue}
+use Rattle.std.specs.List.{AllByRecursion}
 use Rattle.std.specs.FinMap as maps
 use Rattle.std.proofs.lemmas.List.{map-append}
 use Rattle.calls.specs.declared.kind.Kind.{Kind}
 use Rattle.calls.specs.declared.call.Call.{Call}
 use Rattle.calls.specs.declared.reply.Reply.{Reply}
-use Rattle.calls.specs.declared.need.Need.{Need}
 use Rattle.calls.specs.declared.item.Item.{Item}
 use Rattle.calls.specs.declared.refusal.Refusal.{Refusal}
-use Rattle.calls.specs.Contents.{Content, InSet, InMap, InQueue, InCounter, InPool, Collection}
-use Rattle.calls.specs.Transactions.{Event, Asked, PutOff}
+use Rattle.calls.specs.Contents.{Collection}
+use Rattle.calls.specs.Transactions.{Event, Entry, Asked, PutOff}
+use Rattle.abstract_locks.specs.declared.table.Hold.{Hold}
 use Rattle.abstract_locks.specs.Holds.{Holdings, hold, IsAdded}
 use Rattle.undo_log.specs.Logs.{Statuses, Log, Lives}
-use Rattle.boosted.proofs.Each.{each_append, each_back}
+use Rattle.boosted.proofs.Each.{each_back}
 use Rattle.catalog.specs.Making.{IsNew, names_of, Making}
 use Rattle.catalog.specs.Places.{Reaches, IsWithin}
-use Rattle.catalog.specs.Holdings.{ListsContent, AreItems, Loads, LoadRefused}
+use Rattle.catalog.specs.Holdings.{AreItems, Loads, LoadRefused}
 use Rattle.record_format.specs.Records.{IsNumber}
 use Rattle.record_format.specs.Reached.{IsReached}
 use Rattle.records.proofs.Items.{items_reached, within_loaded}
@@ -136,6 +136,14 @@ pub not_above : (live : Statuses) (last n : ℕ) → IsLast live last → IsNumb
 not_above live last n is number less above = let positive = number.positive in
     let below = above last (is.there (omega arith)) in absurd (omega arith)
 
+-- States whose live transactions and entries are the same.
+state_same : {S : Type 0} (now : S) (holds : List Hold) (wear : ℕ) {live lives : Statuses}
+    {entries others : List (ℕ × Entry)} → live ≡ lives → entries ≡ others →
+    ◌≡◌ {A = State S}
+    (record { now = now; live = live; entries = entries; holds = holds; wear = wear })
+    (record { now = now; live = lives; entries = others; holds = holds; wear = wear })
+state_same now holds wear same_live same_entries = rw (same_live, same_entries) refl
+
 module _ {S : Type 0} (now : S) (needs : Holdings) (log : Log) (wear n : ℕ) where
   pub stand_row : (log' : Log) → IsNumber n → ((k : ℕ) → Lives log.live k → k < n) →
       maps.len log.live < 64 → log'.live ≡ maps.insert log.live n false →
@@ -145,16 +153,7 @@ module _ {S : Type 0} (now : S) (needs : Holdings) (log : Log) (wear n : ℕ) wh
     number = number;
     above = above;
     few = few;
-    is = ap (λ v. let s : State S =
-        record { now = now; live = v; entries = log'.entries; holds = needs.holds; wear = wear } in
-        s) live
-        ∙ ap (λ v. let s : State S = record {
-          now = now;
-          live = maps.insert log.live n false;
-          entries = v;
-          holds = needs.holds;
-          wear = wear;
-        } in s) entries;
+    is = state_same now needs.holds wear live entries;
   }
 
   module _ (meaning : Meaning S ℕ) where
@@ -172,21 +171,7 @@ module _ {S : Type 0} (now : S) (needs : Holdings) (log : Log) (wear n : ℕ) wh
       clear = can.clear;
       room = can.room;
       holds = subst (λ l. IsAdded l needs'.holds (hold n e.at (need_of e.call e.reply))) same holds;
-      is = ap (λ v. let s : State S =
-          record {
-            now = now;
-            live = v;
-            entries = log'.entries;
-            holds = needs'.holds;
-            wear = wear;
-          } in s) (live ∙ live_kept)
-          ∙ ap (λ v. let s : State S = record {
-            now = now;
-            live = log.live;
-            entries = v;
-            holds = needs'.holds;
-            wear = wear;
-          } in s)
+      is = state_same now needs'.holds wear (live ∙ live_kept)
           (entries ∙ ap (λ l. l ++ (n, Asked e) ∷ []) entries_kept);
     }
 
@@ -205,20 +190,6 @@ module _ {S : Type 0} (now : S) (needs : Holdings) (log : Log) (wear n : ℕ) wh
           clear = can.clear;
           room = can.room;
           holds = subst (λ l. IsAdded l needs'.holds (hold n at (need_of c Reply.Done))) same holds;
-          is = ap (λ v. let s : State S =
-              record {
-                now = now;
-                live = v;
-                entries = log'.entries;
-                holds = needs'.holds;
-                wear = wear;
-              } in s) (live ∙ live_kept)
-              ∙ ap (λ v. let s : State S = record {
-                now = now;
-                live = log.live;
-                entries = v;
-                holds = needs'.holds;
-                wear = wear;
-              } in s)
+          is = state_same now needs'.holds wear (live ∙ live_kept)
               (entries ∙ ap (λ l. l ++ (n, PutOff at c) ∷ []) entries_kept);
         }

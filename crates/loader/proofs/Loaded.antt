@@ -1,5 +1,5 @@
 -- What holds of every state that an image tells of, and the machine that it becomes.
-use Rattle.std.proofs.Common.{◌≡◌, ℕ, ◌+◌, ◌<◌, ◌≤◌, ◌^◌, ◌⊎◌, inl, inr, ⊎_elim, Option, is_some}
+use Rattle.std.proofs.Common.{◌≡◌, ℕ, ◌+◌, ◌<◌, ◌≤◌, ◌^◌, ◌⊎◌, inl, inr, ⊎_elim, is_some}
 use Rattle.std.proofs.Common.{Bool, true, false, Result, Ok, Err, List, [], ◌∷◌, ◌++◌, length, map}
 use Rattle.std.proofs.Common.{refl, sym, ◌∙◌, ap, subst, arith, append-nil, append_assoc}
 use Rattle.std.specs.Prelude.{◌↔◌, Contains, IsTrue, IfOk, OnErr}
@@ -13,14 +13,13 @@ use Rattle.std.proofs.lemmas.List.Elements.{Contains-append_cases}
 use Rattle.calls.specs.declared.kind.Kind.{Kind}
 use Rattle.calls.specs.declared.call.Call.{Call}
 use Rattle.calls.specs.declared.reply.Reply.{Reply}
-use Rattle.calls.specs.declared.need.Need.{Need}
 use Rattle.calls.specs.declared.item.Item.{Item}
 use Rattle.calls.specs.declared.refusal.Refusal.{Refusal}
 use Rattle.calls.specs.Contents.{Collection}
 use Rattle.calls.specs.Rules.{Askable, Pairs, need_of}
 use Rattle.calls.specs.Transactions.{Event, Entry, Asked, PutOff, Leads, calls_of}
 use Rattle.abstract_locks.specs.declared.table.Hold.{Hold}
-use Rattle.abstract_locks.specs.Holds.{Holdings, hold}
+use Rattle.abstract_locks.specs.Holds.{Holdings, IsAdded}
 use Rattle.undo_log.specs.Logs.{Log, Lives, Falls}
 use Rattle.catalog.specs.Making.{IsNew, Making}
 use Rattle.catalog.specs.Holdings.{AreItems, Loads}
@@ -163,78 +162,61 @@ module _ {S : Type 0} (meaning : Meaning S ℕ) (making : Making S)
     })
 
     module _ where
+      abbrev with_entry : journal.Entry (ℕ × Event) → theory.State S (ℕ × Event) Hold
+      with_entry l = record {
+        now = m.now;
+        entries = m.entries ++ l ∷ [];
+        live = m.live;
+        falling = m.falling;
+        needs = m.needs ++ rules.need (journal.event l) ∷ [];
+      }
+
+      -- an entry more
+      entry_loaded : (n : ℕ) (x : Entry) (t : State S) →
+          t ≡ record s { entries = s.entries ++ (n, x) ∷ []; holds = t.holds } →
+          IsAdded s.holds t.holds (rules.need (journal.event (owned n x))) →
+          loads.LoadRow rules m (owned n x) (with_entry (owned n x)) → Loaded t
+      entry_loaded n x t is holds step = subst Loaded (sym is) (record {
+        machine = with_entry (owned n x);
+        shows = record {
+          now = shows.now;
+          entries = ap (λ l. l ++ owned n x ∷ []) shows.entries ∙
+              sym (map-append (λ e. owned e.0 e.1) s.entries ((n, x) ∷ []));
+          live = shows.live;
+          falling = shows.falling;
+          needs = needs_more meaning making s m shows t.holds
+              (rules.need (journal.event (owned n x))) holds;
+        };
+        sound = load_sound laws (owned n x) m (with_entry (owned n x)) loaded.sound step;
+      })
+
       pub call_loaded : (n : ℕ) (e : Event) (t : State S) → HeldCallRow meaning s n e t → Loaded t
-      call_loaded n e t row =
-          let added = hold n e.at (need_of e.call e.reply) in
-          let k : theory.State S (ℕ × Event) Hold =
-          record {
-            now = m.now;
-            entries = m.entries ++ journal.Asked (n, e) ∷ [];
-            live = m.live;
-            falling = m.falling;
-            needs = m.needs ++ added ∷ [];
-          } in
-          let step : loads.LoadRow rules m (journal.Asked (n, e)) k = record {
-            live = (shows.live n).1 row.live;
-            clear = clear_here meaning making s m shows n e.at (need_of e.call e.reply) row.clear;
-            fits = (
-              row.asked.1,
-              subst (λ l. AllByRecursion (Lacks (theory.left_of rules n l))
-                  (left (n, e))) (sym shows.entries) (left_once s.entries n e row.once),
-            );
-            is = refl;
-          } in
-          subst Loaded (sym row.is) (record {
-            machine = k;
-            shows = record {
-              now = shows.now;
-              entries = ap (λ l. l ++ journal.Asked (n, e) ∷ []) shows.entries ∙
-                  sym (map-append (λ e. owned e.0 e.1) s.entries ((n, Asked e) ∷ []));
-              live = shows.live;
-              falling = shows.falling;
-              needs = needs_more meaning making s m shows t.holds added row.holds;
-            };
-            sound = load_sound laws (journal.Asked (n, e)) m k loaded.sound step;
-          })
+      call_loaded n e t row = entry_loaded n (Asked e) t row.is row.holds (record {
+        live = (shows.live n).1 row.live;
+        clear = clear_here meaning making s m shows n e.at (need_of e.call e.reply) row.clear;
+        fits = (
+          row.asked.1,
+          subst (λ l. AllByRecursion (Lacks (theory.left_of rules n l))
+              (left (n, e))) (sym shows.entries) (left_once s.entries n e row.once),
+        );
+        is = refl;
+      })
 
       pub later_loaded : (n at : ℕ) (call : Call) (t : State S) →
           HeldLaterRow meaning s n at call t → Loaded t
-      later_loaded n at call t row =
-          let d : Event = record { at = at; call = call; reply = Reply.Done } in
-          let added = hold n at (need_of call Reply.Done) in
-          let k : theory.State S (ℕ × Event) Hold =
-          record {
-            now = m.now;
-            entries = m.entries ++ journal.PutOff (n, d) ∷ [];
-            live = m.live;
-            falling = m.falling;
-            needs = m.needs ++ added ∷ [];
-          } in
-          let step : loads.LoadRow rules m (journal.PutOff (n, d)) k = record {
-            live = (shows.live n).1 row.live;
-            clear = clear_here meaning making s m shows n at (need_of call Reply.Done) row.clear;
-            fits = (
-              (row.put_off.1, refl),
-              (
-                meaning.leaves s.now at call Reply.Done,
-                subst (λ v. shape.Does meaning v at call Reply.Done
-                    (meaning.leaves s.now at call Reply.Done)) (sym shows.now) (row.ready, refl),
-              ),
-            );
-            is = refl;
-          } in
-          subst Loaded (sym row.is) (record {
-            machine = k;
-            shows = record {
-              now = shows.now;
-              entries = ap (λ l. l ++ journal.PutOff (n, d) ∷ []) shows.entries ∙
-                  sym (map-append (λ e. owned e.0 e.1) s.entries ((n, PutOff at call) ∷ []));
-              live = shows.live;
-              falling = shows.falling;
-              needs = needs_more meaning making s m shows t.holds added row.holds;
-            };
-            sound = load_sound laws (journal.PutOff (n, d)) m k loaded.sound step;
-          })
+      later_loaded n at call t row = entry_loaded n (PutOff at call) t row.is row.holds (record {
+        live = (shows.live n).1 row.live;
+        clear = clear_here meaning making s m shows n at (need_of call Reply.Done) row.clear;
+        fits = (
+          (row.put_off.1, refl),
+          (
+            meaning.leaves s.now at call Reply.Done,
+            subst (λ v. shape.Does meaning v at call Reply.Done
+                (meaning.leaves s.now at call Reply.Done)) (sym shows.now) (row.ready, refl),
+          ),
+        );
+        is = refl;
+      })
 
       pub step_loaded : (r : Record) (t : State S) → LiveSteps meaning s r t → Loaded t
       step_loaded (Record.Begin n) t row = stand_loaded n t row

@@ -271,7 +271,7 @@ module _ {D : Type 0} (may_leave : D → List ℕ → Type 0) (moment : D → �
     pub since : LeavesOnly moment left_since old new IsShut
     pub now : (c : List ℕ) → may_leave new c → IsShut c
 
-  pub stays_shut : (old : D) → ((c : List ℕ) → left_since old (moment old) c → may_leave old c) →
+  stays_shut : (old : D) → ((c : List ℕ) → left_since old (moment old) c → may_leave old c) →
       ((c : List ℕ) → may_leave old c → IsShut c) → StaysShut old old
   stays_shut old only_now now = record {
     since = started moment left_since old IsShut
@@ -280,7 +280,7 @@ module _ {D : Type 0} (may_leave : D → List ℕ → Type 0) (moment : D → �
   }
 
   -- a write that does not meet the gate
-  pub shut_past_write : (old mid new : D) (at k : ℕ) → StaysShut old mid → (9 ≤ at) ⊎ (at + k ≤ 8) →
+  shut_past_write : (old mid new : D) (at k : ℕ) → StaysShut old mid → (9 ≤ at) ⊎ (at + k ≤ 8) →
       Follows (Torn at k) (may_leave mid) (may_leave new)
       → Elapses (moment mid) (moment new) (left_since mid) (left_since new) (may_leave new) →
       StaysShut old new
@@ -304,6 +304,38 @@ module _ {D : Type 0} (may_leave : D → List ℕ → Type 0) (moment : D → �
             time now;
         now = now;
       }
+
+-- The four writes behind a closed gate leave it closed, one after another.
+module _ {D : Type 0} (may_leave : D → List ℕ → Type 0) (moment : D → ℕ)
+    (left_since : D → ℕ → List ℕ → Type 0) (old : D)
+    (only_now : (c : List ℕ) → left_since old (moment old) c → may_leave old c)
+    (now : (c : List ℕ) → may_leave old c → IsShut c) where
+  -- What a write did to the disk.
+  abbrev Wrote : (at k : ℕ) → D → D → Type 0
+  Wrote at k mid new = Follows (Torn at k) (may_leave mid) (may_leave new) ×
+      Elapses (moment mid) (moment new) (left_since mid) (left_since new) (may_leave new)
+
+  past : (mid new : D) (at k : ℕ) → StaysShut may_leave moment left_since old mid →
+      (9 ≤ at) ⊎ (at + k ≤ 8) → Wrote at k mid new → StaysShut may_leave moment left_since old new
+  past mid new at k so_far apart wrote =
+      shut_past_write may_leave moment left_since old mid new at k so_far apart wrote.0 wrote.1
+
+  module _ (one : D) (image : Wrote 4096 24 old one) where
+    pub past_image : StaysShut may_leave moment left_since old one
+    past_image = past old one 4096 24 (stays_shut may_leave moment left_since old only_now now)
+        (inl (omega arith)) image
+
+    module _ (two : D) (root : Wrote 512 1 one two) where
+      pub past_root : StaysShut may_leave moment left_since old two
+      past_root = past one two 512 1 past_image (inl (omega arith)) root
+
+      module _ (three : D) (letters : Wrote 0 8 two three) where
+        pub past_letters : StaysShut may_leave moment left_since old three
+        past_letters = past two three 0 8 past_root (inr (omega arith)) letters
+
+        pub past_area : (four : D) (k : ℕ) → Wrote 9 k three four →
+            StaysShut may_leave moment left_since old four
+        past_area four k area = past three four 9 k past_letters (inl (omega arith)) area
 
 pub on_any : {T E P : Type 0} (r : Result T E) → P → OnOk r P
 on_any (Ok x) p = p

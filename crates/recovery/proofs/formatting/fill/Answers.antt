@@ -1,64 +1,38 @@
-use Rattle.std.proofs.Common.{inl, inr, length, refl, ap, subst, sym, arith}
-use Rattle.recovery.proofs.FormatLemmas.{stays_shut, shut_past_write, shut_past_sync, filled}
-use Rattle.recovery.proofs.FormatLemmas.{empty_image, on_any}
+use Rattle.std.proofs.Common.{length, refl, ap, subst, sym}
+use Rattle.recovery.proofs.FormatLemmas.{past_image, past_root, past_letters, past_area}
+use Rattle.recovery.proofs.FormatLemmas.{shut_past_sync, filled, empty_image, on_any}
 use Rattle.recovery.specs.Formats.{IsFilled}
 use Rattle.recovery.proofs.formatting.fill.Goals as goal
 
 pub returns-in_err-write_at-clause-stop : goal.returns-in_err-write_at-clause-stop
-returns-in_err-write_at-clause-stop g c =
-    λ shut.
-    let go = shut_past_write g.D.Disk.may_leave g.D.Disk.moment g.D.Disk.left_since
-    c.args.disk.now in
-    let none = stays_shut g.D.Disk.may_leave g.D.Disk.moment g.D.Disk.left_since c.args.disk.now
-    (g.met.D.Disk.only_now c.args.disk.now) shut in
-    let first = go c.args.disk.now c.write_at.new.self 4096 24 none (inl (omega arith))
-    c.write_at.ensures.stop c.write_at.ensures.time in
-    first.since
+returns-in_err-write_at-clause-stop g c = λ shut.
+    (past_image g.D.Disk.may_leave g.D.Disk.moment g.D.Disk.left_since c.args.disk.now
+    (g.met.D.Disk.only_now c.args.disk.now) shut
+    _ (c.write_at.ensures.stop, c.write_at.ensures.time)).since
 
 pub returns-in_err-write_at-2-clause-stop : goal.returns-in_err-write_at-2-clause-stop
-returns-in_err-write_at-2-clause-stop g c =
-    λ shut.
-    let go = shut_past_write g.D.Disk.may_leave g.D.Disk.moment g.D.Disk.left_since
-    c.args.disk.now in
-    let none = stays_shut g.D.Disk.may_leave g.D.Disk.moment g.D.Disk.left_since c.args.disk.now
-    (g.met.D.Disk.only_now c.args.disk.now) shut in
-    let first = go c.args.disk.now c.write_at.new.self 4096 24 none (inl (omega arith))
-    c.write_at.ensures.stop c.write_at.ensures.time in
-    let second = go c.write_at.new.self c.write_at-2.new.self 512 1 first (inl (omega arith))
-    c.write_at-2.ensures.stop c.write_at-2.ensures.time in
-    second.since
+returns-in_err-write_at-2-clause-stop g c = λ shut.
+    (past_root g.D.Disk.may_leave g.D.Disk.moment g.D.Disk.left_since c.args.disk.now
+    (g.met.D.Disk.only_now c.args.disk.now) shut
+    _ (c.write_at.ensures.stop, c.write_at.ensures.time)
+    _ (c.write_at-2.ensures.stop, c.write_at-2.ensures.time)).since
 
 pub returns-in_err-write_at-3-clause-stop : goal.returns-in_err-write_at-3-clause-stop
-returns-in_err-write_at-3-clause-stop g c =
-    λ shut.
-    let go = shut_past_write g.D.Disk.may_leave g.D.Disk.moment g.D.Disk.left_since
-    c.args.disk.now in
-    let none = stays_shut g.D.Disk.may_leave g.D.Disk.moment g.D.Disk.left_since c.args.disk.now
-    (g.met.D.Disk.only_now c.args.disk.now) shut in
-    let first = go c.args.disk.now c.write_at.new.self 4096 24 none (inl (omega arith))
-    c.write_at.ensures.stop c.write_at.ensures.time in
-    let second = go c.write_at.new.self c.write_at-2.new.self 512 1 first (inl (omega arith))
-    c.write_at-2.ensures.stop c.write_at-2.ensures.time in
-    let third = go c.write_at-2.new.self c.write_at-3.new.self 0 8 second (inr (omega arith))
-    c.write_at-3.ensures.stop c.write_at-3.ensures.time in
-    third.since
+returns-in_err-write_at-3-clause-stop g c = λ shut.
+    (past_letters g.D.Disk.may_leave g.D.Disk.moment g.D.Disk.left_since c.args.disk.now
+    (g.met.D.Disk.only_now c.args.disk.now) shut
+    _ (c.write_at.ensures.stop, c.write_at.ensures.time)
+    _ (c.write_at-2.ensures.stop, c.write_at-2.ensures.time)
+    _ (c.write_at-3.ensures.stop, c.write_at-3.ensures.time)).since
 
 pub returns-in_err-write_at-4-clause-stop : goal.returns-in_err-write_at-4-clause-stop
-returns-in_err-write_at-4-clause-stop g c =
-    λ shut.
-    let go = shut_past_write g.D.Disk.may_leave g.D.Disk.moment g.D.Disk.left_since
-    c.args.disk.now in
-    let none = stays_shut g.D.Disk.may_leave g.D.Disk.moment g.D.Disk.left_since c.args.disk.now
-    (g.met.D.Disk.only_now c.args.disk.now) shut in
-    let first = go c.args.disk.now c.write_at.new.self 4096 24 none (inl (omega arith))
-    c.write_at.ensures.stop c.write_at.ensures.time in
-    let second = go c.write_at.new.self c.write_at-2.new.self 512 1 first (inl (omega arith))
-    c.write_at-2.ensures.stop c.write_at-2.ensures.time in
-    let third = go c.write_at-2.new.self c.write_at-3.new.self 0 8 second (inr (omega arith))
-    c.write_at-3.ensures.stop c.write_at-3.ensures.time in
-    let fourth = go c.write_at-3.new.self c.write_at-4.new.self 9 (length c.to_be_bytes.result)
-    third (inl (omega arith)) c.write_at-4.ensures.stop c.write_at-4.ensures.time in
-    fourth.since
+returns-in_err-write_at-4-clause-stop g c = λ shut.
+    (past_area g.D.Disk.may_leave g.D.Disk.moment g.D.Disk.left_since c.args.disk.now
+    (g.met.D.Disk.only_now c.args.disk.now) shut
+    _ (c.write_at.ensures.stop, c.write_at.ensures.time)
+    _ (c.write_at-2.ensures.stop, c.write_at-2.ensures.time)
+    _ (c.write_at-3.ensures.stop, c.write_at-3.ensures.time)
+    _ _ (c.write_at-4.ensures.stop, c.write_at-4.ensures.time)).since
 
 pub returns-clause-filled : goal.returns-clause-filled
 returns-clause-filled g c =
@@ -69,19 +43,13 @@ returns-clause-filled g c =
     on_any c.sync.result (subst (IsFilled c.args.area) (sym c.sync.ensures.seen) done)
 
 pub returns-clause-stop : goal.returns-clause-stop
-returns-clause-stop g c =
-    λ shut.
-    let go = shut_past_write g.D.Disk.may_leave g.D.Disk.moment g.D.Disk.left_since
-    c.args.disk.now in
-    let none = stays_shut g.D.Disk.may_leave g.D.Disk.moment g.D.Disk.left_since c.args.disk.now
-    (g.met.D.Disk.only_now c.args.disk.now) shut in
-    let first = go c.args.disk.now c.write_at.new.self 4096 24 none (inl (omega arith))
-    c.write_at.ensures.stop c.write_at.ensures.time in
-    let second = go c.write_at.new.self c.write_at-2.new.self 512 1 first (inl (omega arith))
-    c.write_at-2.ensures.stop c.write_at-2.ensures.time in
-    let third = go c.write_at-2.new.self c.write_at-3.new.self 0 8 second (inr (omega arith))
-    c.write_at-3.ensures.stop c.write_at-3.ensures.time in
-    let fourth = go c.write_at-3.new.self c.write_at-4.new.self 9 (length c.to_be_bytes.result)
-    third (inl (omega arith)) c.write_at-4.ensures.stop c.write_at-4.ensures.time in
+returns-clause-stop g c = λ shut.
     (shut_past_sync g.D.Disk.may_leave g.D.Disk.moment g.D.Disk.left_since c.args.disk.now
-    c.write_at-4.new.self c.sync.new.self fourth c.sync.ensures.stop c.sync.ensures.time).since
+    c.write_at-4.new.self c.sync.new.self
+    (past_area g.D.Disk.may_leave g.D.Disk.moment g.D.Disk.left_since c.args.disk.now
+    (g.met.D.Disk.only_now c.args.disk.now) shut
+    _ (c.write_at.ensures.stop, c.write_at.ensures.time)
+    _ (c.write_at-2.ensures.stop, c.write_at-2.ensures.time)
+    _ (c.write_at-3.ensures.stop, c.write_at-3.ensures.time)
+    _ _ (c.write_at-4.ensures.stop, c.write_at-4.ensures.time))
+    c.sync.ensures.stop c.sync.ensures.time).since
