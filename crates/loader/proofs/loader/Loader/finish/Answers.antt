@@ -1,3 +1,4 @@
+use Rattle.std.proofs.Common.{rules}
 use Rattle.std.proofs.Common.{sym, ◌∙◌, ap, subst, map}
 use Rattle.calls.specs.Transactions.{Leads, calls_of}
 use Rattle.undo_log.specs.Entries.{owned_entry}
@@ -40,3 +41,6 @@ of_parts-requires g c =
     (state_with v i.ledger i.wear)) (sym done.0)
     (settled_upheld g.B.Boosted.meaning g.B.Parts.making (λ s. AreShort (g.B.Coded.collections s))
     (laws g) _ c.self.invariant.0 done.1.0 settled)
+
+pub returns-clause-machine : goal.returns-clause-machine
+returns-clause-machine g c = search rules

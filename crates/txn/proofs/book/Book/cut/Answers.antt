@@ -1,4 +1,3 @@
-use Rattle.std.proofs.Common.{rules}
 use Rattle.std.proofs.Common.{refl}
 use Rattle.record_format.specs.Short.{AreShort}
 use Rattle.txn.specs.Views.{book_of}
@@ -18,6 +17,3 @@ invariant_of-self g c =
     cut_keeps g.B.Boosted.meaning g.B.Parts.making (λ s. AreShort (g.B.Coded.collections s))
     (laws g) _ c.self.invariant _ _ _ _
     (book_of i.machine c.cut.new.self i.places i.next) (c.cut.ensures, refl)
-
-pub returns-else-len-eq0-clause-answer : goal.returns-else-len-eq0-clause-answer
-returns-else-len-eq0-clause-answer g c = search rules
