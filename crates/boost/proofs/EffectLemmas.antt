@@ -2,13 +2,14 @@
 use Rattle.std.proofs.Common.{◌≡◌, inl, ℕ, List, [], Result, Ok, Err, OnOk, replicate, refl, sym}
 use Rattle.std.proofs.Common.{subst}
 use Rattle.std.specs.Prelude.{MatchResult}
+use Rattle.arguments.specs.declared.Task.{Task}
 use Rattle.calls.specs.Contents.{Collection}
-use Rattle.disk_model.specs.Disk.{IsAtRest, LeavesOnly}
+use Rattle.disk_model.specs.Disk.{ReadsOnly, IsAtRest, LeavesOnly}
 use Rattle.disk_model.specs.declared.disk.Disk.{Ghosts}
 use Rattle.disk_model.proofs.Walk.{started, weaker, and_then}
 use Rattle.repetition.specs.Journals.{StandsFor}
 use Rattle.repetition.specs.Reading.{IsSound}
-use Rattle.recovery.specs.Formats.{IsFormatting}
+use Rattle.recovery.specs.Formats.{IsEmptyStore, IsFormatting}
 use Rattle.recovery.specs.Openings.{KeepsContent}
 use Rattle.world.specs.Moves.{Whole}
 use Rattle.world.specs.Pasts.{Past}
@@ -18,7 +19,9 @@ use Rattle.world.proofs.PlayLemmas.{moments_of, answered_of}
 use Rattle.player.specs.Plays as plays
 use Rattle.player.specs.Requests.{nobody, CarriesOut, PlaysLines}
 use Rattle.script.specs.Scripts.{IsScriptOf}
-use Rattle.boost.specs.Effects.{KeepsPlaying, StartsFrom, ArePlayedOn, IsPlayedOn}
+use Rattle.boost.specs.Commands.{IsUnderstood}
+use Rattle.boost.specs.Effects.{KeepsPlaying, StartsFrom, ArePlayedOn, IsPlayedOn, IsPlayedAnew}
+use Rattle.boost.specs.Effects.{Leaves}
 use Rattle.player.specs.declared.client.Client.{Client}
 use Rattle.script.specs.declared.line.Line.{Line}
 
@@ -52,6 +55,14 @@ module _ {D : Type 0} (seen : D → List ℕ) (may_leave : D → List ℕ → Ty
       (λ c left. subst (IsFormatting (seen old)) (sym (rest c (only_now c left)))
       (inl (record { before = refl; after = refl; size = refl })))
 
+  pub untouched_reads : ((c : List ℕ) → left_since old (moment old) c → may_leave old c) →
+      ReadsOnly seen may_leave moment left_since old old
+  untouched_reads only_now = record {
+    same = refl;
+    stop = λ c left. left;
+    any_moment = started moment left_since old (may_leave old) only_now;
+  }
+
   -- no step was taken
   pub nothing_played : (new : D) → KeepsContent seen may_leave moment left_since old new →
       KeepsPlaying seen may_leave moment left_since old new
@@ -64,6 +75,20 @@ module _ {D : Type 0} (seen : D → List ℕ) (may_leave : D → List ℕ → Ty
       }
 
 module _ {D : Type 0} (g : Ghosts D) (old : D) where
+  -- a command that did not touch its disk
+  pub untouched_leaves : ((c : List ℕ) → g.left_since old (g.moment old) c → g.may_leave old c) →
+      (task : Task) → Leaves g task old old
+  untouched_leaves only_now (Task.Format disk area) =
+      untouched_format g.seen g.may_leave g.moment g.left_since old only_now
+  untouched_leaves only_now (Task.Play disk name) = λ honest.
+      nothing_played g.seen g.may_leave g.moment g.left_since old old
+      (untouched_keeps g.seen g.may_leave g.moment g.left_since old only_now)
+  untouched_leaves only_now (Task.Show disk) = λ honest.
+      untouched_keeps g.seen g.may_leave g.moment g.left_since old only_now
+  untouched_leaves only_now (Task.Check disk) =
+      untouched_reads g.seen g.may_leave g.moment g.left_since old only_now
+  untouched_leaves only_now Task.Demo = refl
+
   -- a store was opened, and then steps were taken
   pub steps_played : (w v : Whole D) →
       KeepsContent g.seen g.may_leave g.moment g.left_since old w.keeper.disk
@@ -103,10 +128,30 @@ module _ {D : Type 0} (g : Ghosts D) (old : D) where
       subst (λ q. OnOk q (g.is_honest v.keeper.disk → ArePlayedOn g lines old v.keeper.disk))
       (sym said) tt
 
--- they were those of a script
+-- they were those of a script, which was understood
 pub script_played : {D E : Type 0} (g : Ghosts D) (old new : D) (lines : List Line)
     (script : List ℕ) (r : Result (Unit {0}) E) → IsScriptOf lines script
     → OnOk r (g.is_honest new → ArePlayedOn g lines old new) →
-    OnOk r (g.is_honest new → IsPlayedOn g script old new)
-script_played g old new lines script (Ok done) is played = λ honest. (lines, is, played honest)
+    OnOk r (IsUnderstood script × (g.is_honest new → IsPlayedOn g script old new))
+script_played g old new lines script (Ok done) is played =
+    ((lines, is), λ honest. (lines, is, played honest))
 script_played g old new lines script (Err e) is played = tt
+
+-- the stored run's lines were played, whatever is shown behind them
+pub anew_played : {D E F : Type 0} (g : Ghosts D) (disk left : D) (lines : List Line)
+    (script : List ℕ) (s : Result (Unit {0}) F) (r : Result (Unit {0}) E) (done : Unit {0}) →
+    IsEmptyStore (g.seen disk) → IsAtRest g.seen g.may_leave disk → IsScriptOf lines script →
+    OnOk s (g.is_honest left → ArePlayedOn g lines disk left) → s ≡ Ok done → g.is_honest left →
+    OnOk r (IsPlayedAnew g script)
+anew_played g disk left lines script s (Ok shown) done empty rest is played ended honest = record {
+  disk = disk;
+  empty = empty;
+  at_rest = rest;
+  left = left;
+  played = (
+    lines,
+    is,
+    subst (λ x. OnOk x (g.is_honest left → ArePlayedOn g lines disk left)) ended played honest,
+  );
+}
+anew_played g disk left lines script s (Err e) done empty rest is played ended honest = tt

@@ -6,30 +6,9 @@ use Rattle.script.specs.declared.line.Line.{Line}
 use Rattle.script.specs.declared.line.ScriptError.{ScriptError}
 use Rattle.script.specs.Scripts.{IsScriptOf, IsWhy}
 
-abbrev pub IsFormat : Task → Type 0
-IsFormat (Task.Format disk area) = Unit {0}
-IsFormat task = ⊥
-
--- what holds of the area that a format asks for
-abbrev pub OnFormat : Task → (ℕ → Type 0) → Type 0
-OnFormat (Task.Format disk area) P = P area
-OnFormat task P = Unit {0}
-
 abbrev pub IsPlay : Task → Type 0
 IsPlay (Task.Play disk script) = Unit {0}
 IsPlay task = ⊥
-
-abbrev pub IsShow : Task → Type 0
-IsShow (Task.Show disk) = Unit {0}
-IsShow task = ⊥
-
-abbrev pub IsCheck : Task → Type 0
-IsCheck (Task.Check disk) = Unit {0}
-IsCheck task = ⊥
-
-abbrev pub IsDemo : Task → Type 0
-IsDemo Task.Demo = Unit {0}
-IsDemo task = ⊥
 
 -- the status of a command that was not done
 abbrev pub status_of : Failure → ℕ

@@ -1,10 +1,14 @@
 -- What a command leaves on a disk, and what a stop at any moment of it might have left.
-use Rattle.std.specs.Prelude.{◌≡◌, ℕ, List, [], replicate}
+use Rattle.std.specs.Prelude.{◌≡◌, ℕ, List, [], length, replicate}
+use Rattle.arguments.specs.declared.Task.{Task}
+use Rattle.boost.specs.Commands.{IsUnderstood}
 use Rattle.calls.specs.Contents.{Collection}
-use Rattle.disk_model.specs.Disk.{IsAtRest, LeavesOnly}
+use Rattle.disk_model.specs.Disk.{ReadsOnly, IsAtRest, LeavesOnly}
 use Rattle.disk_model.specs.declared.disk.Disk.{Ghosts}
 use Rattle.repetition.specs.Journals.{StandsFor}
 use Rattle.repetition.specs.Reading.{IsSound}
+use Rattle.recovery.specs.Formats.{IsRoomFor, IsEmptyStore, IsFormatting}
+use Rattle.recovery.specs.Openings.{KeepsContent}
 use Rattle.world.specs.Pasts.{Past, AreAnswered}
 use Rattle.world.specs.Crash.{Yields}
 use Rattle.world.specs.Worlds.{HasPast}
@@ -50,3 +54,39 @@ pub record ArePlayedOn {D : Type 0} (g : Ghosts D) (lines : List Line) (old new 
 abbrev pub IsPlayedOn : {D : Type 0} (g : Ghosts D) → List ℕ → D → D → Type 0
 IsPlayedOn g script old new = (lines : List Line) × IsScriptOf lines script ×
     ArePlayedOn g lines old new
+
+-- A script is played on some disk that was an empty store, at rest.
+pub record IsPlayedAnew {D : Type 0} (g : Ghosts D) (script : List ℕ) : Type 0 where
+  pub disk : D
+  pub empty : IsEmptyStore (g.seen disk)
+  pub at_rest : IsAtRest g.seen g.may_leave disk
+  pub left : D
+  pub played : IsPlayedOn g script disk left
+
+-- A disk with room for two areas of this size, and no more, was made an empty store, at rest.
+abbrev pub IsFormatted : {D : Type 0} (g : Ghosts D) → ℕ → D → D → Type 0
+IsFormatted g area old new = IsRoomFor area (length (g.seen old)) × IsEmptyStore (g.seen new) ×
+    IsAtRest g.seen g.may_leave new
+
+-- What holds where a command was done: a format made an empty store; a play understood each line of
+-- its script, and carried them out on the store that was opened; and the stored run did what it
+-- does on a disk of its own.
+abbrev pub IsDone : {D : Type 0} (g : Ghosts D) → Type 0 → Task → List ℕ → D → D → Type 0
+IsDone g stored (Task.Format disk area) script old new = IsFormatted g area old new
+IsDone g stored (Task.Play disk name) script old new =
+    IsUnderstood script × (g.is_honest new → IsPlayedOn g script old new)
+IsDone g stored Task.Demo script old new = stored
+IsDone g stored task script old new = Unit {0}
+
+-- What a command leaves on the disk, done or not, and what a stop at any moment of it might have
+-- left: a format the old bytes, no store or an empty one; a play a beginning of what its steps
+-- committed; a show the content; a check only reads; and the stored run does not touch the disk.
+abbrev pub Leaves : {D : Type 0} (g : Ghosts D) → Task → D → D → Type 0
+Leaves g (Task.Format disk area) old new = IsAtRest g.seen g.may_leave old →
+    LeavesOnly g.moment g.left_since old new (IsFormatting (g.seen old))
+Leaves g (Task.Play disk name) old new = g.is_honest new →
+    KeepsPlaying g.seen g.may_leave g.moment g.left_since old new
+Leaves g (Task.Show disk) old new = g.is_honest new →
+    KeepsContent g.seen g.may_leave g.moment g.left_since old new
+Leaves g (Task.Check disk) old new = ReadsOnly g.seen g.may_leave g.moment g.left_since old new
+Leaves g Task.Demo old new = new ≡ old

@@ -1,15 +1,15 @@
 // What the program does for a command, on any disk.
-ghost use Rattle.std.specs.Prelude.{◌≡◌, ◌⊎◌, ℕ, List, [], length, Ok, Err, OnOk, IfOk, IfErr};
+ghost use Rattle.std.specs.Prelude.{◌≡◌, ◌⊎◌, ℕ, List, [], Ok, Err, OnOk, IfOk, IfErr};
 ghost use Rattle.std.specs.Prelude.{MatchResult, replicate};
 ghost use Rattle.disk_model.specs.Disk.{ReadsOnly, IsAtRest, LeavesOnly};
 ghost use Rattle.recovery.specs.Openings.{KeepsContent};
-ghost use Rattle.recovery.specs.Formats.{IsRoomFor, IsEmptyStore, IsFormatting};
+ghost use Rattle.recovery.specs.Formats.{IsFormatting};
 ghost use Rattle.player.specs.Requests.{nobody};
-ghost use Rattle.boost.specs.Effects.{KeepsPlaying, ArePlayedOn, IsPlayedOn, StartsFrom};
+ghost use Rattle.boost.specs.Effects.{KeepsPlaying, ArePlayedOn, IsPlayedOn, IsPlayedAnew};
+ghost use Rattle.boost.specs.Effects.{StartsFrom, IsFormatted, IsDone, Leaves};
 ghost use Rattle.boost.specs.declared.commands.failure.Failure.{Failure};
-ghost use Rattle.boost.specs.Commands.{IsFormat, OnFormat, IsPlay, IsShow, IsCheck, IsDemo};
-ghost use Rattle.boost.specs.Commands.{IsUnderstood, IsOfStore, IsWhyUnplayed, IsWhyUndone};
-ghost use Rattle.boost.specs.Commands.{IsNotUnderstoodAt, status_of};
+ghost use Rattle.boost.specs.Commands.{IsPlay, IsUnderstood, IsOfStore, IsWhyUnplayed};
+ghost use Rattle.boost.specs.Commands.{IsWhyUndone, IsNotUnderstoodAt, status_of};
 
 mod failure;
 mod showing;
@@ -17,7 +17,7 @@ mod stored_run;
 
 use arguments::Task;
 use calls::Refusal;
-use disk_model::Disk;
+use disk_model::{Disk, MemDisk};
 pub use failure::Failure;
 use player::Player;
 use recovery::{format, inspect, open};
@@ -25,6 +25,7 @@ use script::{Line, parse};
 use showing::{show_collections, show_counts};
 use std::alloc::Global;
 use std::io::{self, BufWriter, Write};
+pub use stored_run::STORED_RUN;
 use stored_run::demo;
 use world::World;
 
@@ -35,7 +36,8 @@ use world::World;
 /// with its kind and name, and then each of its items in a line of its own, after two spaces. Check
 /// prints how many collections, unfinished transactions and journal records the store has, and
 /// writes nothing. Demo runs a stored script on a disk in memory of its own and prints what Play
-/// does, and then what Show does: it touches neither the disk nor the script.
+/// does, and then what Show does: it touches neither the disk nor the script. Where its status is 0
+/// all of its lines were carried out, one after another, on a disk that was an empty store.
 ///
 /// Play and Show open the store: transactions that have not ended are undone, and that is written
 /// to the disk. On a disk at rest that reads true and whose bytes are sound, a stop at any moment
@@ -57,26 +59,13 @@ pub fn run<D: Disk, O: Write, E: Write>(
     err: &mut E,
 ) -> (u8, D)
     ensures status { (result.0 ≡ 0) ⊎ ((result.0 ≡ 1) ⊎ ((result.0 ≡ 3) ⊎ (result.0 ≡ 4))) }
-    ensures understood { result.0 ≡ 0 → IsPlay task.now → IsUnderstood script.now }
+    ensures done { result.0 ≡ 0 → IsDone ⟦<D as Disk>⟧
+        (IsPlayedAnew ⟦<MemDisk as Disk>⟧ STORED_RUN.now) task.now script.now disk result.1 }
     ensures not_understood { result.0 ≡ 3 →
         IsPlay task.now × ((line : ℕ) × IsNotUnderstoodAt script.now line) }
     ensures untouched { result.0 ≡ 3 → result.1 ≡ disk }
-    ensures only_read { IsCheck task.now →
-        ReadsOnly D.seen D.may_leave D.moment D.left_since disk result.1 }
-    ensures stored_run { IsDemo task.now → result.1 ≡ disk }
+    ensures any_moment { Leaves ⟦<D as Disk>⟧ task.now disk result.1 }
     ensures silent { (result.0 ≡ 0) ⊎ (result.0 ≡ 4) → err.new ≡ err.old }
-    ensures area { result.0 ≡ 0 → OnFormat task.now
-        (λ area. IsRoomFor area (length (D.seen disk))) }
-    ensures formatted { result.0 ≡ 0 → IsFormat task.now →
-        IsEmptyStore (D.seen result.1) × IsAtRest D.seen D.may_leave result.1 }
-    ensures formatting { IsFormat task.now → IsAtRest D.seen D.may_leave disk →
-        LeavesOnly D.moment D.left_since disk result.1 (IsFormatting (D.seen disk)) }
-    ensures lines { result.0 ≡ 0 → IsPlay task.now → D.is_honest result.1 →
-        IsPlayedOn ⟦<D as Disk>⟧ script.now disk result.1 }
-    ensures played { IsPlay task.now → D.is_honest result.1 →
-        KeepsPlaying D.seen D.may_leave D.moment D.left_since disk result.1 }
-    ensures shown { IsShow task.now → D.is_honest result.1 →
-        KeepsContent D.seen D.may_leave D.moment D.left_since disk result.1 }
 {
     match carry_out(alloc, task, disk, script, out) {
         (Ok(()), disk) => (0, disk),
@@ -105,24 +94,10 @@ fn carry_out<D: Disk, O: Write>(
     script: &[u8],
     out: &mut O,
 ) -> (Result<(), Failure<'static>>, D)
-    ensures understood { OnOk result.0 (IsPlay task.now → IsUnderstood script.now) }
+    ensures done { OnOk result.0 (IsDone ⟦<D as Disk>⟧
+        (IsPlayedAnew ⟦<MemDisk as Disk>⟧ STORED_RUN.now) task.now script.now disk result.1) }
     ensures why { IfErr result.0 (IsWhyUndone task.now script.now (result.1 ≡ disk)) }
-    ensures only_read { IsCheck task.now →
-        ReadsOnly D.seen D.may_leave D.moment D.left_since disk result.1 }
-    ensures stored_run { IsDemo task.now → result.1 ≡ disk }
-    ensures area { OnOk result.0 (OnFormat task.now
-        (λ area. IsRoomFor area (length (D.seen disk)))) }
-    ensures formatted { OnOk result.0
-        (IsFormat task.now → IsEmptyStore (D.seen result.1) ×
-        IsAtRest D.seen D.may_leave result.1) }
-    ensures formatting { IsFormat task.now → IsAtRest D.seen D.may_leave disk →
-        LeavesOnly D.moment D.left_since disk result.1 (IsFormatting (D.seen disk)) }
-    ensures lines { OnOk result.0 (IsPlay task.now → D.is_honest result.1 →
-        IsPlayedOn ⟦<D as Disk>⟧ script.now disk result.1) }
-    ensures played { IsPlay task.now → D.is_honest result.1 →
-        KeepsPlaying D.seen D.may_leave D.moment D.left_since disk result.1 }
-    ensures shown { IsShow task.now → D.is_honest result.1 →
-        KeepsContent D.seen D.may_leave D.moment D.left_since disk result.1 }
+    ensures any_moment { Leaves ⟦<D as Disk>⟧ task.now disk result.1 }
 {
     let Ok(mut out) = BufWriter::new(alloc, out) else {
         return (Err(Failure::Refused(Refusal::NoMemory)), disk);
@@ -142,24 +117,10 @@ fn perform<D: Disk, O: Write>(
     script: &[u8],
     out: &mut O,
 ) -> (Result<(), Failure<'static>>, D)
-    ensures understood { OnOk result.0 (IsPlay task.now → IsUnderstood script.now) }
+    ensures done { OnOk result.0 (IsDone ⟦<D as Disk>⟧
+        (IsPlayedAnew ⟦<MemDisk as Disk>⟧ STORED_RUN.now) task.now script.now disk result.1) }
     ensures why { IfErr result.0 (IsWhyUndone task.now script.now (result.1 ≡ disk)) }
-    ensures only_read { IsCheck task.now →
-        ReadsOnly D.seen D.may_leave D.moment D.left_since disk result.1 }
-    ensures stored_run { IsDemo task.now → result.1 ≡ disk }
-    ensures area { OnOk result.0 (OnFormat task.now
-        (λ area. IsRoomFor area (length (D.seen disk)))) }
-    ensures formatted { OnOk result.0
-        (IsFormat task.now → IsEmptyStore (D.seen result.1) ×
-        IsAtRest D.seen D.may_leave result.1) }
-    ensures formatting { IsFormat task.now → IsAtRest D.seen D.may_leave disk →
-        LeavesOnly D.moment D.left_since disk result.1 (IsFormatting (D.seen disk)) }
-    ensures lines { OnOk result.0 (IsPlay task.now → D.is_honest result.1 →
-        IsPlayedOn ⟦<D as Disk>⟧ script.now disk result.1) }
-    ensures played { IsPlay task.now → D.is_honest result.1 →
-        KeepsPlaying D.seen D.may_leave D.moment D.left_since disk result.1 }
-    ensures shown { IsShow task.now → D.is_honest result.1 →
-        KeepsContent D.seen D.may_leave D.moment D.left_since disk result.1 }
+    ensures any_moment { Leaves ⟦<D as Disk>⟧ task.now disk result.1 }
 {
     match task {
         Task::Format { area, .. } => format_disk(disk, *area),
@@ -173,9 +134,7 @@ fn perform<D: Disk, O: Write>(
 // Makes the disk an empty store.
 fn format_disk<D: Disk>(disk: D, area: u64) -> (Result<(), Failure<'static>>, D)
     ensures why { IfErr result.0 IsOfStore }
-    ensures area { OnOk result.0 (IsRoomFor area (length (D.seen disk))) }
-    ensures formatted { OnOk result.0
-        (IsEmptyStore (D.seen result.1) × IsAtRest D.seen D.may_leave result.1) }
+    ensures done { OnOk result.0 (IsFormatted ⟦<D as Disk>⟧ area disk result.1) }
     ensures formatting { IsAtRest D.seen D.may_leave disk →
         LeavesOnly D.moment D.left_since disk result.1 (IsFormatting (D.seen disk)) }
 {
@@ -193,10 +152,9 @@ fn play_script<D: Disk, O: Write>(
     script: &[u8],
     out: &mut O,
 ) -> (Result<(), Failure<'static>>, D)
-    ensures understood { OnOk result.0 (IsUnderstood script.now) }
+    ensures done { OnOk result.0 (IsUnderstood script.now ×
+        (D.is_honest result.1 → IsPlayedOn ⟦<D as Disk>⟧ script.now disk result.1)) }
     ensures why { IfErr result.0 (IsWhyUnplayed script.now (result.1 ≡ disk)) }
-    ensures lines { OnOk result.0 (D.is_honest result.1 →
-        IsPlayedOn ⟦<D as Disk>⟧ script.now disk result.1) }
     ensures played { D.is_honest result.1 →
         KeepsPlaying D.seen D.may_leave D.moment D.left_since disk result.1 }
 {

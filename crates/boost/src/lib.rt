@@ -4,6 +4,6 @@
 mod commands;
 
 pub use arguments::{Task, command};
-pub use commands::{Failure, report, run};
+pub use commands::{Failure, STORED_RUN, report, run};
 pub use player::Said;
 pub use script::{Action, Line, Operation, Request, ScriptError, Verb, parse};

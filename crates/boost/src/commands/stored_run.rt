@@ -1,19 +1,22 @@
 // A stored script, run on a disk in memory.
-ghost use Rattle.std.specs.Prelude.{IfErr};
+ghost use Rattle.std.specs.Prelude.{OnOk, IfOk, IfErr};
+ghost use Rattle.disk_model.specs.Disk.{IsAtRest};
+ghost use Rattle.recovery.specs.Formats.{IsEmptyStore};
 ghost use Rattle.boost.specs.Commands.{IsOfStore};
+ghost use Rattle.boost.specs.Effects.{IsPlayedAnew};
 
 use crate::commands::failure::Failure;
 use crate::commands::{play_lines, show};
 use calls::Refusal;
 use calls::limits::MIN_AREA;
-use disk_model::MemDisk;
+use disk_model::{Disk, MemDisk};
 use recovery::format;
 use script::parse;
 use std::alloc::Global;
 use std::io::Write;
 
-// The script.
-const SCRIPT: &[u8] =
+/// The script of Demo.
+pub const STORED_RUN: &[u8] =
     b"c1 make counter hits\nc1 begin\nc1 call hits bump 1\nc1 commit\nc1 kept\nturn\nc1 kept\nturn\n";
 
 // How many bytes its disk has: what stands before the areas, and two of the least areas.
@@ -21,11 +24,12 @@ const SIZE: u64 = 4096 + 2 * MIN_AREA;
 
 /// Runs the script on a disk of its own, and prints what the lines answer and what they leave.
 pub fn demo<O: Write>(alloc: Global, out: &mut O) -> Result<(), Failure<'static>>
-    ensures { IfErr result IsOfStore }
+    ensures done { OnOk result (IsPlayedAnew ⟦<MemDisk as Disk>⟧ STORED_RUN.now) }
+    ensures why { IfErr result IsOfStore }
 {
     let disk = demo_disk(alloc)?;
     // The stored script is understood: only memory can be wanting.
-    let Ok(lines) = parse(alloc, SCRIPT) else {
+    let Ok(lines) = parse(alloc, STORED_RUN) else {
         return Err(Failure::Refused(Refusal::NoMemory));
     };
     let (played, disk) = play_lines(alloc, disk, lines, out);
@@ -37,7 +41,10 @@ pub fn demo<O: Write>(alloc: Global, out: &mut O) -> Result<(), Failure<'static>
 
 // An empty store in memory.
 fn demo_disk(alloc: Global) -> Result<MemDisk, Failure<'static>>
-    ensures { IfErr result IsOfStore }
+    ensures empty { IfOk result (λ disk. IsEmptyStore (⟦<MemDisk as Disk>⟧.seen disk)) }
+    ensures at_rest { IfOk result (λ disk.
+        IsAtRest ⟦<MemDisk as Disk>⟧.seen ⟦<MemDisk as Disk>⟧.may_leave disk) }
+    ensures why { IfErr result IsOfStore }
 {
     let mut disk = MemDisk::new(alloc, SIZE)?;
     format(&mut disk, MIN_AREA)?;

@@ -5,4 +5,4 @@ pub returns-in_err-format : goal.returns-in_err-format
 returns-in_err-format c =
     let p = err_from_is_err_and c.from_residual-in_err-format.result
     c.from_residual-in_err-format.ensures.1 in
-    rw (p.1, p.2) tt
+    rw (p.1, p.2) (record { empty = tt; at_rest = tt; why = tt })
