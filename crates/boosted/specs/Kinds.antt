@@ -150,5 +150,5 @@ counter_laws =
 pub pool_laws : BoostedLaws pool_meaning
 pool_laws =
     laws_of pools.Answers pools.after tt (λ s n c r w h. tt) pool_answered pool_deferred
-    pool_leaves pool_commutes pool_back pool_back_only pool_deferred_stays pool_past_call pool_past_later
-    pool_past_undoing
+    pool_leaves pool_commutes pool_back pool_back_only pool_deferred_stays pool_past_call
+    pool_past_later pool_past_undoing

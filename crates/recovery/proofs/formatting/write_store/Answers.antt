@@ -1,3 +1,4 @@
+use Rattle.std.proofs.Common.{rules}
 use Rattle.std.proofs.Common.{arith}
 use Rattle.recovery.proofs.FormatLemmas.{byte_written, shut_at_rest, still_room, empty_store}
 use Rattle.recovery.proofs.FormatLemmas.{filling, opening, ok_then}
@@ -41,3 +42,6 @@ returns-clause-stop g c =
     c.write_and_sync.ensures.any_moment
     c.write_and_sync-2.new.disk (c.fill.ensures.stop shut) c.in_ok-fill.ensures.durable room
     c.in_ok-fill.ensures.filled c.write_and_sync-2.ensures.any_moment
+
+pub returns-clause-durable : goal.returns-clause-durable
+returns-clause-durable g c = search rules

@@ -1,4 +1,3 @@
-use Rattle.std.proofs.Common.{rules}
 use Rattle.catalog.specs.Holdings.{Shows}
 use Rattle.catalog.proofs.Entries.{shown_at, named_at}
 use Rattle.catalog.proofs.catalog.Catalog.show.Goals as goal
@@ -13,6 +12,3 @@ returns-in_ok-shown_of-in-Some-clause-ok c =
 pub shown_of-requires : goal.shown_of-requires
 shown_of-requires c = named_at c.self.inside.collections.entries c.from.result
     (c.in-Some.name.now, c.in-Some.holding.now) c.self.invariant.1 c.in-Some.ensures.entry
-
-pub returns-in_err-shown_of-in-Some-clause-err : goal.returns-in_err-shown_of-in-Some-clause-err
-returns-in_err-shown_of-in-Some-clause-err c = search rules

@@ -1,4 +1,3 @@
-use Rattle.std.proofs.Common.{rules}
 use Rattle.std.proofs.Common.{sym, subst, true≢false}
 use Rattle.std.specs.Prelude.{IfErr}
 use Rattle.std.proofs.lemmas.Result.{IfErr-weaker}
@@ -43,6 +42,3 @@ returns-in-None-clause-ok c = (
 
 pub returns-in-None-clause-err : goal.returns-in-None-clause-err
 returns-in-None-clause-err c = none_past c.args.self.now c.args.at (sym c.in-None.ensures)
-
-pub returns-clause-ok : goal.returns-clause-ok
-returns-clause-ok c = search rules

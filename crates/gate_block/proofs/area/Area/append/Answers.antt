@@ -1,3 +1,4 @@
+use Rattle.std.proofs.Common.{rules}
 use Rattle.std.proofs.Common.{◌≡◌, ◌∷◌, [], ◌++◌, length, false, ap, sym, ◌∙◌, arith, List, ℕ}
 use Rattle.std.specs.Result.{is_err}
 use Rattle.gate_block.specs.Area.{bytes_of, HoldsRow}
@@ -29,3 +30,21 @@ returns-clause-counts g c = λ bodies body is holds here.
     let fine : is_err c.write_block.result ≡ false =
     sym c.is_err.ensures.value ∙ c.if-is_err.false in
     use_ok _ c.write_block.result fine (c.write_block.ensures.counts bodies body is holds here)
+
+pub returns-then-is_err-clause-any_moment : goal.returns-then-is_err-clause-any_moment
+returns-then-is_err-clause-any_moment g c = search rules
+
+pub returns-then-is_err-clause-any_moment_elsewhere : goal.returns-then-is_err-clause-any_moment_elsewhere
+returns-then-is_err-clause-any_moment_elsewhere g c = search rules
+
+pub returns-then-is_err-clause-elsewhere : goal.returns-then-is_err-clause-elsewhere
+returns-then-is_err-clause-elsewhere g c = search rules
+
+pub returns-clause-any_moment : goal.returns-clause-any_moment
+returns-clause-any_moment g c = search rules
+
+pub returns-clause-any_moment_elsewhere : goal.returns-clause-any_moment_elsewhere
+returns-clause-any_moment_elsewhere g c = search rules
+
+pub returns-clause-elsewhere : goal.returns-clause-elsewhere
+returns-clause-elsewhere g c = search rules

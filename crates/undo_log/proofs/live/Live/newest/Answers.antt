@@ -1,3 +1,5 @@
+use Rattle.std.proofs.lemmas.Grind.{common_steps}
+use Rattle.std.proofs.Common.{arith}
 use Rattle.std.proofs.Common.{subst, map}
 use Rattle.std.specs.List.{remove}
 use Rattle.undo_log.specs.Entries.{owned_entry, event_of, IsNewestCall, IsNewestPlace}
@@ -19,3 +21,6 @@ returns-clause-found c =
           (newest_here number items place c.index.result.now c.index.ensures c.in-Asked.logged
           c.in-Asked.is found),
     )
+
+pub unreachable-requires : goal.unreachable-requires
+unreachable-requires c = grind (arith, common_steps)

@@ -1,3 +1,5 @@
+use Rattle.std.proofs.lemmas.Grind.{common_steps}
+use Rattle.std.proofs.Common.{arith}
 use Rattle.std.proofs.Common.{◌∙◌, sym, ap, subst, arith, map, length, vec_len, vec_capacity}
 use Rattle.std.specs.List.{remove}
 use Rattle.calls.specs.Transactions.{own}
@@ -76,3 +78,6 @@ returns-clause-rooms c n live had =
     room_stays (vec_len old) (vec_capacity old) (vec_len new) (vec_capacity new)
     c.self.inside.slots.slots c.count_down.new.slots.slots (λ fits. omega arith) n live
     (subst (λ log. HasRoom log n) (sym c.self.view_is) had)
+
+pub unreachable-requires : goal.unreachable-requires
+unreachable-requires c = grind (arith, common_steps)

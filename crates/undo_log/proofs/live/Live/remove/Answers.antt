@@ -39,3 +39,6 @@ returns-clause-rooms c n live had =
     room_stays (vec_len old) (vec_capacity old) (vec_len new) (vec_capacity new)
     c.self.inside.slots.slots c.clear_slot.new.slots.slots (λ fits. omega arith) n live
     (subst (λ log. HasRoom log n) (sym c.self.view_is) had)
+
+pub returns-clause-live : goal.returns-clause-live
+returns-clause-live c = search rules
