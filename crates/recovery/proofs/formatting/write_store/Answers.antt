@@ -1,5 +1,4 @@
-use Rattle.std.proofs.Common.{rules}
-use Rattle.std.proofs.Common.{arith}
+use Rattle.std.proofs.Common.{arith, rules}
 use Rattle.recovery.proofs.FormatLemmas.{byte_written, shut_at_rest, still_room, empty_store}
 use Rattle.recovery.proofs.FormatLemmas.{filling, opening, ok_then}
 use Rattle.recovery.proofs.formatting.write_store.Goals as goal

@@ -1,5 +1,4 @@
-use Rattle.std.proofs.Common.{rules}
-use Rattle.std.proofs.Common.{◌∷◌, arith, length, length-append, ap}
+use Rattle.std.proofs.Common.{◌∷◌, arith, length, length-append, ap, rules}
 use Rattle.std.proofs.lemmas.Result.{err_from_is_err_and}
 use Rattle.script.specs.Scripts.{lines_of}
 use Rattle.script.proofs.ScriptLines.{says_more, stops_more, says_last, why_here, why_last}

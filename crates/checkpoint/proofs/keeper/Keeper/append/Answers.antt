@@ -1,6 +1,5 @@
-use Rattle.std.proofs.Common.{rules}
 use Rattle.std.proofs.Common.{◌≡◌, ◌<◌, ◌+◌, sym, ◌∙◌, refl, subst, Bool, true, false, true≢false}
-use Rattle.std.proofs.Common.{Option, None, Err, List, ℕ, length}
+use Rattle.std.proofs.Common.{Option, None, Err, List, ℕ, length, rules}
 use Rattle.calls.specs.declared.refusal.Refusal.{Refusal}
 use Rattle.disk_model.specs.Disk.{Rises}
 use Rattle.gate_block.specs.declared.area.Area.{Area}

@@ -1,5 +1,4 @@
-use Rattle.std.proofs.Common.{rules}
-use Rattle.std.proofs.Common.{length}
+use Rattle.std.proofs.Common.{length, rules}
 use Rattle.disk_model.proofs.Walk.{leaves_now}
 use Rattle.gate_block.specs.Area.{LeavesElsewhere}
 use Rattle.checkpoint.proofs.Apart.{still_ready}

@@ -1,5 +1,4 @@
-use Rattle.std.proofs.Common.{rules}
-use Rattle.std.proofs.Common.{◌≡◌, sym, ◌∙◌, subst}
+use Rattle.std.proofs.Common.{◌≡◌, sym, ◌∙◌, subst, rules}
 use Rattle.gate_block.specs.Row.{IsBlockOf}
 use Rattle.blocks.specs.declared.block.Block.{Block}
 use Rattle.checkpoint.proofs.Turning.{brought, same_head, laid_on}

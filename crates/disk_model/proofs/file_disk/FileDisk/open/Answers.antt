@@ -1,6 +1,5 @@
-use Rattle.std.proofs.Common.{rules}
 use Rattle.std.proofs.Common.{◌++◌, ℕ, List, false, replicate, length, refl, sym, ap, ◌∙◌, arith}
-use Rattle.std.proofs.Common.{length-append, subst}
+use Rattle.std.proofs.Common.{length-append, subst, rules}
 use Rattle.std.proofs.lemmas.List.{length-take-le, length-replicate}
 use Rattle.disk_model.specs.Marks.{Leaves}
 use Rattle.disk_model.specs.Events.{Event, padded, seen_of, marks_of}

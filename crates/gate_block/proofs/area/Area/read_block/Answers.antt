@@ -1,5 +1,3 @@
-use Rattle.std.proofs.Common.{refl}
-use Rattle.std.proofs.Common.{arith}
 use Rattle.std.proofs.Common.{◌≡◌, ◌+◌, List, ℕ, take, drop, refl, sym, ◌∙◌, ap, arith}
 use Rattle.gate_block.proofs.Reading.{stands, broken}
 use Rattle.gate_block.proofs.area.Area.read_block.Goals as goal

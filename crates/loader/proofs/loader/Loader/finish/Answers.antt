@@ -1,5 +1,4 @@
-use Rattle.std.proofs.Common.{rules}
-use Rattle.std.proofs.Common.{sym, ◌∙◌, ap, subst, map}
+use Rattle.std.proofs.Common.{sym, ◌∙◌, ap, subst, map, rules}
 use Rattle.calls.specs.Transactions.{Leads, calls_of}
 use Rattle.undo_log.specs.Entries.{owned_entry}
 use Rattle.undo_log.specs.Logs.{Log}

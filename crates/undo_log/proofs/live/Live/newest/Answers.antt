@@ -1,6 +1,5 @@
 use Rattle.std.proofs.lemmas.Grind.{common_steps}
-use Rattle.std.proofs.Common.{arith}
-use Rattle.std.proofs.Common.{subst, map}
+use Rattle.std.proofs.Common.{subst, map, arith}
 use Rattle.std.specs.List.{remove}
 use Rattle.undo_log.specs.Entries.{owned_entry, event_of, IsNewestCall, IsNewestPlace}
 use Rattle.undo_log.specs.Logs.{Log}

@@ -1,5 +1,4 @@
 use Rattle.std.proofs.lemmas.Grind.{common_steps}
-use Rattle.std.proofs.Common.{arith}
 use Rattle.std.proofs.Common.{◌∙◌, sym, ap, subst, arith, map, length, vec_len, vec_capacity}
 use Rattle.std.specs.List.{remove}
 use Rattle.calls.specs.Transactions.{own}
