@@ -33,7 +33,7 @@ def declared(path):
 # Where a definition may stand that the page shows in the part on a crate.
 PARTS = {
     'records': ['record_format', 'record_reading', 'records'],
-    'txn': ['machine', 'loader', 'blocks', 'images', 'txn'],
+    'txn': ['ledger', 'machine', 'loader', 'blocks', 'images', 'txn'],
     'recovery': ['repetition', 'undoing', 'recovery'],
     'boost': ['script', 'arguments', 'player', 'boost'],
 }

@@ -1,65 +1,40 @@
 // What a store refuses.
 use std::alloc::{AllocError, AllocFailed};
+use std::fmt;
 use thiserror::Error;
 
 /// Why a call was refused. Unless the call says otherwise, it left everything as before.
 #[derive(Clone, Copy, Debug, PartialEq, Eq, Error)]
 pub enum Refusal {
-    #[error("BadName")]
     BadName,
-    #[error("BadArg")]
     BadArg,
-    #[error("TooLong")]
     TooLong,
     /// Only where a growth was refused.
-    #[error("NoMemory")]
     NoMemory,
-    #[error("NameTaken")]
     NameTaken,
-    #[error("NoSuchCollection")]
     NoSuchCollection,
-    #[error("WrongKind")]
     WrongKind,
-    #[error("TooManyCollections")]
     TooManyCollections,
     /// The number of the least other transaction that holds a need in conflict.
-    #[error("Busy {0}")]
     Busy(u64),
-    #[error("NoSuchTxn")]
     NoSuchTxn,
-    #[error("Falling")]
     Falling,
-    #[error("TooManyLive")]
     TooManyLive,
-    #[error("TooManyCalls")]
     TooManyCalls,
-    #[error("Backlog")]
     Backlog,
-    #[error("AlreadyGoing")]
     AlreadyGoing,
-    #[error("Worn")]
     Worn,
     /// The position on the disk of the gate of the block in which the damage stands.
-    #[error("Damaged {0}")]
     Damaged(u64),
-    #[error("Full")]
     Full,
     /// Only where the disk's count of faults rose in the call.
-    #[error("Fault")]
     Fault,
-    #[error("Failed")]
     Failed,
-    #[error("NotAStore")]
     NotAStore,
-    #[error("NotNow")]
     NotNow,
-    #[error("Lost")]
     Lost,
-    #[error("Unfinished")]
     Unfinished,
-    #[error("AlreadyLive")]
     AlreadyLive,
-    #[error("Imaging")]
     Imaging,
 }
 
@@ -98,6 +73,48 @@ impl Refusal {
             Refusal::Unfinished => 24,
             Refusal::AlreadyLive => 25,
             Refusal::Imaging => 26,
+        }
+    }
+    // The name of the refusal, as it is printed.
+    fn name(&self) -> &'static str {
+        match self {
+            Refusal::BadName => "BadName",
+            Refusal::BadArg => "BadArg",
+            Refusal::TooLong => "TooLong",
+            Refusal::NoMemory => "NoMemory",
+            Refusal::NameTaken => "NameTaken",
+            Refusal::NoSuchCollection => "NoSuchCollection",
+            Refusal::WrongKind => "WrongKind",
+            Refusal::TooManyCollections => "TooManyCollections",
+            Refusal::Busy(_) => "Busy",
+            Refusal::NoSuchTxn => "NoSuchTxn",
+            Refusal::Falling => "Falling",
+            Refusal::TooManyLive => "TooManyLive",
+            Refusal::TooManyCalls => "TooManyCalls",
+            Refusal::Backlog => "Backlog",
+            Refusal::AlreadyGoing => "AlreadyGoing",
+            Refusal::Worn => "Worn",
+            Refusal::Damaged(_) => "Damaged",
+            Refusal::Full => "Full",
+            Refusal::Fault => "Fault",
+            Refusal::Failed => "Failed",
+            Refusal::NotAStore => "NotAStore",
+            Refusal::NotNow => "NotNow",
+            Refusal::Lost => "Lost",
+            Refusal::Unfinished => "Unfinished",
+            Refusal::AlreadyLive => "AlreadyLive",
+            Refusal::Imaging => "Imaging",
+        }
+    }
+}
+
+impl fmt::Display for Refusal {
+    fn fmt<W: fmt::Write>(&self, f: &mut fmt::Formatter<W>) -> fmt::Result {
+        f.write_str(self.name())?;
+        match self {
+            Refusal::Busy(number) => write!(f, " {number}"),
+            Refusal::Damaged(position) => write!(f, " {position}"),
+            _ => Ok(()),
         }
     }
 }

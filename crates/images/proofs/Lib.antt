@@ -1,1 +1,1 @@
-mod Frozen
+mod ImageRecords

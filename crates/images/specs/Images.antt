@@ -1,10 +1,8 @@
 -- The parts of an image, as records, and the whole image in blocks.
-use Rattle.std.specs.Prelude.{◌≡◌, ℕ, ◌<◌, ◌↔◌, List, ◌∷◌, length, map, Contains, Option, None}
+use Rattle.std.specs.Prelude.{◌≡◌, ℕ, ◌<◌, ◌↔◌, List, ◌∷◌, length, map, Contains, None}
 use Rattle.std.specs.List.{AllByRecursion}
 use Rattle.std.specs.declared.vec.Vec.{Vec}
 use Rattle.std.specs.declared.alloc.Global.{Global}
-use Rattle.calls.specs.declared.call.Call.{Call}
-use Rattle.calls.specs.declared.reply.Reply.{Reply}
 use Rattle.calls.specs.Contents.{Collection}
 use Rattle.catalog.specs.declared.shown.Shown.{Shown}
 use Rattle.undo_log.specs.Logs.{Statuses, Lives}

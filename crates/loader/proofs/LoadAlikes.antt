@@ -13,8 +13,8 @@ use Rattle.record_format.specs.Acts.{event_of}
 use Rattle.machine.specs.Machine.{State}
 use Rattle.machine.specs.Machines.{Alike, StepAnswers, RepeatAnswers}
 use Rattle.loader.specs.Loading.{LiveSteps}
-use Rattle.machine.proofs.Alikes.{SameHolds, clear_there, added_there, added_same, with_holds}
-use Rattle.machine.proofs.Alikes.{same_alike, alike_self, alike_trans, alike_is}
+use Rattle.machine.proofs.AlikeStates.{SameHolds, clear_there, added_there, added_same, with_holds}
+use Rattle.machine.proofs.AlikeStates.{same_alike, alike_self, alike_trans, alike_is}
 use Rattle.boosted.specs.Meaning.{Meaning}
 use Rattle.calls.specs.Rules.{need_of}
 

@@ -27,7 +27,7 @@ use Rattle.machine.specs.Machines.{unmade}
 use Rattle.loader.specs.Loading.{LoadRow, StandRow, HeldCallRow, HeldLaterRow, CanHoldCall}
 use Rattle.loader.specs.Loading.{CanHoldLater, IsLast, LoadAnswers}
 use Rattle.machine.specs.Views.{state_of}
-use Rattle.machine.proofs.Statuses.{nobody, lives_more}
+use Rattle.machine.proofs.LiveNumbers.{nobody, lives_more}
 use Rattle.machine.proofs.Sizes.{pushed_length}
 use Rattle.boosted.specs.Meaning.{Meaning}
 use Rattle.records.specs.Told.{Tells}

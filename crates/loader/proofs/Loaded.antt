@@ -45,10 +45,10 @@ use Rattle.machine.specs.Theory.Collections.{collection_rules}
 use Rattle.machine.proofs.Theory.Lists.{each_map}
 use Rattle.machine.proofs.Theory.Loading.{load_sound}
 use Rattle.machine.proofs.Theory.Undo.{nothing}
-use Rattle.machine.proofs.Statuses.{nobody, lives_more, falls_fresh}
-use Rattle.machine.proofs.Owned.{owner, left, calls_are}
-use Rattle.machine.proofs.Going.{left_once}
-use Rattle.machine.proofs.Shown.{live_begun, falling_begun, needs_more, clear_here}
+use Rattle.machine.proofs.LiveNumbers.{nobody, lives_more, falls_fresh}
+use Rattle.machine.proofs.OwnedEntries.{owner, left, calls_are}
+use Rattle.machine.proofs.LeftCalls.{left_once}
+use Rattle.machine.proofs.TheoryRows.{live_begun, falling_begun, needs_more, clear_here}
 use Rattle.machine.proofs.BookLaws.{BookLaws}
 use Rattle.loader.proofs.LoadRows.{read_names}
 use Rattle.machine.proofs.Steps as steps

@@ -19,8 +19,8 @@ use Rattle.boosted.proofs.Each.{weaker, each_front, each_back}
 use Rattle.boosted.proofs.Runs.{Leads-append, Leads-split, Leads-unique}
 use Rattle.machine.specs.Machine.{Does}
 use Rattle.loader.specs.Loading.{calls_in, HasRoomBack, HasLed, TakenBack, DoneAgain}
-use Rattle.machine.proofs.Running.{leads_once}
-use Rattle.machine.proofs.Wearing.{wears_more}
+use Rattle.machine.proofs.PutOffRuns.{leads_once}
+use Rattle.machine.proofs.RoomForRuns.{wears_more}
 use Rattle.boosted.specs.Laws.{BoostedLaws}
 use Rattle.catalog.specs.Making.{Making}
 use Rattle.records.specs.Told.{Tells}

@@ -22,7 +22,8 @@ use Rattle.catalog.specs.Holdings.{Loads}
 use Rattle.record_format.specs.declared.record.Record.{Record}
 use Rattle.record_format.specs.Acts.{event_of}
 use Rattle.record_format.specs.Records.{IsNumber}
-use Rattle.machine.specs.Machine.{State, Does, GoesTwice}
+use Rattle.machine.specs.Machine.{State, Does}
+use Rattle.ledger.specs.LeftCalls.{GoesTwice}
 
 -- A collection of the name and the kind, which has these items, comes to the end, where there are
 -- fewer than 256; the wear can reach its content.

@@ -1,21 +1,20 @@
 -- What a book needs of its collections, from the laws of their traits.
 use Rattle.records.specs.Told.{Tells}
 use Rattle.boosted.specs.Laws.{BoostedLaws}
-use Rattle.std.proofs.Common.{◌≡◌, ◌≤◌, ℕ, ◌+◌, Option, Some, List, length, sym, ◌∙◌, subst}
+use Rattle.std.proofs.Common.{◌≡◌, ℕ, ◌+◌, Some, List, sym, subst}
 use Rattle.calls.specs.declared.kind.Kind.{Kind}
 use Rattle.calls.specs.declared.call.Call.{Call}
 use Rattle.calls.specs.declared.reply.Reply.{Reply}
-use Rattle.calls.specs.declared.need.Need.{Need}
 use Rattle.calls.specs.Contents.{Collection}
-use Rattle.calls.specs.Rules.{Askable, IsShort, Pairs, inverse_of, left_by}
-use Rattle.boosted.specs.Meaning.{Does, Meaning}
+use Rattle.calls.specs.Rules.{Askable, IsShort, Pairs, inverse_of}
+use Rattle.boosted.specs.Meaning.{Meaning}
 use Rattle.record_format.specs.Short.{AreShort, IsShortReply}
 use Rattle.record_format.proofs.CallRecords.{answered_pairs}
 use Rattle.records.proofs.Items as values
 use Rattle.machine.specs.Theory.Rules.{RuleLaws}
 use Rattle.machine.specs.Theory.Collections.{collection_rules}
 use Rattle.machine.proofs.Theory.Collections.{collection_laws}
-use Rattle.machine.proofs.Wearing.{wears_more}
+use Rattle.machine.proofs.RoomForRuns.{wears_more}
 use Rattle.catalog.specs.Making.{Making, MakingLaws}
 
 -- short: no value in the content is too long to be spelled.

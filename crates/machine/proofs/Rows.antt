@@ -3,9 +3,6 @@ use Rattle.std.proofs.Common.{◌≡◌, ℕ, ◌+◌, ◌<◌, false, List, [],
 use Rattle.std.proofs.Common.{subst, arith}
 use Rattle.std.specs.FinMap as maps
 use Rattle.calls.specs.declared.kind.Kind.{Kind}
-use Rattle.calls.specs.declared.call.Call.{Call}
-use Rattle.calls.specs.declared.reply.Reply.{Reply}
-use Rattle.calls.specs.declared.need.Need.{Need}
 use Rattle.calls.specs.Names.{IsName}
 use Rattle.calls.specs.Transactions.{Event, Asked, others}
 use Rattle.calls.specs.declared.refusal.Refusal.{Refusal}

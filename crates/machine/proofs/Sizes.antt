@@ -11,7 +11,7 @@ use Rattle.undo_log.specs.Logs.{Statuses, Lives, fallen}
 use Rattle.boosted.specs.Runs as runs
 use Rattle.machine.proofs.Theory.Lists.{not_same, own_others_same, own_others_other}
 use Rattle.machine.proofs.Counting.{number}
-use Rattle.machine.proofs.Statuses.{nobody, fallen_is}
+use Rattle.machine.proofs.LiveNumbers.{nobody, fallen_is}
 
 not_lives : (b : Bool) → (b ≡ true → ⊥) → b ≡ false
 not_lives true no_more = absurd (no_more refl)

@@ -1,13 +1,12 @@
 -- Every step of the machine leaves a sound state, and moves the settled content as the transaction
 -- that it commits says.
-use Rattle.std.proofs.Common.{◌≡◌, ℕ, ◌==◌, Option, is_some, arith, List, [], ◌∷◌, map, refl, sym}
+use Rattle.std.proofs.Common.{◌≡◌, ℕ, ◌==◌, is_some, arith, List, [], ◌∷◌, map, refl, sym}
 use Rattle.std.proofs.Common.{◌∙◌, ap, subst}
 use Rattle.std.specs.List.{filter, AllByRecursion}
 use Rattle.std.specs.FinMap as maps
 use Rattle.calls.specs.declared.kind.Kind.{Kind}
 use Rattle.calls.specs.declared.call.Call.{Call}
 use Rattle.calls.specs.declared.reply.Reply.{Reply}
-use Rattle.calls.specs.declared.need.Need.{Need}
 use Rattle.calls.specs.Rules.{Askable, Disposable}
 use Rattle.calls.specs.Transactions.{Event, Entry, Asked, PutOff, Leads, Whole, calls_of, laters_of}
 use Rattle.calls.specs.Transactions.{own}
@@ -32,12 +31,12 @@ use Rattle.machine.proofs.Theory.Derived.{laters_late}
 use Rattle.machine.proofs.Theory.Serial as serial
 use Rattle.machine.proofs.Theory.Undo.{newest_undone, nothing}
 use Rattle.machine.proofs.Theory.Whole.{idle_sound}
-use Rattle.machine.proofs.Statuses.{nobody}
+use Rattle.machine.proofs.LiveNumbers.{nobody}
 use Rattle.machine.proofs.Theory.Stands.{falls_sound}
-use Rattle.machine.proofs.Owned.{owner, left, leads_map, leads_back, calls_are, laters_are}
-use Rattle.machine.proofs.Owned.{own_owned, own_laters, newest_call}
-use Rattle.machine.proofs.Shown.{Follows, make_follows, begin_follows, call_follows, later_follows}
-use Rattle.machine.proofs.Shown.{commit_follows, ended_follows, back_follows, fall_follows}
+use Rattle.machine.proofs.OwnedEntries.{owner, left, leads_map, leads_back, calls_are, laters_are}
+use Rattle.machine.proofs.OwnedEntries.{own_owned, own_laters, newest_call}
+use Rattle.machine.proofs.TheoryRows.{Follows, make_follows, begin_follows, call_follows, later_follows}
+use Rattle.machine.proofs.TheoryRows.{commit_follows, ended_follows, back_follows, fall_follows}
 use Rattle.boosted.specs.Meaning.{Meaning}
 use Rattle.catalog.specs.Making.{Making}
 

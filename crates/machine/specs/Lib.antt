@@ -1,4 +1,3 @@
-pub mod Ledgers
 pub mod Theory
 pub mod Machine
 pub mod Machines

@@ -1,14 +1,13 @@
 -- The machine over records: the state that records lead to. The book runs it forward, and recovery
 -- repeats it.
 use Rattle.std.specs.Prelude.{◌≡◌, ℕ, ◌+◌, ◌<◌, ◌≤◌, ◌^◌, false, List, [], ◌∷◌, ◌++◌, length, map}
-use Rattle.std.specs.Prelude.{Contains, Option}
 use Rattle.std.specs.FinMap as maps
 use Rattle.calls.specs.declared.kind.Kind.{Kind}
 use Rattle.calls.specs.declared.call.Call.{Call}
 use Rattle.calls.specs.declared.reply.Reply.{Reply}
-use Rattle.calls.specs.declared.need.Need.{Need}
-use Rattle.calls.specs.Rules.{left_by, need_of}
+use Rattle.calls.specs.Rules.{need_of}
 use Rattle.calls.specs.Transactions.{Event, Entry, Asked, PutOff, own, others, calls_of, laters_of}
+use Rattle.ledger.specs.LeftCalls.{GoesTwice}
 use Rattle.calls.specs.Transactions.{Leads}
 use Rattle.abstract_locks.specs.declared.table.Hold.{Hold}
 use Rattle.abstract_locks.specs.Holds.{hold, IsClear, IsAdded, IsGivenUp}
@@ -70,15 +69,6 @@ pub record FallRow {S : Type 0} (s : State S) (n : ℕ) (t : State S) : Type 0 w
   pub live : Lives s.live n
   pub undone : HasNoCall n s.entries
   pub is : t ≡ record s { live = fallen s.live n }
-
--- A call of the transaction that is not undone has left this one at the place to its commit.
-abbrev pub IsGoing : List (ℕ × Entry) → (n at : ℕ) → Call → Type 0
-IsGoing entries n at c = (x : Event) × Contains (own n entries) (Asked x) × (x.at ≡ at) ×
-    Contains (left_by x.call x.reply) c
-
--- What the call leaves is going already: nothing can be left twice.
-abbrev pub GoesTwice : List (ℕ × Entry) → ℕ → Event → Type 0
-GoesTwice entries n e = (c : Call) × Contains (left_by e.call e.reply) c × IsGoing entries n e.at c
 
 -- A collection is made, under a good name that is free, where there are fewer than 256.
 pub record MakeRow {S : Type 0} (making : Making S) (s : State S) (name : List ℕ) (kind : Kind)

@@ -4,10 +4,8 @@ use Rattle.std.specs.Prelude.{◌≡◌, ℕ, ◌+◌, ◌≤◌, ◌^◌, ◌�
 use Rattle.std.specs.Prelude.{false, Result, Ok, Err}
 use Rattle.std.specs.FinMap as maps
 use Rattle.std.specs.List.{AllByRecursion}
-use Rattle.calls.specs.declared.call.Call.{Call}
-use Rattle.calls.specs.declared.reply.Reply.{Reply}
 use Rattle.calls.specs.declared.refusal.Refusal.{Refusal}
-use Rattle.calls.specs.Rules.{Askable, IsShort, Disposable, Deferrable, left_by, Pairs}
+use Rattle.calls.specs.Rules.{Askable, IsShort, Disposable, Deferrable, Pairs}
 use Rattle.calls.specs.Transactions.{Event, Entry, Asked, PutOff, Leads, own}
 use Rattle.abstract_locks.specs.declared.table.Hold.{Hold}
 use Rattle.undo_log.specs.Logs.{Lives}
@@ -48,11 +46,6 @@ module _ {S : Type 0} (meaning : Meaning S ℕ) (making : Making S) (short : S �
     pub holds : sound s
 
 -- ---- what is put off to a commit
-
--- What was asked for leaves the call at the place to the commit.
-abbrev pub IsLeftBy : Entry → (at : ℕ) → Call → Type 0
-IsLeftBy (Asked x) at c = (x.at ≡ at) × Contains (left_by x.call x.reply) c
-IsLeftBy (PutOff place d) at c = ⊥
 
 -- The calls can be made from the content one after another: each may run in a commit, and there is
 -- room in the wear for all.

@@ -1,9 +1,6 @@
 -- What holds of every state that the machine reaches, in the words of the theory.
-use Rattle.std.specs.Prelude.{◌≡◌, ℕ, ◌↔◌, Option, List, map, Contains}
-use Rattle.calls.specs.declared.kind.Kind.{Kind}
-use Rattle.calls.specs.declared.call.Call.{Call}
+use Rattle.std.specs.Prelude.{◌≡◌, ℕ, ◌↔◌, List, map, Contains}
 use Rattle.calls.specs.declared.reply.Reply.{Reply}
-use Rattle.calls.specs.declared.need.Need.{Need}
 use Rattle.calls.specs.Transactions.{Event, Entry, Asked, PutOff}
 use Rattle.abstract_locks.specs.declared.table.Hold.{Hold}
 use Rattle.undo_log.specs.Logs.{Lives, Falls}

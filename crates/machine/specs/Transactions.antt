@@ -1,8 +1,5 @@
 -- Transactions that run whole, from one content to another.
-use Rattle.std.specs.Prelude.{ℕ, List}
-use Rattle.calls.specs.declared.kind.Kind.{Kind}
-use Rattle.calls.specs.declared.call.Call.{Call}
-use Rattle.calls.specs.declared.reply.Reply.{Reply}
+use Rattle.std.specs.Prelude.{ℕ}
 use Rattle.calls.specs.Transactions.{Leads, Transaction, Whole, Made, calls_of, laters_of}
 use Rattle.machine.specs.Machine.{Does}
 use Rattle.boosted.specs.Meaning.{Meaning}

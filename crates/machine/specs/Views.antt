@@ -3,7 +3,7 @@ use Rattle.std.specs.Prelude.{ℕ}
 use Rattle.abstract_locks.specs.Holds.{Holdings}
 use Rattle.undo_log.specs.Logs.{Log}
 use Rattle.machine.specs.Machine.{State}
-use Rattle.machine.specs.Ledgers.{Account, needs_of, log_of}
+use Rattle.ledger.specs.Ledgers.{Account, needs_of, log_of}
 
 -- the state of a machine
 abbrev pub state_of : {S : Type 0} → S → Holdings → Log → (wear : ℕ) → State S

@@ -1,49 +1,15 @@
-// What transactions leave and put off to their commits.
-ghost use Rattle.std.specs.Prelude.{◌≡◌, ◌↔◌, [], ◌∷◌, length, map, Contains, IsTrue};
+// What transactions put off to their commits, and what their calls left to these.
+ghost use Rattle.std.specs.Prelude.{◌≡◌, [], ◌∷◌, length, map};
 ghost use Rattle.calls.specs.declared.reply.Reply.{Reply};
-ghost use Rattle.calls.specs.Rules.{left_by};
 ghost use Rattle.calls.specs.Transactions.{Leads, laters_of, own};
 ghost use Rattle.undo_log.specs.Entries.{entry_of, owned_entry};
-ghost use Rattle.machine.specs.Machine.{Does, IsGoing};
-ghost use Rattle.machine.specs.Machines.{IsLeftBy, CanRun};
+ghost use Rattle.machine.specs.Machine.{Does};
+ghost use Rattle.machine.specs.Machines.{CanRun};
 
 use calls::{Call, Reply};
 use catalog::Parts;
 use records::Coded;
 use undo_log::{Entry, Owned};
-
-// Whether a call of the transaction, among these entries, has left this one at the place to its
-// commit.
-pub(crate) fn is_going(entries: &[Owned], number: u64, at: u8, call: &Call) -> bool
-    ensures { IsTrue result ↔ IsGoing (map owned_entry entries.now) number at call.now }
-{
-    for owned in entries {
-        if owned.owner == number && is_left_by(&owned.entry, at, call) {
-            return true;
-        }
-    }
-    false
-}
-
-// Whether what was asked for leaves the call at the place to the commit.
-fn is_left_by(entry: &Entry, at: u8, call: &Call) -> bool
-    ensures { IsTrue result ↔ IsLeftBy (entry_of entry.now) at call.now }
-{
-    match entry {
-        Entry::Asked(logged) => { logged.at == at && leaves(&logged.call, &logged.reply, call) }
-        Entry::PutOff(_) => false,
-    }
-}
-
-// Whether the call, answered so, leaves the other one to the commit.
-fn leaves(call: &Call, reply: &Reply, other: &Call) -> bool
-    ensures { IsTrue result ↔ Contains (left_by call.now reply.now) other.now }
-{
-    match call.after(reply) {
-        Some(left) => left.is_same(other),
-        None => false,
-    }
-}
 
 // Runs what the transaction put off, in the order asked. How many calls that were.
 pub(crate) fn run_laters<B: Parts + Coded>(parts: &mut B, entries: &[Owned], number: u64) -> u64

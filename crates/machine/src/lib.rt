@@ -2,10 +2,8 @@
 #![tactic(auto)]
 
 mod laters;
-mod ledger;
 mod machine;
 mod undoing;
 
-pub use ledger::Ledger;
 pub use machine::{Machine, unmade};
 pub use undoing::inverse;

@@ -2,13 +2,15 @@
 use Rattle.std.proofs.Common.{◌≡◌, ◌≢◌, ◌⊎◌, inl, inr, ℕ, ◌+◌, ◌-◌, ◌*◌, ◌%◌, ◌≤◌, List, [], ◌∷◌}
 use Rattle.std.proofs.Common.{◌++◌, length, take, drop, get_or, codes, refl, sym, ◌∙◌, ap, subst}
 use Rattle.std.proofs.Common.{arith, append_assoc}
-use Rattle.std.specs.Prelude.{Result, Ok, Err, OnOk, None}
+use Rattle.std.specs.Prelude.{Result, Ok, Err, IsErr, OnOk, None}
 use Rattle.std.specs.Int.{w64, to_be_bytes}
 use Rattle.std.proofs.lemmas.List.{take-append-drop, take-take, drop-take, drop-drop, get_or-drop}
 use Rattle.std.proofs.lemmas.List.{get_or-take}
 use Rattle.std.proofs.lemmas.Bool.{cases_eq}
 use Rattle.disk_model.specs.Disk.{Overwritten, Torn, IsAtRest, LeavesOnly, WasTorn, Follows}
-use Rattle.disk_model.specs.Disk.{Elapses}
+use Rattle.disk_model.specs.Disk.{Elapses, HasCause}
+use Rattle.disk_model.specs.declared.disk.Fault.{Fault}
+use Rattle.undoing.proofs.Walks.{rises_before}
 use Rattle.disk_model.proofs.Stops.{overwritten_torn}
 use Rattle.disk_model.proofs.Walk.{started, goes_on, and_then, weaker}
 use Rattle.gate_block.specs.Row.{IsRow, part, row}
@@ -373,3 +375,11 @@ module _ {D : Type 0} (seen : D → List ℕ) (may_leave : D → List ℕ → Ty
 pub ok_then : {T E A B : Type 0} (r : Result T E) → OnOk r A → (A → B) → OnOk r B
 ok_then (Ok x) a f = f a
 ok_then (Err e) a f = tt
+
+-- a fault has its cause since an earlier time too
+pub caused : {T : Type 0} (first before now : ℕ) (r told : Result T Fault) →
+    first ≤ before → (IsErr told → IsErr r) → HasCause before now r → HasCause first now told
+caused first before now r told early same cause = record {
+  later = omega (arith, early, cause.later);
+  risen = λ err. rises_before first before now early cause.later (cause.risen (same err));
+}

@@ -1,6 +1,7 @@
 -- The head that is read is the one that the disk has.
 use Rattle.std.proofs.Common.{◌≡◌, ℕ, List, length, take, drop, get_or, sym, ◌∙◌, ap, subst, arith}
 use Rattle.std.proofs.Common.{length-drop, false, true≢false, Option, None, Some, Result, Ok, Err}
+use Rattle.std.proofs.Common.{◌+◌, ◌*◌, ◌<◌, ◌≤◌, ◌⊎◌, inl, inr, zero, suc}
 use Rattle.std.proofs.lemmas.List.{take-take, get_or-take, drop-take}
 use Rattle.std.specs.Int.{w64, to_be_bytes}
 use Rattle.std.specs.Option.{ok_or, IfNone}
@@ -51,3 +52,10 @@ no_header said result risen is_honest head bytes whole is read whole_is none =
 pub on_ok : {T E : Type 0} (r : Result T E) (P : Type 0) → is_err r ≡ false → OnOk r P → P
 on_ok (Ok x) P fine p = p
 on_ok (Err e) P fine p = absurd (true≢false fine)
+
+-- an area begins behind the head, or behind the area that does
+pub one_or_other : (size second : ℕ) → second < 2 → (size * second ≤ size) ×
+    ((4096 + size * second ≡ 4096) ⊎ (4096 + size * second ≡ 4096 + size))
+one_or_other size zero low = (omega arith, inl (omega arith))
+one_or_other size (suc zero) low = (omega arith, inr (omega arith))
+one_or_other size (suc (suc n)) low = absurd (omega (arith, low))

@@ -3,22 +3,19 @@ use Rattle.std.proofs.Common.{◌≡◌, ℕ, List, [], ◌∷◌, ◌++◌, map
 use Rattle.std.proofs.Common.{append_assoc, append-nil}
 use Rattle.std.specs.List.{AllByRecursion}
 use Rattle.std.specs.FinMap as maps
-use Rattle.calls.specs.Contents.{Collection, AnswersAt, after_at}
-use Rattle.calls.specs.Rules.{need_of, inverse_of}
-use Rattle.calls.specs.Transactions.{Transaction, Whole, Made, Event, Entry, Leads, Does, Makes}
+use Rattle.calls.specs.Contents.{Collection}
+use Rattle.calls.specs.Transactions.{Transaction, Whole, Made, Event, Entry, Leads, Does}
 use Rattle.calls.specs.Transactions.{RunsWhole, Serial, calls_of, laters_of, own, committed}
 use Rattle.calls.specs.Transactions.{committed_after}
-use Rattle.catalog.specs.Places.{Belongs, Misplaced}
-use Rattle.catalog.specs.Making.{names_of}
 use Rattle.record_format.specs.declared.record.Record.{Record}
 use Rattle.record_format.specs.Acts.{acts_of, acts_of_record}
 use Rattle.records.specs.Images.{TellOf, IsLiveRecord, IsImage, owned_entries}
 use Rattle.machine.specs.Machine.{IsSettled}
 use Rattle.machine.specs.Sound as txn
-use Rattle.machine.proofs.Played as played
-use Rattle.machine.proofs.Played.{gathered, gathered_append, committed_append}
+use Rattle.machine.proofs.RecordRuns as played
+use Rattle.machine.proofs.RecordRuns.{gathered, gathered_append, committed_append}
 use Rattle.machine.proofs.Steps as steps
-use Rattle.machine.proofs.Told.{serial_told}
+use Rattle.machine.proofs.NamedContents.{serial_told}
 use Rattle.repetition.specs.Journals.{Holds, StandsFor, records_in}
 use Rattle.repetition.specs.Steps.{State, Steps, Repeats}
 use Rattle.repetition.specs.Reading.{AreAccepted}

@@ -11,22 +11,21 @@ use Rattle.calls.specs.declared.kind.Kind.{Kind}
 use Rattle.calls.specs.declared.call.Call.{Call}
 use Rattle.calls.specs.declared.reply.Reply.{Reply}
 use Rattle.calls.specs.declared.need.Need.{Need}
-use Rattle.calls.specs.Contents.{AnswersAt, after_at}
+use Rattle.calls.specs.Contents.{after_at}
 use Rattle.calls.specs.Transactions.{Event, Entry, Asked, PutOff, Leads, own, others, calls_of}
-use Rattle.calls.specs.Transactions.{laters_of, Makes}
-use Rattle.calls.specs.Rules.{need_of, inverse_of}
-use Rattle.catalog.specs.Places.{Belongs}
-use Rattle.catalog.specs.Making.{names_of}
+use Rattle.calls.specs.Transactions.{laters_of}
+use Rattle.calls.specs.Rules.{need_of}
 use Rattle.abstract_locks.specs.declared.table.Hold.{Hold}
 use Rattle.abstract_locks.specs.Holds.{hold, Blocks, IsClear, IsAdded, IsGivenUp}
 use Rattle.abstract_locks.proofs.Members.{pushed_is_added, filtered_is_given_up}
 use Rattle.undo_log.specs.Entries.{HasNoCall, IsNewestCall}
 use Rattle.undo_log.specs.Logs.{Statuses, Lives, Falls, fallen}
-use Rattle.machine.specs.Machine.{Does, IsRunning, IsLeft, GoesTwice, BeginRow, FallRow, MakeRow}
+use Rattle.machine.specs.Machine.{Does, IsRunning, IsLeft, BeginRow, FallRow, MakeRow}
+use Rattle.ledger.specs.LeftCalls.{GoesTwice}
 use Rattle.machine.specs.Machine.{CallRow, LaterRow, CommitRow, BackRow, EndedRow}
 use Rattle.machine.proofs.Theory.Lists.{not_same}
-use Rattle.machine.proofs.Statuses.{fallen_is, lives_more, falls_more, falls_fresh, lives_fewer}
-use Rattle.machine.proofs.Statuses.{falls_fewer}
+use Rattle.machine.proofs.LiveNumbers.{fallen_is, lives_more, falls_more, falls_fresh, lives_fewer}
+use Rattle.machine.proofs.LiveNumbers.{falls_fewer}
 use Rattle.machine.proofs.Sizes.{len_begun, len_fallen, len_left}
 use Rattle.record_format.specs.declared.record.Record.{Record}
 use Rattle.record_format.specs.Acts.{event_of}

@@ -12,7 +12,7 @@ use Rattle.catalog.specs.Holdings.{ListsContent}
 use Rattle.record_format.specs.declared.record.Record.{Record}
 use Rattle.records.specs.Images.{TellOf, IsLiveRecord, Rise, IsImage}
 use Rattle.machine.specs.Machines.{resting}
-use Rattle.machine.proofs.Statuses.{lives_more}
+use Rattle.machine.proofs.LiveNumbers.{lives_more}
 use Rattle.repetition.specs.Steps.{State, Steps, Repeats}
 use Rattle.repetition.specs.Reading.{Named, Progress, InCollections, InNumbers, InCalls, InJournal}
 use Rattle.repetition.specs.Reading.{Closes, HoldsLive, Settles, Reads, ReadsLive, AreAccepted}

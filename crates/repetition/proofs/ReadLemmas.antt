@@ -4,7 +4,7 @@ use Rattle.std.proofs.Common.{◌≡◌, ◌⊎◌, ⊎_elim, ℕ, List, [], ◌
 use Rattle.std.proofs.Common.{Ok, Option, None, Some, refl, sym, ◌∙◌, ap, subst}
 use Rattle.calls.specs.declared.kind.Kind.{Kind}
 use Rattle.calls.specs.declared.item.Item.{Item}
-use Rattle.calls.specs.Contents.{Collection, AnswersAt, after_at}
+use Rattle.calls.specs.Contents.{Collection}
 use Rattle.calls.specs.Transactions.{Leads, calls_of}
 use Rattle.catalog.specs.Making.{names_of, IsNew}
 use Rattle.catalog.specs.Places.{IsWithin}

@@ -3,10 +3,8 @@
 use Rattle.std.specs.Prelude.{◌≡◌, ℕ, ◌+◌, ◌≤◌, ◌^◌, max, List, [], ◌∷◌, ◌++◌, Option, Some, None}
 use Rattle.calls.specs.declared.kind.Kind.{Kind}
 use Rattle.calls.specs.declared.item.Item.{Item}
-use Rattle.calls.specs.Contents.{Collection, AnswersAt, after_at}
+use Rattle.calls.specs.Contents.{Collection}
 use Rattle.calls.specs.Transactions.{Leads}
-use Rattle.calls.specs.Rules.{need_of}
-use Rattle.catalog.specs.Places.{Belongs, IsWithin}
 use Rattle.catalog.specs.Making.{names_of, IsNew}
 use Rattle.catalog.specs.Holdings.{Follows}
 use Rattle.record_format.specs.declared.record.Record.{Record}

@@ -1,10 +1,7 @@
 -- The machine over records, on named collections.
 use Rattle.std.specs.Prelude.{List, []}
-use Rattle.calls.specs.Contents.{Collection, AnswersAt, after_at}
-use Rattle.calls.specs.Transactions.{Leads, Makes}
-use Rattle.calls.specs.Rules.{need_of, inverse_of}
-use Rattle.catalog.specs.Places.{Belongs}
-use Rattle.catalog.specs.Making.{names_of}
+use Rattle.calls.specs.Contents.{Collection}
+use Rattle.calls.specs.Transactions.{Leads}
 use Rattle.record_format.specs.declared.record.Record.{Record}
 use Rattle.machine.specs.Machine as machine
 use Rattle.machine.specs.Machines.{resting}

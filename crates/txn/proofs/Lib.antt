@@ -1,4 +1,4 @@
-pub mod Kept
-pub mod Asked
-pub mod Played
+pub mod BookInvariant
+pub mod CallRecords
+pub mod BookHistory
 pub mod BookLemmas

@@ -1,12 +1,11 @@
 -- A book: the state that its records lead to, and the records that wait for a block.
 use Rattle.std.specs.Prelude.{◌≡◌, ℕ, ◌+◌, ◌*◌, ◌<◌, ◌≤◌, ◌^◌, ◌⊎◌, max, Bool, true, false, List}
-use Rattle.std.specs.Prelude.{[], ◌∷◌, ◌++◌, length, Contains, Option, None, Result, Ok, Err}
+use Rattle.std.specs.Prelude.{[], ◌∷◌, ◌++◌, length, Contains, None, Result, Ok, Err}
 use Rattle.std.specs.FinMap as maps
 use Rattle.std.specs.List.{AllByRecursion}
 use Rattle.calls.specs.declared.kind.Kind.{Kind}
 use Rattle.calls.specs.declared.call.Call.{Call}
 use Rattle.calls.specs.declared.reply.Reply.{Reply}
-use Rattle.calls.specs.declared.need.Need.{Need}
 use Rattle.calls.specs.declared.refusal.Refusal.{Refusal}
 use Rattle.calls.specs.Names.{IsName}
 use Rattle.calls.specs.Transactions.{Event, own}
@@ -18,7 +17,8 @@ use Rattle.catalog.specs.Making as naming
 use Rattle.record_format.specs.declared.record.Record.{Record}
 use Rattle.record_format.specs.Acts.{places}
 use Rattle.record_format.specs.Records.{call_record, IsRecord, IsNumber}
-use Rattle.machine.specs.Machine.{State, IsRunning, GoesTwice, CanBegin, BeginRow, CommitRow}
+use Rattle.machine.specs.Machine.{State, IsRunning, CanBegin, BeginRow, CommitRow}
+use Rattle.ledger.specs.LeftCalls.{GoesTwice}
 use Rattle.machine.specs.Machine.{EndedRow, FallRow, MakeRow, CallRow, LaterRow, BackRow}
 use Rattle.machine.specs.Machines.{resting, IsUpheld}
 use Rattle.blocks.specs.Cuts.{CutsOff}

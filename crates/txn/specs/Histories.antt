@@ -1,10 +1,9 @@
 -- Histories of a book: its steps with their answers, and what they commit.
-use Rattle.std.specs.Prelude.{◌≡◌, ℕ, ◌+◌, List, [], ◌∷◌, length, Bool, Option, Result, Ok}
+use Rattle.std.specs.Prelude.{◌≡◌, ℕ, ◌+◌, List, [], ◌∷◌, length, Bool, Result, Ok}
 use Rattle.std.specs.List.{flat_map}
 use Rattle.calls.specs.declared.kind.Kind.{Kind}
 use Rattle.calls.specs.declared.call.Call as calls
 use Rattle.calls.specs.declared.reply.Reply.{Reply}
-use Rattle.calls.specs.declared.need.Need.{Need}
 use Rattle.calls.specs.declared.refusal.Refusal.{Refusal}
 use Rattle.calls.specs.Contents.{Collection}
 use Rattle.calls.specs.Transactions.{Leads, Asked, PutOff, Transaction, Act, Begins, Asks, Commits}

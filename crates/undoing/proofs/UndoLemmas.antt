@@ -14,7 +14,7 @@ use Rattle.undo_log.specs.Entries.{IsNewestCall}
 use Rattle.undo_log.specs.Logs.{Statuses, Lives, fallen}
 use Rattle.record_format.specs.declared.record.Record.{Record}
 use Rattle.record_format.specs.Records.{IsNumber}
-use Rattle.machine.proofs.Statuses.{nobody, fallen_is, lives_more, lives_fewer}
+use Rattle.machine.proofs.LiveNumbers.{nobody, fallen_is, lives_more, lives_fewer}
 use Rattle.machine.proofs.Sizes.{len_fallen, len_left}
 use Rattle.machine.proofs.Theory.Lists.{own_others_other}
 use Rattle.repetition.specs.Steps.{State, Steps, Repeats}

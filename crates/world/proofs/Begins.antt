@@ -23,7 +23,7 @@ use Rattle.machine.specs.Sound.{IsSound}
 use Rattle.machine.specs.Theory.Rules.{Has}
 use Rattle.machine.proofs.Theory.Undo as undo
 use Rattle.machine.proofs.Steps as steps
-use Rattle.machine.proofs.Statuses.{nobody}
+use Rattle.machine.proofs.LiveNumbers.{nobody}
 use Rattle.checkpoint.specs.declared.laying.Laying.{Laying}
 use Rattle.checkpoint.specs.Keepers.{KeeperState, IsFresh, queue}
 use Rattle.repetition.specs.Journals.{records_in}

@@ -3,7 +3,7 @@ use Rattle.std.proofs.Common.{◌≡◌, ℕ, List, [], ◌∷◌, length, refl,
 use Rattle.calls.specs.Transactions.{Entry, committed_after}
 use Rattle.record_format.specs.declared.record.Record.{Record}
 use Rattle.record_format.specs.Acts.{acts_of_record, acts_of, places}
-use Rattle.machine.proofs.Played.{gathered, committed_append}
+use Rattle.machine.proofs.RecordRuns.{gathered, committed_append}
 use Rattle.blocks.proofs.Places.{places_append}
 
 place_of : (r : Record) (es : List (ℕ × Entry)) →

@@ -19,7 +19,7 @@ use Rattle.abstract_locks.specs.declared.table.Hold.{Hold}
 use Rattle.abstract_locks.specs.Holds.{hold, Blocks, IsClear, IsAdded}
 use Rattle.catalog.specs.Laws.ByPlace.{answered_belongs}
 use Rattle.record_format.specs.declared.record.Record.{Record}
-use Rattle.machine.specs.Machine.{GoesTwice, IsGoing}
+use Rattle.ledger.specs.LeftCalls.{GoesTwice, IsGoing}
 use Rattle.machine.specs.Machines.{IsAskedEntry}
 use Rattle.loader.specs.Loading.{HasRoomToHold}
 use Rattle.machine.specs.Sound.{owned, all_owned, Shows}
@@ -29,8 +29,8 @@ use Rattle.machine.specs.Theory.Machine as theory
 use Rattle.machine.specs.Theory.Loads as loads
 use Rattle.machine.specs.Theory.Collections.{collection_rules, later_of}
 use Rattle.machine.proofs.Theory.Lists.{at, filter_has, has_filter, has_left, has_right}
-use Rattle.machine.proofs.Owned.{owner, left}
-use Rattle.machine.proofs.Shown.{needs_more}
+use Rattle.machine.proofs.OwnedEntries.{owner, left}
+use Rattle.machine.proofs.TheoryRows.{needs_more}
 use Rattle.repetition.specs.Steps.{State}
 use Rattle.repetition.specs.Reading.{Progress, InCalls, HoldsLive, Reads, ReadsLive}
 use Rattle.world.proofs.ImageEntries.{entry_record, Placed, own_among}

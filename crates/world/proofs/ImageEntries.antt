@@ -22,7 +22,7 @@ use Rattle.machine.specs.Sound.{owned, all_owned}
 use Rattle.machine.specs.Theory.Rules.{Has}
 use Rattle.machine.specs.Theory.Journal as journal
 use Rattle.machine.specs.Theory.Images.{member, shown}
-use Rattle.machine.proofs.Owned.{owner}
+use Rattle.machine.proofs.OwnedEntries.{owner}
 use Rattle.repetition.specs.Lagging.{IsThinned}
 use Rattle.catalog.specs.Meaning.{catalog_meaning}
 

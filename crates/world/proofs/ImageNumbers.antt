@@ -17,7 +17,7 @@ use Rattle.undo_log.specs.Logs.{Statuses, Lives, Falls}
 use Rattle.record_format.specs.declared.record.Record.{Record}
 use Rattle.record_format.specs.Records.{IsNumber}
 use Rattle.records.specs.Images.{Rise}
-use Rattle.machine.proofs.Statuses.{lives_more, lives_fewer}
+use Rattle.machine.proofs.LiveNumbers.{lives_more, lives_fewer}
 use Rattle.machine.proofs.Sizes.{len_begun, len_left}
 use Rattle.repetition.specs.Steps.{State}
 use Rattle.repetition.specs.Reading.{Named, Progress, InCollections, InNumbers, Closes, Reads}

@@ -29,8 +29,8 @@ use Rattle.machine.specs.Theory.Images.{image_of, shown, is_put, member}
 use Rattle.machine.specs.Theory.Loads as loads
 use Rattle.machine.proofs.Theory.Lists.{at, filter_has}
 use Rattle.machine.proofs.Theory.Loading.{image_loads}
-use Rattle.machine.proofs.Statuses.{nobody}
-use Rattle.machine.proofs.Owned.{owner}
+use Rattle.machine.proofs.LiveNumbers.{nobody}
+use Rattle.machine.proofs.OwnedEntries.{owner}
 use Rattle.repetition.specs.Steps.{State, Repeats}
 use Rattle.repetition.specs.Reading.{Progress, Unread, InCollections, InJournal, Reads, Settles}
 use Rattle.repetition.specs.Reading.{AreAccepted}

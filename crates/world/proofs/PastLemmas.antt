@@ -10,7 +10,7 @@ use Rattle.record_format.specs.Acts.{acts_of_record, acts_of, places}
 use Rattle.world.specs.Pasts.{Past, acts_of_step, acts_in, records_of_step, records_of}
 use Rattle.world.specs.Pasts.{committed_in, told, greatest_told}
 use Rattle.repetition.proofs.Lists.{flat_map-append}
-use Rattle.machine.proofs.Played.{gathered, committed_append}
+use Rattle.machine.proofs.RecordRuns.{gathered, committed_append}
 use Rattle.world.proofs.History.{length-committed}
 
 -- a step says of transactions what its records say

@@ -18,11 +18,11 @@ use Rattle.record_format.specs.Records.{spelling, IsRecord, AreRecords}
 use Rattle.record_format.specs.Acts.{acts_of_record, acts_of, places}
 use Rattle.machine.specs.Machines.{resting}
 use Rattle.machine.specs.Machine.{IsSettled, Does}
-use Rattle.machine.proofs.Played as played
-use Rattle.machine.proofs.Played.{gathered, committed_append}
+use Rattle.machine.proofs.RecordRuns as played
+use Rattle.machine.proofs.RecordRuns.{gathered, committed_append}
 use Rattle.machine.proofs.Steps as steps
-use Rattle.machine.proofs.Statuses.{nobody}
-use Rattle.machine.proofs.Told.{serial_told}
+use Rattle.machine.proofs.LiveNumbers.{nobody}
+use Rattle.machine.proofs.NamedContents.{serial_told}
 use Rattle.blocks.proofs.Places.{places_append}
 use Rattle.repetition.specs.Steps.{State, Steps, Repeats}
 use Rattle.repetition.specs.Reading.{Unread, InJournal, Reads, AreAccepted, IsSound, last_named}

@@ -6,8 +6,7 @@ use Rattle.std.proofs.lemmas.List.{length-map}
 use Rattle.calls.specs.declared.kind.Kind.{Kind}
 use Rattle.calls.specs.declared.call.Call.{Call}
 use Rattle.calls.specs.declared.reply.Reply.{Reply}
-use Rattle.calls.specs.declared.need.Need.{Need}
-use Rattle.calls.specs.Rules.{left_by, Conflict, Deferrable, Disposable, need_of, inverse_of}
+use Rattle.calls.specs.Rules.{left_by, Conflict, Disposable, need_of, inverse_of}
 use Rattle.calls.specs.Transactions.{Event}
 use Rattle.calls.proofs.Conflicts.{conflict_turn}
 use Rattle.calls.proofs.KindLaws.{deferrable_disposable, deferred_is_other, leaves_one}

@@ -1,9 +1,8 @@
 -- The rules of collections at their places.
-use Rattle.std.specs.Prelude.{◌≡◌, ℕ, Option, List, map}
+use Rattle.std.specs.Prelude.{◌≡◌, ℕ, List, map}
 use Rattle.calls.specs.declared.kind.Kind.{Kind}
 use Rattle.calls.specs.declared.call.Call.{Call}
 use Rattle.calls.specs.declared.reply.Reply.{Reply}
-use Rattle.calls.specs.declared.need.Need.{Need}
 use Rattle.calls.specs.Rules.{left_by, Conflict, Askable, Deferrable, Disposable, need_of}
 use Rattle.calls.specs.Transactions.{Event}
 use Rattle.abstract_locks.specs.declared.table.Hold.{Hold}

@@ -1,4 +1,4 @@
-use Rattle.images.proofs.Frozen.{begun_none, begun_one}
+use Rattle.images.proofs.ImageRecords.{begun_none, begun_one}
 use Rattle.images.proofs.freezing.push_begins.Goals as goal
 
 pub loop-number-init : goal.loop-number-init

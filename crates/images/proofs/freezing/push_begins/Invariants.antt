@@ -1,5 +1,5 @@
 use Rattle.std.proofs.Common.{◌-◌, ◌^◌}
-use Rattle.images.proofs.Frozen.{HaveBegun}
+use Rattle.images.proofs.ImageRecords.{HaveBegun}
 use Rattle.images.proofs.freezing.push_begins.Given as goal
 
 abbrev pub invariant-loop-number : goal.invariant-loop-number

@@ -3,7 +3,7 @@ use Rattle.std.proofs.lemmas.Result.{on_ok_weaker}
 use Rattle.record_format.specs.declared.record.Record.{Record}
 use Rattle.record_format.specs.Records.{call_record, Fits}
 use Rattle.blocks.specs.Packings.{joined}
-use Rattle.images.proofs.Frozen.{live_call_good, live_call_same, writes_one}
+use Rattle.images.proofs.ImageRecords.{live_call_good, live_call_same, writes_one}
 use Rattle.images.proofs.freezing.push_call.Goals as goal
 use Rattle.calls.specs.Rules.{inverse_of}
 

@@ -1,4 +1,4 @@
-use Rattle.images.proofs.Frozen.{at_shown, at_writes}
+use Rattle.images.proofs.ImageRecords.{at_shown, at_writes}
 use Rattle.images.proofs.freezing.push_collection.Goals as goal
 
 pub push_shown-requires-clause-name : goal.push_shown-requires-clause-name

@@ -1,4 +1,4 @@
-use Rattle.images.proofs.Frozen.{told_none, told_one}
+use Rattle.images.proofs.ImageRecords.{told_none, told_one}
 use Rattle.images.proofs.freezing.push_collections.Goals as goal
 
 pub loop-at-init : goal.loop-at-init

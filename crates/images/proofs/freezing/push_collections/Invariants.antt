@@ -1,4 +1,4 @@
-use Rattle.images.proofs.Frozen.{AreTold}
+use Rattle.images.proofs.ImageRecords.{AreTold}
 use Rattle.images.proofs.freezing.push_collections.Given as goal
 
 abbrev pub invariant-loop-at : goal.invariant-loop-at

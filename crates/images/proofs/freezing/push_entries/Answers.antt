@@ -6,7 +6,7 @@ use Rattle.undo_log.specs.Entries.{owned_entry}
 use Rattle.blocks.specs.Packings.{Writes}
 use Rattle.images.specs.LiveRecords.{live_record}
 use Rattle.machine.specs.Machines.{IsAskedEntry}
-use Rattle.images.proofs.Frozen.{logged_none, logged_this, logged_one, logged_all}
+use Rattle.images.proofs.ImageRecords.{logged_none, logged_this, logged_one, logged_all}
 use Rattle.images.proofs.freezing.push_entries.Goals as goal
 
 abbrev IsGood : ℕ × Entry → Type 0

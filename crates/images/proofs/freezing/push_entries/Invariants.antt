@@ -1,7 +1,7 @@
 use Rattle.record_format.specs.Records.{IsNumber}
 use Rattle.images.specs.LiveRecords.{live_record}
 use Rattle.machine.specs.Machines.{IsAskedEntry}
-use Rattle.images.proofs.Frozen.{AreLogged}
+use Rattle.images.proofs.ImageRecords.{AreLogged}
 use Rattle.images.proofs.freezing.push_entries.Given as goal
 
 abbrev pub invariant-loop-owned : goal.invariant-loop-owned

@@ -13,7 +13,7 @@ use Rattle.machine.specs.Machines.{IsAskedEntry}
 use Rattle.blocks.specs.Packings.{joined, Writes}
 use Rattle.images.specs.Images.{TellsLive}
 use Rattle.machine.proofs.BookLaws.{BookLaws, book_laws}
-use Rattle.images.proofs.Frozen.{image_writes}
+use Rattle.images.proofs.ImageRecords.{image_writes}
 use Rattle.machine.proofs.Steps as steps
 use Rattle.images.proofs.freezing.push_image.Given.{Over}
 use Rattle.images.proofs.freezing.push_image.Goals as goal

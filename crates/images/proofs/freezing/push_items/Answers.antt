@@ -7,7 +7,7 @@ use Rattle.record_format.specs.declared.record.Record.{Record}
 use Rattle.record_format.specs.Records.{FitsItem}
 use Rattle.record_format.specs.Short.{IsShortItem}
 use Rattle.blocks.specs.Packings.{joined}
-use Rattle.images.proofs.Frozen.{each_at, all_yielded, items_more, fits_more}
+use Rattle.images.proofs.ImageRecords.{each_at, all_yielded, items_more, fits_more}
 use Rattle.images.proofs.freezing.push_items.Goals as goal
 
 pub loop-item-init : goal.loop-item-init

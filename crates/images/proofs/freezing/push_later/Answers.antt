@@ -4,7 +4,7 @@ use Rattle.calls.specs.declared.call.Call.{Call}
 use Rattle.record_format.specs.declared.record.Record.{Record}
 use Rattle.record_format.specs.Records.{Fits}
 use Rattle.blocks.specs.Packings.{joined}
-use Rattle.images.proofs.Frozen.{live_later_good, writes_one}
+use Rattle.images.proofs.ImageRecords.{live_later_good, writes_one}
 use Rattle.images.proofs.freezing.push_later.Goals as goal
 
 pub push-requires : goal.push-requires

@@ -1,5 +1,5 @@
 use Rattle.std.proofs.lemmas.Result.{on_ok_weaker}
-use Rattle.images.proofs.Frozen.{each_short, shown_writes}
+use Rattle.images.proofs.ImageRecords.{each_short, shown_writes}
 use Rattle.images.proofs.freezing.push_shown.Goals as goal
 
 pub push_items-requires : goal.push_items-requires

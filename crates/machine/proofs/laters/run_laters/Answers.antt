@@ -1,6 +1,6 @@
 use Rattle.std.proofs.Common.{arith}
-use Rattle.machine.proofs.Running.{running_first, running_other, running_can, running_fits}
-use Rattle.machine.proofs.Running.{running_mine, running_end}
+use Rattle.machine.proofs.PutOffRuns.{running_first, running_other, running_can, running_fits}
+use Rattle.machine.proofs.PutOffRuns.{running_mine, running_end}
 use Rattle.machine.proofs.laters.run_laters.Goals as goal
 use Rattle.machine.proofs.laters.run_laters.Goals.{then-owned-number, else-owned-number}
 

@@ -1,4 +1,4 @@
-use Rattle.machine.proofs.Running.{IsRunningSo}
+use Rattle.machine.proofs.PutOffRuns.{IsRunningSo}
 use Rattle.machine.proofs.laters.run_laters.Given as goal
 
 abbrev pub invariant-loop-owned : goal.invariant-loop-owned

@@ -1,4 +1,4 @@
-use Rattle.std.proofs.Common.{◌≡◌, Option, Some, MatchOption, sym, ◌∙◌, subst}
+use Rattle.std.proofs.Common.{◌≡◌, Option, MatchOption, sym, ◌∙◌, subst}
 use Rattle.calls.specs.declared.call.Call.{Call}
 use Rattle.calls.specs.declared.reply.Reply.{Reply}
 use Rattle.boosted.specs.Meaning.{Does}

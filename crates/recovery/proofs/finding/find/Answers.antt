@@ -8,6 +8,7 @@ use Rattle.undoing.proofs.Walks.{rises_before}
 use Rattle.recovery.proofs.LoadLemmas.{Spoils}
 use Rattle.recovery.proofs.FindLemmas.{head_find_refusal, load_find_refusal, stored_there}
 use Rattle.recovery.proofs.FindLemmas.{one_of_two}
+use Rattle.disk_model.proofs.Walk.{reads_on}
 use Rattle.recovery.proofs.finding.find.Goals as goal
 
 pub returns-in_err-base-clause-refused : goal.returns-in_err-base-clause-refused
@@ -59,3 +60,35 @@ returns-clause-found g c =
       collections = c.len.ensures.len ∙ ap length c.parts.ensures;
       unfinished = c.count_live.ensures;
     }
+
+pub load-requires : goal.load-requires
+load-requires g c =
+    let inside = c.in_ok-base.ensures.inside in record {
+      room = inside.0;
+      fits = inside.2;
+      disk = rw c.area_in_use.ensures.reads.same inside.3;
+    }
+
+pub overflow_add-result : goal.overflow_add-result
+overflow_add-result g c = omega (arith, c.in_ok-base.ensures.inside.2)
+
+pub overflow_sub-result : goal.overflow_sub-result
+overflow_sub-result g c =
+    let repeated = c.in_ok-repeated.ensures in
+    omega (arith, repeated.area.1, repeated.place, c.in_ok-repeated.field-0.area.inside)
+
+pub returns-in_err-records-clause-refused : goal.returns-in_err-records-clause-refused
+returns-in_err-records-clause-refused g c =
+    let p = err_from_is_err_and c.from_residual-in_err-records.result
+    c.from_residual-in_err-records.ensures.1 in
+    rw (p.1, p.2, c.in_err-records.ensures.refusal) tt
+
+pub returns-in_err-records-clause-reads : goal.returns-in_err-records-clause-reads
+returns-in_err-records-clause-reads g c =
+    reads_on g.D.Disk.seen g.D.Disk.may_leave g.D.Disk.moment g.D.Disk.left_since _ _ _
+    c.area_in_use.ensures.reads c.load.ensures.reads
+
+pub returns-clause-reads : goal.returns-clause-reads
+returns-clause-reads g c =
+    reads_on g.D.Disk.seen g.D.Disk.may_leave g.D.Disk.moment g.D.Disk.left_since _ _ _
+    c.area_in_use.ensures.reads c.load.ensures.reads

@@ -1,6 +1,6 @@
-use Rattle.std.proofs.Common.{length, refl, ap, subst, sym}
+use Rattle.std.proofs.Common.{length, refl, ap, subst, sym, arith, Err}
 use Rattle.recovery.proofs.FormatLemmas.{past_image, past_root, past_letters, past_area}
-use Rattle.recovery.proofs.FormatLemmas.{shut_past_sync, filled, empty_image, on_any}
+use Rattle.recovery.proofs.FormatLemmas.{shut_past_sync, filled, empty_image, on_any, caused}
 use Rattle.recovery.specs.Formats.{IsFilled}
 use Rattle.recovery.proofs.formatting.fill.Goals as goal
 
@@ -53,3 +53,42 @@ returns-clause-stop g c = λ shut.
     _ (c.write_at-3.ensures.stop, c.write_at-3.ensures.time)
     _ _ (c.write_at-4.ensures.stop, c.write_at-4.ensures.time))
     c.sync.ensures.stop c.sync.ensures.time).since
+
+pub write_at-requires-4 : goal.write_at-requires-4
+write_at-requires-4 g c =
+    omega (
+      arith,
+      c.requires,
+      c.write_at.ensures.seen.size,
+      c.write_at-2.ensures.seen.size,
+      c.write_at-3.ensures.seen.size,
+      ap length c.to_be_bytes.ensures,
+    )
+
+pub returns-in_err-write_at-3-clause-cause : goal.returns-in_err-write_at-3-clause-cause
+returns-in_err-write_at-3-clause-cause g c =
+    caused (g.D.Disk.fault_count c.args.disk.now) (g.D.Disk.fault_count c.write_at-2.new.self) _
+    (Err c.in_err-write_at-3.field-0.0) c.from_residual-in_err-write_at-3.result
+    (omega (arith, c.write_at.ensures.cause.later, c.write_at-2.ensures.cause.later)) (λ _. refl)
+    c.in_err-write_at-3.ensures.cause
+
+pub returns-in_err-write_at-4-clause-cause : goal.returns-in_err-write_at-4-clause-cause
+returns-in_err-write_at-4-clause-cause g c =
+    caused (g.D.Disk.fault_count c.args.disk.now) (g.D.Disk.fault_count c.write_at-3.new.self) _
+    (Err c.in_err-write_at-4.field-0.0) c.from_residual-in_err-write_at-4.result (omega (
+      arith,
+      c.write_at.ensures.cause.later,
+      c.write_at-2.ensures.cause.later,
+      c.write_at-3.ensures.cause.later,
+    )) (λ _. refl) c.in_err-write_at-4.ensures.cause
+
+pub returns-clause-cause : goal.returns-clause-cause
+returns-clause-cause g c =
+    caused (g.D.Disk.fault_count c.args.disk.now) (g.D.Disk.fault_count c.write_at-4.new.self) _ _
+    c.sync.result (omega (
+      arith,
+      c.write_at.ensures.cause.later,
+      c.write_at-2.ensures.cause.later,
+      c.write_at-3.ensures.cause.later,
+      c.write_at-4.ensures.cause.later,
+    )) (λ e. e) c.sync.ensures.cause

@@ -87,3 +87,36 @@ returns-clause-loaded g c =
       c.loop-body.invariant.size_is,
     )) c.in-Ok-None.ensures.position _ _ _
     c.in_ok-repeated.ensures.ok
+
+pub next_block-requires : goal.next_block-requires
+next_block-requires g c =
+    let was = c.loop-body.invariant in rw (was.base_is, was.size_is, was.reads.same) c.requires.disk
+
+pub overflow_add-place-in-Ok-Some : goal.overflow_add-place-in-Ok-Some
+overflow_add-place-in-Ok-Some g c =
+    let was = c.loop-body.invariant in
+    let moved = position_there c.in-Ok-Some.field-0 c.in-Ok-Some.body c.as_slice.result.now _ _
+    c.in-Ok-Some.field-0-is c.as_slice.ensures.value c.in-Ok-Some.ensures.position in
+    omega (
+      arith,
+      moved,
+      c.len.ensures,
+      ap length c.as_slice.ensures.value,
+      c.next_block.new.self.inside,
+      c.next_block.ensures.size,
+      was.size_is,
+      was.place_is,
+      c.requires.fits,
+    )
+
+pub loop-body-smaller : goal.loop-body-smaller
+loop-body-smaller g c =
+    let moved = position_there c.in-Ok-Some.field-0 c.in-Ok-Some.body c.as_slice.result.now _ _
+    c.in-Ok-Some.field-0-is c.as_slice.ensures.value c.in-Ok-Some.ensures.position in
+    omega (
+      arith,
+      moved,
+      c.next_block.new.self.inside,
+      c.next_block.ensures.size,
+      c.loop-body.invariant.size_is,
+    )

@@ -23,3 +23,13 @@ returns-in-Ok-clause-untouched g c =
     o.undoing ≡ [] → ReadsOnly g.D.Disk.seen g.D.Disk.may_leave g.D.Disk.moment
     g.D.Disk.left_since c.args.disk k.disk)
     (sym c.new.ensures) c.in-Ok.ensures.untouched
+
+pub new-requires : goal.new-requires
+new-requires g c = record { fine = c.in-Ok.ensures.area.0; one = c.in-Ok.ensures.area.1 }
+
+pub returns-in-Ok-clause-opened : goal.returns-in-Ok-clause-opened
+returns-in-Ok-clause-opened g c =
+    subst
+    (λ (k : KeeperState g.row.D.Denot). g.D.Disk.is_honest k.disk →
+    IsOpened (g.D.Disk.seen c.args.disk) c.in-Ok.book k.area (g.D.Disk.seen k.disk))
+    (sym c.new.ensures) c.in-Ok.ensures.opened

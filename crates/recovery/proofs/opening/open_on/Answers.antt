@@ -1,17 +1,19 @@
 use Rattle.std.proofs.Common.{◌≡◌, ◌+◌, ◌<◌, ◌≤◌, ⊎_elim, ℕ, List, length, sym, ◌∙◌, ap, subst}
-use Rattle.std.proofs.Common.{arith, true≢false}
+use Rattle.std.proofs.Common.{arith, true≢false, refl}
 use Rattle.std.proofs.lemmas.Result.{err_from_is_err_and}
 use Rattle.calls.specs.Contents.{Collection}
 use Rattle.disk_model.specs.Disk.{ReadsOnly}
-use Rattle.gate_block.specs.Area.{size_of, position_of}
+use Rattle.gate_block.specs.Area.{base_of, size_of, position_of}
 use Rattle.record_format.specs.declared.record.Record.{Record}
 use Rattle.txn.specs.Books.{BookState, opened}
+use Rattle.checkpoint.proofs.Apart.{inside}
 use Rattle.undoing.specs.Undoing.{blocks_len}
 use Rattle.undoing.specs.Appending.{IsAppended}
 use Rattle.repetition.proofs.Lists.{upto_or}
+use Rattle.undoing.proofs.Walks.{rises_before}
 use Rattle.recovery.proofs.OpenLemmas.{keeps_content, keeps_on, opens, content_is, has_no_room}
 use Rattle.recovery.proofs.OpenLemmas.{where_it_stands, nothing_undone}
-use Rattle.recovery.proofs.FindLemmas.{find_open_refusal}
+use Rattle.recovery.proofs.FindLemmas.{find_open_refusal, one_of_two}
 use Rattle.recovery.proofs.opening.open_on.Goals as goal
 
 pub returns-in_err-machine-clause-refused : goal.returns-in_err-machine-clause-refused
@@ -123,3 +125,45 @@ returns-clause-untouched g c = λ true_read o none.
     c.in_ok-append_all.ensures.untouched (ap length c.as_slice.ensures.value ∙ nothing) in
     subst (λ d. ReadsOnly g.D.Disk.seen g.D.Disk.may_leave g.D.Disk.moment g.D.Disk.left_since
     c.args.disk.now d) (sym same) c.find.ensures.reads
+
+pub append_all-requires-clause-undo : goal.append_all-requires-clause-undo
+append_all-requires-clause-undo g c =
+    rw c.as_slice.ensures.value c.in_ok-machine.ensures.found.marks
+
+pub append_all-requires-clause-fits : goal.append_all-requires-clause-fits
+append_all-requires-clause-fits g c =
+    let x = c.in_ok-machine.field-0 in
+    let records : List Record = x.records.items in
+    let count : length records ≡ c.len.result = omega (arith, c.len.ensures, x.records.ok.0) in
+    let room : blocks_len c.len.result < x.room = c.fits.ensures.0 c.if-not-fits.false in
+    rw (c.as_slice.ensures.value, count)
+    (omega (arith, room, c.in_ok-machine.ensures.found.placed.behind))
+
+pub append_all-requires-clause-disk : goal.append_all-requires-clause-disk
+append_all-requires-clause-disk g c =
+    rw c.find.ensures.reads.same (inside _ _ c.in_ok-machine.ensures.found.placed.one).0
+
+pub returns-in_err-append_all-clause-refused : goal.returns-in_err-append_all-clause-refused
+returns-in_err-append_all-clause-refused g c =
+    let p = err_from_is_err_and c.from_residual-in_err-append_all.result
+    c.from_residual-in_err-append_all.ensures.1 in
+    let refused = c.in_err-append_all.ensures.refused in
+    rw (p.1, p.2, refused.0)
+    (rises_before _ _ _ c.find.ensures.faults c.append_all.ensures.faults refused.1)
+
+pub returns-in_err-append_all-clause-unchanged : goal.returns-in_err-append_all-clause-unchanged
+returns-in_err-append_all-clause-unchanged g c =
+    let p = err_from_is_err_and c.from_residual-in_err-append_all.result
+    c.from_residual-in_err-append_all.ensures.1 in
+    rw (p.1, p.2, c.in_err-append_all.ensures.refused.0) (λ no_fault. absurd (no_fault refl))
+
+pub returns-clause-area : goal.returns-clause-area
+returns-clause-area g c =
+    let area = c.in_ok-machine.field-0.area in
+    let appended = c.in_ok-append_all.ensures.appended in
+    let one = c.in_ok-machine.ensures.found.placed.one in (
+      appended.fine,
+      one_of_two c.append_all.new.area (base_of area) (size_of area) _ appended.same_base
+          appended.same_size
+          (c.append_all.ensures.size ∙ ap length c.find.ensures.reads.same ∙ one.whole) one.base,
+    )

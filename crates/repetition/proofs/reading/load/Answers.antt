@@ -1,7 +1,5 @@
 use Rattle.std.proofs.Common.{List, refl, sym, ap, subst, ◌∙◌}
 use Rattle.calls.specs.Contents.{Collection}
-use Rattle.catalog.specs.Making.{names_of}
-use Rattle.catalog.specs.Places.{IsWithin}
 use Rattle.loader.specs.Loading.{LoadRow}
 use Rattle.repetition.specs.Steps.{State}
 use Rattle.repetition.proofs.ReadLemmas.{load_true, load_false}

@@ -1,5 +1,5 @@
 use Rattle.machine.proofs.BookLaws.{book_laws}
-use Rattle.txn.proofs.Played.{history}
+use Rattle.txn.proofs.BookHistory.{history}
 use Rattle.txn.proofs.history.one_history.Goals as goal
 
 pub returns : goal.returns

@@ -4,11 +4,11 @@ use Rattle.undo_log.specs.Logs.{Log}
 use Rattle.machine.specs.Machine.{State}
 use Rattle.loader.specs.Loading.{StandRow}
 use Rattle.machine.specs.Views.{state_with}
-use Rattle.machine.proofs.Noted.{still_held}
+use Rattle.machine.proofs.HeldNeeds.{still_held}
 use Rattle.record_format.specs.Short.{AreShort}
 use Rattle.loader.proofs.LoadRows.{above_last, last_begun, stand_row}
 use Rattle.loader.proofs.Loaded.{stand_upheld}
-use Rattle.machine.specs.Ledgers.{needs_of, log_of}
+use Rattle.ledger.specs.Ledgers.{needs_of, log_of}
 use Rattle.machine.proofs.BookLaws.{BookLaws, book_laws}
 use Rattle.loader.proofs.loader.Loader.hold_begin.Given.{Over}
 use Rattle.loader.proofs.loader.Loader.hold_begin.Goals as goal

@@ -8,7 +8,7 @@ use Rattle.machine.specs.Machines.{unmade}
 use Rattle.loader.specs.Loading.{LoadRow, LoadAnswers}
 use Rattle.loader.proofs.LoadRows.{read_unreached, read_answered, read_refused}
 use Rattle.loader.proofs.Loaded.{read_kept}
-use Rattle.machine.specs.Ledgers.{needs_of, log_of}
+use Rattle.ledger.specs.Ledgers.{needs_of, log_of}
 use Rattle.machine.specs.Views.{state_with}
 use Rattle.machine.proofs.BookLaws.{BookLaws, book_laws}
 use Rattle.loader.proofs.loader.Loader.load.Given.{Over}

@@ -2,7 +2,7 @@ use Rattle.std.proofs.Common.{sym, subst}
 use Rattle.record_format.specs.Short.{AreShort}
 use Rattle.machine.proofs.BookLaws.{BookLaws, book_laws}
 use Rattle.machine.proofs.Rows.{resting_is}
-use Rattle.machine.specs.Ledgers.{needs_of, log_of}
+use Rattle.ledger.specs.Ledgers.{needs_of, log_of}
 use Rattle.machine.specs.Machines.{IsUpheld}
 use Rattle.machine.specs.Sound.{IsLoaded}
 use Rattle.loader.proofs.LoadRows.{last_none}

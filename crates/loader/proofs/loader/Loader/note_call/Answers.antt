@@ -6,7 +6,7 @@ use Rattle.loader.specs.Loading.{IsLast, CanHoldCall, HeldCallRow}
 use Rattle.loader.proofs.LoadRows.{held_row}
 use Rattle.loader.proofs.Loaded.{call_upheld}
 use Rattle.record_format.specs.Short.{AreShort}
-use Rattle.machine.specs.Ledgers.{needs_of, log_of}
+use Rattle.ledger.specs.Ledgers.{needs_of, log_of}
 use Rattle.machine.specs.Views.{state_with}
 use Rattle.machine.proofs.BookLaws.{BookLaws, book_laws}
 use Rattle.loader.proofs.loader.Loader.note_call.Given.{Over}

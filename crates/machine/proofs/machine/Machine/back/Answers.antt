@@ -1,16 +1,16 @@
 use Rattle.std.proofs.Common.{◌+◌, ◌∙◌, sym, subst}
 use Rattle.record_format.specs.Short.{AreShort}
 use Rattle.machine.specs.Views.{state_with}
-use Rattle.machine.specs.Ledgers.{needs_of, log_of}
+use Rattle.ledger.specs.Ledgers.{needs_of, log_of}
 use Rattle.machine.proofs.BookLaws.{BookLaws, book_laws}
 use Rattle.undo_log.specs.Entries.{event_of, HasNewestCall}
 use Rattle.undo_log.specs.Logs.{Log, Lives}
 use Rattle.machine.specs.Machine.{State, BackRow}
 use Rattle.machine.proofs.Steps.{back_can}
-use Rattle.machine.proofs.Undone.{undone_row}
-use Rattle.machine.proofs.Upheld.{back_upheld, back_room}
+use Rattle.machine.proofs.UndoneCall.{undone_row}
+use Rattle.machine.proofs.InvariantRows.{back_upheld, back_room}
 use Rattle.machine.proofs.machine.Machine.back.Given.{Over}
-use Rattle.machine.proofs.Noted.{still_held}
+use Rattle.machine.proofs.HeldNeeds.{still_held}
 use Rattle.machine.proofs.machine.Machine.back.Goals as goal
 
 -- the laws of the collections

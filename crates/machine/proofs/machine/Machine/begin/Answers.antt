@@ -1,14 +1,14 @@
 use Rattle.std.proofs.Common.{◌+◌, ◌∙◌, sym, subst, arith, rules}
 use Rattle.record_format.specs.Short.{AreShort}
 use Rattle.machine.specs.Views.{state_with}
-use Rattle.machine.specs.Ledgers.{needs_of, log_of}
+use Rattle.ledger.specs.Ledgers.{needs_of, log_of}
 use Rattle.machine.proofs.BookLaws.{BookLaws, book_laws}
 use Rattle.machine.specs.Machine.{State, CanBegin, BeginRow}
 use Rattle.machine.specs.Machines.{HasRoomFor}
 use Rattle.machine.proofs.Rows.{begun_is}
-use Rattle.machine.proofs.Upheld.{begin_upheld}
+use Rattle.machine.proofs.InvariantRows.{begin_upheld}
 use Rattle.machine.proofs.machine.Machine.begin.Given.{Over}
-use Rattle.machine.proofs.Noted.{still_held}
+use Rattle.machine.proofs.HeldNeeds.{still_held}
 use Rattle.machine.proofs.machine.Machine.begin.Goals as goal
 
 -- the laws of the collections

@@ -1,14 +1,14 @@
 use Rattle.std.proofs.Common.{◌+◌, sym, subst, rules}
 use Rattle.record_format.specs.Short.{AreShort}
 use Rattle.machine.specs.Views.{state_with}
-use Rattle.machine.specs.Ledgers.{needs_of, log_of}
+use Rattle.ledger.specs.Ledgers.{needs_of, log_of}
 use Rattle.machine.proofs.BookLaws.{BookLaws, book_laws}
 use Rattle.abstract_locks.specs.Holds.{hold, IsAdded}
 use Rattle.undo_log.specs.Entries.{event_of}
 use Rattle.machine.specs.Machine.{State, CanCall, CallRow}
 use Rattle.machine.specs.Machines.{HasRoomFor}
 use Rattle.machine.proofs.Rows.{called_row}
-use Rattle.machine.proofs.Upheld.{call_upheld}
+use Rattle.machine.proofs.InvariantRows.{call_upheld}
 use Rattle.machine.proofs.machine.Machine.call.Given.{Over}
 use Rattle.machine.proofs.machine.Machine.call.Goals as goal
 

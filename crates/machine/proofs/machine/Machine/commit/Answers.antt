@@ -6,10 +6,10 @@ use Rattle.undo_log.specs.Logs.{Log}
 use Rattle.machine.specs.Machine.{State, IsRunning, CommitRow}
 use Rattle.machine.specs.Machines.{CanRun}
 use Rattle.machine.specs.Views.{state_with}
-use Rattle.machine.specs.Ledgers.{needs_of, log_of}
+use Rattle.ledger.specs.Ledgers.{needs_of, log_of}
 use Rattle.machine.proofs.BookLaws.{BookLaws, book_laws}
-use Rattle.machine.proofs.Running.{committed_row}
-use Rattle.machine.proofs.Upheld.{commit_ready, commit_fits, commit_upheld}
+use Rattle.machine.proofs.PutOffRuns.{committed_row}
+use Rattle.machine.proofs.InvariantRows.{commit_ready, commit_fits, commit_upheld}
 use Rattle.machine.proofs.machine.Machine.commit.Given.{Over}
 use Rattle.machine.proofs.machine.Machine.commit.Goals as goal
 

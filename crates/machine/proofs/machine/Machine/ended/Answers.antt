@@ -1,13 +1,13 @@
 use Rattle.std.proofs.Common.{sym, subst}
 use Rattle.record_format.specs.Short.{AreShort}
 use Rattle.machine.specs.Views.{state_with}
-use Rattle.machine.specs.Ledgers.{needs_of, log_of}
+use Rattle.ledger.specs.Ledgers.{needs_of, log_of}
 use Rattle.machine.proofs.BookLaws.{BookLaws, book_laws}
 use Rattle.undo_log.specs.Entries.{HasNoCall}
 use Rattle.undo_log.specs.Logs.{Lives}
 use Rattle.machine.specs.Machine.{State, EndedRow}
 use Rattle.machine.proofs.Rows.{left_row}
-use Rattle.machine.proofs.Upheld.{ended_upheld}
+use Rattle.machine.proofs.InvariantRows.{ended_upheld}
 use Rattle.machine.proofs.machine.Machine.ended.Given.{Over}
 use Rattle.machine.proofs.machine.Machine.ended.Goals as goal
 

@@ -1,15 +1,15 @@
 use Rattle.std.proofs.Common.{sym, subst}
 use Rattle.record_format.specs.Short.{AreShort}
 use Rattle.machine.specs.Views.{state_with}
-use Rattle.machine.specs.Ledgers.{needs_of, log_of}
+use Rattle.ledger.specs.Ledgers.{needs_of, log_of}
 use Rattle.machine.proofs.BookLaws.{BookLaws, book_laws}
 use Rattle.undo_log.specs.Entries.{HasNoCall}
 use Rattle.undo_log.specs.Logs.{Lives}
 use Rattle.machine.specs.Machine.{State, FallRow}
-use Rattle.machine.proofs.Undone.{fall_done}
-use Rattle.machine.proofs.Upheld.{fall_upheld}
+use Rattle.machine.proofs.UndoneCall.{fall_done}
+use Rattle.machine.proofs.InvariantRows.{fall_upheld}
 use Rattle.machine.proofs.machine.Machine.fall.Given.{Over}
-use Rattle.machine.proofs.Noted.{still_held}
+use Rattle.machine.proofs.HeldNeeds.{still_held}
 use Rattle.machine.proofs.machine.Machine.fall.Goals as goal
 
 -- the laws of the collections

@@ -3,7 +3,7 @@ use Rattle.std.specs.Option.{is_some}
 use Rattle.undo_log.specs.Entries.{event_of, HasNoCall}
 use Rattle.undo_log.specs.Logs.{Log}
 use Rattle.machine.specs.Machine.{State}
-use Rattle.machine.proofs.Undone.{call_there, some_or_none}
+use Rattle.machine.proofs.UndoneCall.{call_there, some_or_none}
 use Rattle.machine.proofs.machine.Machine.has_call.Given.{Over}
 use Rattle.machine.proofs.machine.Machine.has_call.Goals as goal
 

@@ -4,7 +4,7 @@ use Rattle.record_format.specs.Acts.{acts_of}
 use Rattle.record_format.specs.Short.{AreShort}
 use Rattle.machine.specs.Machine.{State}
 use Rattle.machine.proofs.BookLaws.{BookLaws, book_laws}
-use Rattle.machine.proofs.Played.{records_serial}
+use Rattle.machine.proofs.RecordRuns.{records_serial}
 use Rattle.machine.proofs.machine.Machine.into_parts.Given.{Over}
 use Rattle.machine.proofs.machine.Machine.into_parts.Goals as goal
 

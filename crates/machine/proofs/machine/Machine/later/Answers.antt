@@ -1,13 +1,13 @@
 use Rattle.std.proofs.Common.{◌+◌, sym, subst}
 use Rattle.record_format.specs.Short.{AreShort}
 use Rattle.machine.specs.Views.{state_with}
-use Rattle.machine.specs.Ledgers.{needs_of, log_of}
+use Rattle.ledger.specs.Ledgers.{needs_of, log_of}
 use Rattle.machine.proofs.BookLaws.{BookLaws, book_laws}
 use Rattle.abstract_locks.specs.Holds.{hold, IsAdded}
 use Rattle.machine.specs.Machine.{State, CanPutOff, LaterRow}
 use Rattle.machine.specs.Machines.{HasRoomFor}
-use Rattle.machine.proofs.Running.{put_row}
-use Rattle.machine.proofs.Upheld.{later_upheld}
+use Rattle.machine.proofs.PutOffRuns.{put_row}
+use Rattle.machine.proofs.InvariantRows.{later_upheld}
 use Rattle.machine.proofs.machine.Machine.later.Given.{Over}
 use Rattle.machine.proofs.machine.Machine.later.Goals as goal
 

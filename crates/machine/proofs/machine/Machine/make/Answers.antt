@@ -1,11 +1,11 @@
 use Rattle.std.proofs.Common.{arith}
 use Rattle.record_format.specs.Short.{AreShort}
 use Rattle.machine.specs.Views.{state_with}
-use Rattle.machine.specs.Ledgers.{needs_of, log_of}
+use Rattle.ledger.specs.Ledgers.{needs_of, log_of}
 use Rattle.machine.proofs.BookLaws.{BookLaws, book_laws}
 use Rattle.machine.specs.Machine.{MakeRow}
 use Rattle.machine.proofs.Rows.{made_row}
-use Rattle.machine.proofs.Upheld.{make_upheld}
+use Rattle.machine.proofs.InvariantRows.{make_upheld}
 use Rattle.machine.proofs.machine.Machine.make.Given.{Over}
 use Rattle.machine.proofs.machine.Machine.make.Goals as goal
 

@@ -1,11 +1,11 @@
 use Rattle.std.proofs.Common.{sym, subst}
 use Rattle.record_format.specs.Short.{AreShort}
 use Rattle.machine.proofs.BookLaws.{BookLaws, book_laws}
-use Rattle.machine.specs.Ledgers.{needs_of, log_of}
+use Rattle.ledger.specs.Ledgers.{needs_of, log_of}
 use Rattle.machine.specs.Machines.{IsUpheld}
 use Rattle.machine.specs.Sound.{IsSound}
 use Rattle.machine.proofs.Rows.{resting_is}
-use Rattle.machine.proofs.Upheld.{resting_upheld}
+use Rattle.machine.proofs.InvariantRows.{resting_upheld}
 use Rattle.machine.proofs.machine.Machine.new.Given.{Over}
 use Rattle.machine.proofs.machine.Machine.new.Goals as goal
 

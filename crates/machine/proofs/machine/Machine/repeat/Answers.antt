@@ -1,6 +1,6 @@
 use Rattle.record_format.specs.Short.{AreShort}
 use Rattle.machine.proofs.BookLaws.{BookLaws, book_laws}
-use Rattle.machine.proofs.Alikes.{answers_alike}
+use Rattle.machine.proofs.AlikeStates.{answers_alike}
 use Rattle.machine.proofs.machine.Machine.repeat.Given.{Over}
 use Rattle.machine.proofs.machine.Machine.repeat.Goals as goal
 

@@ -1,5 +1,5 @@
 use Rattle.std.proofs.Common.{refl}
-use Rattle.machine.proofs.Undone.{undoes_call}
+use Rattle.machine.proofs.UndoneCall.{undoes_call}
 use Rattle.machine.proofs.machine.Machine.repeat_back.Goals.{then-not-is_live-via-then-not-is_live}
 use Rattle.machine.proofs.machine.Machine.repeat_back.Goals.{then-not-is_live-via-else-not-is_live+then-not-has_call}
 use Rattle.machine.proofs.machine.Machine.repeat_back.Goals as goal

@@ -11,10 +11,10 @@ use Rattle.txn.specs.Views.{book_of}
 use Rattle.blocks.specs.Waits.{waiting}
 use Rattle.machine.proofs.BookLaws.{BookLaws, book_laws}
 use Rattle.txn.proofs.BookLemmas.{recorded}
-use Rattle.txn.proofs.Kept.{call_keeps}
-use Rattle.machine.proofs.Upheld.{call_room}
+use Rattle.txn.proofs.BookInvariant.{call_keeps}
+use Rattle.machine.proofs.InvariantRows.{call_room}
 use Rattle.machine.proofs.Steps.{call_settles}
-use Rattle.txn.proofs.Asked.{is_record}
+use Rattle.txn.proofs.CallRecords.{is_record}
 use Rattle.txn.proofs.book.Book.ask.Given.{Over}
 use Rattle.txn.proofs.book.Book.ask.Goals as goal
 

@@ -8,7 +8,7 @@ use Rattle.txn.specs.Views.{book_of}
 use Rattle.blocks.specs.Waits.{HasRoomFor}
 use Rattle.machine.proofs.BookLaws.{BookLaws, book_laws}
 use Rattle.txn.proofs.BookLemmas.{mark_length, recorded}
-use Rattle.txn.proofs.Kept.{back_keeps, fall_keeps}
+use Rattle.txn.proofs.BookInvariant.{back_keeps, fall_keeps}
 use Rattle.machine.proofs.Steps.{back_settles}
 use Rattle.txn.proofs.book.Book.back.Given.{Over}
 use Rattle.txn.proofs.book.Book.back.Goals as goal

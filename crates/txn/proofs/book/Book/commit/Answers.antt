@@ -7,7 +7,7 @@ use Rattle.txn.specs.Views.{book_of}
 use Rattle.blocks.specs.Waits.{HasRoomFor}
 use Rattle.machine.proofs.BookLaws.{BookLaws, book_laws}
 use Rattle.txn.proofs.BookLemmas.{mark_length, recorded}
-use Rattle.txn.proofs.Kept.{commit_keeps}
+use Rattle.txn.proofs.BookInvariant.{commit_keeps}
 use Rattle.machine.proofs.Steps.{commit_settles}
 use Rattle.txn.proofs.book.Book.commit.Given.{Over}
 use Rattle.txn.proofs.book.Book.commit.Goals as goal

@@ -2,7 +2,7 @@ use Rattle.std.proofs.Common.{refl}
 use Rattle.record_format.specs.Short.{AreShort}
 use Rattle.txn.specs.Views.{book_of}
 use Rattle.machine.proofs.BookLaws.{BookLaws, book_laws}
-use Rattle.txn.proofs.Kept.{cut_keeps}
+use Rattle.txn.proofs.BookInvariant.{cut_keeps}
 use Rattle.txn.proofs.book.Book.cut.Given.{Over}
 use Rattle.txn.proofs.book.Book.cut.Goals as goal
 

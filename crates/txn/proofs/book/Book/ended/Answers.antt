@@ -8,7 +8,7 @@ use Rattle.txn.specs.Views.{book_of}
 use Rattle.blocks.specs.Waits.{HasRoomFor}
 use Rattle.machine.proofs.BookLaws.{BookLaws, book_laws}
 use Rattle.txn.proofs.BookLemmas.{mark_length, recorded}
-use Rattle.txn.proofs.Kept.{ended_keeps}
+use Rattle.txn.proofs.BookInvariant.{ended_keeps}
 use Rattle.machine.proofs.Steps.{ended_settles}
 use Rattle.txn.proofs.book.Book.ended.Given.{Over}
 use Rattle.txn.proofs.book.Book.ended.Goals as goal

@@ -7,8 +7,8 @@ use Rattle.txn.specs.Views.{book_of}
 use Rattle.blocks.specs.Waits.{HasRoomFor}
 use Rattle.machine.proofs.BookLaws.{BookLaws, book_laws}
 use Rattle.txn.proofs.BookLemmas.{mark_length, recorded}
-use Rattle.txn.proofs.Kept.{enter_keeps}
-use Rattle.machine.proofs.Upheld.{enter_room}
+use Rattle.txn.proofs.BookInvariant.{enter_keeps}
+use Rattle.machine.proofs.InvariantRows.{enter_room}
 use Rattle.txn.proofs.book.Book.enter.Given.{Over}
 use Rattle.txn.proofs.book.Book.enter.Goals as goal
 

@@ -5,7 +5,7 @@ use Rattle.blocks.specs.Waits.{waiting}
 use Rattle.machine.proofs.BookLaws.{BookLaws, book_laws}
 use Rattle.txn.proofs.BookLemmas.{only_sealed, packed_image}
 use Rattle.blocks.proofs.Packed.{all_whole}
-use Rattle.txn.proofs.Kept.{freeze_keeps}
+use Rattle.txn.proofs.BookInvariant.{freeze_keeps}
 use Rattle.txn.proofs.book.Book.freeze.Given.{Over}
 use Rattle.txn.proofs.book.Book.freeze.Goals as goal
 

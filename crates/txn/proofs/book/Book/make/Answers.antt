@@ -9,7 +9,7 @@ use Rattle.txn.specs.Views.{book_of}
 use Rattle.blocks.specs.Waits.{waiting}
 use Rattle.machine.proofs.BookLaws.{BookLaws, book_laws}
 use Rattle.txn.proofs.BookLemmas.{recorded, make_refused, reserved_same}
-use Rattle.txn.proofs.Kept.{make_keeps}
+use Rattle.txn.proofs.BookInvariant.{make_keeps}
 use Rattle.machine.proofs.Steps.{make_settles}
 use Rattle.txn.proofs.book.Book.make.Given.{Over}
 use Rattle.txn.proofs.book.Book.make.Goals as goal

@@ -4,7 +4,7 @@ use Rattle.txn.specs.Books.{IsKept}
 use Rattle.machine.specs.Sound.{IsSound}
 use Rattle.machine.proofs.BookLaws.{BookLaws, book_laws}
 use Rattle.txn.proofs.BookLemmas.{opened_is}
-use Rattle.txn.proofs.Kept.{opened_kept}
+use Rattle.txn.proofs.BookInvariant.{opened_kept}
 use Rattle.txn.proofs.book.Book.new.Given.{Over}
 use Rattle.txn.proofs.book.Book.new.Goals as goal
 

@@ -2,7 +2,6 @@ use Rattle.std.proofs.Common.{◌≡◌, ◌++◌, ◌∷◌, [], refl, sym, sub
 use Rattle.record_format.specs.declared.record.Record.{Record}
 use Rattle.record_format.specs.Records.{call_record}
 use Rattle.record_format.specs.Short.{AreShort}
-use Rattle.abstract_locks.specs.Holds.{IsClear}
 use Rattle.calls.specs.Transactions.{Event}
 use Rattle.boosted.specs.Meaning.{CanAsk}
 use Rattle.machine.specs.Machine.{CanCall, CallRow}
@@ -11,10 +10,10 @@ use Rattle.txn.specs.Views.{book_of}
 use Rattle.blocks.specs.Waits.{waiting}
 use Rattle.machine.proofs.BookLaws.{BookLaws, book_laws}
 use Rattle.txn.proofs.BookLemmas.{recorded}
-use Rattle.txn.proofs.Kept.{call_keeps}
-use Rattle.machine.proofs.Upheld.{call_room}
+use Rattle.txn.proofs.BookInvariant.{call_keeps}
+use Rattle.machine.proofs.InvariantRows.{call_room}
 use Rattle.machine.proofs.Steps.{call_settles}
-use Rattle.txn.proofs.Asked.{is_record}
+use Rattle.txn.proofs.CallRecords.{is_record}
 use Rattle.txn.proofs.book.Book.note_call.Given.{Over}
 use Rattle.txn.proofs.book.Book.note_call.Goals as goal
 

@@ -10,8 +10,8 @@ use Rattle.txn.specs.Views.{book_of}
 use Rattle.blocks.specs.Waits.{waiting}
 use Rattle.machine.proofs.BookLaws.{BookLaws, book_laws}
 use Rattle.txn.proofs.BookLemmas.{recorded}
-use Rattle.txn.proofs.Kept.{later_keeps}
-use Rattle.machine.proofs.Upheld.{call_room}
+use Rattle.txn.proofs.BookInvariant.{later_keeps}
+use Rattle.machine.proofs.InvariantRows.{call_room}
 use Rattle.machine.proofs.Steps.{later_settles}
 use Rattle.txn.proofs.book.Book.put_off.Given.{Over}
 use Rattle.txn.proofs.book.Book.put_off.Goals as goal

@@ -1,0 +1,160 @@
+-- What a history of a book comes to.
+use Rattle.std.proofs.Common.{◌≡◌, ℕ, ◌+◌, true, false, Ok, Err, List, [], ◌∷◌}
+use Rattle.std.proofs.Common.{length, refl, sym, ◌∙◌, ap, subst, arith, length-append}
+use Rattle.std.specs.List.{flat_map}
+use Rattle.std.specs.FinMap as maps
+use Rattle.calls.specs.declared.kind.Kind.{Kind}
+use Rattle.calls.specs.declared.call.Call.{Call}
+use Rattle.calls.specs.declared.reply.Reply.{Reply}
+use Rattle.calls.specs.declared.refusal.Refusal.{Refusal}
+use Rattle.calls.specs.Contents.{Collection, AnswersAt, after_at}
+use Rattle.calls.specs.Transactions.{Entry, Act, Makes, own, committed_after}
+use Rattle.record_format.specs.declared.record.Record.{Record}
+use Rattle.record_format.specs.Acts.{acts_of_record}
+use Rattle.machine.specs.Machine.{State, IsSettled, Steps}
+use Rattle.machine.specs.Sound.{IsSound}
+use Rattle.machine.specs.Theory.Rules.{RuleLaws}
+use Rattle.machine.specs.Theory.Collections.{collection_rules}
+use Rattle.machine.proofs.NamedContents.{serial_told}
+use Rattle.machine.proofs.Steps.{none_live}
+use Rattle.machine.proofs.RecordRuns as machine
+use Rattle.machine.proofs.RecordRuns.{gathered, committed_append, Tells}
+use Rattle.txn.specs.Books.{BookState, record_of, later_record}
+use Rattle.txn.specs.Histories.{Step, Make, Enter, Ask, Later, Commit, Back, Ended, Cut, Freeze}
+use Rattle.txn.specs.Histories.{acts_of_step, Acts, IsLegal, ComesTo}
+use Rattle.boosted.specs.Meaning.{Meaning}
+use Rattle.catalog.specs.Making.{Making}
+
+module _ {S : Type 0} (meaning : Meaning S ℕ) (making : Making S)
+    (laws : RuleLaws (collection_rules meaning making))
+  where
+    abbrev Sound : State S → Type 0
+    Sound s = IsSound meaning making s
+
+    abbrev Settled : State S → S → Type 0
+    Settled s c = IsSettled meaning s c
+
+    abbrev IsPlayed : List (ℕ × Entry) → List Act → S → State S → Type 0
+    IsPlayed es acts d t = machine.IsPlayed meaning making laws es acts d t
+
+    -- What records lead to, of a book's steps, where the places count the transactions.
+    record IsBookPlayed (es : List (ℕ × Entry)) (acts : List Act) (b : BookState S) (d : S)
+        (c : BookState S) : Type 0 where
+      played : IsPlayed es acts d c.state
+      places : c.places ≡ b.places + length (committed_after es acts)
+
+    module _ (es : List (ℕ × Entry)) (b : BookState S) (sound : Sound b.state)
+        (tells : Tells es b.state) (d : S) (settled : Settled b.state d) where
+      -- a step that is recorded
+      recorded : (r : Record) (c : BookState S) → Steps meaning making b.state r c.state →
+          c.places ≡ b.places + length (committed_after es (acts_of_record r)) →
+          IsBookPlayed es (acts_of_record r) b d c
+      recorded r c row places = record {
+        played = machine.one_step meaning making laws es b.state
+            sound tells d settled r c.state row;
+        places = places;
+      }
+
+      -- a step that says nothing
+      unheard : (c : BookState S) → IsPlayed es [] d c.state → c.places ≡ b.places →
+          IsBookPlayed es [] b d c
+      unheard c played same = record { played = played; places = omega arith }
+
+      refused : (c : BookState S) → c ≡ b → IsBookPlayed es [] b d c
+      refused c is = subst (IsBookPlayed es [] b d) (sym is)
+          (unheard b (machine.stays meaning making laws es b.state sound tells d settled) refl)
+
+      one : (collections : S → List Collection) (step : Step) (c : BookState S) →
+          Acts meaning making collections b step c → IsBookPlayed es (acts_of_step step) b d c
+      one collections (Make name kind (Ok place)) c acts =
+          recorded (Record.Make kind name) c acts.0 (ap (λ v. v.places) acts.1.appends.is)
+      one collections (Make name kind (Err e)) c acts = refused c acts.0
+      one collections (Enter n (Ok done)) c acts =
+          recorded (Record.Begin n) c acts.0 (ap (λ v. v.places) acts.2.is)
+      one collections (Enter n (Err e)) c acts = refused c acts.0
+      one collections (Ask n at call (Ok reply)) c acts =
+          recorded (record_of n (record { at = at; call = call; reply = reply })) c acts.0
+          (ap (λ v. v.places) acts.2.appends.is)
+      one collections (Ask n at call (Err e)) c acts = refused c acts.0
+      one collections (Later n at call (Ok done)) c acts =
+          recorded (later_record n at call) c acts.0 (ap (λ v. v.places) acts.2.appends.is)
+      one collections (Later n at call (Err e)) c acts = refused c acts.0
+      one collections (Commit n (Ok place)) c acts =
+          recorded (Record.Commit n) c acts.0 (ap (λ v. v.places) acts.1.appends.is)
+      one collections (Commit n (Err e)) c acts = refused c acts.0
+      one collections (Back n (Ok true)) c acts =
+          recorded (Record.Back n) c acts.0 (ap (λ v. v.places) acts.1.appends.is)
+      one collections (Back n (Ok false)) c acts =
+          unheard c (machine.one_fall meaning making laws es b.state sound tells d settled n c.state
+          acts.0) (ap (λ v. v.places) acts.2)
+      one collections (Back n (Err e)) c acts = refused c acts.0
+      one collections (Ended n (Ok done)) c acts =
+          recorded (Record.Ended n) c acts.0 (ap (λ v. v.places) acts.1.appends.is)
+      one collections (Ended n (Err e)) c acts = refused c acts.0
+      one collections (Cut a) c acts =
+          let is = acts.2.1 in
+          unheard c (subst (IsPlayed es [] d) (sym (ap (λ v. v.state) is))
+          (machine.stays meaning making laws es b.state sound tells d settled))
+          (ap (λ v. v.places) is)
+      one collections (Freeze (Ok image)) c acts =
+          let is = acts.1 in
+          unheard c (subst (IsPlayed es [] d) (sym (ap (λ v. v.state) is))
+          (machine.stays meaning making laws es b.state sound tells d settled))
+          (ap (λ v. v.places) is)
+      one collections (Freeze (Err Refusal.NoMemory)) c acts = refused c acts
+      one collections (Freeze (Err e)) c acts = absurd acts
+
+    -- A history leads the settled content on by the transactions that it commits, each run whole,
+    -- one after another.
+    all_played : (collections : S → List Collection) (steps : List Step) (es : List (ℕ × Entry))
+        (b c : BookState S) (d : S) → Sound b.state → Tells es b.state → Settled b.state d →
+        IsLegal meaning making collections b steps c →
+        IsBookPlayed es (flat_map acts_of_step steps) b d c
+    all_played collections [] es b c d sound tells settled legal =
+        subst (IsBookPlayed es [] b d) legal
+        (unheard es b sound tells d settled b
+        (machine.stays meaning making laws es b.state sound tells d settled) refl)
+    all_played collections (step ∷ steps) es b c d sound tells settled legal =
+        let acts = acts_of_step step in
+        let rest = flat_map acts_of_step steps in
+        let first = one es b sound tells d settled collections step legal.0 legal.1 in
+        let more = all_played collections steps (gathered es acts) legal.0 c first.played.content
+        first.played.sound first.played.tells first.played.settled legal.2 in
+        let count = ap length (committed_append acts rest es) ∙
+        length-append (committed_after es acts) (committed_after (gathered es acts) rest) in
+        let places_first = first.places in
+        let places_more = more.places in
+        record {
+          played = machine.played_both meaning making laws es acts rest d legal.0.state c.state
+              first.played more.played;
+          places = omega arith;
+        }
+
+    module _ (collections : S → List Collection)
+        (answers_as_told : (s : S) (at : ℕ) (c : Call) (r : Reply) → meaning.answers s at c r →
+        AnswersAt (collections s) at c r)
+        (leaves_as_told : (s : S) (at : ℕ) (c : Call) (r : Reply) → meaning.answers s at c r →
+        collections (meaning.leaves s at c r) ≡ after_at (collections s) at c r)
+        (makes_as_told : (s t : S) (name : List ℕ) (kind : Kind) → making.makes s name kind t →
+        Makes (collections s) name kind (collections t)) where
+      -- What a history of a book comes to in which no transaction was live.
+      pub history : (steps : List Step) (b c : BookState S) → Sound b.state →
+          b.state.live ≡ maps.empty → IsLegal meaning making collections b steps c →
+          ComesTo (λ v. Sound v.state) collections (IsSettled meaning) b steps c
+      history steps b c sound empty legal =
+          let none = none_live meaning making laws b.state sound sound.content empty
+          sound.settled in
+          let settled : Settled b.state b.state.now =
+          subst (Settled b.state) none.1 sound.settled in
+          let tells : Tells [] b.state = λ n run. sym (ap (own n) none.0) in
+          let all = all_played collections steps [] b c b.state.now sound tells settled legal in
+          let played = all.played in
+          record {
+            is_kept = played.sound;
+            content = played.content;
+            is_settled = played.settled;
+            serial = serial_told meaning making collections answers_as_told leaves_as_told
+                makes_as_told (committed_after [] (flat_map acts_of_step steps)) b.state.now
+                played.content played.runs;
+            places = all.places;
+          }

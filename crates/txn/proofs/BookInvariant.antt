@@ -1,0 +1,332 @@
+-- Every step of a book leaves what holds of every book.
+use Rattle.std.proofs.Common.{◌≡◌, ℕ, ◌+◌, ◌*◌, ◌<◌, ◌≤◌, ◌^◌, ◌⊎◌, inl, inr, ◌↔◌, Contains, max}
+use Rattle.std.proofs.Common.{false, None, ⊎_elim, Bool, true, Result, Ok, Err, List, []}
+use Rattle.std.proofs.Common.{◌∷◌, ◌++◌, length, refl, sym, ◌∙◌, ap, subst, arith}
+use Rattle.std.specs.List.{AllByRecursion}
+use Rattle.std.specs.FinMap as maps
+use Rattle.std.specs.Ordering.{nat_cmp}
+use Rattle.calls.specs.declared.kind.Kind.{Kind}
+use Rattle.calls.specs.declared.call.Call.{Call}
+use Rattle.calls.specs.declared.refusal.Refusal.{Refusal}
+use Rattle.calls.specs.Transactions.{Event}
+use Rattle.undo_log.specs.Logs.{Lives}
+use Rattle.boosted.proofs.Each.{each_append, each_back}
+use Rattle.record_format.specs.declared.record.Record.{Record}
+use Rattle.record_format.specs.Acts.{places}
+use Rattle.record_format.specs.Records.{IsRecord, IsNumber}
+use Rattle.record_format.proofs.CallRecords.{later_is_record}
+use Rattle.machine.specs.Machine.{State, BeginRow, CommitRow, EndedRow, FallRow, MakeRow, CallRow}
+use Rattle.machine.specs.Machine.{LaterRow, BackRow}
+use Rattle.txn.specs.Books.{BookState, opened, Appends, AppendsTo, CutAnswers, record_of}
+use Rattle.txn.specs.Books.{later_record, IsKept}
+use Rattle.machine.specs.Machines.{IsUpheld}
+use Rattle.blocks.specs.declared.block.Block.{Block}
+use Rattle.machine.specs.Sound.{IsSound}
+use Rattle.machine.proofs.LiveNumbers.{nobody, lives_more, lives_fewer}
+use Rattle.machine.proofs.BookLaws.{BookLaws}
+use Rattle.machine.proofs.InvariantRows.{make_names, make_upheld, begin_upheld, call_names, call_upheld}
+use Rattle.machine.proofs.InvariantRows.{later_names, later_upheld, commit_names, commit_upheld}
+use Rattle.machine.proofs.InvariantRows.{ended_upheld, fallen_lives, back_names, back_upheld, fall_upheld}
+use Rattle.machine.proofs.InvariantRows.{resting_upheld}
+use Rattle.machine.proofs.Sizes.{append_length, len_begun, len_fallen, len_left, pushed_length}
+use Rattle.blocks.proofs.Places.{places_append, one_place}
+use Rattle.boosted.specs.Meaning.{Meaning}
+use Rattle.catalog.specs.Making.{Making}
+
+-- the records of a transaction's number
+begin_is_record : (n : ℕ) → IsNumber n → IsRecord None (Record.Begin n)
+begin_is_record n number = let below = number.below in
+    record { fits = omega arith; suits = tt; sound = number }
+
+commit_is_record : (n : ℕ) → IsNumber n → IsRecord None (Record.Commit n)
+commit_is_record n number = let below = number.below in
+    record { fits = omega arith; suits = tt; sound = number }
+
+back_is_record : (n : ℕ) → IsNumber n → IsRecord None (Record.Back n)
+back_is_record n number = let below = number.below in
+    record { fits = omega arith; suits = tt; sound = number }
+
+ended_is_record : (n : ℕ) → IsNumber n → IsRecord None (Record.Ended n)
+ended_is_record n number = let below = number.below in
+    record { fits = omega arith; suits = tt; sound = number }
+
+module _ {S : Type 0} (meaning : Meaning S ℕ) (making : Making S)
+    (short : S → Type 0) (laws : BookLaws meaning making short) where
+  abbrev Sound : State S → Type 0
+  Sound s = IsSound meaning making s
+
+  abbrev Kept : BookState S → Type 0
+  Kept b = IsKept meaning making short Sound b
+
+  module _ (b : BookState S) (kept : Kept b) where
+    -- what is asked of the state to which a step's record leads
+    record KeepsState (t : State S) (next : ℕ) : Type 0 where
+      upheld : IsUpheld meaning making short Sound t
+      below : (n : ℕ) → Lives t.live n → n < next
+      next_fits : (1 ≤ next) × (next ≤ 2 ^ 61)
+      -- one record more is accounted for
+      paid : maps.len t.live + 2 * b.state.wear + length (making.names b.state.now) + 1 ≤ maps.len
+          b.state.live + 2 * t.wear + length (making.names t.now)
+
+    keep_appended : (r : Record) (c : BookState S) → Appends b r c → IsRecord None r →
+        KeepsState c.state c.next → Kept c
+    keep_appended r c appends is_record keeps =
+        let longer = pushed_length b.pending r in
+        let room = appends.room in
+        subst Kept (sym appends.is) (record {
+          records = each_append (IsRecord None) b.pending (r ∷ []) kept.records (is_record, tt);
+          few_pending = omega arith;
+          frozen = λ f there. let kept_in = kept.frozen f there in let low = kept_in.0 in
+              let high = kept_in.1 in (low, omega arith);
+          upheld = keeps.upheld;
+          below = keeps.below;
+          next = keeps.next_fits;
+          positions = let before = kept.positions in let paid = keeps.paid in omega arith;
+          placed = let before = kept.placed in let more = places_append b.pending (r ∷ []) in
+              omega arith;
+          counted = let before = kept.counted in let one = one_place r in omega arith;
+        })
+
+    -- the same where the next number stays
+    keep_next : (r : Record) (c : BookState S) → AppendsTo b r c → IsRecord None r →
+        IsUpheld meaning making short Sound c.state →
+        ((n : ℕ) → Lives c.state.live n → Lives b.state.live n) →
+        maps.len c.state.live + 2 * b.state.wear + length (making.names b.state.now) + 1 ≤ maps.len
+        b.state.live + 2 * c.state.wear + length (making.names c.state.now) → Kept c
+    keep_next r c to is_record upheld lived paid =
+        keep_appended r c to.appends is_record (record {
+          upheld = upheld;
+          below = λ n there. let below = kept.below n (lived n there) in let same = to.next in
+              omega arith;
+          next_fits = subst (λ next. (1 ≤ next) × (next ≤ 2 ^ 61)) (sym to.next) kept.next;
+          paid = paid;
+        })
+
+    pub make_keeps : (name : List ℕ) (kind : Kind) (c : BookState S) →
+        MakeRow making b.state name kind c.state → AppendsTo b (Record.Make kind name) c → Kept c
+    make_keeps name kind c row to =
+        let same_live = ap (λ (v : State S). maps.len v.live) row.is in
+        let same_wear = ap (λ (v : State S). v.wear) row.is in
+        let named = make_names meaning making short laws b.state kept.upheld name kind c.state
+        row in
+        keep_next (Record.Make kind name) c to
+        (record { fits = row.new.good; suits = tt; sound = tt })
+        (make_upheld meaning making short laws b.state kept.upheld name kind c.state row)
+        (λ n there. subst (λ (v : State S). Lives v.live n) row.is there) (omega arith)
+
+    begun_below : (n next : ℕ) → next ≡ max b.next (n + 1) → (k : ℕ) →
+        Lives (maps.insert b.state.live n false) k → k < next
+    begun_below n next is k lives =
+        ⊎_elim
+        (λ (same : n ≡ k). omega arith)
+        (λ (old : Lives b.state.live k). let below = kept.below k old in omega arith)
+        ((lives_more b.state.live n false k).1 lives)
+
+    pub enter_keeps : (n : ℕ) (c : BookState S) → BeginRow b.state n c.state →
+        Appends b (Record.Begin n) c → c.next ≡ max b.next (n + 1) → Kept c
+    enter_keeps n c row appends next_is =
+        let more = len_begun b.state.live n row.can.fresh in
+        let live = ap (λ (v : State S). maps.len v.live) row.is in
+        let wear = ap (λ (v : State S). v.wear) row.is in
+        let same_names = ap (λ (v : State S). length (making.names v.now)) row.is in
+        let number_below = row.can.number.below in
+        let low = kept.next.0 in
+        let high = kept.next.1 in
+        keep_appended (Record.Begin n) c appends (begin_is_record n row.can.number) (record {
+          upheld = begin_upheld meaning making short laws b.state kept.upheld n c.state row;
+          below = λ k there. begun_below n c.next next_is k
+              (subst (λ (v : State S). Lives v.live k) row.is there);
+          next_fits = (omega arith, omega arith);
+          paid = omega arith;
+        })
+
+    pub call_keeps : (n : ℕ) (e : Event) (c : BookState S) → CallRow meaning b.state n e c.state →
+        AppendsTo b (record_of n e) c → IsRecord None (record_of n e) → Kept c
+    call_keeps n e c row to is_record =
+        let live = ap (λ (v : State S). maps.len v.live) row.is in
+        let wear = ap (λ (v : State S). v.wear) row.is in
+        let same_names = call_names meaning making short laws b.state kept.upheld n e c.state row in
+        keep_next (record_of n e) c to is_record
+        (call_upheld meaning making short laws b.state kept.upheld n e c.state row)
+        (λ k there. subst (λ (v : State S). Lives v.live k) row.is there) (omega arith)
+
+    pub later_keeps : (n at : ℕ) (call : Call) (c : BookState S) →
+        LaterRow meaning b.state n at call c.state → AppendsTo b (later_record n at call) c →
+        at < 256 → Kept c
+    later_keeps n at call c row to few =
+        let live = ap (λ (v : State S). maps.len v.live) row.is in
+        let wear = ap (λ (v : State S). v.wear) row.is in
+        let same_names = later_names meaning making short laws b.state kept.upheld n at call c.state
+        row in
+        keep_next (later_record n at call) c to
+        (later_is_record None n at call (kept.upheld.numbers n row.can.running.live) few
+        row.can.put_off.1)
+        (later_upheld meaning making short laws b.state kept.upheld n at call c.state row)
+        (λ k there. subst (λ (v : State S). Lives v.live k) row.is there) (omega arith)
+
+    -- a transaction is over
+    left_keeps : (r : Record) (n : ℕ) (c : BookState S) → Lives b.state.live n →
+        c.state.live ≡ maps.remove b.state.live n → b.state.wear ≤ c.state.wear →
+        length (making.names c.state.now) ≡ length (making.names b.state.now) →
+        AppendsTo b r c → IsRecord None r → IsUpheld meaning making short Sound c.state → Kept c
+    left_keeps r n c lives left wear same_names to is_record upheld =
+        let fewer = len_left b.state.live n lives in
+        let live = ap (λ l. maps.len l) left in
+        keep_next r c to is_record upheld
+        (λ k there. ((lives_fewer b.state.live n k).1 (subst (λ l. Lives l k) left there)).0)
+        (omega arith)
+
+    pub commit_keeps : (n : ℕ) (c : BookState S) → CommitRow meaning b.state n c.state →
+        AppendsTo b (Record.Commit n) c → Kept c
+    commit_keeps n c row to =
+        let wear = ap (λ (v : State S). v.wear) row.left.is in
+        left_keeps (Record.Commit n) n c row.running.live (ap (λ (v : State S). v.live) row.left.is)
+        (omega arith)
+        (commit_names meaning making short laws b.state kept.upheld n c.state row) to
+        (commit_is_record n (kept.upheld.numbers n row.running.live))
+        (commit_upheld meaning making short laws b.state kept.upheld n c.state row)
+
+    pub ended_keeps : (n : ℕ) (c : BookState S) → EndedRow b.state n c.state →
+        AppendsTo b (Record.Ended n) c → Kept c
+    ended_keeps n c row to =
+        let is = row.left.is in
+        let wear = ap (λ (v : State S). v.wear) is in
+        left_keeps (Record.Ended n) n c row.live (ap (λ (v : State S). v.live) is) (omega arith)
+        (ap (λ (v : State S). length (making.names v.now)) is) to
+        (ended_is_record n (kept.upheld.numbers n row.live))
+        (ended_upheld meaning making short laws b.state kept.upheld n c.state row)
+
+    pub back_keeps : (n : ℕ) (c : BookState S) → BackRow meaning b.state n c.state →
+        AppendsTo b (Record.Back n) c → Kept c
+    back_keeps n c row to =
+        let same_live = len_fallen b.state.live n row.live in
+        let live = ap (λ (v : State S). maps.len v.live) row.is in
+        let wear = ap (λ (v : State S). v.wear) row.is in
+        let same_names = back_names meaning making short laws b.state kept.upheld n c.state row in
+        keep_next (Record.Back n) c to (back_is_record n (kept.upheld.numbers n row.live))
+        (back_upheld meaning making short laws b.state kept.upheld n c.state row)
+        (λ k there. fallen_lives meaning making short laws b.state kept.upheld n k row.live
+        (subst (λ (v : State S). Lives v.live k) row.is there)) (omega arith)
+
+    pub fall_keeps : (n : ℕ) (c : BookState S) → FallRow b.state n c.state →
+        c ≡ record b { state = c.state } → Kept c
+    fall_keeps n c row is =
+        let same_live = len_fallen b.state.live n row.live in
+        let live = ap (λ (v : State S). maps.len v.live) row.is in
+        let wear = ap (λ (v : State S). v.wear) row.is in
+        let same_names = ap (λ (v : State S). length (making.names v.now)) row.is in
+        let before = kept.positions in
+        subst Kept (sym is) (record {
+          records = kept.records;
+          few_pending = kept.few_pending;
+          frozen = kept.frozen;
+          upheld = fall_upheld meaning making short laws b.state kept.upheld n c.state row;
+          below = λ k there. kept.below k
+              (fallen_lives meaning making short laws b.state kept.upheld n k row.live
+              (subst (λ (v : State S). Lives v.live k) row.is there));
+          next = kept.next;
+          positions = omega arith;
+          placed = kept.placed;
+          counted = kept.counted;
+        })
+
+    -- The first pending records are handed over.
+    pub handed_keeps : (first rest : List Record) (left : List ℕ) → b.pending ≡ first ++ rest →
+        ((f : ℕ) → Contains left f → Contains b.freezes f × (b.end + length first < f)) →
+        Kept (record b {
+          pending = rest;
+          freezes = left;
+          end = b.end + length first;
+          place = b.place + places first;
+        })
+    handed_keeps first rest left are behind =
+        let parts = ap length are ∙ append_length first rest in
+        let pending = kept.few_pending in
+        let positions = kept.positions in
+        let placed = kept.placed in
+        let counted = kept.counted in
+        let commits = ap places are ∙ places_append first rest in
+        record {
+          records = each_back (IsRecord None) first rest
+              (subst (AllByRecursion (IsRecord None)) are kept.records);
+          few_pending = omega arith;
+          frozen = λ f there. let above = (behind f there).1 in
+              let high = (kept.frozen f (behind f there).0).1 in (above, omega arith);
+          upheld = kept.upheld;
+          below = kept.below;
+          next = kept.next;
+          positions = omega arith;
+          placed = omega arith;
+          counted = omega arith;
+        }
+
+    -- the book with other records pending, and others handed over
+    with_pending : (c : BookState S) (pending : List Record) (left : List ℕ) (end place : ℕ) →
+        c ≡ record b { pending = c.pending; freezes = c.freezes; end = c.end; place = c.place } →
+        c.pending ≡ pending → c.freezes ≡ left → c.end ≡ end → c.place ≡ place →
+        c ≡ record b { pending = pending; freezes = left; end = end; place = place }
+    with_pending c pending left end place is pending_is left_is end_is place_is =
+        is
+        ∙ ap (λ v. record b { pending = v; freezes = c.freezes; end = c.end; place = c.place })
+        pending_is
+        ∙ ap (λ v. record b { pending = pending; freezes = v; end = c.end; place = c.place })
+        left_is
+        ∙ ap (λ v. record b { pending = pending; freezes = left; end = v; place = c.place }) end_is
+        ∙ ap (λ v. record b { pending = pending; freezes = left; end = end; place = v }) place_is
+
+    pub cut_keeps : (waiting : List Block) (full : Type 0) (result : Result Bool Refusal)
+        (waits : List Block) (c : BookState S) → CutAnswers b waiting full result waits c → Kept c
+    cut_keeps waiting full (Ok true) waits c cut =
+        let hands = cut.0.2 in
+        subst Kept (sym (with_pending c c.pending c.freezes (b.end + length hands.first)
+        (b.place + places hands.first) cut.1 refl refl (cut.0.3 ∙ hands.ends)
+        (cut.0.4 ∙ hands.commits)))
+        (handed_keeps hands.first c.pending c.freezes hands.are
+        (λ f there. let left = (cut.0.5 f).0 there in let behind = left.1 in
+        let end = hands.ends in (left.0, omega arith)))
+    cut_keeps waiting full (Ok false) waits c cut =
+        subst Kept (sym (with_pending c b.pending b.freezes b.end b.place cut.1 cut.0.2 cut.0.5
+        cut.0.3 cut.0.4)) kept
+    cut_keeps waiting full (Err Refusal.NotNow) waits c cut =
+        subst Kept (sym (with_pending c b.pending b.freezes b.end b.place cut.1 cut.0.2 cut.0.5
+        cut.0.3 cut.0.4)) kept
+    cut_keeps waiting full (Err other) waits c cut = absurd cut.0
+
+    -- A freeze leaves all but that one may stand behind the records that wait.
+    pub freeze_keeps : (c : BookState S) → c ≡ record b { freezes = c.freezes } →
+        ((f : ℕ) → Contains c.freezes f ↔
+        (Contains b.freezes f ⊎ ((f ≡ b.end + length b.pending) × (0 < length b.pending)))) → Kept c
+    freeze_keeps c is stands =
+        subst Kept (sym is) (record {
+          records = kept.records;
+          few_pending = kept.few_pending;
+          frozen = λ f there. elim ((stands f).0 there) [
+            | inl before ↦ kept.frozen f before
+            | inr now ↦ let at = now.0 in let some = now.1 in
+                (omega arith, omega arith)
+          ];
+          upheld = kept.upheld;
+          below = kept.below;
+          next = kept.next;
+          positions = kept.positions;
+          placed = kept.placed;
+          counted = kept.counted;
+        })
+
+  -- A book that was opened.
+  pub opened_kept : (now : S) (next wear : ℕ) → meaning.within now wear → wear ≤ 2 ^ 61 + 65536 →
+      (1 ≤ next) × (next ≤ 2 ^ 61) → length (making.names now) ≤ 256 → short now →
+      Kept (opened now next wear)
+  opened_kept now next wear reached unworn fits few spells =
+      let none = maps.len-empty nat_cmp Bool in
+      record {
+        records = tt;
+        few_pending = omega arith;
+        frozen = λ f there. let none = there.1 in absurd (omega arith);
+        upheld = resting_upheld meaning making short laws now wear reached unworn few spells;
+        below = λ n lives. absurd (nobody n lives);
+        next = fits;
+        positions = omega arith;
+        placed = omega arith;
+        counted = omega arith;
+      }
