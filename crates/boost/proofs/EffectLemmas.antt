@@ -104,7 +104,7 @@ module _ {D : Type 0} (g : Ghosts D) (old : D) where
         any_moment = and_then g.moment g.left_since old w.keeper.disk v.keeper.disk P P
             (weaker g.moment g.left_since old w.keeper.disk _ P (keeps content rest sound stands)
             (λ c fine. yields_on content [] steps [] c (yields_none content c fine)))
-            (moments_of g only_now content [] steps w v played.1 (begins content stands rest))
+            (moments_of g only_now content [] steps w v played.1 (begins.past content stands rest))
             (λ c y. y);
       }
 

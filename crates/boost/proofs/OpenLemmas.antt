@@ -15,6 +15,24 @@ module _ {D : Type 0} (g : Ghosts D) (w v : Whole D) (same : w ≡ v) (k : Keepe
   disk_is : w.keeper.disk ≡ k.disk
   disk_is = ap (λ (x : Whole D). x.keeper.disk) same ∙ ap (λ (x : KeeperState D). x.disk) is
 
+  -- the book and the keeper are those that the opening answered
+  pub opened_parts : (book : BookState) → v.book ≡ book →
+      (g.is_honest k.disk → IsOpened (g.seen old) book k.area (g.seen k.disk)) →
+      g.is_honest w.keeper.disk → IsOpened (g.seen old) w.book w.keeper.area (g.seen w.keeper.disk)
+  opened_parts book book_is opened honest =
+      subst (λ (x : Whole D). IsOpened (g.seen old) x.book x.keeper.area (g.seen x.keeper.disk))
+      (sym same)
+      (subst (λ b. IsOpened (g.seen old) b v.keeper.area (g.seen v.keeper.disk)) (sym book_is)
+      (subst (λ (x : KeeperState D). IsOpened (g.seen old) book x.area (g.seen x.disk)) (sym is)
+      (opened (subst g.is_honest disk_is honest))))
+
+  -- numbers are drawn from the book's next one on
+  pub opened_numbers : (book : BookState) → v.book ≡ book → v.next ≡ book.next →
+      w.next ≡ w.book.next
+  opened_numbers book book_is next_is =
+      subst (λ (x : Whole D). x.next ≡ x.book.next) (sym same)
+      (subst (λ (b : BookState). v.next ≡ b.next) (sym book_is) next_is)
+
   pub opened_past : (book : BookState) (content : List Collection) →
       (g.is_honest k.disk → IsOpened (g.seen old) book k.area (g.seen k.disk)) →
       (g.is_honest k.disk → IsAtRest g.seen g.may_leave old →

@@ -8,7 +8,7 @@ use Rattle.disk_model.specs.declared.disk.Disk.{Ghosts}
 use Rattle.repetition.specs.Journals.{StandsFor}
 use Rattle.repetition.specs.Reading.{IsSound}
 use Rattle.recovery.specs.Formats.{IsRoomFor, IsEmptyStore, IsFormatting}
-use Rattle.recovery.specs.Openings.{KeepsContent}
+use Rattle.recovery.specs.Openings.{IsOpened, KeepsContent}
 use Rattle.world.specs.Pasts.{Past, AreAnswered}
 use Rattle.world.specs.Crash.{Yields}
 use Rattle.world.specs.Worlds.{HasPast}
@@ -35,10 +35,15 @@ KeepsPlaying seen may_leave moment left_since old new =
     (content : List Collection) → IsAtRest seen may_leave old → IsSound (seen old) →
     StandsFor (seen old) content → WasPlayed moment left_since content old new
 
--- A world of the disk was made by an opening: its past begins with the content of the store.
-abbrev pub StartsFrom : {D : Type 0} (g : Ghosts D) → D → Whole D → Type 0
-StartsFrom g old w = (content : List Collection) → StandsFor (g.seen old) content →
-    IsAtRest g.seen g.may_leave old → HasPast g.seen g.may_leave content [] (parts w)
+-- A world of the disk was made by an opening: its book and its keeper are those that the opening
+-- answered, nothing is in transit, and numbers are drawn from the book's next one on. Its past
+-- begins with the content of the store.
+pub record StartsFrom {D : Type 0} (g : Ghosts D) (old : D) (w : Whole D) : Type 0 where
+  pub opened : IsOpened (g.seen old) w.book w.keeper.area (g.seen w.keeper.disk)
+  pub nothing_sent : w.transit ≡ []
+  pub numbers : w.next ≡ w.book.next
+  pub past : (content : List Collection) → StandsFor (g.seen old) content →
+      IsAtRest g.seen g.may_leave old → HasPast g.seen g.may_leave content [] (parts w)
 
 -- Lines are played on a disk: it was opened, the lines were carried out, one after another, for 64
 -- clients that had done nothing before, and the disk is that of the world behind them.

@@ -1,7 +1,8 @@
-use Rattle.std.proofs.Common.{sym, subst}
+use Rattle.std.proofs.Common.{◌≡◌, [], sym, subst}
 use Rattle.std.proofs.lemmas.Result.{err_from_is_err_and}
 use Rattle.recovery.specs.Openings.{KeepsContent}
-use Rattle.boost.proofs.OpenLemmas.{opened_past, opened_keeps}
+use Rattle.world.specs.Moves.{Whole}
+use Rattle.boost.proofs.OpenLemmas.{opened_parts, opened_numbers, opened_past, opened_keeps}
 use Rattle.boost.proofs.commands.open_player.Goals as goal
 
 pub returns-in_err-book-clause-kept_in_refusal : goal.returns-in_err-book-clause-kept_in_refusal
@@ -19,11 +20,21 @@ returns-in_err-new-clause-kept_in_refusal g c =
     (c.in_ok-book.ensures.kept (subst g.D.Disk.is_honest is honest)))
 
 pub returns-clause-past : goal.returns-clause-past
-returns-clause-past g c = λ honest content stands rest.
-    opened_past g.D.Disk c.new-2.result.world c.in_ok-new.field-0 c.new-2.ensures.world
-    c.in_ok-book.keeper c.in_ok-new.ensures.parts.1 c.args.disk c.in_ok-book.book content
-    c.in_ok-book.ensures.opened c.in_ok-book.ensures.ready
-    (c.in_ok-book.ensures.content content stands) c.in_ok-new.ensures.past rest honest
+returns-clause-past g c = λ honest.
+    let world = c.new-2.result.world in
+    let made = c.in_ok-new.field-0 in
+    let parts = c.in_ok-new.ensures.parts in
+    let keeper = c.in_ok-book.keeper in
+    let book = c.in_ok-book.book in record {
+      opened = opened_parts g.D.Disk world made c.new-2.ensures.world keeper parts.1 c.args.disk
+          book parts.0 c.in_ok-book.ensures.opened honest;
+      nothing_sent = subst (λ (x : Whole _). x.transit ≡ []) (sym c.new-2.ensures.world) parts.2;
+      numbers = opened_numbers g.D.Disk world made c.new-2.ensures.world keeper parts.1 c.args.disk
+          book parts.0 parts.3;
+      past = λ content stands rest. opened_past g.D.Disk world made c.new-2.ensures.world keeper
+          parts.1 c.args.disk book content c.in_ok-book.ensures.opened c.in_ok-book.ensures.ready
+          (c.in_ok-book.ensures.content content stands) c.in_ok-new.ensures.past rest honest;
+    }
 
 pub returns-clause-kept : goal.returns-clause-kept
 returns-clause-kept g c = λ honest. opened_keeps g.D.Disk c.new-2.result.world c.in_ok-new.field-0

@@ -2,6 +2,9 @@ use Rattle.std.proofs.Common.{rules}
 use Rattle.world.proofs.Begins.{past_begins}
 use Rattle.world.proofs.world.World.new.Goals as goal
 
+pub returns-in-Ok-clause-parts : goal.returns-in-Ok-clause-parts
+returns-in-Ok-clause-parts g c = search rules
+
 pub returns-in-Ok-clause-past : goal.returns-in-Ok-clause-past
 returns-in-Ok-clause-past g c = λ bytes opened ready.
     past_begins g.D.Disk.seen g.D.Disk.may_leave bytes c.args.book c.args.keeper
