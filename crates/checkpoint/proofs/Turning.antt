@@ -1,6 +1,6 @@
 -- What a turn answers.
 use Rattle.std.proofs.Common.{◌≡◌, ◌∷◌, List, ℕ, Bool, false, length, subst, Option, Some, IfSome}
-use Rattle.std.proofs.Common.{OnOk, Result, Ok, Err}
+use Rattle.std.proofs.Common.{OnOk, Result, Ok, Err, inr}
 use Rattle.calls.specs.declared.refusal.Refusal.{Refusal}
 use Rattle.gate_block.specs.Row.{SameOutside}
 use Rattle.gate_block.specs.Area.{base_of, size_of}
@@ -8,7 +8,8 @@ use Rattle.blocks.specs.declared.block.Block.{Block}
 use Rattle.checkpoint.specs.declared.turn.Turn.{Turn}
 use Rattle.checkpoint.specs.declared.laying.Laying.{Laying}
 use Rattle.checkpoint.specs.Imaging.{IsLaidBeside, IsBeingLaid}
-use Rattle.checkpoint.specs.Keepers.{KeeperState, IsKeeper, OnKept, BringAnswers, TurnAnswers}
+use Rattle.checkpoint.specs.Keepers.{KeeperState, IsKeeper, OnKept, AppendAnswers, BringAnswers}
+use Rattle.checkpoint.specs.Keepers.{TurnAnswers}
 use Rattle.checkpoint.proofs.Apart.{still_laid}
 
 -- a turn that brings the first block
@@ -28,6 +29,20 @@ brought q waiting b failed fails mark next is_covered is_past is_full is_same is
     (Err Refusal.Failed) held first not_failed a = absurd a.2
 brought q waiting b failed fails mark next is_covered is_past is_full is_same is_risen (Err e) held
     first not_failed a = (not_failed, (b, first, a))
+
+-- a block that is neither covered nor past the image is brought as it is appended
+pub appended : (b : Block) (mark next : ℕ) (is_covered is_past is_full is_same is_risen : Type 0)
+    (r : Result Turn Refusal) (held : Option Block) (failed : Bool) → ¬ is_covered → ¬ is_past
+    → AppendAnswers b mark is_full is_same is_risen r held next failed →
+    BringAnswers b mark is_covered is_past is_full is_same is_risen r held next failed
+appended b mark next is_covered is_past is_full is_same is_risen (Ok (Turn.Kept place)) held failed
+    fresh near a = inr (fresh, near, a)
+appended b mark next is_covered is_past is_full is_same is_risen (Ok Turn.Held) held failed fresh
+    near a = absurd a
+appended b mark next is_covered is_past is_full is_same is_risen (Ok Turn.Idle) held failed fresh
+    near a = absurd a
+appended b mark next is_covered is_past is_full is_same is_risen (Err e) held failed fresh near a =
+    (fresh, near, a)
 
 -- where an append that was answered well has led to P, so has one that kept a block
 pub kept_of : (P : Type 0) (r : Result Turn Refusal) → OnOk r P → OnKept r P

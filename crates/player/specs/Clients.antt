@@ -9,7 +9,6 @@ use Rattle.calls.specs.declared.refusal.Refusal.{Refusal}
 use Rattle.calls.specs.Contents.{Collection}
 use Rattle.calls.specs.Names.{IsName}
 use Rattle.boosted.specs.Meaning.{CanAsk}
-use Rattle.catalog.specs.Places.{Belongs}
 use Rattle.catalog.specs.Making.{names_of, IsPlaceOf, FindRefused}
 use Rattle.world.specs.declared.steps.Step.{Step}
 use Rattle.world.specs.declared.steps.Answer.{Answer}

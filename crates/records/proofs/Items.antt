@@ -2,8 +2,8 @@
 -- runs reach them.
 use Rattle.std.proofs.Common.{refl, ◌≡◌, ℕ, zero, suc, ◌≤◌, Bool, true, false, cond, Option, Some}
 use Rattle.std.proofs.Common.{None}
-use Rattle.std.proofs.Common.{List, [], ◌∷◌, ◌++◌, map, length, sym, ◌∙◌, ap, subst, Ordering, Less}
-use Rattle.std.proofs.Common.{Equal, Greater, ⊎_elim}
+use Rattle.std.proofs.Common.{List, [], ◌∷◌, ◌++◌, map, length, sym, ◌∙◌, ap, subst}
+use Rattle.std.proofs.Common.{⊎_elim}
 use Rattle.std.specs.Prelude.{IfSome, T, replicate}
 use Rattle.std.specs.List.{AllByRecursion, flat_map}
 use Rattle.std.specs.Ordering.{nat_cmp, eq_by_cmp, is_eq}

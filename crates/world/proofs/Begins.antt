@@ -5,9 +5,6 @@ use Rattle.std.specs.Prelude.{Contains, Option, Some, IfSome}
 use Rattle.std.specs.List.{AllByRecursion}
 use Rattle.std.specs.FinMap as maps
 use Rattle.std.proofs.lemmas.List.{append-nil}
-use Rattle.calls.specs.Contents.{AnswersAt, after_at}
-use Rattle.calls.specs.Transactions.{Makes}
-use Rattle.calls.specs.Rules.{need_of, inverse_of}
 use Rattle.abstract_locks.specs.declared.table.Hold.{Hold}
 use Rattle.boosted.proofs.Each.{weaker, each_append}
 use Rattle.undo_log.specs.Logs.{Lives}

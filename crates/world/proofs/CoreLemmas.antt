@@ -2,15 +2,10 @@
 use Rattle.std.proofs.Common.{ℕ, ◌≤◌, Bool, true, false, List, length, refl, arith, None, Result}
 use Rattle.std.proofs.Common.{Ok, Err}
 use Rattle.std.specs.List.{AllByRecursion}
-use Rattle.calls.specs.Contents.{AnswersAt, after_at}
-use Rattle.calls.specs.Transactions.{Makes}
-use Rattle.calls.specs.Rules.{need_of, inverse_of}
 use Rattle.calls.specs.declared.call.Call.{Call}
 use Rattle.calls.specs.declared.kind.Kind.{Kind}
 use Rattle.calls.specs.declared.reply.Reply.{Reply}
 use Rattle.calls.specs.declared.refusal.Refusal.{Refusal}
-use Rattle.catalog.specs.Places.{Belongs, Misplaced}
-use Rattle.catalog.specs.Making.{names_of}
 use Rattle.disk_model.specs.declared.disk.Disk.{Ghosts}
 use Rattle.record_format.specs.Records.{IsRecord}
 use Rattle.blocks.specs.declared.block.Block.{Block}

@@ -7,13 +7,11 @@ use Rattle.std.specs.Int.{w32, to_be_bytes}
 use Rattle.std.specs.declared.alloc.Global.{Global}
 use Rattle.std.proofs.lemmas.Bool.{cases_eq}
 use Rattle.std.proofs.lemmas.List.{append-nil, take_at}
-use Rattle.calls.specs.Contents.{Collection, AnswersAt, after_at}
-use Rattle.calls.specs.Transactions.{Leads, Makes}
-use Rattle.calls.specs.Rules.{need_of, inverse_of}
+use Rattle.calls.specs.Contents.{Collection}
+use Rattle.calls.specs.Transactions.{Leads}
 use Rattle.calls.specs.declared.refusal.Refusal.{Refusal}
 use Rattle.catalog.specs.Holdings.{AreNamed}
 use Rattle.catalog.specs.Making.{names_of, AreDistinct}
-use Rattle.catalog.specs.Places.{IsWithin}
 use Rattle.disk_model.specs.Disk.{LeavesOnly}
 use Rattle.gate_block.specs.Row.{IsBlockOf}
 use Rattle.gate_block.specs.declared.area.Area.{Area}

@@ -12,9 +12,9 @@ use Rattle.calls.specs.declared.kind.Kind.{Kind}
 use Rattle.calls.specs.declared.call.Call.{Call}
 use Rattle.calls.specs.declared.reply.Reply.{Reply}
 use Rattle.calls.specs.declared.need.Need.{Need}
-use Rattle.calls.specs.Contents.{Collection, AnswersAt, after_at}
-use Rattle.calls.specs.Rules.{left_by, need_of, Conflict, inverse_of}
-use Rattle.calls.specs.Transactions.{Event, Entry, Asked, PutOff, Leads, Makes, own}
+use Rattle.calls.specs.Contents.{Collection, AnswersAt}
+use Rattle.calls.specs.Rules.{left_by, need_of, Conflict}
+use Rattle.calls.specs.Transactions.{Event, Entry, Asked, PutOff, Leads, own}
 use Rattle.abstract_locks.specs.declared.table.Hold.{Hold}
 use Rattle.abstract_locks.specs.Holds.{hold, Blocks, IsClear, IsAdded}
 use Rattle.catalog.specs.Laws.ByPlace.{answered_belongs}

@@ -7,7 +7,7 @@ use Rattle.std.specs.List.{AllByRecursion, flat_map, filter}
 use Rattle.std.specs.FinMap as maps
 use Rattle.calls.specs.declared.call.Call.{Call}
 use Rattle.calls.specs.declared.reply.Reply.{Reply}
-use Rattle.calls.specs.Contents.{Content, Collection, AnswersAt, after, after_at, kind_of_content}
+use Rattle.calls.specs.Contents.{Collection, after_at}
 use Rattle.catalog.specs.Laws.OneContent.{kind_after}
 use Rattle.calls.specs.Rules.{inverse_of}
 use Rattle.calls.specs.Transactions.{Event, Entry, Asked, PutOff, Leads, calls_of, own}

@@ -2,18 +2,16 @@
 use Rattle.std.proofs.Common.{◌≡◌, ℕ, zero, suc, ◌<◌, ◌≤◌, Option, Some, None, List, [], ◌∷◌, ◌++◌}
 use Rattle.std.proofs.Common.{length, map, slice_get, refl, sym, ap, subst, arith, append-nil}
 use Rattle.std.proofs.Common.{append_assoc}
-use Rattle.std.specs.Prelude.{replicate}
-use Rattle.std.specs.List.{AllByRecursion, flat_map}
-use Rattle.std.specs.FinMap as maps
+use Rattle.std.specs.List.{AllByRecursion}
 use Rattle.std.proofs.lemmas.List.{length-map}
 use Rattle.std.proofs.lemmas.Option.{slice_get_within, slice_get_read}
 use Rattle.calls.specs.declared.kind.Kind.{Kind}
 use Rattle.calls.specs.declared.item.Item.{Item}
-use Rattle.calls.specs.Contents.{Content, InSet, InMap, InQueue, InCounter, InPool, Collection}
+use Rattle.calls.specs.Contents.{Collection}
 use Rattle.calls.specs.Contents.{kind_of_content, IsItemOf}
 use Rattle.calls.specs.Names.{IsName}
 use Rattle.calls.specs.Transactions.{Leads}
-use Rattle.catalog.specs.Holdings.{AreNamed, ListsContent, Precedes, Rise, AreInOrder, Follows}
+use Rattle.catalog.specs.Holdings.{AreNamed, Rise, AreInOrder, Follows}
 use Rattle.catalog.specs.Making.{names_of, IsNew, AreDistinct}
 use Rattle.catalog.specs.Places.{Reaches, IsWithin}
 use Rattle.catalog.proofs.Orders.{listed_in_order, first_is_item, in_order_rise, rise_in_order}
@@ -25,7 +23,7 @@ use Rattle.machine.specs.Machines.{resting}
 use Rattle.repetition.specs.Steps.{State}
 use Rattle.repetition.specs.Reading.{Named, Progress, InCollections, Closes, Reads}
 use Rattle.repetition.proofs.Lists.{leads_append}
-use Rattle.boosted.proofs.Each.{each_append, each_front, each_back}
+use Rattle.boosted.proofs.Each.{each_front, each_back}
 
 -- ---- items in order
 

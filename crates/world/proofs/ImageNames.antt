@@ -5,7 +5,7 @@ use Rattle.std.specs.Prelude.{MatchOption}
 use Rattle.std.specs.List.{AllByRecursion}
 use Rattle.calls.specs.declared.call.Call.{Call}
 use Rattle.calls.specs.Names.{IsName}
-use Rattle.calls.specs.Contents.{Content, Collection, AnswersAt, after_at, does}
+use Rattle.calls.specs.Contents.{Content, Collection, after_at, does}
 use Rattle.calls.specs.Rules.{inverse_of}
 use Rattle.calls.specs.Transactions.{Event, Leads}
 use Rattle.catalog.specs.Holdings.{AreNamed}

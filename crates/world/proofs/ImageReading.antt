@@ -4,14 +4,12 @@ use Rattle.std.proofs.Common.{[], ◌∷◌, ◌++◌, length, map, refl, sym, �
 use Rattle.std.specs.Prelude.{◌↔◌, Contains}
 use Rattle.std.specs.FinMap as maps
 use Rattle.std.specs.Ordering.{nat_cmp}
-use Rattle.calls.specs.Contents.{Collection, AnswersAt, after_at}
-use Rattle.calls.specs.Rules.{need_of, inverse_of}
-use Rattle.calls.specs.Transactions.{Entry, Leads, Makes, calls_of, own}
+use Rattle.calls.specs.Contents.{Collection}
+use Rattle.calls.specs.Transactions.{Entry, Leads, calls_of, own}
 use Rattle.abstract_locks.specs.declared.table.Hold.{Hold}
 use Rattle.undo_log.specs.Logs.{Statuses, Lives, Falls}
 use Rattle.catalog.specs.Holdings.{AreNamed}
 use Rattle.catalog.specs.Making.{names_of, AreDistinct}
-use Rattle.catalog.specs.Places.{IsWithin}
 use Rattle.record_format.specs.declared.record.Record.{Record}
 use Rattle.record_format.specs.Records.{IsNumber}
 use Rattle.records.specs.Images.{Rise, IsImage}

@@ -4,12 +4,9 @@ use Rattle.std.proofs.Common.{append_assoc, refl, sym, ◌∙◌, ap, subst, ari
 use Rattle.std.proofs.lemmas.List.{take-append-drop}
 use Rattle.std.specs.List.{AllByRecursion}
 use mathlib.Core.List.{IsPrefix}
-use Rattle.calls.specs.Contents.{Collection, AnswersAt, after_at}
-use Rattle.calls.specs.Transactions.{Transaction, Serial, committed, committed_after, Entry, Makes}
+use Rattle.calls.specs.Contents.{Collection}
+use Rattle.calls.specs.Transactions.{Transaction, Serial, committed, committed_after, Entry}
 use Rattle.calls.specs.Transactions.{Leads, calls_of}
-use Rattle.calls.specs.Rules.{need_of, inverse_of}
-use Rattle.catalog.specs.Places.{Belongs, Misplaced}
-use Rattle.catalog.specs.Making.{names_of}
 use Rattle.gate_block.specs.declared.area.Area.{Area}
 use Rattle.gate_block.specs.Row.{IsRow, part}
 use Rattle.gate_block.specs.Area.{size_of, bytes_of}

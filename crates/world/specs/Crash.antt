@@ -1,7 +1,7 @@
 -- What a past comes to: in the book, and on the disk after a stop.
 use Rattle.std.specs.Prelude.{ℕ, List}
 use mathlib.Core.List.{IsPrefix}
-use Rattle.calls.specs.Contents.{Collection, AnswersAt, after_at}
+use Rattle.calls.specs.Contents.{Collection}
 use Rattle.calls.specs.Transactions.{Transaction, Serial}
 use Rattle.machine.specs.Machine.{IsSettled}
 use Rattle.repetition.specs.Journals.{StandsFor}

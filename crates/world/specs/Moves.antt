@@ -1,7 +1,6 @@
 -- One step of a world, with its answer: what the book, the keeper and the mark answer, and what
 -- they leave.
 use Rattle.std.specs.Prelude.{◌≡◌, ◌⊎◌, ℕ, ◌+◌, ◌<◌, ◌≤◌, Bool, List, length, Result, Ok, Err}
-use Rattle.calls.specs.Rules.{inverse_of}
 use Rattle.calls.specs.declared.refusal.Refusal.{Refusal}
 use Rattle.disk_model.specs.Disk.{Rises}
 use Rattle.gate_block.specs.Area.{size_of, position_of}

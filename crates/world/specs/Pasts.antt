@@ -2,13 +2,11 @@
 use Rattle.std.specs.Prelude.{◌≡◌, ℕ, ◌+◌, ◌<◌, ◌≤◌, ◌^◌, max, true, List, [], ◌∷◌, length, take}
 use Rattle.std.specs.Prelude.{Result, Ok, Err}
 use Rattle.std.specs.List.{flat_map, AllByRecursion}
-use Rattle.calls.specs.Contents.{Collection, AnswersAt, after_at}
+use Rattle.calls.specs.Contents.{Collection}
 use Rattle.calls.specs.Transactions.{Transaction, Act, Begins, Asks, Commits, Creates, Asked}
-use Rattle.calls.specs.Transactions.{PutOff, committed, Leads, Makes}
-use Rattle.calls.specs.Rules.{need_of, inverse_of}
+use Rattle.calls.specs.Transactions.{PutOff, committed, Leads}
+use Rattle.calls.specs.Rules.{inverse_of}
 use Rattle.calls.specs.declared.refusal.Refusal.{Refusal}
-use Rattle.catalog.specs.Places.{Belongs, Misplaced}
-use Rattle.catalog.specs.Making.{names_of}
 use Rattle.record_format.specs.declared.record.Record.{Record}
 use Rattle.record_format.specs.Records.{call_record}
 use Rattle.checkpoint.specs.declared.turn.Turn.{Turn}

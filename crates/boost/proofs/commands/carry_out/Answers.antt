@@ -1,5 +1,3 @@
-use Rattle.arguments.specs.declared.Task.{Task}
-use Rattle.std.proofs.Common.{refl}
 use Rattle.boost.proofs.EffectLemmas.{untouched_leaves}
 use Rattle.boost.proofs.commands.carry_out.Goals as goal
 
