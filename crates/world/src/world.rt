@@ -68,8 +68,8 @@ impl<D: Disk> Model for World<D> {
 
 impl<D: Disk> World<D> {
     /// A world of an opened book and its keeper, which has brought nothing to the disk yet, with
-    /// nothing in transit. Numbers are drawn from the book's next one on. Its past begins there: what
-    /// a stop leaves is what it leaves of the store that was opened.
+    /// nothing in transit. Numbers are drawn from the book's next one on. Its past begins there:
+    /// what a stop leaves is what it leaves of the store that was opened.
     ///
     /// Refused only for want of memory, and then the disk is handed back.
     pub fn new(alloc: Global, book: Book<Catalog>, keeper: Keeper<D>) -> Result<Self, (Refusal, D)>
