@@ -10,7 +10,7 @@ use std::alloc::Global;
 use std::marker::Model;
 
 /// A need that a transaction holds on a collection.
-#[derive(Clone, Copy, Debug, PartialEq, Eq)]
+#[derive(Clone, Copy, PartialEq, Eq)]
 pub struct Hold {
     owner: u64,
     at: u8,
@@ -28,7 +28,7 @@ impl Hold {
 
 /// The needs that live transactions hold. Contracts see the holds, and for how many more there is
 /// room.
-#[derive(Drop, Debug)]
+#[derive(Drop)]
 pub struct NeedTable {
     holds: Vec<Hold>,
 }

@@ -1,6 +1,6 @@
 -- Records that wait for a block, in blocks that are each as full as they can be.
 use Rattle.std.proofs.Common.{◌≡◌, ℕ, ◌+◌, ◌≤◌, ◌<◌, ◌⊎◌, inl, inr, ◌↔◌, Bool, true, false, IsTrue}
-use Rattle.std.proofs.Common.{Contains, Option, List, [], ◌∷◌, ◌++◌, length, refl, sym, ◌∙◌, ap}
+use Rattle.std.proofs.Common.{Contains, List, [], ◌∷◌, ◌++◌, length, refl, sym, ◌∙◌, ap}
 use Rattle.std.proofs.Common.{subst, arith, append_assoc, length-append}
 use Rattle.std.proofs.lemmas.List.{append-nil}
 use Rattle.std.proofs.lemmas.List.Elements.{Contains-push, Contains-push_cases}
@@ -9,9 +9,7 @@ use Rattle.std.proofs.lemmas.List.Elements.{Contains-append_cases}
 use Rattle.std.specs.List.{flat_map}
 use Rattle.record_format.specs.declared.record.Record.{Record}
 use Rattle.record_format.specs.Acts.{places}
-use Rattle.calls.specs.declared.call.Call.{Call}
-use Rattle.calls.specs.declared.reply.Reply.{Reply}
-use Rattle.record_format.specs.Records.{call_record, spelled, spelling}
+use Rattle.record_format.specs.Records.{spelled, spelling}
 use Rattle.blocks.specs.declared.block.Block.{Block}
 use Rattle.blocks.specs.declared.draft.Handed.{Handed}
 use Rattle.blocks.specs.declared.pending.Filled.{Filled}
@@ -67,13 +65,6 @@ packed_next (x ∷ []) b r packed short full =
     (packed.0, packed.1, packed.2, packed_next [] b r packed.3 short full)
 packed_next (x ∷ y ∷ bs) b r packed short full =
     (packed.0, packed.1, packed.2, packed_next (y ∷ bs) b r packed.3 short full)
-
--- how long the record of a call is, where its inverse was told in another form
-pub call_size : (n at : ℕ) (c : Call) (r : Reply) (given back : Option Call) (len : ℕ) →
-    ((n at : ℕ) → len ≡ length (spelled (Record.Call (call_record n at c r given)))) →
-    given ≡ back → len ≡ length (spelled (Record.Call (call_record n at c r back)))
-call_size n at c r given back len is same =
-    is n at ∙ ap (λ b. length (spelled (Record.Call (call_record n at c r b)))) same
 
 -- ---- blocks that were filled or sealed, and the last one
 

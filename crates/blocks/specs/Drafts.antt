@@ -1,7 +1,7 @@
 -- Records spelled into the blocks in which they will be handed over.
 use Rattle.std.specs.Prelude.{◌≡◌, ℕ, ◌+◌, ◌<◌, ◌≤◌, List, [], ◌∷◌, ◌++◌, length, drop}
 use Rattle.record_format.specs.declared.record.Record.{Record}
-use Rattle.record_format.specs.Records.{call_record, spelled, spelling}
+use Rattle.record_format.specs.Records.{record_of_call, spelled, spelling}
 use Rattle.blocks.specs.declared.noted.Noted.{Noted}
 use Rattle.blocks.specs.declared.noted.Noted.TheVariants.{Start, After', Called'}
 
@@ -9,9 +9,8 @@ use Rattle.blocks.specs.declared.noted.Noted.TheVariants.{Start, After', Called'
 abbrev pub noted_records : Noted → List Record
 noted_records Start = []
 noted_records (After' no_bytes earlier noted) = noted_records earlier ++ noted.value ∷ []
-noted_records (Called' no_bytes earlier n at call reply back) =
-    noted_records earlier ++ Record.Call
-    (call_record n.value at.value call.value reply.value back.value) ∷ []
+noted_records (Called' no_bytes earlier n at call reply) =
+    noted_records earlier ++ record_of_call n.value at.value call.value reply.value ∷ []
 
 -- The records of a block in the making; how many bytes are written, and for how many there is room.
 pub record Drafted : Type 0 where

@@ -8,7 +8,7 @@ use std::collections::VecDeque;
 /// A whole block: an open gate, the length, the body, a closed gate. `end` is the position after
 /// its last record, counted since the store was opened, and `place` the count of commits and makes
 /// up to there.
-#[derive(Drop, Debug)]
+#[derive(Drop)]
 pub struct Block {
     pub bytes: Vec<u8>,
     pub end: u64,
@@ -19,7 +19,7 @@ pub struct Block {
 /// Whole blocks that hold an image of a book, as `Book::freeze` answers it. `end` is the position
 /// after the last record that it covers, counted since the store was opened, and `place` the count
 /// of commits and makes up to there.
-#[derive(Drop, Debug)]
+#[derive(Drop)]
 pub struct Image {
     pub blocks: VecDeque<Vec<u8>>,
     pub end: u64,

@@ -7,7 +7,8 @@ ghost use Rattle.gate_block.specs.Row.{IsBlockOf};
 ghost use Rattle.blocks.specs.Drafts.{HasPlace};
 ghost use Rattle.blocks.specs.Offers.{IsOffered};
 ghost use Rattle.record_format.specs.Acts.{places};
-ghost use Rattle.record_format.specs.Records.{call_record, spelled, spelling, Fits, FitsCall};
+ghost use Rattle.calls.specs.Rules.{Askable};
+ghost use Rattle.record_format.specs.Records.{record_of_call, spelled, spelling, Fits, FitsCall};
 ghost use Rattle.record_format.specs.Records.{FitsReply};
 
 use crate::block::{Block, Outbox};
@@ -20,7 +21,7 @@ use std::marker::Model;
 use std::snapshot::Snapshot;
 
 /// How many records were handed over, and how many of them commit something.
-#[derive(Clone, Copy, Debug)]
+#[derive(Clone, Copy)]
 pub struct Handed {
     pub end: u64,
     pub place: u64,
@@ -121,31 +122,23 @@ impl Draft {
     }
 
     // Writes the record of a call behind the others, from its parts. It takes no memory.
-    pub(crate) fn push_call(
-        &mut self,
-        number: u64,
-        at: u8,
-        asked: &Call,
-        answer: &Reply,
-        back: &Option<Call>,
-    )
+    pub(crate) fn push_call(&mut self, number: u64, at: u8, asked: &Call, answer: &Reply)
+        requires askable { Askable asked.now }
         requires asked { FitsCall asked.now }
         requires answer { FitsReply answer.now }
-        requires back { IfSome back.now FitsCall }
         requires room { HasPlace self.old
-            (length (spelled (Record.Call (call_record number at asked.now answer.now back.now)))) }
+            (length (spelled (record_of_call number at asked.now answer.now))) }
         requires few { length self.old.records < 2 ^ 32 }
-        ensures { self.new.records ≡ self.old.records ++
-            Record.Call (call_record number at asked.now answer.now back.now) ∷ [] }
+        ensures { self.new.records ≡
+            self.old.records ++ record_of_call number at asked.now answer.now ∷ [] }
     {
-        let _written = encode_call(number, at, asked, answer, back.as_ref(), &mut self.bytes);
+        let _written = encode_call(number, at, asked, answer, &mut self.bytes);
         self.noted = Noted::Called(
             Snapshot::of(&self.noted),
             Snapshot::of(&number),
             Snapshot::of(&at),
             Snapshot::of(asked),
             Snapshot::of(answer),
-            Snapshot::of(back),
         );
         self.count += 1;
     }

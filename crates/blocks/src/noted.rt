@@ -9,12 +9,5 @@ pub(crate) enum Noted {
     Start,
     After(Snapshot<Noted>, Snapshot<Record>),
     // the record of a call, by its parts
-    Called(
-        Snapshot<Noted>,
-        Snapshot<u64>,
-        Snapshot<u8>,
-        Snapshot<Call>,
-        Snapshot<Reply>,
-        Snapshot<Option<Call>>,
-    ),
+    Called(Snapshot<Noted>, Snapshot<u64>, Snapshot<u8>, Snapshot<Call>, Snapshot<Reply>),
 }

@@ -2,7 +2,8 @@
 ghost use Rattle.std.specs.Prelude.{◌≡◌, ℕ, ◌+◌, ◌<◌, ◌≤◌, ◌^◌, ◌⊎◌, [], ◌∷◌, ◌++◌, ◌↔◌, IsTrue};
 ghost use Rattle.std.specs.Prelude.{length, Contains, OnOk, OnErr, IfSome, IsOkUnless};
 ghost use Rattle.record_format.specs.Acts.{places};
-ghost use Rattle.record_format.specs.Records.{call_record, spelled, Fits, FitsCall, FitsReply};
+ghost use Rattle.calls.specs.Rules.{Askable};
+ghost use Rattle.record_format.specs.Records.{record_of_call, spelled, Fits, FitsCall, FitsReply};
 ghost use Rattle.blocks.specs.Waits.{waiting, freezes, Suits, HasRoomFor};
 ghost use Rattle.blocks.specs.Cuts.{CutsOff};
 
@@ -143,32 +144,25 @@ impl Pending {
 
     /// Writes the record of a call behind the others, from its parts, in the room that was made for
     /// it. No call is copied, and no memory is taken.
-    pub fn push_call(
-        &mut self,
-        number: u64,
-        at: u8,
-        asked: &Call,
-        answer: &Reply,
-        back: &Option<Call>,
-    )
+    pub fn push_call(&mut self, number: u64, at: u8, asked: &Call, answer: &Reply)
+        requires askable { Askable asked.now }
         requires asked { FitsCall asked.now }
         requires answer { FitsReply answer.now }
-        requires back { IfSome back.now FitsCall }
         requires room { HasRoomFor self.old
-            (length (spelled (Record.Call (call_record number at asked.now answer.now back.now)))) }
+            (length (spelled (record_of_call number at asked.now answer.now))) }
         requires few { length (waiting self.old) < 2 ^ 32 }
-        ensures records { waiting self.new ≡ waiting self.old ++
-            Record.Call (call_record number at asked.now answer.now back.now) ∷ [] }
+        ensures records { waiting self.new ≡
+            waiting self.old ++ record_of_call number at asked.now answer.now ∷ [] }
         ensures freezes { freezes self.new ≡ freezes self.old }
         ensures handed { self.new.handed ≡ self.old.handed }
     {
-        let fits = self.fits(call_len(asked, answer, back.as_ref()));
+        let fits = self.fits(call_len(asked, answer));
         self.count += 1;
         if fits {
-            self.last.push_call(number, at, asked, answer, back);
+            self.last.push_call(number, at, asked, answer);
             return;
         }
-        self.spare.push_call(number, at, asked, answer, back);
+        self.spare.push_call(number, at, asked, answer);
         let next = mem::replace(&mut self.spare, Draft::new(self.alloc));
         let draft = mem::replace(&mut self.last, next);
         self.full.push_back_reserved(Filled {

@@ -145,6 +145,10 @@ inverse_of (Call.Bump n) Reply.Done = Some (Call.Bump (neg_ℤ n))
 inverse_of Call.Draw (Reply.Id x) = Some (Call.Free x)
 inverse_of c r = None
 
+-- The inverse puts no value back.
+abbrev pub PutsNothingBack : Call → Reply → Type 0
+PutsNothingBack c r = (k : ℕ) (old : List ℕ) → inverse_of c r ≡ Some (Call.Put k old) → ⊥
+
 -- What the inverse of a call is answered where it takes back what the call did, answered so.
 abbrev pub undone_by : Call → Reply → Reply
 undone_by (Call.SetAdd x) Reply.Yes = Reply.Yes

@@ -53,11 +53,21 @@ pub record Makes (s : List Collection) (name : List ℕ) (kind : Kind) (t : List
   pub free : Contains (map (λ x. x.name) s) name → ⊥
   pub is : t ≡ s ++ record { name = name; content = empty kind } ∷ []
 
--- The transaction leads from s to t: its calls one after another, and then what it put off.
+-- The calls lead from s on, one after another, and then the laters to t.
+abbrev pub RunsBoth : {S E : Type 0} → (S → E → S → Type 0) → (asked laters : List E) → S → S →
+    Type 0
+RunsBoth {S} does asked laters s t = (m : S) × Leads does asked s m × Leads does laters m t
+
+-- The transaction leads from s to t: its calls one after another, and then what it put off; or a
+-- collection is made. What a call does, and what making does, are given.
+abbrev pub RunsWholeBy : {S : Type 0} → (does : S → Event → S → Type 0) →
+    (makes : S → List ℕ → Kind → S → Type 0) → S → Transaction → S → Type 0
+RunsWholeBy does makes s (Whole es) t = RunsBoth does (calls_of es) (laters_of es) s t
+RunsWholeBy does makes s (Made name kind) t = makes s name kind t
+
+-- A transaction of named collections.
 abbrev pub RunsWhole : List Collection → Transaction → List Collection → Type 0
-RunsWhole s (Whole es) t = (m : List Collection) × Leads Does (calls_of es) s m ×
-    Leads Does (laters_of es) m t
-RunsWhole s (Made name kind) t = Makes s name kind t
+RunsWhole s x t = RunsWholeBy Does Makes s x t
 
 -- The transactions lead from s to t, each run whole, one after another.
 abbrev pub Serial : List Transaction → List Collection → List Collection → Type 0

@@ -3,7 +3,7 @@ ghost use Rattle.std.specs.Prelude.{◌↔◌, IsTrue};
 ghost use Rattle.calls.specs.Rules.{Conflict};
 
 /// How a call uses the keys of its need.
-#[derive(Clone, Copy, Debug, PartialEq, Eq)]
+#[derive(Clone, Copy, PartialEq, Eq)]
 pub enum Mode {
     Read,
     Write,
@@ -11,7 +11,7 @@ pub enum Mode {
 }
 
 /// The keys that a call uses, both ends among them. The collection stands beside it.
-#[derive(Clone, Copy, Debug, PartialEq, Eq)]
+#[derive(Clone, Copy, PartialEq, Eq)]
 pub struct Need {
     pub low: u64,
     pub high: u64,

@@ -1,13 +1,14 @@
 // What of a call does not depend on a content: its need, its inverse, what it leaves, and who may
 // ask for it.
-ghost use Rattle.std.specs.Prelude.{◌≡◌, ◌↔◌, IsTrue, IsOk, IfOk, IfErr, IsOkUnless};
+ghost use Rattle.std.specs.Prelude.{◌≡◌, ◌↔◌, IsTrue, IsOk, IfOk, IfErr, IsOkUnless, MatchOption, Some};
 ghost use Rattle.std.specs.Option.{option_to_list};
+ghost use Rattle.calls.specs.declared.call.Call.{Call};
 ghost use Rattle.calls.specs.declared.refusal.Refusal.{Refusal};
 ghost use Rattle.calls.specs.Rules.{need_of, inverse_of, undone_by, left_by, Pairs, Askable};
-ghost use Rattle.calls.specs.Rules.{IsShort, CallRefused, Deferrable, Disposable};
+ghost use Rattle.calls.specs.Rules.{PutsNothingBack, IsShort, CallRefused, Deferrable, Disposable};
 
 use crate::limits::MAX_VALUE;
-use crate::{Call, Mode, Need, Refusal, Reply};
+use crate::{Bytes, Call, Mode, Need, Refusal, Reply};
 
 impl Call {
     /// The keys that the call, answered so, uses, and how. It takes no memory.
@@ -42,6 +43,37 @@ impl Call {
         }
     }
 
+    /// The entry of a map that the call, answered so, took away and its inverse puts back: that of a
+    /// Put or a MapRemove that got a value. It takes no memory.
+    pub fn taken_entry<'a>(&self, reply: &'a Reply) -> Option<(u64, &'a Bytes)>
+        ensures { MatchOption result (PutsNothingBack self.now reply.now)
+            (λ entry. inverse_of self.now reply.now ≡ Some (Call.Put entry.0 entry.1.now)) }
+    {
+        match (self, reply) {
+            (Call::Put(key, _) | Call::MapRemove(key), Reply::Value(old)) => Some((*key, old)),
+            _ => None,
+        }
+    }
+
+    /// The call that takes back what the call did, answered so, where it took no entry away; none
+    /// where it changed nothing. It takes no memory.
+    pub fn plain_inverse(&self, reply: &Reply) -> Option<Call>
+        requires askable { Askable self.now }
+        requires plain { PutsNothingBack self.now reply.now }
+        ensures { result ≡ inverse_of self.now reply.now }
+    {
+        match (self, reply) {
+            (Call::SetAdd(x), Reply::Yes) => Some(Call::SetRemove(*x)),
+            (Call::SetRemove(x), Reply::Yes) => Some(Call::SetAdd(*x)),
+            (Call::Put(key, _), Reply::Nothing) => Some(Call::MapRemove(*key)),
+            (Call::QueueAdd(priority, tag), Reply::Done) => Some(Call::Pluck(*priority, *tag)),
+            (Call::Take, Reply::Item(priority, tag)) => Some(Call::QueueAdd(*priority, *tag)),
+            (Call::Bump(by), Reply::Done) => Some(Call::Bump(-*by)),
+            (Call::Draw, Reply::Id(x)) => Some(Call::Free(*x)),
+            _ => None,
+        }
+    }
+
     /// The call that takes back what the call did, answered so; none where it changed nothing.
     /// NoMemory only for a value that is put back.
     pub fn inverse(&self, reply: &Reply) -> Result<Option<Call>, Refusal>
@@ -49,17 +81,9 @@ impl Call {
         ensures ok { IfOk result (λ back. back ≡ inverse_of self.now reply.now) }
         ensures refusal { IsOkUnless result Refusal.NoMemory }
     {
-        match (self, reply) {
-            (Call::SetAdd(x), Reply::Yes) => Ok(Some(Call::SetRemove(*x))),
-            (Call::SetRemove(x), Reply::Yes) => Ok(Some(Call::SetAdd(*x))),
-            (Call::Put(key, _), Reply::Nothing) => Ok(Some(Call::MapRemove(*key))),
-            (Call::Put(key, _), Reply::Value(old)) => Ok(Some(Call::Put(*key, old.copy()?))),
-            (Call::MapRemove(key), Reply::Value(old)) => Ok(Some(Call::Put(*key, old.copy()?))),
-            (Call::QueueAdd(priority, tag), Reply::Done) => Ok(Some(Call::Pluck(*priority, *tag))),
-            (Call::Take, Reply::Item(priority, tag)) => Ok(Some(Call::QueueAdd(*priority, *tag))),
-            (Call::Bump(by), Reply::Done) => Ok(Some(Call::Bump(-*by))),
-            (Call::Draw, Reply::Id(x)) => Ok(Some(Call::Free(*x))),
-            _ => Ok(None),
+        match self.taken_entry(reply) {
+            Some((key, old)) => Ok(Some(Call::Put(key, old.copy()?))),
+            None => Ok(self.plain_inverse(reply)),
         }
     }
 

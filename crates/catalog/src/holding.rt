@@ -19,7 +19,7 @@ use std::alloc::{AllocError, Global};
 use std::collections::btree_set::Iter;
 
 /// A collection of any kind.
-#[derive(Drop, Debug)]
+#[derive(Drop)]
 pub enum Holding {
     Set(SetCol),
     Map(MapCol),

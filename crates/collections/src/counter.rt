@@ -7,7 +7,7 @@ use calls::{Call, Refusal, Reply};
 use std::marker::Model;
 
 /// A counter: a whole number of an i128. Contracts see the number.
-#[derive(Drop, Debug)]
+#[derive(Drop)]
 pub struct CounterCol {
     total: i128,
 }

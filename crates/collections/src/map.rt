@@ -16,7 +16,7 @@ use std::collections::btree_map::Iter;
 use std::marker::Model;
 
 /// A map from numbers to bytes. Contracts see the map.
-#[derive(Drop, Debug)]
+#[derive(Drop)]
 pub struct MapCol {
     values: BTreeMap<u64, Bytes>,
 }

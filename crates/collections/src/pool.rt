@@ -14,7 +14,7 @@ use std::collections::btree_set::Iter;
 use std::marker::Model;
 
 /// A pool of identifiers. Contracts see the set of those that are taken.
-#[derive(Drop, Debug)]
+#[derive(Drop)]
 pub struct PoolCol {
     taken: BTreeSet<u64>,
 }

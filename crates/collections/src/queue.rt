@@ -14,7 +14,7 @@ use std::marker::Model;
 
 /// A queue of pairs of a priority and a tag, each as often as it was put there. Contracts see the
 /// multiset.
-#[derive(Drop, Debug)]
+#[derive(Drop)]
 pub struct QueueCol {
     // The least pair is the last.
     items: Vec<Reverse<(u64, u64)>>,

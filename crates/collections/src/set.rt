@@ -13,7 +13,7 @@ use std::collections::btree_set::Iter;
 use std::marker::Model;
 
 /// A set of numbers. Contracts see the set.
-#[derive(Drop, Debug)]
+#[derive(Drop)]
 pub struct SetCol {
     elements: BTreeSet<u64>,
 }

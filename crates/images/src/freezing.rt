@@ -22,8 +22,8 @@ use blocks::Packer;
 use calls::limits::MAX_COLLECTIONS;
 use calls::{Item, Refusal};
 use catalog::{Parts, Shown};
-use machine::{Machine, inverse};
-use records::{CallRecord, Coded, LaterRecord, Record, fits_item};
+use machine::Machine;
+use records::{CallRecord, Coded, LaterRecord, Record, fits_call, fits_item, fits_reply};
 use std::alloc::Global;
 use std::collections::VecDeque;
 use undo_log::{Entry, Later, Live, Logged, Owned};
@@ -210,7 +210,9 @@ fn push_call(number: u64, logged: &Logged, packer: &mut Packer) -> Result<(), Re
 {
     let collection = logged.at;
     prove!(collection <= u8::MAX);
-    let back = inverse(&logged.call, &logged.reply)?;
+    prove!(fits_call(&logged.call));
+    prove!(fits_reply(&logged.reply));
+    let back = logged.call.inverse(&logged.reply)?;
     let called = CallRecord {
         number,
         collection,

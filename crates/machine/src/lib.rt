@@ -6,4 +6,3 @@ mod machine;
 mod undoing;
 
 pub use machine::{Machine, unmade};
-pub use undoing::inverse;

@@ -1,13 +1,11 @@
-// The call that takes a call back, and the undoing of one.
-ghost use Rattle.std.specs.Prelude.{◌≡◌, OnOk, OnErr, IfOk, IfSome, IsOkUnless};
-ghost use Rattle.calls.specs.Rules.{Askable, IsShort, inverse_of};
-ghost use Rattle.boosted.specs.Meaning.{Does, Undoes, HasRoom};
-ghost use Rattle.record_format.specs.Records.{FitsCall, FitsReply};
-ghost use Rattle.record_format.specs.Short.{IsShortReply};
+// The undoing of one call.
+ghost use Rattle.std.specs.Prelude.{◌≡◌, OnOk, OnErr, IsOkUnless};
+ghost use Rattle.calls.specs.Rules.{Askable};
+ghost use Rattle.boosted.specs.Meaning.{Undoes, HasRoom};
 
-use calls::{Call, Refusal, Reply};
+use calls::Refusal;
 use catalog::Parts;
-use records::{Coded, fits_call, fits_reply};
+use records::Coded;
 use undo_log::Logged;
 
 // Takes a call back.
@@ -26,26 +24,4 @@ pub(crate) fn undo<B: Parts + Coded>(parts: &mut B, newest: &Logged) -> Result<(
     };
     let reply = parts.look(newest.at, &call)?;
     parts.run(newest.at, &call, &reply)
-}
-
-/// The call that takes back what the call did, answered so; none where it did nothing. All three
-/// have a spelling.
-///
-/// NoMemory for the values of that call.
-pub fn inverse(call: &Call, reply: &Reply) -> Result<Option<Call>, Refusal>
-    requires askable { Askable call.now }
-    requires short { IsShort call.now × IsShortReply reply.now }
-    ensures ok { IfOk result (λ back. back ≡ inverse_of call.now reply.now) }
-    ensures call { FitsCall call.now }
-    ensures reply { FitsReply reply.now }
-    ensures back { IfOk result (λ back. IfSome back FitsCall) }
-    ensures refusal { IsOkUnless result Refusal.NoMemory }
-{
-    prove!(fits_call(call));
-    prove!(fits_reply(reply));
-    let back = call.inverse(reply)?;
-    if let Some(back) = &back {
-        prove!(fits_call(back));
-    }
-    Ok(back)
 }

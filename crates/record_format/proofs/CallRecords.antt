@@ -16,7 +16,7 @@ use Rattle.calls.specs.Pools as pools
 use Rattle.calls.specs.Contents.{Content, InSet, InMap, InQueue, InCounter, InPool, Collection}
 use Rattle.calls.specs.Contents.{Answers, AnswersAt}
 use Rattle.record_format.specs.declared.record.Record.{Record}
-use Rattle.record_format.specs.Records.{call_record, FitsCall, FitsReply, IsNumber, IsRecord}
+use Rattle.record_format.specs.Records.{record_of_call, FitsCall, FitsReply, IsNumber, IsRecord}
 
 -- ---- a call and its reply
 
@@ -102,7 +102,7 @@ inverse_fits c r ask f g = tt
 -- A call that was asked and answered so has a record.
 pub call_is_record : (last : Option Kind) (n at : ℕ) (s : List Collection) (c : Call) (r : Reply) →
     IsNumber n → at < 256 → Askable c → AnswersAt s at c r → FitsCall c → FitsReply r →
-    IsRecord last (Record.Call (call_record n at c r (inverse_of c r)))
+    IsRecord last (record_of_call n at c r)
 call_is_record last n at s c r i l ask a f g = record {
   fits = record {
     number = let h = i.below in

@@ -81,8 +81,12 @@ abbrev pub inverse : Option Call → List ℕ
 inverse None = 0 ∷ []
 inverse (Some c) = call c
 
+-- what stands in the record of a call before the inverse
+abbrev pub before_inverse : (n at : ℕ) → Call → Reply → List ℕ
+before_inverse n at c r = number 8 n ++ (at ∷ call c) ++ reply r
+
 abbrev pub called : CallRecord → List ℕ
-called c = number 8 c.number ++ (c.collection ∷ call c.call) ++ reply c.reply ++ inverse c.inverse
+called c = before_inverse c.number c.collection c.call c.reply ++ inverse c.inverse
 
 -- the record of a call, of its parts
 abbrev pub call_record : (number collection : ℕ) → Call → Reply → Option Call → CallRecord
@@ -93,6 +97,10 @@ call_record n at c r back = record {
   reply = r;
   inverse = back;
 }
+
+-- the record of a call, answered so, with the call that takes it back
+abbrev pub record_of_call : (number collection : ℕ) → Call → Reply → Record
+record_of_call n at c r = Record.Call (call_record n at c r (inverse_of c r))
 
 abbrev pub put_off : LaterRecord → List ℕ
 put_off l = number 8 l.number ++ (l.collection ∷ call l.call)

@@ -2,9 +2,10 @@
 ghost use Rattle.std.specs.Prelude.{◌≡◌, ◌+◌, ◌≤◌, ℕ, length, IfSome};
 ghost use Rattle.std.specs.Option.{option_copied};
 ghost use Rattle.record_format.specs.declared.record.Record.{Record};
-ghost use Rattle.record_format.specs.Records.{value, named, call, reply, inverse, call_record};
+ghost use Rattle.record_format.specs.Records.{value, named, call, reply, inverse, record_of_call};
 ghost use Rattle.record_format.specs.Records.{put_off, item, spelled, Fits, FitsCall, FitsReply};
 ghost use Rattle.record_format.specs.Records.{FitsItem, FitsCalled, FitsPutOff, IsValue};
+ghost use Rattle.calls.specs.Rules.{inverse_of, Askable};
 
 use crate::record::{CallRecord, LaterRecord, Record};
 use calls::{Bytes, Call, Item, Name, Reply};
@@ -55,7 +56,7 @@ fn answer_len(answer: &Reply) -> usize
     }
 }
 
-fn back_len(back: Option<&Call>) -> usize
+fn inverse_len(back: Option<&Call>) -> usize
     requires { IfSome (option_copied back) FitsCall }
     ensures len { result ≡ length (inverse (option_copied back.entry)) }
     ensures bound { result ≤ 267 }
@@ -66,20 +67,33 @@ fn back_len(back: Option<&Call>) -> usize
     }
 }
 
-/// How many bytes the record of a call takes, with its reply and the call that takes it back, whose
-/// values have at most 256 bytes: from 12 to 811.
+// How many bytes the call takes that takes a call back, answered so.
 #[tactic(auto, using(crate::proofs::RecordLengths::lengths))]
-pub fn call_len(asked: &Call, answer: &Reply, back: Option<&Call>) -> usize
+fn back_len(asked: &Call, answer: &Reply) -> usize
+    requires askable { Askable asked.now }
+    requires fits { IfSome (inverse_of asked.now answer.now) FitsCall }
+    ensures len { result ≡ length (inverse (inverse_of asked.now answer.now)) }
+    ensures bound { result ≤ 267 }
+{
+    match asked.taken_entry(answer) {
+        Some((_, old)) => 9 + value_len(old),
+        None => inverse_len(asked.plain_inverse(answer).as_ref()),
+    }
+}
+
+/// How many bytes the record of a call takes, with its reply and the call that takes it back, whose
+/// values have at most 256 bytes: from 12 to 811. It takes no memory.
+#[tactic(auto, using(crate::proofs::RecordLengths::lengths))]
+pub fn call_len(asked: &Call, answer: &Reply) -> usize
+    requires askable { Askable asked.now }
     requires asked { FitsCall asked.now }
     requires answer { FitsReply answer.now }
-    requires back { IfSome (option_copied back) FitsCall }
     ensures len { (n at : ℕ) → result ≡
-        length (spelled (Record.Call (call_record n at asked.now answer.now
-        (option_copied back.entry)))) }
+        length (spelled (record_of_call n at asked.now answer.now)) }
     ensures positive { 1 ≤ result }
     ensures bound { result ≤ 811 }
 {
-    10 + asked_len(asked) + answer_len(answer) + back_len(back)
+    10 + asked_len(asked) + answer_len(answer) + back_len(asked, answer)
 }
 
 #[tactic(auto, using(crate::proofs::RecordLengths::lengths))]
@@ -88,7 +102,7 @@ fn called_len(asked: &CallRecord) -> usize
     ensures len { result ≡ length (spelled (Record.Call asked.now)) }
     ensures bound { result ≤ 811 }
 {
-    call_len(&asked.call, &asked.reply, asked.inverse.as_ref())
+    10 + asked_len(&asked.call) + answer_len(&asked.reply) + inverse_len(asked.inverse.as_ref())
 }
 
 #[tactic(auto, using(crate::proofs::RecordLengths::lengths))]

@@ -4,9 +4,10 @@ ghost use Rattle.std.specs.Prelude.{vec_capacity, OnOk, OnErr, IfErr, IfSome};
 ghost use Rattle.std.specs.Option.{option_copied};
 ghost use Rattle.record_format.specs.declared.record.Record.{Record};
 ghost use Rattle.record_format.specs.Records.{number, signed, wide, value, kind_code, named, call};
-ghost use Rattle.record_format.specs.Records.{reply, inverse, call_record, called, put_off, item};
+ghost use Rattle.record_format.specs.Records.{reply, inverse, called, put_off, item};
 ghost use Rattle.record_format.specs.Records.{spelled, Fits, FitsCall, FitsReply, FitsItem};
-ghost use Rattle.record_format.specs.Records.{FitsCalled, FitsPutOff, IsValue};
+ghost use Rattle.record_format.specs.Records.{FitsCalled, FitsPutOff, IsValue, before_inverse, record_of_call};
+ghost use Rattle.calls.specs.Rules.{inverse_of, Askable};
 
 use crate::lengths::{call_len, encoded_len};
 use crate::record::{CallRecord, LaterRecord, Record};
@@ -228,33 +229,41 @@ fn put_inverse(out: &mut Vec<u8>, back: Option<&Call>)
     }
 }
 
+// Writes the call that takes a call back, answered so.
 #[tactic(auto, using(crate::proofs::RecordLengths::lengths))]
-fn put_parts(
-    out: &mut Vec<u8>,
-    number: u64,
-    collection: u8,
-    asked: &Call,
-    answer: &Reply,
-    back: Option<&Call>,
-)
+fn put_back(out: &mut Vec<u8>, asked: &Call, answer: &Reply)
+    requires askable { Askable asked.now }
+    requires fits { IfSome (inverse_of asked.now answer.now) FitsCall }
+    requires room { vec_len out.old + length (inverse (inverse_of asked.now answer.now)) ≤
+        vec_capacity out.old }
+    ensures items { out.new.items ≡ out.old.items ++ inverse (inverse_of asked.now answer.now) }
+    ensures len { vec_len out.new ≡
+        vec_len out.old + length (inverse (inverse_of asked.now answer.now)) }
+    ensures capacity { vec_capacity out.old ≤ vec_capacity out.new }
+{
+    match asked.taken_entry(answer) {
+        Some((key, old)) => put_coded_entry(out, 5, key, old),
+        None => put_inverse(out, asked.plain_inverse(answer).as_ref()),
+    }
+}
+
+// Writes what stands in a call's record before the inverse.
+#[tactic(auto, using(crate::proofs::RecordLengths::lengths))]
+fn put_asked(out: &mut Vec<u8>, number: u64, collection: u8, asked: &Call, answer: &Reply)
     requires asked { FitsCall asked.now }
     requires answer { FitsReply answer.now }
-    requires back { IfSome (option_copied back) FitsCall }
     requires room { vec_len out.old + length
-        (called (call_record number collection asked.now answer.now (option_copied back))) ≤
-        vec_capacity out.old }
-    ensures items { out.new.items ≡ out.old.items ++
-        called (call_record number collection asked.now answer.now (option_copied back.entry)) }
+        (before_inverse number collection asked.now answer.now) ≤ vec_capacity out.old }
+    ensures items { out.new.items ≡
+        out.old.items ++ before_inverse number collection asked.now answer.now }
     ensures len { vec_len out.new ≡
-        vec_len out.old + length (called
-        (call_record number collection asked.now answer.now (option_copied back.entry))) }
+        vec_len out.old + length (before_inverse number collection asked.now answer.now) }
     ensures capacity { vec_capacity out.old ≤ vec_capacity out.new }
 {
     put_u64(out, number);
     put_byte(out, collection);
     put_call(out, asked);
     put_reply(out, answer);
-    put_inverse(out, back);
 }
 
 #[tactic(auto, using(crate::proofs::RecordLengths::lengths))]
@@ -265,15 +274,14 @@ fn put_called(out: &mut Vec<u8>, asked: &CallRecord)
     ensures len { vec_len out.new ≡ vec_len out.old + length (called asked.now) }
     ensures capacity { vec_capacity out.old ≤ vec_capacity out.new }
 {
-    let back = asked.inverse.as_ref();
-    put_parts(
+    put_asked(
         out,
         asked.number,
         asked.collection,
         &asked.call,
         &asked.reply,
-        back,
     );
+    put_inverse(out, asked.inverse.as_ref());
 }
 
 #[tactic(auto, using(crate::proofs::RecordLengths::lengths))]
@@ -382,29 +390,25 @@ pub fn encode_call(
     collection: u8,
     asked: &Call,
     answer: &Reply,
-    back: Option<&Call>,
     out: &mut Vec<u8>,
 ) -> Result<(), Refusal>
+    requires askable { Askable asked.now }
     requires asked { FitsCall asked.now }
     requires answer { FitsReply answer.now }
-    requires back { IfSome (option_copied back) FitsCall }
     ensures ok { OnOk result (out.new.items ≡ out.old.items ++
-        spelled (Record.Call (call_record number collection asked.now answer.now
-        (option_copied back.entry)))) }
-    ensures len { OnOk result (vec_len out.new ≡
-        vec_len out.old + length (spelled
-        (Record.Call (call_record number collection asked.now answer.now
-        (option_copied back.entry))))) }
+        spelled (record_of_call number collection asked.now answer.now)) }
+    ensures len { OnOk result (vec_len out.new ≡ vec_len out.old +
+        length (spelled (record_of_call number collection asked.now answer.now))) }
     ensures err { IfErr result (λ e. (e ≡ Refusal.NoMemory) × (out.new.items ≡ out.old.items)) }
     ensures full { OnErr result (vec_capacity out.old < vec_len out.old + length
-        (spelled (Record.Call (call_record number collection asked.now answer.now
-        (option_copied back.entry))))) }
+        (spelled (record_of_call number collection asked.now answer.now))) }
     ensures capacity { vec_capacity out.old ≤ vec_capacity out.new }
 {
-    if out.reserve(call_len(asked, answer, back)).is_err() {
+    if out.reserve(call_len(asked, answer)).is_err() {
         return Err(Refusal::NoMemory);
     }
     put_byte(out, 2);
-    put_parts(out, number, collection, asked, answer, back);
+    put_asked(out, number, collection, asked, answer);
+    put_back(out, asked, answer);
     Ok(())
 }

@@ -5,7 +5,7 @@ ghost use Rattle.record_reading.specs.declared.unread.Unread.TheVariants.{Memory
 use std::alloc::{AllocError, AllocFailed};
 
 // Why bytes gave no record.
-#[derive(Debug, Drop)]
+#[derive(Drop)]
 pub enum Unread {
     Memory,
     // The bytes begin with nothing that is spelled so.

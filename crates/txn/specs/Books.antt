@@ -16,7 +16,7 @@ use Rattle.boosted.specs.Meaning.{CanAsk, CanDefer, AskRefused, DeferRefused, Me
 use Rattle.catalog.specs.Making as naming
 use Rattle.record_format.specs.declared.record.Record.{Record}
 use Rattle.record_format.specs.Acts.{places}
-use Rattle.record_format.specs.Records.{call_record, IsRecord, IsNumber}
+use Rattle.record_format.specs.Records.{record_of_call, IsRecord, IsNumber}
 use Rattle.machine.specs.Machine.{State, IsRunning, CanBegin, BeginRow, CommitRow}
 use Rattle.ledger.specs.LeftCalls.{GoesTwice}
 use Rattle.machine.specs.Machine.{EndedRow, FallRow, MakeRow, CallRow, LaterRow, BackRow}
@@ -24,7 +24,7 @@ use Rattle.machine.specs.Machines.{resting, IsUpheld}
 use Rattle.blocks.specs.Cuts.{CutsOff}
 use Rattle.blocks.specs.declared.block.Block.{Block}
 use Rattle.catalog.specs.Making.{Making}
-use Rattle.calls.specs.Rules.{need_of, inverse_of}
+use Rattle.calls.specs.Rules.{need_of}
 
 pub record BookState (S : Type 0) : Type 0 where
   pub state : State S
@@ -162,7 +162,7 @@ module _ {S : Type 0} (meaning : Meaning S ℕ) where
 
 -- a call's record
 abbrev pub record_of : ℕ → Event → Record
-record_of n e = Record.Call (call_record n e.at e.call e.reply (inverse_of e.call e.reply))
+record_of n e = record_of_call n e.at e.call e.reply
 
 module _ {S : Type 0} (meaning : Meaning S ℕ) where
   abbrev pub CallAnswers : BookState S → (n at : ℕ) → Call → Result Reply Refusal → BookState S →

@@ -1,5 +1,5 @@
 // The book: transactions on shared collections, one step at a time.
-ghost use Rattle.std.specs.Prelude.{◌≡◌, ℕ, ◌<◌, ◌≤◌, ◌^◌, ◌+◌, [], ◌∷◌, ◌++◌, IfOk, IfSome, IfErr};
+ghost use Rattle.std.specs.Prelude.{◌≡◌, ℕ, ◌<◌, ◌≤◌, ◌^◌, ◌+◌, [], ◌∷◌, ◌++◌, IfOk, IfErr};
 ghost use Rattle.std.specs.Prelude.{OnOk, OnErr, Ok, Err, IsOkUnless, length};
 ghost use Rattle.calls.specs.Names.{IsName};
 ghost use Rattle.calls.specs.Transactions.{Whole, own};
@@ -9,8 +9,7 @@ ghost use Rattle.abstract_locks.specs.Holds.{IsClear};
 ghost use Rattle.calls.specs.declared.reply.Reply.{Reply};
 ghost use Rattle.boosted.specs.Meaning.{CanAsk, CanDefer};
 ghost use Rattle.catalog.specs.Making.{IsPlaceOf, FindRefused};
-ghost use Rattle.record_format.specs.Records.{FitsCall, FitsReply};
-ghost use Rattle.record_format.specs.Short.{AreShort};
+ghost use Rattle.record_format.specs.Short.{AreShort, IsShortReply};
 ghost use Rattle.machine.specs.Machine.{IsRunning, IsSettled, CanCall};
 ghost use Rattle.txn.specs.Books.{opened, later_record, IsKept, IsOpen, IsFull, RunRefused};
 ghost use Rattle.txn.specs.Books.{OpenRefused, CanEnter, EnterRefused, CallRefused, LaterRefused};
@@ -19,15 +18,15 @@ ghost use Rattle.txn.specs.Books.{CommitAnswers, BackAnswers, EndedAnswers, CutA
 ghost use Rattle.txn.specs.Freezing.{FreezeAnswers};
 ghost use Rattle.machine.specs.Transactions.{RunsWhole};
 ghost use Rattle.machine.specs.Sound.{IsSound};
-ghost use Rattle.calls.specs.Rules.{need_of, inverse_of};
+ghost use Rattle.calls.specs.Rules.{need_of};
 
 use blocks::{Image, Outbox, Pending};
 use calls::limits::{MAX_CALLS, MAX_LIVE, MAX_PENDING, NUMBER_END};
 use calls::{Call, Kind, Name, Refusal, Reply, check_name};
 use catalog::Parts;
 use images::image_blocks;
-use machine::{Machine, inverse};
-use records::{Coded, LaterRecord, Record, call_len, encoded_len};
+use machine::Machine;
+use records::{Coded, LaterRecord, Record, call_len, encoded_len, fits_call, fits_reply};
 use std::alloc::Global;
 use std::marker::Model;
 use undo_log::{Later, Logged};
@@ -325,28 +324,15 @@ impl<B: Parts + Coded> Book<B> {
         }
         let need = call.need(reply);
         self.machine.test(number, col, &need)?;
-        let back = inverse(call, reply)?;
-        let noted = self.note_call(number, col, call, reply, &back);
-        drop(back);
-        noted
+        self.note_call(number, col, call, reply)
     }
 
     // Makes the call under its record, from its parts.
-    fn note_call(
-        &mut self,
-        number: u64,
-        col: u8,
-        call: &Call,
-        reply: &Reply,
-        back: &Option<Call>,
-    ) -> Result<(), Refusal>
+    fn note_call(&mut self, number: u64, col: u8, call: &Call, reply: &Reply) -> Result<(), Refusal>
         requires open { IsOpen (CanAsk B.meaning self.old.state.now col call.now) self.old number }
         requires can { CanCall B.meaning self.old.state number
             (record { at = col; call = call.now; reply = reply.now }) }
-        requires back { back.now ≡ inverse_of call.now reply.now }
-        requires call { FitsCall call.now }
-        requires reply { FitsReply reply.now }
-        requires undone { IfSome back.now FitsCall }
+        requires short { IsShortReply reply.now }
         ensures ok { OnOk result (CallAnswers B.meaning self.old number col call.now (Ok reply.now)
             self.new) }
         ensures same { OnErr result (self.new ≡ self.old) }
@@ -354,10 +340,12 @@ impl<B: Parts + Coded> Book<B> {
         ensures settled { (c : B) → IsSettled B.meaning self.old.state c →
             IsSettled B.meaning self.new.state c }
     {
-        self.pending.reserve(call_len(call, reply, back.as_ref()))?;
+        prove!(fits_call(call));
+        prove!(fits_reply(reply));
+        self.pending.reserve(call_len(call, reply))?;
         let asked = logged(col, call, reply)?;
         self.machine.call(number, asked)?;
-        self.pending.push_call(number, col, call, reply, back);
+        self.pending.push_call(number, col, call, reply);
         Ok(())
     }
 

@@ -23,7 +23,7 @@ use std::marker::Model;
 use std::slice::Iter;
 
 /// A live transaction, with the count of its entries.
-#[derive(Clone, Copy, Debug)]
+#[derive(Clone, Copy)]
 struct Transaction {
     number: u64,
     falling: bool,
@@ -32,7 +32,7 @@ struct Transaction {
 
 /// The live transactions. Contracts see which numbers are live and which of them are falling; what
 /// they asked for and did not undo, in the order asked; and which have room for one entry more.
-#[derive(Drop, Debug)]
+#[derive(Drop)]
 pub struct Live {
     slots: Slab<Transaction>,
     entries: Vec<Owned>,

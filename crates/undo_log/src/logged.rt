@@ -5,7 +5,7 @@ ghost use Rattle.undo_log.specs.Entries.{IsCallOf};
 use calls::{Call, Reply};
 
 /// A call on a collection, with the reply that it got.
-#[derive(Drop, Debug)]
+#[derive(Drop)]
 pub struct Logged {
     pub at: u8,
     pub call: Call,
@@ -13,21 +13,21 @@ pub struct Logged {
 }
 
 /// A call on a collection that is put off to the commit.
-#[derive(Drop, Debug)]
+#[derive(Drop)]
 pub struct Later {
     pub at: u8,
     pub call: Call,
 }
 
 /// What a transaction asked for: a call, or one that it put off to its commit.
-#[derive(Drop, Debug)]
+#[derive(Drop)]
 pub enum Entry {
     Asked(Logged),
     PutOff(Later),
 }
 
 /// What a transaction asked for, with the transaction's number.
-#[derive(Drop, Debug)]
+#[derive(Drop)]
 pub struct Owned {
     pub owner: u64,
     pub entry: Entry,

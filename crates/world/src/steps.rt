@@ -3,7 +3,7 @@ use calls::{Call, Kind, Name, Refusal, Reply};
 use checkpoint::Turn;
 
 /// A step of the core. Numbers are those of transactions; a collection goes by its number.
-#[derive(Drop, Debug)]
+#[derive(Drop)]
 pub enum Step {
     /// Draws the next number.
     Draw,

@@ -9,7 +9,7 @@ use std::collections::VecDeque;
 use txn::{Block, Outbox};
 
 /// The blocks that were handed over and did not reach the disk yet: at most four, in order.
-#[derive(Drop, Debug)]
+#[derive(Drop)]
 pub struct Transit {
     blocks: VecDeque<Block>,
     ghost room: { 4 ≤ deque_capacity blocks },

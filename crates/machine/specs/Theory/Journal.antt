@@ -1,6 +1,6 @@
 -- What a journal records, and the transactions that it commits.
 use Rattle.std.specs.Prelude.{ℕ, List, [], ◌∷◌, ◌++◌}
-use Rattle.calls.specs.Transactions.{Leads}
+use Rattle.calls.specs.Transactions.{Leads, RunsBoth}
 use Rattle.boosted.specs.Runs.{own, others}
 use Rattle.machine.specs.Theory.Rules.{Rules}
 
@@ -46,8 +46,7 @@ pub data Transaction (E M : Type 0) : Type 0 where
 
 -- The transaction leads from s to t: its calls one after another, and then what it put off.
 abbrev pub RunsWhole : {S E M N : Type 0} → Rules S E M N → S → Transaction E M → S → Type 0
-RunsWhole {S} rules s (Whole es) t =
-    (m : S) × Leads rules.does (calls es) s m × Leads rules.does (laters rules.leaves es) m t
+RunsWhole rules s (Whole es) t = RunsBoth rules.does (calls es) (laters rules.leaves es) s t
 RunsWhole rules s (Made k) t = rules.makes s k t
 
 -- The transactions lead from s to t, each run whole, one after another.

@@ -12,7 +12,8 @@ push-requires c =
     let l = c.args.logged.now in
     let few : l.at < 256 = omega (arith, c.if-prove.false) in
     let good = live_call_good c.args.number l.at l.call l.reply None c.requires.number few
-    c.requires.asked c.inverse.ensures.call c.inverse.ensures.reply in
+    c.requires.asked (c.fits_call.ensures.fits.0 c.if-prove-2.false)
+    (c.fits_reply.ensures.fits.0 c.if-prove-3.false) in
     subst Fits (sym (live_call_same c.args.number l.at l.call _ l.reply _
     (inverse_of l.call l.reply) _ c.in_ok-copy.ensures c.in_ok-copy-2.ensures
     c.in_ok-back.ensures.ok)) good.fits
@@ -29,5 +30,6 @@ returns-clause-told c =
     (λ written. writes_one (λ rs. rs ≡ told ∷ []) c.args.packer.now c.push.new.self told
     (written ∙ ap (λ r. joined c.args.packer.now ++ r ∷ []) same)
     (λ last. live_call_good c.args.number l.at l.call l.reply last c.requires.number few
-    c.requires.asked c.inverse.ensures.call c.inverse.ensures.reply) refl)
+    c.requires.asked (c.fits_call.ensures.fits.0 c.if-prove-2.false)
+    (c.fits_reply.ensures.fits.0 c.if-prove-3.false)) refl)
     c.push.ensures.written

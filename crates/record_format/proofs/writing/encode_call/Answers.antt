@@ -1,5 +1,6 @@
 use Rattle.std.proofs.lemmas.Grind.{common_steps}
 use Rattle.std.proofs.Common.{◌+◌, ◌≤◌, vec_len, vec_capacity, rules, arith}
+use Rattle.record_format.proofs.RecordLengths.{lengths}
 use Rattle.record_format.proofs.writing.encode_call.Goals as goal
 
 pub put_byte-requires : goal.put_byte-requires
@@ -10,7 +11,9 @@ put_byte-requires c =
     omega arith
 
 pub returns-clause-len : goal.returns-clause-len
-returns-clause-len c = search rules
+returns-clause-len c =
+    let asked = c.put_asked.ensures.len in
+    let back = c.put_back.ensures.len in grind (arith, lengths, common_steps)
 
 pub returns-clause-ok : goal.returns-clause-ok
 returns-clause-ok c = grind (arith, common_steps)

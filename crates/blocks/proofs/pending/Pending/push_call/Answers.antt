@@ -1,28 +1,24 @@
 use Rattle.std.proofs.lemmas.Grind.{common_steps}
 use Rattle.std.proofs.Common.{[], ◌∷◌, ◌++◌, length, refl, arith, ap, ◌∙◌}
 use Rattle.record_format.specs.declared.record.Record.{Record}
-use Rattle.record_format.specs.Records.{call_record, spelling}
-use Rattle.blocks.proofs.PendingLemmas.{call_size, counted_more, counted_next, filled_ends}
+use Rattle.record_format.specs.Records.{record_of_call, spelling}
+use Rattle.blocks.proofs.PendingLemmas.{counted_more, counted_next, filled_ends}
 use Rattle.blocks.proofs.pending.Pending.push_call.Goals as goal
 
 pub invariant_of-self : goal.invariant_of-self
 invariant_of-self c =
     let a = c.args in
     let fits = c.fits-fits.ensures.0 c.if-fits.true in
-    let len = call_size a.number a.at a.asked.now a.answer.now _ a.back.now c.call_len.result
-    c.call_len.ensures.len c.as_ref.ensures.value in
-    counted_more _ c.push_call.new.self
-    (Record.Call (call_record a.number a.at a.asked.now a.answer.now a.back.now))
+    let len = c.call_len.ensures.len a.number a.at in
+    counted_more _ c.push_call.new.self (record_of_call a.number a.at a.asked.now a.answer.now)
     c.self.inside.count c.self.invariant c.push_call.ensures
     (omega (arith, fits, ap (λ w. length (spelling w.last.records)) c.self.view_is, len))
 
 pub invariant_of-self-2 : goal.invariant_of-self-2
 invariant_of-self-2 c =
     let a = c.args in
-    let entry : Record = Record.Call
-    (call_record a.number a.at a.asked.now a.answer.now a.back.now) in
-    let len = call_size a.number a.at a.asked.now a.answer.now _ a.back.now c.call_len.result
-    c.call_len.ensures.len c.as_ref.ensures.value in
+    let entry : Record = record_of_call a.number a.at a.asked.now a.answer.now in
+    let len = c.call_len.ensures.len a.number a.at in
     let bound = c.call_len.ensures.bound in
     let seen = ap (λ w. length (spelling w.last.records)) c.self.view_is in
     let one = ap (λ d. d.records) c.replace-draft.ensures.after ∙

@@ -23,17 +23,15 @@ laws : (g : Over) → BookLaws g.B.Boosted.meaning g.B.Parts.making
     (λ s. AreShort (g.B.Coded.collections s))
 laws g = book_laws g.met.B.Boosted.laws g.met.B.Parts.laws g.met.B.Coded.told
 
-pub inverse-requires-clause-short : goal.inverse-requires-clause-short
-inverse-requires-clause-short g c =
+pub note_call-requires-clause-short : goal.note_call-requires-clause-short
+note_call-requires-clause-short g c =
     let answered = subst (λ b. g.B.Boosted.meaning.answers b.state.now c.args.col c.args.call.now
-    c.args.reply.now) (sym c.self.view_is) c.requires.answered in (
-      c.requires.open.asked.2,
-      (laws g).short_replies c.self.inside.machine.now c.args.col
-          c.args.call.now c.args.reply.now c.self.invariant.upheld.spells answered,
-    )
+    c.args.reply.now) (sym c.self.view_is) c.requires.answered in
+    (laws g).short_replies c.self.inside.machine.now c.args.col
+    c.args.call.now c.args.reply.now c.self.invariant.upheld.spells answered
 
-pub note_call-noted-requires-clause-can : goal.note_call-noted-requires-clause-can
-note_call-noted-requires-clause-can g c =
+pub note_call-requires-clause-can : goal.note_call-requires-clause-can
+note_call-requires-clause-can g c =
     subst (λ b. CanCall g.B.Boosted.meaning b.state c.args.number
     (record { at = c.args.col; call = c.args.call.now; reply = c.args.reply.now }))
     c.self.view_is (record {

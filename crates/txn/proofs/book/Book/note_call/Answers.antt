@@ -64,14 +64,10 @@ step : (g : Over) (c : goal.After-push_call g) → let i = c.self.inside in
 step g c =
     let i = c.self.inside in
     let entry = record_of c.args.number (event g c) in
-    let put : waiting c.push_call.new.self ≡ waiting c.reserve.new.self ++ entry ∷ [] =
-    subst (λ b. waiting c.push_call.new.self ≡ waiting c.reserve.new.self ++
-    Record.Call (call_record c.args.number c.args.col c.args.call.now c.args.reply.now b) ∷ [])
-    c.requires.back c.push_call.ensures.records in
     let written = recorded i.machine i.pending i.places i.next entry c.call.new.self
     c.reserve.new.self c.push_call.new.self i.places i.next
     (asks g c).room c.in_ok-reserve.ensures.records c.in_ok-reserve.ensures.freezes
-    c.in_ok-reserve.ensures.handed put c.push_call.ensures.freezes c.push_call.ensures.handed
+    c.in_ok-reserve.ensures.handed c.push_call.ensures.records c.push_call.ensures.freezes c.push_call.ensures.handed
     (omega arith) in (
       subst (λ e. CallRow g.B.Boosted.meaning i.machine c.args.number e c.call.new.self)
           c.in_ok-asked.ensures.ok c.in_ok-call.ensures.ok,
@@ -88,7 +84,8 @@ invariant_of-self-2 g c =
     let good = is_record c.args.number c.args.col (g.B.Coded.collections c.self.inside.machine.now)
     c.args.call.now c.args.reply.now number c.ranges.col.fits asked.asked.1
     ((g.met.B.Coded.told.answers c.self.inside.machine.now c.args.col c.args.call.now
-    c.args.reply.now).0 (answered g c)) c.requires.call c.requires.reply in
+    c.args.reply.now).0 (answered g c)) (c.fits_call.ensures.fits.0 c.if-prove.false)
+    (c.fits_reply.ensures.fits.0 c.if-prove-2.false) in
     call_keeps g.B.Boosted.meaning g.B.Parts.making (λ s. AreShort (g.B.Coded.collections s))
     (laws g) _ c.self.invariant c.args.number (event g c) _ (step g c).0 (step g c).1 good
 
