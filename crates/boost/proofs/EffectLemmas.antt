@@ -1,7 +1,8 @@
 -- What a command leaves on a disk.
-use Rattle.std.proofs.Common.{◌≡◌, inl, ℕ, List, [], Result, Ok, Err, OnOk, replicate, refl, sym}
-use Rattle.std.proofs.Common.{subst}
-use Rattle.std.specs.Prelude.{MatchResult}
+use Rattle.std.proofs.Common.{◌≡◌, inl, inr, ℕ, List, [], Result, Ok, Err, OnOk, replicate, refl}
+use Rattle.std.proofs.Common.{sym, subst, take, length, arith}
+use Rattle.std.proofs.lemmas.List.{take_all}
+use Rattle.std.specs.Prelude.{MatchResult, IfErr}
 use Rattle.arguments.specs.declared.Task.{Task}
 use Rattle.calls.specs.Contents.{Collection}
 use Rattle.disk_model.specs.Disk.{ReadsOnly, IsAtRest, LeavesOnly}
@@ -18,10 +19,15 @@ use Rattle.world.proofs.StepLemmas.{yields_on}
 use Rattle.world.proofs.PlayLemmas.{moments_of, answered_of}
 use Rattle.player.specs.Plays as plays
 use Rattle.player.specs.Requests.{nobody, CarriesOut, PlaysLines}
-use Rattle.script.specs.Scripts.{IsScriptOf}
-use Rattle.boost.specs.Commands.{IsUnderstood}
+use Rattle.script.specs.Scripts.{IsScriptOf, IsWhy}
+use Rattle.script.specs.declared.line.ScriptError.{ScriptError}
+use Rattle.boost.specs.declared.commands.failure.Failure.{Failure}
+use Rattle.boost.specs.Failures.{failure_of}
+use Rattle.boost.specs.Commands.{IsUnderstood, IsPlay, IsOfStore, IsWhyUnplayed, IsWhyUndone}
+use Rattle.boost.specs.Commands.{status_of}
+use Rattle.calls.specs.declared.refusal.Refusal.{Refusal}
 use Rattle.boost.specs.Effects.{KeepsPlaying, StartsFrom, ArePlayedOn, IsPlayedOn, IsPlayedAnew}
-use Rattle.boost.specs.Effects.{Leaves}
+use Rattle.boost.specs.Effects.{Leaves, IsLeftByPlay}
 use Rattle.player.specs.declared.client.Client.{Client}
 use Rattle.script.specs.declared.line.Line.{Line}
 
@@ -75,19 +81,27 @@ module _ {D : Type 0} (seen : D → List ℕ) (may_leave : D → List ℕ → Ty
       }
 
 module _ {D : Type 0} (g : Ghosts D) (old : D) where
+  -- a play of which no line was carried out
+  pub unplayed_leaves : (script : List ℕ) (new : D) →
+      KeepsContent g.seen g.may_leave g.moment g.left_since old new → IsLeftByPlay g script old new
+  unplayed_leaves script new keeps = record {
+    in_part = inl keeps;
+    any_moment = nothing_played g.seen g.may_leave g.moment g.left_since old new keeps;
+  }
+
   -- a command that did not touch its disk
   pub untouched_leaves : ((c : List ℕ) → g.left_since old (g.moment old) c → g.may_leave old c) →
-      (task : Task) → Leaves g task old old
-  untouched_leaves only_now (Task.Format disk area) =
+      (task : Task) (script : List ℕ) → Leaves g task script old old
+  untouched_leaves only_now (Task.Format disk area) script =
       untouched_format g.seen g.may_leave g.moment g.left_since old only_now
-  untouched_leaves only_now (Task.Play disk name) = λ honest.
-      nothing_played g.seen g.may_leave g.moment g.left_since old old
+  untouched_leaves only_now (Task.Play disk name) script = λ honest.
+      unplayed_leaves script old
       (untouched_keeps g.seen g.may_leave g.moment g.left_since old only_now)
-  untouched_leaves only_now (Task.Show disk) = λ honest.
+  untouched_leaves only_now (Task.Show disk) script = λ honest.
       untouched_keeps g.seen g.may_leave g.moment g.left_since old only_now
-  untouched_leaves only_now (Task.Check disk) =
+  untouched_leaves only_now (Task.Check disk) script =
       untouched_reads g.seen g.may_leave g.moment g.left_since old only_now
-  untouched_leaves only_now Task.Demo = refl
+  untouched_leaves only_now Task.Demo script = refl
 
   -- a store was opened, and then steps were taken
   pub steps_played : (w v : Whole D) →
@@ -128,6 +142,34 @@ module _ {D : Type 0} (g : Ghosts D) (old : D) where
       subst (λ q. OnOk q (g.is_honest v.keeper.disk → ArePlayedOn g lines old v.keeper.disk))
       (sym said) tt
 
+-- so many of them were
+pub lines_in_part : {D E : Type 0} (g : Ghosts D) (old : D) (w v : Whole D) (ks ls : List Client)
+    (lines : List Line) (r : Result (Unit {0}) E) → ks ≡ replicate 64 nobody → StartsFrom g old w →
+    PlaysLines g ks w lines r ls v → (n : ℕ) × ArePlayedOn g (take n lines) old v.keeper.disk
+lines_in_part g old w v ks ls lines (Ok done) new starts carried = (
+  length lines,
+  record {
+    opened = w;
+    starts = starts;
+    clients = ls;
+    world = v;
+    carried = subst (λ l. CarriesOut g (replicate 64 nobody) w l ls v) (sym (take_all (length lines) lines (omega arith)))
+        (subst (λ k. CarriesOut g k w lines ls v) new carried);
+    disk = refl;
+  },
+)
+lines_in_part g old w v ks ls lines (Err e) new starts carried = (
+  carried.0,
+  record {
+    opened = w;
+    starts = starts;
+    clients = ls;
+    world = v;
+    carried = subst (λ k. CarriesOut g k w (take carried.0 lines) ls v) new carried.1;
+    disk = refl;
+  },
+)
+
 -- they were those of a script, which was understood
 pub script_played : {D E : Type 0} (g : Ghosts D) (old new : D) (lines : List Line)
     (script : List ℕ) (r : Result (Unit {0}) E) → IsScriptOf lines script
@@ -136,6 +178,47 @@ pub script_played : {D E : Type 0} (g : Ghosts D) (old new : D) (lines : List Li
 script_played g old new lines script (Ok done) is played =
     ((lines, is), λ honest. (lines, is, played honest))
 script_played g old new lines script (Err e) is played = tt
+
+-- a failure of the store is why a script was not played that is understood
+pub store_unplayed : {E : Type 0} (script : List ℕ) (same : Type 0) (r : Result E Failure) →
+    IsUnderstood script → IfErr r IsOfStore → IfErr r (IsWhyUnplayed script same)
+store_unplayed script same (Ok done) is why = tt
+store_unplayed script same (Err (Failure.Refused refusal)) is why = inl is
+store_unplayed script same (Err Failure.Unwritten) is why = tt
+store_unplayed script same (Err f) is why = absurd why
+
+-- what the reading of a script is refused for
+pub script_unplayed : (script : List ℕ) (same : Type 0) (e : ScriptError) → IsWhy script e →
+    same → IsWhyUnplayed script same (failure_of e)
+script_unplayed script same (ScriptError.NotUnderstood line) why is = (why, is)
+script_unplayed script same ScriptError.NoMemory why is = inr (refl, is)
+
+-- why a command was not done that is no play, and one that is
+pub other_undone : {E : Type 0} (task : Task) (script : List ℕ) (same : Type 0)
+    (r : Result E Failure) → (IsPlay task → ⊥) → IfErr r IsOfStore →
+    IfErr r (IsWhyUndone task script same)
+other_undone task script same (Ok done) other why = tt
+other_undone task script same (Err (Failure.Refused refusal)) other why = λ is. absurd (other is)
+other_undone task script same (Err Failure.Unwritten) other why = tt
+other_undone task script same (Err f) other why = absurd why
+
+pub play_undone : {E : Type 0} (task : Task) (script : List ℕ) (same : Type 0)
+    (r : Result E Failure) → IsPlay task → IfErr r (IsWhyUnplayed script same) →
+    IfErr r (IsWhyUndone task script same)
+play_undone task script same (Ok done) is why = tt
+play_undone task script same (Err (Failure.Refused refusal)) is why = λ it. why
+play_undone task script same (Err (Failure.NotUnderstood line)) is why = (is, why.0, why.1)
+play_undone task script same (Err Failure.Unwritten) is why = tt
+play_undone task script same (Err (Failure.CannotOpen path)) is why = absurd why
+
+-- a command ends with status 1 only where it was refused
+pub refused_one : (task : Task) (script : List ℕ) (same : Type 0) (f : Failure) →
+    status_of f ≡ 1 → IsWhyUndone task script same f →
+    (refusal : Refusal) × IsWhyUndone task script same (Failure.Refused refusal)
+refused_one task script same (Failure.Refused refusal) one why = (refusal, why)
+refused_one task script same (Failure.NotUnderstood line) one why = absurd (omega (arith, one))
+refused_one task script same (Failure.CannotOpen path) one why = absurd (omega (arith, one))
+refused_one task script same Failure.Unwritten one why = absurd (omega (arith, one))
 
 -- the stored run's lines were played, whatever is shown behind them
 pub anew_played : {D E F : Type 0} (g : Ghosts D) (disk left : D) (lines : List Line)

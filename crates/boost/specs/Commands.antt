@@ -1,5 +1,6 @@
 -- What a command's status says.
-use Rattle.std.specs.Prelude.{ℕ, List}
+use Rattle.std.specs.Prelude.{◌≡◌, ◌⊎◌, ℕ, List}
+use Rattle.calls.specs.declared.refusal.Refusal.{Refusal}
 use Rattle.arguments.specs.declared.Task.{Task}
 use Rattle.boost.specs.declared.commands.failure.Failure.{Failure}
 use Rattle.script.specs.declared.line.Line.{Line}
@@ -27,12 +28,17 @@ IsOfStore (Failure.Refused refusal) = Unit {0}
 IsOfStore Failure.Unwritten = Unit {0}
 IsOfStore failure = ⊥
 
+-- A play is refused: its script is understood, and the store was asked; or memory was wanted before
+-- it was, and then `same` holds.
+abbrev pub MayRefuse : List ℕ → Type 0 → Refusal → Type 0
+MayRefuse script same refusal = IsUnderstood script ⊎ ((refusal ≡ Refusal.NoMemory) × same)
+
 -- Why a script was not played: the first line that is not understood is named, and then `same`
 -- holds.
 abbrev pub IsWhyUnplayed : List ℕ → Type 0 → Failure → Type 0
 IsWhyUnplayed script same (Failure.NotUnderstood line) =
     IsWhy script (ScriptError.NotUnderstood line) × same
-IsWhyUnplayed script same (Failure.Refused refusal) = Unit {0}
+IsWhyUnplayed script same (Failure.Refused refusal) = MayRefuse script same refusal
 IsWhyUnplayed script same Failure.Unwritten = Unit {0}
 IsWhyUnplayed script same (Failure.CannotOpen path) = ⊥
 
@@ -40,7 +46,8 @@ IsWhyUnplayed script same (Failure.CannotOpen path) = ⊥
 abbrev pub IsWhyUndone : Task → List ℕ → Type 0 → Failure → Type 0
 IsWhyUndone task script same (Failure.NotUnderstood line) =
     IsPlay task × IsWhy script (ScriptError.NotUnderstood line) × same
-IsWhyUndone task script same (Failure.Refused refusal) = Unit {0}
+IsWhyUndone task script same (Failure.Refused refusal) =
+    IsPlay task → MayRefuse script same refusal
 IsWhyUndone task script same Failure.Unwritten = Unit {0}
 IsWhyUndone task script same (Failure.CannotOpen path) = ⊥
 

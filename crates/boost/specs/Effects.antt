@@ -1,5 +1,5 @@
 -- What a command leaves on a disk, and what a stop at any moment of it might have left.
-use Rattle.std.specs.Prelude.{◌≡◌, ℕ, List, [], length, replicate}
+use Rattle.std.specs.Prelude.{◌≡◌, ◌⊎◌, ℕ, List, [], length, replicate, take}
 use Rattle.arguments.specs.declared.Task.{Task}
 use Rattle.boost.specs.Commands.{IsUnderstood}
 use Rattle.calls.specs.Contents.{Collection}
@@ -60,6 +60,20 @@ abbrev pub IsPlayedOn : {D : Type 0} (g : Ghosts D) → List ℕ → D → D →
 IsPlayedOn g script old new = (lines : List Line) × IsScriptOf lines script ×
     ArePlayedOn g lines old new
 
+-- A beginning of a script's lines is played on a disk, or none: then the store was opened at most,
+-- and its content stays.
+abbrev pub IsPlayedInPart : {D : Type 0} (g : Ghosts D) → List ℕ → D → D → Type 0
+IsPlayedInPart g script old new =
+    KeepsContent g.seen g.may_leave g.moment g.left_since old new ⊎
+    ((lines : List Line) × IsScriptOf lines script × ((n : ℕ) ×
+    ArePlayedOn g (take n lines) old new))
+
+-- What a play leaves, done or not: no line was carried out that the script does not have, nor one
+-- before an earlier one; and what a stop at any moment of it might have left.
+pub record IsLeftByPlay {D : Type 0} (g : Ghosts D) (script : List ℕ) (old new : D) : Type 0 where
+  pub in_part : IsPlayedInPart g script old new
+  pub any_moment : KeepsPlaying g.seen g.may_leave g.moment g.left_since old new
+
 -- A script is played on some disk that was an empty store, at rest.
 pub record IsPlayedAnew {D : Type 0} (g : Ghosts D) (script : List ℕ) : Type 0 where
   pub disk : D
@@ -84,14 +98,15 @@ IsDone g stored Task.Demo script old new = stored
 IsDone g stored task script old new = Unit {0}
 
 -- What a command leaves on the disk, done or not, and what a stop at any moment of it might have
--- left: a format the old bytes, no store or an empty one; a play a beginning of what its steps
--- committed; a show the content; a check only reads; and the stored run does not touch the disk.
-abbrev pub Leaves : {D : Type 0} (g : Ghosts D) → Task → D → D → Type 0
-Leaves g (Task.Format disk area) old new = IsAtRest g.seen g.may_leave old →
+-- left: a format the old bytes, no store or an empty one; a play what a beginning of the script's
+-- lines leaves, and a beginning of what its steps committed; a show the content; a check only
+-- reads; and the stored run does not touch the disk.
+abbrev pub Leaves : {D : Type 0} (g : Ghosts D) → Task → (script : List ℕ) → D → D → Type 0
+Leaves g (Task.Format disk area) script old new = IsAtRest g.seen g.may_leave old →
     LeavesOnly g.moment g.left_since old new (IsFormatting (g.seen old))
-Leaves g (Task.Play disk name) old new = g.is_honest new →
-    KeepsPlaying g.seen g.may_leave g.moment g.left_since old new
-Leaves g (Task.Show disk) old new = g.is_honest new →
+Leaves g (Task.Play disk name) script old new = g.is_honest new → IsLeftByPlay g script old new
+Leaves g (Task.Show disk) script old new = g.is_honest new →
     KeepsContent g.seen g.may_leave g.moment g.left_since old new
-Leaves g (Task.Check disk) old new = ReadsOnly g.seen g.may_leave g.moment g.left_since old new
-Leaves g Task.Demo old new = new ≡ old
+Leaves g (Task.Check disk) script old new =
+    ReadsOnly g.seen g.may_leave g.moment g.left_since old new
+Leaves g Task.Demo script old new = new ≡ old

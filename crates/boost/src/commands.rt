@@ -5,8 +5,10 @@ ghost use Rattle.disk_model.specs.Disk.{ReadsOnly, IsAtRest, LeavesOnly};
 ghost use Rattle.recovery.specs.Openings.{KeepsContent};
 ghost use Rattle.recovery.specs.Formats.{IsFormatting};
 ghost use Rattle.player.specs.Requests.{nobody};
-ghost use Rattle.boost.specs.Effects.{KeepsPlaying, ArePlayedOn, IsPlayedOn, IsPlayedAnew};
+ghost use Rattle.boost.specs.Effects.{ArePlayedOn, IsPlayedOn, IsPlayedAnew, IsLeftByPlay};
 ghost use Rattle.boost.specs.Effects.{StartsFrom, IsFormatted, IsDone, Leaves};
+ghost use Rattle.calls.specs.declared.refusal.Refusal.{Refusal};
+ghost use Rattle.script.specs.Scripts.{IsScriptOf};
 ghost use Rattle.boost.specs.declared.commands.failure.Failure.{Failure};
 ghost use Rattle.boost.specs.Commands.{IsPlay, IsUnderstood, IsOfStore, IsWhyUnplayed};
 ghost use Rattle.boost.specs.Commands.{IsWhyUndone, IsNotUnderstoodAt, status_of};
@@ -44,12 +46,14 @@ use world::World;
 /// of a Show leaves the content, and one of a Play a beginning of what its steps committed; a
 /// Format leaves an empty store, at rest, and a stop in it what `recovery::format` says. After a
 /// Play with status 0 all lines of the script were carried out, one after another, on the store
-/// that was opened, those that were refused among them.
+/// that was opened, those that were refused among them; after one with another status a beginning
+/// of them was, or none.
 ///
 /// The status is 0 where the command was done, lines of the script that were refused among it; else
 /// a text goes to `err`, as `Failure` says: 3 for a script with a line that is not understood, of
 /// which no line is run and for which the store is not opened; 1 for a refusal that answers no
-/// line; and 4, with no text, where output could not be written.
+/// line, which is one of the store only where the script is understood; and 4, with no text, where
+/// output could not be written.
 pub fn run<D: Disk, O: Write, E: Write>(
     alloc: Global,
     task: &Task,
@@ -64,7 +68,9 @@ pub fn run<D: Disk, O: Write, E: Write>(
     ensures not_understood { result.0 ≡ 3 →
         IsPlay task.now × ((line : ℕ) × IsNotUnderstoodAt script.now line) }
     ensures untouched { result.0 ≡ 3 → result.1 ≡ disk }
-    ensures any_moment { Leaves ⟦<D as Disk>⟧ task.now disk result.1 }
+    ensures refused { result.0 ≡ 1 → (refusal : Refusal) ×
+        IsWhyUndone task.now script.now (result.1 ≡ disk) (Failure.Refused refusal) }
+    ensures any_moment { Leaves ⟦<D as Disk>⟧ task.now script.now disk result.1 }
     ensures silent { (result.0 ≡ 0) ⊎ (result.0 ≡ 4) → err.new ≡ err.old }
 {
     match carry_out(alloc, task, disk, script, out) {
@@ -97,7 +103,7 @@ fn carry_out<D: Disk, O: Write>(
     ensures done { OnOk result.0 (IsDone ⟦<D as Disk>⟧
         (IsPlayedAnew ⟦<MemDisk as Disk>⟧ STORED_RUN.now) task.now script.now disk result.1) }
     ensures why { IfErr result.0 (IsWhyUndone task.now script.now (result.1 ≡ disk)) }
-    ensures any_moment { Leaves ⟦<D as Disk>⟧ task.now disk result.1 }
+    ensures any_moment { Leaves ⟦<D as Disk>⟧ task.now script.now disk result.1 }
 {
     let Ok(mut out) = BufWriter::new(alloc, out) else {
         return (Err(Failure::Refused(Refusal::NoMemory)), disk);
@@ -120,7 +126,7 @@ fn perform<D: Disk, O: Write>(
     ensures done { OnOk result.0 (IsDone ⟦<D as Disk>⟧
         (IsPlayedAnew ⟦<MemDisk as Disk>⟧ STORED_RUN.now) task.now script.now disk result.1) }
     ensures why { IfErr result.0 (IsWhyUndone task.now script.now (result.1 ≡ disk)) }
-    ensures any_moment { Leaves ⟦<D as Disk>⟧ task.now disk result.1 }
+    ensures any_moment { Leaves ⟦<D as Disk>⟧ task.now script.now disk result.1 }
 {
     match task {
         Task::Format { area, .. } => format_disk(disk, *area),
@@ -155,8 +161,8 @@ fn play_script<D: Disk, O: Write>(
     ensures done { OnOk result.0 (IsUnderstood script.now ×
         (D.is_honest result.1 → IsPlayedOn ⟦<D as Disk>⟧ script.now disk result.1)) }
     ensures why { IfErr result.0 (IsWhyUnplayed script.now (result.1 ≡ disk)) }
-    ensures played { D.is_honest result.1 →
-        KeepsPlaying D.seen D.may_leave D.moment D.left_since disk result.1 }
+    ensures left { D.is_honest result.1 →
+        IsLeftByPlay ⟦<D as Disk>⟧ script.now disk result.1 }
 {
     match parse(alloc, script) {
         Ok(lines) => play_lines(alloc, disk, lines, out),
@@ -190,8 +196,8 @@ fn play_lines<D: Disk, O: Write>(
     ensures why { IfErr result.0 IsOfStore }
     ensures lines { OnOk result.0 (D.is_honest result.1 →
         ArePlayedOn ⟦<D as Disk>⟧ lines.items disk result.1) }
-    ensures played { D.is_honest result.1 →
-        KeepsPlaying D.seen D.may_leave D.moment D.left_since disk result.1 }
+    ensures left { (script : List ℕ) → IsScriptOf lines.items script → D.is_honest result.1 →
+        IsLeftByPlay ⟦<D as Disk>⟧ script disk result.1 }
 {
     match open_player(alloc, disk) {
         Ok(mut player) => {

@@ -9,6 +9,7 @@ ghost use Rattle.std.specs.Prelude.{◌≡◌, ◌↔◌, IsTrue, OnOk, OnErr, I
 ghost use Rattle.std.specs.Option.{option_to_list};
 ghost use Rattle.calls.specs.declared.refusal.Refusal.{Refusal};
 ghost use Rattle.calls.specs.Rules.{need_of, inverse_of, Askable, Disposable, left_by};
+ghost use Rattle.calls.specs.Rules.{TakesNoMemory, AsksForValue};
 ghost use Rattle.boosted.specs.Meaning.{Meaning, HasReply, HasRoom, CanAsk, CanDefer, AskRefused};
 ghost use Rattle.boosted.specs.Meaning.{DeferRefused};
 ghost use Rattle.boosted.specs.Laws.{BoostedLaws};
@@ -33,26 +34,27 @@ pub trait Boosted: Drop {
     /// runs reach.
     ghost meaning: { Meaning Self Self.At };
 
-    /// A reply that the call may get now. NoMemory only for a reply that holds a value.
+    /// A reply that the call may get now. NoMemory only for a call whose reply may hold a value.
     fn look(&self, at: Self::At, call: &Call) -> Result<Reply, Refusal>
         requires place { meaning.belongs self.now at call.now }
         requires reply { HasReply meaning self.now at call.now }
         ensures ok { IfOk result (λ reply. meaning.answers self.now at call.now reply) }
-        ensures refusal { IsOkUnless result Refusal.NoMemory };
+        ensures refusal { IsOkUnless result Refusal.NoMemory }
+        ensures value { OnErr result (AsksForValue call.now) };
 
     /// Whether the call may get this reply now. It takes no memory.
     fn fits(&self, at: Self::At, call: &Call, reply: &Reply) -> bool
         ensures { IsTrue result ↔ meaning.answers self.now at call.now reply.now };
 
-    /// Makes the call, answered so. NoMemory leaves the content as before, and does not come for a
-    /// call that may run in a commit.
+    /// Makes the call, answered so. NoMemory leaves the content as before, and comes only for a
+    /// call that puts something in: a SetAdd, a Put, a QueueAdd or a Draw.
     fn run(&mut self, at: Self::At, call: &Call, reply: &Reply) -> Result<(), Refusal>
         requires can { meaning.answers self.old at call.now reply.now }
         requires room { HasRoom meaning self.old }
         ensures ok { OnOk result (self.new ≡ meaning.leaves self.old at call.now reply.now) }
         ensures err { OnErr result (self.new ≡ self.old) }
         ensures refusal { IsOkUnless result Refusal.NoMemory }
-        ensures disposable { Disposable call.now → IsOk result };
+        ensures no_memory { TakesNoMemory call.now → IsOk result };
 
     /// Whether a client can ask for the call. Where not: the refusals of a call that is not of the
     /// place, then BadArg for one that a client cannot ask, then TooLong for a value over 256

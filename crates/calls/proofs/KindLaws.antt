@@ -10,7 +10,7 @@ use Rattle.calls.specs.declared.kind.Kind.{Kind}
 use Rattle.calls.specs.declared.call.Call.{Call}
 use Rattle.calls.specs.declared.reply.Reply.{Reply}
 use Rattle.calls.specs.Rules.{kind_of, Askable, inverse_of, Undoes, Deferrable, Disposable, left_by}
-use Rattle.calls.specs.Rules.{need_of, Apart}
+use Rattle.calls.specs.Rules.{need_of, Apart, TakesNoMemory}
 use Rattle.calls.specs.Bags.{Bag}
 use Rattle.calls.specs.Sets as sets
 use Rattle.calls.specs.Maps as maps
@@ -20,6 +20,12 @@ use Rattle.calls.specs.Pools as pools
 use Rattle.std.specs.List.{AllByRecursion}
 use Rattle.calls.proofs.Points.{in_remove_other}
 use Rattle.calls.proofs.PoolLaws.{free_kept, free_kept_past_free}
+
+-- A call that may run in a commit takes no memory.
+pub disposable_takes_none : (c : Call) → Disposable c → TakesNoMemory c
+disposable_takes_none (Call.Bump n) late = tt
+disposable_takes_none (Call.Free x) late = tt
+disposable_takes_none c late = absurd late
 
 -- A client can ask for the call, or it has a reply now.
 abbrev HasReply : {C : Type 0} → (C → Call → Reply → Type 0) → C → Call → Type 0

@@ -189,6 +189,22 @@ Disposable (Call.Bump n) = Unit {0}
 Disposable (Call.Free x) = Unit {0}
 Disposable c = ⊥
 
+-- The call is made without memory: it puts nothing into a collection.
+abbrev pub TakesNoMemory : Call → Type 0
+TakesNoMemory (Call.SetAdd x) = ⊥
+TakesNoMemory (Call.Put k v) = ⊥
+TakesNoMemory (Call.QueueAdd p g) = ⊥
+TakesNoMemory Call.Draw = ⊥
+TakesNoMemory c = Unit {0}
+
+-- A reply of the call may hold a value, which is copied.
+abbrev pub AsksForValue : Call → Type 0
+AsksForValue (Call.Get k) = Unit {0}
+AsksForValue (Call.Put k v) = Unit {0}
+AsksForValue (Call.MapRemove k) = Unit {0}
+AsksForValue (Call.Ceiling k) = Unit {0}
+AsksForValue c = ⊥
+
 -- A client can put the call off to its commit.
 abbrev pub Deferrable : Call → Type 0
 Deferrable (Call.Bump n) = IsStep n

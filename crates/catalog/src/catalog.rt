@@ -4,12 +4,12 @@ ghost use Rattle.std.specs.Prelude.{string_bytes, IfOk, IsOk, IfErr, OnOk, OnErr
 ghost use Rattle.std.specs.Option.{option_map};
 ghost use Rattle.calls.specs.Contents.{AnswersAt, after_at};
 ghost use Rattle.calls.specs.Names.{IsName};
-ghost use Rattle.calls.specs.Rules.{Disposable};
+ghost use Rattle.calls.specs.Rules.{TakesNoMemory};
 ghost use Rattle.boosted.specs.Meaning.{HasRoom};
 ghost use Rattle.catalog.specs.Holdings.{content_of, Shows, ShowRefused, AreItems, Loads};
 ghost use Rattle.catalog.specs.Holdings.{LoadRefused};
 ghost use Rattle.catalog.specs.Places.{At, content_at, Belongs, Misplaced};
-ghost use Rattle.catalog.specs.Making.{names_of, AreDistinct, IsNew, NewRefused};
+ghost use Rattle.catalog.specs.Making.{names_of, AreDistinct, IsNew};
 ghost use Rattle.catalog.specs.Meaning.{catalog_meaning, catalog_making};
 ghost use Rattle.catalog.specs.Laws.Catalogs.{making_laws};
 
@@ -89,27 +89,12 @@ impl Catalog {
         ensures ok { OnOk result (self.new ≡ after_at self.old at call.now reply.now) }
         ensures err { OnErr result (self.new ≡ self.old) }
         ensures refusal { IsOkUnless result Refusal.NoMemory }
-        ensures disposable { Disposable call.now → IsOk result }
+        ensures no_memory { TakesNoMemory call.now → IsOk result }
     {
         match self.collections.get_index_mut(usize::from(at)) {
             Some(holding) => holding.run(call, reply),
             None => unreachable!(),
         }
-    }
-
-    // Whether a collection may be made under the name.
-    fn check_new(&self, name: &str) -> Result<(), Refusal>
-        ensures ok { OnOk result (IsNew (names_of self.now) name.now) }
-        ensures err { IfErr result (NewRefused (names_of self.now) name.now) }
-    {
-        check_name(name)?;
-        if self.collections.contains_key(name) {
-            return Err(Refusal::NameTaken);
-        }
-        if self.collections.len() >= MAX_COLLECTIONS {
-            return Err(Refusal::TooManyCollections);
-        }
-        Ok(())
     }
 
     // Puts a collection at the end.
@@ -189,6 +174,17 @@ impl Parts for Catalog {
             Some(at) => Ok(at as u8),
             None => Err(Refusal::NoSuchCollection),
         }
+    }
+
+    fn check_new(&self, name: &str) -> Result<(), Refusal> {
+        check_name(name)?;
+        if self.collections.contains_key(name) {
+            return Err(Refusal::NameTaken);
+        }
+        if self.collections.len() >= MAX_COLLECTIONS {
+            return Err(Refusal::TooManyCollections);
+        }
+        Ok(())
     }
 
     fn make(&mut self, name: &str, kind: Kind) -> Result<u8, Refusal> {

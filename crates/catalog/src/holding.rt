@@ -4,7 +4,7 @@ ghost use Rattle.std.specs.Prelude.{◌∷◌, map, List};
 ghost use Rattle.calls.specs.declared.reply.Reply.{Reply};
 ghost use Rattle.calls.specs.Contents.{Answers, after, empty, kind_of_content, items_of, InMap};
 ghost use Rattle.calls.specs.Contents.{InQueue, Content, IsItemOf};
-ghost use Rattle.calls.specs.Rules.{Askable, Disposable};
+ghost use Rattle.calls.specs.Rules.{Askable, TakesNoMemory, AsksForValue};
 ghost use Rattle.boosted.specs.Kinds.{IsOf};
 ghost use Rattle.boosted.specs.Meaning.{IsRoomy};
 ghost use Rattle.catalog.specs.Places.{Reaches};
@@ -68,13 +68,14 @@ impl Holding {
         }
     }
 
-    // A reply that the call may get now. NoMemory only for a reply that holds a value.
+    // A reply that the call may get now. NoMemory only for a call whose reply may hold a value.
     pub(crate) fn look(&self, call: &Call) -> Result<Reply, Refusal>
         requires kind { IsOf (kind_of_content (content_of self.now)) call.now }
         requires reply { Askable call.now ⊎
             ((r : Reply) × Answers (content_of self.now) call.now r) }
         ensures ok { IfOk result (λ reply. Answers (content_of self.now) call.now reply) }
         ensures refusal { IsOkUnless result Refusal.NoMemory }
+        ensures value { OnErr result (AsksForValue call.now) }
     {
         match self {
             Holding::Set(set) => Boosted::look(set, (), call),
@@ -85,8 +86,8 @@ impl Holding {
         }
     }
 
-    // Makes the call, answered so. NoMemory leaves the collection as before, and does not come for
-    // a call that may run in a commit.
+    // Makes the call, answered so. NoMemory leaves the collection as before, and comes only for a
+    // call that puts something in.
     pub(crate) fn run(&mut self, call: &Call, reply: &Reply) -> Result<(), Refusal>
         requires can { Answers (content_of self.old) call.now reply.now }
         requires room { IsRoomy (Reaches (content_of self.old)) }
@@ -94,7 +95,7 @@ impl Holding {
             after (content_of self.old) call.now reply.now) }
         ensures err { OnErr result (content_of self.new ≡ content_of self.old) }
         ensures refusal { IsOkUnless result Refusal.NoMemory }
-        ensures disposable { Disposable call.now → IsOk result }
+        ensures no_memory { TakesNoMemory call.now → IsOk result }
     {
         match self {
             Holding::Set(set) => Boosted::run(set, (), call, reply),

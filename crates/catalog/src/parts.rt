@@ -1,7 +1,8 @@
 // Collections that are found and made by name.
-ghost use Rattle.std.specs.Prelude.{◌≡◌, length, IfOk, OnErr, IfErr};
+ghost use Rattle.std.specs.Prelude.{◌≡◌, length, IfOk, OnOk, OnErr, IfErr};
 ghost use Rattle.calls.specs.Names.{IsName};
-ghost use Rattle.catalog.specs.Making.{Making, IsPlaceOf, FindRefused, MakeRefused, MakingLaws};
+ghost use Rattle.catalog.specs.Making.{Making, IsPlaceOf, FindRefused, IsNew, NewRefused};
+ghost use Rattle.catalog.specs.Making.{MakeRefused, MakingLaws};
 
 use boosted::Boosted;
 use calls::{Kind, Refusal};
@@ -19,6 +20,14 @@ pub trait Parts: Boosted<At = u8> {
         ensures ok { IfOk result (λ at. IsName name.now ×
             IsPlaceOf (making.names self.now) name.now at) }
         ensures err { IfErr result (FindRefused (making.names self.now) name.now) };
+
+    /// Whether a collection can be made under the name. It takes no memory.
+    ///
+    /// BadName and TooLong as `check_name` says, then NameTaken, TooManyCollections where there are
+    /// 256.
+    fn check_new(&self, name: &str) -> Result<(), Refusal>
+        ensures ok { OnOk result (IsNew (making.names self.now) name.now) }
+        ensures err { IfErr result (NewRefused (making.names self.now) name.now) };
 
     /// Makes an empty collection, at the end. The answer is its place, which is how many there were
     /// before.

@@ -251,13 +251,14 @@ impl<D: Disk> Keeper<D> {
         }
     }
 
-    /// Begins to write an image into the area that is not in use. No device is called, no memory is
-    /// taken and no block copied.
+    /// Begins to write an image, which has a block, into the area that is not in use. No device is
+    /// called, no memory is taken and no block copied.
     ///
     /// Refusals, in this order, each with everything as before: Failed after a Fault; Imaging where
     /// an image is in progress; Full where the blocks, with a closed gate behind the last, need
     /// more bytes than an area has.
     pub fn begin_image(&mut self, image: Image) -> Result<(), Refusal>
+        requires some { image.blocks.items ≢ [] }
         ensures answer { BeginAnswers self.old image self.new result }
         // All of it is left.
         ensures begun { (w : Laying) → self.new.image ≡ Some w →

@@ -6,8 +6,8 @@ ghost use Rattle.std.specs.List.Sorted.{IsStrictlySortedBy};
 ghost use Rattle.std.specs.Map.{keys_of};
 ghost use Rattle.std.specs.Ordering.{nat_cmp};
 ghost use Rattle.std.specs.Option.{option_copied};
+ghost use Rattle.calls.specs.Rules.{AsksForValue, TakesNoMemory};
 ghost use Rattle.calls.specs.Maps.{Answers, after, CanLook, IsCeiling, HasNoCeiling};
-ghost use Rattle.collections.specs.Memory.{TakesNoMemory};
 
 use calls::{Bytes, Call, Refusal, Reply};
 use std::alloc::{AllocError, Global};
@@ -129,6 +129,7 @@ impl MapCol {
         requires { CanLook self.now call.now }
         ensures ok { IfOk result (λ reply. Answers self.now call.now reply) }
         ensures refusal { IsOkUnless result Refusal.NoMemory }
+        ensures value { OnErr result (AsksForValue call.now) }
     {
         match call {
             Call::Get(key) | Call::Put(key, _) | Call::MapRemove(key) => Ok(self.value_at(*key)?),

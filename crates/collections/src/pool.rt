@@ -4,8 +4,8 @@ ghost use Rattle.std.specs.Prelude.{IsOkAnd};
 ghost use Rattle.std.specs.FinSet as set;
 ghost use Rattle.std.specs.List.Sorted.{IsStrictlySortedBy};
 ghost use Rattle.std.specs.Ordering.{nat_cmp};
+ghost use Rattle.calls.specs.Rules.{TakesNoMemory};
 ghost use Rattle.calls.specs.Pools.{Answers, after, CanLook};
-ghost use Rattle.collections.specs.Memory.{TakesNoMemory};
 
 use calls::{Call, Refusal, Reply};
 use std::alloc::Global;

@@ -3,8 +3,8 @@ ghost use Rattle.std.specs.Prelude.{◌≡◌, ◌<◌, ◌↔◌, IsTrue, IsOk,
 ghost use Rattle.std.specs.Prelude.{IsOkUnless, IsOkAnd};
 ghost use Rattle.std.specs.FinMap.{empty};
 ghost use Rattle.calls.specs.Bags.{copies, add, take_out};
+ghost use Rattle.calls.specs.Rules.{TakesNoMemory};
 ghost use Rattle.calls.specs.Queues.{Answers, after, CanLook, IsLeast, IsEmpty};
-ghost use Rattle.collections.specs.Memory.{TakesNoMemory};
 ghost use Rattle.collections.specs.Items.{IsFalling, IsPlaceFor, ListsBag};
 
 use calls::{Call, Refusal, Reply};

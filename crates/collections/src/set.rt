@@ -3,8 +3,8 @@ ghost use Rattle.std.specs.Prelude.{◌≡◌, ◌↔◌, IsTrue, IsOk, OnOk, On
 ghost use Rattle.std.specs.FinSet as set;
 ghost use Rattle.std.specs.List.Sorted.{IsStrictlySortedBy};
 ghost use Rattle.std.specs.Ordering.{nat_cmp};
+ghost use Rattle.calls.specs.Rules.{TakesNoMemory};
 ghost use Rattle.calls.specs.Sets.{Answers, after, CanLook};
-ghost use Rattle.collections.specs.Memory.{TakesNoMemory};
 
 use calls::{Call, Refusal, Reply};
 use std::alloc::Global;

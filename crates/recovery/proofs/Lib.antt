@@ -3,3 +3,4 @@ pub mod HeadLemmas
 pub mod LoadLemmas
 pub mod OpenLemmas
 pub mod FindLemmas
+pub mod Stores

@@ -5,11 +5,13 @@ mod finding;
 mod formatting;
 mod head;
 mod inspecting;
+mod laws;
 mod loading;
 mod opening;
 mod report;
 
 pub use formatting::format;
 pub use inspecting::inspect;
+pub use laws::one_content;
 pub use opening::open;
 pub use report::Report;

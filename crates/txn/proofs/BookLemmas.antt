@@ -1,6 +1,9 @@
 -- A book from its parts, before and after a step.
 use Rattle.std.proofs.Common.{◌≡◌, ℕ, suc, ◌+◌, ◌<◌, List, [], ◌∷◌, ◌++◌, length, refl, sym}
-use Rattle.std.proofs.Common.{◌∙◌, ap, arith}
+use Rattle.std.proofs.Common.{◌∙◌, ap, arith, inr}
+use Rattle.std.specs.Prelude.{Result, Ok, Err, OnErr, IfErr, IsOkUnless}
+use Rattle.calls.specs.declared.call.Call.{Call}
+use Rattle.boosted.specs.Meaning.{Meaning, CanAsk}
 use Rattle.calls.specs.Contents.{Collection}
 use Rattle.calls.specs.declared.refusal.Refusal.{Refusal}
 use Rattle.catalog.specs.Making as naming
@@ -9,7 +12,8 @@ use Rattle.record_format.specs.Acts as acts
 use Rattle.record_format.specs.Records.{number}
 use Rattle.record_format.proofs.RecordLengths.{length-number}
 use Rattle.machine.specs.Machine.{State}
-use Rattle.txn.specs.Books.{BookState, opened, Appends, MakeRefused}
+use Rattle.txn.specs.Books.{BookState, opened, Appends, MakeRefused, IsOpen, IsUnhindered}
+use Rattle.txn.specs.Books.{CallAnswers}
 use Rattle.blocks.specs.Waits.{Waiting, waiting, freezes}
 use Rattle.machine.specs.Machines.{resting}
 use Rattle.txn.specs.Views.{book_of}
@@ -81,7 +85,7 @@ pub make_refused : {S : Type 0} (names : List (List ℕ)) (b : BookState S) (nam
     MakeRefused names b name e
 make_refused names b name Refusal.Backlog room is = absurd is
 make_refused names b name Refusal.NoMemory room is =
-    (λ full. absurd (omega (arith, room, full)), is.good)
+    (λ full. absurd (omega (arith, room, full)), is)
 make_refused names b name Refusal.NameTaken room is =
     (λ full. absurd (omega (arith, room, full)), is)
 make_refused names b name Refusal.TooManyCollections room is =
@@ -89,6 +93,21 @@ make_refused names b name Refusal.TooManyCollections room is =
 make_refused names b name Refusal.BadName room is = (λ full. absurd (omega (arith, room, full)), is)
 make_refused names b name Refusal.TooLong room is = (λ full. absurd (omega (arith, room, full)), is)
 make_refused names b name e room is = (λ full. absurd (omega (arith, room, full)), is)
+
+-- A name under which nothing can be made is refused before any memory is taken.
+pub new_refused : (names : List (List ℕ)) (name : List ℕ) (e : Refusal) →
+    naming.NewRefused names name e → naming.MakeRefused names name e
+new_refused names name Refusal.NoMemory is = absurd is
+new_refused names name e is = is
+
+-- What is asked behind the look-up is refused only for want of memory, and changes nothing then.
+pub ask_refused : {S : Type 0} (meaning : Meaning S ℕ) (b c : BookState S) (n at : ℕ) (call : Call)
+    (result : Result (Unit {0}) Refusal) → IsOpen (CanAsk meaning b.state.now at call) b n →
+    IsUnhindered meaning b n at call → OnErr result (c ≡ b) → IsOkUnless result Refusal.NoMemory →
+    IfErr result (λ e. CallAnswers meaning b n at call (Err e) c)
+ask_refused meaning b c n at call (Ok done) can free same why = tt
+ask_refused meaning b c n at call (Err e) can free same why =
+    rw (why) (same, inr (inr (can, inr free)))
 
 -- Nothing of the book changes where only room was made.
 pub reserved_same : {S : Type 0} (s t : State S) (w w' : Waiting) (places next : ℕ) → t ≡ s →

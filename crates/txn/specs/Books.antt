@@ -9,7 +9,7 @@ use Rattle.calls.specs.declared.reply.Reply.{Reply}
 use Rattle.calls.specs.declared.refusal.Refusal.{Refusal}
 use Rattle.calls.specs.Names.{IsName}
 use Rattle.calls.specs.Transactions.{Event, own}
-use Rattle.abstract_locks.specs.Holds.{IsBusy}
+use Rattle.abstract_locks.specs.Holds.{IsBusy, IsClear}
 use Rattle.undo_log.specs.Entries.{HasNoCall}
 use Rattle.undo_log.specs.Logs.{Lives, Falls}
 use Rattle.boosted.specs.Meaning.{CanAsk, CanDefer, AskRefused, DeferRefused, Meaning}
@@ -24,7 +24,7 @@ use Rattle.machine.specs.Machines.{resting, IsUpheld}
 use Rattle.blocks.specs.Cuts.{CutsOff}
 use Rattle.blocks.specs.declared.block.Block.{Block}
 use Rattle.catalog.specs.Making.{Making}
-use Rattle.calls.specs.Rules.{need_of}
+use Rattle.calls.specs.Rules.{need_of, AsksForValue}
 
 pub record BookState (S : Type 0) : Type 0 where
   pub state : State S
@@ -82,7 +82,6 @@ RunRefused b n e = ⊥
 
 abbrev pub MakeRefused : List (List ℕ) → {S : Type 0} → BookState S → List ℕ → Refusal → Type 0
 MakeRefused names b name Refusal.Backlog = IsFull b
-MakeRefused names b name Refusal.NoMemory = (IsFull b → ⊥) × IsName name
 MakeRefused names b name e = (IsFull b → ⊥) × naming.MakeRefused names name e
 
 abbrev pub MakeAnswers : {S : Type 0} → Making S → BookState S → List ℕ → Kind → Result ℕ Refusal →
@@ -139,8 +138,16 @@ OpenRefused ask b n Refusal.Backlog =
 OpenRefused ask b n e = ⊥
 
 module _ {S : Type 0} (meaning : Meaning S ℕ) where
+  -- The call may get a reply now with which nothing is in its way.
+  abbrev pub IsUnhindered : BookState S → (n at : ℕ) → Call → Type 0
+  IsUnhindered b n at call =
+      (reply : Reply) × meaning.answers b.state.now at call reply ×
+      (GoesTwice b.state.entries n (record { at = at; call = call; reply = reply }) → ⊥) ×
+      IsClear b.state.holds n at (need_of call reply)
+
   -- A call that the transaction has room for is refused so: what it would leave is going already,
-  -- or another transaction holds a need in its way.
+  -- or another transaction holds a need in its way. Memory is wanted for a value of the reply, or
+  -- where nothing is in the way.
   abbrev pub AskedInVain : BookState S → (n at : ℕ) → Call → Refusal → Type 0
   AskedInVain b n at call Refusal.AlreadyGoing =
       (reply : Reply) × meaning.answers b.state.now at call reply ×
@@ -149,7 +156,7 @@ module _ {S : Type 0} (meaning : Meaning S ℕ) where
       (reply : Reply) × meaning.answers b.state.now at call reply ×
       (GoesTwice b.state.entries n (record { at = at; call = call; reply = reply }) → ⊥) ×
       IsBusy b.state.holds n at (need_of call reply) m
-  AskedInVain b n at call Refusal.NoMemory = Unit {0}
+  AskedInVain b n at call Refusal.NoMemory = AsksForValue call ⊎ IsUnhindered b n at call
   AskedInVain b n at call e = ⊥
 
   -- The book refuses the call so: for a transaction that is running as the collections do, and for
@@ -180,10 +187,11 @@ abbrev pub later_record : (number collection : ℕ) → Call → Record
 later_record n at call = Record.Later (record { number = n; collection = at; call = call })
 
 module _ {S : Type 0} (meaning : Meaning S ℕ) where
-  -- A call that could be put off is refused so, where the transaction has room for it.
+  -- A call that could be put off is refused so, where the transaction has room for it: another one
+  -- holds a need in its way, or none does and memory is wanted.
   abbrev pub PutOffInVain : BookState S → (n at : ℕ) → Call → Refusal → Type 0
   PutOffInVain b n at call (Refusal.Busy m) = IsBusy b.state.holds n at (need_of call Reply.Done) m
-  PutOffInVain b n at call Refusal.NoMemory = Unit {0}
+  PutOffInVain b n at call Refusal.NoMemory = IsClear b.state.holds n at (need_of call Reply.Done)
   PutOffInVain b n at call e = ⊥
 
   -- The book refuses to put the call off so: for a transaction that is running as the collections

@@ -22,7 +22,7 @@ ghost use Rattle.calls.specs.Rules.{need_of};
 
 use blocks::{Image, Outbox, Pending};
 use calls::limits::{MAX_CALLS, MAX_LIVE, MAX_PENDING, NUMBER_END};
-use calls::{Call, Kind, Name, Refusal, Reply, check_name};
+use calls::{Call, Kind, Name, Refusal, Reply};
 use catalog::Parts;
 use images::image_blocks;
 use machine::Machine;
@@ -131,14 +131,14 @@ impl<B: Parts + Coded> Book<B> {
     /// and makes since the book was opened, this one included.
     ///
     /// Backlog at 16,384 pending records, then the refusals of `Parts::make`: BadName, TooLong,
-    /// NameTaken, TooManyCollections, NoMemory.
+    /// NameTaken, TooManyCollections, NoMemory. All but the last come before any memory is taken.
     pub fn make(&mut self, name: &str, kind: Kind) -> Result<u64, Refusal>
         ensures answer { MakeAnswers B.making self.old name.now kind result self.new }
         ensures settled { OnOk result ((c : B) → IsSettled B.meaning self.old.state c →
             (d : B) × B.making.makes c name.now kind d × IsSettled B.meaning self.new.state d) }
     {
         self.check_backlog()?;
-        check_name(name)?;
+        self.machine.parts().check_new(name)?;
         self.pending.reserve(MAKE_HEAD + name.len())?;
         let spelled = Name::new(name.to_string(self.alloc)?);
         self.machine.make(name, kind)?;
@@ -168,9 +168,9 @@ impl<B: Parts + Coded> Book<B> {
     /// reply.
     ///
     /// NoSuchTxn, Falling, NoSuchCollection, WrongKind, BadArg for a call that no client can ask,
-    /// TooLong, Worn, TooManyCalls at 1,024 calls and laters, Backlog, NoMemory in the look-up,
-    /// AlreadyGoing where the transaction left to its commit already what this call would leave,
-    /// Busy with the least other transaction that holds a need in the way, NoMemory.
+    /// TooLong, Worn, TooManyCalls at 1,024 calls and laters, Backlog, NoMemory in the look-up for
+    /// a value, AlreadyGoing where the transaction left to its commit already what this call would
+    /// leave, Busy with the least other transaction that holds a need in the way, NoMemory.
     pub fn call(&mut self, number: u64, col: u8, call: &Call) -> Result<Reply, Refusal>
         ensures answer { CallAnswers B.meaning self.old number col call.now result self.new }
         ensures settled { (c : B) → IsSettled B.meaning self.old.state c →

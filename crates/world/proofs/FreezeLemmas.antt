@@ -76,6 +76,17 @@ some_groups b image is none =
     let empty : is.records ≡ [] = is.are ∙ ap records_in none in
     absurd (omega (arith, ap length (sym is.is_image.is ∙ empty)))
 
+no_blocks : (bs : List (Vec ℕ Global)) (gs : List (List Record)) → AreWhole bs gs → bs ≡ [] →
+    gs ≡ []
+no_blocks [] [] whole none = refl
+no_blocks [] (g ∷ gs) whole none = absurd whole
+no_blocks (b ∷ bs) gs whole none = absurd cc
+
+pub some_blocks : (b : BookState) (image : Image) → IsImageOf (λ v. v) b image →
+    image.blocks.items ≢ []
+some_blocks b image is none =
+    some_groups b image is (no_blocks image.blocks.items is.groups is.blocks none)
+
 -- ---- an image begins
 
 module _ {D : Type 0} (seen : D → List ℕ) (may_leave : D → List ℕ → Type 0)

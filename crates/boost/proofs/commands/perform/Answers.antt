@@ -1,3 +1,6 @@
+use Rattle.std.proofs.Common.{◌≡◌}
+use Rattle.arguments.specs.declared.Task.{Task}
+use Rattle.boost.proofs.EffectLemmas.{other_undone, play_undone}
 use Rattle.boost.proofs.commands.perform.Goals as goal
 
 pub returns-in-Format-clause-done : goal.returns-in-Format-clause-done
@@ -5,3 +8,28 @@ returns-in-Format-clause-done g c = rw c.in-Format.is c.format_disk.ensures.done
 
 pub returns-in-Format-clause-any_moment : goal.returns-in-Format-clause-any_moment
 returns-in-Format-clause-any_moment g c = rw c.in-Format.is c.format_disk.ensures.formatting
+
+pub returns-in-Format-clause-why : goal.returns-in-Format-clause-why
+returns-in-Format-clause-why g c =
+    rw c.in-Format.is (other_undone (Task.Format c.in-Format.disk c.in-Format.area) c.args.script.now (c.format_disk.result.1 ≡ c.args.disk)
+    c.format_disk.result.0 (λ is. is) c.format_disk.ensures.why)
+
+pub returns-in-Play-clause-why : goal.returns-in-Play-clause-why
+returns-in-Play-clause-why g c =
+    rw c.in-Play.is (play_undone (Task.Play c.in-Play.disk c.in-Play.script) c.args.script.now (c.play_script.result.1 ≡ c.args.disk)
+    c.play_script.result.0 (tt {0}) c.play_script.ensures.why)
+
+pub returns-in-Show-clause-why : goal.returns-in-Show-clause-why
+returns-in-Show-clause-why g c =
+    rw c.in-Show.is (other_undone (Task.Show c.in-Show.disk) c.args.script.now (c.show.result.1 ≡ c.args.disk)
+    c.show.result.0 (λ is. is) c.show.ensures.why)
+
+pub returns-in-Check-clause-why : goal.returns-in-Check-clause-why
+returns-in-Check-clause-why g c =
+    rw c.in-Check.is (other_undone (Task.Check c.in-Check.disk) c.args.script.now (c.check.result.1 ≡ c.args.disk)
+    c.check.result.0 (λ is. is) c.check.ensures.why)
+
+pub returns-in-Demo-clause-why : goal.returns-in-Demo-clause-why
+returns-in-Demo-clause-why g c =
+    rw c.in-Demo.is (other_undone Task.Demo c.args.script.now (c.args.disk ≡ c.args.disk)
+    c.demo.result (λ is. is) c.demo.ensures.why)

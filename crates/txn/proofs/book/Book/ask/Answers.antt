@@ -1,20 +1,12 @@
-use Rattle.std.proofs.Common.{◌≡◌, ◌++◌, ◌∷◌, [], refl, sym, subst, arith}
-use Rattle.record_format.specs.declared.record.Record.{Record}
-use Rattle.record_format.specs.Records.{call_record}
+use Rattle.std.proofs.Common.{◌≡◌, ◌∷◌, [], sym, subst, OnErr}
 use Rattle.record_format.specs.Short.{AreShort}
 use Rattle.abstract_locks.specs.Holds.{IsClear}
-use Rattle.calls.specs.Transactions.{Event}
 use Rattle.boosted.specs.Meaning.{CanAsk}
-use Rattle.machine.specs.Machine.{CanCall, CallRow}
-use Rattle.txn.specs.Books.{AppendsTo, IsOpen, record_of}
+use Rattle.machine.specs.Machine.{CanCall}
+use Rattle.txn.specs.Books.{IsOpen}
 use Rattle.txn.specs.Views.{book_of}
-use Rattle.blocks.specs.Waits.{waiting}
 use Rattle.machine.proofs.BookLaws.{BookLaws, book_laws}
-use Rattle.txn.proofs.BookLemmas.{recorded}
-use Rattle.txn.proofs.BookInvariant.{call_keeps}
-use Rattle.machine.proofs.InvariantRows.{call_room}
-use Rattle.machine.proofs.Steps.{call_settles}
-use Rattle.txn.proofs.CallRecords.{is_record}
+use Rattle.txn.proofs.BookLemmas.{ask_refused}
 use Rattle.txn.proofs.book.Book.ask.Given.{Over}
 use Rattle.txn.proofs.book.Book.ask.Goals as goal
 
@@ -48,3 +40,22 @@ note_call-requires-clause-can g c =
       clear = subst (λ k. IsClear c.self.inside.machine.holds c.args.number c.args.col k)
           c.need-need.ensures c.in_ok-test.ensures.clear;
     })
+
+pub returns-clause-err : goal.returns-clause-err
+returns-clause-err g c =
+    let i = c.self.inside in
+    let answered = subst (λ b. g.B.Boosted.meaning.answers b.state.now c.args.col c.args.call.now
+    c.args.reply.now) (sym c.self.view_is) c.requires.answered in
+    rw (← c.self.view_is) (ask_refused g.B.Boosted.meaning
+    (book_of i.machine i.pending i.places i.next) _ c.args.number c.args.col c.args.call.now
+    c.note_call.result
+    (subst (λ b. IsOpen (CanAsk g.B.Boosted.meaning b.state.now c.args.col c.args.call.now) b
+    c.args.number) (sym c.self.view_is) c.requires.open) (
+      c.args.reply.now,
+      answered,
+      (λ twice. let yes = c.goes_twice.ensures.1 twice in let no' = c.if-goes_twice.false in cc),
+      subst (λ k. IsClear i.machine.holds c.args.number c.args.col k) c.need-need.ensures
+          c.in_ok-test.ensures.clear,
+    )
+    (subst (λ b. OnErr c.note_call.result (c.note_call.new.self ≡ b)) (sym c.self.view_is)
+    c.note_call.ensures.same) c.note_call.ensures.refusal)

@@ -1,13 +1,10 @@
-use Rattle.std.proofs.Common.{◌≡◌, ◌++◌, ◌∷◌, [], refl, sym, subst, arith}
-use Rattle.record_format.specs.declared.record.Record.{Record}
-use Rattle.record_format.specs.Records.{call_record}
+use Rattle.std.proofs.Common.{refl, sym, subst, arith}
 use Rattle.record_format.specs.Short.{AreShort}
 use Rattle.calls.specs.Transactions.{Event}
 use Rattle.boosted.specs.Meaning.{CanAsk}
 use Rattle.machine.specs.Machine.{CanCall, CallRow}
 use Rattle.txn.specs.Books.{AppendsTo, IsOpen, record_of}
 use Rattle.txn.specs.Views.{book_of}
-use Rattle.blocks.specs.Waits.{waiting}
 use Rattle.machine.proofs.BookLaws.{BookLaws, book_laws}
 use Rattle.txn.proofs.BookLemmas.{recorded}
 use Rattle.txn.proofs.BookInvariant.{call_keeps}

@@ -2,7 +2,7 @@ use Rattle.std.proofs.Common.{refl, subst, arith, Ok, Err, ◌∷◌, ◌++◌, 
 use Rattle.std.proofs.lemmas.Result.{err_from_is_err_and}
 use Rattle.calls.specs.Contents.{Collection}
 use Rattle.disk_model.specs.Disk.{LeavesOnly}
-use Rattle.world.proofs.FreezeLemmas.{freeze_past, unfrozen, begun_disk}
+use Rattle.world.proofs.FreezeLemmas.{freeze_past, unfrozen, begun_disk, some_blocks}
 use Rattle.world.proofs.StepLemmas.{quiet}
 use Rattle.world.proofs.AnswerLemmas.{freeze_answered}
 use Rattle.world.specs.declared.steps.Step.{Step}
@@ -12,6 +12,9 @@ use Rattle.world.specs.Crash.{Yields}
 use Rattle.world.specs.Worlds.{HasPast, parts_of}
 use Rattle.world.proofs.world.World.freeze.Given.{Over}
 use Rattle.world.proofs.world.World.freeze.Goals as goal
+
+pub begin_image-requires : goal.begin_image-requires
+begin_image-requires g c = record { some = some_blocks _ _ c.in_ok-image.ensures.answer.0 }
 
 pub returns-in_err-image : goal.returns-in_err-image
 returns-in_err-image g c =

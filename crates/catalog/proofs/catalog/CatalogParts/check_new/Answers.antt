@@ -1,6 +1,6 @@
 use Rattle.std.proofs.Common.{refl, sym, ◌∙◌, arith}
 use Rattle.catalog.proofs.Entries.{taken, free, many}
-use Rattle.catalog.proofs.catalog.Catalog.check_new.Goals as goal
+use Rattle.catalog.proofs.catalog.CatalogParts.check_new.Goals as goal
 
 pub returns-then-contains_key-clause-err : goal.returns-then-contains_key-clause-err
 returns-then-contains_key-clause-err c = (
