@@ -1,5 +1,5 @@
 -- What a command leaves on a disk.
-use Rattle.std.proofs.Common.{◌≡◌, inl, inr, ℕ, List, [], Result, Ok, Err, OnOk, replicate, refl}
+use Rattle.std.proofs.Common.{◌≡◌, ◌⊎◌, inl, inr, ℕ, List, [], Result, Ok, Err, OnOk, replicate, refl}
 use Rattle.std.proofs.Common.{sym, subst, take, length, arith}
 use Rattle.std.proofs.lemmas.List.{take_all}
 use Rattle.std.specs.Prelude.{MatchResult, IfErr}
@@ -25,7 +25,6 @@ use Rattle.boost.specs.declared.commands.failure.Failure.{Failure}
 use Rattle.boost.specs.Failures.{failure_of}
 use Rattle.boost.specs.Commands.{IsUnderstood, IsPlay, IsOfStore, IsWhyUnplayed, IsWhyUndone}
 use Rattle.boost.specs.Commands.{status_of}
-use Rattle.calls.specs.declared.refusal.Refusal.{Refusal}
 use Rattle.boost.specs.Effects.{KeepsPlaying, StartsFrom, ArePlayedOn, IsPlayedOn, IsPlayedAnew}
 use Rattle.boost.specs.Effects.{Leaves, IsLeftByPlay}
 use Rattle.player.specs.declared.client.Client.{Client}
@@ -211,14 +210,16 @@ play_undone task script same (Err (Failure.NotUnderstood line)) is why = (is, wh
 play_undone task script same (Err Failure.Unwritten) is why = tt
 play_undone task script same (Err (Failure.CannotOpen path)) is why = absurd why
 
--- a command ends with status 1 only where it was refused
+-- a play ends with status 1 only where its script is understood, or nothing was touched
 pub refused_one : (task : Task) (script : List ℕ) (same : Type 0) (f : Failure) →
-    status_of f ≡ 1 → IsWhyUndone task script same f →
-    (refusal : Refusal) × IsWhyUndone task script same (Failure.Refused refusal)
-refused_one task script same (Failure.Refused refusal) one why = (refusal, why)
-refused_one task script same (Failure.NotUnderstood line) one why = absurd (omega (arith, one))
-refused_one task script same (Failure.CannotOpen path) one why = absurd (omega (arith, one))
-refused_one task script same Failure.Unwritten one why = absurd (omega (arith, one))
+    status_of f ≡ 1 → IsWhyUndone task script same f → IsPlay task → IsUnderstood script ⊎ same
+refused_one task script same (Failure.Refused refusal) one why is = elim (why is) [
+  | inl understood ↦ inl understood
+  | inr memory ↦ inr memory.1
+]
+refused_one task script same (Failure.NotUnderstood line) one why is = absurd (omega (arith, one))
+refused_one task script same (Failure.CannotOpen path) one why is = absurd (omega (arith, one))
+refused_one task script same Failure.Unwritten one why is = absurd (omega (arith, one))
 
 -- the stored run's lines were played, whatever is shown behind them
 pub anew_played : {D E F : Type 0} (g : Ghosts D) (disk left : D) (lines : List Line)

@@ -7,7 +7,6 @@ ghost use Rattle.recovery.specs.Formats.{IsFormatting};
 ghost use Rattle.player.specs.Requests.{nobody};
 ghost use Rattle.boost.specs.Effects.{ArePlayedOn, IsPlayedOn, IsPlayedAnew, IsLeftByPlay};
 ghost use Rattle.boost.specs.Effects.{StartsFrom, IsFormatted, IsDone, Leaves};
-ghost use Rattle.calls.specs.declared.refusal.Refusal.{Refusal};
 ghost use Rattle.script.specs.Scripts.{IsScriptOf};
 ghost use Rattle.boost.specs.declared.commands.failure.Failure.{Failure};
 ghost use Rattle.boost.specs.Commands.{IsPlay, IsUnderstood, IsOfStore, IsWhyUnplayed};
@@ -52,7 +51,7 @@ use world::World;
 /// The status is 0 where the command was done, lines of the script that were refused among it; else
 /// a text goes to `err`, as `Failure` says: 3 for a script with a line that is not understood, of
 /// which no line is run and for which the store is not opened; 1 for a refusal that answers no
-/// line, which is one of the store only where the script is understood; and 4, with no text, where
+/// line, with the disk as it was where the script is not understood; and 4, with no text, where
 /// output could not be written.
 pub fn run<D: Disk, O: Write, E: Write>(
     alloc: Global,
@@ -68,8 +67,8 @@ pub fn run<D: Disk, O: Write, E: Write>(
     ensures not_understood { result.0 ≡ 3 →
         IsPlay task.now × ((line : ℕ) × IsNotUnderstoodAt script.now line) }
     ensures untouched { result.0 ≡ 3 → result.1 ≡ disk }
-    ensures refused { result.0 ≡ 1 → (refusal : Refusal) ×
-        IsWhyUndone task.now script.now (result.1 ≡ disk) (Failure.Refused refusal) }
+    ensures refused { result.0 ≡ 1 → IsPlay task.now → IsUnderstood script.now ⊎
+        (result.1 ≡ disk) }
     ensures any_moment { Leaves ⟦<D as Disk>⟧ task.now script.now disk result.1 }
     ensures silent { (result.0 ≡ 0) ⊎ (result.0 ≡ 4) → err.new ≡ err.old }
 {

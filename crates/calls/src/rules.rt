@@ -1,6 +1,7 @@
 // What of a call does not depend on a content: its need, its inverse, what it leaves, and who may
 // ask for it.
-ghost use Rattle.std.specs.Prelude.{◌≡◌, ◌↔◌, IsTrue, IsOk, IfOk, IfErr, IsOkUnless, MatchOption, Some};
+ghost use Rattle.std.specs.Prelude.{◌≡◌, ◌↔◌, IsTrue, IsOk, IfOk, IfErr, IsOkUnless, MatchOption};
+ghost use Rattle.std.specs.Prelude.{Some};
 ghost use Rattle.std.specs.Option.{option_to_list};
 ghost use Rattle.calls.specs.declared.call.Call.{Call};
 ghost use Rattle.calls.specs.declared.refusal.Refusal.{Refusal};
@@ -43,8 +44,8 @@ impl Call {
         }
     }
 
-    /// The entry of a map that the call, answered so, took away and its inverse puts back: that of a
-    /// Put or a MapRemove that got a value. It takes no memory.
+    /// The entry of a map that the call, answered so, took away and its inverse puts back: that of
+    /// a Put or a MapRemove that got a value. It takes no memory.
     pub fn taken_entry<'a>(&self, reply: &'a Reply) -> Option<(u64, &'a Bytes)>
         ensures { MatchOption result (PutsNothingBack self.now reply.now)
             (λ entry. inverse_of self.now reply.now ≡ Some (Call.Put entry.0 entry.1.now)) }

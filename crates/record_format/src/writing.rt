@@ -6,7 +6,8 @@ ghost use Rattle.record_format.specs.declared.record.Record.{Record};
 ghost use Rattle.record_format.specs.Records.{number, signed, wide, value, kind_code, named, call};
 ghost use Rattle.record_format.specs.Records.{reply, inverse, called, put_off, item};
 ghost use Rattle.record_format.specs.Records.{spelled, Fits, FitsCall, FitsReply, FitsItem};
-ghost use Rattle.record_format.specs.Records.{FitsCalled, FitsPutOff, IsValue, before_inverse, record_of_call};
+ghost use Rattle.record_format.specs.Records.{FitsCalled, FitsPutOff, IsValue, before_inverse};
+ghost use Rattle.record_format.specs.Records.{record_of_call};
 ghost use Rattle.calls.specs.Rules.{inverse_of, Askable};
 
 use crate::lengths::{call_len, encoded_len};

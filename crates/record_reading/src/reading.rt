@@ -396,7 +396,7 @@ fn record_from(
 
 // The record at the front, whatever it says, and the bytes behind it.
 #[tactic(auto, unfolding(crate::specs::RecordReading::record_in))]
-pub fn read_record(
+pub(crate) fn read_record(
     alloc: Global,
     last: Option<Kind>,
     bytes: &[u8],

@@ -64,7 +64,7 @@ fn is_put_off(later: &LaterRecord) -> bool
 }
 
 // Whether the record may say what it says. NoMemory for the value of an inverse.
-pub fn is_sound(entry: &Record) -> Result<bool, Refusal>
+pub(crate) fn is_sound(entry: &Record) -> Result<bool, Refusal>
     requires { Fits entry.now }
     ensures is { IfOk result (λ sound. IsTrue sound ↔ IsSound entry.now) }
     ensures refusal { IsOkUnless result Refusal.NoMemory }

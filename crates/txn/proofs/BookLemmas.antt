@@ -94,12 +94,6 @@ make_refused names b name Refusal.BadName room is = (λ full. absurd (omega (ari
 make_refused names b name Refusal.TooLong room is = (λ full. absurd (omega (arith, room, full)), is)
 make_refused names b name e room is = (λ full. absurd (omega (arith, room, full)), is)
 
--- A name under which nothing can be made is refused before any memory is taken.
-pub new_refused : (names : List (List ℕ)) (name : List ℕ) (e : Refusal) →
-    naming.NewRefused names name e → naming.MakeRefused names name e
-new_refused names name Refusal.NoMemory is = absurd is
-new_refused names name e is = is
-
 -- What is asked behind the look-up is refused only for want of memory, and changes nothing then.
 pub ask_refused : {S : Type 0} (meaning : Meaning S ℕ) (b c : BookState S) (n at : ℕ) (call : Call)
     (result : Result (Unit {0}) Refusal) → IsOpen (CanAsk meaning b.state.now at call) b n →
