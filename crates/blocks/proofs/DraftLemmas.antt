@@ -112,17 +112,17 @@ block_whole body bytes block =
     subst (λ b. IsBlockOf b bytes) (sym is) block
 
 -- The block is what it should be.
-pub offered : (rs records : List Record) (before after : Handed) (waiting waits : List Block)
-    (block : Block) → rs ≡ records → waits ≡ waiting ++ block ∷ [] →
+pub offered : (rs records : List Record) (before after : Handed) (sends : List Block → Type 0)
+    (block : Block) → rs ≡ records → sends (block ∷ []) →
     IsBlockOf (spelling rs) block.bytes.items →
     block.end ≡ before.end + length rs → block.place ≡ before.place + places rs →
     after ≡ record { end = block.end; place = block.place } →
-    IsOffered records before after waiting waits
-offered rs records before after waiting waits block same behind bytes end place counted =
-    subst (λ l. IsOffered l before after waiting waits) same
+    IsOffered records before after sends
+offered rs records before after sends block same sent bytes end place counted =
+    subst (λ l. IsOffered l before after sends) same
     (record {
       block = block;
-      behind = behind;
+      sent = sent;
       bytes = bytes;
       end = end;
       place = place;

@@ -311,13 +311,13 @@ next_too_long b (f ∷ fs) last r behind fills is = first f.draft.records (in_fu
 -- The first full block is handed over: it holds as many of the records as fit and come before the
 -- next freeze.
 pub first_over : (w : Waiting) (first : Filled) (full : List Filled) (count : ℕ) (after : Handed)
-    (before waits : List Block) → IsCounted w count → w.full ≡ first ∷ full →
-    IsOffered first.draft.records w.handed after before waits →
-    (block : Block) × (waits ≡ before ++ block ∷ []) ×
+    (sends : List Block → Type 0) → IsCounted w count → w.full ≡ first ∷ full →
+    IsOffered first.draft.records w.handed after sends →
+    (block : Block) × sends (block ∷ []) ×
     HandsOver (waiting w) (freezes w) w.handed.end w.handed.place block
     (in_full full ++ w.last.records) × (after.end ≡ block.end) × (after.place ≡ block.place) ×
     ((n : ℕ) → Contains (sealed_ends after.end full) n ↔ (Contains (freezes w) n × (block.end < n)))
-first_over w first full count after before waits is same offered =
+first_over w first full count after sends is same offered =
     let all : AreFilled (first ∷ full) w.last.records =
     subst (λ (l : List Filled). AreFilled l w.last.records) same is.packed in
     let end = w.handed.end + length first.draft.records in
@@ -326,7 +326,7 @@ first_over w first full count after before waits is same offered =
     let block_end : offered.block.end ≡ end = offered.end in
     let after_end : after.end ≡ end = ap (λ (h : Handed). h.end) offered.counted ∙ block_end in (
       offered.block,
-      offered.behind,
+      offered.sent,
       record {
         first = first.draft.records;
         are = ap (λ (l : List Filled). in_full l ++ w.last.records) same ∙
@@ -379,18 +379,18 @@ first_over w first full count after before waits is same offered =
     )
 
 -- Where no block is full, the last one is handed over.
-pub last_over : (w : Waiting) (after : Handed) (before waits : List Block) (full : List Filled)
+pub last_over : (w : Waiting) (after : Handed) (sends : List Block → Type 0) (full : List Filled)
     (last : Drafted) → w.full ≡ [] → 0 < length w.last.records → full ≡ [] → last.records ≡ [] →
-    IsOffered w.last.records w.handed after before waits →
-    (block : Block) × (waits ≡ before ++ block ∷ []) ×
+    IsOffered w.last.records w.handed after sends →
+    (block : Block) × sends (block ∷ []) ×
     HandsOver (waiting w) (freezes w) w.handed.end w.handed.place block
     (in_full full ++ last.records) × (after.end ≡ block.end) × (after.place ≡ block.place) ×
     ((n : ℕ) → Contains (sealed_ends after.end full) n ↔ (Contains (freezes w) n × (block.end < n)))
-last_over w after before waits full last none some left empty offered =
+last_over w after sends full last none some left empty offered =
     let over : in_full full ++ last.records ≡ [] =
     ap (λ l. in_full l ++ last.records) left ∙ empty in (
       offered.block,
-      offered.behind,
+      offered.sent,
       record {
         first = w.last.records;
         are = ap (λ (l : List Filled). in_full l ++ w.last.records) none ∙

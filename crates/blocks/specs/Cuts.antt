@@ -25,24 +25,21 @@ pub record HandsOver (pending : List Record) (freezes : List ℕ) (end place : �
   pub commits : block.place ≡ place + places first
 
 -- What a cut answers of the records that are pending, of the freezes that stood between them, and
--- of how many were handed over before: one block goes behind those that wait in the outbox, and the
--- freezes behind its end are left; or nothing where nothing is pending. A refusal leaves all.
-abbrev pub CutsOff : (pending : List Record) (freezes : List ℕ) (end place : ℕ) → List Block →
-    Type 0 → Result Bool Refusal → List Block →
-    (rest : List Record) (freezes_then : List ℕ) (end_then place_then : ℕ) → Type 0
-CutsOff pending freezes end place waiting full (Ok true) waits rest freezes_then end_then
-    place_then =
-    (block : Block) × (waits ≡ waiting ++ block ∷ []) ×
-    HandsOver pending freezes end place block rest × (end_then ≡ block.end) ×
-    (place_then ≡ block.place) ×
+-- of how many were handed over before: one block is sent, and the freezes behind its end are left;
+-- or nothing where nothing is pending. A refusal leaves all. sends: which blocks were sent.
+-- was_full: the outbox was full at a moment of the call.
+abbrev pub CutsOff : (pending : List Record) (freezes : List ℕ) (end place : ℕ) →
+    (sends : List Block → Type 0) (was_full : Type 0) → Result Bool Refusal → (rest : List Record)
+    (freezes_then : List ℕ) (end_then place_then : ℕ) → Type 0
+CutsOff pending freezes end place sends was_full (Ok true) rest freezes_then end_then place_then =
+    (block : Block) × sends (block ∷ []) × HandsOver pending freezes end place block rest ×
+    (end_then ≡ block.end) × (place_then ≡ block.place) ×
     ((f : ℕ) → Contains freezes_then f ↔ (Contains freezes f × (block.end < f)))
-CutsOff pending freezes end place waiting full (Ok false) waits rest freezes_then end_then
+CutsOff pending freezes end place sends was_full (Ok false) rest freezes_then end_then place_then =
+    (pending ≡ []) × sends [] × (rest ≡ pending) × (end_then ≡ end) × (place_then ≡ place) ×
+    (freezes_then ≡ freezes)
+CutsOff pending freezes end place sends was_full (Err Refusal.NotNow) rest freezes_then end_then
     place_then =
-    (pending ≡ []) × (waits ≡ waiting) × (rest ≡ pending) × (end_then ≡ end) ×
-    (place_then ≡ place) × (freezes_then ≡ freezes)
-CutsOff pending freezes end place waiting full (Err Refusal.NotNow) waits rest freezes_then end_then
-    place_then =
-    full × (waits ≡ waiting) × (rest ≡ pending) × (end_then ≡ end) × (place_then ≡ place) ×
+    was_full × sends [] × (rest ≡ pending) × (end_then ≡ end) × (place_then ≡ place) ×
     (freezes_then ≡ freezes) × (0 < length pending)
-CutsOff pending freezes end place waiting full (Err e) waits rest freezes_then end_then place_then =
-    ⊥
+CutsOff pending freezes end place sends was_full (Err e) rest freezes_then end_then place_then = ⊥

@@ -1,5 +1,5 @@
 -- A block that is handed over.
-use Rattle.std.specs.Prelude.{◌≡◌, ◌+◌, List, [], ◌∷◌, ◌++◌, length}
+use Rattle.std.specs.Prelude.{◌≡◌, ◌+◌, List, [], ◌∷◌, length}
 use Rattle.gate_block.specs.Row.{IsBlockOf}
 use Rattle.record_format.specs.declared.record.Record.{Record}
 use Rattle.record_format.specs.Acts.{places}
@@ -7,11 +7,11 @@ use Rattle.record_format.specs.Records.{spelling}
 use Rattle.blocks.specs.declared.block.Block.{Block}
 use Rattle.blocks.specs.declared.draft.Handed.{Handed}
 
--- The records go behind the blocks that wait, as one block, and are counted.
+-- The records are sent as one block, and are counted. sends: which blocks were sent.
 pub record IsOffered (records : List Record) (before after : Handed)
-    (waiting waits : List Block) : Type 0 where
+    (sends : List Block → Type 0) : Type 0 where
   pub block : Block
-  pub behind : waits ≡ waiting ++ block ∷ []
+  pub sent : sends (block ∷ [])
   pub bytes : IsBlockOf (spelling records) block.bytes.items
   pub end : block.end ≡ before.end + length records
   pub place : block.place ≡ before.place + places records

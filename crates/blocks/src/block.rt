@@ -1,5 +1,5 @@
 // Blocks on their way to the disk.
-ghost use Rattle.std.specs.Prelude.{◌≡◌, List, ◌++◌, ◌∷◌, [], OnOk, OnErr, IfErr};
+ghost use Rattle.std.specs.Prelude.{◌≡◌, List, ◌∷◌, [], OnOk, OnErr, IfErr};
 ghost use Rattle.std.specs.List.{All};
 ghost use Rattle.blocks.specs.Wholes.{IsWhole};
 
@@ -27,20 +27,24 @@ pub struct Image {
     ghost whole: { All (λ b. IsWhole b.items) blocks.items },
 }
 
-/// Where a book hands its blocks to.
+/// Where a book hands its blocks to. What becomes of them there is no matter of the book's: it
+/// knows which blocks it sent, and where it could not.
 pub trait Outbox {
     ghost use Rattle.blocks.specs.declared.block.Block.{Block};
 
-    /// The blocks that wait there, in order.
-    ghost waiting: { Self → List Block };
+    /// From the one state to the other these blocks were sent, in this order.
+    ghost sends: { Self → List Block → Self → Type 0 };
 
-    /// No room is left.
-    ghost is_full: { Self → Type 0 };
+    /// It was full at a moment from the one state to the other.
+    ghost was_full: { Self → Self → Type 0 };
 
     /// Takes the block as the last one, or gives it back where no room is left.
     fn offer(&mut self, block: Block) -> Result<(), Block>
-        ensures taken { OnOk result (waiting self.new ≡ waiting self.old ++ block ∷ []) }
-        ensures full { OnErr result (is_full self.old) }
-        ensures same { OnErr result (self.new ≡ self.old) }
+        ensures sent { OnOk result (sends self.old (block ∷ []) self.new) }
+        ensures full { OnErr result (was_full self.old self.new) }
+        ensures none { OnErr result (sends self.old [] self.new) }
         ensures back { IfErr result (λ b. b ≡ block) };
+
+    /// Where nothing is done, nothing is sent.
+    ghost sends_none: { (out : Self) → sends out [] out };
 }

@@ -167,17 +167,18 @@ impl Draft {
         bytes
     }
 
-    // Hands the records over as one block, behind those that wait in the outbox, and counts them.
-    // Where the outbox is full they come back, and nothing is changed.
+    // Hands the records over as one block, and counts them. Where the outbox is full they come
+    // back, and nothing is counted.
     pub(crate) fn offer<O: Outbox>(self, handed: &mut Handed, out: &mut O) -> Result<(), Draft>
         requires some { 0 < length self.records }
         requires short { length (spelling self.records) ≤ 65535 }
         requires end { handed.old.end + length self.records < 2 ^ 64 }
         requires place { handed.old.place + places self.records < 2 ^ 64 }
         ensures handed { OnOk result (IsOffered self.records handed.old handed.new
-            (O.waiting out.old) (O.waiting out.new)) }
-        ensures full { OnErr result (O.is_full out.old) }
-        ensures same { OnErr result ((out.new ≡ out.old) × (handed.new ≡ handed.old)) }
+            (λ bs. O.sends out.old bs out.new)) }
+        ensures full { OnErr result (O.was_full out.old out.new) }
+        ensures none { OnErr result (O.sends out.old [] out.new) }
+        ensures same { OnErr result (handed.new ≡ handed.old) }
         ensures back { IfErr result (λ draft. draft.records ≡ self.records) }
     {
         let Self {

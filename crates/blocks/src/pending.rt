@@ -210,13 +210,14 @@ impl Pending {
     /// before the next freeze, and answers true; false where no record waits. No record is copied,
     /// and no memory is taken.
     ///
-    /// NotNow, only where a record waits and the outbox is full. It leaves the records.
+    /// NotNow, only where a record waits and the outbox was full at a moment of the call. It leaves
+    /// the records.
     pub fn cut<O: Outbox>(&mut self, out: &mut O) -> Result<bool, Refusal>
         requires end { self.old.handed.end + length (waiting self.old) < 2 ^ 64 }
         requires place { self.old.handed.place + places (waiting self.old) < 2 ^ 64 }
         ensures { CutsOff (waiting self.old) (freezes self.old) self.old.handed.end
-            self.old.handed.place (O.waiting out.old) (O.is_full out.old) result
-            (O.waiting out.new) (waiting self.new) (freezes self.new) self.new.handed.end
+            self.old.handed.place (λ bs. O.sends out.old bs out.new) (O.was_full out.old out.new)
+            result (waiting self.new) (freezes self.new) self.new.handed.end
             self.new.handed.place }
     {
         if let Some(first) = self.full.pop_front() {

@@ -1,5 +1,6 @@
 -- What a command leaves on a disk.
-use Rattle.std.proofs.Common.{◌≡◌, ◌⊎◌, inl, inr, ℕ, List, [], Result, Ok, Err, OnOk, replicate, refl}
+use Rattle.std.proofs.Common.{◌≡◌, ◌⊎◌, inl, inr, ℕ, List, [], Result, Ok, Err, OnOk, replicate}
+use Rattle.std.proofs.Common.{refl}
 use Rattle.std.proofs.Common.{sym, subst, take, length, arith}
 use Rattle.std.proofs.lemmas.List.{take_all}
 use Rattle.std.specs.Prelude.{MatchResult, IfErr}
@@ -14,8 +15,9 @@ use Rattle.recovery.specs.Formats.{IsEmptyStore, IsFormatting}
 use Rattle.recovery.specs.Openings.{KeepsContent}
 use Rattle.world.specs.Moves.{Whole}
 use Rattle.world.specs.Pasts.{Past}
-use Rattle.world.specs.Crash.{Yields}
-use Rattle.world.proofs.StepLemmas.{yields_on}
+use Rattle.checkpoint.specs.Crash.{Yields}
+use Rattle.world.specs.Pasts.{committed_in}
+use Rattle.world.proofs.PastLemmas.{yields_on}
 use Rattle.world.proofs.PlayLemmas.{moments_of, answered_of}
 use Rattle.player.specs.Plays as plays
 use Rattle.player.specs.Requests.{nobody, CarriesOut, PlaysLines}
@@ -32,7 +34,7 @@ use Rattle.script.specs.declared.line.Line.{Line}
 
 -- bytes that stand for the content yield it, with nothing committed
 yields_none : (content : List Collection) (c : List ℕ) → IsSound c × StandsFor c content →
-    Yields content [] [] c
+    Yields content (committed_in []) [] c
 yields_none content c fine = record {
   sound = fine.0;
   content = content;
@@ -76,7 +78,8 @@ module _ {D : Type 0} (seen : D → List ℕ) (may_leave : D → List ℕ → Ty
         steps = [];
         own = tt;
         any_moment = weaker moment left_since old new _
-            (Yields content [] []) (keeps content rest sound stands) (yields_none content);
+            (Yields content (committed_in []) []) (keeps content rest sound stands)
+            (yields_none content);
       }
 
 module _ {D : Type 0} (g : Ghosts D) (old : D) where
@@ -110,7 +113,7 @@ module _ {D : Type 0} (g : Ghosts D) (old : D) where
       → KeepsPlaying g.seen g.may_leave g.moment g.left_since old v.keeper.disk
   steps_played w v keeps begins played only_now content rest sound stands =
       let steps : Past = played.0 in
-      let P : List ℕ → Type 0 = Yields content steps [] in
+      let P : List ℕ → Type 0 = Yields content (committed_in steps) [] in
       record {
         steps = steps;
         own = answered_of g steps w v played.1;
@@ -152,7 +155,8 @@ lines_in_part g old w v ks ls lines (Ok done) new starts carried = (
     starts = starts;
     clients = ls;
     world = v;
-    carried = subst (λ l. CarriesOut g (replicate 64 nobody) w l ls v) (sym (take_all (length lines) lines (omega arith)))
+    carried = subst (λ l. CarriesOut g (replicate 64 nobody) w l ls v)
+        (sym (take_all (length lines) lines (omega arith)))
         (subst (λ k. CarriesOut g k w lines ls v) new carried);
     disk = refl;
   },

@@ -9,8 +9,8 @@ use Rattle.repetition.specs.Journals.{StandsFor}
 use Rattle.repetition.specs.Reading.{IsSound}
 use Rattle.recovery.specs.Formats.{IsRoomFor, IsEmptyStore, IsFormatting}
 use Rattle.recovery.specs.Openings.{IsOpened, KeepsContent}
-use Rattle.world.specs.Pasts.{Past, AreAnswered}
-use Rattle.world.specs.Crash.{Yields}
+use Rattle.world.specs.Pasts.{Past, AreAnswered, committed_in}
+use Rattle.checkpoint.specs.Crash.{Yields}
 use Rattle.world.specs.Worlds.{HasPast}
 use Rattle.world.specs.Moves.{Whole}
 use Rattle.world.specs.OneStep.{parts}
@@ -26,7 +26,7 @@ pub record WasPlayed {D : Type 0} (moment : D → ℕ) (left_since : D → ℕ �
     (content : List Collection) (old new : D) : Type 0 where
   pub steps : Past
   pub own : AreAnswered steps
-  pub any_moment : LeavesOnly moment left_since old new (Yields content steps [])
+  pub any_moment : LeavesOnly moment left_since old new (Yields content (committed_in steps) [])
 
 -- So it is of a disk at rest whose bytes are sound and stand for a content.
 abbrev pub KeepsPlaying : {D : Type 0} → (D → List ℕ) → (D → List ℕ → Type 0) → (D → ℕ) →

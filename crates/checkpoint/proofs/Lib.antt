@@ -2,3 +2,10 @@ pub mod Apart
 mod Blocks
 mod Flipping
 mod Turning
+pub mod StandLemmas
+pub mod HeadLemmas
+pub mod YieldLemmas
+pub mod GroupLemmas
+pub mod ReceivedLemmas
+mod TurnKeeping
+mod ImageKeeping

@@ -1,5 +1,6 @@
 -- What a turn answers.
-use Rattle.std.proofs.Common.{◌≡◌, ◌∷◌, List, ℕ, Bool, false, length, subst, Option, Some, IfSome}
+use Rattle.std.proofs.Common.{◌≡◌, ◌∙◌, sym, [], ◌∷◌, None, List, ℕ, Bool, false, length, subst}
+use Rattle.std.proofs.Common.{Option, Some, IfSome}
 use Rattle.std.proofs.Common.{OnOk, Result, Ok, Err, inr}
 use Rattle.calls.specs.declared.refusal.Refusal.{Refusal}
 use Rattle.gate_block.specs.Row.{SameOutside}
@@ -9,26 +10,30 @@ use Rattle.checkpoint.specs.declared.turn.Turn.{Turn}
 use Rattle.checkpoint.specs.declared.laying.Laying.{Laying}
 use Rattle.checkpoint.specs.Imaging.{IsLaidBeside, IsBeingLaid}
 use Rattle.checkpoint.specs.Keepers.{KeeperState, IsKeeper, OnKept, AppendAnswers, BringAnswers}
-use Rattle.checkpoint.specs.Keepers.{TurnAnswers}
+use Rattle.checkpoint.specs.Keepers.{TurnAnswers, IsBrought}
 use Rattle.checkpoint.proofs.Apart.{still_laid}
 
--- a turn that brings the first block
-pub brought : (q waiting : List Block) (b : Block) (failed fails : Bool) (mark next : ℕ)
-    (is_covered is_past is_full : Block → Type 0) (is_same is_risen : Type 0)
-    (r : Result Turn Refusal) (held : Option Block) → q ≡ b ∷ waiting → failed ≡ false
-    → BringAnswers b mark (is_covered b) (is_past b) (is_full b) is_same is_risen r held next
-    fails → TurnAnswers q failed mark is_covered is_past is_full is_same is_risen r waiting held
-    next fails
-brought q waiting b failed fails mark next is_covered is_past is_full is_same is_risen
-    (Ok (Turn.Kept place)) held first not_failed a = (not_failed, (b, first, a))
-brought q waiting b failed fails mark next is_covered is_past is_full is_same is_risen
-    (Ok Turn.Held) held first not_failed a = (not_failed, (b, first, a))
-brought q waiting b failed fails mark next is_covered is_past is_full is_same is_risen
-    (Ok Turn.Idle) held first not_failed a = absurd a.2
-brought q waiting b failed fails mark next is_covered is_past is_full is_same is_risen
-    (Err Refusal.Failed) held first not_failed a = absurd a.2
-brought q waiting b failed fails mark next is_covered is_past is_full is_same is_risen (Err e) held
-    first not_failed a = (not_failed, (b, first, a))
+same_head : (b d : Block) → b ∷ [] ≡ d ∷ [] → b ≡ d
+same_head b d e = cc
+
+-- a turn that brings a block
+pub brought : (holds : Option Block) (receives : List Block → Type 0) (was_empty : Type 0)
+    (b : Block) (failed fails : Bool) (mark next : ℕ) (is_covered is_past is_full : Block → Type 0)
+    (is_same is_risen : Type 0) (r : Result Turn Refusal) (held : Option Block) →
+    IsBrought holds receives b → failed ≡ false →
+    BringAnswers b mark (is_covered b) (is_past b) (is_full b) is_same is_risen r held next fails →
+    TurnAnswers holds receives was_empty failed mark is_covered is_past is_full is_same is_risen r
+    held next fails
+brought holds receives was_empty b failed fails mark next is_covered is_past is_full is_same
+    is_risen (Ok (Turn.Kept place)) held first not_failed a = (not_failed, (b, first, a))
+brought holds receives was_empty b failed fails mark next is_covered is_past is_full is_same
+    is_risen (Ok Turn.Held) held first not_failed a = (not_failed, (b, first, a))
+brought holds receives was_empty b failed fails mark next is_covered is_past is_full is_same
+    is_risen (Ok Turn.Idle) held first not_failed a = absurd a.2
+brought holds receives was_empty b failed fails mark next is_covered is_past is_full is_same
+    is_risen (Err Refusal.Failed) held first not_failed a = absurd a.2
+brought holds receives was_empty b failed fails mark next is_covered is_past is_full is_same
+    is_risen (Err e) held first not_failed a = (not_failed, (b, first, a))
 
 -- a block that is neither covered nor past the image is brought as it is appended
 pub appended : (b : Block) (mark next : ℕ) (is_covered is_past is_full is_same is_risen : Type 0)
@@ -51,8 +56,13 @@ kept_of P (Ok Turn.Idle) p = tt
 kept_of P (Ok Turn.Held) p = tt
 kept_of P (Err e) p = tt
 
-pub same_head : (b d : Block) (xs ys : List Block) → b ∷ xs ≡ d ∷ ys → b ≡ d
-same_head b d xs ys e = cc
+-- the block that a turn brings is one
+pub brought_once : (holds : Option Block) (receives : List Block → Type 0) →
+    ((xs ys : List Block) → receives xs → receives ys → xs ≡ ys) → (b d : Block) →
+    IsBrought holds receives b → IsBrought holds receives d → b ≡ d
+brought_once None receives one_list b d first second =
+    same_head b d (one_list (b ∷ []) (d ∷ []) first second)
+brought_once (Some h) receives one_list b d first second = first.0 ∙ sym second.0
 
 -- an image in progress is laid into the other area
 pub beside_is : {D : Type 0} (seen : D → List ℕ) (k : KeeperState D) (w : Laying) →

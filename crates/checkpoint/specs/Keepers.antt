@@ -41,11 +41,6 @@ pub record IsFresh {D : Type 0} (k : KeeperState D) : Type 0 where
   pub covers_none : k.covered ≡ 0
   pub no_image : k.image ≡ None
 
--- the blocks that a keeper brings to the disk: the one that it holds, and those that wait
-abbrev pub queue : Option Block → List Block → List Block
-queue None waiting = waiting
-queue (Some b) waiting = b ∷ waiting
-
 -- the block ends past the image in progress
 abbrev pub IsPast : Option Laying → ℕ → Type 0
 IsPast None end = ⊥
@@ -79,19 +74,27 @@ BringAnswers block mark is_covered is_past is_full is_same is_risen (Ok (Turn.Ke
 BringAnswers block mark is_covered is_past is_full is_same is_risen r held next failed =
     ¬ is_covered × ¬ is_past × AppendAnswers block mark is_full is_same is_risen r held next failed
 
--- What a turn answers, of the blocks q that it found, and what it leaves: waiting, held, mark,
--- failed.
-abbrev pub TurnAnswers : List Block → Bool → ℕ → (Block → Type 0) → (Block → Type 0) →
-    (Block → Type 0) → Type 0 → Type 0 → Result Turn Refusal → List Block → Option Block → ℕ →
-    Bool → Type 0
-TurnAnswers q failed mark is_covered is_past is_full is_same is_risen (Err Refusal.Failed) waiting
-    held next fails = (failed ≡ true) × is_same × (queue held waiting ≡ q) × (next ≡ mark) ×
-    (fails ≡ true)
-TurnAnswers q failed mark is_covered is_past is_full is_same is_risen (Ok Turn.Idle) waiting held
-    next fails = (failed ≡ false) × (q ≡ []) × is_same × (queue held waiting ≡ []) × (next ≡ mark) ×
-    (fails ≡ false)
-TurnAnswers q failed mark is_covered is_past is_full is_same is_risen r waiting held next fails =
-    (failed ≡ false) × ((b : Block) × (q ≡ b ∷ waiting) ×
+-- The block that a turn brings: the held one, and then it receives none; or else the one that it
+-- receives.
+abbrev pub IsBrought : Option Block → (List Block → Type 0) → Block → Type 0
+IsBrought None receives b = receives (b ∷ [])
+IsBrought (Some h) receives b = (b ≡ h) × receives []
+
+-- What a turn answers, of the block that it found held, of which lists of blocks it received, and
+-- of whether none was there to receive; and what it leaves: held, mark, failed.
+abbrev pub TurnAnswers : Option Block → (List Block → Type 0) → Type 0 → Bool → ℕ →
+    (Block → Type 0) → (Block → Type 0) → (Block → Type 0) → Type 0 → Type 0 →
+    Result Turn Refusal → Option Block → ℕ → Bool → Type 0
+TurnAnswers holds receives was_empty failed mark is_covered is_past is_full is_same is_risen
+    (Err Refusal.Failed) held next fails =
+    (failed ≡ true) × receives [] × is_same × (held ≡ holds) × (next ≡ mark) × (fails ≡ true)
+TurnAnswers holds receives was_empty failed mark is_covered is_past is_full is_same is_risen
+    (Ok Turn.Idle) held next fails =
+    (failed ≡ false) × (holds ≡ None) × receives [] × was_empty × is_same × (held ≡ None) ×
+    (next ≡ mark) × (fails ≡ false)
+TurnAnswers holds receives was_empty failed mark is_covered is_past is_full is_same is_risen r held
+    next fails =
+    (failed ≡ false) × ((b : Block) × IsBrought holds receives b ×
     BringAnswers b mark (is_covered b) (is_past b) (is_full b) is_same is_risen r held next
     fails)
 

@@ -1,3 +1,7 @@
 pub mod ImageAnswers
 pub mod Imaging
 pub mod Keepers
+pub mod Stored
+pub mod DiskHeads
+pub mod Crash
+pub mod Keeping

@@ -11,8 +11,9 @@ ghost use Rattle.checkpoint.specs.Imaging.{IsLaidBeside, HasPiece, IsWritten, Is
 ghost use Rattle.checkpoint.specs.Imaging.{IsRooted, LeavesRoot, PicksWhole, bodies_of, left_of};
 ghost use Rattle.checkpoint.specs.Imaging.{pieces_left};
 ghost use Rattle.gate_block.specs.Layout.{base_in_use};
-ghost use Rattle.checkpoint.specs.Keepers.{KeeperState, IsOneOfTwo, IsPast, OnKept, queue};
+ghost use Rattle.checkpoint.specs.Keepers.{KeeperState, IsOneOfTwo, IsPast, OnKept, IsBrought};
 ghost use Rattle.checkpoint.specs.Keepers.{AppendAnswers, BringAnswers, TurnAnswers};
+ghost use Rattle.checkpoint.specs.Keeping.{TurnKeeps, BeginKeeps, ImageKeeps};
 ghost use Rattle.checkpoint.specs.ImageAnswers.{BeginAnswers, PieceAnswers, PickAnswers};
 ghost use Rattle.checkpoint.specs.ImageAnswers.{FlipAnswers};
 
@@ -202,31 +203,35 @@ impl<D: Disk> Keeper<D> {
     /// and then it is held;
     /// Fault where the disk failed, and then the keeper has failed.
     pub fn turn<I: Inbox>(&mut self, inbox: &mut I) -> Result<Turn, Refusal>
-        // What it answers, and which blocks wait then.
-        ensures answer { TurnAnswers (queue self.old.held (I.waiting inbox.old)) self.old.failed
-            self.old.mark
+        // What it answers, and which block is held then.
+        ensures answer { TurnAnswers self.old.held (λ bs. I.receives inbox.old bs inbox.new)
+            (I.was_empty inbox.old inbox.new) self.old.failed self.old.mark
             (λ b. b.end ≤ self.old.covered) (λ b. IsPast self.old.image b.end)
             (λ b. size_of self.old.area < position_of self.old.area + length b.bytes.items)
             ((self.new.area ≡ self.old.area) × (self.new.disk ≡ self.old.disk))
             (Rises (D.fault_count self.old.disk) (D.fault_count self.new.disk))
-            result (I.waiting inbox.new) self.new.held self.new.mark self.new.failed }
+            result self.new.held self.new.mark self.new.failed }
         // What the disk holds then: the block that is brought is behind the others, once it is
         // kept, unless the image of the area covers it.
-        ensures kept { (bodies : List (List ℕ)) (body : List ℕ) (b : Block) (rest : List Block) →
-            queue self.old.held (I.waiting inbox.old) ≡ b ∷ rest → IsBlockOf body b.bytes.items →
+        ensures kept { (bodies : List (List ℕ)) (body : List ℕ) (b : Block) →
+            IsBrought self.old.held (λ bs. I.receives inbox.old bs inbox.new) b →
+            IsBlockOf body b.bytes.items →
             self.old.covered < b.end →
             IsReady D.seen D.may_leave self.old.area self.old.disk bodies →
             OnKept result (IsReady D.seen D.may_leave self.new.area self.new.disk
             (bodies ++ body ∷ [])) }
         // What a stop leaves: at any moment of the turn the blocks from before it, with that one or
         // without.
-        ensures any_moment { (bodies : List (List ℕ)) (body : List ℕ) (b : Block)
-            (rest : List Block) →
+        ensures any_moment { (bodies : List (List ℕ)) (body : List ℕ) (b : Block) →
             self.old.failed ≡ false →
-            queue self.old.held (I.waiting inbox.old) ≡ b ∷ rest → IsBlockOf body b.bytes.items →
+            IsBrought self.old.held (λ bs. I.receives inbox.old bs inbox.new) b →
+            IsBlockOf body b.bytes.items →
             IsReady D.seen D.may_leave self.old.area self.old.disk bodies →
             LeavesOnly D.moment D.left_since self.old.disk self.new.disk
             (LeavesBlocks (D.may_leave self.old.disk) self.old.area bodies body) }
+        // What that comes to of a keeper that has received blocks of a book's records.
+        ensures crash { TurnKeeps ⟦<D as Disk>⟧ (λ bs. I.receives inbox.old bs inbox.new) self.old
+            self.new }
         // What of the disk stays: all outside the area, and what was laid of an image.
         ensures elsewhere { SameOutside (base_of self.old.area) (size_of self.old.area)
             (D.seen self.old.disk) (D.seen self.new.disk) }
@@ -260,6 +265,8 @@ impl<D: Disk> Keeper<D> {
     pub fn begin_image(&mut self, image: Image) -> Result<(), Refusal>
         requires some { image.blocks.items ≢ [] }
         ensures answer { BeginAnswers self.old image self.new result }
+        // What that comes to of an image that stands for a beginning of a book's records.
+        ensures crash { BeginKeeps ⟦<D as Disk>⟧ image result self.old self.new }
         // All of it is left.
         ensures begun { (w : Laying) → self.new.image ≡ Some w →
             OnOk result (IsBeingLaid w (D.seen self.new.disk) (bodies_of image.blocks.items)) }
@@ -294,6 +301,8 @@ impl<D: Disk> Keeper<D> {
             self.new.image ≡ Some v →
             IsBeingLaid w (D.seen self.old.disk) bodies →
             OnOk result (IsBeingLaid v (D.seen self.new.disk) bodies) }
+        // What a stop leaves, of a keeper that has received blocks of a book's records.
+        ensures crash { ImageKeeps ⟦<D as Disk>⟧ self.old self.new }
         // The blocks of the area in use are kept.
         ensures kept { (bodies : List (List ℕ)) →
             IsReady D.seen D.may_leave self.old.area self.old.disk bodies →
@@ -332,6 +341,8 @@ impl<D: Disk> Keeper<D> {
     pub fn flip(&mut self) -> Result<u64, Refusal>
         ensures answer { FlipAnswers self.old
             (Rises (D.fault_count self.old.disk) (D.fault_count self.new.disk)) self.new result }
+        // What a stop leaves, of a keeper that has received blocks of a book's records.
+        ensures crash { ImageKeeps ⟦<D as Disk>⟧ self.old self.new }
         // The area in use holds the blocks of the image, and the root byte picks it.
         ensures kept { (w : Laying) (bodies : List (List ℕ)) → self.old.image ≡ Some w →
             bodies ≢ [] →
@@ -425,10 +436,11 @@ fn take_written(image: &mut Option<Laying>) -> Option<Laying>
 
 // The held block, or else the next one.
 fn next_block<I: Inbox>(held: &mut Option<Block>, inbox: &mut I) -> Option<Block>
-    ensures some { IfSome result (λ b. queue held.old (I.waiting inbox.old) ≡ b ∷
-        I.waiting inbox.new) }
-    ensures none { IfNone result (queue held.old (I.waiting inbox.old) ≡ []) }
-    ensures none_left { IfNone result (I.waiting inbox.new ≡ []) }
+    ensures some { IfSome result (λ b. IsBrought held.old
+        (λ bs. I.receives inbox.old bs inbox.new) b) }
+    ensures none { IfNone result (held.old ≡ None) }
+    ensures received { IfNone result (I.receives inbox.old [] inbox.new) }
+    ensures empty { IfNone result (I.was_empty inbox.old inbox.new) }
     ensures held { held.new ≡ None }
 {
     match held.take() {

@@ -1,5 +1,6 @@
 -- What a history of a book comes to.
-use Rattle.std.proofs.Common.{◌≡◌, ℕ, ◌+◌, true, false, Ok, Err, List, [], ◌∷◌}
+use Rattle.std.proofs.Common.{◌≡◌, ℕ, ◌+◌, true, false, Ok, Err, Some, None, List, []}
+use Rattle.std.proofs.Common.{◌∷◌, Result}
 use Rattle.std.proofs.Common.{length, refl, sym, ◌∙◌, ap, subst, arith, length-append}
 use Rattle.std.specs.List.{flat_map}
 use Rattle.std.specs.FinMap as maps
@@ -19,9 +20,11 @@ use Rattle.machine.proofs.NamedContents.{serial_told}
 use Rattle.machine.proofs.Steps.{none_live}
 use Rattle.machine.proofs.RecordRuns as machine
 use Rattle.machine.proofs.RecordRuns.{gathered, committed_append, Tells}
-use Rattle.txn.specs.Books.{BookState, record_of, later_record}
-use Rattle.txn.specs.Histories.{Step, Make, Enter, Ask, Later, Commit, Back, Ended, Cut, Freeze}
-use Rattle.txn.specs.Histories.{acts_of_step, Acts, IsLegal, ComesTo}
+use Rattle.txn.specs.declared.steps.Action.{Action}
+use Rattle.txn.specs.declared.steps.BookStep.{BookStep}
+use Rattle.txn.specs.declared.steps.Target.{Target}
+use Rattle.txn.specs.Rows.{Standing, CallAnswers, LaterAnswers, record_of, later_record}
+use Rattle.txn.specs.Histories.{acts_of_action, Adds, Shifts, Row, IsLegal, ComesTo}
 use Rattle.boosted.specs.Meaning.{Meaning}
 use Rattle.catalog.specs.Making.{Making}
 
@@ -38,15 +41,15 @@ module _ {S : Type 0} (meaning : Meaning S ℕ) (making : Making S)
     IsPlayed es acts d t = machine.IsPlayed meaning making laws es acts d t
 
     -- What records lead to, of a book's steps, where the places count the transactions.
-    record IsBookPlayed (es : List (ℕ × Entry)) (acts : List Act) (b : BookState S) (d : S)
-        (c : BookState S) : Type 0 where
+    record IsBookPlayed (es : List (ℕ × Entry)) (acts : List Act) (b : Standing S) (d : S)
+        (c : Standing S) : Type 0 where
       played : IsPlayed es acts d c.state
       places : c.places ≡ b.places + length (committed_after es acts)
 
-    module _ (es : List (ℕ × Entry)) (b : BookState S) (sound : Sound b.state)
+    module _ (es : List (ℕ × Entry)) (b : Standing S) (sound : Sound b.state)
         (tells : Tells es b.state) (d : S) (settled : Settled b.state d) where
       -- a step that is recorded
-      recorded : (r : Record) (c : BookState S) → Steps meaning making b.state r c.state →
+      recorded : (r : Record) (c : Standing S) → Steps meaning making b.state r c.state →
           c.places ≡ b.places + length (committed_after es (acts_of_record r)) →
           IsBookPlayed es (acts_of_record r) b d c
       recorded r c row places = record {
@@ -56,69 +59,88 @@ module _ {S : Type 0} (meaning : Meaning S ℕ) (making : Making S)
       }
 
       -- a step that says nothing
-      unheard : (c : BookState S) → IsPlayed es [] d c.state → c.places ≡ b.places →
+      unheard : (c : Standing S) → IsPlayed es [] d c.state → c.places ≡ b.places →
           IsBookPlayed es [] b d c
       unheard c played same = record { played = played; places = omega arith }
 
-      refused : (c : BookState S) → c ≡ b → IsBookPlayed es [] b d c
+      refused : (c : Standing S) → c ≡ b → IsBookPlayed es [] b d c
       refused c is = subst (IsBookPlayed es [] b d) (sym is)
           (unheard b (machine.stays meaning making laws es b.state sound tells d settled) refl)
 
-      one : (collections : S → List Collection) (step : Step) (c : BookState S) →
-          Acts meaning making collections b step c → IsBookPlayed es (acts_of_step step) b d c
-      one collections (Make name kind (Ok place)) c acts =
-          recorded (Record.Make kind name) c acts.0 (ap (λ v. v.places) acts.1.appends.is)
-      one collections (Make name kind (Err e)) c acts = refused c acts.0
-      one collections (Enter n (Ok done)) c acts =
+      -- a call on a collection
+      called : (n p : ℕ) (call : Call) (a : Result Reply Refusal) (c : Standing S) →
+          CallAnswers meaning making (λ v. v) Adds Shifts b n p call a c →
+          IsBookPlayed es
+          (acts_of_action (Action.Call n (Target.Number p) call a)) b d c
+      called n p call (Ok reply) c acts =
+          recorded (record_of n (record { at = p; call = call; reply = reply })) c acts.0
+          (ap (λ v. v.places) acts.2.is)
+      called n p call (Err e) c acts = refused c acts.0
+
+      put_off : (n p : ℕ) (call : Call) (a : Result (Unit {0}) Refusal) (c : Standing S) →
+          LaterAnswers meaning making (λ v. v) Adds Shifts b n p call a c →
+          IsBookPlayed es
+          (acts_of_action (Action.Later n (Target.Number p) call a)) b d c
+      put_off n p call (Ok done) c acts =
+          recorded (later_record n p call) c acts.0 (ap (λ v. v.places) acts.2.is)
+      put_off n p call (Err e) c acts = refused c acts.0
+
+      one : (action : Action) (c : Standing S) → Row meaning making b action c →
+          IsBookPlayed es (acts_of_action action) b d c
+      one (Action.Make name kind (Ok place)) c acts =
+          recorded (Record.Make kind name) c acts.0 (ap (λ v. v.places) acts.1.is)
+      one (Action.Make name kind (Err e)) c acts = refused c acts.0
+      one (Action.Enter n (Ok done)) c acts =
           recorded (Record.Begin n) c acts.0 (ap (λ v. v.places) acts.2.is)
-      one collections (Enter n (Err e)) c acts = refused c acts.0
-      one collections (Ask n at call (Ok reply)) c acts =
-          recorded (record_of n (record { at = at; call = call; reply = reply })) c acts.0
-          (ap (λ v. v.places) acts.2.appends.is)
-      one collections (Ask n at call (Err e)) c acts = refused c acts.0
-      one collections (Later n at call (Ok done)) c acts =
-          recorded (later_record n at call) c acts.0 (ap (λ v. v.places) acts.2.appends.is)
-      one collections (Later n at call (Err e)) c acts = refused c acts.0
-      one collections (Commit n (Ok place)) c acts =
-          recorded (Record.Commit n) c acts.0 (ap (λ v. v.places) acts.1.appends.is)
-      one collections (Commit n (Err e)) c acts = refused c acts.0
-      one collections (Back n (Ok true)) c acts =
-          recorded (Record.Back n) c acts.0 (ap (λ v. v.places) acts.1.appends.is)
-      one collections (Back n (Ok false)) c acts =
+      one (Action.Enter n (Err e)) c acts = refused c acts.0
+      one (Action.Call n (Target.Number p) call a) c acts = called n p call a c acts
+      one (Action.Call n (Target.Named name (Some p)) call (Ok reply)) c acts =
+          called n p call (Ok reply) c acts.1
+      one (Action.Call n (Target.Named name (Some p)) call (Err e)) c acts = refused c acts.1.0
+      one (Action.Call n (Target.Named name None) call (Ok reply)) c acts = absurd acts
+      one (Action.Call n (Target.Named name None) call (Err e)) c acts = refused c acts.0
+      one (Action.Later n (Target.Number p) call a) c acts = put_off n p call a c acts
+      one (Action.Later n (Target.Named name (Some p)) call (Ok done)) c acts =
+          put_off n p call (Ok done) c acts.1
+      one (Action.Later n (Target.Named name (Some p)) call (Err e)) c acts = refused c acts.1.0
+      one (Action.Later n (Target.Named name None) call (Ok done)) c acts = absurd acts
+      one (Action.Later n (Target.Named name None) call (Err e)) c acts = refused c acts.0
+      one (Action.Commit n (Ok place)) c acts =
+          recorded (Record.Commit n) c acts.0 (ap (λ v. v.places) acts.1.is)
+      one (Action.Commit n (Err e)) c acts = refused c acts.0
+      one (Action.Back n (Ok true)) c acts =
+          recorded (Record.Back n) c acts.0 (ap (λ v. v.places) acts.1.is)
+      one (Action.Back n (Ok false)) c acts =
           unheard c (machine.one_fall meaning making laws es b.state sound tells d settled n c.state
           acts.0) (ap (λ v. v.places) acts.2)
-      one collections (Back n (Err e)) c acts = refused c acts.0
-      one collections (Ended n (Ok done)) c acts =
-          recorded (Record.Ended n) c acts.0 (ap (λ v. v.places) acts.1.appends.is)
-      one collections (Ended n (Err e)) c acts = refused c acts.0
-      one collections (Cut a) c acts =
-          let is = acts.2.1 in
+      one (Action.Back n (Err e)) c acts = refused c acts.0
+      one (Action.Ended n (Ok done)) c acts =
+          recorded (Record.Ended n) c acts.0 (ap (λ v. v.places) acts.1.is)
+      one (Action.Ended n (Err e)) c acts = refused c acts.0
+      one (Action.Cut count (Ok true)) c acts =
+          let is = acts.2 in
           unheard c (subst (IsPlayed es [] d) (sym (ap (λ v. v.state) is))
           (machine.stays meaning making laws es b.state sound tells d settled))
           (ap (λ v. v.places) is)
-      one collections (Freeze (Ok image)) c acts =
-          let is = acts.1 in
-          unheard c (subst (IsPlayed es [] d) (sym (ap (λ v. v.state) is))
-          (machine.stays meaning making laws es b.state sound tells d settled))
-          (ap (λ v. v.places) is)
-      one collections (Freeze (Err Refusal.NoMemory)) c acts = refused c acts
-      one collections (Freeze (Err e)) c acts = absurd acts
+      one (Action.Cut count (Ok false)) c acts = refused c acts.2
+      one (Action.Cut count (Err e)) c acts = refused c acts.1
+      one (Action.Freeze a) c acts = refused c acts
 
     -- A history leads the settled content on by the transactions that it commits, each run whole,
     -- one after another.
-    all_played : (collections : S → List Collection) (steps : List Step) (es : List (ℕ × Entry))
-        (b c : BookState S) (d : S) → Sound b.state → Tells es b.state → Settled b.state d →
-        IsLegal meaning making collections b steps c →
-        IsBookPlayed es (flat_map acts_of_step steps) b d c
-    all_played collections [] es b c d sound tells settled legal =
+    all_played : (steps : List BookStep) (es : List (ℕ × Entry))
+        (b c : Standing S) (d : S) → Sound b.state → Tells es b.state → Settled b.state d →
+        IsLegal meaning making b steps c →
+        IsBookPlayed es (flat_map (λ x. acts_of_action x.action) steps) b d c
+    all_played [] es b c d sound tells settled legal =
         subst (IsBookPlayed es [] b d) legal
         (unheard es b sound tells d settled b
         (machine.stays meaning making laws es b.state sound tells d settled) refl)
-    all_played collections (step ∷ steps) es b c d sound tells settled legal =
-        let acts = acts_of_step step in
-        let rest = flat_map acts_of_step steps in
-        let first = one es b sound tells d settled collections step legal.0 legal.1 in
-        let more = all_played collections steps (gathered es acts) legal.0 c first.played.content
+    all_played (step ∷ steps) es b c d sound tells settled legal =
+        let acts = acts_of_action step.action in
+        let rest = flat_map (λ x. acts_of_action x.action) steps in
+        let first = one es b sound tells d settled step.action legal.0 legal.1 in
+        let more = all_played steps (gathered es acts) legal.0 c first.played.content
         first.played.sound first.played.tells first.played.settled legal.2 in
         let count = ap length (committed_append acts rest es) ∙
         length-append (committed_after es acts) (committed_after (gathered es acts) rest) in
@@ -138,23 +160,24 @@ module _ {S : Type 0} (meaning : Meaning S ℕ) (making : Making S)
         (makes_as_told : (s t : S) (name : List ℕ) (kind : Kind) → making.makes s name kind t →
         Makes (collections s) name kind (collections t)) where
       -- What a history of a book comes to in which no transaction was live.
-      pub history : (steps : List Step) (b c : BookState S) → Sound b.state →
-          b.state.live ≡ maps.empty → IsLegal meaning making collections b steps c →
-          ComesTo (λ v. Sound v.state) collections (IsSettled meaning) b steps c
+      pub history : (steps : List BookStep) (b c : Standing S) → Sound b.state →
+          b.state.live ≡ maps.empty → IsLegal meaning making b steps c →
+          ComesTo Sound collections (IsSettled meaning) b steps c
       history steps b c sound empty legal =
           let none = none_live meaning making laws b.state sound sound.content empty
           sound.settled in
           let settled : Settled b.state b.state.now =
           subst (Settled b.state) none.1 sound.settled in
           let tells : Tells [] b.state = λ n run. sym (ap (own n) none.0) in
-          let all = all_played collections steps [] b c b.state.now sound tells settled legal in
+          let all = all_played steps [] b c b.state.now sound tells settled legal in
           let played = all.played in
           record {
-            is_kept = played.sound;
+            is_sound = played.sound;
             content = played.content;
             is_settled = played.settled;
             serial = serial_told meaning making collections answers_as_told leaves_as_told
-                makes_as_told (committed_after [] (flat_map acts_of_step steps)) b.state.now
+                makes_as_told (committed_after [] (flat_map (λ x. acts_of_action x.action) steps))
+                b.state.now
                 played.content played.runs;
             places = all.places;
           }

@@ -17,16 +17,18 @@ use Rattle.record_format.specs.Records.{IsRecord, IsNumber}
 use Rattle.record_format.proofs.CallRecords.{later_is_record}
 use Rattle.machine.specs.Machine.{State, BeginRow, CommitRow, EndedRow, FallRow, MakeRow, CallRow}
 use Rattle.machine.specs.Machine.{LaterRow, BackRow}
-use Rattle.txn.specs.Books.{BookState, opened, Appends, AppendsTo, CutAnswers, record_of}
-use Rattle.txn.specs.Books.{later_record, IsKept}
+use Rattle.txn.specs.Rows.{record_of, later_record}
+use Rattle.txn.specs.Books.{BookState, opened, next_behind, Appends, Moves, CutAnswers, IsKept}
 use Rattle.machine.specs.Machines.{IsUpheld}
 use Rattle.blocks.specs.declared.block.Block.{Block}
 use Rattle.machine.specs.Sound.{IsSound}
 use Rattle.machine.proofs.LiveNumbers.{nobody, lives_more, lives_fewer}
 use Rattle.machine.proofs.BookLaws.{BookLaws}
-use Rattle.machine.proofs.InvariantRows.{make_names, make_upheld, begin_upheld, call_names, call_upheld}
+use Rattle.machine.proofs.InvariantRows.{make_names, make_upheld, begin_upheld, call_names}
+use Rattle.machine.proofs.InvariantRows.{call_upheld}
 use Rattle.machine.proofs.InvariantRows.{later_names, later_upheld, commit_names, commit_upheld}
-use Rattle.machine.proofs.InvariantRows.{ended_upheld, fallen_lives, back_names, back_upheld, fall_upheld}
+use Rattle.machine.proofs.InvariantRows.{ended_upheld, fallen_lives, back_names, back_upheld}
+use Rattle.machine.proofs.InvariantRows.{fall_upheld}
 use Rattle.machine.proofs.InvariantRows.{resting_upheld}
 use Rattle.machine.proofs.Sizes.{append_length, len_begun, len_fallen, len_left, pushed_length}
 use Rattle.blocks.proofs.Places.{places_append, one_place}
@@ -73,14 +75,15 @@ module _ {S : Type 0} (meaning : Meaning S ℕ) (making : Making S)
     keep_appended r c appends is_record keeps =
         let longer = pushed_length b.pending r in
         let room = appends.room in
+        let next_is : c.next ≡ next_behind b.next r = ap (λ v. v.next) appends.is in
         subst Kept (sym appends.is) (record {
           records = each_append (IsRecord None) b.pending (r ∷ []) kept.records (is_record, tt);
           few_pending = omega arith;
           frozen = λ f there. let kept_in = kept.frozen f there in let low = kept_in.0 in
               let high = kept_in.1 in (low, omega arith);
           upheld = keeps.upheld;
-          below = keeps.below;
-          next = keeps.next_fits;
+          below = λ n there. subst (λ k. n < k) next_is (keeps.below n there);
+          next = subst (λ k. (1 ≤ k) × (k ≤ 2 ^ 61)) next_is keeps.next_fits;
           positions = let before = kept.positions in let paid = keeps.paid in omega arith;
           placed = let before = kept.placed in let more = places_append b.pending (r ∷ []) in
               omega arith;
@@ -88,28 +91,30 @@ module _ {S : Type 0} (meaning : Meaning S ℕ) (making : Making S)
         })
 
     -- the same where the next number stays
-    keep_next : (r : Record) (c : BookState S) → AppendsTo b r c → IsRecord None r →
+    keep_next : (r : Record) (c : BookState S) → Appends b r c → next_behind b.next r ≡ b.next →
+        IsRecord None r →
         IsUpheld meaning making short Sound c.state →
         ((n : ℕ) → Lives c.state.live n → Lives b.state.live n) →
         maps.len c.state.live + 2 * b.state.wear + length (making.names b.state.now) + 1 ≤ maps.len
         b.state.live + 2 * c.state.wear + length (making.names c.state.now) → Kept c
-    keep_next r c to is_record upheld lived paid =
-        keep_appended r c to.appends is_record (record {
+    keep_next r c to stays is_record upheld lived paid =
+        let same_next = ap (λ v. v.next) to.is ∙ stays in
+        keep_appended r c to is_record (record {
           upheld = upheld;
-          below = λ n there. let below = kept.below n (lived n there) in let same = to.next in
+          below = λ n there. let below = kept.below n (lived n there) in
               omega arith;
-          next_fits = subst (λ next. (1 ≤ next) × (next ≤ 2 ^ 61)) (sym to.next) kept.next;
+          next_fits = subst (λ next. (1 ≤ next) × (next ≤ 2 ^ 61)) (sym same_next) kept.next;
           paid = paid;
         })
 
     pub make_keeps : (name : List ℕ) (kind : Kind) (c : BookState S) →
-        MakeRow making b.state name kind c.state → AppendsTo b (Record.Make kind name) c → Kept c
+        MakeRow making b.state name kind c.state → Appends b (Record.Make kind name) c → Kept c
     make_keeps name kind c row to =
         let same_live = ap (λ (v : State S). maps.len v.live) row.is in
         let same_wear = ap (λ (v : State S). v.wear) row.is in
         let named = make_names meaning making short laws b.state kept.upheld name kind c.state
         row in
-        keep_next (Record.Make kind name) c to
+        keep_next (Record.Make kind name) c to refl
         (record { fits = row.new.good; suits = tt; sound = tt })
         (make_upheld meaning making short laws b.state kept.upheld name kind c.state row)
         (λ n there. subst (λ (v : State S). Lives v.live n) row.is there) (omega arith)
@@ -123,8 +128,9 @@ module _ {S : Type 0} (meaning : Meaning S ℕ) (making : Making S)
         ((lives_more b.state.live n false k).1 lives)
 
     pub enter_keeps : (n : ℕ) (c : BookState S) → BeginRow b.state n c.state →
-        Appends b (Record.Begin n) c → c.next ≡ max b.next (n + 1) → Kept c
-    enter_keeps n c row appends next_is =
+        Appends b (Record.Begin n) c → Kept c
+    enter_keeps n c row appends =
+        let next_is : c.next ≡ max b.next (n + 1) = ap (λ v. v.next) appends.is in
         let more = len_begun b.state.live n row.can.fresh in
         let live = ap (λ (v : State S). maps.len v.live) row.is in
         let wear = ap (λ (v : State S). v.wear) row.is in
@@ -141,24 +147,24 @@ module _ {S : Type 0} (meaning : Meaning S ℕ) (making : Making S)
         })
 
     pub call_keeps : (n : ℕ) (e : Event) (c : BookState S) → CallRow meaning b.state n e c.state →
-        AppendsTo b (record_of n e) c → IsRecord None (record_of n e) → Kept c
+        Appends b (record_of n e) c → IsRecord None (record_of n e) → Kept c
     call_keeps n e c row to is_record =
         let live = ap (λ (v : State S). maps.len v.live) row.is in
         let wear = ap (λ (v : State S). v.wear) row.is in
         let same_names = call_names meaning making short laws b.state kept.upheld n e c.state row in
-        keep_next (record_of n e) c to is_record
+        keep_next (record_of n e) c to refl is_record
         (call_upheld meaning making short laws b.state kept.upheld n e c.state row)
         (λ k there. subst (λ (v : State S). Lives v.live k) row.is there) (omega arith)
 
     pub later_keeps : (n at : ℕ) (call : Call) (c : BookState S) →
-        LaterRow meaning b.state n at call c.state → AppendsTo b (later_record n at call) c →
+        LaterRow meaning b.state n at call c.state → Appends b (later_record n at call) c →
         at < 256 → Kept c
     later_keeps n at call c row to few =
         let live = ap (λ (v : State S). maps.len v.live) row.is in
         let wear = ap (λ (v : State S). v.wear) row.is in
         let same_names = later_names meaning making short laws b.state kept.upheld n at call c.state
         row in
-        keep_next (later_record n at call) c to
+        keep_next (later_record n at call) c to refl
         (later_is_record None n at call (kept.upheld.numbers n row.can.running.live) few
         row.can.put_off.1)
         (later_upheld meaning making short laws b.state kept.upheld n at call c.state row)
@@ -168,48 +174,49 @@ module _ {S : Type 0} (meaning : Meaning S ℕ) (making : Making S)
     left_keeps : (r : Record) (n : ℕ) (c : BookState S) → Lives b.state.live n →
         c.state.live ≡ maps.remove b.state.live n → b.state.wear ≤ c.state.wear →
         length (making.names c.state.now) ≡ length (making.names b.state.now) →
-        AppendsTo b r c → IsRecord None r → IsUpheld meaning making short Sound c.state → Kept c
-    left_keeps r n c lives left wear same_names to is_record upheld =
+        Appends b r c → next_behind b.next r ≡ b.next → IsRecord None r →
+        IsUpheld meaning making short Sound c.state → Kept c
+    left_keeps r n c lives left wear same_names to stays is_record upheld =
         let fewer = len_left b.state.live n lives in
         let live = ap (λ l. maps.len l) left in
-        keep_next r c to is_record upheld
+        keep_next r c to stays is_record upheld
         (λ k there. ((lives_fewer b.state.live n k).1 (subst (λ l. Lives l k) left there)).0)
         (omega arith)
 
     pub commit_keeps : (n : ℕ) (c : BookState S) → CommitRow meaning b.state n c.state →
-        AppendsTo b (Record.Commit n) c → Kept c
+        Appends b (Record.Commit n) c → Kept c
     commit_keeps n c row to =
         let wear = ap (λ (v : State S). v.wear) row.left.is in
         left_keeps (Record.Commit n) n c row.running.live (ap (λ (v : State S). v.live) row.left.is)
         (omega arith)
-        (commit_names meaning making short laws b.state kept.upheld n c.state row) to
+        (commit_names meaning making short laws b.state kept.upheld n c.state row) to refl
         (commit_is_record n (kept.upheld.numbers n row.running.live))
         (commit_upheld meaning making short laws b.state kept.upheld n c.state row)
 
     pub ended_keeps : (n : ℕ) (c : BookState S) → EndedRow b.state n c.state →
-        AppendsTo b (Record.Ended n) c → Kept c
+        Appends b (Record.Ended n) c → Kept c
     ended_keeps n c row to =
         let is = row.left.is in
         let wear = ap (λ (v : State S). v.wear) is in
         left_keeps (Record.Ended n) n c row.live (ap (λ (v : State S). v.live) is) (omega arith)
-        (ap (λ (v : State S). length (making.names v.now)) is) to
+        (ap (λ (v : State S). length (making.names v.now)) is) to refl
         (ended_is_record n (kept.upheld.numbers n row.live))
         (ended_upheld meaning making short laws b.state kept.upheld n c.state row)
 
     pub back_keeps : (n : ℕ) (c : BookState S) → BackRow meaning b.state n c.state →
-        AppendsTo b (Record.Back n) c → Kept c
+        Appends b (Record.Back n) c → Kept c
     back_keeps n c row to =
         let same_live = len_fallen b.state.live n row.live in
         let live = ap (λ (v : State S). maps.len v.live) row.is in
         let wear = ap (λ (v : State S). v.wear) row.is in
         let same_names = back_names meaning making short laws b.state kept.upheld n c.state row in
-        keep_next (Record.Back n) c to (back_is_record n (kept.upheld.numbers n row.live))
+        keep_next (Record.Back n) c to refl (back_is_record n (kept.upheld.numbers n row.live))
         (back_upheld meaning making short laws b.state kept.upheld n c.state row)
         (λ k there. fallen_lives meaning making short laws b.state kept.upheld n k row.live
         (subst (λ (v : State S). Lives v.live k) row.is there)) (omega arith)
 
     pub fall_keeps : (n : ℕ) (c : BookState S) → FallRow b.state n c.state →
-        c ≡ record b { state = c.state } → Kept c
+        Moves b c → Kept c
     fall_keeps n c row is =
         let same_live = len_fallen b.state.live n row.live in
         let live = ap (λ (v : State S). maps.len v.live) row.is in
@@ -274,9 +281,9 @@ module _ {S : Type 0} (meaning : Meaning S ℕ) (making : Making S)
         ∙ ap (λ v. record b { pending = pending; freezes = left; end = v; place = c.place }) end_is
         ∙ ap (λ v. record b { pending = pending; freezes = left; end = end; place = v }) place_is
 
-    pub cut_keeps : (waiting : List Block) (full : Type 0) (result : Result Bool Refusal)
-        (waits : List Block) (c : BookState S) → CutAnswers b waiting full result waits c → Kept c
-    cut_keeps waiting full (Ok true) waits c cut =
+    pub cut_keeps : (sends : List Block → Type 0) (full : Type 0) (result : Result Bool Refusal)
+        (c : BookState S) → CutAnswers b sends full result c → Kept c
+    cut_keeps sends full (Ok true) c cut =
         let hands = cut.0.2 in
         subst Kept (sym (with_pending c c.pending c.freezes (b.end + length hands.first)
         (b.place + places hands.first) cut.1 refl refl (cut.0.3 ∙ hands.ends)
@@ -284,13 +291,13 @@ module _ {S : Type 0} (meaning : Meaning S ℕ) (making : Making S)
         (handed_keeps hands.first c.pending c.freezes hands.are
         (λ f there. let left = (cut.0.5 f).0 there in let behind = left.1 in
         let end = hands.ends in (left.0, omega arith)))
-    cut_keeps waiting full (Ok false) waits c cut =
+    cut_keeps sends full (Ok false) c cut =
         subst Kept (sym (with_pending c b.pending b.freezes b.end b.place cut.1 cut.0.2 cut.0.5
         cut.0.3 cut.0.4)) kept
-    cut_keeps waiting full (Err Refusal.NotNow) waits c cut =
+    cut_keeps sends full (Err Refusal.NotNow) c cut =
         subst Kept (sym (with_pending c b.pending b.freezes b.end b.place cut.1 cut.0.2 cut.0.5
         cut.0.3 cut.0.4)) kept
-    cut_keeps waiting full (Err other) waits c cut = absurd cut.0
+    cut_keeps sends full (Err other) c cut = absurd cut.0
 
     -- A freeze leaves all but that one may stand behind the records that wait.
     pub freeze_keeps : (c : BookState S) → c ≡ record b { freezes = c.freezes } →

@@ -4,24 +4,22 @@ use Rattle.std.proofs.Common.{◌∙◌, ap, arith, inr}
 use Rattle.std.specs.Prelude.{Result, Ok, Err, OnErr, IfErr, IsOkUnless}
 use Rattle.calls.specs.declared.call.Call.{Call}
 use Rattle.boosted.specs.Meaning.{Meaning, CanAsk}
-use Rattle.calls.specs.Contents.{Collection}
 use Rattle.calls.specs.declared.refusal.Refusal.{Refusal}
 use Rattle.catalog.specs.Making as naming
+use Rattle.catalog.specs.Making.{Making}
 use Rattle.record_format.specs.declared.record.Record.{Record}
 use Rattle.record_format.specs.Acts as acts
 use Rattle.record_format.specs.Records.{number}
 use Rattle.record_format.proofs.RecordLengths.{length-number}
 use Rattle.machine.specs.Machine.{State}
-use Rattle.txn.specs.Books.{BookState, opened, Appends, MakeRefused, IsOpen, IsUnhindered}
-use Rattle.txn.specs.Books.{CallAnswers}
+use Rattle.txn.specs.declared.steps.Action.{Action}
+use Rattle.txn.specs.declared.steps.Target.{Target}
+use Rattle.txn.specs.Rows.{Standing, MakeRefused, IsOpen, IsUnhindered}
+use Rattle.txn.specs.Books.{BookState, opened, standing, next_behind, Appends, Takes}
 use Rattle.blocks.specs.Waits.{Waiting, waiting, freezes}
 use Rattle.machine.specs.Machines.{resting}
 use Rattle.txn.specs.Views.{book_of}
 use Rattle.blocks.specs.declared.draft.Handed.{Handed}
-use Rattle.blocks.specs.declared.block.Image.{Image}
-use Rattle.txn.specs.Freezing.{IsImageOf}
-use Rattle.blocks.specs.Packings.{joined}
-use Rattle.images.specs.Images.{IsPackedImage}
 
 -- how long the record of a number is
 pub mark_length : (n : ℕ) → 9 ≡ suc (length (number 8 n))
@@ -35,10 +33,12 @@ module _ {S : Type 0} (s : State S) (w : Waiting) (places next : ℕ) where
       reserved.handed ≡ w.handed →
       waiting w' ≡ waiting reserved ++ r ∷ [] → freezes w' ≡ freezes reserved →
       w'.handed ≡ reserved.handed → places' ≡ places + acts.places (r ∷ []) →
+      next' ≡ next_behind next r →
       Appends (book_of s w places next) r (book_of t w' places' next')
-  recorded r t reserved w' places' next' room waits marks handed written marked also counted =
-      let with : List Record → List ℕ → Handed → ℕ → BookState S =
-      λ pending marks h n. record {
+  recorded r t reserved w' places' next' room waits marks handed written marked also counted
+      above =
+      let with : List Record → List ℕ → Handed → ℕ → ℕ → BookState S =
+      λ pending marks h n k. record {
         state =
             t;
         pending = pending;
@@ -46,16 +46,18 @@ module _ {S : Type 0} (s : State S) (w : Waiting) (places next : ℕ) where
         end = h.end;
         place = h.place;
         places = n;
-        next = next';
+        next = k;
       } in
       let records : waiting w' ≡ waiting w ++ r ∷ [] = written ∙ ap (λ l. l ++ r ∷ []) waits in
       record {
         room = room;
         is =
-            ap (λ v. with v (freezes w') w'.handed places') records
-            ∙ ap (λ v. with (waiting w ++ r ∷ []) v w'.handed places') (marked ∙ marks)
-            ∙ ap (λ v. with (waiting w ++ r ∷ []) (freezes w) v places') (also ∙ handed)
-            ∙ ap (λ v. with (waiting w ++ r ∷ []) (freezes w) w.handed v) counted;
+            ap (λ v. with v (freezes w') w'.handed places' next') records
+            ∙ ap (λ v. with (waiting w ++ r ∷ []) v w'.handed places' next') (marked ∙ marks)
+            ∙ ap (λ v. with (waiting w ++ r ∷ []) (freezes w) v places' next') (also ∙ handed)
+            ∙ ap (λ v. with (waiting w ++ r ∷ []) (freezes w) w.handed v next') counted
+            ∙ ap (λ v. with (waiting w ++ r ∷ []) (freezes w) w.handed
+            (places + acts.places (r ∷ [])) v) above;
       }
 
 -- a book with no live transaction and nothing pending
@@ -80,8 +82,8 @@ opened_is {S} now s w wear next state records marks handed =
     ∙ ap (λ v. with (resting now wear) [] [] v) handed
 
 -- What refuses a making in the collections refuses it in the book.
-pub make_refused : {S : Type 0} (names : List (List ℕ)) (b : BookState S) (name : List ℕ)
-    (e : Refusal) → length b.pending < 16384 → naming.MakeRefused names name e →
+pub make_refused : {S : Type 0} (names : List (List ℕ)) (b : Standing S) (name : List ℕ)
+    (e : Refusal) → b.pending < 16384 → naming.MakeRefused names name e →
     MakeRefused names b name e
 make_refused names b name Refusal.Backlog room is = absurd is
 make_refused names b name Refusal.NoMemory room is =
@@ -95,12 +97,16 @@ make_refused names b name Refusal.TooLong room is = (λ full. absurd (omega (ari
 make_refused names b name e room is = (λ full. absurd (omega (arith, room, full)), is)
 
 -- What is asked behind the look-up is refused only for want of memory, and changes nothing then.
-pub ask_refused : {S : Type 0} (meaning : Meaning S ℕ) (b c : BookState S) (n at : ℕ) (call : Call)
-    (result : Result (Unit {0}) Refusal) → IsOpen (CanAsk meaning b.state.now at call) b n →
-    IsUnhindered meaning b n at call → OnErr result (c ≡ b) → IsOkUnless result Refusal.NoMemory →
-    IfErr result (λ e. CallAnswers meaning b n at call (Err e) c)
-ask_refused meaning b c n at call (Ok done) can free same why = tt
-ask_refused meaning b c n at call (Err e) can free same why =
+pub ask_refused : {S : Type 0} (meaning : Meaning S ℕ) (making : Making S)
+    (b c : BookState S) (n at : ℕ) (call : Call)
+    (result : Result (Unit {0}) Refusal) →
+    IsOpen (CanAsk meaning b.state.now at call) (standing b) n →
+    IsUnhindered meaning (standing b) n at call → OnErr result (c ≡ b) →
+    IsOkUnless result Refusal.NoMemory →
+    IfErr result
+    (λ e. Takes meaning making b (Action.Call n (Target.Number at) call (Err e)) c)
+ask_refused meaning making b c n at call (Ok done) can free same why = tt
+ask_refused meaning making b c n at call (Err e) can free same why =
     rw (why) (same, inr (inr (can, inr free)))
 
 -- Nothing of the book changes where only room was made.
@@ -140,21 +146,3 @@ only_sealed {S} s w w' places next waits handed =
       next = next;
     } in
     ap (λ v. with v w'.handed) waits ∙ ap (λ v. with (waiting w) v) handed
-
--- The image that was packed is one of the book.
-pub packed_image : {S : Type 0} (collections : S → List Collection) (b : BookState S)
-    (image : Image) → IsPackedImage collections b.next b.state image.blocks.items →
-    image.end ≡ b.end + length b.pending → image.place ≡ b.places → IsImageOf collections b image
-packed_image collections b image packed end place = record {
-  numbers = packed.tells.numbers;
-  are_live = packed.tells.are_live;
-  records = joined packed.groups;
-  is_image = packed.tells.is_image;
-  good = packed.good;
-  groups = packed.groups;
-  are = refl;
-  packed = packed.packed;
-  blocks = packed.whole;
-  end = end;
-  place = place;
-}

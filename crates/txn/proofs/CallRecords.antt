@@ -6,7 +6,7 @@ use Rattle.calls.specs.Contents.{Collection, AnswersAt}
 use Rattle.calls.specs.Rules.{Askable}
 use Rattle.record_format.specs.Records.{IsNumber, IsRecord, FitsCall, FitsReply}
 use Rattle.record_format.proofs.CallRecords.{call_is_record}
-use Rattle.txn.specs.Books.{record_of}
+use Rattle.txn.specs.Rows.{record_of}
 
 -- The call has a record.
 pub is_record : (n at : ℕ) (s : List Collection) (c : Call) (r : Reply) → IsNumber n → at < 256 →

@@ -2,3 +2,5 @@ pub mod BookInvariant
 pub mod CallRecords
 pub mod BookHistory
 pub mod BookLemmas
+pub mod Takings
+pub mod Handings

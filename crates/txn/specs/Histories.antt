@@ -1,75 +1,114 @@
 -- Histories of a book: its steps with their answers, and what they commit.
-use Rattle.std.specs.Prelude.{◌≡◌, ℕ, ◌+◌, List, [], ◌∷◌, length, Bool, Result, Ok}
+use Rattle.std.specs.Prelude.{◌≡◌, ℕ, ◌+◌, ◌<◌, ◌≤◌, List, [], ◌∷◌, length, map, Bool, true, false}
+use Rattle.std.specs.Prelude.{Option, Some, None, Result, Ok, Err}
 use Rattle.std.specs.List.{flat_map}
-use Rattle.calls.specs.declared.kind.Kind.{Kind}
-use Rattle.calls.specs.declared.call.Call as calls
-use Rattle.calls.specs.declared.reply.Reply.{Reply}
 use Rattle.calls.specs.declared.refusal.Refusal.{Refusal}
 use Rattle.calls.specs.Contents.{Collection}
 use Rattle.calls.specs.Transactions.{Leads, Asked, PutOff, Transaction, Act, Begins, Asks, Commits}
 use Rattle.calls.specs.Transactions.{Creates, committed, Serial}
+use Rattle.record_format.specs.declared.record.Record.{Record}
+use Rattle.record_format.specs.Acts.{places}
 use Rattle.machine.specs.Machine.{State}
-use Rattle.txn.specs.Books.{BookState, MakeAnswers, EnterAnswers, CallAnswers, LaterAnswers}
-use Rattle.txn.specs.Books.{CommitAnswers, BackAnswers, EndedAnswers, CutAnswers}
-use Rattle.txn.specs.Freezing.{FreezeAnswers}
-use Rattle.blocks.specs.declared.block.Block.{Block}
-use Rattle.blocks.specs.declared.block.Image.{Image}
 use Rattle.boosted.specs.Meaning.{Meaning}
 use Rattle.catalog.specs.Making.{Making}
+use Rattle.txn.specs.declared.steps.Action.{Action}
+use Rattle.txn.specs.declared.steps.BookStep.{BookStep}
+use Rattle.txn.specs.declared.steps.Target.{Target}
+use Rattle.txn.specs.Rows.{Standing, Answers, record_of, later_record}
 
--- A step of a book, with its answer.
-pub data Step : Type 0 where
-  Make : (name : List ℕ) → Kind → Result ℕ Refusal → Step
-  Enter : (number : ℕ) → Result (Unit {0}) Refusal → Step
-  Ask : (number at : ℕ) → calls.Call → Result Reply Refusal → Step
-  Later : (number at : ℕ) → calls.Call → Result (Unit {0}) Refusal → Step
-  Commit : (number : ℕ) → Result ℕ Refusal → Step
-  Back : (number : ℕ) → Result Bool Refusal → Step
-  Ended : (number : ℕ) → Result (Unit {0}) Refusal → Step
-  Cut : Result Bool Refusal → Step
-  Freeze : Result Image Refusal → Step
+-- ---- what steps say
+
+-- what is said of the collection of a step, where it is known
+abbrev pub of_target : {T : Type 0} → Target → (ℕ → List T) → List T
+of_target (Target.Number at) f = f at
+of_target (Target.Named name (Some at)) f = f at
+of_target (Target.Named name None) f = []
 
 -- What a step says of transactions. A refused one says nothing.
-abbrev pub acts_of_step : Step → List Act
-acts_of_step (Make name kind (Ok place)) = Creates name kind ∷ []
-acts_of_step (Enter n (Ok done)) = Begins n ∷ []
-acts_of_step (Ask n at call (Ok reply)) =
-    Asks n (Asked (record { at = at; call = call; reply = reply })) ∷ []
-acts_of_step (Later n at call (Ok done)) = Asks n (PutOff at call) ∷ []
-acts_of_step (Commit n (Ok place)) = Commits n ∷ []
-acts_of_step step = []
+abbrev pub acts_of_action : Action → List Act
+acts_of_action (Action.Make name kind (Ok place)) = Creates name kind ∷ []
+acts_of_action (Action.Enter n (Ok done)) = Begins n ∷ []
+acts_of_action (Action.Call n target call (Ok reply)) = of_target target
+    (λ at. Asks n (Asked (record { at = at; call = call; reply = reply })) ∷ [])
+acts_of_action (Action.Later n target call (Ok done)) =
+    of_target target (λ at. Asks n (PutOff at call) ∷ [])
+acts_of_action (Action.Commit n (Ok place)) = Commits n ∷ []
+acts_of_action action = []
 
 -- The transactions that the steps commit, in the order of their commits, each with the calls and
 -- replies that its steps show.
-abbrev pub committed_by : List Step → List Transaction
-committed_by steps = committed (flat_map acts_of_step steps)
+abbrev pub committed_by : List BookStep → List Transaction
+committed_by steps = committed (flat_map (λ x. acts_of_action x.action) steps)
 
-module _ {S : Type 0} (meaning : Meaning S ℕ) (making : Making S)
-    (collections : S → List Collection) where
-  -- The step leads from one book to another: one row of the histories of an object of one thread.
-  abbrev pub Acts : BookState S → Step → BookState S → Type 0
-  Acts b (Make name kind a) c = MakeAnswers making b name kind a c
-  Acts b (Enter n a) c = EnterAnswers b n a c
-  Acts b (Ask n at call a) c = CallAnswers meaning b n at call a c
-  Acts b (Later n at call a) c = LaterAnswers meaning b n at call a c
-  Acts b (Commit n a) c = CommitAnswers meaning b n a c
-  Acts b (Back n a) c = BackAnswers meaning b n a c
-  Acts b (Ended n a) c = EndedAnswers b n a c
-  Acts b (Cut a) c = (waiting waits : List Block) × CutAnswers b waiting (Unit {0}) a waits c
-  Acts b (Freeze a) c = FreezeAnswers collections b a c
+-- What a step adds to the journal. A refused one adds nothing.
+abbrev pub records_of_action : Action → List Record
+records_of_action (Action.Make name kind (Ok place)) = Record.Make kind name ∷ []
+records_of_action (Action.Enter n (Ok done)) = Record.Begin n ∷ []
+records_of_action (Action.Call n target call (Ok reply)) = of_target target
+    (λ at. record_of n (record { at = at; call = call; reply = reply }) ∷ [])
+records_of_action (Action.Later n target call (Ok done)) =
+    of_target target (λ at. later_record n at call ∷ [])
+records_of_action (Action.Commit n (Ok place)) = Record.Commit n ∷ []
+records_of_action (Action.Back n (Ok true)) = Record.Back n ∷ []
+records_of_action (Action.Ended n (Ok done)) = Record.Ended n ∷ []
+records_of_action action = []
 
-  -- The history leads from one book to another, step by step.
-  abbrev pub IsLegal : BookState S → List Step → BookState S → Type 0
-  IsLegal b steps c = Leads Acts steps b c
+-- The records of the steps, in their order.
+abbrev pub records_by : List BookStep → List Record
+records_by steps = flat_map (λ x. records_of_action x.action) steps
 
--- What a history comes to: a kept book, and a settled content to which the committed transactions
+-- What is done, without the number of records that a cut handed over.
+abbrev pub without_count : Action → Action
+without_count (Action.Cut count a) = Action.Cut 0 a
+without_count action = action
+
+-- A step without the number of records that it handed over.
+abbrev pub uncounted : BookStep → BookStep
+uncounted x = record x { action = without_count x.action }
+
+-- ---- legal histories
+
+-- One record more waits.
+pub record Adds {S : Type 0} (s : Standing S) (r : Record) (t : Standing S) : Type 0 where
+  pub room : s.pending < 16384
+  pub is : t ≡ record s {
+    state =
+        t.state;
+    pending = s.pending + 1;
+    places = s.places + places (r ∷ []);
+  }
+
+-- Nothing but the state changes.
+abbrev pub Shifts : {S : Type 0} → Standing S → Standing S → Type 0
+Shifts s t = t ≡ record s { state = t.state }
+
+-- So many records are handed over, at least one; or none, where none waits; or it is refused.
+abbrev pub CutRow : {S : Type 0} → Standing S → ℕ → Result Bool Refusal → Standing S → Type 0
+CutRow s count (Ok true) t =
+    (1 ≤ count) × (s.pending ≡ count + t.pending) × (t ≡ record s { pending = t.pending })
+CutRow s count (Ok false) t = (count ≡ 0) × (s.pending ≡ 0) × (t ≡ s)
+CutRow s count (Err e) t = (count ≡ 0) × (t ≡ s)
+
+module _ {S : Type 0} (meaning : Meaning S ℕ) (making : Making S) where
+  -- The step leads from one standing to another: one row of the histories of an object of one
+  -- thread.
+  abbrev pub Row : Standing S → Action → Standing S → Type 0
+  Row s (Action.Cut count a) t = CutRow s count a t
+  Row s (Action.Freeze a) t = t ≡ s
+  Row s action t = Answers meaning making (λ v. v) Adds Shifts s action t
+
+  -- The history leads from one standing to another, step by step.
+  abbrev pub IsLegal : Standing S → List BookStep → Standing S → Type 0
+  IsLegal s steps t = Leads (λ u x v. Row u x.action v) steps s t
+
+-- What a history comes to: a sound state, and a settled content to which the committed transactions
 -- lead, each run whole, one after another, with the replies that were got. The places count them.
--- kept: what holds of every book. collections: the content as named collections. settled: the
+-- sound: what holds of every state. collections: the content as named collections. settled: the
 -- contents without the live transactions.
-pub record ComesTo {S : Type 0} (kept : BookState S → Type 0) (collections : S → List Collection)
-    (settled : State S → S → Type 0) (b : BookState S) (steps : List Step) (c : BookState S) : Type
-    0 where
-  pub is_kept : kept c
+pub record ComesTo {S : Type 0} (sound : State S → Type 0) (collections : S → List Collection)
+    (settled : State S → S → Type 0) (b : Standing S) (steps : List BookStep) (c : Standing S) :
+    Type 0 where
+  pub is_sound : sound c.state
   pub content : S
   pub is_settled : settled c.state content
   pub serial : Serial (committed_by steps) (collections b.state.now) (collections content)

@@ -11,10 +11,11 @@ ghost use Rattle.boosted.specs.Meaning.{CanAsk, CanDefer};
 ghost use Rattle.catalog.specs.Making.{IsPlaceOf, FindRefused};
 ghost use Rattle.record_format.specs.Short.{AreShort, IsShortReply};
 ghost use Rattle.machine.specs.Machine.{IsRunning, IsSettled, CanCall};
-ghost use Rattle.txn.specs.Books.{opened, later_record, IsKept, IsOpen, IsFull, RunRefused};
-ghost use Rattle.txn.specs.Books.{OpenRefused, CanEnter, EnterRefused, CallRefused, LaterRefused};
-ghost use Rattle.txn.specs.Books.{MakeAnswers, EnterAnswers, CallAnswers, LaterAnswers};
-ghost use Rattle.txn.specs.Books.{CommitAnswers, BackAnswers, EndedAnswers, CutAnswers};
+ghost use Rattle.txn.specs.declared.steps.Action.{Action};
+ghost use Rattle.txn.specs.declared.steps.Target.{Target};
+ghost use Rattle.txn.specs.Rows.{later_record, IsOpen, IsFull, RunRefused, OpenRefused, CanEnter};
+ghost use Rattle.txn.specs.Rows.{EnterRefused, CallRefused, LaterRefused};
+ghost use Rattle.txn.specs.Books.{opened, standing, IsKept, Takes, CutAnswers};
 ghost use Rattle.txn.specs.Freezing.{FreezeAnswers};
 ghost use Rattle.machine.specs.Transactions.{RunsWhole};
 ghost use Rattle.machine.specs.Sound.{IsSound};
@@ -133,7 +134,8 @@ impl<B: Parts + Coded> Book<B> {
     /// Backlog at 16,384 pending records, then the refusals of `Parts::make`: BadName, TooLong,
     /// NameTaken, TooManyCollections, NoMemory. All but the last come before any memory is taken.
     pub fn make(&mut self, name: &str, kind: Kind) -> Result<u64, Refusal>
-        ensures answer { MakeAnswers B.making self.old name.now kind result self.new }
+        ensures answer { Takes B.meaning B.making self.old (Action.Make name.now kind result)
+            self.new }
         ensures settled { OnOk result ((c : B) → IsSettled B.meaning self.old.state c →
             (d : B) × B.making.makes c name.now kind d × IsSettled B.meaning self.new.state d) }
     {
@@ -152,7 +154,7 @@ impl<B: Parts + Coded> Book<B> {
     /// BadArg for 0 and from 2^61 on, AlreadyLive, TooManyLive where 64 are live, Worn where the
     /// wear is 2^61 or more, Backlog, NoMemory.
     pub fn enter(&mut self, number: u64) -> Result<(), Refusal>
-        ensures answer { EnterAnswers self.old number result self.new }
+        ensures answer { Takes B.meaning B.making self.old (Action.Enter number result) self.new }
         ensures settled { (c : B) → IsSettled B.meaning self.old.state c →
             IsSettled B.meaning self.new.state c }
     {
@@ -172,7 +174,8 @@ impl<B: Parts + Coded> Book<B> {
     /// a value, AlreadyGoing where the transaction left to its commit already what this call would
     /// leave, Busy with the least other transaction that holds a need in the way, NoMemory.
     pub fn call(&mut self, number: u64, col: u8, call: &Call) -> Result<Reply, Refusal>
-        ensures answer { CallAnswers B.meaning self.old number col call.now result self.new }
+        ensures answer { Takes B.meaning B.making self.old
+            (Action.Call number (Target.Number col) call.now result) self.new }
         ensures settled { (c : B) → IsSettled B.meaning self.old.state c →
             IsSettled B.meaning self.new.state c }
     {
@@ -194,7 +197,8 @@ impl<B: Parts + Coded> Book<B> {
     /// Worn, TooManyCalls at 1,024 calls and laters, Backlog, Busy with the least other transaction
     /// that holds a need in the way, NoMemory.
     pub fn later(&mut self, number: u64, col: u8, call: &Call) -> Result<(), Refusal>
-        ensures answer { LaterAnswers B.meaning self.old number col call.now result self.new }
+        ensures answer { Takes B.meaning B.making self.old
+            (Action.Later number (Target.Number col) call.now result) self.new }
         ensures settled { (c : B) → IsSettled B.meaning self.old.state c →
             IsSettled B.meaning self.new.state c }
     {
@@ -215,7 +219,7 @@ impl<B: Parts + Coded> Book<B> {
     ///
     /// NoSuchTxn, Falling, Backlog, NoMemory.
     pub fn commit(&mut self, number: u64) -> Result<u64, Refusal>
-        ensures answer { CommitAnswers B.meaning self.old number result self.new }
+        ensures answer { Takes B.meaning B.making self.old (Action.Commit number result) self.new }
         ensures settled { OnOk result ((c : B) → IsSettled B.meaning self.old.state c →
             (d : B) × RunsWhole B.meaning B.making c (Whole (own number self.old.state.entries)) d ×
             IsSettled B.meaning self.new.state d) }
@@ -234,7 +238,7 @@ impl<B: Parts + Coded> Book<B> {
     ///
     /// NoSuchTxn, Backlog, NoMemory.
     pub fn back(&mut self, number: u64) -> Result<bool, Refusal>
-        ensures answer { BackAnswers B.meaning self.old number result self.new }
+        ensures answer { Takes B.meaning B.making self.old (Action.Back number result) self.new }
         ensures settled { (c : B) → IsSettled B.meaning self.old.state c →
             IsSettled B.meaning self.new.state c }
     {
@@ -255,7 +259,7 @@ impl<B: Parts + Coded> Book<B> {
     ///
     /// NoSuchTxn, Unfinished where a call is not undone, Backlog, NoMemory.
     pub fn ended(&mut self, number: u64) -> Result<(), Refusal>
-        ensures answer { EndedAnswers self.old number result self.new }
+        ensures answer { Takes B.meaning B.making self.old (Action.Ended number result) self.new }
         ensures settled { (c : B) → IsSettled B.meaning self.old.state c →
             IsSettled B.meaning self.new.state c }
     {
@@ -274,10 +278,10 @@ impl<B: Parts + Coded> Book<B> {
     /// and as come before the next freeze, and answers true; false where nothing is pending. No
     /// record is copied, and no memory is taken.
     ///
-    /// NotNow, only where a record waits and the outbox is full.
+    /// NotNow, only where a record waits and the outbox was full at a moment of the call.
     pub fn cut<O: Outbox>(&mut self, out: &mut O) -> Result<bool, Refusal>
-        ensures answer { CutAnswers self.old (O.waiting out.old) (O.is_full out.old) result
-            (O.waiting out.new) self.new }
+        ensures answer { CutAnswers self.old (λ bs. O.sends out.old bs out.new)
+            (O.was_full out.old out.new) result self.new }
         ensures settled { (c : B) → IsSettled B.meaning self.old.state c →
             IsSettled B.meaning self.new.state c }
     {
@@ -310,12 +314,13 @@ impl<B: Parts + Coded> Book<B> {
 
     // Makes the call that gets the reply.
     fn ask(&mut self, number: u64, col: u8, call: &Call, reply: &Reply) -> Result<(), Refusal>
-        requires open { IsOpen (CanAsk B.meaning self.old.state.now col call.now) self.old number }
+        requires open { IsOpen (CanAsk B.meaning self.old.state.now col call.now)
+            (standing self.old) number }
         requires answered { B.meaning.answers self.old.state.now col call.now reply.now }
-        ensures ok { OnOk result (CallAnswers B.meaning self.old number col call.now (Ok reply.now)
-            self.new) }
-        ensures err { IfErr result (λ e. CallAnswers B.meaning self.old number col call.now (Err e)
-            self.new) }
+        ensures ok { OnOk result (Takes B.meaning B.making self.old
+            (Action.Call number (Target.Number col) call.now (Ok reply.now)) self.new) }
+        ensures err { IfErr result (λ e. Takes B.meaning B.making self.old
+            (Action.Call number (Target.Number col) call.now (Err e)) self.new) }
         ensures settled { (c : B) → IsSettled B.meaning self.old.state c →
             IsSettled B.meaning self.new.state c }
     {
@@ -329,12 +334,13 @@ impl<B: Parts + Coded> Book<B> {
 
     // Makes the call under its record, from its parts.
     fn note_call(&mut self, number: u64, col: u8, call: &Call, reply: &Reply) -> Result<(), Refusal>
-        requires open { IsOpen (CanAsk B.meaning self.old.state.now col call.now) self.old number }
+        requires open { IsOpen (CanAsk B.meaning self.old.state.now col call.now)
+            (standing self.old) number }
         requires can { CanCall B.meaning self.old.state number
             (record { at = col; call = call.now; reply = reply.now }) }
         requires short { IsShortReply reply.now }
-        ensures ok { OnOk result (CallAnswers B.meaning self.old number col call.now (Ok reply.now)
-            self.new) }
+        ensures ok { OnOk result (Takes B.meaning B.making self.old
+            (Action.Call number (Target.Number col) call.now (Ok reply.now)) self.new) }
         ensures same { OnErr result (self.new ≡ self.old) }
         ensures refusal { IsOkUnless result Refusal.NoMemory }
         ensures settled { (c : B) → IsSettled B.meaning self.old.state c →
@@ -351,11 +357,12 @@ impl<B: Parts + Coded> Book<B> {
 
     // Puts a call off under its record.
     fn put_off(&mut self, number: u64, put: Later, entry: Record) -> Result<(), Refusal>
-        requires open { IsOpen (CanDefer B.meaning self.old.state.now put.at put.call) self.old
-            number }
+        requires open { IsOpen (CanDefer B.meaning self.old.state.now put.at put.call)
+            (standing self.old) number }
         requires clear { IsClear self.old.state.holds number put.at (need_of put.call Reply.Done) }
         requires entry { entry ≡ later_record number put.at put.call }
-        ensures answer { LaterAnswers B.meaning self.old number put.at put.call result self.new }
+        ensures answer { Takes B.meaning B.making self.old
+            (Action.Later number (Target.Number put.at) put.call result) self.new }
         ensures settled { (c : B) → IsSettled B.meaning self.old.state c →
             IsSettled B.meaning self.new.state c }
     {
@@ -376,7 +383,7 @@ impl<B: Parts + Coded> Book<B> {
     // Whether a record more may wait.
     fn check_backlog(&self) -> Result<(), Refusal>
         ensures ok { OnOk result (length self.now.pending < 16384) }
-        ensures err { IfErr result (λ e. (e ≡ Refusal.Backlog) × IsFull self.now) }
+        ensures err { IfErr result (λ e. (e ≡ Refusal.Backlog) × IsFull (standing self.now)) }
     {
         if self.pending.len() >= MAX_PENDING {
             return Err(Refusal::Backlog);
@@ -400,7 +407,7 @@ impl<B: Parts + Coded> Book<B> {
     // Whether the transaction is live, and nothing of it was undone.
     fn check_running(&self, number: u64) -> Result<(), Refusal>
         ensures ok { OnOk result (IsRunning self.now.state number) }
-        ensures err { IfErr result (RunRefused self.now number) }
+        ensures err { IfErr result (RunRefused (standing self.now) number) }
     {
         self.check_live(number)?;
         if self.machine.live().is_falling(number) {
@@ -411,8 +418,8 @@ impl<B: Parts + Coded> Book<B> {
 
     // Whether the number may begin.
     fn check_enter(&self, number: u64) -> Result<(), Refusal>
-        ensures ok { OnOk result (CanEnter self.now number) }
-        ensures err { IfErr result (EnterRefused self.now number) }
+        ensures ok { OnOk result (CanEnter (standing self.now) number) }
+        ensures err { IfErr result (EnterRefused (standing self.now) number) }
     {
         if number == 0 || number >= NUMBER_END {
             return Err(Refusal::BadArg);
@@ -431,9 +438,10 @@ impl<B: Parts + Coded> Book<B> {
 
     // Whether the transaction can ask for the call, and has room for it.
     fn check_call(&self, number: u64, col: u8, call: &Call) -> Result<(), Refusal>
-        ensures ok { OnOk result (IsOpen (CanAsk B.meaning self.now.state.now col call.now) self.now
-            number) }
-        ensures err { IfErr result (CallRefused B.meaning self.now number col call.now) }
+        ensures ok { OnOk result (IsOpen (CanAsk B.meaning self.now.state.now col call.now)
+            (standing self.now) number) }
+        ensures err { IfErr result (CallRefused B.meaning (standing self.now) number col
+            call.now) }
     {
         self.check_running(number)?;
         self.machine.parts().askable(col, call)?;
@@ -443,8 +451,9 @@ impl<B: Parts + Coded> Book<B> {
     // Whether the transaction can put the call off, and has room for it.
     fn check_later(&self, number: u64, col: u8, call: &Call) -> Result<(), Refusal>
         ensures ok { OnOk result (IsOpen (CanDefer B.meaning self.now.state.now col call.now)
-            self.now number) }
-        ensures err { IfErr result (LaterRefused B.meaning self.now number col call.now) }
+            (standing self.now) number) }
+        ensures err { IfErr result (LaterRefused B.meaning (standing self.now) number col
+            call.now) }
     {
         self.check_running(number)?;
         self.machine.parts().deferrable(col, call)?;
@@ -454,8 +463,8 @@ impl<B: Parts + Coded> Book<B> {
     // Whether the running transaction has room for what it can ask.
     fn check_room(&self, number: u64) -> Result<(), Refusal>
         requires { IsRunning self.now.state number }
-        ensures ok { OnOk result (IsOpen (Unit {0}) self.now number) }
-        ensures err { IfErr result (OpenRefused (Unit {0}) self.now number) }
+        ensures ok { OnOk result (IsOpen (Unit {0}) (standing self.now) number) }
+        ensures err { IfErr result (OpenRefused (Unit {0}) (standing self.now) number) }
     {
         if self.machine.wear() >= NUMBER_END {
             return Err(Refusal::Worn);

@@ -2,8 +2,9 @@
 ghost use Rattle.std.specs.Prelude.{◌≡◌, List};
 ghost use Rattle.std.specs.FinMap as maps;
 ghost use Rattle.machine.specs.Machine.{IsSettled};
-ghost use Rattle.txn.specs.Books.{BookState};
-ghost use Rattle.txn.specs.Histories.{Step, IsLegal, ComesTo};
+ghost use Rattle.txn.specs.declared.steps.BookStep.{BookStep};
+ghost use Rattle.txn.specs.Rows.{Standing};
+ghost use Rattle.txn.specs.Histories.{IsLegal, ComesTo};
 ghost use Rattle.machine.specs.Sound.{IsSound};
 ghost use Rattle.machine.specs.Theory.Images.{ImageRepeats, ImageStands};
 ghost use Rattle.machine.specs.Theory.Loads.{LoadsSound, ImageLoads};
@@ -16,11 +17,9 @@ use records::Coded;
 /// collections held to what they hold without the live transactions, each run whole, one after
 /// another, with the replies that were got.
 pub fn one_history<B: Parts + Coded>(_parts: &B)
-    ensures { (steps : List Step) (b c : BookState B) → IsSound B.meaning B.making b.state →
-        b.state.live ≡ maps.empty →
-        IsLegal B.meaning B.making B.collections b steps c →
-        ComesTo (λ v. IsSound B.meaning B.making v.state) B.collections (IsSettled B.meaning) b
-        steps c }
+    ensures { (steps : List BookStep) (b c : Standing B) → IsSound B.meaning B.making b.state →
+        b.state.live ≡ maps.empty → IsLegal B.meaning B.making b steps c →
+        ComesTo (IsSound B.meaning B.making) B.collections (IsSettled B.meaning) b steps c }
 {}
 
 /// Images: what a book had in hand, and the records behind it, lose nothing.

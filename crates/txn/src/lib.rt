@@ -3,9 +3,11 @@
 
 mod book;
 mod history;
+mod steps;
 
 pub use blocks::{Block, Image, Outbox};
 pub use book::Book;
 pub use history::{images, one_history};
 pub use loader::Loader;
 pub use machine::Machine;
+pub use steps::{Action, BookStep, Target};

@@ -13,30 +13,23 @@ use Rattle.world.specs.OneStep.{TakesStep}
 
 pub core_answered : (s : BookState) (waiting : List Block) (mark : ℕ) (x : Step × Answer)
     (t : BookState) (waits : List Block) → CoreStep s waiting mark x t waits → IsAnswerOf x.0 x.1
-core_answered s waiting mark (Step.Draw, Answer.Drawn n) t waits step = tt
-core_answered s waiting mark (Step.Draw, Answer.Refused e) t waits step = tt
-core_answered s waiting mark (Step.Make name kind, Answer.Placed place) t waits step = tt
-core_answered s waiting mark (Step.Make name kind, Answer.Refused e) t waits step = tt
-core_answered s waiting mark (Step.Enter n, Answer.Entered) t waits step = tt
-core_answered s waiting mark (Step.Enter n, Answer.Refused e) t waits step = tt
-core_answered s waiting mark (Step.Call n at call, Answer.Replied reply) t waits step = tt
-core_answered s waiting mark (Step.Call n at call, Answer.Refused e) t waits step = tt
-core_answered s waiting mark (Step.Later n at call, Answer.PutOff) t waits step = tt
-core_answered s waiting mark (Step.Later n at call, Answer.Refused e) t waits step = tt
-core_answered s waiting mark (Step.Commit n, Answer.Placed place) t waits step = tt
-core_answered s waiting mark (Step.Commit n, Answer.Refused e) t waits step = tt
-core_answered s waiting mark (Step.Back n, Answer.Backed undone) t waits step = tt
-core_answered s waiting mark (Step.Back n, Answer.Refused e) t waits step = tt
-core_answered s waiting mark (Step.Ended n, Answer.Ended) t waits step = tt
-core_answered s waiting mark (Step.Ended n, Answer.Refused e) t waits step = tt
+core_answered s waiting mark (Step.Draw, a) t waits step = step.0
+core_answered s waiting mark (Step.Make name kind, a) t waits step = step.0
+core_answered s waiting mark (Step.Enter n, a) t waits step = step.0
+core_answered s waiting mark (Step.Call n at call, a) t waits step = step.0
+core_answered s waiting mark (Step.Later n at call, a) t waits step = step.0
+core_answered s waiting mark (Step.Commit n, a) t waits step = step.0
+core_answered s waiting mark (Step.Back n, a) t waits step = step.0
+core_answered s waiting mark (Step.Ended n, a) t waits step = step.0
 core_answered s waiting mark (Step.Cut, Answer.Cut handed) t waits step = tt
 core_answered s waiting mark (Step.Cut, Answer.Refused e) t waits step = tt
+core_answered s waiting mark (Step.Cut, a) t waits step = absurd step
 core_answered s waiting mark (Step.Look, Answer.Marked m) t waits step = tt
+core_answered s waiting mark (Step.Look, a) t waits step = step.0
 core_answered s waiting mark (Step.Turn, a) t waits step = absurd step
 core_answered s waiting mark (Step.Freeze, a) t waits step = absurd step
 core_answered s waiting mark (Step.Piece, a) t waits step = absurd step
 core_answered s waiting mark (Step.Flip, a) t waits step = absurd step
-core_answered s waiting mark x t waits step = absurd step.0
 
 pub turn_answered : (r : Result Turn Refusal) → IsAnswerOf Step.Turn (outcome Answer.Turned r)
 turn_answered (Ok turn) = tt

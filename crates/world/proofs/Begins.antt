@@ -21,8 +21,11 @@ use Rattle.machine.specs.Theory.Rules.{Has}
 use Rattle.machine.proofs.Theory.Undo as undo
 use Rattle.machine.proofs.Steps as steps
 use Rattle.machine.proofs.LiveNumbers.{nobody}
-use Rattle.checkpoint.specs.declared.laying.Laying.{Laying}
-use Rattle.checkpoint.specs.Keepers.{KeeperState, IsFresh, queue}
+use Rattle.checkpoint.specs.Keepers.{KeeperState, IsFresh}
+use Rattle.checkpoint.specs.Stored.{AreReadTo}
+use Rattle.checkpoint.specs.DiskHeads.{IsHeaded, IsInUse}
+use Rattle.checkpoint.proofs.HeadLemmas.{outside_headed}
+use Rattle.checkpoint.proofs.ReceivedLemmas.{received_starts}
 use Rattle.repetition.specs.Journals.{records_in}
 use Rattle.repetition.specs.Steps.{State}
 use Rattle.repetition.specs.Reading.{Unread, InJournal, Reads, AreAccepted, last_named}
@@ -36,10 +39,8 @@ use Rattle.repetition.proofs.RepeatLemmas.{records_append, read_records}
 use Rattle.repetition.proofs.Parts.{journal_reads}
 use Rattle.repetition.proofs.Contents.{sound_behind}
 use Rattle.world.specs.Pasts.{BookState}
-use Rattle.world.specs.Worlds.{AreReadTo, StandIn, IsHeaded, HasPast, parts_of}
-use Rattle.world.proofs.StandLemmas.{stands_whole}
-use Rattle.world.proofs.YieldLemmas.{row_yields}
-use Rattle.world.proofs.HeadLemmas.{outside_headed}
+use Rattle.world.specs.Worlds.{HasPast, parts_of}
+use Rattle.txn.proofs.Handings.{opens}
 use Rattle.catalog.specs.Meaning.{catalog_meaning, catalog_making}
 
 -- ---- a state with no live transaction is at rest
@@ -94,9 +95,6 @@ all_in (b ∷ blocks) read = each_append (IsRecord None) b (records_in blocks) r
 
 -- ---- the past begins
 
-not_begun : (l : Laying) → None ≡ Some l → ⊥
-not_begun l e = subst (λ (o : Option Laying). IfSome o (λ x. ⊥)) e tt
-
 module _ {D : Type 0} (seen : D → List ℕ) (may_leave : D → List ℕ → Type 0) (bytes : List ℕ)
     (book : BookState) (disk : D) (area : Area) (told : IsOpened bytes book area (seen disk))
     (ready : IsReadyStore seen may_leave bytes book area disk) where
@@ -135,69 +133,14 @@ module _ {D : Type 0} (seen : D → List ℕ) (may_leave : D → List ℕ → Ty
   headed = outside_headed area bytes (seen disk) told.elsewhere
       (record { header = told.header; picks = sym told.picks })
 
-  none_more : (told.blocks ++ told.written) ++ [] ≡ told.blocks ++ told.written
-  none_more = append-nil (told.blocks ++ told.written)
-
-  abbrev first : State
-  first = resting told.undone.now told.undone.wear
-
-  whole : (stands : StandIn told.undone.now told.undone.wear [] first (told.blocks ++ told.written)
-      []) × (stands.since ≡ [])
-  whole = stands_whole told.undone.now told.undone.wear [] first (told.blocks ++ told.written) first
-      refl (lags_self first) first are_read (lags_self first)
-
-  starts : HasPast seen may_leave told.undone.now []
-      (record {
-        book = opened told.undone.now told.next told.undone.wear;
-        disk = disk;
-        area = area;
-        failed = false;
-        covered = 0;
-        image = None;
-        waiting = [];
-        mark = 0;
-      })
-  starts = record {
-    next = told.next;
-    wear = told.undone.wear;
-    legal = refl;
-    good = tt;
-    front = [];
-    groups = [];
-    records = refl;
-    carried = tt;
-    end = omega arith;
-    place = omega arith;
-    old = told.blocks ++ told.written;
-    covered = [];
-    stands = whole.0;
-    kept = [];
-    later = [];
-    split = whole.1;
-    reaches = omega arith;
-    even = λ less. refl;
-    covers = refl;
-    between = inl (omega arith);
-    marked = omega arith;
-    told = omega arith;
-    stop = λ c left.
-        let row : IsRow (map spelling ((told.blocks ++ told.written) ++ [])) (bytes_of area c) =
-        subst (λ l. IsRow (map spelling l) (bytes_of area c)) (sym none_more)
-        (subst (λ b. IsRow (map spelling (told.blocks ++ told.written)) (bytes_of area b))
-        (sym (ready.at_rest c left)) told.row_is) in
-        row_yields told.undone.now told.undone.wear [] first (told.blocks ++ told.written) []
-        whole.0 tt [] [] whole.1 area 0 c (omega arith)
-        (subst (IsHeaded area) (sym (ready.at_rest c left)) headed) row;
-    in_use = λ fine. record {
-      ready = subst (λ l. IsReady seen may_leave area disk (map spelling l)) (sym none_more)
-          (ready.ready told);
-      head = record {
-        headed = headed;
-        head_at_rest = λ c left. ap (take 4096) (ready.at_rest c left);
-        same_size = λ c left. ap length (ready.at_rest c left);
-      };
+  in_use : IsInUse seen may_leave area disk (told.blocks ++ told.written)
+  in_use = record {
+    ready = ready.ready told;
+    head = record {
+      headed = headed;
+      head_at_rest = λ c left. ap (take 4096) (ready.at_rest c left);
+      same_size = λ c left. ap length (ready.at_rest c left);
     };
-    imaging = λ fine l is. absurd (not_begun l is);
   }
 
 pub past_begins : {D : Type 0} (seen : D → List ℕ) (may_leave : D → List ℕ → Type 0)
@@ -207,23 +150,24 @@ pub past_begins : {D : Type 0} (seen : D → List ℕ) (may_leave : D → List �
     IsReadyStore seen may_leave bytes book keeper.area keeper.disk →
     HasPast seen may_leave book.state.now [] (parts_of book keeper transit 0)
 past_begins seen may_leave bytes book keeper transit fresh none told ready =
-    let P : BookState → Bool → ℕ → Option Laying → List Block → Type 0 =
-    λ b f n i q. HasPast seen may_leave b.state.now []
-    (record {
-      book = b;
-      disk = keeper.disk;
-      area = keeper.area;
-      failed = f;
-      covered = n;
-      image = i;
-      waiting = q;
-      mark = 0;
-    }) in
-    let first : BookState = opened told.undone.now told.next told.undone.wear in
-    subst (λ b. P b keeper.failed keeper.covered keeper.image (queue keeper.held transit))
-    (sym told.book_is)
-    (subst (λ f. P first f keeper.covered keeper.image (queue keeper.held transit)) (sym fresh.fine)
-    (subst (λ n. P first false n keeper.image (queue keeper.held transit)) (sym fresh.covers_none)
-    (subst (λ i. P first false 0 i (queue keeper.held transit)) (sym fresh.no_image)
-    (subst (λ q. P first false 0 None q) (sym (ap (λ h. queue h transit) fresh.holds_none ∙ none))
-    (starts seen may_leave bytes book keeper.disk keeper.area told ready)))))
+    let now = told.undone.now in
+    let wear = told.undone.wear in
+    let first : BookState = opened now told.next wear in
+    subst (λ (b : BookState). HasPast seen may_leave b.state.now []
+    (parts_of b keeper transit 0)) (sym told.book_is)
+    (subst (λ q. HasPast seen may_leave now [] (parts_of first keeper q 0)) (sym none) (record {
+      wear = wear;
+      steps = [];
+      are = refl;
+      received = [];
+      groups = [];
+      images = [];
+      handed = opens catalog_meaning catalog_making (λ v. v) now wear told.next;
+      begun = [];
+      are_begun = tt;
+      keeps = received_starts seen may_leave now wear (told.blocks ++ told.written) keeper
+          (are_read seen may_leave bytes book keeper.disk keeper.area told ready) fresh
+          (in_use seen may_leave bytes book keeper.disk keeper.area told ready);
+      marked = sym fresh.unmarked;
+      told = omega arith;
+    }))

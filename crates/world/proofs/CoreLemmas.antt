@@ -1,5 +1,5 @@
 -- Steps that call no keeper: one lemma for each, from what the book answers.
-use Rattle.std.proofs.Common.{ℕ, ◌≤◌, Bool, true, false, List, length, refl, arith, None, Result}
+use Rattle.std.proofs.Common.{◌≡◌, ℕ, ◌≤◌, Bool, List, ◌++◌, length, refl, arith, None, Result}
 use Rattle.std.proofs.Common.{Ok, Err}
 use Rattle.std.specs.List.{AllByRecursion}
 use Rattle.calls.specs.declared.call.Call.{Call}
@@ -9,73 +9,77 @@ use Rattle.calls.specs.declared.refusal.Refusal.{Refusal}
 use Rattle.disk_model.specs.declared.disk.Disk.{Ghosts}
 use Rattle.record_format.specs.Records.{IsRecord}
 use Rattle.blocks.specs.declared.block.Block.{Block}
+use Rattle.txn.specs.declared.steps.Action.{Action}
+use Rattle.txn.specs.declared.steps.Target.{Target}
 use Rattle.txn.specs.Books as books
-use Rattle.checkpoint.specs.Keepers.{queue}
 use Rattle.world.specs.declared.steps.Step.{Step}
 use Rattle.world.specs.declared.steps.Answer.{Answer}
-use Rattle.world.specs.Pasts.{BookState, BookStep, CoreStep, IsDraw, Draws, alone, outcome}
+use Rattle.world.specs.Pasts.{BookState, BookTakes, CoreStep, IsAnswerOf, IsDraw, Draws, alone}
+use Rattle.world.specs.Pasts.{action_of, outcome}
 use Rattle.world.specs.Moves.{Whole, Moves}
 use Rattle.world.specs.OneStep.{parts, TakesStep}
 use Rattle.world.proofs.AnswerLemmas.{core_answered}
-use Rattle.world.proofs.StepLemmas.{AreGoodBehind, core_past, core_held, quiet}
+use Rattle.world.proofs.StepLemmas.{AreGoodBehind, core_past, quiet}
 use Rattle.catalog.specs.Meaning.{catalog_meaning, catalog_making}
 
--- ---- what the book answers is a row of its steps
+-- a step of a book of named collections
+abbrev Takes : BookState → Action → BookState → Type 0
+Takes s action t = books.Takes catalog_meaning catalog_making s action t
 
-make_row : (s : BookState) (name : List ℕ) (kind : Kind) (r : Result ℕ Refusal) (t : BookState) →
-    books.MakeAnswers catalog_making s name kind r t →
-    BookStep s (Step.Make name kind, outcome Answer.Placed r) t
-make_row s name kind (Ok place) t row = row
-make_row s name kind (Err e) t row = row
+-- ---- what the book answers is a step of its own
 
-enter_row : (s : BookState) (n : ℕ) (r : Result (Unit {0}) Refusal) (t : BookState) →
-    books.EnterAnswers s n r t →
-    BookStep s (Step.Enter n, outcome (alone Answer.Entered) r) t
-enter_row s n (Ok done) t row = row
-enter_row s n (Err e) t row = row
+-- the book takes the step, and it is answered in its own way
+abbrev Took : BookState → Step → Answer → BookState → Type 0
+Took s step a t = IsAnswerOf step a × BookTakes s (action_of step a) t
 
-call_row : (s : BookState) (n at : ℕ) (call : Call) (r : Result Reply Refusal) (t : BookState) →
-    books.CallAnswers catalog_meaning s n at call r t →
-    BookStep s (Step.Call n at call, outcome Answer.Replied r) t
-call_row s n at call (Ok reply) t row = row
-call_row s n at call (Err e) t row = row
+make_row : (s t : BookState) (name : List ℕ) (kind : Kind) (r : Result ℕ Refusal) →
+    Takes s (Action.Make name kind r) t → Took s (Step.Make name kind) (outcome Answer.Placed r) t
+make_row s t name kind (Ok place) row = (tt, row)
+make_row s t name kind (Err e) row = (tt, row)
 
-later_row : (s : BookState) (n at : ℕ) (call : Call) (r : Result (Unit {0}) Refusal)
-    (t : BookState) →
-    books.LaterAnswers catalog_meaning s n at call r t →
-    BookStep s (Step.Later n at call, outcome (alone Answer.PutOff) r) t
-later_row s n at call (Ok done) t row = row
-later_row s n at call (Err e) t row = row
+enter_row : (s t : BookState) (n : ℕ) (r : Result (Unit {0}) Refusal) →
+    Takes s (Action.Enter n r) t → Took s (Step.Enter n) (outcome (alone Answer.Entered) r) t
+enter_row s t n (Ok done) row = (tt, row)
+enter_row s t n (Err e) row = (tt, row)
 
-commit_row : (s : BookState) (n : ℕ) (r : Result ℕ Refusal) (t : BookState) →
-    books.CommitAnswers catalog_meaning s n r t →
-    BookStep s (Step.Commit n, outcome Answer.Placed r) t
-commit_row s n (Ok place) t row = row
-commit_row s n (Err e) t row = row
+call_row : (s t : BookState) (n at : ℕ) (call : Call) (r : Result Reply Refusal) →
+    Takes s (Action.Call n (Target.Number at) call r) t →
+    Took s (Step.Call n at call) (outcome Answer.Replied r) t
+call_row s t n at call (Ok reply) row = (tt, row)
+call_row s t n at call (Err e) row = (tt, row)
 
-back_row : (s : BookState) (n : ℕ) (r : Result Bool Refusal) (t : BookState) →
-    books.BackAnswers catalog_meaning s n r t →
-    BookStep s (Step.Back n, outcome Answer.Backed r) t
-back_row s n (Ok undone) t row = row
-back_row s n (Err e) t row = row
+later_row : (s t : BookState) (n at : ℕ) (call : Call) (r : Result (Unit {0}) Refusal) →
+    Takes s (Action.Later n (Target.Number at) call r) t →
+    Took s (Step.Later n at call) (outcome (alone Answer.PutOff) r) t
+later_row s t n at call (Ok done) row = (tt, row)
+later_row s t n at call (Err e) row = (tt, row)
 
-ended_row : (s : BookState) (n : ℕ) (r : Result (Unit {0}) Refusal) (t : BookState) →
-    books.EndedAnswers s n r t →
-    BookStep s (Step.Ended n, outcome (alone Answer.Ended) r) t
-ended_row s n (Ok done) t row = row
-ended_row s n (Err e) t row = row
+commit_row : (s t : BookState) (n : ℕ) (r : Result ℕ Refusal) → Takes s (Action.Commit n r) t →
+    Took s (Step.Commit n) (outcome Answer.Placed r) t
+commit_row s t n (Ok place) row = (tt, row)
+commit_row s t n (Err e) row = (tt, row)
+
+back_row : (s t : BookState) (n : ℕ) (r : Result Bool Refusal) → Takes s (Action.Back n r) t →
+    Took s (Step.Back n) (outcome Answer.Backed r) t
+back_row s t n (Ok undone) row = (tt, row)
+back_row s t n (Err e) row = (tt, row)
+
+ended_row : (s t : BookState) (n : ℕ) (r : Result (Unit {0}) Refusal) →
+    Takes s (Action.Ended n r) t → Took s (Step.Ended n) (outcome (alone Answer.Ended) r) t
+ended_row s t n (Ok done) row = (tt, row)
+ended_row s t n (Err e) row = (tt, row)
 
 cut_row : (s : BookState) (waiting : List Block) (mark : ℕ) (r : Result Bool Refusal)
     (t : BookState) (waits : List Block) →
-    books.CutAnswers s waiting (4 ≤ length waiting) r waits t →
+    books.CutAnswers s (λ bs. waits ≡ waiting ++ bs) (4 ≤ length waiting) r t →
     CoreStep s waiting mark (Step.Cut, outcome Answer.Cut r) t waits
-cut_row s waiting mark (Ok true) t waits row = row
-cut_row s waiting mark (Ok false) t waits row = row
+cut_row s waiting mark (Ok handed) t waits row = row
 cut_row s waiting mark (Err e) t waits row = row
 
-draw_row : (s : BookState) (r : Result ℕ Refusal) → BookStep s (Step.Draw, outcome Answer.Drawn r) s
-draw_row s (Ok n) = refl
-draw_row s (Err e) = refl
+draw_row : (s : BookState) (r : Result ℕ Refusal) →
+    IsAnswerOf Step.Draw (outcome Answer.Drawn r)
+draw_row s (Ok n) = tt
+draw_row s (Err e) = tt
 
 -- ---- and so the step is taken
 
@@ -89,8 +93,7 @@ module _ {D : Type 0} (g : Ghosts D) (w : Whole D)
       TakesStep g w x (record w { book = t; transit = waits; next = next })
   core_taken x t waits next good core drawn moves = record {
     past = λ start past had.
-        core_past g.seen g.may_leave start past (parts w) had x t (queue w.keeper.held waits) good
-        (core_held w.keeper.held w.book t w.transit waits w.mark x core);
+        core_past g.seen g.may_leave start past (parts w) had x t waits good core;
     any_moment = λ start past had. quiet g.seen g.may_leave start past (parts w) had g.moment
         g.left_since only_now x;
     mark = omega arith;
@@ -103,16 +106,16 @@ module _ {D : Type 0} (g : Ghosts D) (w : Whole D)
   pub draw_taken : (r : Result ℕ Refusal) (next : ℕ) → IsDraw w.next (outcome Answer.Drawn r) next →
       TakesStep g w (Step.Draw, outcome Answer.Drawn r) (record w { next = next })
   draw_taken r next drawn =
-      let row = draw_row w.book r in
-      core_taken (Step.Draw, outcome Answer.Drawn r) w.book w.transit next tt (row, refl) drawn
-      ((row, refl), drawn, refl, refl)
+      let own = draw_row w.book r in
+      core_taken (Step.Draw, outcome Answer.Drawn r) w.book w.transit next tt (own, refl, refl)
+      drawn ((own, refl, refl), drawn, refl, refl)
 
   pub look_taken : TakesStep g w (Step.Look, Answer.Marked w.mark) w
   look_taken = core_taken (Step.Look, Answer.Marked w.mark) w.book w.transit w.next tt
       (refl, refl, refl) refl ((refl, refl, refl), refl, refl, refl)
 
   pub cut_taken : (r : Result Bool Refusal) (t : BookState) (waits : List Block) →
-      books.CutAnswers w.book w.transit (4 ≤ length w.transit) r waits t →
+      books.CutAnswers w.book (λ bs. waits ≡ w.transit ++ bs) (4 ≤ length w.transit) r t →
       TakesStep g w (Step.Cut, outcome Answer.Cut r) (record w { book = t; transit = waits })
   cut_taken r t waits row =
       let core = cut_row w.book w.transit w.mark r t waits row in
@@ -121,56 +124,58 @@ module _ {D : Type 0} (g : Ghosts D) (w : Whole D)
 
   module _ (t : BookState) (good : AllByRecursion (IsRecord None) t.pending) where
     pub make_taken : (name : List ℕ) (kind : Kind) (r : Result ℕ Refusal) →
-        books.MakeAnswers catalog_making w.book name kind r t →
+        Takes w.book (Action.Make name kind r) t →
         TakesStep g w (Step.Make name kind, outcome Answer.Placed r) (record w { book = t })
     make_taken name kind r made =
-        let row = make_row w.book name kind r t made in
+        let row = make_row w.book t name kind r made in
         core_taken (Step.Make name kind, outcome Answer.Placed r) t w.transit w.next good
-        (row, refl) refl ((row, refl), refl, refl, refl)
+        (row.0, row.1, refl) refl ((row.0, row.1, refl), refl, refl, refl)
 
-    pub enter_taken : (n : ℕ) (r : Result (Unit {0}) Refusal) → books.EnterAnswers w.book n r t →
+    pub enter_taken : (n : ℕ) (r : Result (Unit {0}) Refusal) → Takes w.book (Action.Enter n r) t →
         TakesStep g w (Step.Enter n, outcome (alone Answer.Entered) r) (record w { book = t })
     enter_taken n r entered =
-        let row = enter_row w.book n r t entered in
+        let row = enter_row w.book t n r entered in
         core_taken (Step.Enter n, outcome (alone Answer.Entered) r) t w.transit w.next good
-        (row, refl) refl ((row, refl), refl, refl, refl)
+        (row.0, row.1, refl) refl ((row.0, row.1, refl), refl, refl, refl)
 
     pub call_taken : (n at : ℕ) (call : Call) (r : Result Reply Refusal) →
-        books.CallAnswers catalog_meaning w.book n at call r t →
+        Takes w.book (Action.Call n (Target.Number at) call r) t →
         TakesStep g w (Step.Call n at call, outcome Answer.Replied r) (record w { book = t })
     call_taken n at call r called =
-        let row = call_row w.book n at call r t called in
+        let row = call_row w.book t n at call r called in
         core_taken (Step.Call n at call, outcome Answer.Replied r) t w.transit w.next good
-        (row, refl) refl ((row, refl), refl, refl, refl)
+        (row.0, row.1, refl) refl ((row.0, row.1, refl), refl, refl, refl)
 
     pub later_taken : (n at : ℕ) (call : Call) (r : Result (Unit {0}) Refusal) →
-        books.LaterAnswers catalog_meaning w.book n at call r t →
+        Takes w.book (Action.Later n (Target.Number at) call r) t →
         TakesStep g w (Step.Later n at call, outcome (alone Answer.PutOff) r)
         (record w { book = t })
     later_taken n at call r put_off =
-        let row = later_row w.book n at call r t put_off in
+        let row = later_row w.book t n at call r put_off in
         core_taken (Step.Later n at call, outcome (alone Answer.PutOff) r) t w.transit w.next good
-        (row, refl) refl ((row, refl), refl, refl, refl)
+        (row.0, row.1, refl) refl ((row.0, row.1, refl), refl, refl, refl)
 
     pub commit_taken : (n : ℕ) (r : Result ℕ Refusal) →
-        books.CommitAnswers catalog_meaning w.book n r t →
+        Takes w.book (Action.Commit n r) t →
         TakesStep g w (Step.Commit n, outcome Answer.Placed r) (record w { book = t })
     commit_taken n r committed =
-        let row = commit_row w.book n r t committed in
-        core_taken (Step.Commit n, outcome Answer.Placed r) t w.transit w.next good (row, refl) refl
-        ((row, refl), refl, refl, refl)
+        let row = commit_row w.book t n r committed in
+        core_taken (Step.Commit n, outcome Answer.Placed r) t w.transit w.next good
+        (row.0, row.1, refl) refl
+        ((row.0, row.1, refl), refl, refl, refl)
 
     pub back_taken : (n : ℕ) (r : Result Bool Refusal) →
-        books.BackAnswers catalog_meaning w.book n r t →
+        Takes w.book (Action.Back n r) t →
         TakesStep g w (Step.Back n, outcome Answer.Backed r) (record w { book = t })
     back_taken n r undone =
-        let row = back_row w.book n r t undone in
-        core_taken (Step.Back n, outcome Answer.Backed r) t w.transit w.next good (row, refl) refl
-        ((row, refl), refl, refl, refl)
+        let row = back_row w.book t n r undone in
+        core_taken (Step.Back n, outcome Answer.Backed r) t w.transit w.next good
+        (row.0, row.1, refl) refl
+        ((row.0, row.1, refl), refl, refl, refl)
 
-    pub ended_taken : (n : ℕ) (r : Result (Unit {0}) Refusal) → books.EndedAnswers w.book n r t →
+    pub ended_taken : (n : ℕ) (r : Result (Unit {0}) Refusal) → Takes w.book (Action.Ended n r) t →
         TakesStep g w (Step.Ended n, outcome (alone Answer.Ended) r) (record w { book = t })
     ended_taken n r ended =
-        let row = ended_row w.book n r t ended in
+        let row = ended_row w.book t n r ended in
         core_taken (Step.Ended n, outcome (alone Answer.Ended) r) t w.transit w.next good
-        (row, refl) refl ((row, refl), refl, refl, refl)
+        (row.0, row.1, refl) refl ((row.0, row.1, refl), refl, refl, refl)

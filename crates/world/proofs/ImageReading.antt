@@ -1,7 +1,8 @@
 -- The image of a freeze is read: it leads to a state that lags behind the book's.
 use Rattle.std.proofs.Common.{◌≡◌, ℕ, ◌+◌, ◌<◌, ◌≤◌, ◌^◌, inr, ⊎_elim, Bool, not, ◌&&◌, None, List}
 use Rattle.std.proofs.Common.{[], ◌∷◌, ◌++◌, length, map, refl, sym, ◌∙◌, ap, subst, arith}
-use Rattle.std.specs.Prelude.{◌↔◌, Contains}
+use Rattle.std.specs.Prelude.{◌↔◌, Contains, Vec}
+use Rattle.std.specs.declared.alloc.Global.{Global}
 use Rattle.std.specs.FinMap as maps
 use Rattle.std.specs.Ordering.{nat_cmp}
 use Rattle.calls.specs.Contents.{Collection}
@@ -14,9 +15,9 @@ use Rattle.record_format.specs.declared.record.Record.{Record}
 use Rattle.record_format.specs.Records.{IsNumber}
 use Rattle.records.specs.Images.{Rise, IsImage}
 use Rattle.record_format.specs.Short.{AreShort}
-use Rattle.blocks.specs.declared.block.Image.{Image}
+use Rattle.blocks.specs.Packings.{joined}
 use Rattle.txn.specs.Books.{BookState, IsKept}
-use Rattle.txn.specs.Freezing.{IsImageOf}
+use Rattle.images.specs.Images.{IsPackedImage}
 use Rattle.images.specs.LiveRecords.{live_records}
 use Rattle.machine.specs.Machine.{Does}
 use Rattle.machine.specs.Machines.{resting, IsAskedEntry, IsUpheld}
@@ -257,15 +258,16 @@ module _ (s : State) (upheld : IsUpheld catalog_meaning catalog_making AreShort
       )
 
 -- The image of a freeze is read.
-pub frozen_reads : (b : BookState (List Collection)) (image : Image) →
+pub frozen_reads : (b : BookState (List Collection)) →
     IsKept catalog_meaning catalog_making AreShort (IsSound catalog_meaning catalog_making) b →
-    AreNamed b.state.now → AreDistinct (names_of b.state.now) →
-    (is : IsImageOf (λ v. v) b image) →
-    (s : State) × Leads Reads is.records Unread (InJournal b.next s 0) × Lags s b.state
-frozen_reads b image kept good distinct is =
-    image_lead b.state kept.upheld is.numbers is.are_live is.is_image.rise b.next
-    (live_records b.state) is.records (kept_records b.state.live b.state.entries) is.is_image
-    kept.below good distinct
+    AreNamed b.state.now → AreDistinct (names_of b.state.now) → (blocks : List (Vec ℕ Global)) →
+    (packed : IsPackedImage (λ v. v) b.next b.state blocks) →
+    (s : State) × Leads Reads (joined packed.groups) Unread (InJournal b.next s 0) × Lags s b.state
+frozen_reads b kept good distinct blocks packed =
+    let tells = packed.tells in
+    image_lead b.state kept.upheld tells.numbers tells.are_live tells.is_image.rise b.next
+    (live_records b.state) (joined packed.groups) (kept_records b.state.live b.state.entries)
+    tells.is_image kept.below good distinct
 
 -- ---- names
 

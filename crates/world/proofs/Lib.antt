@@ -1,12 +1,6 @@
-pub mod History
 pub mod PastLemmas
-pub mod StandLemmas
-pub mod YieldLemmas
-pub mod WorldLemmas
-pub mod HeadLemmas
-pub mod TurnLemmas
 pub mod StepLemmas
-pub mod TurnSteps
+pub mod KeeperSteps
 pub mod CoreLemmas
 pub mod PlayLemmas
 pub mod AnswerLemmas
@@ -17,5 +11,4 @@ mod ImageCalls
 mod ImageNames
 mod ImageReading
 pub mod FreezeLemmas
-pub mod FlipLemmas
 pub mod Begins

@@ -1,53 +1,79 @@
--- Pasts, and what they have committed: one step more commits more.
-use Rattle.std.proofs.Common.{◌≡◌, ℕ, ◌≤◌, true, List, [], ◌∷◌, ◌++◌, length, take, drop, refl, sym}
-use Rattle.std.proofs.Common.{◌∙◌, ap, arith, append_assoc}
-use Rattle.std.proofs.lemmas.List.{take-append-le, take-take, take-append-drop}
+-- Pasts, the steps of a book in them, and what they have committed.
+use Rattle.std.proofs.Common.{◌≡◌, ℕ, ◌+◌, ◌≤◌, true, Bool, Some, None, Result, Ok, Err, List, []}
+use Rattle.std.proofs.Common.{◌∷◌, ◌++◌, length, map, take, drop, refl, sym, ◌∙◌, ap, subst, arith}
+use Rattle.std.proofs.Common.{append_assoc}
+use Rattle.std.specs.List.{flat_map}
+use Rattle.std.proofs.lemmas.List.{append-nil, map-append, take-take, take-append-drop}
+use Rattle.std.proofs.lemmas.Grind.{flat_map-append}
 use mathlib.Core.List.{IsPrefix}
-use Rattle.calls.specs.Transactions.{Transaction, committed_after, committed}
+use Rattle.calls.specs.Contents.{Collection}
+use Rattle.calls.specs.Transactions.{Transaction, Act, committed_after, committed}
+use Rattle.calls.specs.declared.refusal.Refusal.{Refusal}
+use Rattle.machine.proofs.RecordRuns.{gathered, committed_append}
+use Rattle.record_format.specs.declared.record.Record.{Record}
+use Rattle.txn.specs.declared.steps.Action.{Action}
+use Rattle.txn.specs.declared.steps.BookStep.{BookStep}
+use Rattle.txn.specs.Histories.{acts_of_action, records_of_action, committed_by, records_by}
+use Rattle.txn.specs.Histories.{without_count, uncounted}
+use Rattle.txn.proofs.Handings.{committed_records}
+use Rattle.checkpoint.specs.Crash.{Yields, committed_of}
+use Rattle.checkpoint.proofs.YieldLemmas.{prefix_trans}
 use Rattle.world.specs.declared.steps.Step.{Step}
 use Rattle.world.specs.declared.steps.Answer.{Answer}
-use Rattle.record_format.specs.Acts.{acts_of_record, acts_of, places}
-use Rattle.world.specs.Pasts.{Past, acts_of_step, acts_in, records_of_step, records_of}
+use Rattle.world.specs.Pasts.{Past, action_of, of_no_client, book_steps_of, AreBookSteps}
 use Rattle.world.specs.Pasts.{committed_in, told, greatest_told}
-use Rattle.repetition.proofs.Lists.{flat_map-append}
-use Rattle.machine.proofs.RecordRuns.{gathered, committed_append}
-use Rattle.world.proofs.History.{length-committed}
 
--- a step says of transactions what its records say
-step_acts : (s : Step) (a : Answer) → acts_of_step s a ≡ acts_of (records_of_step s a)
-step_acts (Step.Make name kind) (Answer.Placed place) = refl
-step_acts (Step.Enter n) Answer.Entered = refl
-step_acts (Step.Call n at call) (Answer.Replied reply) = refl
-step_acts (Step.Later n at call) Answer.PutOff = refl
-step_acts (Step.Commit n) (Answer.Placed place) = refl
-step_acts (Step.Back n) (Answer.Backed true) = refl
-step_acts (Step.Ended n) Answer.Ended = refl
-step_acts s a = refl
+-- ---- the steps of the book
 
-pub acts_in-records : (past : Past) → acts_in past ≡ acts_of (records_of past)
-acts_in-records [] = refl
-acts_in-records (x ∷ past) = (λ i. step_acts x.0 x.1 i ++ acts_in-records past i) ∙
-    sym (flat_map-append acts_of_record (records_of_step x.0 x.1) (records_of past))
+pub book_steps-push : (past : Past) (x : Step × Answer) →
+    book_steps_of (past ++ x ∷ []) ≡ book_steps_of past ++ of_no_client (action_of x.0 x.1)
+book_steps-push past x = flat_map-append (λ y. of_no_client (action_of y.0 y.1)) past (x ∷ []) ∙
+    ap (λ l. book_steps_of past ++ l) (append-nil (of_no_client (action_of x.0 x.1)))
 
-pub committed_in-records : (past : Past) → committed_in past ≡ committed (acts_of (records_of past))
-committed_in-records past = ap committed (acts_in-records past)
+-- a step of the book more
+pub are_push : (past : Past) (x : Step × Answer) (steps more : List BookStep) →
+    AreBookSteps past steps → map uncounted more ≡ of_no_client (action_of x.0 x.1) →
+    AreBookSteps (past ++ x ∷ []) (steps ++ more)
+are_push past x steps more are same = map-append uncounted steps more ∙
+    (λ i. are i ++ same i) ∙ sym (book_steps-push past x)
 
-pub length-committed_in : (past : Past) → length (committed_in past) ≡ places (records_of past)
-length-committed_in past = ap length (committed_in-records past) ∙
-    length-committed (records_of past) []
+-- a step in which the book takes no part
+pub are_still : (past : Past) (x : Step × Answer) (steps : List BookStep) →
+    AreBookSteps past steps → action_of x.0 x.1 ≡ None → AreBookSteps (past ++ x ∷ []) steps
+are_still past x steps are none = are ∙ sym (append-nil (book_steps_of past)) ∙
+    ap (λ o. book_steps_of past ++ of_no_client o) (sym none) ∙ sym (book_steps-push past x)
+
+-- ---- what they commit
+
+uncounted_acts : (a : Action) → acts_of_action (without_count a) ≡ acts_of_action a
+uncounted_acts (Action.Cut count a) = refl
+uncounted_acts a = refl
+
+acts_uncounted : (steps : List BookStep) →
+    flat_map (λ x. acts_of_action x.action) (map uncounted steps) ≡
+    flat_map (λ x. acts_of_action x.action) steps
+acts_uncounted [] = refl
+acts_uncounted (x ∷ steps) = (λ i. uncounted_acts x.action i ++ acts_uncounted steps i)
+
+-- The past commits what the records of its steps commit.
+pub committed_are : (past : Past) (steps : List BookStep) → AreBookSteps past steps →
+    committed_in past ≡ committed_of (records_by steps)
+committed_are past steps are = ap committed_by (sym are) ∙ ap committed (acts_uncounted steps) ∙
+    committed_records steps
 
 -- more of a past commits more
-pub committed_in-append : (past more : Past) →
-    (rest : List Transaction) × (committed_in (past ++ more) ≡ committed_in past ++ rest)
-committed_in-append past more = (
-  committed_after (gathered [] (acts_in past)) (acts_in more),
-  ap committed (flat_map-append (λ x. acts_of_step x.0 x.1) past more) ∙
-      committed_append (acts_in past) (acts_in more) [],
-)
-
-pub records_of-append : (past more : Past) →
-    records_of (past ++ more) ≡ records_of past ++ records_of more
-records_of-append past more = flat_map-append (λ x. records_of_step x.0 x.1) past more
+pub committed_in-append : (past more : Past) → IsPrefix (committed_in past)
+    (committed_in (past ++ more))
+committed_in-append past more =
+    let acts : List BookStep → List Act = λ steps. flat_map (λ x. acts_of_action x.action) steps in
+    let both : acts (book_steps_of (past ++ more)) ≡
+    acts (book_steps_of past) ++ acts (book_steps_of more) =
+    ap acts (flat_map-append (λ y. of_no_client (action_of y.0 y.1)) past more) ∙
+    flat_map-append (λ x. acts_of_action x.action) (book_steps_of past) (book_steps_of more) in (
+      committed_after (gathered [] (acts (book_steps_of past))) (acts (book_steps_of more)),
+      sym (ap committed both ∙
+          committed_append (acts (book_steps_of past)) (acts (book_steps_of more)) []),
+    )
 
 pub greatest_told-push : (past : Past) (s : Step) (a : Answer) (mark : ℕ) →
     greatest_told past ≤ mark → told s a ≤ mark → greatest_told (past ++ (s, a) ∷ []) ≤ mark
@@ -56,21 +82,41 @@ greatest_told-push (x ∷ past) s a mark below here =
     let rest = greatest_told-push past s a mark (omega (arith, below)) here in
     omega (arith, below, rest)
 
--- beginnings
-
-pub prefix_of : (A B : List Transaction) (m : ℕ) → IsPrefix (take m A) A
-prefix_of A B m = (drop m A, take-append-drop m A)
-
-pub prefix_trans : (A B C : List Transaction) → IsPrefix A B → IsPrefix B C → IsPrefix A C
-prefix_trans A B C p q = (p.0 ++ q.0, sym (append_assoc A p.0 q.0) ∙ ap (λ l. l ++ q.0) p.1 ∙ q.1)
-
--- the first m of a beginning that has so many are the first m of the whole
-pub take-longer : (A B : List Transaction) (m : ℕ) → m ≤ length A → take m (A ++ B) ≡ take m A
-take-longer A B m le = take-append-le m A B le
-
 -- fewer of a list are a beginning of more of it
 pub prefix_take : (A : List Transaction) (m n : ℕ) → m ≤ n → IsPrefix (take m A) (take n A)
 prefix_take A m n le = (
   drop m (take n A),
   ap (λ l. l ++ drop m (take n A)) (sym (take-take m n A le)) ∙ take-append-drop m (take n A),
 )
+
+-- ---- what a stop leaves
+
+-- more may have been committed
+pub yields_on : (start : List Collection) (past more : Past) (known : List Transaction)
+    (c : List ℕ) → Yields start (committed_in past) known c →
+    Yields start (committed_in (past ++ more)) known c
+yields_on start past more known c y =
+    record {
+      sound = y.sound;
+      content = y.content;
+      stands = y.stands;
+      kept = y.kept;
+      begins = prefix_trans y.kept (committed_in past) (committed_in (past ++ more)) y.begins
+          (committed_in-append past more);
+      holds = y.holds;
+      serial = y.serial;
+    }
+
+-- what is known may be less
+pub yields_fewer : (start : List Collection) (ts known fewer : List Transaction) (c : List ℕ) →
+    IsPrefix fewer known → Yields start ts known c → Yields start ts fewer c
+yields_fewer start ts known fewer c less y =
+    record {
+      sound = y.sound;
+      content = y.content;
+      stands = y.stands;
+      kept = y.kept;
+      begins = y.begins;
+      holds = prefix_trans fewer known y.kept less y.holds;
+      serial = y.serial;
+    }

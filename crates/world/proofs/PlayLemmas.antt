@@ -5,20 +5,37 @@ use Rattle.std.proofs.lemmas.List.{append-nil, take_more, length-take-le}
 use Rattle.std.specs.List.{zip}
 use mathlib.Core.List.{IsPrefix}
 use Rattle.calls.specs.Contents.{Collection}
-use Rattle.calls.specs.Transactions.{Leads}
+use Rattle.calls.specs.Transactions.{Leads, Serial}
 use Rattle.disk_model.specs.Disk.{LeavesOnly}
 use Rattle.disk_model.specs.declared.disk.Disk.{Ghosts}
-use Rattle.disk_model.proofs.Walk.{started, weaker, and_then}
+use Rattle.disk_model.proofs.Walk.{weaker, and_then}
 use Rattle.world.specs.declared.steps.Step.{Step}
 use Rattle.world.specs.declared.steps.Answer.{Answer}
 use Rattle.world.specs.Pasts.{Past, committed_in, greatest_told, acknowledged, AreAnswered, Draws}
-use Rattle.world.specs.Crash.{Yields}
-use Rattle.world.specs.Worlds.{HasPast}
+use Rattle.checkpoint.specs.Crash.{Yields}
+use Rattle.checkpoint.proofs.YieldLemmas.{take_longer, all_settle}
+use Rattle.txn.specs.Histories.{records_by}
+use Rattle.world.specs.Pasts.{IsOneHistory}
+use Rattle.world.specs.Worlds.{Parts, HasPast}
 use Rattle.world.specs.Moves.{Whole, Moves}
 use Rattle.world.specs.OneStep.{parts, TakesStep}
-use Rattle.world.proofs.PastLemmas.{committed_in-append, prefix_take, take-longer}
-use Rattle.world.proofs.WorldLemmas.{yields_fewer, mark_few}
-use Rattle.world.proofs.StepLemmas.{yields_on}
+use Rattle.world.proofs.PastLemmas.{committed_are, committed_in-append, prefix_take, yields_on}
+use Rattle.world.proofs.PastLemmas.{yields_fewer}
+use Rattle.world.proofs.StepLemmas.{few_marked, rests}
+
+-- What the past says of the book.
+pub one_history : {D : Type 0} (seen : D → List ℕ) (may_leave : D → List ℕ → Type 0)
+    (start : List Collection) (past : Past) (w : Parts D) →
+    HasPast seen may_leave start past w → IsOneHistory start past w.book
+one_history seen may_leave start past w had =
+    let all = all_settle start had.wear (records_by had.steps) w.book.state had.keeps.old
+    had.keeps.covered had.keeps.stands in
+    record {
+      content = all.0;
+      settled = all.1;
+      serial = subst (λ ts. Serial ts start all.0) (sym (committed_are past had.steps had.are))
+          all.2;
+    }
 
 -- one step with its answer more
 zip-push : (xs : List Step) (ys : List Answer) (x : Step) (y : Answer) → length xs ≡ length ys →
@@ -57,12 +74,11 @@ module _ {D : Type 0} (g : Ghosts D) where
       HasPast g.seen g.may_leave start past (parts w) →
       IsPrefix (acknowledged past) (acknowledged (past ++ more))
   acknowledged_more start past more w had =
-      let rest = committed_in-append past more in
       let few : greatest_told past ≤ length (committed_in past) =
-      omega (arith, had.told, mark_few g.seen g.may_leave start past (parts w) had) in
+      omega (arith, had.told, few_marked g.seen g.may_leave start past (parts w) had) in
       let same : take (greatest_told past) (committed_in (past ++ more)) ≡ acknowledged past =
-      ap (take (greatest_told past)) rest.1 ∙
-      take-longer (committed_in past) rest.0 (greatest_told past) few in
+      take_longer (committed_in past) (committed_in (past ++ more)) (greatest_told past)
+      (committed_in-append past more) few in
       subst (λ l. IsPrefix l (acknowledged (past ++ more))) same
       (prefix_take (committed_in (past ++ more)) (greatest_told past) (greatest_told (past ++ more))
       (told_more past more))
@@ -85,33 +101,40 @@ module _ {D : Type 0} (g : Ghosts D) where
       (start : List Collection) (past steps : Past) (old new : Whole D) →
       Leads (TakesStep g) steps old new → HasPast g.seen g.may_leave start past (parts old) →
       LeavesOnly g.moment g.left_since old.keeper.disk new.keeper.disk
-      (Yields start (past ++ steps) (acknowledged past))
+      (Yields start (committed_in (past ++ steps)) (acknowledged past))
   moments_of only_now start past [] old new taken had =
       subst (λ (w : Whole D). LeavesOnly g.moment g.left_since old.keeper.disk w.keeper.disk
-      (Yields start (past ++ []) (acknowledged past))) taken
-      (started g.moment g.left_since old.keeper.disk _ (λ c left.
-      yields_on start past [] (acknowledged past) c
-      (yields_fewer start past (take old.mark (committed_in past)) (acknowledged past) c
-      (acknowledged_is_marked start past old had)
-      (had.stop c (only_now old.keeper.disk c left)))))
+      (Yields start (committed_in (past ++ [])) (acknowledged past))) taken
+      (weaker g.moment g.left_since old.keeper.disk old.keeper.disk
+      (Yields start (committed_in (past ++ [])) (take old.mark (committed_in past)))
+      (Yields start (committed_in (past ++ [])) (acknowledged past))
+      (subst (λ p. LeavesOnly g.moment g.left_since old.keeper.disk old.keeper.disk
+      (Yields start (committed_in p) (take old.mark (committed_in past)))) (sym (append-nil past))
+      (rests g.seen g.may_leave start past (parts old) had g.moment g.left_since
+      (only_now old.keeper.disk)))
+      (λ c y. yields_fewer start (committed_in (past ++ [])) (take old.mark (committed_in past))
+      (acknowledged past) c (acknowledged_is_marked start past old had) y))
   moments_of only_now start past (x ∷ steps) old new taken had =
       let mid = taken.0 in
       let behind : Past = past ++ x ∷ [] in
       let has = taken.1.past start past had in
-      let P : List ℕ → Type 0 = Yields start (behind ++ steps) (acknowledged past) in
-      let Q : List ℕ → Type 0 = Yields start (behind ++ steps) (acknowledged behind) in
+      let P : List ℕ → Type 0 = Yields start (committed_in (behind ++ steps))
+      (acknowledged past) in
+      let Q : List ℕ → Type 0 = Yields start (committed_in (behind ++ steps))
+      (acknowledged behind) in
       let first = weaker g.moment g.left_since old.keeper.disk mid.keeper.disk
-      (Yields start behind (take old.mark (committed_in past))) P
+      (Yields start (committed_in behind) (take old.mark (committed_in past))) P
       (taken.1.any_moment start past had)
       (λ c y. yields_on start behind steps (acknowledged past) c
-      (yields_fewer start behind (take old.mark (committed_in past)) (acknowledged past) c
-      (acknowledged_is_marked start past old had) y)) in
+      (yields_fewer start (committed_in behind) (take old.mark (committed_in past))
+      (acknowledged past) c (acknowledged_is_marked start past old had) y)) in
       let whole = and_then g.moment g.left_since old.keeper.disk mid.keeper.disk new.keeper.disk P Q
       first (moments_of only_now start behind steps mid new taken.2 has)
-      (λ c y. yields_fewer start (behind ++ steps) (acknowledged behind) (acknowledged past) c
+      (λ c y. yields_fewer start (committed_in (behind ++ steps)) (acknowledged behind)
+      (acknowledged past) c
       (acknowledged_more start past (x ∷ []) old had) y) in
       subst (λ p. LeavesOnly g.moment g.left_since old.keeper.disk new.keeper.disk
-      (Yields start p (acknowledged past))) (append_assoc past (x ∷ []) steps) whole
+      (Yields start (committed_in p) (acknowledged past))) (append_assoc past (x ∷ []) steps) whole
 
   -- each is answered in its own way, draws the next number or none, and leads the world on; reads
   -- that were true stay so

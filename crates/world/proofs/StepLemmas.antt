@@ -1,65 +1,58 @@
--- Each step of a world leads its past on, and at each moment of it a stop yields what is known.
-use Rattle.std.proofs.Common.{◌≡◌, ℕ, ◌≤◌, true, false, List, [], ◌∷◌, ◌++◌, length, take, refl}
-use Rattle.std.proofs.Common.{sym, ◌∙◌, ap, subst, arith, Option, Some, None, Err}
-use Rattle.std.specs.Prelude.{Contains}
+-- One step more of a world: its past goes on.
+use Rattle.std.proofs.Common.{◌≡◌, ◌⊎◌, ⊎_elim, ℕ, ◌≤◌, Bool, true, false, Option, Some, None}
+use Rattle.std.proofs.Common.{Result, Ok, Err, List, [], ◌∷◌, ◌++◌, length, take, refl, sym, ◌∙◌}
+use Rattle.std.proofs.Common.{ap}
+use Rattle.std.proofs.Common.{subst, arith, append_assoc}
 use Rattle.std.specs.List.{AllByRecursion}
-use Rattle.calls.specs.declared.refusal.Refusal.{Refusal}
+use Rattle.std.proofs.lemmas.List.{append-nil}
+use Rattle.boosted.proofs.Each.{each_back}
 use Rattle.calls.specs.Contents.{Collection}
-use Rattle.calls.specs.Transactions.{Transaction}
+use Rattle.calls.specs.declared.refusal.Refusal.{Refusal}
 use Rattle.disk_model.specs.Disk.{LeavesOnly}
-use Rattle.disk_model.proofs.Walk.{started}
+use Rattle.disk_model.proofs.Walk.{weaker}
+use Rattle.record_format.specs.declared.record.Record.{Record}
+use Rattle.record_format.specs.Records.{IsRecord}
 use Rattle.blocks.specs.declared.block.Block.{Block}
+use Rattle.repetition.specs.Steps.{State, Repeats}
+use Rattle.txn.specs.declared.steps.Action.{Action}
+use Rattle.txn.specs.declared.steps.BookStep.{BookStep}
+use Rattle.txn.specs.Books as books
+use Rattle.txn.specs.Histories.{records_of_action, records_by, without_count}
+use Rattle.txn.specs.Handing.{HasHanded}
+use Rattle.txn.proofs.Takings.{leaves}
+use Rattle.txn.proofs.Handings.{records_by-push, takes_on, cuts_on}
+use Rattle.checkpoint.specs.Crash.{Yields, committed_of}
+use Rattle.checkpoint.specs.Keepers.{KeeperState}
+use Rattle.checkpoint.specs.Keeping.{BegunImage, HasReceived}
+use Rattle.checkpoint.proofs.ReceivedLemmas.{received_push, received_fall, still_kept, mark_few}
 use Rattle.world.specs.declared.steps.Step.{Step}
 use Rattle.world.specs.declared.steps.Answer.{Answer}
-use Rattle.record_format.specs.declared.record.Record.{Record}
-use Rattle.record_format.specs.Records.{IsRecord, call_record}
-use Rattle.calls.specs.Rules.{inverse_of}
-use Rattle.txn.specs.Books.{Appends, CutAnswers, later_record}
-use Rattle.repetition.specs.Steps.{Steps}
-use Rattle.checkpoint.specs.Keepers.{queue}
-use Rattle.world.specs.Pasts.{BookState, Past, committed_in, records_of_step, records_of, told}
-use Rattle.world.specs.Pasts.{BookStep, CoreStep}
-use Rattle.world.specs.Crash.{Yields}
-use Rattle.world.specs.Worlds.{Carries, StandIn, Parts, HasPast}
-use Rattle.world.proofs.PastLemmas.{committed_in-append, prefix_trans}
-use Rattle.world.proofs.StandLemmas.{stands_still, stands_fall}
-use Rattle.world.proofs.WorldLemmas.{goes_on, stays, hands_over}
+use Rattle.world.specs.Pasts.{Past, BookState, action_of, of_no_client, committed_in, told, outcome}
+use Rattle.world.specs.Pasts.{BookTakes, CoreStep}
+use Rattle.world.specs.Worlds.{Parts, HasPast}
+use Rattle.world.proofs.PastLemmas.{are_push, are_still, committed_are, committed_in-append}
+use Rattle.world.proofs.PastLemmas.{greatest_told-push, yields_on}
+use Rattle.catalog.specs.Meaning.{catalog_meaning, catalog_making}
 
--- what is yielded of a past is yielded of more of it
-pub yields_on : (start : List Collection) (past more : Past) (known : List Transaction)
-    (c : List ℕ) → Yields start past known c → Yields start (past ++ more) known c
-yields_on start past more known c y =
-    let rest = committed_in-append past more in record {
-      sound = y.sound;
-      content = y.content;
-      stands = y.stands;
-      kept = y.kept;
-      begins = prefix_trans y.kept (committed_in past) (committed_in (past ++ more)) y.begins
-          (rest.0, sym rest.1);
-      holds = y.holds;
-      serial = y.serial;
-    }
-
-pub head_carried : (end place : ℕ) (b : Block) (waiting : List Block)
-    (handed : List (List Record)) → Carries end place (b ∷ waiting) handed →
-    (rs : List Record) × ((rest : List (List Record)) × (handed ≡ rs ∷ rest))
-head_carried end place b waiting [] carried = absurd carried
-head_carried end place b waiting (rs ∷ rest) carried = (rs, (rest, refl))
-
--- a cut that is refused leaves the book and the blocks in transit
-uncut : (s t : BookState) (waiting waits : List Block) (e : Refusal) →
-    CutAnswers s waiting (4 ≤ length waiting) (Err e) waits t → (t ≡ s) × (waits ≡ waiting)
-uncut s t waiting waits Refusal.NotNow step =
-    let cut = step.0 in (
-      step.1 ∙ ap (λ l. let v : BookState =
-          record s { pending = l; freezes = t.freezes; end = t.end; place = t.place } in v) cut.2 ∙
-          ap (λ l. let v : BookState = record s { freezes = l; end = t.end; place = t.place } in v)
-          cut.5
-          ∙ ap (λ n. let v : BookState = record s { end = n; place = t.place } in v) cut.3 ∙
-          ap (λ n. let v : BookState = record s { place = n } in v) cut.4,
-      cut.1,
-    )
-uncut s t waiting waits e step = absurd step.0
+-- The records of a book grow.
+received_leads : {D : Type 0} (seen : D → List ℕ) (may_leave : D → List ℕ → Type 0)
+    (start : List Collection) (wear : ℕ) (records : List Record) (now : State)
+    (images : List BegunImage) (received : List Block) (k : KeeperState D) →
+    HasReceived seen may_leave start wear records now images received k → (rs : List Record)
+    (next : State) → AllByRecursion (IsRecord None) rs → Repeats rs now next →
+    HasReceived seen may_leave start wear (records ++ rs) next images received k
+received_leads seen may_leave start wear records now images received k had [] next good leads =
+    subst (λ l. HasReceived seen may_leave start wear l next images received k)
+    (sym (append-nil records))
+    (subst (λ s. HasReceived seen may_leave start wear records s images received k) leads had)
+received_leads seen may_leave start wear records now images received k had (r ∷ rs) next good
+    leads =
+    let one = received_push seen may_leave start wear records now images received k had r leads.0
+    leads.1 good.0 in
+    subst (λ l. HasReceived seen may_leave start wear l next images received k)
+    (append_assoc records (r ∷ []) rs)
+    (received_leads seen may_leave start wear (records ++ r ∷ []) leads.0 images received k one rs
+    next good.1 leads.2)
 
 -- The pending records behind a step are good; nothing is asked of them behind one that adds none.
 abbrev pub AreGoodBehind : Step → BookState → Type 0
@@ -68,161 +61,232 @@ AreGoodBehind Step.Cut t = Unit {0}
 AreGoodBehind Step.Look t = Unit {0}
 AreGoodBehind s t = AllByRecursion (IsRecord None) t.pending
 
+-- the book's step of no client
+abbrev pub alone_step : Action → BookStep
+alone_step action = record { client = None; action = action }
+
+-- only a cut has a number of records
+uncut : (b : BookState) (action : Action) (t : BookState) →
+    books.Takes catalog_meaning catalog_making b action t → without_count action ≡ action
+uncut b (Action.Cut count a) t took = absurd took
+uncut b (Action.Make name kind a) t took = refl
+uncut b (Action.Enter n a) t took = refl
+uncut b (Action.Call n target call a) t took = refl
+uncut b (Action.Later n target call a) t took = refl
+uncut b (Action.Commit n a) t took = refl
+uncut b (Action.Back n a) t took = refl
+uncut b (Action.Ended n a) t took = refl
+uncut b (Action.Freeze a) t took = absurd took
+
+cut_action : (a : Result Bool Refusal) →
+    action_of Step.Cut (outcome Answer.Cut a) ≡ Some (Action.Cut 0 a)
+cut_action (Ok handed) = refl
+cut_action (Err e) = refl
+
 module _ {D : Type 0} (seen : D → List ℕ) (may_leave : D → List ℕ → Type 0)
     (start : List Collection) (past : Past) (w : Parts D)
     (had : HasPast seen may_leave start past w) where
-  grows : (s : Step) (a : Answer) (r : Record) (t : BookState) (waits : List Block) →
-      BookStep w.book (s, a) t → records_of_step s a ≡ r ∷ [] → told s a ≡ 0 →
-      Steps w.book.state r t.state → Appends w.book r t → AllByRecursion (IsRecord None) t.pending →
-      waits ≡ w.waiting →
-      HasPast seen may_leave start (past ++ (s, a) ∷ []) (record w { book = t; waiting = waits })
-  grows s a r t waits step adds silent row more good same =
-      subst (λ q. HasPast seen may_leave start (past ++ (s, a) ∷ [])
-      (record w { book = t; waiting = q })) (sym same)
-      (goes_on seen may_leave start past w had s a r t step adds silent row more good)
+  -- what a stop leaves now, or at a moment, is what the past yields that goes on so
+  pub yields_then : (x : Step × Answer) (c : List ℕ) →
+      Yields start (committed_of (records_by had.steps))
+      (take w.keeper.mark (committed_of (records_by had.steps))) c →
+      Yields start (committed_in (past ++ x ∷ [])) (take w.mark (committed_in past)) c
+  yields_then x c y =
+      let same = sym (committed_are past had.steps had.are) in
+      yields_on start past (x ∷ []) (take w.mark (committed_in past)) c
+      (subst (λ m. Yields start (committed_in past) (take m (committed_in past)) c)
+      (sym had.marked)
+      (subst (λ ts. Yields start ts (take w.keeper.mark ts) c) same y))
 
-  quietly : (s : Step) (a : Answer) (t : BookState) (waits : List Block) →
-      BookStep w.book (s, a) t → records_of_step s a ≡ [] → told s a ≤ w.mark →
-      t.pending ≡ w.book.pending → t.end ≡ w.book.end → t.place ≡ w.book.place →
-      ((f : ℕ) → Contains w.book.freezes f → Contains t.freezes f) →
-      ((blocks : List (List Record)) (covered : List Record) →
-      (old : StandIn start had.wear (records_of past) w.book.state blocks covered) →
-      (new : StandIn start had.wear (records_of past) t.state blocks covered) ×
-      (new.since ≡ old.since)) → waits ≡ w.waiting →
-      HasPast seen may_leave start (past ++ (s, a) ∷ []) (record w { book = t; waiting = waits })
-  quietly s a t waits step adds tells pending end place keeps moves same =
-      subst (λ q. HasPast seen may_leave start (past ++ (s, a) ∷ [])
-      (record w { book = t; waiting = q })) (sym same)
-      (stays seen may_leave start past w had s a t step adds tells pending end place keeps
-      moves)
+  pub moments_then : (moment : D → ℕ) (left_since : D → ℕ → List ℕ → Type 0) (disk : D)
+      (x : Step × Answer) →
+      LeavesOnly moment left_since w.keeper.disk disk
+      (Yields start (committed_of (records_by had.steps))
+      (take w.keeper.mark (committed_of (records_by had.steps)))) →
+      LeavesOnly moment left_since w.keeper.disk disk
+      (Yields start (committed_in (past ++ x ∷ [])) (take w.mark (committed_in past)))
+  moments_then moment left_since disk x leaves =
+      weaker moment left_since w.keeper.disk disk
+      (Yields start (committed_of (records_by had.steps))
+      (take w.keeper.mark (committed_of (records_by had.steps))))
+      (Yields start (committed_in (past ++ x ∷ [])) (take w.mark (committed_in past))) leaves
+      (yields_then x)
 
-  unchanged : (s : Step) (a : Answer) (t : BookState) (waits : List Block) →
-      BookStep w.book (s, a) t → t ≡ w.book → waits ≡ w.waiting → records_of_step s a ≡ [] →
-      told s a ≤ w.mark →
-      HasPast seen may_leave start (past ++ (s, a) ∷ []) (record w { book = t; waiting = waits })
-  unchanged s a t waits step is same adds tells =
-      quietly s a t waits step adds tells (ap (λ (x : BookState). x.pending) is)
-      (ap (λ (x : BookState). x.end) is) (ap (λ (x : BookState). x.place) is)
-      (λ f there. subst (λ l. Contains l f) (sym (ap (λ (x : BookState). x.freezes) is)) there)
-      (λ blocks covered old. stands_still start had.wear (records_of past) w.book.state blocks
-      covered t.state (ap (λ (x : BookState). x.state) is) old) same
+  -- where the disk stays, a stop leaves what the past yields
+  pub rests : (moment : D → ℕ) (left_since : D → ℕ → List ℕ → Type 0) →
+      ((c : List ℕ) → left_since w.keeper.disk (moment w.keeper.disk) c →
+      may_leave w.keeper.disk c) →
+      LeavesOnly moment left_since w.keeper.disk w.keeper.disk
+      (Yields start (committed_in past) (take w.mark (committed_in past)))
+  rests moment left_since only_now =
+      let same = sym (committed_are past had.steps had.are) in
+      subst (λ m. LeavesOnly moment left_since w.keeper.disk w.keeper.disk
+      (Yields start (committed_in past) (take m (committed_in past)))) (sym had.marked)
+      (subst (λ ts. LeavesOnly moment left_since w.keeper.disk w.keeper.disk
+      (Yields start ts (take w.keeper.mark ts))) same
+      (still_kept seen may_leave start had.wear (records_by had.steps) w.book.state had.begun
+      had.received w.keeper had.keeps moment left_since only_now))
 
-  -- every step of the book, and those that change nothing
+  -- and what it yields that goes on
+  pub quiet : (moment : D → ℕ) (left_since : D → ℕ → List ℕ → Type 0) →
+      ((c : List ℕ) → left_since w.keeper.disk (moment w.keeper.disk) c →
+      may_leave w.keeper.disk c) → (x : Step × Answer) →
+      LeavesOnly moment left_since w.keeper.disk w.keeper.disk
+      (Yields start (committed_in (past ++ x ∷ [])) (take w.mark (committed_in past)))
+  quiet moment left_since only_now x =
+      moments_then moment left_since w.keeper.disk x
+      (still_kept seen may_leave start had.wear (records_by had.steps) w.book.state had.begun
+      had.received w.keeper had.keeps moment left_since only_now)
+
+  -- the mark counts transactions that are committed
+  pub few_marked : w.mark ≤ length (committed_in past)
+  few_marked =
+      let few = mark_few seen may_leave start had.wear (records_by had.steps) w.book.state had.begun
+      had.received w.keeper had.keeps in
+      omega (arith, few, had.marked, ap length (committed_are past had.steps had.are))
+
+  -- a step in which the book and the keeper take no part
+  pub passes : (x : Step × Answer) → action_of x.0 x.1 ≡ None → told x.0 x.1 ≤ w.mark →
+      HasPast seen may_leave start (past ++ x ∷ []) w
+  passes x none tells = record {
+    wear = had.wear;
+    steps = had.steps;
+    are = are_still past x had.steps had.are none;
+    received = had.received;
+    groups = had.groups;
+    images = had.images;
+    handed = had.handed;
+    begun = had.begun;
+    are_begun = had.are_begun;
+    keeps = had.keeps;
+    marked = had.marked;
+    told = greatest_told-push past x.0 x.1 w.mark had.told tells;
+  }
+
+  -- a step of the book that hands nothing over
+  pub takes : (x : Step × Answer) (action : Action) (t : BookState) →
+      action_of x.0 x.1 ≡ Some action → told x.0 x.1 ≤ w.mark →
+      books.Takes catalog_meaning catalog_making w.book action t →
+      AllByRecursion (IsRecord None) t.pending →
+      HasPast seen may_leave start (past ++ x ∷ []) (record w { book = t })
+  takes x action t is tells took good =
+      let step = alone_step action in
+      let rs = records_of_action action in
+      let left = leaves catalog_meaning catalog_making w.book t action took in
+      let more : AllByRecursion (IsRecord None) rs = each_back (IsRecord None) w.book.pending rs
+      (subst (AllByRecursion (IsRecord None)) left.pending good) in
+      let keeps : HasReceived seen may_leave start had.wear (records_by had.steps ++ rs) t.state
+      had.begun had.received w.keeper =
+      ⊎_elim
+      (λ (leads : Repeats rs w.book.state t.state).
+      received_leads seen may_leave start had.wear (records_by had.steps) w.book.state had.begun
+      had.received w.keeper had.keeps rs t.state more leads)
+      (λ fall. subst (λ l. HasReceived seen may_leave start had.wear l t.state had.begun
+      had.received w.keeper)
+      (sym (append-nil (records_by had.steps)) ∙
+      ap (λ l. records_by had.steps ++ l) (sym fall.0))
+      (received_fall seen may_leave start had.wear (records_by had.steps) w.book.state had.begun
+      had.received w.keeper had.keeps fall.1.0 t.state fall.1.1))
+      left.leads in
+      record {
+        wear = had.wear;
+        steps = had.steps ++ step ∷ [];
+        are = are_push past x had.steps (step ∷ []) had.are
+            (ap (λ v. alone_step v ∷ []) (uncut w.book action t took) ∙ ap of_no_client (sym is));
+        received = had.received;
+        groups = had.groups;
+        images = had.images;
+        handed = takes_on catalog_meaning catalog_making (λ v. v) start had.wear had.steps w.book t
+            (had.received ++ w.transit) had.groups had.images had.handed None action took good;
+        begun = had.begun;
+        are_begun = had.are_begun;
+        keeps = subst (λ l. HasReceived seen may_leave start had.wear l t.state had.begun
+            had.received w.keeper) (sym (records_by-push had.steps step)) keeps;
+        marked = had.marked;
+        told = greatest_told-push past x.0 x.1 w.mark had.told tells;
+      }
+
+  -- a block is handed over, or none
+  pub cuts : (a : Result Bool Refusal) (t : BookState) (waits : List Block) →
+      books.CutAnswers w.book (λ bs. waits ≡ w.transit ++ bs) (4 ≤ length w.transit) a t →
+      HasPast seen may_leave start (past ++ (Step.Cut, outcome Answer.Cut a) ∷ [])
+      (record w { book = t; transit = waits })
+  cuts a t waits cut =
+      let on = cuts_on catalog_meaning catalog_making (λ v. v) start had.wear had.steps w.book t
+      (had.received ++ w.transit) had.groups had.images had.handed None
+      (λ bs. waits ≡ w.transit ++ bs) (4 ≤ length w.transit) a cut in
+      let step = alone_step (Action.Cut on.0 a) in
+      let all : records_by (had.steps ++ step ∷ []) ≡ records_by had.steps =
+      records_by-push had.steps step ∙ append-nil (records_by had.steps) in
+      record {
+        wear = had.wear;
+        steps = had.steps ++ step ∷ [];
+        are = are_push past (Step.Cut, outcome Answer.Cut a) had.steps (step ∷ []) had.are
+            (ap of_no_client (sym (cut_action a)));
+        received = had.received;
+        groups = had.groups ++ on.2;
+        images = had.images;
+        handed = subst (λ l. HasHanded catalog_meaning catalog_making (λ v. v) start had.wear
+            (had.steps ++ step ∷ []) t l (had.groups ++ on.2) had.images)
+            (append_assoc had.received w.transit on.1 ∙ ap (λ l. had.received ++ l) (sym on.3))
+            on.4;
+        begun = had.begun;
+        are_begun = had.are_begun;
+        keeps = subst (λ l. HasReceived seen may_leave start had.wear l t.state had.begun
+            had.received w.keeper) (sym all)
+            (subst (λ s. HasReceived seen may_leave start had.wear (records_by had.steps) s
+            had.begun had.received w.keeper) (sym (ap (λ (x : BookState). x.state) cut.1))
+            had.keeps);
+        marked = had.marked;
+        told = greatest_told-push past Step.Cut (outcome Answer.Cut a) w.mark had.told
+            (omega arith);
+      }
+
+  -- a step that hands nothing over, or in which the book takes no part
+  book_takes : (x : Step × Answer) (o : Option Action) (t : BookState) (waits : List Block) →
+      action_of x.0 x.1 ≡ o → told x.0 x.1 ≤ w.mark → BookTakes w.book o t →
+      AllByRecursion (IsRecord None) t.pending → waits ≡ w.transit →
+      HasPast seen may_leave start (past ++ x ∷ []) (record w { book = t; transit = waits })
+  book_takes x None t waits is tells took good same =
+      rw (took, same) (passes x is tells)
+  book_takes x (Some action) t waits is tells took good same =
+      rw (same) (takes x action t is tells took good)
+
+  -- every step that calls no keeper
   pub core_past : (x : Step × Answer) (t : BookState) (waits : List Block) → AreGoodBehind x.0 t →
-      CoreStep w.book w.waiting w.mark x t waits →
-      HasPast seen may_leave start (past ++ x ∷ []) (record w { book = t; waiting = waits })
-  core_past (Step.Make name kind, Answer.Placed place) t waits good step =
-      grows (Step.Make name kind) (Answer.Placed place) (Record.Make kind name) t waits step.0 refl
-      refl step.0.0 step.0.1.appends good step.1
-  core_past (Step.Make name kind, Answer.Refused e) t waits good step =
-      unchanged (Step.Make name kind) (Answer.Refused e) t waits step.0 step.0.0 step.1 refl
-      (omega arith)
-  core_past (Step.Enter n, Answer.Entered) t waits good step =
-      grows (Step.Enter n) Answer.Entered (Record.Begin n) t waits step.0 refl refl step.0.0
-      step.0.2 good step.1
-  core_past (Step.Enter n, Answer.Refused e) t waits good step =
-      unchanged (Step.Enter n) (Answer.Refused e) t waits step.0 step.0.0 step.1 refl (omega arith)
-  core_past (Step.Call n at call, Answer.Replied reply) t waits good step =
-      grows (Step.Call n at call) (Answer.Replied reply)
-      (Record.Call (call_record n at call reply (inverse_of call reply))) t waits step.0 refl
-      refl step.0.0 step.0.2.appends good step.1
-  core_past (Step.Call n at call, Answer.Refused e) t waits good step =
-      unchanged (Step.Call n at call) (Answer.Refused e) t waits step.0 step.0.0 step.1 refl
-      (omega arith)
-  core_past (Step.Later n at call, Answer.PutOff) t waits good step =
-      grows (Step.Later n at call) Answer.PutOff (later_record n at call) t waits step.0 refl refl
-      step.0.0 step.0.2.appends good step.1
-  core_past (Step.Later n at call, Answer.Refused e) t waits good step =
-      unchanged (Step.Later n at call) (Answer.Refused e) t waits step.0 step.0.0 step.1 refl
-      (omega arith)
-  core_past (Step.Commit n, Answer.Placed place) t waits good step =
-      grows (Step.Commit n) (Answer.Placed place) (Record.Commit n) t waits step.0 refl refl
-      step.0.0 step.0.1.appends good step.1
-  core_past (Step.Commit n, Answer.Refused e) t waits good step =
-      unchanged (Step.Commit n) (Answer.Refused e) t waits step.0 step.0.0 step.1 refl (omega arith)
-  core_past (Step.Back n, Answer.Backed true) t waits good step =
-      grows (Step.Back n) (Answer.Backed true) (Record.Back n) t waits step.0 refl refl step.0.0
-      step.0.1.appends good step.1
-  core_past (Step.Back n, Answer.Backed false) t waits good step =
-      let is = step.0.2 in
-      quietly (Step.Back n) (Answer.Backed false) t waits step.0 refl (omega arith)
-      (ap (λ (x : BookState). x.pending) is) (ap (λ (x : BookState). x.end) is)
-      (ap (λ (x : BookState). x.place) is)
-      (λ f there. subst (λ l. Contains l f) (sym (ap (λ (x : BookState). x.freezes) is)) there)
-      (λ blocks covered old. stands_fall start had.wear (records_of past) w.book.state blocks
-      covered n t.state step.0.0 old) step.1
-  core_past (Step.Back n, Answer.Refused e) t waits good step =
-      unchanged (Step.Back n) (Answer.Refused e) t waits step.0 step.0.0 step.1 refl (omega arith)
-  core_past (Step.Ended n, Answer.Ended) t waits good step =
-      grows (Step.Ended n) Answer.Ended (Record.Ended n) t waits step.0 refl refl step.0.0
-      step.0.1.appends good step.1
-  core_past (Step.Ended n, Answer.Refused e) t waits good step =
-      unchanged (Step.Ended n) (Answer.Refused e) t waits step.0 step.0.0 step.1 refl (omega arith)
-  core_past (Step.Cut, Answer.Cut true) t waits good step =
-      let cut = step.0 in
-      subst (λ q. HasPast seen may_leave start (past ++ (Step.Cut, Answer.Cut true) ∷ [])
-      (record w { book = t; waiting = q })) (sym cut.1)
-      (hands_over seen may_leave start past w had t cut.0 (w.waiting, waits, step) cut.2 cut.3 cut.4
-      (λ f there behind. (cut.5 f).1 (there, behind)) (ap (λ (x : BookState). x.state) step.1))
-  core_past (Step.Cut, Answer.Cut false) t waits good step =
-      let cut = step.0 in
-      quietly Step.Cut (Answer.Cut false) t waits (w.waiting, waits, step) refl (omega arith) cut.2
-      cut.3 cut.4 (λ f there. subst (λ l. Contains l f) (sym cut.5) there)
-      (λ blocks covered old. stands_still start had.wear (records_of past) w.book.state blocks
-      covered t.state (ap (λ (x : BookState). x.state) step.1) old) cut.1
-  core_past (Step.Cut, Answer.Refused e) t waits good step =
-      let same = uncut w.book t w.waiting waits e step in
-      unchanged Step.Cut (Answer.Refused e) t waits same.0 same.0 same.1 refl (omega arith)
-  core_past (Step.Draw, Answer.Drawn n) t waits good step =
-      unchanged Step.Draw (Answer.Drawn n) t waits step.0 step.0 step.1 refl (omega arith)
-  core_past (Step.Draw, Answer.Refused e) t waits good step =
-      unchanged Step.Draw (Answer.Refused e) t waits step.0 step.0 step.1 refl (omega arith)
+      CoreStep w.book w.transit w.mark x t waits →
+      HasPast seen may_leave start (past ++ x ∷ []) (record w { book = t; transit = waits })
+  core_past (Step.Draw, a) t waits good step =
+      rw (step.1, step.2) (passes (Step.Draw, a) refl (omega arith))
+  core_past (Step.Make name kind, a) t waits good step =
+      book_takes (Step.Make name kind, a) (action_of (Step.Make name kind) a) t waits refl
+      (omega arith) step.1 good step.2
+  core_past (Step.Enter n, a) t waits good step =
+      book_takes (Step.Enter n, a) (action_of (Step.Enter n) a) t waits refl (omega arith) step.1
+      good step.2
+  core_past (Step.Call n at call, a) t waits good step =
+      book_takes (Step.Call n at call, a) (action_of (Step.Call n at call) a) t waits refl
+      (omega arith) step.1 good step.2
+  core_past (Step.Later n at call, a) t waits good step =
+      book_takes (Step.Later n at call, a) (action_of (Step.Later n at call) a) t waits refl
+      (omega arith) step.1 good step.2
+  core_past (Step.Commit n, a) t waits good step =
+      book_takes (Step.Commit n, a) (action_of (Step.Commit n) a) t waits refl (omega arith) step.1
+      good step.2
+  core_past (Step.Back n, a) t waits good step =
+      book_takes (Step.Back n, a) (action_of (Step.Back n) a) t waits refl (omega arith) step.1 good
+      step.2
+  core_past (Step.Ended n, a) t waits good step =
+      book_takes (Step.Ended n, a) (action_of (Step.Ended n) a) t waits refl (omega arith) step.1
+      good step.2
+  core_past (Step.Cut, Answer.Cut handed) t waits good step = cuts (Ok handed) t waits step
+  core_past (Step.Cut, Answer.Refused e) t waits good step = cuts (Err e) t waits step
+  core_past (Step.Cut, a) t waits good step = absurd step
   core_past (Step.Look, Answer.Marked m) t waits good step =
-      unchanged Step.Look (Answer.Marked m) t waits step.0 step.0 step.2 refl
-      (omega (arith, step.1))
+      rw (step.0, step.2) (passes (Step.Look, Answer.Marked m) refl (omega (arith, step.1)))
+  core_past (Step.Look, a) t waits good step =
+      rw (step.1, step.2) (passes (Step.Look, a) refl (omega arith))
   core_past (Step.Turn, a) t waits good step = absurd step
   core_past (Step.Freeze, a) t waits good step = absurd step
   core_past (Step.Piece, a) t waits good step = absurd step
   core_past (Step.Flip, a) t waits good step = absurd step
-  core_past x t waits good step = absurd step.0
-
-  -- where the disk stays, so does what a stop may leave
-  pub quiet : (moment : D → ℕ) (left_since : D → ℕ → List ℕ → Type 0) →
-      ((c : List ℕ) → left_since w.disk (moment w.disk) c → may_leave w.disk c) →
-      (x : Step × Answer) →
-      LeavesOnly moment left_since w.disk w.disk
-      (Yields start (past ++ x ∷ []) (take w.mark (committed_in past)))
-  quiet moment left_since only_now x =
-      started moment left_since w.disk _
-      (λ c left. yields_on start past (x ∷ []) (take w.mark (committed_in past)) c
-      (had.stop c (only_now c left)))
-
--- a block that the keeper holds stays before those in transit
-pub core_held : (held : Option Block) (s t : BookState) (transit left : List Block) (mark : ℕ)
-    (x : Step × Answer) → CoreStep s transit mark x t left →
-    CoreStep s (queue held transit) mark x t (queue held left)
-core_held None s t transit left mark x step = step
-core_held (Some b) s t transit left mark (Step.Cut, Answer.Cut true) step =
-    ((step.0.0, ap (λ l. b ∷ l) step.0.1, step.0.2, step.0.3, step.0.4, step.0.5), step.1)
-core_held (Some b) s t transit left mark (Step.Cut, Answer.Cut false) step =
-    ((step.0.0, ap (λ l. b ∷ l) step.0.1, step.0.2, step.0.3, step.0.4, step.0.5), step.1)
-core_held (Some b) s t transit left mark (Step.Cut, Answer.Refused Refusal.NotNow) step = (
-  (
-    omega (arith, step.0.0),
-    ap (λ l. b ∷ l) step.0.1,
-    step.0.2,
-    step.0.3,
-    step.0.4,
-    step.0.5,
-    step.0.6,
-  ),
-  step.1,
-)
-core_held (Some b) s t transit left mark (Step.Cut, Answer.Refused e) step = absurd step.0
-core_held (Some b) s t transit left mark (Step.Look, Answer.Marked m) step =
-    (step.0, step.1, ap (λ l. b ∷ l) step.2)
-core_held (Some b) s t transit left mark (Step.Turn, a) step = absurd step
-core_held (Some b) s t transit left mark (Step.Freeze, a) step = absurd step
-core_held (Some b) s t transit left mark (Step.Piece, a) step = absurd step
-core_held (Some b) s t transit left mark (Step.Flip, a) step = absurd step
-core_held (Some b) s t transit left mark x step = (step.0, ap (λ l. b ∷ l) step.1)

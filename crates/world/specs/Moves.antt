@@ -1,6 +1,7 @@
 -- One step of a world, with its answer: what the book, the keeper and the mark answer, and what
 -- they leave.
-use Rattle.std.specs.Prelude.{◌≡◌, ◌⊎◌, ℕ, ◌+◌, ◌<◌, ◌≤◌, Bool, List, length, Result, Ok, Err}
+use Rattle.std.specs.Prelude.{◌≡◌, ◌⊎◌, ℕ, ◌+◌, ◌<◌, ◌≤◌, Bool, List, [], ◌++◌, length, Result}
+use Rattle.std.specs.Prelude.{Ok, Err}
 use Rattle.calls.specs.declared.refusal.Refusal.{Refusal}
 use Rattle.disk_model.specs.Disk.{Rises}
 use Rattle.gate_block.specs.Area.{size_of, position_of}
@@ -10,7 +11,7 @@ use Rattle.txn.specs.Freezing.{FreezeAnswers}
 use Rattle.checkpoint.specs.Imaging.{HasPiece}
 use Rattle.checkpoint.specs.ImageAnswers.{BeginAnswers, PieceAnswers, FlipAnswers}
 use Rattle.checkpoint.specs.declared.turn.Turn.{Turn}
-use Rattle.checkpoint.specs.Keepers.{KeeperState, IsPast, queue, TurnAnswers}
+use Rattle.checkpoint.specs.Keepers.{KeeperState, IsPast, TurnAnswers}
 use Rattle.world.specs.declared.steps.Step.{Step}
 use Rattle.world.specs.declared.steps.Answer.{Answer}
 use Rattle.world.specs.Pasts.{BookState, CoreStep, Draws, outcome, mark_behind, alone, mark_flipped}
@@ -35,12 +36,13 @@ pub record IsTurn {D : Type 0} (fault_count : D → ℕ) (old : Whole D) (a : An
   pub turned : Result Turn Refusal
   pub answer : a ≡ outcome Answer.Turned turned
   pub answers :
-      TurnAnswers (queue old.keeper.held old.transit) old.keeper.failed old.keeper.mark
+      TurnAnswers old.keeper.held (λ bs. old.transit ≡ bs ++ new.transit) (old.transit ≡ [])
+      old.keeper.failed old.keeper.mark
       (λ b. b.end ≤ old.keeper.covered) (λ b. IsPast old.keeper.image b.end)
       (λ b. size_of old.keeper.area < position_of old.keeper.area + length b.bytes.items)
       ((new.keeper.area ≡ old.keeper.area) × (new.keeper.disk ≡ old.keeper.disk))
       (Rises (fault_count old.keeper.disk) (fault_count new.keeper.disk))
-      turned new.transit new.keeper.held new.keeper.mark new.keeper.failed
+      turned new.keeper.held new.keeper.mark new.keeper.failed
   pub book : new.book ≡ old.book
   pub mark : new.mark ≡ mark_behind old.mark turned
   pub next : new.next ≡ old.next

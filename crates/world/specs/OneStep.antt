@@ -6,7 +6,7 @@ use Rattle.disk_model.specs.declared.disk.Disk.{Ghosts}
 use Rattle.world.specs.declared.steps.Step.{Step}
 use Rattle.world.specs.declared.steps.Answer.{Answer}
 use Rattle.world.specs.Pasts.{Past, committed_in, IsAnswerOf, Draws}
-use Rattle.world.specs.Crash.{Yields}
+use Rattle.checkpoint.specs.Crash.{Yields}
 use Rattle.world.specs.Worlds.{Parts, HasPast, parts_of}
 use Rattle.world.specs.Moves.{Whole, Moves}
 
@@ -26,7 +26,7 @@ pub record TakesStep {D : Type 0} (g : Ghosts D) (old : Whole D) (x : Step × An
   pub any_moment : (start : List Collection) (past : Past) →
       HasPast g.seen g.may_leave start past (parts old) →
       LeavesOnly g.moment g.left_since old.keeper.disk new.keeper.disk
-      (Yields start (past ++ x ∷ []) (take old.mark (committed_in past)))
+      (Yields start (committed_in (past ++ x ∷ [])) (take old.mark (committed_in past)))
   pub mark : old.mark ≤ new.mark
   -- it is answered in its own way, as the book, the keeper or the mark answers it, and draws the
   -- next number or none

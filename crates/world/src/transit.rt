@@ -1,5 +1,7 @@
 // Blocks between the book and the keeper.
-ghost use Rattle.std.specs.Prelude.{◌≡◌, ◌≤◌, length, IfOk, []};
+ghost use Rattle.std.specs.Prelude.{◌≡◌, ◌≤◌, ◌++◌, length, IfOk, []};
+ghost use Rattle.std.proofs.Common.{refl, sym, ◌∙◌};
+ghost use Rattle.std.proofs.lemmas.List.{append-nil, append_cancel_right};
 ghost use Rattle.std.specs.VecDeque.{deque_capacity};
 
 use calls::limits::MAX_TRANSIT;
@@ -27,9 +29,9 @@ impl Transit {
 }
 
 impl Outbox for Transit {
-    ghost waiting = { λ t. t.blocks.items };
+    ghost sends = { λ t bs u. u.blocks.items ≡ t.blocks.items ++ bs };
 
-    ghost is_full = { λ t. 4 ≤ length t.blocks.items };
+    ghost was_full = { λ t u. 4 ≤ length t.blocks.items };
 
     fn offer(&mut self, block: Block) -> Result<(), Block> {
         if self.blocks.len() >= MAX_TRANSIT {
@@ -38,12 +40,21 @@ impl Outbox for Transit {
         self.blocks.push_back_reserved(block);
         Ok(())
     }
+
+    ghost sends_none = { λ t. sym (append-nil t.blocks.items) };
 }
 
 impl Inbox for Transit {
-    ghost waiting = { λ t. t.blocks.items };
+    ghost receives = { λ t bs u. t.blocks.items ≡ bs ++ u.blocks.items };
+
+    ghost was_empty = { λ t u. t.blocks.items ≡ [] };
 
     fn take(&mut self) -> Option<Block> {
         self.blocks.pop_front()
     }
+
+    ghost receives_none = { λ t. refl };
+
+    ghost receives_one_list = { λ t u xs ys a b. append_cancel_right xs ys u.blocks.items
+        (sym a ∙ b) };
 }

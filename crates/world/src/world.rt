@@ -12,8 +12,8 @@ ghost use Rattle.recovery.specs.Openings.{IsOpened, IsReadyStore};
 ghost use Rattle.world.specs.declared.steps.Step.{Step};
 ghost use Rattle.world.specs.declared.steps.Answer.{Answer};
 ghost use Rattle.world.specs.Pasts.{Past, acknowledged, mark_behind, mark_flipped, AreAnswered};
-ghost use Rattle.world.specs.Pasts.{Draws, alone, outcome};
-ghost use Rattle.world.specs.Crash.{IsOneHistory, Yields};
+ghost use Rattle.world.specs.Pasts.{Draws, alone, outcome, committed_in, IsOneHistory};
+ghost use Rattle.checkpoint.specs.Crash.{Yields};
 ghost use Rattle.world.specs.Worlds.{HasPast};
 ghost use Rattle.world.specs.Moves.{Moves};
 ghost use Rattle.world.specs.OneStep.{parts, TakesStep};
@@ -329,7 +329,8 @@ pub fn play<D: Disk>(
         HasPast D.seen D.may_leave start past (parts world.old) →
         IfOk result (λ answers. LeavesOnly D.moment D.left_since world.old.keeper.disk
         world.new.keeper.disk
-        (Yields start (past ++ zip steps.now answers.items) (acknowledged past))) }
+        (Yields start (committed_in (past ++ zip steps.now answers.items))
+        (acknowledged past))) }
     // What the past says of the book.
     ensures one_history { (start : List Collection) (past : Past) →
         HasPast D.seen D.may_leave start past (parts world.old) →

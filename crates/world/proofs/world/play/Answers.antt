@@ -7,9 +7,8 @@ use Rattle.calls.specs.Transactions.{Leads}
 use Rattle.repetition.proofs.Lists.{leads_push}
 use Rattle.world.specs.declared.steps.Answer.{Answer}
 use Rattle.world.specs.OneStep.{parts, TakesStep}
-use Rattle.world.proofs.YieldLemmas.{one_history}
-use Rattle.world.proofs.PlayLemmas.{zip-more, past_goes_on, moments_of, answered_of, drawn_of}
-use Rattle.world.proofs.PlayLemmas.{moves_of, honest_of}
+use Rattle.world.proofs.PlayLemmas.{zip-more, one_history, past_goes_on, moments_of, answered_of}
+use Rattle.world.proofs.PlayLemmas.{drawn_of, moves_of, honest_of}
 use Rattle.world.proofs.world.play.Given.{Over}
 use Rattle.world.proofs.world.play.Goals as goal
 

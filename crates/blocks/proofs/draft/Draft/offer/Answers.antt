@@ -22,6 +22,7 @@ returns-in-Ok-clause-handed g c =
     c.self.invariant.0 (omega (arith, ap length same, c.requires.some))
     (omega (arith, ap (λ rs. length (spelling rs)) same, c.requires.short))
     c.close_block.ensures.block in
-    offered _ _ _ _ _ _ _ same c.in-Ok.ensures.taken block
+    offered _ _ _ _ (λ bs. g.O.Outbox.sends c.args.out.now bs c.offer.new.self) _ same
+    c.in-Ok.ensures.sent block
     (ap (λ n. c.args.handed.now.end + n) c.self.invariant.1)
     (ap (λ n. c.args.handed.now.place + n) c.self.invariant.2) refl

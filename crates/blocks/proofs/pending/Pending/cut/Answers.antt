@@ -21,7 +21,8 @@ offer-requires-clause-place g c =
 
 pub returns-in-Some : goal.returns-in-Some
 returns-in-Some g c = rw (← c.self.view_is)
-    (first_over _ c.in-Some.first _ c.self.inside.count _ _ _ c.self.invariant
+    (first_over _ c.in-Some.first _ c.self.inside.count _
+    (λ bs. g.O.Outbox.sends c.args.out.now bs c.offer.new.out) c.self.invariant
     c.in-Some.ensures.items c.in_default-offer.ensures.handed)
 
 pub returns : goal.returns
@@ -45,10 +46,11 @@ returns g c =
       spare = c.self.inside.spare;
       most = 0;
       handed = c.self.inside.handed;
-    }) _ _ _ after c.replace-last.new.dest none some
+    }) _ (λ bs. g.O.Outbox.sends c.args.out.now bs c.offer-2.new.out) after
+    c.replace-last.new.dest none some
     left empty
     (subst (λ rs. IsOffered rs c.self.inside.handed c.offer-2.new.handed
-    (g.O.Outbox.waiting c.args.out.now) (g.O.Outbox.waiting c.offer-2.new.out)) same
+    (λ bs. g.O.Outbox.sends c.args.out.now bs c.offer-2.new.out)) same
     c.in_default-offer-2.ensures.handed))
 
 pub offer-requires-clause-some : goal.offer-requires-clause-some

@@ -3,7 +3,8 @@ use Rattle.record_format.specs.Short.{AreShort}
 use Rattle.abstract_locks.specs.Holds.{IsClear}
 use Rattle.boosted.specs.Meaning.{CanAsk}
 use Rattle.machine.specs.Machine.{CanCall}
-use Rattle.txn.specs.Books.{IsOpen}
+use Rattle.txn.specs.Rows.{IsOpen}
+use Rattle.txn.specs.Books.{standing}
 use Rattle.txn.specs.Views.{book_of}
 use Rattle.machine.proofs.BookLaws.{BookLaws, book_laws}
 use Rattle.txn.proofs.BookLemmas.{ask_refused}
@@ -28,11 +29,12 @@ note_call-requires-clause-can g c =
     (record { at = c.args.col; call = c.args.call.now; reply = c.args.reply.now }))
     c.self.view_is (record {
       running = (subst (λ b. IsOpen (CanAsk g.B.Boosted.meaning b.state.now c.args.col
-          c.args.call.now) b c.args.number) (sym c.self.view_is) c.requires.open).running;
+          c.args.call.now) (standing b) c.args.number) (sym c.self.view_is)
+          c.requires.open).running;
       asked = (subst (λ b. IsOpen (CanAsk g.B.Boosted.meaning b.state.now c.args.col
-          c.args.call.now) b c.args.number) (sym c.self.view_is) c.requires.open).asked;
+          c.args.call.now) (standing b) c.args.number) (sym c.self.view_is) c.requires.open).asked;
       few = (subst (λ b. IsOpen (CanAsk g.B.Boosted.meaning b.state.now c.args.col c.args.call.now)
-          b c.args.number) (sym c.self.view_is) c.requires.open).few;
+          (standing b) c.args.number) (sym c.self.view_is) c.requires.open).few;
       answered = subst (λ b. g.B.Boosted.meaning.answers b.state.now c.args.col c.args.call.now
           c.args.reply.now) (sym c.self.view_is) c.requires.answered;
       once = λ twice. let yes = c.goes_twice.ensures.1 twice in let no' = c.if-goes_twice.false in
@@ -46,11 +48,11 @@ returns-clause-err g c =
     let i = c.self.inside in
     let answered = subst (λ b. g.B.Boosted.meaning.answers b.state.now c.args.col c.args.call.now
     c.args.reply.now) (sym c.self.view_is) c.requires.answered in
-    rw (← c.self.view_is) (ask_refused g.B.Boosted.meaning
+    rw (← c.self.view_is) (ask_refused g.B.Boosted.meaning g.B.Parts.making
     (book_of i.machine i.pending i.places i.next) _ c.args.number c.args.col c.args.call.now
     c.note_call.result
-    (subst (λ b. IsOpen (CanAsk g.B.Boosted.meaning b.state.now c.args.col c.args.call.now) b
-    c.args.number) (sym c.self.view_is) c.requires.open) (
+    (subst (λ b. IsOpen (CanAsk g.B.Boosted.meaning b.state.now c.args.col c.args.call.now)
+    (standing b) c.args.number) (sym c.self.view_is) c.requires.open) (
       c.args.reply.now,
       answered,
       (λ twice. let yes = c.goes_twice.ensures.1 twice in let no' = c.if-goes_twice.false in cc),

@@ -3,7 +3,7 @@ use Rattle.record_format.specs.declared.record.Record.{Record}
 use Rattle.record_format.specs.Short.{AreShort}
 use Rattle.undo_log.specs.Logs.{Lives}
 use Rattle.machine.specs.Machine.{BackRow}
-use Rattle.txn.specs.Books.{BookState, AppendsTo}
+use Rattle.txn.specs.Books.{BookState, Appends}
 use Rattle.txn.specs.Views.{book_of}
 use Rattle.blocks.specs.Waits.{HasRoomFor}
 use Rattle.machine.proofs.BookLaws.{BookLaws, book_laws}
@@ -36,7 +36,7 @@ laws g = book_laws g.met.B.Boosted.laws g.met.B.Parts.laws g.met.B.Coded.told
 step : (g : Over) (c : goal.After-push g) → let i = c.self.inside in
     let old = book_of i.machine i.pending i.places i.next in
     BackRow g.B.Boosted.meaning old.state c.args.number c.back.new.self ×
-    AppendsTo old (Record.Back c.args.number)
+    Appends old (Record.Back c.args.number)
     (book_of c.back.new.self c.push.new.self i.places i.next)
 step g c =
     let i = c.self.inside in
@@ -44,8 +44,8 @@ step g c =
     c.back.new.self c.reserve.new.self c.push.new.self i.places i.next
     (subst (λ b. length b.pending < 16384) (sym c.self.view_is) c.in_ok-check_backlog.ensures.ok)
     c.in_ok-reserve.ensures.records c.in_ok-reserve.ensures.freezes c.in_ok-reserve.ensures.handed
-    c.push.ensures.records c.push.ensures.freezes c.push.ensures.handed (omega arith) in
-    (c.in_ok-back.ensures.ok, record { appends = written; next = refl })
+    c.push.ensures.records c.push.ensures.freezes c.push.ensures.handed (omega arith) refl in
+    (c.in_ok-back.ensures.ok, written)
 
 pub invariant_of-self : goal.invariant_of-self
 invariant_of-self g c = fall_keeps g.B.Boosted.meaning g.B.Parts.making

@@ -2,7 +2,7 @@ use Rattle.std.proofs.Common.{◌<◌, ◌+◌, length, refl, sym, subst, arith}
 use Rattle.record_format.specs.declared.record.Record.{Record}
 use Rattle.record_format.specs.Short.{AreShort}
 use Rattle.machine.specs.Machine.{IsRunning, CommitRow}
-use Rattle.txn.specs.Books.{BookState, AppendsTo}
+use Rattle.txn.specs.Books.{BookState, Appends}
 use Rattle.txn.specs.Views.{book_of}
 use Rattle.blocks.specs.Waits.{HasRoomFor}
 use Rattle.machine.proofs.BookLaws.{BookLaws, book_laws}
@@ -29,7 +29,7 @@ laws g = book_laws g.met.B.Boosted.laws g.met.B.Parts.laws g.met.B.Coded.told
 step : (g : Over) (c : goal.After-self-1 g) → let i = c.self.inside in
     let old = book_of i.machine i.pending i.places i.next in
     CommitRow g.B.Boosted.meaning old.state c.args.number c.commit.new.self ×
-    AppendsTo old (Record.Commit c.args.number)
+    Appends old (Record.Commit c.args.number)
     (book_of c.commit.new.self c.push.new.self (i.places + 1) i.next)
 step g c =
     let i = c.self.inside in
@@ -37,8 +37,8 @@ step g c =
     c.commit.new.self c.reserve.new.self c.push.new.self (i.places + 1) i.next
     (subst (λ b. length b.pending < 16384) (sym c.self.view_is) c.in_ok-check_backlog.ensures.ok)
     c.in_ok-reserve.ensures.records c.in_ok-reserve.ensures.freezes c.in_ok-reserve.ensures.handed
-    c.push.ensures.records c.push.ensures.freezes c.push.ensures.handed (omega arith) in
-    (c.commit.ensures, record { appends = written; next = refl })
+    c.push.ensures.records c.push.ensures.freezes c.push.ensures.handed (omega arith) refl in
+    (c.commit.ensures, written)
 
 pub invariant_of-self-2 : goal.invariant_of-self-2
 invariant_of-self-2 g c = commit_keeps g.B.Boosted.meaning g.B.Parts.making

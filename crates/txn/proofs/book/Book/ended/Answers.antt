@@ -3,7 +3,7 @@ use Rattle.record_format.specs.declared.record.Record.{Record}
 use Rattle.record_format.specs.Short.{AreShort}
 use Rattle.undo_log.specs.Logs.{Lives}
 use Rattle.machine.specs.Machine.{EndedRow}
-use Rattle.txn.specs.Books.{BookState, AppendsTo}
+use Rattle.txn.specs.Books.{BookState, Appends}
 use Rattle.txn.specs.Views.{book_of}
 use Rattle.blocks.specs.Waits.{HasRoomFor}
 use Rattle.machine.proofs.BookLaws.{BookLaws, book_laws}
@@ -31,7 +31,7 @@ laws g = book_laws g.met.B.Boosted.laws g.met.B.Parts.laws g.met.B.Coded.told
 step : (g : Over) (c : goal.After-push g) → let i = c.self.inside in
     let old = book_of i.machine i.pending i.places i.next in
     EndedRow old.state c.args.number c.ended.new.self ×
-    AppendsTo old (Record.Ended c.args.number)
+    Appends old (Record.Ended c.args.number)
     (book_of c.ended.new.self c.push.new.self i.places i.next)
 step g c =
     let i = c.self.inside in
@@ -39,8 +39,8 @@ step g c =
     c.ended.new.self c.reserve.new.self c.push.new.self i.places i.next
     (subst (λ b. length b.pending < 16384) (sym c.self.view_is) c.in_ok-check_backlog.ensures.ok)
     c.in_ok-reserve.ensures.records c.in_ok-reserve.ensures.freezes c.in_ok-reserve.ensures.handed
-    c.push.ensures.records c.push.ensures.freezes c.push.ensures.handed (omega arith) in
-    (c.ended.ensures, record { appends = written; next = refl })
+    c.push.ensures.records c.push.ensures.freezes c.push.ensures.handed (omega arith) refl in
+    (c.ended.ensures, written)
 
 pub invariant_of-self-2 : goal.invariant_of-self-2
 invariant_of-self-2 g c = ended_keeps g.B.Boosted.meaning g.B.Parts.making

@@ -2,7 +2,8 @@ use Rattle.std.proofs.Common.{◌<◌, ◌^◌, sym, subst, arith}
 use Rattle.record_format.specs.declared.record.Record.{Record}
 use Rattle.record_format.specs.Short.{AreShort}
 use Rattle.machine.specs.Machine.{BeginRow}
-use Rattle.txn.specs.Books.{CanEnter, Appends}
+use Rattle.txn.specs.Rows.{CanEnter}
+use Rattle.txn.specs.Books.{standing, Appends}
 use Rattle.txn.specs.Views.{book_of}
 use Rattle.blocks.specs.Waits.{HasRoomFor}
 use Rattle.machine.proofs.BookLaws.{BookLaws, book_laws}
@@ -23,12 +24,12 @@ laws g = book_laws g.met.B.Boosted.laws g.met.B.Parts.laws g.met.B.Coded.told
 
 pub begin-requires-clause-can : goal.begin-requires-clause-can
 begin-requires-clause-can g c =
-    (subst (λ b. CanEnter b c.args.number) (sym c.self.view_is)
+    (subst (λ b. CanEnter (standing b) c.args.number) (sym c.self.view_is)
     c.in_ok-check_enter.ensures.ok).begins
 
 pub begin-requires-clause-room : goal.begin-requires-clause-room
 begin-requires-clause-room g c =
-    let can = subst (λ b. CanEnter b c.args.number) (sym c.self.view_is)
+    let can = subst (λ b. CanEnter (standing b) c.args.number) (sym c.self.view_is)
     c.in_ok-check_enter.ensures.ok in
     let room = enter_room g.B.Boosted.meaning g.B.Parts.making
     (λ s. AreShort (g.B.Coded.collections s)) (laws g) c.self.inside.machine
@@ -44,20 +45,21 @@ step : (g : Over) (c : goal.After-self-1 g) → let i = c.self.inside in
 step g c =
     let i = c.self.inside in
     let old = book_of i.machine i.pending i.places i.next in
-    let can : CanEnter old c.args.number =
-    subst (λ b. CanEnter b c.args.number) (sym c.self.view_is) c.in_ok-check_enter.ensures.ok in
+    let can : CanEnter (standing old) c.args.number =
+    subst (λ b. CanEnter (standing b) c.args.number) (sym c.self.view_is)
+    c.in_ok-check_enter.ensures.ok in
     let written = recorded i.machine i.pending i.places i.next (Record.Begin c.args.number)
     c.begin.new.self c.reserve.new.self c.push.new.self i.places c.max-self-inside.result
     can.room
     c.in_ok-reserve.ensures.records c.in_ok-reserve.ensures.freezes c.in_ok-reserve.ensures.handed
-    c.push.ensures.records c.push.ensures.freezes c.push.ensures.handed (omega arith) in
+    c.push.ensures.records c.push.ensures.freezes c.push.ensures.handed (omega arith)
+    c.max-self-inside.ensures in
     (c.in_ok-begin.ensures.ok, can.unworn, written)
 
 pub invariant_of-self-2 : goal.invariant_of-self-2
 invariant_of-self-2 g c = enter_keeps g.B.Boosted.meaning g.B.Parts.making
     (λ s. AreShort (g.B.Coded.collections s)) (laws g) _ c.self.invariant c.args.number _
-    (step g c).0 (step g c).2 c.max-self-inside.ensures
+    (step g c).0 (step g c).2
 
 pub returns-clause-answer : goal.returns-clause-answer
-returns-clause-answer g c = rw (← c.self.view_is)
-    ((step g c).0, (step g c).1, (step g c).2, c.max-self-inside.ensures)
+returns-clause-answer g c = rw (← c.self.view_is) (step g c)

@@ -3,7 +3,7 @@ use Rattle.record_format.specs.Short.{AreShort}
 use Rattle.txn.specs.Views.{book_of}
 use Rattle.blocks.specs.Waits.{waiting}
 use Rattle.machine.proofs.BookLaws.{BookLaws, book_laws}
-use Rattle.txn.proofs.BookLemmas.{only_sealed, packed_image}
+use Rattle.txn.proofs.BookLemmas.{only_sealed}
 use Rattle.blocks.proofs.Packed.{all_whole}
 use Rattle.txn.proofs.BookInvariant.{freeze_keeps}
 use Rattle.txn.proofs.book.Book.freeze.Given.{Over}
@@ -33,8 +33,7 @@ returns-clause-answer g c =
     let end = c.position.ensures ∙ ap (λ h. h.end + length (waiting c.seal.new.self))
     c.seal.ensures.handed ∙ ap (λ l. i.pending.handed.end + length l) c.seal.ensures.records in
     rw (← c.self.view_is) (
-      packed_image g.B.Coded.collections (book_of i.machine i.pending i.places i.next) _
-          c.in_ok-blocks.ensures.image end refl,
+      record { packed = c.in_ok-blocks.ensures.image; end = end; place = refl },
       only_sealed i.machine i.pending c.seal.new.self i.places i.next c.seal.ensures.records
           c.seal.ensures.handed,
       c.in_ok-seal.ensures.sealed,

@@ -4,7 +4,7 @@ use Rattle.record_format.specs.declared.record.Record.{Record}
 use Rattle.record_format.specs.Short.{AreShort}
 use Rattle.catalog.specs.Making as naming
 use Rattle.machine.specs.Machine.{MakeRow}
-use Rattle.txn.specs.Books.{AppendsTo}
+use Rattle.txn.specs.Books.{standing, Appends}
 use Rattle.txn.specs.Views.{book_of}
 use Rattle.blocks.specs.Waits.{waiting}
 use Rattle.machine.proofs.BookLaws.{BookLaws, book_laws}
@@ -23,7 +23,7 @@ laws g = book_laws g.met.B.Boosted.laws g.met.B.Parts.laws g.met.B.Coded.told
 step : (g : Over) (c : goal.After-self-1 g) → let i = c.self.inside in
     let old = book_of i.machine i.pending i.places i.next in
     MakeRow g.B.Parts.making old.state c.args.name.now c.args.kind c.make.new.self ×
-    AppendsTo old (Record.Make c.args.kind c.args.name.now)
+    Appends old (Record.Make c.args.kind c.args.name.now)
     (book_of c.make.new.self c.push.new.self (i.places + 1) i.next)
 step g c =
     let i = c.self.inside in
@@ -38,8 +38,8 @@ step g c =
     (subst (λ b. length b.pending < 16384) (sym c.self.view_is) c.in_ok-check_backlog.ensures.ok)
     c.in_ok-reserve.ensures.records c.in_ok-reserve.ensures.freezes
     c.in_ok-reserve.ensures.handed put c.push.ensures.freezes c.push.ensures.handed
-    (omega arith) in
-    (c.in_ok-make.ensures.ok, record { appends = written; next = refl })
+    (omega arith) refl in
+    (c.in_ok-make.ensures.ok, written)
 
 pub returns-clause-answer : goal.returns-clause-answer
 returns-clause-answer g c = rw (← c.self.view_is) ((step g c).0, (step g c).1, refl)
@@ -67,6 +67,7 @@ returns-in_err-make-clause-answer g c =
     rw (p.1, p.2) (
       same,
       make_refused (g.B.Parts.making.names c.args.self.now.state.now)
-          c.args.self.now c.args.name.now c.in_err-make.field-0.0 c.in_ok-check_backlog.ensures.ok
+          (standing c.args.self.now) c.args.name.now c.in_err-make.field-0.0
+          c.in_ok-check_backlog.ensures.ok
           refused,
     )

@@ -3,7 +3,8 @@ use Rattle.record_format.specs.Short.{AreShort}
 use Rattle.calls.specs.Transactions.{Event}
 use Rattle.boosted.specs.Meaning.{CanAsk}
 use Rattle.machine.specs.Machine.{CanCall, CallRow}
-use Rattle.txn.specs.Books.{AppendsTo, IsOpen, record_of}
+use Rattle.txn.specs.Rows.{IsOpen, record_of}
+use Rattle.txn.specs.Books.{standing, Appends}
 use Rattle.txn.specs.Views.{book_of}
 use Rattle.machine.proofs.BookLaws.{BookLaws, book_laws}
 use Rattle.txn.proofs.BookLemmas.{recorded}
@@ -30,7 +31,7 @@ call-requires-clause-can g c =
 pub call-requires-clause-room : goal.call-requires-clause-room
 call-requires-clause-room g c =
     let asked = subst (λ b. IsOpen (CanAsk g.B.Boosted.meaning b.state.now c.args.col
-    c.args.call.now) b c.args.number) (sym c.self.view_is) c.requires.open in
+    c.args.call.now) (standing b) c.args.number) (sym c.self.view_is) c.requires.open in
     (call_room g.B.Boosted.meaning g.B.Parts.making (λ s. AreShort (g.B.Coded.collections s))
     (laws g) c.self.inside.machine c.self.invariant.upheld c.args.number c.args.col
     c.args.call.now asked.running asked.few asked.unworn).0
@@ -38,9 +39,9 @@ call-requires-clause-room g c =
 -- the call can be asked for, and gets the reply
 asks : (g : Over) (c : goal.After-push_call g) → let i = c.self.inside in
     IsOpen (CanAsk g.B.Boosted.meaning i.machine.now c.args.col c.args.call.now)
-    (book_of i.machine i.pending i.places i.next) c.args.number
-asks g c = subst (λ b. IsOpen (CanAsk g.B.Boosted.meaning b.state.now c.args.col c.args.call.now) b
-    c.args.number) (sym c.self.view_is) c.requires.open
+    (standing (book_of i.machine i.pending i.places i.next)) c.args.number
+asks g c = subst (λ b. IsOpen (CanAsk g.B.Boosted.meaning b.state.now c.args.col c.args.call.now)
+    (standing b) c.args.number) (sym c.self.view_is) c.requires.open
 
 answered : (g : Over) (c : goal.After-push_call g) →
     g.B.Boosted.meaning.answers c.self.inside.machine.now c.args.col c.args.call.now
@@ -56,7 +57,7 @@ event g c = record { at = c.args.col; call = c.args.call.now; reply = c.args.rep
 step : (g : Over) (c : goal.After-push_call g) → let i = c.self.inside in
     let old = book_of i.machine i.pending i.places i.next in
     CallRow g.B.Boosted.meaning old.state c.args.number (event g c) c.call.new.self ×
-    AppendsTo old (record_of c.args.number (event g c))
+    Appends old (record_of c.args.number (event g c))
     (book_of c.call.new.self c.push_call.new.self i.places i.next)
 step g c =
     let i = c.self.inside in
@@ -64,11 +65,12 @@ step g c =
     let written = recorded i.machine i.pending i.places i.next entry c.call.new.self
     c.reserve.new.self c.push_call.new.self i.places i.next
     (asks g c).room c.in_ok-reserve.ensures.records c.in_ok-reserve.ensures.freezes
-    c.in_ok-reserve.ensures.handed c.push_call.ensures.records c.push_call.ensures.freezes c.push_call.ensures.handed
-    (omega arith) in (
+    c.in_ok-reserve.ensures.handed c.push_call.ensures.records c.push_call.ensures.freezes
+    c.push_call.ensures.handed
+    (omega arith) refl in (
       subst (λ e. CallRow g.B.Boosted.meaning i.machine c.args.number e c.call.new.self)
           c.in_ok-asked.ensures.ok c.in_ok-call.ensures.ok,
-      record { appends = written; next = refl },
+      written,
     )
 
 pub returns-clause-ok : goal.returns-clause-ok

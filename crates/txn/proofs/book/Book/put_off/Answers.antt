@@ -5,7 +5,8 @@ use Rattle.machine.specs.Machine.{LaterRow}
 use Rattle.calls.specs.declared.reply.Reply.{Reply}
 use Rattle.calls.specs.Rules.{need_of}
 use Rattle.abstract_locks.specs.Holds.{IsClear}
-use Rattle.txn.specs.Books.{BookState, AppendsTo, IsOpen, later_record}
+use Rattle.txn.specs.Rows.{IsOpen, later_record}
+use Rattle.txn.specs.Books.{BookState, standing, Appends}
 use Rattle.txn.specs.Views.{book_of}
 use Rattle.blocks.specs.Waits.{waiting}
 use Rattle.machine.proofs.BookLaws.{BookLaws, book_laws}
@@ -24,8 +25,8 @@ laws g = book_laws g.met.B.Boosted.laws g.met.B.Parts.laws g.met.B.Coded.told
 pub later-requires-clause-room : goal.later-requires-clause-room
 later-requires-clause-room g c =
     let put = c.args.put in
-    let asked = subst (λ b. IsOpen (CanDefer g.B.Boosted.meaning b.state.now put.at put.call) b
-    c.args.number) (sym c.self.view_is) c.requires.open in
+    let asked = subst (λ b. IsOpen (CanDefer g.B.Boosted.meaning b.state.now put.at put.call)
+    (standing b) c.args.number) (sym c.self.view_is) c.requires.open in
     (call_room g.B.Boosted.meaning g.B.Parts.making (λ s. AreShort (g.B.Coded.collections s))
     (laws g) c.self.inside.machine c.self.invariant.upheld c.args.number put.at put.call
     asked.running asked.few asked.unworn).0
@@ -35,7 +36,7 @@ step : (g : Over) (c : goal.After-push g) → let i = c.self.inside in
     let old = book_of i.machine i.pending i.places i.next in
     LaterRow g.B.Boosted.meaning old.state c.args.number c.args.put.at c.args.put.call
     c.later.new.self ×
-    AppendsTo old (later_record c.args.number c.args.put.at c.args.put.call)
+    Appends old (later_record c.args.number c.args.put.at c.args.put.call)
     (book_of c.later.new.self c.push.new.self i.places i.next)
 step g c =
     let i = c.self.inside in
@@ -44,12 +45,12 @@ step g c =
     subst (λ r. waiting c.push.new.self ≡ waiting c.reserve.new.self ++ r ∷ []) c.requires.entry
     c.push.ensures.records in
     let asked = subst (λ b. IsOpen (CanDefer g.B.Boosted.meaning b.state.now c.args.put.at
-    c.args.put.call) b c.args.number) (sym c.self.view_is) c.requires.open in
+    c.args.put.call) (standing b) c.args.number) (sym c.self.view_is) c.requires.open in
     let written = recorded i.machine i.pending i.places i.next entry c.later.new.self
     c.reserve.new.self c.push.new.self i.places i.next
     asked.room c.in_default.ensures.records c.in_default.ensures.freezes c.in_default.ensures.handed
-    put c.push.ensures.freezes c.push.ensures.handed (omega arith) in
-    (c.in_default-later.ensures.ok, record { appends = written; next = refl })
+    put c.push.ensures.freezes c.push.ensures.handed (omega arith) refl in
+    (c.in_default-later.ensures.ok, written)
 
 pub invariant_of-self-2 : goal.invariant_of-self-2
 invariant_of-self-2 g c = later_keeps g.B.Boosted.meaning g.B.Parts.making
@@ -66,7 +67,8 @@ later-requires-clause-can g c =
     let put = c.args.put in
     let n = c.args.number in
     let now = c.self.inside.machine.now in
-    let asked = subst (λ b. IsOpen (CanDefer g.B.Boosted.meaning b.state.now put.at put.call) b n)
+    let asked = subst (λ b. IsOpen (CanDefer g.B.Boosted.meaning b.state.now put.at put.call)
+    (standing b) n)
     (sym c.self.view_is) c.requires.open in
     let clear = subst (λ (b : BookState _). IsClear b.state.holds n put.at
     (need_of put.call Reply.Done)) (sym c.self.view_is) c.requires.clear in

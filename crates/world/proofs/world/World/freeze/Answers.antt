@@ -1,20 +1,14 @@
-use Rattle.std.proofs.Common.{refl, subst, arith, Ok, Err, ◌∷◌, ◌++◌, [], take, List}
+use Rattle.std.proofs.Common.{refl, subst, arith, Ok, Err}
 use Rattle.std.proofs.lemmas.Result.{err_from_is_err_and}
-use Rattle.calls.specs.Contents.{Collection}
-use Rattle.disk_model.specs.Disk.{LeavesOnly}
-use Rattle.world.proofs.FreezeLemmas.{freeze_past, unfrozen, begun_disk, some_blocks}
+use Rattle.world.proofs.FreezeLemmas.{freeze_past, unfrozen, begun_same, some_blocks}
 use Rattle.world.proofs.StepLemmas.{quiet}
 use Rattle.world.proofs.AnswerLemmas.{freeze_answered}
 use Rattle.world.specs.declared.steps.Step.{Step}
 use Rattle.world.specs.declared.steps.Answer.{Answer}
-use Rattle.world.specs.Pasts.{Past, committed_in, alone, outcome}
-use Rattle.world.specs.Crash.{Yields}
-use Rattle.world.specs.Worlds.{HasPast, parts_of}
-use Rattle.world.proofs.world.World.freeze.Given.{Over}
 use Rattle.world.proofs.world.World.freeze.Goals as goal
 
 pub begin_image-requires : goal.begin_image-requires
-begin_image-requires g c = record { some = some_blocks _ _ c.in_ok-image.ensures.answer.0 }
+begin_image-requires g c = record { some = some_blocks _ _ _ c.in_ok-image.ensures.answer.0.packed }
 
 pub returns-in_err-image : goal.returns-in_err-image
 returns-in_err-image g c =
@@ -22,8 +16,8 @@ returns-in_err-image g c =
     let w = c.self.inside in
     let e = c.in_err-image.field-0.0 in
     rw (← c.self.view_is, p.1, p.2) (record {
-      past = λ start past had. unfrozen g.D.Disk.seen g.D.Disk.may_leave start past _ had
-          c.freeze.new.self e c.in_err-image.ensures.answer;
+      past = λ start past had. unfrozen g.D.Disk start past _ had c.freeze.new.self e
+          c.in_err-image.ensures.answer;
       any_moment = λ start past had. quiet g.D.Disk.seen g.D.Disk.may_leave start past _ had
           g.D.Disk.moment g.D.Disk.left_since (g.met.D.Disk.only_now w.keeper.disk)
           (Step.Freeze, Answer.Refused e);
@@ -41,43 +35,27 @@ returns-in_err-image g c =
       honest = λ h. h;
     })
 
--- the past goes on, at each moment of the freeze
-goes_on : (g : Over) (c : goal.After-begin_image g) (start : List Collection) (past : Past) →
-    HasPast g.D.Disk.seen g.D.Disk.may_leave start past
-    (parts_of c.self.inside.book c.self.inside.keeper c.self.inside.transit.blocks.items
-    c.self.inside.mark) →
-    HasPast g.D.Disk.seen g.D.Disk.may_leave start
-    (past ++ (Step.Freeze, outcome (alone Answer.Frozen) c.begin_image.result) ∷ [])
-    (parts_of c.freeze.new.self c.begin_image.new.self c.self.inside.transit.blocks.items
-    c.self.inside.mark)
-    × LeavesOnly g.D.Disk.moment g.D.Disk.left_since c.self.inside.keeper.disk
-    c.begin_image.new.self.disk
-    (Yields start (past ++ (Step.Freeze, outcome (alone Answer.Frozen) c.begin_image.result) ∷ [])
-    (take c.self.inside.mark (committed_in past)))
-goes_on g c start past had =
-    let w = c.self.inside in
-    freeze_past g.D.Disk.seen g.D.Disk.may_leave g.D.Disk.moment g.D.Disk.left_since start past
-    w.book c.freeze.new.self w.keeper c.begin_image.new.self w.transit.blocks.items w.mark had
-    (g.met.D.Disk.only_now w.keeper.disk)
-    c.in_ok-image.image c.in_ok-image.ensures.answer c.upheld.ensures c.begin_image.result
-    c.begin_image.ensures.answer c.begin_image.ensures.begun
-
 pub returns : goal.returns
-returns g c = rw (← c.self.view_is) (record {
-  past = λ start past had. (goes_on g c start past had).0;
-  any_moment = λ start past had. (goes_on g c start past had).1;
-  mark = omega arith;
-  own = freeze_answered c.begin_image.result;
-  drawn = refl;
-  moves = record {
-    frozen = Ok c.in_ok-image.image;
-    froze = c.in_ok-image.ensures.answer;
-    begun = (c.begin_image.result, c.begin_image.ensures.answer, refl);
-    transit = refl;
-    mark = refl;
-    next = refl;
-  };
-  honest = λ h. subst g.D.Disk.is_honest
-      (begun_disk c.self.inside.keeper c.in_ok-image.image c.begin_image.new.self
-      c.begin_image.result c.begin_image.ensures.answer) h;
-})
+returns g c =
+    let same = begun_same c.self.inside.keeper c.in_ok-image.image c.begin_image.new.self
+    c.begin_image.result c.begin_image.ensures.answer in
+    rw (← c.self.view_is) (record {
+      past = λ start past had. (freeze_past g.D.Disk start past _ had c.freeze.new.self
+          c.in_ok-image.image c.in_ok-image.ensures.answer c.upheld.ensures c.begin_image.new.self
+          c.begin_image.result c.begin_image.ensures.crash same.1).0;
+      any_moment = λ start past had. (freeze_past g.D.Disk start past _ had c.freeze.new.self
+          c.in_ok-image.image c.in_ok-image.ensures.answer c.upheld.ensures c.begin_image.new.self
+          c.begin_image.result c.begin_image.ensures.crash same.1).1;
+      mark = omega arith;
+      own = freeze_answered c.begin_image.result;
+      drawn = refl;
+      moves = record {
+        frozen = Ok c.in_ok-image.image;
+        froze = c.in_ok-image.ensures.answer;
+        begun = (c.begin_image.result, c.begin_image.ensures.answer, refl);
+        transit = refl;
+        mark = refl;
+        next = refl;
+      };
+      honest = λ h. subst g.D.Disk.is_honest same.0 h;
+    })

@@ -1,3 +1,7 @@
+use Rattle.std.proofs.Common.{subst}
+use Rattle.txn.specs.declared.steps.Action.{Action}
+use Rattle.txn.specs.Books.{Takes}
+use Rattle.catalog.specs.Meaning.{catalog_meaning, catalog_making}
 use Rattle.world.proofs.CoreLemmas.{make_taken}
 use Rattle.world.proofs.world.World.make.Goals as goal
 
@@ -15,4 +19,6 @@ returns g c =
     })
     (g.met.D.Disk.only_now w.keeper.disk)
     c.make-made.new.self c.upheld.ensures.records c.args.name.now c.args.kind c.make-made.result
-    (rw c.as_str.ensures at c.make-made.ensures.answer))
+    (subst (λ n. Takes catalog_meaning catalog_making w.book
+    (Action.Make n c.args.kind c.make-made.result) c.make-made.new.self) c.as_str.ensures
+    c.make-made.ensures.answer))

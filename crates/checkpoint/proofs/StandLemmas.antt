@@ -9,7 +9,7 @@ use Rattle.record_format.specs.declared.record.Record.{Record}
 use Rattle.repetition.specs.Steps.{State, Steps, Repeats}
 use Rattle.repetition.specs.Lagging.{Lags}
 use Rattle.repetition.proofs.Lists.{leads_push}
-use Rattle.world.specs.Worlds.{IsLevel, GoAlong, AreReadTo, StandIn}
+use Rattle.checkpoint.specs.Stored.{IsLevel, GoAlong, AreReadTo, StandIn}
 use Rattle.repetition.proofs.LagLemmas.{lags_step, lags_falls, lags_calls}
 
 -- ---- beginnings of lists

@@ -1,7 +1,7 @@
--- What bytes that hold blocks of a past yield.
-use Rattle.std.proofs.Common.{◌≡◌, ℕ, ◌+◌, ◌≤◌, List, [], ◌++◌, length, map, take, drop}
-use Rattle.std.proofs.Common.{append_assoc, refl, sym, ◌∙◌, ap, subst, arith, None}
-use Rattle.std.proofs.lemmas.List.{take-append-drop}
+-- What bytes that hold blocks of records yield.
+use Rattle.std.proofs.Common.{◌≡◌, ℕ, ◌+◌, ◌≤◌, List, [], ◌∷◌, ◌++◌, length, map, take, drop}
+use Rattle.std.proofs.Common.{append_assoc, length-append, refl, sym, ◌∙◌, ap, subst, arith, None}
+use Rattle.std.proofs.lemmas.List.{take-append-le, take-append-drop}
 use Rattle.std.specs.List.{AllByRecursion}
 use mathlib.Core.List.{IsPrefix}
 use Rattle.calls.specs.Contents.{Collection}
@@ -33,12 +33,71 @@ use Rattle.repetition.proofs.RepeatLemmas.{records_append, read_records}
 use Rattle.repetition.proofs.Parts.{IsParts, journal_reads}
 use Rattle.repetition.proofs.Contents as image
 use Rattle.repetition.proofs.Contents.{parts, on_from_first}
-use Rattle.world.specs.Pasts.{Past, committed_in, records_of}
-use Rattle.world.specs.Crash.{IsOneHistory, Yields}
-use Rattle.world.specs.Worlds.{IsLevel, StandIn, IsHeaded, Parts, HasPast}
-use Rattle.world.proofs.History.{length-committed}
-use Rattle.world.proofs.PastLemmas.{committed_in-records, take-longer}
+use Rattle.checkpoint.specs.Stored.{IsLevel, StandIn}
+use Rattle.checkpoint.specs.DiskHeads.{IsHeaded}
+use Rattle.checkpoint.specs.Crash.{Yields, YieldsUpTo, committed_of}
 use Rattle.catalog.specs.Meaning.{catalog_meaning, catalog_making}
+
+-- ---- how many transactions records commit
+
+place_of : (r : Record) (es : List (ℕ × Entry)) →
+    length (committed_after es (acts_of_record r)) ≡ places (r ∷ [])
+place_of (Record.Make kind name) es = refl
+place_of (Record.Commit n) es = refl
+place_of r es = refl
+
+pub length-committed : (rs : List Record) (es : List (ℕ × Entry)) →
+    length (committed_after es (acts_of rs)) ≡ places rs
+length-committed [] es = refl
+length-committed (r ∷ rs) es =
+    let split = ap length (committed_append (acts_of_record r) (acts_of rs) es) in
+    let both = length-append (committed_after es (acts_of_record r))
+    (committed_after (gathered es (acts_of_record r)) (acts_of rs)) in
+    let front = places_append (r ∷ []) rs in
+    omega (
+      arith,
+      split,
+      both,
+      place_of r es,
+      length-committed rs (gathered es (acts_of_record r)),
+      front,
+    )
+
+-- more records commit more
+pub committed_more : (rs more : List Record) →
+    IsPrefix (committed_of rs) (committed_of (rs ++ more))
+committed_more rs more = (
+  committed_after (gathered [] (acts_of rs)) (acts_of more),
+  sym (ap committed (flat_map-append acts_of_record rs more) ∙
+      committed_append (acts_of rs) (acts_of more) []),
+)
+
+-- ---- beginnings
+
+pub prefix_trans : (A B C : List Transaction) → IsPrefix A B → IsPrefix B C → IsPrefix A C
+prefix_trans A B C p q = (p.0 ++ q.0, sym (append_assoc A p.0 q.0) ∙ ap (λ l. l ++ q.0) p.1 ∙ q.1)
+
+-- the first m of a beginning that has so many are the first m of the whole
+pub take_longer : (A B : List Transaction) (m : ℕ) → IsPrefix A B → m ≤ length A →
+    take m B ≡ take m A
+take_longer A B m p le = ap (take m) (sym p.1) ∙ take-append-le m A p.0 le
+
+-- ---- what is yielded of fewer transactions is yielded of more
+
+pub yields_more : (start : List Collection) (ts us : List Transaction) (m : ℕ) (c : List ℕ) →
+    m ≤ length ts → IsPrefix ts us → Yields start ts (take m ts) c →
+    Yields start us (take m us) c
+yields_more start ts us m c few more y = record {
+  sound = y.sound;
+  content = y.content;
+  stands = y.stands;
+  kept = y.kept;
+  begins = prefix_trans y.kept ts us y.begins more;
+  holds = subst (λ l. IsPrefix l y.kept) (sym (take_longer ts us m more few)) y.holds;
+  serial = y.serial;
+}
+
+-- ---- what records lead to
 
 -- Records that no live transaction precedes lead on by what they commit, whatever was known of
 -- earlier ones, and always to one content.
@@ -86,10 +145,10 @@ level_settles u v level c settled =
     (subst (Leads (Does catalog_meaning) (calls_of (map (λ e. e.1) u.entries)) c) level.now
     settled)
 
-module _ (start : List Collection) (wear : ℕ) (past : Past) (end : State)
+module _ (start : List Collection) (wear : ℕ) (all : List Record) (end : State)
     (blocks : List (List Record)) (covered : List Record)
-    (stands : StandIn start wear (records_of past) end blocks covered)
-    (good : AllByRecursion (IsRecord None) (records_of past)) (kept : List (List Record))
+    (stands : StandIn start wear all end blocks covered)
+    (good : AllByRecursion (IsRecord None) all) (kept : List (List Record))
     (later : List Record) (split : stands.since ≡ records_in kept ++ later) where
   -- where the kept records lead, from the start and from what the blocks are read up to
   abbrev mid : (u v : State) × Repeats (records_in kept) stands.there u ×
@@ -114,7 +173,7 @@ module _ (start : List Collection) (wear : ℕ) (past : Past) (end : State)
   is : records_in (blocks ++ kept) ≡ records_in blocks ++ records_in kept
   is = flat_map-append (λ rs. rs) blocks kept
 
-  records : records_of past ≡ stored ++ later
+  records : all ≡ stored ++ later
   records = stands.split ∙ ap (λ l. covered ++ l) split ∙
       sym (append_assoc covered (records_in kept) later)
 
@@ -174,14 +233,11 @@ module _ (start : List Collection) (wear : ℕ) (past : Past) (end : State)
 
   -- bytes that hold the blocks with others behind them yield what is known
   yields : (m : ℕ) (c : List ℕ) → m ≤ places covered + places (records_in kept) →
-      Holds c (blocks ++ kept) → Yields start past (take m (committed_in past)) c
+      Holds c (blocks ++ kept) → YieldsUpTo start all m c
   yields m c few holds =
-      let ks : List Transaction = committed (acts_of stored) in
-      let more = committed_after (gathered [] (acts_of stored)) (acts_of later) in
-      let parts : committed_in past ≡ ks ++ more =
-      committed_in-records past ∙ ap (λ rs. committed (acts_of rs)) records ∙
-      ap committed (flat_map-append acts_of_record stored later) ∙
-      committed_append (acts_of stored) (acts_of later) [] in
+      let ks : List Transaction = committed_of stored in
+      let more : IsPrefix ks (committed_of all) =
+      subst (λ rs. IsPrefix ks (committed_of rs)) (sym records) (committed_more stored later) in
       let enough : m ≤ length ks = omega
       (arith, few, length-committed stored [], places_append covered (records_in kept)) in
       record {
@@ -189,8 +245,8 @@ module _ (start : List Collection) (wear : ℕ) (past : Past) (end : State)
         content = now;
         stands = stands_for c holds;
         kept = ks;
-        begins = (more, sym parts);
-        holds = subst (λ l. IsPrefix l ks) (sym (ap (take m) parts ∙ take-longer ks more m enough))
+        begins = more;
+        holds = subst (λ l. IsPrefix l ks) (sym (take_longer ks (committed_of all) m more enough))
             (drop m ks, take-append-drop m ks);
         serial = told_always start wear stored mid.0 from_start [];
       }
@@ -199,32 +255,35 @@ module _ (start : List Collection) (wear : ℕ) (past : Past) (end : State)
   pub row_yields : (area : Area) (m : ℕ) (c : List ℕ) →
       m ≤ places covered + places (records_in kept) → IsHeaded area c →
       IsRow (map spelling (blocks ++ kept)) (bytes_of area c) →
-      Yields start past (take m (committed_in past)) c
+      YieldsUpTo start all m c
   row_yields area m c few headed row =
       yields m c few (holds_row area (blocks ++ kept) c headed row spelt)
 
--- what a past has committed leads to what its book holds without the live transactions
-module _ {D : Type 0} (seen : D → List ℕ) (may_leave : D → List ℕ → Type 0)
-    (start : List Collection) (past : Past) (w : Parts D)
-    (had : HasPast seen may_leave start past w) where
-  abbrev trail : State
-  trail = had.stands.trail
+-- all records lead to where the covered ones and the others lead
+pub all_lead : (start : List Collection) (wear : ℕ) (all : List Record) (end : State)
+    (blocks : List (List Record)) (covered : List Record)
+    (stands : StandIn start wear all end blocks covered) →
+    Repeats all (resting start wear) stands.trail
+all_lead start wear all end blocks covered stands =
+    subst (λ rs. Repeats rs (resting start wear) stands.trail) (sym stands.split)
+    (leads_append Steps covered stands.since (resting start wear) stands.there stands.trail
+    stands.led stands.leads)
 
-  all_run : Repeats (records_of past) (resting start had.wear) trail
-  all_run = subst (λ rs. Repeats rs (resting start had.wear) trail) (sym had.stands.split)
-      (leads_append Steps had.covered had.stands.since (resting start had.wear) had.stands.there
-      trail had.stands.led had.stands.leads)
-
-  pub one_history : IsOneHistory start past w.book
-  one_history =
-      let last = comes start had.wear (records_of past) trail all_run [] in
-      record {
-        content = last.content;
-        settled = level_settles trail w.book.state
-            (record {
-              now = had.stands.trails.now;
-              calls = lags_calls trail w.book.state had.stands.trails;
-            }) last.content last.settled;
-        serial = subst (λ ts. Serial ts start last.content) (sym (committed_in-records past))
-            (told_always start had.wear (records_of past) trail all_run []);
-      }
+-- What all records commit leads, each transaction run whole, one after another, to what the state
+-- holds without the live transactions.
+pub all_settle : (start : List Collection) (wear : ℕ) (all : List Record) (end : State)
+    (blocks : List (List Record)) (covered : List Record) →
+    StandIn start wear all end blocks covered →
+    (content : List Collection) × IsSettled catalog_meaning end content ×
+    Serial (committed_of all) start content
+all_settle start wear all end blocks covered stands =
+    let run = all_lead start wear all end blocks covered stands in
+    let last = comes start wear all stands.trail run [] in (
+      last.content,
+      level_settles stands.trail end
+          (record {
+            now = stands.trails.now;
+            calls = lags_calls stands.trail end stands.trails;
+          }) last.content last.settled,
+      told_always start wear all stands.trail run [],
+    )

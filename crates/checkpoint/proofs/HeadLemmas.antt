@@ -6,7 +6,7 @@ use Rattle.gate_block.specs.declared.area.Area.{Area}
 use Rattle.gate_block.specs.Row.{SameOutside}
 use Rattle.gate_block.specs.Area.{base_of, size_of}
 use Rattle.repetition.specs.Journals.{IsHeader}
-use Rattle.world.specs.Worlds.{IsHeaded}
+use Rattle.checkpoint.specs.DiskHeads.{IsHeaded}
 
 -- where the bytes before a place are the same, so are fewer of them, and each of them
 pub same_front : (n base : ℕ) (c d : List ℕ) → n ≤ base → take base c ≡ take base d →

@@ -1,0 +1,697 @@
+-- An image begins, a piece of it is written, and it becomes the store: what was received stays, and
+-- at each moment a stop yields what is known.
+use Rattle.std.proofs.Common.{◌≡◌, ◌≢◌, ◌⊎◌, inl, inr, ⊎_elim, ℕ, zero, suc, ◌+◌, ◌*◌, ◌%◌, ◌≤◌}
+use Rattle.std.proofs.Common.{◌<◌, max, Bool, true, false, true≢false, List, [], ◌∷◌, ◌++◌, length}
+use Rattle.std.proofs.Common.{map, take, get_or, refl, sym, ◌∙◌, ap, subst, arith, append_assoc}
+use Rattle.std.proofs.Common.{length-append, eq-or-lt_of_le, Option, Some, None, Result, Ok, Err}
+use Rattle.std.proofs.Common.{OnOk}
+use Rattle.std.proofs.lemmas.List.{append-nil}
+use Rattle.std.proofs.lemmas.List.Elements.{All-cons, Contains-append_right}
+use Rattle.calls.specs.Contents.{Collection}
+use Rattle.calls.specs.declared.refusal.Refusal.{Refusal}
+use Rattle.disk_model.specs.Disk.{Torn, IsAtRest, LeavesOnly}
+use Rattle.disk_model.specs.declared.disk.Disk.{Ghosts}
+use Rattle.disk_model.proofs.Walk.{weaker, leaves_now}
+use Rattle.gate_block.specs.declared.area.Area.{Area}
+use Rattle.gate_block.specs.Row.{IsRow, SameOutside}
+use Rattle.gate_block.specs.Area.{base_of, size_of, position_of, bytes_of, IsReady}
+use Rattle.gate_block.specs.Area.{LeavesElsewhere}
+use Rattle.gate_block.specs.Layout.{base_in_use}
+use Rattle.record_format.specs.declared.record.Record.{Record}
+use Rattle.record_format.specs.Records.{spelling}
+use Rattle.record_format.specs.Acts.{places}
+use Rattle.blocks.specs.declared.block.Block.{Block}
+use Rattle.blocks.specs.declared.block.Image.{Image}
+use Rattle.blocks.proofs.Places.{places_append}
+use Rattle.checkpoint.specs.declared.laying.Laying.{Laying}
+use Rattle.checkpoint.specs.Imaging.{IsOther, IsBeingLaid, IsRooted, LeavesRoot, PicksWhole}
+use Rattle.checkpoint.specs.Imaging.{IsSameImage, left_of, bodies_of}
+use Rattle.checkpoint.specs.ImageAnswers.{BeginAnswers, PieceAnswers, FlipAnswers}
+use Rattle.checkpoint.specs.Keepers.{KeeperState, IsOneOfTwo}
+use Rattle.checkpoint.specs.Stored.{StandIn}
+use Rattle.checkpoint.specs.DiskHeads.{IsHeaded, IsInUse}
+use Rattle.checkpoint.specs.Crash.{YieldsUpTo}
+use Rattle.checkpoint.specs.Keeping.{BegunImage, IsImaging, HasReceived, LeavesKept}
+use Rattle.checkpoint.specs.Keeping.{BeginKeeps, ImageKeeps, begun_with, IsApart}
+use Rattle.checkpoint.proofs.Apart.{back, apart}
+use Rattle.checkpoint.proofs.StandLemmas.{shorter_beginning}
+use Rattle.checkpoint.proofs.HeadLemmas.{same_front, same_at, head_header, head_headed}
+use Rattle.checkpoint.proofs.YieldLemmas.{row_yields}
+use Rattle.checkpoint.proofs.GroupLemmas.{apart_behind, whole_bodies, some_groups}
+use Rattle.blocks.proofs.Carrying.{joined-append}
+use Rattle.checkpoint.proofs.ReceivedLemmas.{received_once, still_kept, none_some}
+use Rattle.repetition.specs.Journals.{IsHeader, records_in}
+use Rattle.repetition.specs.Steps.{State}
+
+-- two facts of the moments of one run hold together
+both_hold : {D : Type 0} (moment : D → ℕ) (left_since : D → ℕ → List ℕ → Type 0) (old new : D)
+    (P Q R : List ℕ → Type 0) → LeavesOnly moment left_since old new P →
+    LeavesOnly moment left_since old new Q → ((c : List ℕ) → P c → Q c → R c) →
+    LeavesOnly moment left_since old new R
+both_hold moment left_since old new P Q R first second here = record {
+  later = first.later;
+  each = λ c left. here c (first.each c left) (second.each c left);
+  before = λ t c le left. ⊎_elim (λ was. inl was)
+      (λ p. ⊎_elim (λ was. inl was) (λ q. inr (here c p q)) (second.before t c le left))
+      (first.before t c le left);
+}
+
+-- ---- heads of disks
+
+-- the area that a root byte picks is one of two
+one_more : (size r : ℕ) → r < 2 → (4096 + size * r ≡ 4096) ⊎ (4096 + size * r ≡ 4096 + size)
+one_more size zero less = inl (omega arith)
+one_more size (suc zero) less = inr (omega arith)
+one_more size (suc (suc r)) less = absurd (omega (arith, less))
+
+headed_one : (area : Area) (c : List ℕ) → IsHeaded area c → IsOneOfTwo area (length c)
+headed_one area c headed = record {
+  whole = headed.header.whole;
+  base = ⊎_elim (λ first. inl (sym headed.picks ∙ first))
+      (λ second. inr (sym headed.picks ∙ second))
+      (one_more (size_of area) (get_or c 512 0 % 2) (omega arith));
+}
+
+-- ---- small things
+
+empty_map : (blocks : List (List Record)) → map spelling blocks ≡ [] → blocks ≡ []
+empty_map [] e = refl
+empty_map (b ∷ blocks) e = absurd (omega (arith, ap length e))
+
+some_same : (l v : Laying) → Some l ≡ Some v → l ≡ v
+some_same l v e = cc
+
+-- all of an image that begins is left
+none_laid : (v : Laying) (disk : List ℕ) → position_of v.area ≡ 0 →
+    IsBeingLaid v disk (bodies_of (left_of v))
+none_laid v disk at = record {
+  laid = [];
+  stands = record { position = at; holds = λ some. absurd (some refl) };
+  all = refl;
+}
+
+-- ---- another disk, and another image in progress, with the same blocks in use
+
+module _ {D : Type 0} (seen : D → List ℕ) (may_leave : D → List ℕ → Type 0)
+    (start : List Collection) (wear : ℕ) (records : List Record) (now : State)
+    (images : List BegunImage) (received : List Block) (k : KeeperState D)
+    (had : HasReceived seen may_leave start wear records now images received k) where
+  on_disk : (disk : D) (failed : Bool) (image : Option Laying) →
+      ((c : List ℕ) → may_leave disk c → YieldsUpTo start records k.mark c) →
+      (failed ≡ false → IsInUse seen may_leave k.area disk (had.old ++ had.kept)) →
+      (failed ≡ false → (l : Laying) → image ≡ Some l →
+      IsImaging seen start wear records now images disk k.area
+      (length had.covered + length (records_in had.kept)) l) →
+      HasReceived seen may_leave start wear records now images received
+      (record k { disk = disk; failed = failed; image = image })
+  on_disk disk failed image stop in_use imaging = record {
+    good = had.good;
+    brought = had.brought;
+    parts = had.parts;
+    groups = had.groups;
+    carried = had.carried;
+    last = had.last;
+    held = had.held;
+    rest = had.rest;
+    begins = had.begins;
+    uncrossed = had.uncrossed;
+    old = had.old;
+    covered = had.covered;
+    stands = had.stands;
+    source = had.source;
+    kept = had.kept;
+    later = had.later;
+    split = had.split;
+    reaches = had.reaches;
+    even = had.even;
+    covers = had.covers;
+    marked = had.marked;
+    stop = stop;
+    in_use = in_use;
+    imaging = imaging;
+  }
+
+  -- ---- an image begins
+
+  module _ (image : BegunImage) (l : Laying) (none : k.image ≡ None) (other : IsOther k.area l.area)
+      (some : image.blocks ≢ [])
+      (stands : StandIn start wear records now image.blocks image.covered)
+      (end : l.image.end ≡ length image.covered) (place : l.image.place ≡ places image.covered)
+      (laid : IsBeingLaid l (seen k.disk) (map spelling image.blocks))
+      (behind : length (records_in (had.groups ++ had.last)) ≤ length image.covered)
+      (over : k.covered ≤ length image.covered) where
+    -- so the image covers all that is kept
+    ahead : length had.covered + length (records_in had.kept) ≤ length image.covered
+    ahead =
+        let most : length (records_in had.groups) ≤ length image.covered = omega (
+          arith,
+          behind,
+          ap length (joined-append had.groups had.last),
+          length-append (records_in had.groups) (records_in had.last),
+        ) in
+        ⊎_elim
+        (λ (same : length (records_in had.groups) ≡
+        length had.covered + length (records_in had.kept)). omega (arith, same, most))
+        (λ (past : length (records_in had.groups) <
+        length had.covered + length (records_in had.kept)).
+        omega (arith, over, had.covers, ap (λ g. length (records_in g)) (had.even past)))
+        (eq-or-lt_of_le had.reaches)
+
+    imaging : IsImaging seen start wear records now (image ∷ images) k.disk k.area
+        (length had.covered + length (records_in had.kept)) l
+    imaging = record {
+      other = other;
+      image = image;
+      begun = (0, omega arith, refl);
+      some = some;
+      stands = stands;
+      end = end;
+      place = place;
+      laid = laid;
+      ahead = omega (arith, ahead, end);
+    }
+
+    is_begun : HasReceived seen may_leave start wear records now (image ∷ images) received
+        (record k { image = Some l })
+    is_begun = record {
+      good = had.good;
+      brought = had.brought;
+      parts = had.parts;
+      groups = had.groups;
+      carried = had.carried;
+      last = had.last;
+      held = had.held;
+      rest = had.rest;
+      begins = had.begins;
+      uncrossed = All-cons (λ i. IsApart 0 (had.groups ++ had.last) (length i.covered)) image images
+          (apart_behind 0 (had.groups ++ had.last) (length image.covered) (omega (arith, behind)))
+          had.uncrossed;
+      old = had.old;
+      covered = had.covered;
+      stands = had.stands;
+      source = ⊎_elim (λ empty. inl empty)
+          (λ one. inr (Contains-append_right (image ∷ []) images _ one)) had.source;
+      kept = had.kept;
+      later = had.later;
+      split = had.split;
+      reaches = had.reaches;
+      even = had.even;
+      covers = had.covers;
+      marked = had.marked;
+      stop = had.stop;
+      in_use = had.in_use;
+      imaging = λ fine v is. subst (λ (x : Laying). IsImaging seen start wear records now
+          (image ∷ images) k.disk k.area (length had.covered + length (records_in had.kept)) x)
+          (some_same l v is) imaging;
+    }
+
+-- ---- an image in progress: one that is all written is the store, and one more of its blocks is
+-- laid
+
+module _ {D : Type 0} (seen : D → List ℕ) (may_leave : D → List ℕ → Type 0)
+    (start : List Collection) (wear : ℕ) (records : List Record) (now : State)
+    (images : List BegunImage) (received : List Block) (k : KeeperState D)
+    (had : HasReceived seen may_leave start wear records now images received k)
+    (fine : k.failed ≡ false) (l : Laying) (is : k.image ≡ Some l) where
+  abbrev used : IsInUse seen may_leave k.area k.disk (had.old ++ had.kept)
+  used = had.in_use fine
+
+  abbrev image : IsImaging seen start wear records now images k.disk k.area
+      (length had.covered + length (records_in had.kept)) l
+  image = had.imaging fine l is
+
+  abbrev blocks : List (List Record)
+  blocks = image.image.blocks
+
+  abbrev covered : List Record
+  covered = image.image.covered
+
+  abbrev bodies : List (List ℕ)
+  bodies = map spelling blocks
+
+  bodies_some : bodies ≢ []
+  bodies_some e = image.some (empty_map blocks e)
+
+  rooted : IsRooted seen may_leave k.area k.disk
+  rooted = record {
+    picks = used.head.headed.picks;
+    root_at_rest = λ c left. same_at 4096 512 c (seen k.disk) (omega arith)
+        (used.head.head_at_rest c left);
+    area_at_rest = used.ready.at_rest;
+  }
+
+  -- what was stored before is a beginning of what the image covers
+  marked_new : k.mark ≤ places covered
+  marked_new =
+      let stored : List Record = had.covered ++ records_in had.kept in
+      let parts : stored ++ had.later ≡ covered ++ image.stands.since =
+      append_assoc had.covered (records_in had.kept) had.later ∙
+      sym (ap (λ x. had.covered ++ x) had.split) ∙ sym had.stands.split ∙ image.stands.split in
+      let more = shorter_beginning stored covered had.later image.stands.since parts
+      (omega (
+        arith,
+        length-append had.covered (records_in had.kept),
+        image.ahead,
+        image.end,
+      )) in
+      omega (
+        arith,
+        had.marked,
+        places_append had.covered (records_in had.kept),
+        ap places more.1,
+        places_append stored more.0,
+      )
+
+  -- what a stop leaves while the root byte is written has the header of the disk
+  moment_header : (c : List ℕ) → LeavesRoot (may_leave k.disk) (seen k.disk) c →
+      IsHeader (size_of k.area) c
+  moment_header c leaves =
+      ⊎_elim (λ left. head_header (size_of k.area) 4096 (seen k.disk) c (omega arith)
+      (used.head.head_at_rest c left) (used.head.same_size c left) used.head.headed.header)
+      (λ (torn : Torn 512 1 (seen k.disk) c). head_header (size_of k.area) 512 (seen k.disk) c
+      (omega arith) torn.before torn.size used.head.headed.header)
+      leaves
+
+  -- the header, and the root byte, of the image's area
+  image_headed : (c : List ℕ) → IsHeader (size_of k.area) c →
+      base_in_use (size_of k.area) c ≡ base_of l.area → IsHeaded l.area c
+  image_headed c header picks = record {
+    header = subst (λ n. IsHeader n c) (sym image.other.size) header;
+    picks = ap (λ n. base_in_use n c) image.other.size ∙ picks;
+  }
+
+  none_behind : map spelling (blocks ++ []) ≡ bodies
+  none_behind = ap (map spelling) (append-nil blocks)
+
+  -- the blocks of the image, alone in their area, yield what is known
+  image_yields : (m : ℕ) (c : List ℕ) → m ≤ places covered → IsHeaded l.area c →
+      IsRow bodies (bytes_of l.area c) →
+      YieldsUpTo start records m c
+  image_yields m c few headed row =
+      row_yields start wear records now blocks covered image.stands had.good [] image.stands.since
+      refl l.area m c (omega (arith, few)) headed
+      (subst (λ x. IsRow x (bytes_of l.area c)) (sym none_behind) row)
+
+  moment_yields : (c : List ℕ) → LeavesRoot (may_leave k.disk) (seen k.disk) c →
+      PicksWhole k.area (seen k.disk) l.area bodies c →
+      YieldsUpTo start records k.mark c
+  moment_yields c leaves whole =
+      ⊎_elim
+      (λ (old : (base_in_use (size_of k.area) c ≡ base_of k.area) ×
+      (bytes_of k.area c ≡ bytes_of k.area (seen k.disk))).
+      row_yields start wear records now had.old had.covered had.stands had.good had.kept had.later
+      had.split k.area k.mark c had.marked
+      (record { header = moment_header c leaves; picks = old.0 })
+      (subst (λ x. IsRow (map spelling (had.old ++ had.kept)) x) (sym old.1) used.ready.holds))
+      (λ (new : (base_in_use (size_of k.area) c ≡ base_of l.area) ×
+      IsRow bodies (bytes_of l.area c)).
+      image_yields k.mark c marked_new (image_headed c (moment_header c leaves) new.0) new.1)
+      whole
+
+  -- at each moment of the flip
+  flip_kept : (moment : D → ℕ) (left_since : D → ℕ → List ℕ → Type 0) (disk : D) →
+      LeavesOnly moment left_since k.disk disk (LeavesRoot (may_leave k.disk) (seen k.disk)) →
+      LeavesOnly moment left_since k.disk disk (PicksWhole k.area (seen k.disk) l.area bodies) →
+      LeavesOnly moment left_since k.disk disk
+      (YieldsUpTo start records k.mark)
+  flip_kept moment left_since disk first second =
+      both_hold moment left_since k.disk disk _ _ _ first second moment_yields
+
+  -- once the root byte is written and synced
+  module _ (disk : D) (mark : ℕ) (mark_is : mark ≡ max k.mark l.image.place)
+      (ready : IsReady seen may_leave l.area disk bodies)
+      (picks : base_in_use (size_of l.area) (seen disk) ≡ base_of l.area)
+      (rest : IsAtRest seen may_leave disk) (torn : Torn 512 1 (seen k.disk) (seen disk)) where
+    now_headed : IsHeaded l.area (seen disk)
+    now_headed = record {
+      header = subst (λ n. IsHeader n (seen disk)) (sym image.other.size)
+          (head_header (size_of k.area) 512 (seen k.disk) (seen disk) (omega arith) torn.before
+          torn.size used.head.headed.header);
+      picks = picks;
+    }
+
+    few : mark ≤ places covered
+    few = omega (arith, mark_is, marked_new, image.place)
+
+    is_flipped : HasReceived seen may_leave start wear records now images received
+        (record k { disk = disk; area = l.area; covered = l.image.end; image = None; mark = mark })
+    is_flipped = record {
+      good = had.good;
+      brought = had.brought;
+      parts = had.parts;
+      groups = had.groups;
+      carried = had.carried;
+      last = had.last;
+      held = had.held;
+      rest = had.rest;
+      begins = had.begins;
+      uncrossed = had.uncrossed;
+      old = blocks;
+      covered = covered;
+      stands = image.stands;
+      source = inr image.begun;
+      kept = [];
+      later = image.stands.since;
+      split = refl;
+      reaches = omega (arith, had.reaches, image.ahead, image.end);
+      even = λ less. refl;
+      covers = image.end;
+      marked = omega (arith, few);
+      stop = λ c left.
+          subst (YieldsUpTo start records mark)
+          (sym (rest c left)) (image_yields mark (seen disk) few now_headed ready.holds);
+      in_use = λ same. record {
+        ready = subst (λ x. IsReady seen may_leave l.area disk x) (sym none_behind) ready;
+        head = record {
+          headed = now_headed;
+          head_at_rest = λ c left. ap (λ x. take 4096 x) (rest c left);
+          same_size = λ c left. ap length (rest c left);
+        };
+      };
+      imaging = λ same v one. none_some v _ one;
+    }
+
+  -- what changes in the image's area alone leaves the head and the area in use
+  one : IsOneOfTwo k.area (length (seen k.disk))
+  one = headed_one k.area (seen k.disk) used.head.headed
+
+  turned : IsOneOfTwo l.area (length (seen k.disk)) × IsOther l.area k.area
+  turned = back k.area l.area (length (seen k.disk)) one image.other
+
+  area_same : (d c : List ℕ) → SameOutside (base_of l.area) (size_of l.area) d c →
+      bytes_of k.area c ≡ bytes_of k.area d
+  area_same d c same = apart l.area k.area (length (seen k.disk)) d c turned.0 turned.1 same
+
+  head_same : (d c : List ℕ) → SameOutside (base_of l.area) (size_of l.area) d c →
+      take 4096 c ≡ take 4096 d
+  head_same d c same = same_front 4096 (base_of l.area) c d
+      (⊎_elim (λ first. omega (arith, first)) (λ second. omega (arith, second)) turned.0.base)
+      same.before
+
+  abbrev Piecing : List ℕ → Type 0
+  Piecing c = LeavesElsewhere (may_leave k.disk) l.area c
+
+  piece_head : (c : List ℕ) → Piecing c → take 4096 c ≡ take 4096 (seen k.disk)
+  piece_head c leaves = head_same leaves.0 c leaves.2 ∙ used.head.head_at_rest leaves.0 leaves.1
+
+  piece_size : (c : List ℕ) → Piecing c → length c ≡ length (seen k.disk)
+  piece_size c leaves = leaves.2.same_size ∙ used.head.same_size leaves.0 leaves.1
+
+  piece_yields : (c : List ℕ) → Piecing c →
+      YieldsUpTo start records k.mark c
+  piece_yields c leaves =
+      row_yields start wear records now had.old had.covered had.stands had.good had.kept had.later
+      had.split k.area k.mark c had.marked
+      (head_headed k.area (seen k.disk) c (piece_head c leaves) (piece_size c leaves)
+      used.head.headed)
+      (subst (λ x. IsRow (map spelling (had.old ++ had.kept)) x)
+      (sym (area_same leaves.0 c leaves.2 ∙ used.ready.at_rest leaves.0 leaves.1))
+      used.ready.holds)
+
+  -- a block more of the image is laid
+  module _ (disk : D) (v : Laying) (same : IsSameImage l v)
+      (piecing : (c : List ℕ) → may_leave disk c → Piecing c)
+      (elsewhere : SameOutside (base_of l.area) (size_of l.area) (seen k.disk) (seen disk))
+      (ready : IsReady seen may_leave k.area disk (map spelling (had.old ++ had.kept)))
+      (laid : IsBeingLaid v (seen disk) bodies) where
+    still_used : IsInUse seen may_leave k.area disk (had.old ++ had.kept)
+    still_used =
+        let head : take 4096 (seen disk) ≡ take 4096 (seen k.disk) =
+        head_same (seen k.disk) (seen disk) elsewhere in record {
+          ready = ready;
+          head = record {
+            headed = head_headed k.area (seen k.disk) (seen disk) head elsewhere.same_size
+                used.head.headed;
+            head_at_rest = λ c left. piece_head c (piecing c left) ∙ sym head;
+            same_size = λ c left. piece_size c (piecing c left) ∙ sym elsewhere.same_size;
+          };
+        }
+
+    still_imaging : IsImaging seen start wear records now images disk k.area
+        (length had.covered + length (records_in had.kept)) v
+    still_imaging = record {
+      other = record {
+        size = same.size ∙ image.other.size;
+        base = ap (λ n. base_of k.area + n) same.base ∙ image.other.base;
+      };
+      image = image.image;
+      begun = image.begun;
+      some = image.some;
+      stands = image.stands;
+      end = same.end ∙ image.end;
+      place = same.place ∙ image.place;
+      laid = laid;
+      ahead = omega (arith, image.ahead, same.end);
+    }
+
+    is_laid : HasReceived seen may_leave start wear records now images received
+        (record k { disk = disk; failed = k.failed; image = Some v })
+    is_laid =
+        on_disk seen may_leave start wear records now images received k had disk k.failed (Some v)
+        (λ c left. piece_yields c (piecing c left)) (λ f. still_used)
+        (λ f x e. subst (λ (y : Laying). IsImaging seen start wear records now images disk k.area
+        (length had.covered + length (records_in had.kept)) y) (some_same v x e) still_imaging)
+
+-- ---- what the calls answer and leave
+
+module _ {D : Type 0} (g : Ghosts D) (k l : KeeperState D)
+    (only_now : (c : List ℕ) → g.left_since k.disk (g.moment k.disk) c → g.may_leave k.disk c)
+    (counts_now : (t : ℕ) (c : List ℕ) → t ≤ g.moment l.disk → g.may_leave l.disk c →
+    g.left_since l.disk t c) where
+  -- an image begins, or is refused
+  pub begin_keeps : (image : Image) → image.blocks.items ≢ [] → (r : Result (Unit {0}) Refusal) →
+      BeginAnswers k image l r → BeginKeeps g image r k l
+  begin_keeps image blocks r a start wear records now images received groups covers carried begins
+      is_image stands behind over had =
+      begun_or r a
+    where
+      Both : List BegunImage → KeeperState D → Type 0
+      Both ims n = HasReceived g.seen g.may_leave start wear records now ims received n
+          × LeavesKept g start records k n
+
+      unbegun : l ≡ k → Both images l
+      unbegun same = subst (Both images) (sym same) (
+        had,
+        still_kept g.seen g.may_leave start wear records now images received k had g.moment
+            g.left_since only_now,
+      )
+
+      begun_or : (r : Result (Unit {0}) Refusal) → BeginAnswers k image l r →
+          Both (begun_with covers images r) l
+      begun_or (Ok done) a =
+          let area : Area = a.3.0 in
+          let v : Laying = record { area = area; image = image } in
+          let next : KeeperState D = record k { image = Some v } in
+          let same : l ≡ next = a.3.2 in
+          let laid : IsBeingLaid v (g.seen k.disk) (map spelling covers.blocks) =
+          subst (λ bs. IsBeingLaid v (g.seen k.disk) bs)
+          (whole_bodies image.blocks.items covers.blocks is_image.whole)
+          (none_laid v (g.seen k.disk) a.3.1.position) in
+          let all = received_once g.seen g.may_leave start wear records now images received k had
+          groups carried begins in
+          subst (Both (covers ∷ images)) (sym same) (
+            is_begun g.seen g.may_leave start wear records now images received k had covers v a.1
+                a.3.1.other (some_groups image.blocks.items covers.blocks is_image.whole blocks)
+                stands is_image.end is_image.place laid
+                (subst (λ gs. length (records_in gs) ≤ length covers.covered) all behind) over,
+            still_kept g.seen g.may_leave start wear records now images received k had g.moment
+                g.left_since only_now,
+          )
+      begun_or (Err Refusal.Failed) a = unbegun a.1
+      begun_or (Err Refusal.Imaging) a = unbegun a.2
+      begun_or (Err Refusal.Full) a = unbegun a.3
+      begun_or (Err e) a = absurd a
+
+  module _ (start : List Collection) (wear : ℕ) (records : List Record) (now : State)
+      (images : List BegunImage) (received : List Block)
+      (had : HasReceived g.seen g.may_leave start wear records now images received k) where
+    abbrev Keeps : Type 0
+    Keeps = HasReceived g.seen g.may_leave start wear records now images received l
+        × LeavesKept g start records k l
+
+    -- the keeper is as it was
+    same_keeper : l ≡ k → Keeps
+    same_keeper same =
+        subst (λ (n : KeeperState D). HasReceived g.seen g.may_leave start wear records now images
+        received n × LeavesKept g start records k n) (sym same) (
+          had,
+          still_kept g.seen g.may_leave start wear records now images received k had g.moment
+              g.left_since only_now,
+        )
+
+    -- the keeper failed
+    failed_keeper : (image : Option Laying) →
+        l ≡ record k { disk = l.disk; failed = true; image = image } →
+        LeavesKept g start records k l → Keeps
+    failed_keeper image same run = (
+      subst (HasReceived g.seen g.may_leave start wear records now images received) (sym same)
+          (on_disk g.seen g.may_leave start wear records now images received k had l.disk true image
+          (leaves_now g.moment g.left_since k.disk l.disk (YieldsUpTo start records k.mark)
+          (g.may_leave l.disk) run counts_now)
+          (λ fine. absurd (true≢false fine)) (λ fine. absurd (true≢false fine))),
+      run,
+    )
+
+    -- What a flip answers and leaves.
+    module _ (any_moment : LeavesOnly g.moment g.left_since k.disk l.disk
+        (LeavesRoot (g.may_leave k.disk) (g.seen k.disk)))
+        (any_moment_whole : (w : Laying) (bodies : List (List ℕ)) → k.image ≡ Some w →
+        left_of w ≡ [] → bodies ≢ [] → IsBeingLaid w (g.seen k.disk) bodies →
+        IsRooted g.seen g.may_leave k.area k.disk →
+        LeavesOnly g.moment g.left_since k.disk l.disk
+        (PicksWhole k.area (g.seen k.disk) w.area bodies)) where
+      flip_run : (fine : k.failed ≡ false) (v : Laying) (is : k.image ≡ Some v) → left_of v ≡ [] →
+          LeavesKept g start records k l
+      flip_run fine v is none =
+          flip_kept g.seen g.may_leave start wear records now images received k had fine v is
+          g.moment g.left_since l.disk any_moment
+          (any_moment_whole v
+          (bodies g.seen g.may_leave start wear records now images received k had fine v is) is none
+          (bodies_some g.seen g.may_leave start wear records now images received k had fine v is)
+          (had.imaging fine v is).laid
+          (rooted g.seen g.may_leave start wear records now images received k had fine v is))
+
+      flip_cases : Torn 512 1 (g.seen k.disk) (g.seen l.disk) → (is_risen : Type 0)
+          (r : Result ℕ Refusal) → FlipAnswers k is_risen l r →
+          ((w : Laying) (bodies : List (List ℕ)) → k.image ≡ Some w → bodies ≢ [] →
+          IsBeingLaid w (g.seen k.disk) bodies →
+          OnOk r (IsReady g.seen g.may_leave l.area l.disk bodies)) →
+          OnOk r (base_in_use (size_of l.area) (g.seen l.disk) ≡ base_of l.area) →
+          OnOk r (IsAtRest g.seen g.may_leave l.disk) → Keeps
+      flip_cases root is_risen (Ok m) a kept picks rest =
+          let fine : k.failed ≡ false = a.0 in
+          let v : Laying = a.1.0 in
+          let is : k.image ≡ Some v = a.1.1 in
+          let next : KeeperState D = record k
+          { disk = l.disk; area = v.area; mark = m; covered = v.image.end; image = None } in
+          let same : l ≡ next = a.1.3.1 in
+          let area_is : l.area ≡ v.area = ap (λ (x : KeeperState D). x.area) same in
+          let bs : List (List ℕ) =
+          bodies g.seen g.may_leave start wear records now images received k had fine v is in
+          let ready : IsReady g.seen g.may_leave v.area l.disk bs =
+          subst (λ (x : Area). IsReady g.seen g.may_leave x l.disk bs) area_is
+          (kept v bs is
+          (bodies_some g.seen g.may_leave start wear records now images received k had fine v is)
+          (had.imaging fine v is).laid) in
+          let there : base_in_use (size_of v.area) (g.seen l.disk) ≡ base_of v.area =
+          subst (λ (x : Area). base_in_use (size_of x) (g.seen l.disk) ≡ base_of x) area_is picks
+          in (
+            subst (HasReceived g.seen g.may_leave start wear records now images received) (sym same)
+                (is_flipped g.seen g.may_leave start wear records now images received k had fine v
+                is l.disk m a.1.3.0 ready there rest root),
+            flip_run fine v is a.1.2,
+          )
+      flip_cases root is_risen (Err Refusal.Failed) a kept picks rest = same_keeper a.1
+      flip_cases root is_risen (Err Refusal.Unfinished) a kept picks rest = same_keeper a.2
+      flip_cases root is_risen (Err Refusal.Fault) a kept picks rest =
+          failed_keeper None a.1.3.1 (flip_run a.0 a.1.0 a.1.1 a.1.2)
+      flip_cases root is_risen (Err e) a kept picks rest = absurd a.1.3
+
+    -- What a piece answers and leaves.
+    module _ (any_moment : (w : Laying) → k.image ≡ Some w →
+        LeavesOnly g.moment g.left_since k.disk l.disk
+        (LeavesElsewhere (g.may_leave k.disk) w.area))
+        (elsewhere : (w : Laying) → k.image ≡ Some w →
+        SameOutside (base_of w.area) (size_of w.area) (g.seen k.disk) (g.seen l.disk))
+        (kept : (bodies : List (List ℕ)) → IsReady g.seen g.may_leave k.area k.disk bodies →
+        IsReady g.seen g.may_leave l.area l.disk bodies) where
+      piece_run : (fine : k.failed ≡ false) (v : Laying) → k.image ≡ Some v →
+          LeavesKept g start records k l
+      piece_run fine v is =
+          weaker g.moment g.left_since k.disk l.disk (LeavesElsewhere (g.may_leave k.disk) v.area)
+          (YieldsUpTo start records k.mark) (any_moment v is)
+          (piece_yields g.seen g.may_leave start wear records now images received k had fine v is)
+
+      piece_cases : (is_risen : Type 0) (r : Result Bool Refusal) → PieceAnswers k is_risen l r →
+          ((w v : Laying) (bodies : List (List ℕ)) → k.image ≡ Some w → l.image ≡ Some v →
+          IsBeingLaid w (g.seen k.disk) bodies → OnOk r (IsBeingLaid v (g.seen l.disk) bodies)) →
+          Keeps
+      piece_cases is_risen (Ok more) a laid =
+          let fine : k.failed ≡ false = a.0 in
+          let u : Laying = a.1.0 in
+          let v : Laying = a.1.1 in
+          let is : k.image ≡ Some u = a.1.2 in
+          let next : KeeperState D = record k { disk = l.disk; image = Some v } in
+          let same : l ≡ next = a.1.4 in
+          let bs : List (List ℕ) =
+          bodies g.seen g.may_leave start wear records now images received k had fine u is in
+          let ready : IsReady g.seen g.may_leave k.area l.disk
+          (map spelling (had.old ++ had.kept)) =
+          subst (λ (x : Area). IsReady g.seen g.may_leave x l.disk
+          (map spelling (had.old ++ had.kept))) (ap (λ (x : KeeperState D). x.area) same)
+          (kept (map spelling (had.old ++ had.kept)) (had.in_use fine).ready) in
+          let left : (c : List ℕ) → g.may_leave l.disk c →
+          LeavesElsewhere (g.may_leave k.disk) u.area c =
+          leaves_now g.moment g.left_since k.disk l.disk
+          (LeavesElsewhere (g.may_leave k.disk) u.area) (g.may_leave l.disk) (any_moment u is)
+          counts_now in (
+            subst (HasReceived g.seen g.may_leave start wear records now images received) (sym same)
+                (is_laid g.seen g.may_leave start wear records now images received k had fine u is
+                l.disk v a.1.3.same left (elsewhere u is) ready
+                (laid u v bs is (ap (λ (x : KeeperState D). x.image) same)
+                (had.imaging fine u is).laid)),
+            piece_run fine u is,
+          )
+      piece_cases is_risen (Err Refusal.Failed) a laid = same_keeper a.1
+      piece_cases is_risen (Err Refusal.Fault) a laid =
+          failed_keeper (Some a.2.1) a.2.4 (piece_run a.0 a.2.0 a.2.2)
+      piece_cases is_risen (Err e) a laid = absurd a
+
+  pub flip_keeps : LeavesOnly g.moment g.left_since k.disk l.disk
+      (LeavesRoot (g.may_leave k.disk) (g.seen k.disk)) →
+      ((w : Laying) (bodies : List (List ℕ)) → k.image ≡ Some w → left_of w ≡ [] → bodies ≢ [] →
+      IsBeingLaid w (g.seen k.disk) bodies → IsRooted g.seen g.may_leave k.area k.disk →
+      LeavesOnly g.moment g.left_since k.disk l.disk
+      (PicksWhole k.area (g.seen k.disk) w.area bodies)) →
+      Torn 512 1 (g.seen k.disk) (g.seen l.disk) → (is_risen : Type 0) (r : Result ℕ Refusal) →
+      FlipAnswers k is_risen l r →
+      ((w : Laying) (bodies : List (List ℕ)) → k.image ≡ Some w → bodies ≢ [] →
+      IsBeingLaid w (g.seen k.disk) bodies →
+      OnOk r (IsReady g.seen g.may_leave l.area l.disk bodies)) →
+      OnOk r (base_in_use (size_of l.area) (g.seen l.disk) ≡ base_of l.area) →
+      OnOk r (IsAtRest g.seen g.may_leave l.disk) → ImageKeeps g k l
+  flip_keeps any_moment whole root is_risen r a kept picks rest start wear records now images
+      received had =
+      flip_cases start wear records now images received had any_moment whole root is_risen r a kept
+      picks rest
+
+  -- u is the image in progress, and v what is left of it then
+  pub piece_keeps : (u v : Laying) → k.image ≡ Some u → l.image ≡ Some v →
+      LeavesOnly g.moment g.left_since k.disk l.disk
+      (LeavesElsewhere (g.may_leave k.disk) u.area) →
+      SameOutside (base_of u.area) (size_of u.area) (g.seen k.disk) (g.seen l.disk) →
+      ((bodies : List (List ℕ)) → IsReady g.seen g.may_leave k.area k.disk bodies →
+      IsReady g.seen g.may_leave l.area l.disk bodies) → (is_risen : Type 0)
+      (r : Result Bool Refusal) → PieceAnswers k is_risen l r →
+      ((bodies : List (List ℕ)) → IsBeingLaid u (g.seen k.disk) bodies →
+      OnOk r (IsBeingLaid v (g.seen l.disk) bodies)) → ImageKeeps g k l
+  piece_keeps u v is_u is_v any_moment elsewhere kept is_risen r a laid start wear records now
+      images received had =
+      piece_cases start wear records now images received had
+      (λ w is. subst (λ (x : Laying). LeavesOnly g.moment g.left_since k.disk l.disk
+      (LeavesElsewhere (g.may_leave k.disk) x.area)) (some_same u w (sym is_u ∙ is)) any_moment)
+      (λ w is. subst (λ (x : Laying). SameOutside (base_of x.area) (size_of x.area) (g.seen k.disk)
+      (g.seen l.disk)) (some_same u w (sym is_u ∙ is)) elsewhere)
+      kept is_risen r a
+      (λ w x bodies was then being.
+      subst (λ (y : Laying). OnOk r (IsBeingLaid y (g.seen l.disk) bodies))
+      (some_same v x (sym is_v ∙ then))
+      (laid bodies (subst (λ (y : Laying). IsBeingLaid y (g.seen k.disk) bodies)
+      (sym (some_same u w (sym is_u ∙ was))) being)))
+
+-- a call that leaves the keeper as it was
+pub image_still : {D : Type 0} (g : Ghosts D) (k : KeeperState D) →
+    ((c : List ℕ) → g.left_since k.disk (g.moment k.disk) c → g.may_leave k.disk c) →
+    ImageKeeps g k k
+image_still g k only_now start wear records now images received had = (
+  had,
+  still_kept g.seen g.may_leave start wear records now images received k had g.moment g.left_since
+      only_now,
+)
+
+pub begin_still : {D : Type 0} (g : Ghosts D) (k : KeeperState D) (image : Image) (e : Refusal) →
+    ((c : List ℕ) → g.left_since k.disk (g.moment k.disk) c → g.may_leave k.disk c) →
+    BeginKeeps g image (Err e) k k
+begin_still g k image e only_now start wear records now images received groups covers carried begins
+    is_image stands behind over had =
+    image_still g k only_now start wear records now images received had

@@ -1,0 +1,55 @@
+-- Blocks of records, and what those that a disk holds stand for.
+use Rattle.std.specs.Prelude.{◌≡◌, ℕ, ◌+◌, List, [], ◌∷◌, ◌++◌, length, map, None}
+use Rattle.calls.specs.Contents.{Collection}
+use Rattle.calls.specs.Transactions.{calls_of}
+use Rattle.gate_block.specs.Row.{IsBlockOf}
+use Rattle.record_format.specs.declared.record.Record.{Record}
+use Rattle.record_format.specs.Records.{spelling, AreRecords}
+use Rattle.record_format.specs.Acts.{places}
+use Rattle.blocks.specs.declared.block.Block.{Block}
+use Rattle.machine.specs.Machines.{resting}
+use Rattle.repetition.specs.Journals.{records_in}
+use Rattle.repetition.specs.Steps.{State, Repeats}
+use Rattle.repetition.specs.Reading.{AreAccepted}
+use Rattle.repetition.specs.Lagging.{Lags}
+
+-- ---- what blocks of a disk stand for
+
+-- The blocks are an image and a journal that are read, up to this state.
+pub record AreReadTo (blocks : List (List Record)) (s : State) : Type 0 where
+  pub next : ℕ
+  pub count : ℕ
+  pub good : AreRecords None (records_in blocks)
+  pub accepted : AreAccepted (records_in blocks) next s count
+
+-- The collections hold the same in both states, and the same calls are live.
+pub record IsLevel (s t : State) : Type 0 where
+  pub now : s.now ≡ t.now
+  pub calls : calls_of (map (λ e. e.1) s.entries) ≡ calls_of (map (λ e. e.1) t.entries)
+
+-- The records lead on from both states. Wherever they are broken off, the two are level there.
+abbrev pub GoAlong : List Record → State → State → Type 0
+GoAlong rs s t = (first rest : List Record) → rs ≡ first ++ rest →
+    (u v : State) × Repeats first s u × Repeats first t v × IsLevel u v
+
+-- The blocks stand for the first records of a past that led a book from the start to the state: for
+-- the covered ones. The others lead on from what the blocks are read up to as they do from where
+-- the covered ones lead.
+pub record StandIn (start : List Collection) (wear : ℕ) (records : List Record) (now : State)
+    (blocks : List (List Record)) (covered : List Record) : Type 0 where
+  -- the records behind those that are covered
+  pub since : List Record
+  pub split : records ≡ covered ++ since
+  -- where the covered records lead, and the others from there
+  pub there : State
+  pub led : Repeats covered (resting start wear) there
+  pub trail : State
+  pub leads : Repeats since there trail
+  pub trails : Lags trail now
+  -- what the blocks are read up to, and where the others lead from there
+  pub base : State
+  pub are_read : AreReadTo blocks base
+  pub state : State
+  pub repeats : Repeats since base state
+  pub lags : Lags state now
+  pub along : GoAlong since there base

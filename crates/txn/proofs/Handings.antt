@@ -1,0 +1,365 @@
+-- What a book has handed over goes on with each of its steps.
+use Rattle.std.proofs.Common.{◌≡◌, ◌⊎◌, inl, inr, ⊎_elim, ℕ, ◌+◌, ◌<◌, Bool, true, false, Option}
+use Rattle.std.proofs.Common.{None, Some, Result, Ok, Err, List, [], ◌∷◌, ◌++◌, length, refl, sym}
+use Rattle.std.proofs.Common.{◌∙◌, ap}
+use Rattle.std.proofs.Common.{subst, arith, append_assoc, length-append}
+use Rattle.std.specs.Prelude.{Contains}
+use Rattle.std.specs.List.{AllByRecursion, flat_map}
+use Rattle.std.proofs.lemmas.Bool.{cases_eq}
+use Rattle.std.proofs.lemmas.List.{append-nil}
+use Rattle.std.proofs.lemmas.Grind.{flat_map-append}
+use Rattle.calls.specs.Contents.{Collection}
+use Rattle.calls.specs.Transactions.{committed}
+use Rattle.calls.specs.declared.refusal.Refusal.{Refusal}
+use Rattle.boosted.specs.Meaning.{Meaning}
+use Rattle.boosted.proofs.Each.{weaker, each_append, each_back}
+use Rattle.boosted.proofs.Runs.{Leads-push}
+use Rattle.catalog.specs.Making.{Making}
+use Rattle.record_format.specs.declared.record.Record.{Record}
+use Rattle.record_format.specs.Records.{IsRecord}
+use Rattle.record_format.specs.Acts.{acts_of_record, acts_of, places}
+use Rattle.blocks.specs.declared.block.Block.{Block}
+use Rattle.blocks.specs.declared.block.Image.{Image}
+use Rattle.blocks.specs.Carried.{Carries}
+use Rattle.blocks.specs.Cuts.{HandsOver}
+use Rattle.blocks.specs.Packings.{joined}
+use Rattle.blocks.proofs.Places.{places_append}
+use Rattle.blocks.proofs.Carrying.{joined-push, carries_append}
+use Rattle.txn.specs.declared.steps.Action.{Action}
+use Rattle.txn.specs.declared.steps.BookStep.{BookStep}
+use Rattle.txn.specs.declared.steps.Target.{Target}
+use Rattle.txn.specs.Rows.{Standing, opening}
+use Rattle.txn.specs.Books.{BookState, opened, standing, Takes, CutAnswers}
+use Rattle.txn.specs.Freezing.{FreezeAnswers}
+use Rattle.txn.specs.Histories.{acts_of_action, records_of_action, committed_by, records_by}
+use Rattle.txn.specs.Histories.{Row, IsLegal}
+use Rattle.txn.specs.Handing.{IsBetween, IsImageIn, HasHanded}
+use Rattle.txn.proofs.Takings.{taken, cut_taken, freeze_taken, leaves}
+
+-- ---- what steps say, and what their records say
+
+-- a step says of transactions what its records say
+action_acts : (a : Action) → acts_of_action a ≡ acts_of (records_of_action a)
+action_acts (Action.Make name kind (Ok place)) = refl
+action_acts (Action.Enter n (Ok done)) = refl
+action_acts (Action.Call n (Target.Number p) call (Ok reply)) = refl
+action_acts (Action.Call n (Target.Named name (Some p)) call (Ok reply)) = refl
+action_acts (Action.Call n (Target.Named name None) call (Ok reply)) = refl
+action_acts (Action.Later n (Target.Number p) call (Ok done)) = refl
+action_acts (Action.Later n (Target.Named name (Some p)) call (Ok done)) = refl
+action_acts (Action.Later n (Target.Named name None) call (Ok done)) = refl
+action_acts (Action.Commit n (Ok place)) = refl
+action_acts (Action.Back n (Ok true)) = refl
+action_acts (Action.Ended n (Ok done)) = refl
+action_acts a = refl
+
+acts_by : (steps : List BookStep) → flat_map (λ x. acts_of_action x.action) steps ≡
+    acts_of (records_by steps)
+acts_by [] = refl
+acts_by (x ∷ steps) = (λ i. action_acts x.action i ++ acts_by steps i) ∙
+    sym (flat_map-append acts_of_record (records_of_action x.action) (records_by steps))
+
+-- The steps commit what their records commit.
+pub committed_records : (steps : List BookStep) →
+    committed_by steps ≡ committed (acts_of (records_by steps))
+committed_records steps = ap committed (acts_by steps)
+
+pub records_by-append : (steps more : List BookStep) →
+    records_by (steps ++ more) ≡ records_by steps ++ records_by more
+records_by-append steps more = flat_map-append (λ x. records_of_action x.action) steps more
+
+pub records_by-push : (steps : List BookStep) (x : BookStep) →
+    records_by (steps ++ x ∷ []) ≡ records_by steps ++ records_of_action x.action
+records_by-push steps x = records_by-append steps (x ∷ []) ∙
+    ap (λ l. records_by steps ++ l) (append-nil (records_of_action x.action))
+
+-- ---- positions between blocks
+
+module _ {S : Type 0} where
+  -- where blocks may end stays where more records wait, or freezes are added
+  between_more : (groups : List (List Record)) (b c : BookState S) (position : ℕ) →
+      c.end ≡ b.end → ((f : ℕ) → Contains b.freezes f → Contains c.freezes f) →
+      IsBetween groups b position → IsBetween groups c position
+  between_more groups b c position same more (inl waits) = inl waits
+  between_more groups b c position same more (inr pending) =
+      inr (omega (arith, same, pending.0), more position pending.1)
+
+  -- and where a block is cut
+  between_cut : (groups : List (List Record)) (b c : BookState S) (block : Block)
+      (position : ℕ) → b.end ≡ length (joined groups) →
+      (cut : HandsOver b.pending b.freezes b.end b.place block c.pending) → c.end ≡ block.end →
+      ((f : ℕ) → Contains b.freezes f → block.end < f → Contains c.freezes f) →
+      IsBetween groups b position → IsBetween (groups ++ cut.first ∷ []) c position
+  between_cut groups b c block position ends cut end_is left (inl waits) =
+      inl (
+        waits.0,
+        waits.1 ++ cut.first ∷ [],
+        ap (λ l. l ++ cut.first ∷ []) waits.2 ∙ append_assoc waits.0 waits.1 (cut.first ∷ []),
+        waits.3,
+      )
+  between_cut groups b c block position ends cut end_is left (inr pending) =
+      let upto = cut.apart position pending.1 in
+      let now : joined (groups ++ cut.first ∷ []) ≡ joined groups ++ cut.first =
+      joined-push groups cut.first in
+      ⊎_elim
+      (λ (here : block.end ≡ position). inl (
+        groups ++ cut.first ∷ [],
+        [],
+        sym (append-nil (groups ++ cut.first ∷ [])),
+        omega (
+          arith,
+          here,
+          ends,
+          cut.ends,
+          ap length now,
+          length-append (joined groups) cut.first,
+        ),
+      ))
+      (λ (other : block.end ≡ position → ⊥). let less : block.end < position =
+      omega (arith, upto, other) in
+      inr (omega (arith, end_is, less), left position pending.1 less))
+      (cases_eq block.end position)
+
+module _ {S : Type 0} (meaning : Meaning S ℕ) (making : Making S)
+    (collections : S → List Collection) (start : S) (wear : ℕ) where
+  abbrev Handed : List BookStep → BookState S → List Block → List (List Record) → List Image →
+      Type 0
+  Handed steps book handed groups images =
+      HasHanded meaning making collections start wear steps book handed groups images
+
+  abbrev Imaged : List BookStep → Image → Type 0
+  Imaged steps image = IsImageIn meaning making collections start wear steps image
+
+  -- A book that was opened has handed nothing over.
+  pub opens : (next : ℕ) → Handed [] (opened start next wear) [] [] []
+  opens next = record {
+    legal = refl;
+    good = tt;
+    carried = tt;
+    records = refl;
+    end = refl;
+    place = refl;
+    are_images = tt;
+    between = tt;
+  }
+
+  -- an image stays one of a book whose steps go on
+  images_more : (steps : List BookStep) (x : BookStep) (image : Image) → Imaged steps image →
+      Imaged (steps ++ x ∷ []) image
+  images_more steps x image is = record {
+    first = is.first;
+    rest = is.rest ++ x ∷ [];
+    begins = ap (λ l. l ++ x ∷ []) is.begins ∙ append_assoc is.first is.rest (x ∷ []);
+    there = is.there;
+    legal = is.legal;
+    next = is.next;
+    packed = is.packed;
+    end = is.end;
+    place = is.place;
+  }
+
+  module _ (steps : List BookStep) (b c : BookState S) (handed : List Block)
+      (groups : List (List Record)) (images : List Image)
+      (had : Handed steps b handed groups images) (client : Option ℕ) where
+    abbrev step : Action → BookStep
+    step action = record { client = client; action = action }
+
+    legal_on : (action : Action) → Row meaning making (standing b) action (standing c) →
+        IsLegal meaning making (opening start wear) (steps ++ step action ∷ []) (standing c)
+    legal_on action row = Leads-push (λ (u : Standing S) (x : BookStep) (v : Standing S).
+        Row meaning making u x.action v) steps (step action) (opening start wear) (standing b)
+        (standing c) had.legal row
+
+    still_imaged : (action : Action) → AllByRecursion (Imaged (steps ++ step action ∷ [])) images
+    still_imaged action = weaker (Imaged steps) (Imaged (steps ++ step action ∷ []))
+        (λ image is. images_more steps (step action) image is) images had.are_images
+
+    -- One step more that hands nothing over.
+    pub takes_on : (action : Action) → Takes meaning making b action c →
+        AllByRecursion (IsRecord None) c.pending →
+        Handed (steps ++ step action ∷ []) c handed groups images
+    takes_on action takes good =
+        let rs = records_of_action action in
+        let left = leaves meaning making b c action takes in
+        let all = records_by-push steps (step action) in
+        record {
+          legal = legal_on action (taken meaning making b c action takes);
+          good = subst (AllByRecursion (IsRecord None)) (sym all)
+              (each_append (IsRecord None) (records_by steps) rs had.good
+              (each_back (IsRecord None) b.pending rs
+              (subst (AllByRecursion (IsRecord None)) left.pending good)));
+          carried = had.carried;
+          records = all ∙ ap (λ l. l ++ rs) had.records ∙
+              append_assoc (joined groups) b.pending rs ∙
+              ap (λ l. joined groups ++ l) (sym left.pending);
+          end = left.end ∙ had.end;
+          place = left.place ∙ had.place;
+          are_images = still_imaged action;
+          between = weaker (λ image. IsBetween groups b image.end)
+              (λ image. IsBetween groups c image.end)
+              (λ image at. between_more groups b c image.end left.end
+              (λ f there. subst (λ l. Contains l f) (sym left.freezes) there) at) images
+              had.between;
+        }
+
+    -- A step that leaves the book's records, and adds none.
+    stays_on : (action : Action) → Row meaning making (standing b) action (standing c) →
+        records_of_action action ≡ [] → c.pending ≡ b.pending → c.end ≡ b.end →
+        c.place ≡ b.place → ((f : ℕ) → Contains b.freezes f → Contains c.freezes f) →
+        Handed (steps ++ step action ∷ []) c handed groups images
+    stays_on action row none pending end place keeps =
+        let all : records_by (steps ++ step action ∷ []) ≡ records_by steps =
+        records_by-push steps (step action) ∙ ap (λ l. records_by steps ++ l) none ∙
+        append-nil (records_by steps) in
+        record {
+          legal = legal_on action row;
+          good = subst (AllByRecursion (IsRecord None)) (sym all) had.good;
+          carried = had.carried;
+          records = all ∙ had.records ∙ ap (λ l. joined groups ++ l) (sym pending);
+          end = end ∙ had.end;
+          place = place ∙ had.place;
+          are_images = still_imaged action;
+          between = weaker (λ image. IsBetween groups b image.end)
+              (λ image. IsBetween groups c image.end)
+              (λ image at. between_more groups b c image.end end keeps at) images had.between;
+        }
+
+    -- nothing more is handed over
+    none_more : (action : Action) → Handed (steps ++ step action ∷ []) c handed groups images →
+        Handed (steps ++ step action ∷ []) c (handed ++ []) (groups ++ []) images
+    none_more action on =
+        subst (λ l. Handed (steps ++ step action ∷ []) c l (groups ++ []) images)
+        (sym (append-nil handed))
+        (subst (λ l. Handed (steps ++ step action ∷ []) c handed l images)
+        (sym (append-nil groups)) on)
+
+    -- A block is cut off.
+    pub cuts_on : (sends : List Block → Type 0) (full : Type 0) (a : Result Bool Refusal) →
+        CutAnswers b sends full a c →
+        (count : ℕ) × (bs : List Block) × (gs : List (List Record)) × sends bs ×
+        Handed (steps ++ step (Action.Cut count a) ∷ []) c (handed ++ bs) (groups ++ gs) images
+    cuts_on sends full (Ok true) cut =
+        let row = cut_taken meaning making b c sends full (Ok true) cut in
+        let hands = cut.0.2 in
+        let more = hands.first in
+        let all : records_by (steps ++ step (Action.Cut row.0 (Ok true)) ∷ []) ≡ records_by steps =
+        records_by-push steps (step (Action.Cut row.0 (Ok true))) ∙ append-nil (records_by steps) in
+        let now = joined-push groups more in (
+          row.0,
+          cut.0.0 ∷ [],
+          more ∷ [],
+          cut.0.1,
+          record {
+            legal = legal_on (Action.Cut row.0 (Ok true)) row.1;
+            good = subst (AllByRecursion (IsRecord None)) (sym all) had.good;
+            carried = carries_append 0 0 handed (cut.0.0 ∷ []) groups (more ∷ []) had.carried (
+              record {
+                block = hands.bytes;
+                end_is = omega (arith, hands.ends, had.end);
+                place_is = omega (arith, hands.commits, had.place);
+              },
+              tt,
+            );
+            records = all ∙ had.records ∙ ap (λ l. joined groups ++ l) hands.are ∙
+                sym (append_assoc (joined groups) more c.pending) ∙
+                ap (λ l. l ++ c.pending) (sym now);
+            end = omega (
+              arith,
+              cut.0.3,
+              hands.ends,
+              had.end,
+              ap length now,
+              length-append (joined groups) more,
+            );
+            place = omega (
+              arith,
+              cut.0.4,
+              hands.commits,
+              had.place,
+              ap places now,
+              places_append (joined groups) more,
+            );
+            are_images = still_imaged (Action.Cut row.0 (Ok true));
+            between = weaker (λ image. IsBetween groups b image.end)
+                (λ image. IsBetween (groups ++ more ∷ []) c image.end)
+                (λ image at. between_cut groups b c cut.0.0 image.end had.end hands cut.0.3
+                (λ f there behind. (cut.0.5 f).1 (there, behind)) at) images had.between;
+          },
+        )
+    cuts_on sends full (Ok false) cut =
+        let row = cut_taken meaning making b c sends full (Ok false) cut in
+        let on = stays_on (Action.Cut row.0 (Ok false)) row.1 refl cut.0.2 cut.0.3 cut.0.4
+        (λ f there. subst (λ l. Contains l f) (sym cut.0.5) there) in
+        (row.0, [], [], cut.0.1, none_more (Action.Cut row.0 (Ok false)) on)
+    cuts_on sends full (Err Refusal.NotNow) cut =
+        let row = cut_taken meaning making b c sends full (Err Refusal.NotNow) cut in
+        let on = stays_on (Action.Cut row.0 (Err Refusal.NotNow)) row.1 refl cut.0.2 cut.0.3 cut.0.4
+        (λ f there. subst (λ l. Contains l f) (sym cut.0.5) there) in
+        (row.0, [], [], cut.0.1, none_more (Action.Cut row.0 (Err Refusal.NotNow)) on)
+    cuts_on sends full (Err e) cut = absurd cut.0
+
+    -- A freeze: where it answers an image, that is one of the book now.
+    pub freezes_on : (a : Result (Unit {0}) Refusal) (frozen : Result Image Refusal) →
+        FreezeAnswers collections b frozen c →
+        Handed (steps ++ step (Action.Freeze a) ∷ []) c handed groups images
+    freezes_on a (Ok image) froze =
+        stays_on (Action.Freeze a) (freeze_taken meaning making b c collections (Ok image) froze)
+        refl (ap (λ v. v.pending) froze.1) (ap (λ v. v.end) froze.1) (ap (λ v. v.place) froze.1)
+        (λ f there. (froze.2 f).1 (inl there))
+    freezes_on a (Err Refusal.NoMemory) froze =
+        stays_on (Action.Freeze a)
+        (freeze_taken meaning making b c collections (Err Refusal.NoMemory) froze) refl
+        (ap (λ v. v.pending) froze) (ap (λ v. v.end) froze) (ap (λ v. v.place) froze)
+        (λ f there. subst (λ l. Contains l f) (sym (ap (λ v. v.freezes) froze)) there)
+    freezes_on a (Err e) froze = absurd froze
+
+    pub freezes_image : (a : Result (Unit {0}) Refusal) (image : Image) →
+        FreezeAnswers collections b (Ok image) c →
+        Handed (steps ++ step (Action.Freeze a) ∷ []) c handed groups (image ∷ images)
+    freezes_image a image froze =
+        let on = freezes_on a (Ok image) froze in
+        let count : image.end ≡ length (records_by steps) =
+        omega (
+          arith,
+          froze.0.end,
+          had.end,
+          ap length had.records,
+          length-append (joined groups) b.pending,
+        ) in
+        record {
+          legal = on.legal;
+          good = on.good;
+          carried = on.carried;
+          records = on.records;
+          end = on.end;
+          place = on.place;
+          are_images = (
+            record {
+              first = steps;
+              rest = step (Action.Freeze a) ∷ [];
+              begins = refl;
+              there = standing b;
+              legal = had.legal;
+              next = b.next;
+              packed = froze.0.packed;
+              end = count;
+              place = froze.0.place;
+            },
+            on.are_images,
+          );
+          between = (
+            ⊎_elim
+                (λ (none : length b.pending ≡ 0). inl (
+                  groups,
+                  [],
+                  sym (append-nil groups),
+                  omega (arith, froze.0.end, had.end, none),
+                ))
+                (λ (some : length b.pending ≡ 0 → ⊥). inr (
+                  omega (arith, froze.0.end, ap (λ v. v.end) froze.1, some),
+                  (froze.2 image.end).1 (inr (froze.0.end, omega (arith, some))),
+                ))
+                (cases_eq (length b.pending) 0),
+            on.between,
+          );
+        }

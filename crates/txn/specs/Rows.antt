@@ -1,0 +1,227 @@
+-- The rows of a book's histories: when each step gets which answer, and what it leaves.
+use Rattle.std.specs.Prelude.{◌≡◌, ℕ, ◌+◌, ◌<◌, ◌≤◌, ◌^◌, ◌⊎◌, Bool, true, false, List, [], ◌∷◌}
+use Rattle.std.specs.Prelude.{length, Option, Some, None, Result, Ok, Err}
+use Rattle.std.specs.FinMap as maps
+use Rattle.calls.specs.declared.kind.Kind.{Kind}
+use Rattle.calls.specs.declared.call.Call.{Call}
+use Rattle.calls.specs.declared.reply.Reply.{Reply}
+use Rattle.calls.specs.declared.refusal.Refusal.{Refusal}
+use Rattle.calls.specs.Rules.{need_of, AsksForValue}
+use Rattle.calls.specs.Transactions.{Event, own}
+use Rattle.abstract_locks.specs.Holds.{IsBusy, IsClear}
+use Rattle.undo_log.specs.Entries.{HasNoCall}
+use Rattle.undo_log.specs.Logs.{Lives, Falls}
+use Rattle.ledger.specs.LeftCalls.{GoesTwice}
+use Rattle.boosted.specs.Meaning.{CanAsk, CanDefer, AskRefused, DeferRefused, Meaning}
+use Rattle.catalog.specs.Making as naming
+use Rattle.catalog.specs.Making.{Making, IsPlaceOf, FindRefused}
+use Rattle.calls.specs.Names.{IsName}
+use Rattle.record_format.specs.declared.record.Record.{Record}
+use Rattle.record_format.specs.Acts.{places}
+use Rattle.record_format.specs.Records.{record_of_call, IsNumber}
+use Rattle.machine.specs.Machine.{State, IsRunning, CanBegin, BeginRow, CommitRow}
+use Rattle.machine.specs.Machine.{EndedRow, FallRow, MakeRow, CallRow, LaterRow, BackRow}
+use Rattle.machine.specs.Machines.{resting}
+use Rattle.txn.specs.declared.steps.Action.{Action}
+use Rattle.txn.specs.declared.steps.Target.{Target}
+
+-- What stands of a book: the collections with the live transactions on them, how many records wait,
+-- and how many commits and makes there were.
+pub record Standing (S : Type 0) : Type 0 where
+  pub state : State S
+  pub pending : ℕ
+  pub places : ℕ
+
+-- where the histories of an opened book begin
+abbrev pub opening : {S : Type 0} → S → (wear : ℕ) → Standing S
+opening now wear = record { state = resting now wear; pending = 0; places = 0 }
+
+abbrev pub IsFull : {S : Type 0} → Standing S → Type 0
+IsFull b = 16384 ≤ b.pending
+
+-- ---- refusals
+
+-- A transaction that is not live, or falling, is refused so.
+abbrev pub RunRefused : {S : Type 0} → Standing S → ℕ → Refusal → Type 0
+RunRefused b n Refusal.NoSuchTxn = Lives b.state.live n → ⊥
+RunRefused b n Refusal.Falling = Falls b.state.live n
+RunRefused b n e = ⊥
+
+abbrev pub MakeRefused : List (List ℕ) → {S : Type 0} → Standing S → List ℕ → Refusal → Type 0
+MakeRefused names b name Refusal.Backlog = IsFull b
+MakeRefused names b name e = (IsFull b → ⊥) × naming.MakeRefused names name e
+
+-- The number may begin, and its record has room.
+pub record CanEnter {S : Type 0} (b : Standing S) (n : ℕ) : Type 0 where
+  pub begins : CanBegin b.state n
+  pub unworn : b.state.wear < 2 ^ 61
+  pub room : b.pending < 16384
+
+abbrev pub EnterRefused : {S : Type 0} → Standing S → ℕ → Refusal → Type 0
+EnterRefused b n Refusal.BadArg = IsNumber n → ⊥
+EnterRefused b n Refusal.AlreadyLive = IsNumber n × Lives b.state.live n
+EnterRefused b n Refusal.TooManyLive =
+    IsNumber n × (Lives b.state.live n → ⊥) × (64 ≤ maps.len b.state.live)
+EnterRefused b n Refusal.Worn = CanBegin b.state n × (2 ^ 61 ≤ b.state.wear)
+EnterRefused b n Refusal.Backlog = CanBegin b.state n × (b.state.wear < 2 ^ 61) × IsFull b
+EnterRefused b n Refusal.NoMemory = CanEnter b n
+EnterRefused b n e = ⊥
+
+-- The running transaction can have what it asks for, and has room for it.
+pub record IsOpen {S : Type 0} (ask : Type 0) (b : Standing S) (n : ℕ) : Type 0 where
+  pub running : IsRunning b.state n
+  pub asked : ask
+  pub unworn : b.state.wear < 2 ^ 61
+  pub few : length (own n b.state.entries) < 1024
+  pub room : b.pending < 16384
+
+-- It is not running, or has no room for what it can ask, and is refused so.
+abbrev pub OpenRefused : {S : Type 0} → (ask : Type 0) → Standing S → ℕ → Refusal → Type 0
+OpenRefused ask b n Refusal.NoSuchTxn = Lives b.state.live n → ⊥
+OpenRefused ask b n Refusal.Falling = Falls b.state.live n
+OpenRefused ask b n Refusal.Worn = IsRunning b.state n × ask × (2 ^ 61 ≤ b.state.wear)
+OpenRefused ask b n Refusal.TooManyCalls =
+    IsRunning b.state n × ask × (b.state.wear < 2 ^ 61) × (1024 ≤ length (own n b.state.entries))
+OpenRefused ask b n Refusal.Backlog =
+    IsRunning b.state n × ask × (b.state.wear < 2 ^ 61) × (length (own n b.state.entries) < 1024) ×
+    IsFull b
+OpenRefused ask b n e = ⊥
+
+module _ {S : Type 0} (meaning : Meaning S ℕ) where
+  -- The call may get a reply now with which nothing is in its way.
+  abbrev pub IsUnhindered : Standing S → (n at : ℕ) → Call → Type 0
+  IsUnhindered b n at call =
+      (reply : Reply) × meaning.answers b.state.now at call reply ×
+      (GoesTwice b.state.entries n (record { at = at; call = call; reply = reply }) → ⊥) ×
+      IsClear b.state.holds n at (need_of call reply)
+
+  -- A call that the transaction has room for is refused so: what it would leave is going already,
+  -- or another transaction holds a need in its way. Memory is wanted for a value of the reply, or
+  -- where nothing is in the way.
+  abbrev pub AskedInVain : Standing S → (n at : ℕ) → Call → Refusal → Type 0
+  AskedInVain b n at call Refusal.AlreadyGoing =
+      (reply : Reply) × meaning.answers b.state.now at call reply ×
+      GoesTwice b.state.entries n (record { at = at; call = call; reply = reply })
+  AskedInVain b n at call (Refusal.Busy m) =
+      (reply : Reply) × meaning.answers b.state.now at call reply ×
+      (GoesTwice b.state.entries n (record { at = at; call = call; reply = reply }) → ⊥) ×
+      IsBusy b.state.holds n at (need_of call reply) m
+  AskedInVain b n at call Refusal.NoMemory = AsksForValue call ⊎ IsUnhindered b n at call
+  AskedInVain b n at call e = ⊥
+
+  -- The book refuses the call so: for a transaction that is running as the collections do, and for
+  -- one that has room as above.
+  abbrev pub CallRefused : Standing S → (n at : ℕ) → Call → Refusal → Type 0
+  CallRefused b n at call e =
+      OpenRefused (CanAsk meaning b.state.now at call) b n e ⊎
+      ((IsRunning b.state n × AskRefused meaning b.state.now at call e) ⊎
+      (IsOpen (CanAsk meaning b.state.now at call) b n × AskedInVain b n at call e))
+
+  -- A call that could be put off is refused so, where the transaction has room for it: another one
+  -- holds a need in its way, or none does and memory is wanted.
+  abbrev pub PutOffInVain : Standing S → (n at : ℕ) → Call → Refusal → Type 0
+  PutOffInVain b n at call (Refusal.Busy m) = IsBusy b.state.holds n at (need_of call Reply.Done) m
+  PutOffInVain b n at call Refusal.NoMemory = IsClear b.state.holds n at (need_of call Reply.Done)
+  PutOffInVain b n at call e = ⊥
+
+  -- The book refuses to put the call off so: for a transaction that is running as the collections
+  -- do, and for one that has room as above.
+  abbrev pub LaterRefused : Standing S → (n at : ℕ) → Call → Refusal → Type 0
+  LaterRefused b n at call e =
+      OpenRefused (CanDefer meaning b.state.now at call) b n e ⊎
+      ((IsRunning b.state n × DeferRefused meaning b.state.now at call e) ⊎
+      (IsOpen (CanDefer meaning b.state.now at call) b n × PutOffInVain b n at call e))
+
+-- The record cannot be appended: the records pending are too many, or memory is wanted.
+abbrev pub AppendRefused : {S : Type 0} → Standing S → Refusal → Type 0
+AppendRefused b Refusal.Backlog = IsFull b
+AppendRefused b Refusal.NoMemory = IsFull b → ⊥
+AppendRefused b e = ⊥
+
+abbrev pub CommitRefused : {S : Type 0} → Standing S → ℕ → Refusal → Type 0
+CommitRefused b n Refusal.NoSuchTxn = Lives b.state.live n → ⊥
+CommitRefused b n Refusal.Falling = Falls b.state.live n
+CommitRefused b n e = IsRunning b.state n × AppendRefused b e
+
+abbrev pub BackRefused : {S : Type 0} → Standing S → ℕ → Refusal → Type 0
+BackRefused b n Refusal.NoSuchTxn = Lives b.state.live n → ⊥
+BackRefused b n e = Lives b.state.live n × AppendRefused b e
+
+abbrev pub EndedRefused : {S : Type 0} → Standing S → ℕ → Refusal → Type 0
+EndedRefused b n Refusal.NoSuchTxn = Lives b.state.live n → ⊥
+EndedRefused b n Refusal.Unfinished = Lives b.state.live n × (HasNoCall n b.state.entries → ⊥)
+EndedRefused b n e = Lives b.state.live n × HasNoCall n b.state.entries × AppendRefused b e
+
+-- ---- records
+
+-- a call's record
+abbrev pub record_of : ℕ → Event → Record
+record_of n e = record_of_call n e.at e.call e.reply
+
+-- the record of a call that is put off
+abbrev pub later_record : (number collection : ℕ) → Call → Record
+later_record n at call = Record.Later (record { number = n; collection = at; call = call })
+
+-- ---- the rows
+
+-- One table for all that steps lead on: a book, or what stands of one. at: what stands of it.
+-- Appends: one record comes behind those that wait. Moves: none does.
+module _ {S X : Type 0} (meaning : Meaning S ℕ) (making : Making S) (at : X → Standing S)
+    (Appends : X → Record → X → Type 0) (Moves : X → X → Type 0) where
+  -- A call on the collection of a number.
+  abbrev pub CallAnswers : X → (n p : ℕ) → Call → Result Reply Refusal → X → Type 0
+  CallAnswers x n p call (Ok reply) y =
+      CallRow meaning (at x).state n (record { at = p; call = call; reply = reply }) (at y).state ×
+      ((at x).state.wear < 2 ^ 61) ×
+      Appends x (record_of n (record { at = p; call = call; reply = reply })) y
+  CallAnswers x n p call (Err e) y = (y ≡ x) × CallRefused meaning (at x) n p call e
+
+  abbrev pub LaterAnswers : X → (n p : ℕ) → Call → Result (Unit {0}) Refusal → X → Type 0
+  LaterAnswers x n p call (Ok done) y =
+      LaterRow meaning (at x).state n p call (at y).state × ((at x).state.wear < 2 ^ 61) ×
+      Appends x (later_record n p call) y
+  LaterAnswers x n p call (Err e) y = (y ≡ x) × LaterRefused meaning (at x) n p call e
+
+  -- No collection has the name: that is refused, and nothing changes.
+  abbrev pub NotFound : {T : Type 0} → X → List ℕ → Result T Refusal → X → Type 0
+  NotFound x name (Ok done) y = ⊥
+  NotFound x name (Err e) y = (y ≡ x) × FindRefused (making.names (at x).state.now) name e
+
+  -- The collection of the name has this number.
+  abbrev pub IsFound : X → List ℕ → ℕ → Type 0
+  IsFound x name p = IsName name × IsPlaceOf (making.names (at x).state.now) name p
+
+  -- The step gets its answer of x and leads to y. That of handing over, and of an image, stands
+  -- apart.
+  abbrev pub Answers : X → Action → X → Type 0
+  Answers x (Action.Make name kind (Ok place)) y =
+      MakeRow making (at x).state name kind (at y).state × Appends x (Record.Make kind name) y ×
+      (place ≡ (at y).places)
+  Answers x (Action.Make name kind (Err e)) y =
+      (y ≡ x) × MakeRefused (making.names (at x).state.now) (at x) name e
+  Answers x (Action.Enter n (Ok done)) y =
+      BeginRow (at x).state n (at y).state × ((at x).state.wear < 2 ^ 61) ×
+      Appends x (Record.Begin n) y
+  Answers x (Action.Enter n (Err e)) y = (y ≡ x) × EnterRefused (at x) n e
+  Answers x (Action.Call n (Target.Number p) call a) y = CallAnswers x n p call a y
+  Answers x (Action.Call n (Target.Named name (Some p)) call a) y =
+      IsFound x name p × CallAnswers x n p call a y
+  Answers x (Action.Call n (Target.Named name None) call a) y = NotFound x name a y
+  Answers x (Action.Later n (Target.Number p) call a) y = LaterAnswers x n p call a y
+  Answers x (Action.Later n (Target.Named name (Some p)) call a) y =
+      IsFound x name p × LaterAnswers x n p call a y
+  Answers x (Action.Later n (Target.Named name None) call a) y = NotFound x name a y
+  Answers x (Action.Commit n (Ok place)) y =
+      CommitRow meaning (at x).state n (at y).state × Appends x (Record.Commit n) y ×
+      (place ≡ (at y).places)
+  Answers x (Action.Commit n (Err e)) y = (y ≡ x) × CommitRefused (at x) n e
+  Answers x (Action.Back n (Ok true)) y =
+      BackRow meaning (at x).state n (at y).state × Appends x (Record.Back n) y
+  Answers x (Action.Back n (Ok false)) y =
+      FallRow (at x).state n (at y).state × ((at x).pending < 16384) × Moves x y
+  Answers x (Action.Back n (Err e)) y = (y ≡ x) × BackRefused (at x) n e
+  Answers x (Action.Ended n (Ok done)) y =
+      EndedRow (at x).state n (at y).state × Appends x (Record.Ended n) y
+  Answers x (Action.Ended n (Err e)) y = (y ≡ x) × EndedRefused (at x) n e
+  Answers x (Action.Cut count a) y = ⊥
+  Answers x (Action.Freeze a) y = ⊥

@@ -1,0 +1,42 @@
+// The steps of a book with their answers: what every history of it is a list of.
+use calls::{Call, Kind, Name, Refusal, Reply};
+
+/// The collection that a step was asked for.
+pub enum Target {
+    /// By its number.
+    Number(u8),
+    /// By its name, with the number that was found under it, if there was one.
+    Named(Name, Option<u8>),
+}
+
+/// What a book did, and what it answered. The first number of each is that of the transaction.
+pub enum Action {
+    /// Makes an empty collection: a committed transaction of its own. It answers the count of
+    /// commits and makes since the book was opened, this one included.
+    Make(Name, Kind, Result<u64, Refusal>),
+    /// Makes a number live.
+    Enter(u64, Result<(), Refusal>),
+    /// A call of a live transaction on a collection.
+    Call(u64, Target, Call, Result<Reply, Refusal>),
+    /// A call that a live transaction puts off to its commit.
+    Later(u64, Target, Call, Result<(), Refusal>),
+    /// Commits a live transaction. It answers the count of commits and makes, this one included.
+    Commit(u64, Result<u64, Refusal>),
+    /// Undoes the newest call of a live transaction. It answers whether there was one.
+    Back(u64, Result<bool, Refusal>),
+    /// Ends a live transaction whose calls are all undone.
+    Ended(u64, Result<(), Refusal>),
+    /// Hands so many records over. It answers whether there was one.
+    Cut(u64, Result<bool, Refusal>),
+    /// Takes an image.
+    Freeze(Result<(), Refusal>),
+}
+
+/// A step of a book, with the client that asked for it, if one did. Contracts alone speak of it: no
+/// book keeps its steps.
+pub struct BookStep {
+    /// The client's number.
+    pub client: Option<u64>,
+    /// What was done, and what it was answered.
+    pub action: Action,
+}
