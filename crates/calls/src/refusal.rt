@@ -4,7 +4,7 @@ use std::fmt;
 use thiserror::Error;
 
 /// Why a call was refused. Unless the call says otherwise, it left everything as before.
-#[derive(Clone, Copy, Debug, PartialEq, Eq, Error)]
+#[derive(Clone, Copy, PartialEq, Eq, Error)]
 pub enum Refusal {
     BadName,
     BadArg,
@@ -116,6 +116,13 @@ impl fmt::Display for Refusal {
             Refusal::Damaged(position) => write!(f, " {position}"),
             _ => Ok(()),
         }
+    }
+}
+
+// An error has a debug text: the same.
+impl fmt::Debug for Refusal {
+    fn fmt<W: fmt::Write>(&self, f: &mut fmt::Formatter<W>) -> fmt::Result {
+        fmt::Display::fmt(self, f)
     }
 }
 

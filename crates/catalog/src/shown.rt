@@ -2,7 +2,7 @@
 use calls::{Item, Kind, Name};
 
 /// What is shown of a collection: its name, its kind, and its items in their order.
-#[derive(Drop, Debug)]
+#[derive(Drop)]
 pub struct Shown {
     pub name: Name,
     pub kind: Kind,

@@ -3,7 +3,7 @@ ghost use Rattle.std.specs.Prelude.{◌≡◌, ◌≤◌, ◌+◌, List, ℕ, le
 ghost use Rattle.disk_model.specs.Disk.{Overwritten, Torn, Follows, IsAtRest, Elapses, HasCause};
 
 /// The disk did not do what was asked of it.
-#[derive(Clone, Copy, Debug, PartialEq, Eq)]
+#[derive(Clone, Copy)]
 pub struct Fault;
 
 /// A disk has a fixed number of bytes. A stop, as of the power, may come at any moment, also within

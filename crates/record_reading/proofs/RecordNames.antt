@@ -1,5 +1,5 @@
 -- A name's test says whether it is a name, and a name is text.
-use Rattle.std.proofs.Common.{◌≡◌, ℕ, ◌<◌, ◌≤◌, true, List, length, All, refl, arith}
+use Rattle.std.proofs.Common.{◌≡◌, ℕ, ◌<◌, ◌≤◌, Bool, true, false, List, length, All, refl, arith}
 use Rattle.std.specs.Bool.{Decides}
 use Rattle.std.specs.List.{list_all}
 use Rattle.std.specs.Str.{IsUtf8}
@@ -50,3 +50,10 @@ pub is_good_name_utf8 : (name : List ℕ) → is_good_name name ≡ true → IsU
 is_good_name_utf8 name h = IsUtf8-from_ascii name
     (IsAscii-from_all name (All-weaker IsNameByte (λ b. b < 128) byte_below name
     ((all_decided name).0 (parts_of_test name h).2)))
+
+false_from : (b : Bool) → (b ≡ true → ⊥) → b ≡ false
+false_from true h = absurd (h refl)
+false_from false h = refl
+
+pub not_good : (name : List ℕ) → (IsName name → ⊥) → is_good_name name ≡ false
+not_good name h = false_from (is_good_name name) (λ e. h (IsName-from_test name e))

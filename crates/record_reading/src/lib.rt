@@ -1,9 +1,8 @@
-//! The record that bytes begin with: each record has one spelling.
+//! The record that bytes begin with, whatever it says: each record has one spelling.
 #![tactic(auto)]
 
-mod decoding;
 mod reading;
-mod sound;
 mod unread;
 
-pub use decoding::{decode, one_list, one_spelling};
+pub use reading::read_record;
+pub use unread::Unread;

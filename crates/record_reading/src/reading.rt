@@ -1,19 +1,17 @@
 // Bytes into the record that they begin with.
 ghost use Rattle.std.specs.Prelude.{◌≡◌, ◌+◌, ◌<◌, ◌≤◌, length, IfOk};
 ghost use Rattle.record_reading.specs.RecordReading.{Gives, byte_in, number_in, pair_in, value_in};
-ghost use Rattle.record_reading.specs.RecordReading.{entry_in, kind_of, may_be_in_name};
-ghost use Rattle.record_reading.specs.RecordReading.{is_good_name, name_in, named_in};
+ghost use Rattle.record_reading.specs.RecordReading.{entry_in, kind_of, name_in, named_in};
 ghost use Rattle.record_reading.specs.RecordReading.{keyed_call_behind, call_behind, call_in};
 ghost use Rattle.record_reading.specs.RecordReading.{reply_behind, reply_in, inverse_in, called_in};
 ghost use Rattle.record_reading.specs.RecordReading.{put_off_in, item_in, numbered_behind};
 ghost use Rattle.record_reading.specs.RecordReading.{journal_behind, record_behind, record_in};
-ghost use Rattle.std.specs.List.{list_all};
 ghost use Rattle.std.specs.Int.{w64, w128, cast_signed};
 
 use crate::unread::Unread;
 use byteorder::{BigEndian, ByteOrder};
-use calls::limits::{MAX_NAME, MAX_VALUE};
-use calls::{Bytes, Call, Item, Kind, Name, Reply};
+use calls::limits::MAX_VALUE;
+use calls::{Bytes, Call, Item, Kind, Name, Reply, check_name};
 use record_format::{CallRecord, LaterRecord, Record};
 use std::alloc::Global;
 
@@ -100,25 +98,6 @@ fn kind_from(code: u8) -> Result<Kind, Unread>
     }
 }
 
-// Whether a name may have the byte.
-fn is_name_byte(byte: u8) -> bool
-    ensures { result ≡ may_be_in_name byte }
-{
-    matches!(byte, b'a'..=b'z' | b'0'..=b'9' | b'_' | b'-' | b'.')
-}
-
-fn has_name_bytes(bytes: &[u8]) -> bool
-    ensures { result ≡ list_all may_be_in_name bytes.now }
-{
-    bytes.iter().all(|byte| is_name_byte(*byte))
-}
-
-fn is_name(bytes: &[u8]) -> bool
-    ensures { result ≡ is_good_name bytes.now }
-{
-    !bytes.is_empty() && bytes.len() <= MAX_NAME && has_name_bytes(bytes)
-}
-
 #[tactic(auto, unfolding(crate::specs::RecordReading::name_in))]
 fn read_name(alloc: Global, bytes: &[u8]) -> Result<(Name, &[u8]), Unread>
     ensures { Gives (λ x. (x.0, x.1.now)) result (name_in bytes.now) }
@@ -129,12 +108,12 @@ fn read_name(alloc: Global, bytes: &[u8]) -> Result<(Name, &[u8]), Unread>
         return Err(Unread::Damage);
     }
     let (name, rest) = rest.split_at(len);
-    if !is_name(name) {
-        return Err(Unread::Damage);
-    }
     let Ok(text) = std::str::from_utf8(name) else {
         return Err(Unread::Damage);
     };
+    if check_name(text).is_err() {
+        return Err(Unread::Damage);
+    }
     Ok((Name::new(String::from_str(alloc, text)?), rest))
 }
 
@@ -394,9 +373,13 @@ fn record_from(
     }
 }
 
-// The record at the front, whatever it says, and the bytes behind it.
+/// The record at the front of the bytes, whatever it says, and the bytes behind it. `last` is the
+/// kind that was named last before them: an item is one of that kind. Only names and values are
+/// copied.
+///
+/// Damage exactly where no record is spelled at the front; Memory.
 #[tactic(auto, unfolding(crate::specs::RecordReading::record_in))]
-pub(crate) fn read_record(
+pub fn read_record(
     alloc: Global,
     last: Option<Kind>,
     bytes: &[u8],

@@ -4,11 +4,12 @@ ghost use Rattle.record_reading.specs.declared.unread.Unread.TheVariants.{Memory
 
 use std::alloc::{AllocError, AllocFailed};
 
-// Why bytes gave no record.
+/// Why bytes gave no record.
 #[derive(Drop)]
 pub enum Unread {
+    /// Only where a growth was refused.
     Memory,
-    // The bytes begin with nothing that is spelled so.
+    /// The bytes begin with nothing that is spelled so.
     Damage,
 }
 

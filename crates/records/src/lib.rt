@@ -3,11 +3,13 @@
 #![tactic(auto)]
 
 mod coded;
+mod decoding;
+mod sound;
 
 pub use calls::Item;
 pub use coded::Coded;
+pub use decoding::{decode, one_list, one_spelling};
 pub use record_format::{
     CallRecord, LaterRecord, Record, call_len, encode, encode_call, encoded_len, fits_call,
     fits_item, fits_reply, is_reached,
 };
-pub use record_reading::{decode, one_list, one_spelling};

@@ -2,7 +2,7 @@
 
 /// So many collections, so many transactions that have not ended, and so many records in the
 /// journal.
-#[derive(Clone, Copy, Debug, PartialEq, Eq)]
+#[derive(Clone, Copy)]
 pub struct Report {
     pub collections: usize,
     pub unfinished: usize,

@@ -14,7 +14,7 @@ pub struct Line {
 }
 
 /// Why a script could not be read.
-#[derive(Clone, Copy, Debug, PartialEq, Eq)]
+#[derive(Clone, Copy)]
 pub enum ScriptError {
     /// The number of the first line that is not understood.
     NotUnderstood(u64),

@@ -8,7 +8,7 @@ use std::{fmt, io};
 
 /// Why a command was not done. Its text begins with the program's name; that of `Unwritten` is
 /// empty.
-#[derive(Clone, Copy, Debug, PartialEq, Eq)]
+#[derive(Clone, Copy)]
 pub enum Failure<'a> {
     /// The store refused, and no line of a script answers for it.
     Refused(Refusal),

@@ -1,5 +1,5 @@
 use Rattle.std.proofs.Common.{◌≡◌, ◌<◌, ◌==◌, ℕ, zero, suc, length, arith, sym, ◌∙◌, Bool, false}
-use Rattle.std.proofs.Common.{true≢false}
+use Rattle.std.proofs.Common.{true≢false, rules}
 use Rattle.std.proofs.lemmas.Result.{err_from_is_err_and}
 use Rattle.repetition.proofs.RepeatLemmas.{reading_starts, reading_goes_on, unread_is_refused}
 use Rattle.repetition.proofs.RepeatLemmas.{stuck_body, damage_weaker, unread_damage}
@@ -8,6 +8,9 @@ use Rattle.repetition.proofs.repetition.Repetition.read_body.Goals as goal
 some_left : (n : ℕ) (empty : Bool) → empty ≡ (n == 0) → empty ≡ false → 0 < n
 some_left zero empty is none = absurd (true≢false (sym is ∙ none))
 some_left (suc n) empty is none = omega arith
+
+pub returns-in-Err-clause-ok : goal.returns-in-Err-clause-ok
+returns-in-Err-clause-ok c = search rules
 
 pub returns-in-Err-clause-err : goal.returns-in-Err-clause-err
 returns-in-Err-clause-err c =

@@ -1,6 +1,10 @@
+use Rattle.std.proofs.Common.{rules}
 use Rattle.std.proofs.lemmas.Result.{err_from_is_err_and}
 use Rattle.repetition.proofs.RepeatLemmas.{damage_weaker}
 use Rattle.repetition.proofs.repetition.Repetition.take.Goals as goal
+
+pub returns-clause-ok : goal.returns-clause-ok
+returns-clause-ok c = search rules
 
 pub returns-in_err-stage-clause-err : goal.returns-in_err-stage-clause-err
 returns-in_err-stage-clause-err c =

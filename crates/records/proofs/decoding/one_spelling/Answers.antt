@@ -1,5 +1,5 @@
 use Rattle.record_reading.proofs.RecordLaws.{one_spelling_of}
-use Rattle.record_reading.proofs.decoding.one_spelling.Goals as goal
+use Rattle.records.proofs.decoding.one_spelling.Goals as goal
 
 pub returns : goal.returns
 returns c = one_spelling_of

@@ -1,7 +1,7 @@
 use Rattle.std.proofs.Common.{refl, arith}
 use Rattle.record_reading.proofs.RecordLaws.{Fits-read, is_found, is_only, is_unsound, is_nothing}
 use Rattle.record_reading.proofs.RecordLaws.{refuted}
-use Rattle.record_reading.proofs.decoding.decode.Goals as goal
+use Rattle.records.proofs.decoding.decode.Goals as goal
 
 pub is_sound-requires : goal.is_sound-requires
 is_sound-requires c =

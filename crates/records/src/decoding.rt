@@ -5,11 +5,10 @@ ghost use Rattle.record_format.specs.declared.record.Record.{Record};
 ghost use Rattle.record_format.specs.Records.{spelled, spelling, IsRecord, AreRecords, Begins};
 ghost use Rattle.record_format.specs.Records.{IsWhy};
 
-use crate::reading::read_record;
 use crate::sound::is_sound;
-use crate::unread::Unread;
 use calls::{Kind, Refusal};
 use record_format::Record;
+use record_reading::{Unread, read_record};
 use std::alloc::Global;
 
 /// The record at the front of the bytes, and the bytes behind it. `last` is the kind that was named
