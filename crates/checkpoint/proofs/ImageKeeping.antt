@@ -27,13 +27,14 @@ use Rattle.checkpoint.specs.declared.laying.Laying.{Laying}
 use Rattle.checkpoint.specs.Imaging.{IsOther, IsBeingLaid, IsRooted, LeavesRoot, PicksWhole}
 use Rattle.checkpoint.specs.Imaging.{IsSameImage, left_of, bodies_of}
 use Rattle.checkpoint.specs.ImageAnswers.{BeginAnswers, PieceAnswers, FlipAnswers}
-use Rattle.checkpoint.specs.Keepers.{KeeperState, IsOneOfTwo}
+use Rattle.checkpoint.specs.Keepers.{KeeperState, IsKeeper, IsOneOfTwo}
 use Rattle.checkpoint.specs.Stored.{StandIn}
 use Rattle.checkpoint.specs.DiskHeads.{IsHeaded, IsInUse}
 use Rattle.checkpoint.specs.Crash.{YieldsUpTo}
 use Rattle.checkpoint.specs.Keeping.{BegunImage, IsImaging, HasReceived, LeavesKept}
 use Rattle.checkpoint.specs.Keeping.{BeginKeeps, ImageKeeps, begun_with, IsApart}
-use Rattle.checkpoint.proofs.Apart.{back, apart}
+use Rattle.checkpoint.proofs.Apart.{back, apart, still_ready}
+use Rattle.checkpoint.proofs.Turning.{beside_is}
 use Rattle.checkpoint.proofs.StandLemmas.{shorter_beginning}
 use Rattle.checkpoint.proofs.HeadLemmas.{same_front, same_at, head_header, head_headed}
 use Rattle.checkpoint.proofs.YieldLemmas.{row_yields}
@@ -678,6 +679,21 @@ module _ {D : Type 0} (g : Ghosts D) (k l : KeeperState D)
       (some_same v x (sym is_v ∙ then))
       (laid bodies (subst (λ (y : Laying). IsBeingLaid y (g.seen k.disk) bodies)
       (sym (some_same u w (sym is_u ∙ was))) being)))
+
+-- the area in use stays ready while a piece is written beside it
+pub piece_ready : {D : Type 0} (g : Ghosts D) (k : KeeperState D) (w : Laying) (new : D) →
+    IsKeeper g.seen k → k.image ≡ Some w →
+    SameOutside (base_of w.area) (size_of w.area) (g.seen k.disk) (g.seen new) →
+    LeavesOnly g.moment g.left_since k.disk new (LeavesElsewhere (g.may_leave k.disk) w.area) →
+    ((t : ℕ) (c : List ℕ) → t ≤ g.moment new → g.may_leave new c → g.left_since new t c) →
+    (bodies : List (List ℕ)) → IsReady g.seen g.may_leave k.area k.disk bodies →
+    IsReady g.seen g.may_leave k.area new bodies
+piece_ready g k w new held is elsewhere run counts_now bodies ready =
+    still_ready g.seen g.may_leave k.area w.area (length (g.seen k.disk)) k.disk new bodies held.one
+    (beside_is g.seen k w held is).other elsewhere
+    (leaves_now g.moment g.left_since k.disk new (LeavesElsewhere (g.may_leave k.disk) w.area)
+    (g.may_leave new) run counts_now)
+    ready
 
 -- a call that leaves the keeper as it was
 pub image_still : {D : Type 0} (g : Ghosts D) (k : KeeperState D) →

@@ -101,29 +101,6 @@ module _ (start : List Collection) (wear : ℕ) (rs : List Record) (now : State)
     refl,
   )
 
-  -- the book's state is the same
-  pub stands_still : (next : State) → next ≡ now →
-      (old : StandIn start wear rs now blocks covered) →
-      (new : StandIn start wear rs next blocks covered) × (new.since ≡ old.since)
-  stands_still next same old = (
-    record {
-      since = old.since;
-      split = old.split;
-      there = old.there;
-      led = old.led;
-      trail = old.trail;
-      leads = old.leads;
-      trails = subst (Lags old.trail) (sym same) old.trails;
-      base = old.base;
-      are_read = old.are_read;
-      state = old.state;
-      repeats = old.repeats;
-      lags = subst (Lags old.state) (sym same) old.lags;
-      along = old.along;
-    },
-    refl,
-  )
-
   -- a transaction falls, of which no record tells
   pub stands_fall : (n : ℕ) (next : State) → FallRow now n next →
       (old : StandIn start wear rs now blocks covered) →

@@ -193,17 +193,22 @@ impl<D: Disk> Keeper<D> {
         self.append(block)
     }
 
-    /// Brings the held block, or else the next one, to the disk. Answers Idle where there is none,
-    /// or that all commits up to a place are kept, which is the mark then. A block that the image
-    /// of the area in use covers is let go, as it is kept by that, and no device is called. While
-    /// an image is in progress, a block that ends past it is held, which is answered, and each
-    /// other one goes into the area in use. It takes no memory and copies no block.
+    /// Brings the held block, or else the next one that it receives, to the disk. Answers Idle
+    /// where none is held and none was there to receive, or that all commits up to a place are
+    /// kept, which is the mark then. A block that the image of the area in use covers is let go, as
+    /// it is kept by that, and no device is called. While an image is in progress, a block that
+    /// ends past it is held, which is answered, and each other one goes into the area in use. It
+    /// takes no memory and copies no block.
+    ///
+    /// Of a keeper that has received a book's blocks since it was opened: whatever a stop at any
+    /// moment of the call might have left is sound, and stands for a content that some beginning of
+    /// what the book's records commit gives; that beginning holds all that the mark told before.
     ///
     /// Refused Failed after a Fault, with everything as before; Full where the block does not fit,
     /// and then it is held;
     /// Fault where the disk failed, and then the keeper has failed.
     pub fn turn<I: Inbox>(&mut self, inbox: &mut I) -> Result<Turn, Refusal>
-        // What it answers, and which block is held then.
+        // What it answers, and what it leaves.
         ensures answer { TurnAnswers self.old.held (λ bs. I.receives inbox.old bs inbox.new)
             (I.was_empty inbox.old inbox.new) self.old.failed self.old.mark
             (λ b. b.end ≤ self.old.covered) (λ b. IsPast self.old.image b.end)
@@ -229,7 +234,8 @@ impl<D: Disk> Keeper<D> {
             IsReady D.seen D.may_leave self.old.area self.old.disk bodies →
             LeavesOnly D.moment D.left_since self.old.disk self.new.disk
             (LeavesBlocks (D.may_leave self.old.disk) self.old.area bodies body) }
-        // What that comes to of a keeper that has received blocks of a book's records.
+        // So much of a book's records is kept: what was received stays received, and at each moment
+        // a stop leaves what the mark told.
         ensures crash { TurnKeeps ⟦<D as Disk>⟧ (λ bs. I.receives inbox.old bs inbox.new) self.old
             self.new }
         // What of the disk stays: all outside the area, and what was laid of an image.
@@ -259,13 +265,18 @@ impl<D: Disk> Keeper<D> {
     /// Begins to write an image, which has a block, into the area that is not in use. No device is
     /// called, no memory is taken and no block copied.
     ///
+    /// An image that stands for a beginning of the book's records, and covers all that was received
+    /// and all that the area in use covers, may be begun at any time: a stop leaves what it left
+    /// before, and later calls go on from there.
+    ///
     /// Refusals, in this order, each with everything as before: Failed after a Fault; Imaging where
     /// an image is in progress; Full where the blocks, with a closed gate behind the last, need
     /// more bytes than an area has.
     pub fn begin_image(&mut self, image: Image) -> Result<(), Refusal>
         requires some { image.blocks.items ≢ [] }
         ensures answer { BeginAnswers self.old image self.new result }
-        // What that comes to of an image that stands for a beginning of a book's records.
+        // What was received stays received, and the image is one of those that were begun, where it
+        // stands for a beginning of the book's records.
         ensures crash { BeginKeeps ⟦<D as Disk>⟧ image result self.old self.new }
         // All of it is left.
         ensures begun { (w : Laying) → self.new.image ≡ Some w →
@@ -290,6 +301,7 @@ impl<D: Disk> Keeper<D> {
     ///
     /// A stop at any moment of the call leaves each byte outside the image's area, and so the area
     /// in use, as a stop could have left it before.
+    /// So it leaves all that the mark tells, as a stop in a turn does.
     ///
     /// Refused Failed after a Fault, with everything as before; Fault where the disk failed, and
     /// then the keeper has failed, and the block is not written.
@@ -301,7 +313,7 @@ impl<D: Disk> Keeper<D> {
             self.new.image ≡ Some v →
             IsBeingLaid w (D.seen self.old.disk) bodies →
             OnOk result (IsBeingLaid v (D.seen self.new.disk) bodies) }
-        // What a stop leaves, of a keeper that has received blocks of a book's records.
+        // What was received stays received, and at each moment a stop leaves what the mark told.
         ensures crash { ImageKeeps ⟦<D as Disk>⟧ self.old self.new }
         // The blocks of the area in use are kept.
         ensures kept { (bodies : List (List ℕ)) →
@@ -334,6 +346,7 @@ impl<D: Disk> Keeper<D> {
     ///
     /// A stop at any moment of the call leaves what it could have left before; or what a read gave
     /// before, with any root byte.
+    /// In both cases all that the mark told is there, as with a stop in a turn.
     ///
     /// Refused Failed after a Fault, and then Unfinished where no image is in progress or pieces of
     /// it remain, both with everything as before; Fault where the disk failed, and then the keeper
@@ -341,7 +354,7 @@ impl<D: Disk> Keeper<D> {
     pub fn flip(&mut self) -> Result<u64, Refusal>
         ensures answer { FlipAnswers self.old
             (Rises (D.fault_count self.old.disk) (D.fault_count self.new.disk)) self.new result }
-        // What a stop leaves, of a keeper that has received blocks of a book's records.
+        // What was received stays received, and at each moment a stop leaves what the mark told.
         ensures crash { ImageKeeps ⟦<D as Disk>⟧ self.old self.new }
         // The area in use holds the blocks of the image, and the root byte picks it.
         ensures kept { (w : Laying) (bodies : List (List ℕ)) → self.old.image ≡ Some w →

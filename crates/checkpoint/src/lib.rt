@@ -5,6 +5,11 @@
 //! It also writes images of the book: whole blocks, into the area that is not in use, while it goes
 //! on appending to the one in use; then one byte makes the image the store.
 //!
+//! Which blocks of a book a keeper has received since it was opened, and what its disk holds of
+//! them, is one relation (`HasReceived`), in which no book stands. Each call keeps it, and says
+//! what a stop at any moment of it leaves: a content that some beginning of what the book's records
+//! commit gives, with all that the mark told.
+//!
 //! Contracts see a keeper as a `KeeperState`: its disk, the area in use, the mark (the place up to
 //! which commits are kept), the block that was held back, whether the disk has failed, the position
 //! up to which the image of the area in

@@ -24,8 +24,8 @@ use Rattle.checkpoint.specs.ImageAnswers.{PieceAnswers, FlipAnswers}
 use Rattle.checkpoint.specs.Keepers.{KeeperState, IsBrought, TurnAnswers}
 use Rattle.checkpoint.specs.Keeping.{BegunImage, IsApart, Uncrossed, TurnKeeps, ImageKeeps}
 use Rattle.blocks.proofs.Carrying.{joined-append, carries_parts}
-use Rattle.checkpoint.proofs.GroupLemmas.{apart_append, apart_before}
-use Rattle.checkpoint.proofs.GroupLemmas.{apart_behind}
+use Rattle.checkpoint.proofs.GroupLemmas.{apart_append, apart_before, apart_behind}
+use Rattle.checkpoint.proofs.GroupLemmas.{uncrossed_front}
 use Rattle.world.specs.declared.steps.Step.{Step}
 use Rattle.world.specs.declared.steps.Answer.{Answer}
 use Rattle.world.specs.Pasts.{Past, BookState, action_of, committed_in, told, outcome, mark_behind}
@@ -126,12 +126,6 @@ flip_mark_rises k l is_risen (Err e) flipped = omega arith
 
 -- ---- positions between blocks
 
-apart_first : (front : ℕ) (gs hs : List (List Record)) (position : ℕ) →
-    IsApart front (gs ++ hs) position → IsApart front gs position
-apart_first front [] hs position apart = tt
-apart_first front (g ∷ gs) hs position apart =
-    (apart.0, apart_first (front + length g) gs hs position apart.1)
-
 apart_between : (groups : List (List Record)) (book : BookState) (position : ℕ) →
     book.end ≡ length (records_in groups) → IsBetween groups book position →
     IsApart 0 groups position
@@ -143,20 +137,18 @@ apart_between groups book position end (inl split) =
 apart_between groups book position end (inr behind) =
     apart_behind 0 groups position (omega (arith, end, behind.0))
 
-uncrossed : (groups first more : List (List Record)) (book : BookState) → groups ≡ first ++ more →
+uncrossed : (groups : List (List Record)) (book : BookState) →
     book.end ≡ length (records_in groups) → (images : List Image) (begun : List BegunImage) →
     AreImagesFor images begun → AllByRecursion (λ image. IsBetween groups book image.end) images →
-    Uncrossed begun first
-uncrossed groups first more book is end [] [] for between =
-    All-nil (λ (i : BegunImage). IsApart 0 first (length i.covered))
-uncrossed groups first more book is end [] (b ∷ begun) for between = absurd for
-uncrossed groups first more book is end (image ∷ images) [] for between = absurd for
-uncrossed groups first more book is end (image ∷ images) (b ∷ begun) for between =
-    All-cons (λ (i : BegunImage). IsApart 0 first (length i.covered)) b begun
-    (apart_first 0 first more (length b.covered)
-    (subst (λ g. IsApart 0 g (length b.covered)) is
-    (subst (IsApart 0 groups) for.0.end (apart_between groups book image.end end between.0))))
-    (uncrossed groups first more book is end images begun for.1 between.1)
+    Uncrossed begun groups
+uncrossed groups book end [] [] for between =
+    All-nil (λ (i : BegunImage). IsApart 0 groups (length i.covered))
+uncrossed groups book end [] (b ∷ begun) for between = absurd for
+uncrossed groups book end (image ∷ images) [] for between = absurd for
+uncrossed groups book end (image ∷ images) (b ∷ begun) for between =
+    All-cons (λ (i : BegunImage). IsApart 0 groups (length i.covered)) b begun
+    (subst (IsApart 0 groups) for.0.end (apart_between groups book image.end end between.0))
+    (uncrossed groups book end images begun for.1 between.1)
 
 -- ---- and so the past goes on
 
@@ -190,8 +182,9 @@ module _ {D : Type 0} (g : Ghosts D) (start : List Collection) (past : Past) (w 
       ) in
       let on = turns start had.wear (records_by had.steps) w.book.state had.begun had.received bs
       first received parts.3 begins
-      (uncrossed had.groups first more w.book parts.2 had.handed.end had.images had.begun
-      had.are_begun had.handed.between) had.keeps in
+      (uncrossed_front had.begun first more (subst (Uncrossed had.begun) parts.2
+      (uncrossed had.groups w.book had.handed.end had.images had.begun had.are_begun
+      had.handed.between))) had.keeps in
       let told = turn_told w.mark r in (
         record {
           wear = had.wear;

@@ -1,4 +1,4 @@
-use Rattle.std.proofs.Common.{◌≡◌, ◌≢◌, List, [], ℕ, Some, OnOk}
+use Rattle.std.proofs.Common.{rules, ◌≡◌, ◌≢◌, List, [], ℕ, Some, OnOk}
 use Rattle.disk_model.specs.Disk.{LeavesOnly, Rises}
 use Rattle.gate_block.specs.Area.{IsReady}
 use Rattle.checkpoint.specs.declared.laying.Laying.{Laying}
@@ -60,6 +60,9 @@ returns-in-Some-clause-crash g c =
     (rw (← c.self.view_is) c.pick.ensures.any_moment) (any_moment_whole g c)
     (rw (← c.self.view_is) c.pick.ensures.root) _ c.pick.result (answer g c) (kept g c)
     c.pick.ensures.picks c.pick.ensures.durable
+
+pub returns-in-None-clause-answer : goal.returns-in-None-clause-answer
+returns-in-None-clause-answer g c = search rules
 
 pub returns-in-None-clause-crash : goal.returns-in-None-clause-crash
 returns-in-None-clause-crash g c =
