@@ -1,0 +1,6 @@
+pub mod Drawers
+pub mod Handing
+pub mod Marking
+pub mod Moves
+pub mod Seats
+pub mod Sitting

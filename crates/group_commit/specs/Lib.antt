@@ -1,0 +1,12 @@
+pub mod Drawing
+pub mod EndLaws
+pub mod Ends
+pub mod Histories
+pub mod Lines
+pub mod Marks
+pub mod NoStep
+pub mod Numbers
+pub mod Orders
+pub mod Parties
+pub mod Rising
+pub mod Transit
