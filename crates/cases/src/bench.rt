@@ -1,72 +1,68 @@
-// What the questions of a case are asked on.
-use crate::stage::{Command, Stage};
-use crate::told::Told;
-use crate::trial::Trial;
-use crate::values::{add_bytes, number};
+// What the questions of a case are asked on: a disk in memory, and a script that is being written.
+use crate::values::number;
+use calls::limits::MIN_AREA;
+use disk_model::MemDisk;
+use recovery::format;
 use std::alloc::{AllocError, Global};
-use std::mem;
+use std::{io, mem};
 
-/// The disk of a case, another one that is tried over and over, a script, how many lines of what
-/// the next run prints are told, the bytes that a question brings, and all that is told.
+// The size of a disk with two of the least areas.
+const SIZE: u64 = 4096 + 2 * MIN_AREA;
+
+/// A disk in memory, a script, and how many lines of what the next run prints are told.
 #[derive(Drop)]
 pub struct Bench {
-    pub stage: Stage,
-    pub trial: Trial,
+    pub disk: MemDisk,
     pub script: Vec<u8>,
     pub last: usize,
-    pub bytes: Vec<u8>,
-    pub told: Told,
 }
 
 impl Bench {
-    /// Disks of no bytes, and nothing told.
+    /// A bench with a disk of no bytes.
     pub fn new(alloc: Global) -> Result<Self, AllocError> {
         Ok(Self {
-            stage: Stage::new(alloc)?,
-            trial: Trial::new(alloc)?,
+            disk: MemDisk::new(alloc, 0)?,
             script: Vec::new(alloc),
             last: usize::MAX,
-            bytes: Vec::new(alloc),
-            told: Told::new(alloc),
         })
     }
 
-    /// Whether memory was never wanted, nor bytes outside a disk.
-    pub fn is_well(&self) -> bool {
-        self.stage.is_well && self.trial.is_well() && self.told.is_whole
+    /// Takes the disk out.
+    pub fn take_disk(&mut self, alloc: Global) -> Result<MemDisk, AllocError> {
+        let none = MemDisk::new(alloc, 0)?;
+        Ok(mem::replace(&mut self.disk, none))
     }
 
-    /// A case begins: an empty store, and no script.
-    pub fn begin(&mut self, alloc: Global) {
-        self.script.clear();
-        self.last = usize::MAX;
-        self.stage.begin(alloc);
+    /// Takes the script out.
+    pub fn take_script(&mut self, alloc: Global) -> Vec<u8> {
+        mem::replace(&mut self.script, Vec::new(alloc))
     }
 
-    /// The bytes are those of words of base 16.
-    pub fn read_bytes(&mut self, alloc: Global, text: &str) -> Option<()> {
-        self.bytes.clear();
-        add_bytes(alloc, &mut self.bytes, text)
+    /// Takes out how many lines of the next run are told; of those behind it all are.
+    pub fn take_last(&mut self) -> usize {
+        mem::replace(&mut self.last, usize::MAX)
     }
 
     /// Of what the next run prints only so many lines are told.
-    pub fn tell_last(&mut self, text: &str) -> Option<()> {
+    pub fn tell_last(&mut self, text: &str) -> io::Result<()> {
         self.last = number(text)? as usize;
-        Some(())
+        Ok(())
     }
 
-    /// Tells what the last command on the disk answered. Of what is printed behind it all lines are
-    /// told.
-    pub fn tell(&mut self) {
-        let last = mem::replace(&mut self.last, usize::MAX);
-        self.stage.tell(last, &mut self.told);
+    /// A case begins: an empty store with two of the least areas, and no script.
+    pub fn begin(&mut self, alloc: Global) -> io::Result<()> {
+        self.disk = empty_store(alloc)?;
+        self.script = Vec::new(alloc);
+        self.last = usize::MAX;
+        Ok(())
     }
+}
 
-    /// Carries a command out on the disk with the script, which is empty then, and tells what it
-    /// answered.
-    pub fn carry_out(&mut self, alloc: Global, command: Command) {
-        self.stage.run(alloc, command, self.script.as_slice());
-        self.script.clear();
-        self.tell();
+/// An empty store with two of the least areas.
+pub fn empty_store(alloc: Global) -> io::Result<MemDisk> {
+    let mut disk = MemDisk::new(alloc, SIZE)?;
+    match format(&mut disk, MIN_AREA) {
+        Ok(()) => Ok(disk),
+        Err(_) => Err(io::Error::from(io::ErrorKind::OutOfMemory)),
     }
 }

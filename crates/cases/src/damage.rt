@@ -1,65 +1,109 @@
 // Stores with bytes that no program wrote: what a check and a show make of them.
-use crate::bench::Bench;
-use crate::stage::Command;
-use crate::trial::Trial;
-use crate::values::{byte, number, three};
-use std::alloc::Global;
+use crate::bench::{Bench, empty_store};
+use crate::brief::write_line;
+use crate::disks::{self, bytes_at, disk_of};
+use crate::runs::{Ran, run_on, text, to_check, to_show};
+use crate::values::{byte, bytes, number, three};
+use boost::Task;
+use disk_model::{Disk, MemDisk};
+use std::alloc::{AllocError, Global};
+use std::io::{self, Write};
 
-impl Trial {
-    // What a check answers is found, and what a show answers where that is otherwise.
-    fn find(&mut self, alloc: Global) {
-        self.found.bytes.clear();
-        self.stage.run(alloc, Command::Check, &[]);
-        self.stage.tell_short(&mut self.found);
-        let checked = self.found.bytes.len();
-        self.found.add(b", shows ");
-        let shows = self.found.bytes.len();
-        self.stage.run(alloc, Command::Show, &[]);
-        self.stage.tell_short(&mut self.found);
-        if self.found.bytes.get(..checked) == self.found.bytes.get(shows..) {
-            self.found.bytes.truncate(checked);
-        }
+// Adds the lines of a text to a line.
+fn add_lines(line: &mut String, text: &str) -> Result<(), AllocError> {
+    for part in text.lines() {
+        line.push_str(" / ")?;
+        line.push_str(part)?;
     }
-
-    // A disk of the bytes with which it begins but for one: what a check and a show make of it is
-    // found.
-    fn find_with(&mut self, alloc: Global, at: u64, value: u8) {
-        self.stage.lay(alloc, self.ground.as_slice());
-        self.stage.put(at, &[value]);
-        self.find(alloc);
-    }
+    Ok(())
 }
 
-/// An empty store whose first area begins with these bytes: tells what a check and a show make of
+// What a run answered: its status, and what it printed, in one line.
+fn line_of(alloc: Global, ran: &Ran) -> Result<String, AllocError> {
+    let mut line = format!(in alloc; "{}", ran.status)?;
+    add_lines(&mut line, text(&ran.out))?;
+    add_lines(&mut line, text(&ran.err))?;
+    Ok(line)
+}
+
+// What a task answers on a disk, in one line, and the disk.
+fn line_on(alloc: Global, task: Task, disk: MemDisk) -> Result<(String, MemDisk), AllocError> {
+    let (ran, disk) = run_on(alloc, task, disk, &[]);
+    Ok((line_of(alloc, &ran)?, disk))
+}
+
+// What a check answered, and what a show answered where that is otherwise.
+fn joined(checked: String, shown: &str) -> Result<String, AllocError> {
+    let mut found = checked;
+    if shown != found.as_str() {
+        found.push_str(", shows ")?;
+        found.push_str(shown)?;
+    }
+    Ok(found)
+}
+
+// What a check answers, and what a show answers where that is otherwise.
+fn found_on(alloc: Global, disk: MemDisk) -> Result<String, AllocError> {
+    let (checked, disk) = line_on(alloc, to_check(alloc), disk)?;
+    let (shown, _) = line_on(alloc, to_show(alloc), disk)?;
+    joined(checked, shown.as_str())
+}
+
+// An empty store whose first area begins with these bytes.
+fn store_with(alloc: Global, text: &str) -> io::Result<MemDisk> {
+    let area = bytes(alloc, text)?;
+    disks::changed(empty_store(alloc)?, 4096, area.as_slice())
+}
+
+/// An empty store whose first area begins with these bytes: prints what a check and a show make of
 /// it.
-pub fn tell_area(alloc: Global, bench: &mut Bench, text: &str) -> Option<()> {
-    bench.read_bytes(alloc, text)?;
-    bench.trial.stage.begin(alloc);
-    bench.trial.stage.put(4096, bench.bytes.as_slice());
-    bench.trial.find(alloc);
-    bench.told.add_line(bench.trial.found.as_str());
-    Some(())
+pub fn tell_area(alloc: Global, text: &str, out: &mut impl Write) -> io::Result<()> {
+    let found = found_on(alloc, store_with(alloc, text)?)?;
+    write_line(found.as_str(), out)
+}
+
+// What a check and a show make of a disk of these bytes but for one.
+fn found_with(alloc: Global, bytes: &[u8], at: u64, value: u8) -> io::Result<String> {
+    let disk = disks::changed(disk_of(alloc, bytes)?, at, &[value])?;
+    Ok(found_on(alloc, disk)?)
 }
 
 /// Changes each byte of the disk from the first to the end, which is left out, to a value, one at a
-/// time. Tells what a check and a show make of it, where that is not what they made of the byte
+/// time. Prints what a check and a show make of it, where that is not what they made of the byte
 /// before. The disk of the case stays.
-pub fn change_each(alloc: Global, bench: &mut Bench, text: &str) -> Option<()> {
+pub fn change_each(
+    alloc: Global,
+    bench: &mut Bench,
+    text: &str,
+    out: &mut impl Write,
+) -> io::Result<()> {
     let (first, end, value) = three(text)?;
     let (first, end, value) = (number(first)?, number(end)?, byte(value)?);
-    bench.trial.take_ground(&mut bench.stage);
-    for at in first..end {
-        bench.trial.find_with(alloc, at, value);
-        tell_new(bench, at);
-    }
-    Some(())
+    let size = bench.disk.size();
+    let bytes = bytes_at(alloc, &mut bench.disk, 0, size)?;
+    change_all(alloc, bytes.as_slice(), first, end, value, out)
 }
 
-// Tells what is found of a changed byte, where it is not what was found before.
-fn tell_new(bench: &mut Bench, at: u64) {
-    if bench.trial.is_new() {
-        bench.told.tell(format_args!("{at}: "));
-        bench.told.add_line(bench.trial.found.as_str());
+fn change_all(
+    alloc: Global,
+    bytes: &[u8],
+    first: u64,
+    end: u64,
+    value: u8,
+    out: &mut impl Write,
+) -> io::Result<()> {
+    let mut last = String::new(alloc);
+    for at in first..end {
+        let found = found_with(alloc, bytes, at, value)?;
+        if found.as_str() != last.as_str() {
+            write_found(at, found.as_str(), out)?;
+        }
+        last = found;
     }
-    bench.trial.keep();
+    Ok(())
+}
+
+fn write_found(at: u64, found: &str, out: &mut impl Write) -> io::Result<()> {
+    write!(out, "{at}: ")?;
+    write_line(found, out)
 }

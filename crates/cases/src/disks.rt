@@ -1,80 +1,113 @@
 // Questions of the disk itself: its bytes, a call that fails, and a stop.
 use crate::bench::Bench;
-use crate::trial::Trial;
-use crate::values::{byte, number, numbers};
-use disk_model::Disk;
-use std::alloc::Global;
+use crate::brief::write_bytes;
+use crate::values::{self, not_understood, number, numbers, pair};
+use disk_model::{Disk, MemDisk};
+use std::alloc::{AllocError, Global};
+use std::io::{self, Write};
 
-/// Tells bytes of the disk: where they begin, and how many.
-pub fn read(bench: &mut Bench, text: &str) -> Option<()> {
+/// Bytes of a disk, so many from one place on.
+pub fn bytes_at(alloc: Global, disk: &mut MemDisk, at: u64, count: u64) -> io::Result<Vec<u8>> {
+    if at > disk.size() || count > disk.size() - at {
+        return Err(not_understood());
+    }
+    let mut bytes = vec![in alloc; 0; count as usize]?;
+    match disk.read_at(at, &mut bytes) {
+        Ok(()) => Ok(bytes),
+        Err(_) => Err(not_understood()),
+    }
+}
+
+/// Puts bytes in the place of those that stand there.
+pub fn put_at(disk: &mut MemDisk, at: u64, bytes: &[u8]) -> io::Result<()> {
+    if at > disk.size() || bytes.len() as u64 > disk.size() - at {
+        return Err(not_understood());
+    }
+    match disk.write_at(at, bytes) {
+        Ok(()) => Ok(()),
+        Err(_) => Err(not_understood()),
+    }
+}
+
+/// A disk with bytes in the place of those that stood there.
+pub fn changed(disk: MemDisk, at: u64, bytes: &[u8]) -> io::Result<MemDisk> {
+    let mut disk = disk;
+    put_at(&mut disk, at, bytes)?;
+    Ok(disk)
+}
+
+/// A disk of these bytes.
+pub fn disk_of(alloc: Global, bytes: &[u8]) -> io::Result<MemDisk> {
+    changed(MemDisk::new(alloc, bytes.len() as u64)?, 0, bytes)
+}
+
+/// Prints bytes of the disk: where they begin, and how many.
+pub fn read(alloc: Global, bench: &mut Bench, text: &str, out: &mut impl Write) -> io::Result<()> {
     let (at, count) = numbers(text)?;
-    bench.stage.read(at, count, &mut bench.bytes);
-    bench.told.add_bytes(bench.bytes.as_slice());
-    Some(())
+    let bytes = bytes_at(alloc, &mut bench.disk, at, count)?;
+    write_bytes(bytes.as_slice(), out)
 }
 
 /// Writes bytes to the disk: where they begin, and which.
-pub fn write(alloc: Global, bench: &mut Bench, text: &str) -> Option<()> {
-    let (at, rest) = text.split_once(" ")?;
+pub fn write(alloc: Global, bench: &mut Bench, text: &str) -> io::Result<()> {
+    let (at, rest) = pair(text, " ")?;
     let at = number(at)?;
-    bench.read_bytes(alloc, rest)?;
-    bench.stage.put(at, bench.bytes.as_slice());
-    Some(())
+    let bytes = values::bytes(alloc, rest)?;
+    put_at(&mut bench.disk, at, bytes.as_slice())
 }
 
 /// A disk of so many zeros.
-pub fn resize(alloc: Global, bench: &mut Bench, text: &str) -> Option<()> {
-    bench.stage.resize(alloc, number(text)?);
-    Some(())
+pub fn resize(alloc: Global, bench: &mut Bench, text: &str) -> io::Result<()> {
+    bench.disk = MemDisk::new(alloc, number(text)?)?;
+    Ok(())
 }
 
 /// The call of the disk of this number from now fails.
-pub fn fail(bench: &mut Bench, text: &str) -> Option<()> {
-    bench.stage.disk.fail_at(number(text)?);
-    Some(())
+pub fn fail(bench: &mut Bench, text: &str) -> io::Result<()> {
+    bench.disk.fail_at(number(text)?);
+    Ok(())
 }
 
-/// Tells how many calls of the disk failed.
-pub fn tell_faults(bench: &mut Bench) {
-    let faults = bench.stage.disk.faults();
-    bench.told.tell(format_args!("{faults}\n"));
+/// Each byte that a stop may leave otherwise than a read gives, with this value.
+pub fn all_as(alloc: Global, size: u64, value: u8) -> Result<Vec<(u64, u8)>, AllocError> {
+    let mut picks = Vec::new(alloc);
+    for at in (0..520).chain(4_096..size) {
+        picks.push((at, value))?;
+    }
+    Ok(picks)
 }
 
 // A byte that is named: its place, a colon and its value.
-fn pick(word: &str) -> Option<(u64, u8)> {
-    let (at, value) = word.split_once(":")?;
-    Some((number(at)?, byte(value)?))
+fn pick(word: &str) -> io::Result<(u64, u8)> {
+    let (at, value) = pair(word, ":")?;
+    Ok((number(at)?, values::byte(value)?))
 }
 
-impl Trial {
-    // Picks the bytes that are named.
-    fn pick_named(&mut self, text: &str) -> Option<()> {
-        for word in text.split(' ') {
-            let picked = pick(word)?;
-            self.stage.is_well &= self.picks.push(picked).is_ok();
-        }
-        Some(())
+// The bytes that are named.
+fn chosen(alloc: Global, text: &str) -> io::Result<Vec<(u64, u8)>> {
+    let mut picks = Vec::new(alloc);
+    for word in text.split(' ') {
+        picks.push(pick(word)?)?;
     }
+    Ok(picks)
+}
 
-    // Picks which bytes a stop leaves otherwise than a read gives: none, all with a value, or those
-    // that are named.
-    fn pick_told(&mut self, size: u64, text: &str) -> Option<()> {
-        self.picks.clear();
-        if text.is_empty() {
-            return Some(());
-        }
-        let Some(value) = text.strip_prefix("all ") else {
-            return self.pick_named(text);
-        };
-        self.pick_all(size, byte(value)?);
-        Some(())
+// Which bytes a stop leaves otherwise than a read gives: none, all with a value, or those that are
+// named.
+fn picks(alloc: Global, size: u64, text: &str) -> io::Result<Vec<(u64, u8)>> {
+    if text.is_empty() {
+        return Ok(Vec::new(alloc));
+    }
+    match text.strip_prefix("all ") {
+        Some(value) => Ok(all_as(alloc, size, values::byte(value)?)?),
+        None => chosen(alloc, text),
     }
 }
 
 /// Stops the disk.
-pub fn stop(alloc: Global, bench: &mut Bench, text: &str) -> Option<()> {
-    let size = bench.stage.disk.size();
-    bench.trial.pick_told(size, text)?;
-    bench.stage.stop(alloc, bench.trial.picks.as_slice());
-    Some(())
+pub fn stop(alloc: Global, bench: &mut Bench, text: &str) -> io::Result<()> {
+    let picks = picks(alloc, bench.disk.size(), text)?;
+    let disk = bench.take_disk(alloc)?;
+    bench.disk = disk.stop(picks.as_slice());
+    Ok(())
 }

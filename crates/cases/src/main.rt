@@ -4,6 +4,7 @@
 #![tactic(auto)]
 
 mod bench;
+mod brief;
 mod damage;
 mod disks;
 mod files;
@@ -12,63 +13,67 @@ mod questions;
 mod runs;
 mod scripts;
 mod spellings;
-mod stage;
 mod steps;
 mod stops;
 mod texts;
-mod told;
-mod trial;
 mod values;
 
 use bench::Bench;
 use std::fs::{self, File};
-use std::io::{self, ErrorKind, Write};
+use std::io::{self, BufWriter, Write};
 use std::rt::Files;
 
-// Asks what the lines of a text ask, one after another. The first that is not answered is told with
-// its number, and ends it.
+// Tells an error with the line that it comes from.
+fn tell_error(name: &str, number: u64, error: io::Error, out: &mut impl Write) -> io::Result<()> {
+    writeln!(out, "{name}: line {number}: {error}")?;
+    Err(error)
+}
+
+// Asks what the lines of a text ask, one after another. An error is told with its line.
 fn ask_all(
     rt: &(impl Files<File = File> + AllocGlobal),
     bench: &mut Bench,
     name: &str,
     text: &str,
-) -> Option<()> {
+    out: &mut impl Write,
+) -> io::Result<()> {
     let mut number = 0u64;
     for line in text.lines() {
         number = number.saturating_add(1);
-        if questions::ask(rt, bench, line).is_none() || !bench.is_well() {
-            bench
-                .told
-                .tell(format_args!("{name}: line {number}: not answered\n"));
-            return None;
+        if let Err(error) = questions::ask(rt, bench, line, out) {
+            return tell_error(name, number, error, out);
         }
     }
-    Some(())
+    Ok(())
 }
 
 // Plays the cases of a file.
 fn play_file(
     rt: &(impl Files<File = File> + AllocGlobal),
-    bench: &mut Bench,
     name: &str,
-) -> Option<()> {
-    let text = fs::read_to_string(rt, name).ok()?;
-    ask_all(rt, bench, name, text.as_str())
+    out: &mut impl Write,
+) -> io::Result<()> {
+    let mut bench = Bench::new(rt.alloc())?;
+    let text = fs::read_to_string(rt, name)?;
+    ask_all(rt, &mut bench, name, text.as_str(), out)
 }
 
 // Plays the cases of each file that is named.
-fn play_files(rt: &(impl Files<File = File> + AllocGlobal), bench: &mut Bench) -> Option<()> {
-    let names = fs::read_to_string(rt, "index").ok()?;
+fn play_files(
+    rt: &(impl Files<File = File> + AllocGlobal),
+    names: &str,
+    out: &mut impl Write,
+) -> io::Result<()> {
     for name in names.lines() {
-        play_file(rt, bench, name)?;
+        play_file(rt, name, out)?;
     }
-    Some(())
+    Ok(())
 }
 
-// Plays all cases, and prints what was told.
 fn main(rt: HostRuntime) -> io::Result<()> {
-    let mut bench = Bench::new(rt.alloc())?;
-    let played = play_files(&rt, &mut bench);
-    rt.stdout().write_all(bench.told.bytes.as_slice())?;
-    played.ok_or_else(|| io::Error::from(ErrorKind::InvalidInput))
+    let names = fs::read_to_string(&rt, "index")?;
+    let mut out = BufWriter::new(rt.alloc(), rt.stdout())?;
+    let played = play_files(&rt, names.as_str(), &mut out);
+    out.flush()?;
+    played
 }

@@ -1,57 +1,172 @@
-// The command line's words, and commands whose output has no room.
+// Commands that are carried out on the disk of a case.
 use crate::bench::Bench;
-use crate::stage::{Command, Stage};
-use crate::told::text;
-use crate::values::number;
-use boost::{command, run};
-use std::alloc::Global;
+use crate::brief::write_last;
+use crate::values::{not_understood, number};
+use boost::{Task, command, run};
+use disk_model::{Disk, MemDisk};
+use std::alloc::{AllocError, Global};
 use std::io::{self, ErrorKind, Write};
 
+/// What a run answered: its status, and what it printed.
+#[derive(Drop)]
+pub struct Ran {
+    pub status: u8,
+    pub out: Vec<u8>,
+    pub err: Vec<u8>,
+}
+
+/// A task that plays.
+pub fn to_play(alloc: Global) -> Task {
+    Task::Play {
+        disk: String::new(alloc),
+        script: String::new(alloc),
+    }
+}
+
+/// A task that shows.
+pub fn to_show(alloc: Global) -> Task {
+    Task::Show {
+        disk: String::new(alloc),
+    }
+}
+
+/// A task that checks.
+pub fn to_check(alloc: Global) -> Task {
+    Task::Check {
+        disk: String::new(alloc),
+    }
+}
+
+/// A task that formats, with areas of so many bytes.
+pub fn to_format(alloc: Global, area: u64) -> Task {
+    Task::Format {
+        disk: String::new(alloc),
+        area,
+    }
+}
+
+/// Carries a task out on a disk. Answers the disk behind what the run answered.
+pub fn run_on<D: Disk>(alloc: Global, task: Task, disk: D, script: &[u8]) -> (Ran, D) {
+    let (mut out, mut err) = (Vec::new(alloc), Vec::new(alloc));
+    let (status, disk) = run(alloc, &task, disk, script, &mut out, &mut err);
+    (Ran { status, out, err }, disk)
+}
+
+/// What was printed, as a text.
+pub fn text(bytes: &Vec<u8>) -> &str {
+    std::str::from_utf8(bytes.as_slice()).unwrap_or("no text")
+}
+
+/// Prints what a run answered: its status, the last lines of what it printed, and each line of its
+/// errors behind a mark.
+pub fn write_ran(ran: &Ran, last: usize, out: &mut impl Write) -> io::Result<()> {
+    writeln!(out, "= {}", ran.status)?;
+    write_last(text(&ran.out), last, "", out)?;
+    write_last(text(&ran.err), usize::MAX, "! ", out)
+}
+
+/// Carries a task out on the disk of the case with a script, and prints the last lines of what it
+/// answered.
+pub fn run_told(
+    alloc: Global,
+    bench: &mut Bench,
+    task: Task,
+    script: &[u8],
+    last: usize,
+    out: &mut impl Write,
+) -> io::Result<()> {
+    let disk = bench.take_disk(alloc)?;
+    let (ran, disk) = run_on(alloc, task, disk, script);
+    bench.disk = disk;
+    write_ran(&ran, last, out)
+}
+
+// Carries a task out on the disk of the case with the script that was written, and prints what it
+// answered.
+fn carry_out(alloc: Global, bench: &mut Bench, task: Task, out: &mut impl Write) -> io::Result<()> {
+    let script = bench.take_script(alloc);
+    let last = bench.take_last();
+    run_told(alloc, bench, task, script.as_slice(), last, out)
+}
+
+/// Plays the script that was written.
+pub fn play(alloc: Global, bench: &mut Bench, out: &mut impl Write) -> io::Result<()> {
+    carry_out(alloc, bench, to_play(alloc), out)
+}
+
+/// Shows the store.
+pub fn show(alloc: Global, bench: &mut Bench, out: &mut impl Write) -> io::Result<()> {
+    carry_out(alloc, bench, to_show(alloc), out)
+}
+
+/// Checks the store.
+pub fn check(alloc: Global, bench: &mut Bench, out: &mut impl Write) -> io::Result<()> {
+    carry_out(alloc, bench, to_check(alloc), out)
+}
+
 /// Formats the disk, with areas of so many bytes.
-pub fn format(alloc: Global, bench: &mut Bench, area: &str) -> Option<()> {
+pub fn format(
+    alloc: Global,
+    bench: &mut Bench,
+    area: &str,
+    out: &mut impl Write,
+) -> io::Result<()> {
     let area = number(area)?;
-    bench.carry_out(alloc, Command::Format(area));
-    Some(())
+    carry_out(alloc, bench, to_format(alloc, area), out)
+}
+
+/// Carries the stored run out.
+pub fn demo(alloc: Global, bench: &mut Bench, out: &mut impl Write) -> io::Result<()> {
+    carry_out(alloc, bench, Task::Demo, out)
 }
 
 /// Plays a script of one line, which stands between two marks.
-pub fn play_line(alloc: Global, bench: &mut Bench, text: &str) -> Option<()> {
-    let line = text.strip_prefix("\"")?.strip_suffix("\"")?;
-    bench.script.extend_from_slice(line.as_bytes()).ok()?;
-    bench.carry_out(alloc, Command::Play);
-    Some(())
+pub fn play_line(
+    alloc: Global,
+    bench: &mut Bench,
+    text: &str,
+    out: &mut impl Write,
+) -> io::Result<()> {
+    let Some(line) = text
+        .strip_prefix("\"")
+        .and_then(|rest| rest.strip_suffix("\""))
+    else {
+        return Err(not_understood());
+    };
+    bench.script.extend_from_slice(line.as_bytes())?;
+    play(alloc, bench, out)
 }
 
 /// Words with a comma between each two; no words where there is no text.
-pub fn words(alloc: Global, text: &str) -> Option<Vec<&str>> {
+pub fn words(alloc: Global, text: &str) -> Result<Vec<&str>, AllocError> {
     let mut words = Vec::new(alloc);
     if !text.is_empty() {
         for word in text.split(',') {
-            words.push(word).ok()?;
+            words.push(word)?;
         }
     }
-    Some(words)
+    Ok(words)
 }
 
-/// Tells what the words of a command line ask for, or the status and the text with which they are
+/// Prints what the words of a command line ask for, or the status and the text with which they are
 /// refused.
-pub fn understand(alloc: Global, bench: &mut Bench, text: &str) -> Option<()> {
+pub fn understand(alloc: Global, text: &str, out: &mut impl Write) -> io::Result<()> {
     let words = words(alloc, text)?;
     match command(alloc, words.as_slice()) {
-        Ok(task) => bench.told.tell(format_args!("{task:?}\n")),
-        Err(error) => tell_refused(&error, bench),
+        Ok(task) => write_task(task, out),
+        Err(error) => write_refused(alloc, &error, out),
     }
-    Some(())
 }
 
-fn tell_refused(error: &clap::Error, bench: &mut Bench) {
+fn write_task(task: Task, out: &mut impl Write) -> io::Result<()> {
+    writeln!(out, "{task:?}")
+}
+
+fn write_refused(alloc: Global, error: &clap::Error, out: &mut impl Write) -> io::Result<()> {
     let status = error.exit_code();
-    bench.told.tell(format_args!("= {status}\n"));
-    bench.trial.found.bytes.clear();
-    bench.trial.found.tell(format_args!("{error}"));
-    bench
-        .told
-        .add_last(text(&bench.trial.found.bytes), usize::MAX, b"! ");
+    let text = format!(in alloc; "{error}")?;
+    writeln!(out, "= {status}")?;
+    write_last(text.as_str(), usize::MAX, "! ", out)
 }
 
 // A writer that takes so many bytes.
@@ -77,48 +192,16 @@ impl Write for Short {
 
 /// Carries the stored run out, then shows a disk that is no store, with room for so many bytes of
 /// output and of errors.
-pub fn run_short(alloc: Global, bench: &mut Bench, text: &str) -> Option<()> {
+pub fn run_short(alloc: Global, text: &str, out: &mut impl Write) -> io::Result<()> {
     let room = number(text)? as usize;
-    let (mut out, mut err) = (Short { room }, Short { room });
-    bench.trial.stage.resize(alloc, 0);
-    run_into(
-        alloc,
-        &mut bench.trial.stage,
-        Command::Demo,
-        &mut out,
-        &mut err,
-    )?;
-    tell_left(bench, err.room);
-    run_into(
-        alloc,
-        &mut bench.trial.stage,
-        Command::Show,
-        &mut out,
-        &mut err,
-    )?;
-    tell_left(bench, err.room);
-    Some(())
+    let disk = MemDisk::new(alloc, 0)?;
+    let (mut printed, mut errors) = (Short { room }, Short { room });
+    let (status, disk) = run(alloc, &Task::Demo, disk, &[], &mut printed, &mut errors);
+    write_left(status, errors.room, out)?;
+    let (status, _) = run(alloc, &to_show(alloc), disk, &[], &mut printed, &mut errors);
+    write_left(status, errors.room, out)
 }
 
-// Carries a command out on a disk, with no script.
-fn run_into(
-    alloc: Global,
-    stage: &mut Stage,
-    command: Command,
-    out: &mut Short,
-    err: &mut Short,
-) -> Option<()> {
-    let disk = stage.take_disk(alloc).ok()?;
-    let task = command.task(alloc);
-    let (status, disk) = run(alloc, &task, disk, &[], out, err);
-    stage.status = status;
-    stage.disk = disk;
-    Some(())
-}
-
-fn tell_left(bench: &mut Bench, left: usize) {
-    let status = bench.trial.stage.status;
-    bench
-        .told
-        .tell(format_args!("= {status}, {left} bytes of errors left\n"));
+fn write_left(status: u8, left: usize, out: &mut impl Write) -> io::Result<()> {
+    writeln!(out, "= {status}, {left} bytes of errors left")
 }

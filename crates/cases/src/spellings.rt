@@ -1,58 +1,64 @@
 // Bytes that spell a record.
 ghost use Rattle.record_format.specs.Records.{Fits};
 
-use crate::bench::Bench;
-use crate::told::Told;
+use crate::brief::{write_bytes, write_line};
+use crate::values::{bytes, not_understood};
 use calls::Kind;
 use records::{Record, decode, encode};
 use std::alloc::Global;
+use std::io::{self, Write};
+
+// The kind of this name.
+fn kind(name: &str) -> io::Result<Kind> {
+    Kind::named(name.as_bytes()).ok_or_else(not_understood)
+}
 
 // The kind that was named last, if one is told, and what stands behind it.
-fn parted(text: &str) -> Option<(Option<Kind>, &str)> {
+fn parted(text: &str) -> io::Result<(Option<Kind>, &str)> {
     match text.split_once(": ") {
-        Some((name, rest)) => Some((Some(Kind::named(name.as_bytes())?), rest)),
-        None => Some((None, text)),
+        Some((name, rest)) => Ok((Some(kind(name)?), rest)),
+        None => Ok((None, text)),
     }
 }
 
-/// Tells the record that bytes begin with, and how it is spelled where that is otherwise; or why
+/// Prints the record that bytes begin with, and how it is spelled where that is otherwise; or why
 /// they begin with none.
-pub fn read(alloc: Global, bench: &mut Bench, text: &str) -> Option<()> {
+pub fn read(alloc: Global, text: &str, out: &mut impl Write) -> io::Result<()> {
     let (last, rest) = parted(text)?;
-    bench.read_bytes(alloc, rest)?;
-    bench.trial.found.bytes.clear();
-    bench.trial.last.bytes.clear();
-    match decode(alloc, bench.bytes.as_slice(), last, 4096) {
+    let bytes = bytes(alloc, rest)?;
+    match decode(alloc, bytes.as_slice(), last, 4096) {
         Ok((record, rest)) => {
-            let behind = rest.len();
-            spell(&record, &mut bench.trial.found, &mut bench.trial.last);
+            let told = tell(alloc, &record, rest.len(), bytes.as_slice(), out);
             drop(record);
-            tell(bench, behind);
+            told
         }
-        Err(refusal) => bench.told.tell(format_args!("{refusal}\n")),
+        Err(refusal) => writeln!(out, "{refusal}"),
     }
-    Some(())
 }
 
-// Writes a record, and how it is spelled.
-fn spell(entry: &Record, shown: &mut Told, spelled: &mut Told)
+// Prints a record, and how it is spelled where the bytes say otherwise.
+fn tell(
+    alloc: Global,
+    entry: &Record,
+    behind: usize,
+    bytes: &[u8],
+    out: &mut impl Write,
+) -> io::Result<()>
     requires { Fits entry.now }
 {
-    shown.tell(format_args!("{entry:?}"));
-    spelled.is_whole &= encode(entry, &mut spelled.bytes).is_ok();
+    write_record(alloc, entry, out)?;
+    if behind > 0 {
+        writeln!(out, "and {behind} bytes behind it")?;
+    }
+    let mut again = Vec::new(alloc);
+    if encode(entry, &mut again).is_ok() && bytes.starts_with(again.as_slice()) {
+        return Ok(());
+    }
+    out.write_all(b"spelled ")?;
+    write_bytes(again.as_slice(), out)
 }
 
-// Tells a record, and how it is spelled where the bytes say otherwise.
-fn tell(bench: &mut Bench, behind: usize) {
-    bench.told.add_line(bench.trial.found.as_str());
-    if behind > 0 {
-        bench
-            .told
-            .tell(format_args!("and {behind} bytes behind it\n"));
-    }
-    let again = bench.trial.last.bytes.as_slice();
-    if !bench.bytes.starts_with(again) {
-        bench.told.add(b"spelled ");
-        bench.told.add_bytes(again);
-    }
+fn write_record(alloc: Global, entry: &Record, out: &mut impl Write) -> io::Result<()> {
+    let text = format!(in alloc; "{entry:?}")?;
+    write_line(text.as_str(), out)
 }

@@ -2,9 +2,9 @@
 ghost use Rattle.checkpoint.specs.Keepers.{IsFresh};
 
 use crate::bench::Bench;
-use crate::texts::tell_said;
-use crate::told::{Told, text};
-use crate::values::{byte, number, three};
+use crate::runs::text;
+use crate::texts::write_said;
+use crate::values::{byte, not_understood, number, pair, three};
 use boost::Said;
 use calls::{Call, Kind, Name, Refusal};
 use catalog::Catalog;
@@ -12,76 +12,84 @@ use checkpoint::Keeper;
 use disk_model::MemDisk;
 use recovery::open;
 use std::alloc::Global;
+use std::io::{self, Write};
 use txn::Book;
 use world::{Answer, Step, World, play};
 
+fn bump(by: &str) -> io::Result<Call> {
+    match by.parse() {
+        Ok(by) => Ok(Call::Bump(by)),
+        Err(_) => Err(not_understood()),
+    }
+}
+
 // The call that words ask for.
-fn call(text: &str) -> Option<Call> {
+fn call(text: &str) -> io::Result<Call> {
     match text.split_once(" ") {
-        None if text == "read" => Some(Call::Read),
-        Some(("bump", by)) => Some(Call::Bump(by.parse().ok()?)),
-        Some(("add", key)) => Some(Call::SetAdd(number(key)?)),
-        _ => None,
+        None if text == "read" => Ok(Call::Read),
+        Some(("bump", by)) => bump(by),
+        Some(("add", key)) => Ok(Call::SetAdd(number(key)?)),
+        _ => Err(not_understood()),
     }
 }
 
 // A transaction's number, a collection and a call.
-fn asked(text: &str) -> Option<(u64, u8, Call)> {
+fn asked(text: &str) -> io::Result<(u64, u8, Call)> {
     let (owner, collection, asked) = three(text)?;
-    let (owner, collection) = (number(owner)?, byte(collection)?);
-    Some((owner, collection, call(asked)?))
+    Ok((number(owner)?, byte(collection)?, call(asked)?))
 }
 
 // A step that speaks of a transaction or of a name.
-fn step_of(alloc: Global, word: &str, rest: &str) -> Option<Step> {
+fn step_of(alloc: Global, word: &str, rest: &str) -> io::Result<Step> {
     match word {
-        "make" => {
-            let name = String::from_str(alloc, rest).ok()?;
-            Some(Step::Make(Name::new(name), Kind::Counter))
+        "make" => Ok(Step::Make(Name::new(String::from_str(alloc, rest)?), Kind::Counter)),
+        "call" => {
+            let (owner, collection, call) = asked(rest)?;
+            Ok(Step::Call(owner, collection, call))
         }
-        "call" => asked(rest).map(|(owner, collection, call)| Step::Call(owner, collection, call)),
-        "later" => asked(rest).map(|(owner, collection, call)| Step::Later(
-            owner, collection, call,
-        )),
+        "later" => {
+            let (owner, collection, call) = asked(rest)?;
+            Ok(Step::Later(owner, collection, call))
+        }
         _ => step_with(word, number(rest)?),
     }
 }
 
 // A step of the transaction with this number.
-fn step_with(word: &str, owner: u64) -> Option<Step> {
+fn step_with(word: &str, owner: u64) -> io::Result<Step> {
     match word {
-        "enter" => Some(Step::Enter(owner)),
-        "commit" => Some(Step::Commit(owner)),
-        "back" => Some(Step::Back(owner)),
-        "ended" => Some(Step::Ended(owner)),
-        _ => None,
+        "enter" => Ok(Step::Enter(owner)),
+        "commit" => Ok(Step::Commit(owner)),
+        "back" => Ok(Step::Back(owner)),
+        "ended" => Ok(Step::Ended(owner)),
+        _ => Err(not_understood()),
     }
 }
 
 // The step that a line tells.
-fn step(alloc: Global, line: &str) -> Option<Step> {
+fn step(alloc: Global, line: &str) -> io::Result<Step> {
     match line {
-        "draw" => Some(Step::Draw),
-        "cut" => Some(Step::Cut),
-        "turn" => Some(Step::Turn),
-        "freeze" => Some(Step::Freeze),
-        "piece" => Some(Step::Piece),
-        "flip" => Some(Step::Flip),
-        "look" => Some(Step::Look),
+        "draw" => Ok(Step::Draw),
+        "cut" => Ok(Step::Cut),
+        "turn" => Ok(Step::Turn),
+        "freeze" => Ok(Step::Freeze),
+        "piece" => Ok(Step::Piece),
+        "flip" => Ok(Step::Flip),
+        "look" => Ok(Step::Look),
         _ => {
-            let (word, rest) = line.split_once(" ")?;
+            let (word, rest) = pair(line, " ")?;
             step_of(alloc, word, rest)
         }
     }
 }
 
 // The steps that the lines of a script tell.
-fn steps(alloc: Global, script: &str) -> Option<Vec<Step>> {
+fn steps(alloc: Global, script: &str) -> io::Result<Vec<Step>> {
     let mut steps = Vec::new(alloc);
     for line in script.lines() {
-        steps.push(step(alloc, line)?).ok()?;
+        steps.push(step(alloc, line)?)?;
     }
-    Some(steps)
+    Ok(steps)
 }
 
 fn world_of(
@@ -102,51 +110,49 @@ fn world_on(alloc: Global, disk: MemDisk) -> Result<World<MemDisk>, (Refusal, Me
     }
 }
 
-/// Takes the steps that the script tells in the world of the disk, and tells what each is answered,
-/// a turn as a script is told it.
-pub fn take(alloc: Global, bench: &mut Bench) -> Option<()> {
-    let steps = steps(alloc, text(&bench.script))?;
-    let disk = bench.stage.take_disk(alloc).ok()?;
-    bench.stage.disk = take_on(alloc, disk, steps.as_slice(), &mut bench.told);
-    bench.script.clear();
-    Some(())
+/// Takes the steps that the script tells in the world of the disk, and prints what each is
+/// answered, a turn as a script is told it.
+pub fn take(alloc: Global, bench: &mut Bench, out: &mut impl Write) -> io::Result<()> {
+    let script = bench.take_script(alloc);
+    let steps = steps(alloc, text(&script))?;
+    let disk = bench.take_disk(alloc)?;
+    let (disk, told) = match world_on(alloc, disk) {
+        Ok(world) => take_on(alloc, world, steps.as_slice(), out),
+        Err((refusal, disk)) => (disk, writeln!(out, "{refusal}")),
+    };
+    bench.disk = disk;
+    told
 }
 
-// Opens the store of a disk, takes steps in its world, tells what they are answered, and answers
-// the disk.
-fn take_on(alloc: Global, disk: MemDisk, steps: &[Step], told: &mut Told) -> MemDisk {
-    match world_on(alloc, disk) {
-        Ok(world) => take_in(alloc, world, steps, told),
-        Err((refusal, disk)) => {
-            told.tell(format_args!("{refusal}\n"));
-            disk
-        }
-    }
-}
-
-// Takes steps in a world, tells what they are answered, and answers its disk.
-fn take_in(alloc: Global, world: World<MemDisk>, steps: &[Step], told: &mut Told) -> MemDisk {
+// Takes steps in a world, prints what they are answered, and answers its disk.
+fn take_on(
+    alloc: Global,
+    world: World<MemDisk>,
+    steps: &[Step],
+    out: &mut impl Write,
+) -> (MemDisk, io::Result<()>) {
     let mut world = world;
-    match play(alloc, &mut world, steps) {
-        Ok(answers) => tell_all(&answers, told),
-        Err(refusal) => told.tell(format_args!("{refusal}\n")),
-    }
-    world.into_disk()
+    let told = match play(alloc, &mut world, steps) {
+        Ok(answers) => tell_all(&answers, out),
+        Err(refusal) => writeln!(out, "{refusal}"),
+    };
+    (world.into_disk(), told)
 }
 
-fn tell_all(answers: &Vec<Answer>, told: &mut Told) {
+fn tell_all(answers: &Vec<Answer>, out: &mut impl Write) -> io::Result<()> {
     let mut number = 0u64;
     for answer in answers {
         number = number.saturating_add(1);
-        told.tell(format_args!("{number}: "));
-        tell(answer, told);
+        write!(out, "{number}: ")?;
+        tell(answer, out)?;
     }
+    Ok(())
 }
 
-fn tell(answer: &Answer, told: &mut Told) {
+fn tell(answer: &Answer, out: &mut impl Write) -> io::Result<()> {
     match answer {
-        Answer::Turned(turn) => tell_said(Said::Turned(*turn), told),
-        Answer::Refused(refusal) => tell_said(Said::Refused(*refusal), told),
-        _ => told.tell(format_args!("{answer:?}\n")),
+        Answer::Turned(turn) => write_said(Said::Turned(*turn), out),
+        Answer::Refused(refusal) => write_said(Said::Refused(*refusal), out),
+        _ => writeln!(out, "{answer:?}"),
     }
 }

@@ -1,168 +1,237 @@
 // What is stopped at each call of the disk, in each of four ways, and then opened.
 use crate::bench::Bench;
-use crate::stage::Command;
-use crate::told::text;
-use crate::trial::Trial;
+use crate::disks::{self, all_as, bytes_at};
+use crate::runs::{Ran, run_on, text, to_check, to_format, to_play, to_show};
 use crate::values::number;
-use disk_model::Disk;
-use std::alloc::Global;
+use boost::Task;
+use disk_model::{Disk, MemDisk};
+use std::alloc::{AllocError, Global};
+use std::fs;
+use std::io::{self, Write};
 use std::rt::Files;
-use std::{fs, mem};
 
 // What is done on a disk until it is stopped.
 #[derive(Clone, Copy)]
-enum Deed<'a> {
-    // The script is played. The text has what is shown behind the front after each place.
-    Story(&'a str),
-    // The store is opened.
-    Opening,
+enum Trial<'a> {
+    // A script is played. The first text has what is shown behind the front after each place.
+    Story {
+        script: &'a [u8],
+        shown: &'a str,
+        front: &'a str,
+    },
+    // The store is opened. The texts are what is shown, and what is checked behind that.
+    Opening {
+        shown: &'a str,
+        checked: &'a str,
+    },
     // The disk is formatted, with areas of so many bytes.
-    Format(u64),
+    Format {
+        area: u64,
+    },
 }
 
-/// Stops the script that was written at each call of the disk, and tells in how many calls it was
+/// Stops the script that was written at each call of the disk, and prints in how many calls it was
 /// stopped, and what was found that is not as the file tells. The file has what is shown after each
 /// place behind what the disk shows now, with a line `.` between each two.
-pub fn stop_story(rt: &(impl Files + AllocGlobal), bench: &mut Bench, file: &str) -> Option<()> {
-    let shown = fs::read_to_string(rt, file).ok()?;
-    mem::swap(&mut bench.trial.script, &mut bench.script);
-    bench.script.clear();
-    stop_from_here(rt.alloc(), bench, Deed::Story(shown.as_str()));
-    Some(())
+pub fn stop_story(
+    rt: &(impl Files + AllocGlobal),
+    bench: &mut Bench,
+    file: &str,
+    out: &mut impl Write,
+) -> io::Result<()> {
+    let told = fs::read_to_string(rt, file)?;
+    stop_told_story(rt.alloc(), bench, told.as_str(), out)
 }
 
-/// Stops the opening of the disk at each of its calls, and tells in how many, and what the store is
-/// checked as then, where that is not what it was at the call before. It is stopped at that call
+// Stops the script that was written at each call of the disk. The text has what is shown after each
+// place.
+fn stop_told_story(
+    alloc: Global,
+    bench: &mut Bench,
+    told: &str,
+    out: &mut impl Write,
+) -> io::Result<()> {
+    let bytes = ground(alloc, bench)?;
+    let disk = disk_of(alloc, bytes.as_slice())?;
+    let script = bench.take_script(alloc);
+    let (front, _) = run_on(alloc, to_show(alloc), disk, &[]);
+    let trial = Trial::Story {
+        script: script.as_slice(),
+        shown: told,
+        front: text(&front.out),
+    };
+    stop_in_each_way(alloc, trial, bytes.as_slice(), out)
+}
+
+/// Stops the opening of the disk at each of its calls, and prints in how many, and what the store
+/// is checked as then, where that is not what it was at the call before. It is stopped at that call
 /// three times over, and then opened to the end.
-pub fn stop_opening(alloc: Global, bench: &mut Bench) {
-    stop_from_here(alloc, bench, Deed::Opening);
+pub fn stop_opening(alloc: Global, bench: &mut Bench, out: &mut impl Write) -> io::Result<()> {
+    let bytes = ground(alloc, bench)?;
+    let disk = disk_of(alloc, bytes.as_slice())?;
+    let (shown, checked) = show_and_check(alloc, disk);
+    let trial = Trial::Opening {
+        shown: text(&shown.out),
+        checked: text(&checked.out),
+    };
+    stop_in_each_way(alloc, trial, bytes.as_slice(), out)
 }
 
-/// Stops a format at each of its calls, and tells in how many, and what the disk shows then, where
+// What a show answers, and a check behind it.
+fn show_and_check(alloc: Global, disk: MemDisk) -> (Ran, Ran) {
+    let (shown, disk) = run_on(alloc, to_show(alloc), disk, &[]);
+    let (checked, _) = run_on(alloc, to_check(alloc), disk, &[]);
+    (shown, checked)
+}
+
+/// Stops a format at each of its calls, and prints in how many, and what the disk shows then, where
 /// that is not what it showed at the call before.
-pub fn stop_format(alloc: Global, bench: &mut Bench, area: &str) -> Option<()> {
+pub fn stop_format(
+    alloc: Global,
+    bench: &mut Bench,
+    area: &str,
+    out: &mut impl Write,
+) -> io::Result<()> {
     let area = number(area)?;
-    stop_from_here(alloc, bench, Deed::Format(area));
-    Some(())
+    let bytes = ground(alloc, bench)?;
+    stop_in_each_way(alloc, Trial::Format { area }, bytes.as_slice(), out)
 }
 
-// Stops what is done on the disk as it stands now, in each way.
-fn stop_from_here(alloc: Global, bench: &mut Bench, deed: Deed<'_>) {
-    bench.trial.take_ground(&mut bench.stage);
-    bench.trial.begin(alloc);
-    bench.trial.look(alloc);
-    bench.trial.picks.clear();
-    stop_in_way(alloc, bench, deed, "as read");
-    stop_with(alloc, bench, deed, 0, "as 00");
-    stop_with(alloc, bench, deed, 0xff, "as ff");
-    stop_with(alloc, bench, deed, 0xa7, "as a7");
+// All bytes of the disk of the case.
+fn ground(alloc: Global, bench: &mut Bench) -> io::Result<Vec<u8>> {
+    let size = bench.disk.size();
+    bytes_at(alloc, &mut bench.disk, 0, size)
+}
+
+// A disk of these bytes, at rest.
+fn disk_of(alloc: Global, bytes: &[u8]) -> io::Result<MemDisk> {
+    Ok(disks::disk_of(alloc, bytes)?.stop(&[]))
+}
+
+fn stop_in_each_way(
+    alloc: Global,
+    trial: Trial<'_>,
+    ground: &[u8],
+    out: &mut impl Write,
+) -> io::Result<()> {
+    stop_in_way(alloc, trial, ground, &[], "as read", out)?;
+    stop_with(alloc, trial, ground, 0, out)?;
+    stop_with(alloc, trial, ground, 0xff, out)?;
+    stop_with(alloc, trial, ground, 0xa7, out)
 }
 
 // Each byte that no sync has reached takes this value.
-fn stop_with(alloc: Global, bench: &mut Bench, deed: Deed<'_>, value: u8, way: &str) {
-    let size = bench.trial.ground.len() as u64;
-    bench.trial.picks.clear();
-    bench.trial.pick_all(size, value);
-    stop_in_way(alloc, bench, deed, way);
+fn stop_with(
+    alloc: Global,
+    trial: Trial<'_>,
+    ground: &[u8],
+    value: u8,
+    out: &mut impl Write,
+) -> io::Result<()> {
+    let picks = all_as(alloc, ground.len() as u64, value)?;
+    let way = format!(in alloc; "as {value:02x}")?;
+    stop_in_way(alloc, trial, ground, picks.as_slice(), way.as_str(), out)
 }
 
 // Stops at each call in turn, until it is not reached.
-fn stop_in_way(alloc: Global, bench: &mut Bench, deed: Deed<'_>, way: &str) {
-    bench.trial.last.bytes.clear();
+fn stop_in_way(
+    alloc: Global,
+    trial: Trial<'_>,
+    ground: &[u8],
+    picks: &[(u64, u8)],
+    way: &str,
+    out: &mut impl Write,
+) -> io::Result<()> {
+    let mut last = String::new(alloc);
     for k in 1..1_000u64 {
-        if !bench.trial.stop_at(alloc, deed, k) {
+        let (is_reached, found) = stop_at(alloc, trial, ground, k, picks)?;
+        if !is_reached {
             let calls = k - 1;
-            return bench.told.tell(format_args!("{way}: {calls} calls\n"));
+            return writeln!(out, "{way}: {calls} calls");
         }
-        tell_new(bench, way, k);
+        if found.as_str() != last.as_str() {
+            writeln!(out, "{way}, call {k}: {found}")?;
+        }
+        last = found;
     }
-    bench.told.tell(format_args!("{way}: no end\n"));
+    writeln!(out, "{way}: no end")
 }
 
-// Tells what is found behind a stop at a call, where it is not what was found before.
-fn tell_new(bench: &mut Bench, way: &str, k: u64) {
-    if bench.trial.is_new() {
-        let found = bench.trial.found.as_str();
-        bench.told.tell(format_args!("{way}, call {k}: {found}\n"));
-    }
-    bench.trial.keep();
+// Stops at a call. Answers whether it was reached, and what is told of the disk then.
+fn stop_at(
+    alloc: Global,
+    trial: Trial<'_>,
+    ground: &[u8],
+    k: u64,
+    picks: &[(u64, u8)],
+) -> io::Result<(bool, String)> {
+    let disk = disk_of(alloc, ground)?;
+    let stopped = match trial {
+        Trial::Story {
+            script,
+            shown,
+            front,
+        } => stop_play(alloc, disk, script, k, picks, shown, front),
+        Trial::Opening { shown, checked } => stop_open(alloc, disk, k, picks, shown, checked),
+        Trial::Format { area } => stop_making(alloc, disk, area, k, picks),
+    };
+    Ok(stopped?)
 }
 
-impl Trial {
-    // Stops at a call. Answers whether it was reached.
-    fn stop_at(&mut self, alloc: Global, deed: Deed<'_>, k: u64) -> bool {
-        self.begin(alloc);
-        match deed {
-            Deed::Story(shown) => self.stop_play(alloc, k, shown),
-            Deed::Opening => self.stop_open(alloc, k),
-            Deed::Format(area) => self.stop_making(alloc, k, area),
-        }
-    }
+// Carries a task out on a disk with a failure at this call, and stops the disk. Answers also
+// whether the call was reached.
+fn run_until(
+    alloc: Global,
+    task: Task,
+    disk: MemDisk,
+    script: &[u8],
+    k: u64,
+    picks: &[(u64, u8)],
+) -> (Ran, bool, MemDisk) {
+    let mut disk = disk;
+    disk.fail_at(k);
+    let (ran, disk) = run_on(alloc, task, disk, script);
+    let is_reached = disk.faults() > 0;
+    (ran, is_reached, disk.stop(picks))
+}
 
-    // Carries a command out with a failure at this call, and stops the disk. Answers whether the
-    // call was reached.
-    fn run_until(&mut self, alloc: Global, command: Command, k: u64) -> bool {
-        self.stage.disk.fail_at(k);
-        self.stage.run(alloc, command, self.script.as_slice());
-        let is_reached = self.stage.disk.faults() > 0;
-        self.stage.stop(alloc, self.picks.as_slice());
-        is_reached
-    }
+// Stops a script, and then makes a counter more.
+fn stop_play(
+    alloc: Global,
+    disk: MemDisk,
+    script: &[u8],
+    k: u64,
+    picks: &[(u64, u8)],
+    shown: &str,
+    front: &str,
+) -> Result<(bool, String), AllocError> {
+    let (played, is_reached, disk) = run_until(alloc, to_play(alloc), disk, script, k, picks);
+    let more = go_on(alloc, disk);
+    let places = may_show(text(&played.out));
+    let told = unlike(alloc, shown, places, text(&more.out), front)?;
+    Ok((is_reached, told))
+}
 
-    // Stops a script, and then makes a counter more and shows all.
-    fn stop_play(&mut self, alloc: Global, k: u64, shown: &str) -> bool {
-        let is_reached = self.run_until(alloc, Command::Play, k);
-        let (first, last) = may_show(text(&self.stage.out));
-        self.stage
-            .run(alloc, Command::Play, b"c1 make counter y\nturn");
-        self.stage.run(alloc, Command::Show, &[]);
-        self.find_unlike(shown, first, last);
-        is_reached
+// What is shown, where no text from the first place to the last has it behind the front.
+fn unlike(
+    alloc: Global,
+    shown: &str,
+    places: (u64, u64),
+    more: &str,
+    front: &str,
+) -> Result<String, AllocError> {
+    let (first, last) = places;
+    match behind(front, more) {
+        Some(found) if is_among(shown, first, last, found) => Ok(String::new(alloc)),
+        _ => format!(in alloc; "not as told of places {first} to {last}:\n{more}"),
     }
+}
 
-    // What is shown is found, where no text from the first place to the last has it behind the
-    // front.
-    fn find_unlike(&mut self, shown: &str, first: u64, last: u64) {
-        let more = text(&self.stage.out);
-        let is_told = match behind(text(&self.shown), more) {
-            Some(found) => is_among(shown, first, last, found),
-            None => false,
-        };
-        if !is_told {
-            self.found.tell(format_args!("not as told of places {first} to {last}:\n{more}"));
-        }
-    }
-
-    // Stops an opening three times over at one call, and then opens the disk to the end.
-    fn stop_open(&mut self, alloc: Global, k: u64) -> bool {
-        let is_reached = self.run_until(alloc, Command::Show, k);
-        self.stage.run(alloc, Command::Check, &[]);
-        self.found.add(text(&self.stage.out).trim_end().as_bytes());
-        self.run_until(alloc, Command::Show, k);
-        self.run_until(alloc, Command::Show, k);
-        if !self.goes_on(alloc) {
-            self.found.add(b", and it does not go on");
-        }
-        is_reached
-    }
-
-    // Whether the disk shows what it showed at first, and is checked as that behind it.
-    fn goes_on(&mut self, alloc: Global) -> bool {
-        self.stage.run(alloc, Command::Show, &[]);
-        let is_shown = self.stage.out.as_slice() == self.shown.as_slice();
-        self.stage.run(alloc, Command::Check, &[]);
-        is_shown && self.stage.out.as_slice() == self.checked.as_slice()
-    }
-
-    // Stops a format.
-    fn stop_making(&mut self, alloc: Global, k: u64, area: u64) -> bool {
-        let is_reached = self.run_until(alloc, Command::Format(area), k);
-        self.stage.run(alloc, Command::Show, &[]);
-        self.found.add(b"shows\n");
-        self.found.add(self.stage.out.as_slice());
-        self.found.add(self.stage.err.as_slice());
-        is_reached
-    }
+// Makes a counter more and shows all.
+fn go_on(alloc: Global, disk: MemDisk) -> Ran {
+    let (_, disk) = run_on(alloc, to_play(alloc), disk, b"c1 make counter y\nturn");
+    let (shown, _) = run_on(alloc, to_show(alloc), disk, &[]);
+    shown
 }
 
 // What is shown behind the front and before the counter that was made last.
@@ -197,4 +266,53 @@ fn is_among(texts: &str, first: u64, last: u64, found: &str) -> bool {
         at = at.saturating_add(1);
     }
     false
+}
+
+// Opens a disk with a failure at this call, and stops it. Answers whether the call was reached.
+fn open_until(alloc: Global, disk: MemDisk, k: u64, picks: &[(u64, u8)]) -> (bool, MemDisk) {
+    let (_, is_reached, disk) = run_until(alloc, to_show(alloc), disk, &[], k, picks);
+    (is_reached, disk)
+}
+
+// Whether a disk shows this, and is checked as that behind it.
+fn goes_on(alloc: Global, disk: MemDisk, shown: &str, checked: &str) -> bool {
+    let (opened, counted) = show_and_check(alloc, disk);
+    text(&opened.out) == shown && text(&counted.out) == checked
+}
+
+// Stops an opening three times over at one call, and then opens the disk to the end.
+fn stop_open(
+    alloc: Global,
+    disk: MemDisk,
+    k: u64,
+    picks: &[(u64, u8)],
+    shown: &str,
+    checked: &str,
+) -> Result<(bool, String), AllocError> {
+    let (is_reached, disk) = open_until(alloc, disk, k, picks);
+    let (between, disk) = run_on(alloc, to_check(alloc), disk, &[]);
+    let (_, disk) = open_until(alloc, disk, k, picks);
+    let (_, disk) = open_until(alloc, disk, k, picks);
+    let end = if goes_on(alloc, disk, shown, checked) {
+        ""
+    } else {
+        ", and it does not go on"
+    };
+    let told = format!(in alloc; "{}{end}", text(&between.out).trim_end())?;
+    Ok((is_reached, told))
+}
+
+// Stops a format.
+fn stop_making(
+    alloc: Global,
+    disk: MemDisk,
+    area: u64,
+    k: u64,
+    picks: &[(u64, u8)],
+) -> Result<(bool, String), AllocError> {
+    let task = to_format(alloc, area);
+    let (_, is_reached, disk) = run_until(alloc, task, disk, &[], k, picks);
+    let (shown, _) = run_on(alloc, to_show(alloc), disk, &[]);
+    let told = format!(in alloc; "shows\n{}{}", text(&shown.out), text(&shown.err))?;
+    Ok((is_reached, told))
 }

@@ -1,9 +1,9 @@
 // The texts of all refusals, and the room of what clauses alone read.
-use crate::told::Told;
 use boost::Said;
 use calls::Refusal;
 use disk_model::{FileDisk, Past, Unknown};
 use std::fs::File;
+use std::io::{self, Write};
 use std::mem::size_of;
 
 /// Each refusal, by rising number.
@@ -36,21 +36,22 @@ const REFUSALS: [Refusal; 26] = [
     Refusal::Imaging,
 ];
 
-/// Tells how each refusal is told.
-pub fn tell_all(told: &mut Told) {
+/// Prints how each refusal is told.
+pub fn write_all(out: &mut impl Write) -> io::Result<()> {
     for refusal in &REFUSALS {
-        tell_said(Said::Refused(*refusal), told);
+        write_said(Said::Refused(*refusal), out)?;
     }
+    Ok(())
 }
 
-/// Tells what a line of a script would be answered.
-pub fn tell_said(said: Said, told: &mut Told) {
-    told.tell(format_args!("{said}\n"));
+/// Prints what a line of a script would be answered.
+pub fn write_said(said: Said, out: &mut impl Write) -> io::Result<()> {
+    writeln!(out, "{said}")
 }
 
-/// Tells how many bytes a disk's past takes, a file, and a disk that is a file.
-pub fn tell_sizes(told: &mut Told) {
+/// Prints how many bytes a disk's past takes, a file, and a disk that is a file.
+pub fn write_sizes(out: &mut impl Write) -> io::Result<()> {
     let (past, file) = (size_of::<Past>(), size_of::<File>());
     let file_disk = size_of::<FileDisk<Unknown>>();
-    told.tell(format_args!("{past} {file} {file_disk}\n"));
+    writeln!(out, "{past} {file} {file_disk}")
 }
