@@ -201,11 +201,17 @@ impl Live {
     }
 
     /// The newest call of the transaction, those that it put off not counted.
+    ///
+    /// Without an entry of the transaction it looks only at the slots. Else it walks the entries of
+    /// all from the newest on.
     pub fn newest(&self, number: u64) -> Option<&Logged>
         ensures found { IfSome result (λ logged. HasNewestCall number self.now.entries
             (event_of logged.now)) }
         ensures none { IfNone result (HasNoCall number self.now.entries) }
     {
+        if self.count(number) == 0 {
+            return None;
+        }
         let place = newest_place(&self.entries, number)?;
         match &self.entries[place].entry {
             Entry::Asked(logged) => Some(logged),
@@ -215,6 +221,9 @@ impl Live {
 
     /// Takes the newest call of the transaction out; the other entries stay in their order. Nothing
     /// changes where it has no call.
+    ///
+    /// Without an entry of the transaction it looks only at the slots. Else it walks the entries of
+    /// all from the newest on, and moves up all that are newer.
     pub fn pop(&mut self, number: u64) -> Option<Logged>
         ensures found { IfSome result (λ logged. IsNewestCall number self.old.entries
             (event_of logged) self.new.entries) }
@@ -223,6 +232,9 @@ impl Live {
         ensures live { self.new.live ≡ self.old.live }
         ensures rooms { KeepsRoom self.old self.new }
     {
+        if self.count(number) == 0 {
+            return None;
+        }
         let place = newest_place(&self.entries, number)?;
         count_down(&mut self.slots, number);
         let Owned { owner: _, entry } = self.entries.remove(place);
