@@ -1,4 +1,6 @@
 pub mod Trees
 pub mod Rising
 pub mod Tables
+pub mod Sifts
+pub mod Holders
 pub mod Items

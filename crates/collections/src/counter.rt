@@ -21,21 +21,21 @@ impl Model for CounterCol {
 }
 
 impl CounterCol {
-    /// A counter at 0.
+    /// A counter at 0. Its cost is constant.
     pub fn new() -> Self
         ensures { result ≡ pos 0 }
     {
         Self { total: 0 }
     }
 
-    /// A counter at the number.
+    /// A counter at the number. Its cost is constant.
     pub fn with_total(total: i128) -> Self
         ensures { result ≡ total }
     {
         Self { total }
     }
 
-    /// The number.
+    /// The number. Its cost is constant.
     pub fn total(&self) -> i128
         ensures { result ≡ self.now }
     {
@@ -43,7 +43,8 @@ impl CounterCol {
         total
     }
 
-    /// The reply that a call of a counter gets now. It takes no memory and is never refused.
+    /// The reply that a call of a counter gets now. It takes no memory and is never refused. Its
+    /// cost is constant.
     pub fn look(&self, call: &Call) -> Result<Reply, Refusal>
         requires { CanLook self.now call.now }
         ensures { IsOkAnd result (λ reply. Answers self.now call.now reply) }
@@ -54,7 +55,7 @@ impl CounterCol {
         }
     }
 
-    /// Whether the call may get this reply now. It takes no memory.
+    /// Whether the call may get this reply now. It takes no memory. Its cost is constant.
     pub fn fits(&self, call: &Call, reply: &Reply) -> bool
         ensures { IsTrue result ↔ Answers self.now call.now reply.now }
     {
@@ -65,7 +66,8 @@ impl CounterCol {
         }
     }
 
-    /// Makes the call, which is answered so. It takes no memory and is never refused.
+    /// Makes the call, which is answered so. It takes no memory and is never refused. Its cost is
+    /// constant.
     pub fn run(&mut self, call: &Call, reply: &Reply) -> Result<(), Refusal>
         requires can { Answers self.old call.now reply.now }
         requires fits { IsI128 (after self.old call.now reply.now) }

@@ -2,6 +2,7 @@
 #![tactic(auto)]
 
 mod counter;
+mod heap;
 mod map;
 mod pool;
 mod queue;

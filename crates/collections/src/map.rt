@@ -35,7 +35,7 @@ impl Model for MapCol {
 }
 
 impl MapCol {
-    /// A map with no key. It takes no memory.
+    /// A map with no key. It takes no memory. Its cost is constant.
     pub fn new(alloc: Global) -> Self
         ensures { result ≡ map.empty }
     {
@@ -44,7 +44,8 @@ impl MapCol {
         }
     }
 
-    /// The keys with their values, in the order of the keys.
+    /// The keys with their values, in the order of the keys. To come to the first costs a look,
+    /// logarithmic in their number; to go over all is linear.
     pub fn iter(&self) -> Iter<'_, u64, Bytes>
         ensures rising { IsStrictlySortedBy nat_cmp (keys_of result) }
         ensures entries { map.from_entries result ≡ self.now }
@@ -124,7 +125,8 @@ impl MapCol {
         self.ceiling(key).is_none()
     }
 
-    /// The reply that a call of a map gets now. NoMemory only where the reply holds a value.
+    /// The reply that a call of a map gets now. NoMemory only where the reply holds a value. Its
+    /// cost is logarithmic in the number of keys, and a copy of the value that the reply holds.
     pub fn look(&self, call: &Call) -> Result<Reply, Refusal>
         requires { CanLook self.now call.now }
         ensures ok { IfOk result (λ reply. Answers self.now call.now reply) }
@@ -138,7 +140,8 @@ impl MapCol {
         }
     }
 
-    /// Whether the call may get this reply now. It takes no memory.
+    /// Whether the call may get this reply now. It takes no memory. Its cost is logarithmic in the
+    /// number of keys, and one comparison with the value that the reply holds.
     pub fn fits(&self, call: &Call, reply: &Reply) -> bool
         ensures { IsTrue result ↔ Answers self.now call.now reply.now }
     {
@@ -155,7 +158,8 @@ impl MapCol {
         }
     }
 
-    /// Puts the value, which is not copied, at the key. NoMemory leaves the map as before.
+    /// Puts the value, which is not copied, at the key. NoMemory leaves the map as before. Its cost
+    /// is logarithmic in the number of keys.
     pub fn put(&mut self, key: u64, value: Bytes) -> Result<(), Refusal>
         ensures ok { OnOk result (self.new ≡ map.insert self.old key value) }
         ensures err { OnErr result (self.new ≡ self.old) }
@@ -166,7 +170,8 @@ impl MapCol {
     }
 
     /// Makes the call, which is answered so. NoMemory, which leaves the map as before, only where a
-    /// value is put into it.
+    /// value is put into it. Its cost is logarithmic in the number of keys, and for a Put a copy of
+    /// the value that is put there.
     pub fn run(&mut self, call: &Call, reply: &Reply) -> Result<(), Refusal>
         requires { Answers self.old call.now reply.now }
         ensures ok { OnOk result (self.new ≡ after self.old call.now reply.now) }

@@ -32,7 +32,7 @@ impl Model for PoolCol {
 }
 
 impl PoolCol {
-    /// A pool of which no identifier is taken. It takes no memory.
+    /// A pool of which no identifier is taken. It takes no memory. Its cost is constant.
     pub fn new(alloc: Global) -> Self
         ensures { result ≡ set.empty }
     {
@@ -41,7 +41,8 @@ impl PoolCol {
         }
     }
 
-    /// The identifiers that are taken, in order.
+    /// The identifiers that are taken, in order. To come to the first costs a look, logarithmic in
+    /// their number; to go over all is linear.
     pub fn iter(&self) -> Iter<'_, u64>
         ensures rising { IsStrictlySortedBy nat_cmp result }
         ensures members { set.from_list result ≡ self.now }
@@ -56,7 +57,9 @@ impl PoolCol {
         self.taken.contains(&x)
     }
 
-    /// The reply that a call of a pool gets now. It takes no memory and is never refused.
+    /// The reply that a call of a pool gets now. It takes no memory and is never refused. Its cost
+    /// is logarithmic in the number of taken identifiers. A Draw alone, where 0 and 2^64 - 1 are
+    /// both taken, goes from 0 up to the first that is not, which is linear.
     pub fn look(&self, call: &Call) -> Result<Reply, Refusal>
         requires { CanLook self.now call.now }
         ensures { IsOkAnd result (λ reply. Answers self.now call.now reply) }
@@ -75,7 +78,8 @@ impl PoolCol {
         }
     }
 
-    /// Whether the call may get this reply now. It takes no memory.
+    /// Whether the call may get this reply now. It takes no memory. Its cost is logarithmic in the
+    /// number of taken identifiers.
     pub fn fits(&self, call: &Call, reply: &Reply) -> bool
         ensures { IsTrue result ↔ Answers self.now call.now reply.now }
     {
@@ -88,7 +92,8 @@ impl PoolCol {
         }
     }
 
-    /// Takes the identifier. NoMemory leaves the pool as before.
+    /// Takes the identifier. NoMemory leaves the pool as before. Its cost is logarithmic in the
+    /// number of taken identifiers.
     pub fn take(&mut self, identifier: u64) -> Result<(), Refusal>
         ensures ok { OnOk result (self.new ≡ set.insert self.old identifier) }
         ensures err { OnErr result (self.new ≡ self.old) }
@@ -99,7 +104,8 @@ impl PoolCol {
     }
 
     /// Makes the call, which is answered so. NoMemory, which leaves the pool as before, only where
-    /// an identifier is drawn: to free one takes no memory.
+    /// an identifier is drawn: to free one takes no memory. Its cost is logarithmic in the number
+    /// of taken identifiers.
     pub fn run(&mut self, call: &Call, reply: &Reply) -> Result<(), Refusal>
         requires { Answers self.old call.now reply.now }
         ensures ok { OnOk result (self.new ≡ after self.old call.now reply.now) }

@@ -1,69 +1,78 @@
 // A queue of pairs.
-ghost use Rattle.std.specs.Prelude.{◌≡◌, ◌<◌, ◌↔◌, IsTrue, IsOk, IfOk, map, reverse, OnOk, OnErr};
+ghost use Rattle.std.specs.Prelude.{◌≡◌, ℕ, ◌<◌, ◌↔◌, IsTrue, IsOk, IfOk, OnOk, OnErr};
 ghost use Rattle.std.specs.Prelude.{IsOkUnless, IsOkAnd};
 ghost use Rattle.std.specs.FinMap.{empty};
 ghost use Rattle.calls.specs.Bags.{copies, add, take_out};
 ghost use Rattle.calls.specs.Rules.{TakesNoMemory};
 ghost use Rattle.calls.specs.Queues.{Answers, after, CanLook, IsLeast, IsEmpty};
-ghost use Rattle.collections.specs.Items.{IsFalling, IsPlaceFor, ListsBag};
+ghost use Rattle.collections.specs.Items.{ListsBag};
 
+use crate::heap::{Holder, find, live_pairs, mark, push, remove_root, settle};
 use calls::{Call, Refusal, Reply};
 use std::alloc::{AllocError, Global};
-use std::cmp::Reverse;
 use std::marker::Model;
 
 /// A queue of pairs of a priority and a tag, each as often as it was put there. Contracts see the
 /// multiset.
 #[derive(Drop)]
 pub struct QueueCol {
-    // The least pair is the last.
-    items: Vec<Reverse<(u64, u64)>>,
+    // A heap, the least pair at the root. The root is not marked.
+    holders: Vec<Holder>,
+    // How many are marked, as they were plucked: never more than are not.
+    marked: usize,
 }
 
 impl Model for QueueCol {
     ghost use Rattle.std.specs.Coded.{coded_ℕ, coded×};
     ghost use Rattle.std.specs.FinMap as map;
     ghost use Rattle.calls.specs.Bags.{Bag};
-    ghost use Rattle.collections.specs.Items.{bag_of, IsFalling};
+    ghost use Rattle.collections.specs.Holders.{bag_of, AreKept};
 
     ghost Value = { Bag };
 
     ghost coded = { map.code (coded× coded_ℕ coded_ℕ) coded_ℕ };
 
-    ghost view = { λ q. bag_of q.items.items };
+    ghost view = { λ q. bag_of q.holders.items };
 
-    ghost invariant = { λ q. IsFalling q.items.items };
+    ghost invariant = { λ q. AreKept q.holders.items q.marked };
 }
 
 impl QueueCol {
-    /// A queue with no pair. It takes no memory.
+    /// A queue with no pair. It takes no memory. Its cost is constant.
     pub fn new(alloc: Global) -> Self
         ensures { result ≡ empty }
     {
         Self {
-            items: Vec::new(alloc),
+            holders: Vec::new(alloc),
+            marked: 0,
         }
     }
 
     /// The pairs in order, the least first, each as often as it is there. NoMemory alone is
-    /// refused.
+    /// refused. Its cost is a copy of the pairs and a sort of it.
     pub fn to_vec(&self, alloc: Global) -> Result<Vec<(u64, u64)>, AllocError>
         ensures { IfOk result (λ pairs. ListsBag pairs.items self.now) }
     {
-        backwards(&self.items, alloc)
+        let mut pairs = live_pairs(&self.holders, alloc)?;
+        pairs.sort_unstable();
+        Ok(pairs)
     }
 
     // The least pair.
     fn least(&self) -> Reply
         ensures { Answers self.now Call.Least result }
     {
-        match self.items.as_slice() {
-            [.., Reverse((priority, tag))] => Reply::Item(*priority, *tag),
+        match self.holders.as_slice() {
+            [root, ..] => {
+                let (priority, tag) = root.pair();
+                Reply::Item(priority, tag)
+            }
             [] => Reply::Nothing,
         }
     }
 
-    /// The reply that a call of a queue gets now. It takes no memory and is never refused.
+    /// The reply that a call of a queue gets now. It takes no memory and is never refused. Its cost
+    /// is constant: at most the least pair is looked at.
     pub fn look(&self, call: &Call) -> Result<Reply, Refusal>
         requires { CanLook self.now call.now }
         ensures { IsOkAnd result (λ reply. Answers self.now call.now reply) }
@@ -80,10 +89,7 @@ impl QueueCol {
     fn has(&self, priority: u64, tag: u64) -> bool
         ensures { IsTrue result ↔ (0 < copies self.now (priority, tag)) }
     {
-        match self.items.binary_search(&Reverse((priority, tag))) {
-            Ok(_) => true,
-            Err(_) => false,
-        }
+        find(&self.holders, priority, tag).is_some()
     }
 
     // Whether the pair is the least.
@@ -106,7 +112,8 @@ impl QueueCol {
         }
     }
 
-    /// Whether the call may get this reply now. It takes no memory.
+    /// Whether the call may get this reply now. It takes no memory. Its cost is constant, but for a
+    /// Pluck, whose pair is looked for among all, linear in their number.
     pub fn fits(&self, call: &Call, reply: &Reply) -> bool
         ensures { IsTrue result ↔ Answers self.now call.now reply.now }
     {
@@ -125,16 +132,25 @@ impl QueueCol {
         }
     }
 
-    /// Puts one copy of the pair into the queue. NoMemory leaves the queue as before.
+    /// Puts one copy of the pair into the queue. NoMemory leaves the queue as before. Its cost is
+    /// logarithmic in the number of pairs, and over many calls a constant for the room that it
+    /// takes.
     pub fn put(&mut self, priority: u64, tag: u64) -> Result<(), Refusal>
         ensures ok { OnOk result (self.new ≡ add self.old (priority, tag)) }
         ensures err { OnErr result (self.new ≡ self.old) }
         ensures refusal { IsOkUnless result Refusal.NoMemory }
     {
-        let item = Reverse((priority, tag));
-        let at = place_for(&self.items, &item);
-        self.items.insert(at, item)?;
+        push(&mut self.holders, priority, tag)?;
         Ok(())
+    }
+
+    // Takes the least pair out, where one is there.
+    fn take(&mut self)
+        requires { IsEmpty self.old → ⊥ }
+        ensures { (p g : ℕ) → IsLeast self.old p g → self.new ≡ take_out self.old (p, g) }
+    {
+        remove_root(&mut self.holders);
+        self.marked = settle(&mut self.holders, self.marked);
     }
 
     // Takes one copy of the pair out.
@@ -142,16 +158,15 @@ impl QueueCol {
         requires { 0 < copies self.old (priority, tag) }
         ensures { self.new ≡ take_out self.old (priority, tag) }
     {
-        match self.items.binary_search(&Reverse((priority, tag))) {
-            Ok(at) => {
-                self.items.remove(at);
-            }
-            Err(_) => unreachable!(),
-        }
+        mark(&mut self.holders, priority, tag);
+        self.marked = settle(&mut self.holders, self.marked + 1);
     }
 
     /// Makes the call, which is answered so. NoMemory, which leaves the queue as before, only where
-    /// a pair is put into it: to pluck one takes no memory.
+    /// a pair is put into it: to take or pluck one takes no memory. A QueueAdd costs as `put` does.
+    /// A Take is logarithmic in the number of pairs, but that it may also remove what was plucked
+    /// before, which is logarithmic for each pluck since. A Pluck looks for its pair among all,
+    /// which is linear.
     pub fn run(&mut self, call: &Call, reply: &Reply) -> Result<(), Refusal>
         requires { Answers self.old call.now reply.now }
         ensures ok { OnOk result (self.new ≡ after self.old call.now reply.now) }
@@ -161,29 +176,15 @@ impl QueueCol {
     {
         match (call, reply) {
             (Call::QueueAdd(priority, tag), _) => self.put(*priority, *tag),
-            (Call::Take, Reply::Item(priority, tag)) | (Call::Pluck(priority, tag), _) => {
+            (Call::Take, Reply::Item(_, _)) => {
+                self.take();
+                Ok(())
+            }
+            (Call::Pluck(priority, tag), _) => {
                 self.pluck(*priority, *tag);
                 Ok(())
             }
             _ => Ok(()),
         }
-    }
-}
-
-// The pairs from the last to the first.
-fn backwards(items: &[Reverse<(u64, u64)>], alloc: Global) -> Result<Vec<(u64, u64)>, AllocError>
-    ensures { IfOk result (λ pairs. pairs.items ≡ map (λ item. item.0) (reverse items.now)) }
-{
-    items.iter().rev().map(|item| item.0).collect(alloc)
-}
-
-// Where the pair can be put.
-fn place_for(items: &[Reverse<(u64, u64)>], item: &Reverse<(u64, u64)>) -> usize
-    requires { IsFalling items.now }
-    ensures { IsPlaceFor items.now item.now result }
-{
-    match items.binary_search(item) {
-        Ok(at) => at,
-        Err(at) => at,
     }
 }

@@ -31,7 +31,7 @@ impl Model for SetCol {
 }
 
 impl SetCol {
-    /// A set with no element. It takes no memory.
+    /// A set with no element. It takes no memory. Its cost is constant.
     pub fn new(alloc: Global) -> Self
         ensures { result ≡ set.empty }
     {
@@ -40,7 +40,8 @@ impl SetCol {
         }
     }
 
-    /// The elements, in order.
+    /// The elements, in order. To come to the first costs a look, logarithmic in their number; to
+    /// go over all is linear.
     pub fn iter(&self) -> Iter<'_, u64>
         ensures rising { IsStrictlySortedBy nat_cmp result }
         ensures members { set.from_list result ≡ self.now }
@@ -55,7 +56,8 @@ impl SetCol {
         self.elements.contains(&element)
     }
 
-    /// The reply that a call of a set gets now. It takes no memory and is never refused.
+    /// The reply that a call of a set gets now. It takes no memory and is never refused. Its cost
+    /// is logarithmic in the number of elements.
     pub fn look(&self, call: &Call) -> Result<Reply, Refusal>
         requires { CanLook self.now call.now }
         ensures { IsOkAnd result (λ reply. Answers self.now call.now reply) }
@@ -79,7 +81,8 @@ impl SetCol {
         }
     }
 
-    /// Whether the call may get this reply now. It takes no memory.
+    /// Whether the call may get this reply now. It takes no memory. Its cost is logarithmic in the
+    /// number of elements.
     pub fn fits(&self, call: &Call, reply: &Reply) -> bool
         ensures { IsTrue result ↔ Answers self.now call.now reply.now }
     {
@@ -94,7 +97,8 @@ impl SetCol {
         }
     }
 
-    /// Puts the element into the set. NoMemory leaves the set as before.
+    /// Puts the element into the set. NoMemory leaves the set as before. Its cost is logarithmic in
+    /// the number of elements.
     pub fn insert(&mut self, element: u64) -> Result<(), Refusal>
         ensures ok { OnOk result (self.new ≡ set.insert self.old element) }
         ensures err { OnErr result (self.new ≡ self.old) }
@@ -105,7 +109,7 @@ impl SetCol {
     }
 
     /// Makes the call, which is answered so. NoMemory, which leaves the set as before, only where
-    /// an element is put into it.
+    /// an element is put into it. Its cost is logarithmic in the number of elements.
     pub fn run(&mut self, call: &Call, reply: &Reply) -> Result<(), Refusal>
         requires { Answers self.old call.now reply.now }
         ensures ok { OnOk result (self.new ≡ after self.old call.now reply.now) }

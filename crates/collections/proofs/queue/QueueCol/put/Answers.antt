@@ -1,19 +1,18 @@
-use Rattle.std.proofs.Common.{◌∙◌, ap, subst}
+use Rattle.std.proofs.Common.{◌∷◌, ◌∙◌, ap}
 use Rattle.calls.specs.Bags.{add}
-use Rattle.collections.specs.Items.{IsPlaceFor}
-use Rattle.collections.proofs.Items.{falling-insert, bag_of-insert}
+use Rattle.collections.specs.Holders.{live}
+use Rattle.collections.proofs.Holders.{bag_of-reordered, kept_more}
 use Rattle.collections.proofs.queue.QueueCol.put.Goals as goal
 
 pub invariant_of-self-2 : goal.invariant_of-self-2
 invariant_of-self-2 c =
-    rw c.in_ok-insert.ensures.items
-    (falling-insert c.self.inside.items.items c.place_for-at.result _ c.self.invariant
-    (subst (λ l. IsPlaceFor l (record { 0 = (c.args.priority, c.args.tag) }) c.place_for-at.result)
-    c.deref.ensures.value c.place_for-at.ensures))
+    kept_more c.self.inside.holders.items c.push.new.holders.items c.self.inside.marked
+    c.args.priority c.args.tag c.in_ok-push.ensures.added c.in_ok-push.ensures.order
+    c.in_ok-push.ensures.root
+    c.self.invariant
 
 pub returns-clause-ok : goal.returns-clause-ok
 returns-clause-ok c =
-    rw c.in_ok-insert.ensures.items
-    (bag_of-insert c.self.inside.items.items c.place_for-at.result
-    (record { 0 = (c.args.priority, c.args.tag) })
-    ∙ ap (λ b. add b (c.args.priority, c.args.tag)) c.self.view_is)
+    bag_of-reordered (live c.args.priority c.args.tag ∷ c.self.inside.holders.items)
+    c.push.new.holders.items c.in_ok-push.ensures.added ∙
+    ap (λ b. add b (c.args.priority, c.args.tag)) c.self.view_is
