@@ -174,21 +174,21 @@ fn push_entries(live: &Live, packer: &mut Packer) -> Result<(), Refusal>
         (λ rs. rs ≡ flat_map (live_record live.now.live) live.now.entries)) }
     ensures refusal { IsOkUnless result Refusal.NoMemory }
 {
-    let entries = live.in_order().as_slice();
-    for owned in entries {
+    let entries = live.in_order()?;
+    for owned in &entries {
         push_entry(live, owned, packer)?;
     }
     Ok(())
 }
 
 // Writes what was asked for, but for what a falling transaction put off.
-fn push_entry(live: &Live, owned: &Owned, packer: &mut Packer) -> Result<(), Refusal>
-    requires { IsNumber owned.now.owner × IsAskedEntry (entry_of owned.now.entry) }
+fn push_entry(live: &Live, owned: &Owned<'_>, packer: &mut Packer) -> Result<(), Refusal>
+    requires { IsNumber owned.now.owner × IsAskedEntry (entry_of owned.now.entry.now) }
     ensures told { OnOk result (Writes packer.old packer.new
         (λ rs. rs ≡ live_record live.now.live (owned_entry owned.now))) }
     ensures refusal { IsOkUnless result Refusal.NoMemory }
 {
-    match &owned.entry {
+    match owned.entry {
         Entry::Asked(logged) => push_call(owned.owner, logged, packer),
         Entry::PutOff(later) => {
             if live.is_falling(owned.owner) {

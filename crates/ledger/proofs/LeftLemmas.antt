@@ -1,21 +1,17 @@
 -- What a call leaves, and what the entries of a number left.
-use Rattle.std.proofs.Common.{◌≡◌, ℕ, ◌+◌, ◌<◌, ◌==◌, Bool, true, false, cond, ◌⊎◌, inl, inr}
-use Rattle.std.proofs.Common.{⊎_elim, List, [], ◌∷◌, length, map, get_or, drop, refl, sym, ◌∙◌, ap}
-use Rattle.std.proofs.Common.{subst, arith, eqb-true}
+use Rattle.std.proofs.Common.{◌≡◌, ℕ, ◌+◌, ◌<◌, ◌⊎◌, inl, inr, ⊎_elim, List, [], ◌∷◌, length, map}
+use Rattle.std.proofs.Common.{get_or, drop, refl, sym, ◌∙◌, ap, subst, arith}
 use Rattle.std.specs.Prelude.{Contains, ◌↔◌}
-use Rattle.std.specs.List.{filter}
 use Rattle.std.proofs.lemmas.List.{drop_more}
 use Rattle.std.proofs.lemmas.List.Elements.{Contains-push, Contains-push_cases}
-use Rattle.std.proofs.lemmas.List.Elements.{Contains-append_left, Contains-append_right}
-use Rattle.std.proofs.lemmas.List.Elements.{Contains-append_cases}
+use Rattle.std.proofs.lemmas.List.Elements.{Contains-append_cases, Contains-append_right}
 use Rattle.calls.specs.declared.call.Call.{Call}
 use Rattle.calls.specs.declared.reply.Reply.{Reply}
 use Rattle.calls.specs.Rules.{left_by}
 use Rattle.calls.specs.Transactions.{Event, Entry, Asked, PutOff}
-use Rattle.undo_log.specs.declared.logged.Owned.{Owned}
-use Rattle.undo_log.specs.Entries.{entry_of, owned_entry}
-use Rattle.std.proofs.lemmas.Bool.{eqb-false}
-use Rattle.ledger.specs.LeftCalls.{IsGoing, GoesTwice, IsLeftBy}
+use Rattle.undo_log.specs.declared.logged.Stamped.{Stamped}
+use Rattle.undo_log.specs.Entries.{stamped_entry}
+use Rattle.ledger.specs.LeftCalls.{IsGoing, GoesTwice, IsLeftAmong, IsLeftBy}
 
 only_one : (c d : Call) → Contains (c ∷ []) d → c ≡ d
 only_one c d h = ⊎_elim (λ none. let below = none.1 in absurd (omega arith)) (λ same. same)
@@ -54,73 +50,40 @@ it_leaves : (e : Entry) (at : ℕ) (c : Call) → IsLeftBy e at c →
 it_leaves (Asked x) at c h = (x, refl, h.0, h.1)
 it_leaves (PutOff p d) at c h = absurd h
 
-module _ (n at : ℕ) (c : Call) where
-  going_by : (b : Bool) (e : Entry) (us : List (ℕ × Entry)) (k : ℕ) → (k == n) ≡ b →
-      (x : Event) × Contains (map (λ e. e.1) (cond b ((k, e) ∷ us) us)) (Asked x) × (x.at ≡ at) ×
-      Contains (left_by x.call x.reply) c →
-      ((k ≡ n) × IsLeftBy e at c) ⊎ ((x : Event) × Contains (map (λ e. e.1) us) (Asked x) ×
-      (x.at ≡ at) × Contains (left_by x.call x.reply) c)
-  going_by true e us k is h =
-      ⊎_elim
-      (λ (same : e ≡ Asked h.0). inl (eqb-true k n is, left_by_it e h.0 at c same (h.2, h.3)))
-      (λ (later : Contains (map (λ e. e.1) us) (Asked h.0)). inr (h.0, later, h.2, h.3))
-      (either e (map (λ e. e.1) us) (Asked h.0) h.1)
-  going_by false e us k is h = inr h
-
-  by_going : (b : Bool) (e : Entry) (us : List (ℕ × Entry)) (k : ℕ) → (k == n) ≡ b →
-      ((k ≡ n) × IsLeftBy e at c) ⊎ ((x : Event) × Contains (map (λ e. e.1) us) (Asked x) ×
-      (x.at ≡ at) × Contains (left_by x.call x.reply) c) →
-      (x : Event) × Contains (map (λ e. e.1) (cond b ((k, e) ∷ us) us)) (Asked x) × (x.at ≡ at) ×
-      Contains (left_by x.call x.reply) c
-  by_going true e us k is h =
-      ⊎_elim
-      (λ (mine : (k ≡ n) × IsLeftBy e at c). let one = it_leaves e at c mine.1 in (
-        one.0,
-        subst (Contains (map (λ e. e.1) ((k, e) ∷ us))) one.1
-            (Contains-append_left (e ∷ []) (map (λ e. e.1) us) e (Contains-push [] e)),
-        one.2,
-        one.3,
-      ))
-      (λ (later : (x : Event) × Contains (map (λ e. e.1) us) (Asked x) × (x.at ≡ at) ×
-      Contains (left_by x.call x.reply) c). (
-        later.0,
-        Contains-append_right (e ∷ []) (map (λ e. e.1) us) (Asked later.0) later.1,
-        later.2,
-        later.3,
-      ))
-      h
-  by_going false e us k is h =
-      ⊎_elim
-      (λ (mine : (k ≡ n) × IsLeftBy e at c). absurd (eqb-false k n is mine.0))
-      (λ (later : (x : Event) × Contains (map (λ e. e.1) us) (Asked x) × (x.at ≡ at) ×
-      Contains (left_by x.call x.reply) c). later)
-      h
-
+module _ (at : ℕ) (c : Call) where
   -- It is left by the first entry, or by one behind.
-  going_first : (k : ℕ) (e : Entry) (es : List (ℕ × Entry)) →
-      IsGoing ((k, e) ∷ es) n at c ↔ (((k ≡ n) × IsLeftBy e at c) ⊎ IsGoing es n at c)
-  going_first k e es = (
-    going_by (k == n) e (filter (λ e. e.0 == n) es) k refl,
-    by_going (k == n) e (filter (λ e. e.0 == n) es) k refl,
+  left_first : (e : Entry) (es : List Entry) →
+      IsLeftAmong (e ∷ es) at c ↔ (IsLeftBy e at c ⊎ IsLeftAmong es at c)
+  left_first e es = (
+    λ h. ⊎_elim (λ (same : e ≡ Asked h.0). inl (left_by_it e h.0 at c same (h.2, h.3)))
+        (λ (later : Contains es (Asked h.0)). inr (h.0, later, h.2, h.3))
+        (either e es (Asked h.0) h.1),
+    λ h. ⊎_elim
+        (λ (mine : IsLeftBy e at c). let one = it_leaves e at c mine in
+        (one.0, (0, omega arith, one.1), one.2, one.3))
+        (λ (later : IsLeftAmong es at c).
+        (later.0, Contains-append_right (e ∷ []) es (Asked later.0) later.1, later.2, later.3))
+        h,
   )
 
-  module _ (os : List Owned) (i : ℕ) (o : Owned) (below : i < length os)
-      (is : o ≡ get_or os i o) where
-    next : map owned_entry (drop i os) ≡ owned_entry o ∷ map owned_entry (drop (i + 1) os)
-    next = ap (map owned_entry) (drop_more os i o below ∙ ap (λ v. v ∷ drop (i + 1) os) (sym is))
+  module _ (ss : List Stamped) (i : ℕ) (s : Stamped) (below : i < length ss)
+      (is : s ≡ get_or ss i s) where
+    next : map stamped_entry (drop i ss) ≡ stamped_entry s ∷ map stamped_entry (drop (i + 1) ss)
+    next = ap (map stamped_entry)
+        (drop_more ss i s below ∙ ap (λ v. v ∷ drop (i + 1) ss) (sym is))
 
     -- the entry at the place leaves it
-    pub going_here : o.owner ≡ n → IsLeftBy (entry_of o.entry) at c →
-        IsGoing (map owned_entry (drop i os)) n at c
-    going_here mine leaves = subst (λ l. IsGoing l n at c) (sym next)
-        ((going_first _ _ _).1 (inl (mine, leaves)))
+    pub going_here : IsLeftBy (stamped_entry s) at c →
+        IsLeftAmong (map stamped_entry (drop i ss)) at c
+    going_here leaves = subst (λ l. IsLeftAmong l at c) (sym next) ((left_first _ _).1 (inl leaves))
 
     -- it does not
-    pub going_behind : (o.owner ≡ n → IsLeftBy (entry_of o.entry) at c → ⊥) →
-        IsGoing (map owned_entry (drop i os)) n at c ↔
-        IsGoing (map owned_entry (drop (i + 1) os)) n at c
+    pub going_behind : (IsLeftBy (stamped_entry s) at c → ⊥) →
+        IsLeftAmong (map stamped_entry (drop i ss)) at c ↔
+        IsLeftAmong (map stamped_entry (drop (i + 1) ss)) at c
     going_behind other = (
-      λ h. ⊎_elim (λ (one : _ × _). absurd (other one.0 one.1)) (λ later. later)
-          ((going_first _ _ _).0 (subst (λ l. IsGoing l n at c) next h)),
-      λ h. subst (λ l. IsGoing l n at c) (sym next) ((going_first _ _ _).1 (inr h)),
+      λ h. ⊎_elim (λ (one : IsLeftBy (stamped_entry s) at c). absurd (other one))
+          (λ (later : IsLeftAmong (map stamped_entry (drop (i + 1) ss)) at c). later)
+          ((left_first _ _).0 (subst (λ l. IsLeftAmong l at c) next h)),
+      λ h. subst (λ l. IsLeftAmong l at c) (sym next) ((left_first _ _).1 (inr h)),
     )

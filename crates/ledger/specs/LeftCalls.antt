@@ -9,10 +9,15 @@ abbrev pub IsLeftBy : Entry → (at : ℕ) → Call → Type 0
 IsLeftBy (Asked x) at c = (x.at ≡ at) × Contains (left_by x.call x.reply) c
 IsLeftBy (PutOff place d) at c = ⊥
 
--- A call of the transaction that is not undone has left this one at the place to its commit.
-abbrev pub IsGoing : List (ℕ × Entry) → (n at : ℕ) → Call → Type 0
-IsGoing entries n at c = (x : Event) × Contains (own n entries) (Asked x) × (x.at ≡ at) ×
+-- A call among the entries has left this one at the place to the commit.
+abbrev pub IsLeftAmong : List Entry → (at : ℕ) → Call → Type 0
+IsLeftAmong entries at c = (x : Event) × Contains entries (Asked x) × (x.at ≡ at) ×
     Contains (left_by x.call x.reply) c
+
+-- A call of the transaction that is not undone has left this one at the place to its commit. What
+-- others asked for does not count.
+abbrev pub IsGoing : List (ℕ × Entry) → (n at : ℕ) → Call → Type 0
+IsGoing entries n at c = IsLeftAmong (own n entries) at c
 
 -- What the call leaves is going already: nothing can be left twice.
 abbrev pub GoesTwice : List (ℕ × Entry) → ℕ → Event → Type 0

@@ -1,19 +1,18 @@
 // What calls of live transactions have left to the commits.
 ghost use Rattle.std.specs.Prelude.{◌≡◌, ◌↔◌, map, Contains, IsTrue};
 ghost use Rattle.calls.specs.Rules.{left_by};
-ghost use Rattle.undo_log.specs.Entries.{entry_of, owned_entry};
-ghost use Rattle.ledger.specs.LeftCalls.{IsGoing, IsLeftBy};
+ghost use Rattle.undo_log.specs.Entries.{entry_of, stamped_entry};
+ghost use Rattle.ledger.specs.LeftCalls.{IsLeftAmong, IsLeftBy};
 
 use calls::{Call, Reply};
-use undo_log::{Entry, Owned};
+use undo_log::{Entry, Stamped};
 
-// Whether a call of the transaction, among these entries, has left this one at the place to its
-// commit.
-pub(crate) fn is_going(entries: &[Owned], number: u64, at: u8, call: &Call) -> bool
-    ensures { IsTrue result ↔ IsGoing (map owned_entry entries.now) number at call.now }
+// Whether a call among these entries has left this one at the place to the commit.
+pub(crate) fn is_going(entries: &[Stamped], at: u8, call: &Call) -> bool
+    ensures { IsTrue result ↔ IsLeftAmong (map stamped_entry entries.now) at call.now }
 {
-    for owned in entries {
-        if owned.owner == number && is_left_by(&owned.entry, at, call) {
+    for stamped in entries {
+        if is_left_by(&stamped.entry, at, call) {
             return true;
         }
     }

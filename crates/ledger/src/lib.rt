@@ -177,13 +177,14 @@ impl Ledger {
     }
 
     /// Whether the transaction has left to its commit already what this call, answered so, would
-    /// leave.
+    /// leave. Where it would leave one, each entry of the transaction is looked at, and those of no
+    /// other.
     pub fn goes_twice(&self, number: u64, at: u8, call: &Call, reply: &Reply) -> bool
         ensures { IsTrue result ↔ GoesTwice self.now.entries number
             (record { at = at; call = call.now; reply = reply.now }) }
     {
         match call.after(reply) {
-            Some(left) => is_going(self.live.in_order().as_slice(), number, at, &left),
+            Some(left) => is_going(self.live.entries_of(number), at, &left),
             None => false,
         }
     }

@@ -97,13 +97,13 @@ calls_in_append os qs =
 
 -- the call of one entry, or none
 abbrev pub call_in : Owned → List Event
-call_in o = calls_of (entry_of o.entry ∷ [])
+call_in o = calls_of (entry_of o.entry.now ∷ [])
 
 next_calls : (os : List Owned) (i : ℕ) (o : Owned) → i < length os → o ≡ get_or os i o →
     calls_in (drop i os) ≡ call_in o ++ calls_in (drop (i + 1) os)
 next_calls os i o below is =
     ap calls_in (drop_more os i o below ∙ ap (λ v. v ∷ drop (i + 1) os) (sym is))
-    ∙ first_calls (entry_of o.entry) (map (λ e. e.1) (map owned_entry (drop (i + 1) os)))
+    ∙ first_calls (entry_of o.entry.now) (map (λ e. e.1) (map owned_entry (drop (i + 1) os)))
 
 split_calls : (os : List Owned) (i : ℕ) → calls_in os ≡ calls_in (take i os) ++ calls_in (drop i os)
 split_calls os i = ap calls_in (sym (take-append-drop i os)) ∙

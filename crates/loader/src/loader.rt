@@ -148,7 +148,7 @@ impl<B: Parts + Coded> Loader<B> {
             wear,
             ..
         } = self;
-        if !redo(&mut parts, ledger.live().in_order().as_slice())? {
+        if !redo(&mut parts, ledger.live())? {
             return Ok(None);
         }
         Ok(Some(Machine::of_parts(parts, ledger, wear)))

@@ -1,5 +1,5 @@
 // Calls that are taken back exactly as they were done, and made again.
-ghost use Rattle.std.specs.Prelude.{◌≡◌, ◌∷◌, [], IfOk, OnOk, IsOkUnless, Some};
+ghost use Rattle.std.specs.Prelude.{◌≡◌, ◌∷◌, [], map, IfOk, OnOk, IsOkUnless, Some};
 ghost use Rattle.calls.specs.Rules.{Askable, inverse_of};
 ghost use Rattle.calls.specs.Transactions.{Leads, calls_of};
 ghost use Rattle.undo_log.specs.Entries.{entry_of, event_of};
@@ -9,25 +9,26 @@ ghost use Rattle.loader.specs.Loading.{calls_in, HasRoomBack, HasLed, TakenBack,
 use calls::{Call, Refusal};
 use catalog::Parts;
 use records::Coded;
-use undo_log::{Entry, Logged, Owned};
+use undo_log::{Entry, Live, Logged, Owned};
 
-// Whether the calls lead from some content to what is there now: they are taken back, newest first,
-// and made again.
-pub(crate) fn redo<B: Parts + Coded>(parts: &mut B, entries: &[Owned]) -> Result<bool, Refusal>
-    requires { HasRoomBack B.meaning (calls_in entries.now) parts.old }
-    ensures ok { IfOk result (λ done. DoneAgain B.meaning (calls_in entries.now) done parts.old
-        parts.new) }
+// Whether the calls of live transactions lead from some content to what is there now: they are
+// taken back, newest first, and made again.
+pub(crate) fn redo<B: Parts + Coded>(parts: &mut B, live: &Live) -> Result<bool, Refusal>
+    requires { HasRoomBack B.meaning (calls_of (map (λ e. e.1) live.now.entries)) parts.old }
+    ensures ok { IfOk result (λ done. DoneAgain B.meaning
+        (calls_of (map (λ e. e.1) live.now.entries)) done parts.old parts.new) }
     ensures refusal { IsOkUnless result Refusal.NoMemory }
 {
-    if !take_all_back(parts, entries)? {
+    let entries = live.in_order()?;
+    if !take_all_back(parts, &entries)? {
         return Ok(false);
     }
-    make_all_again(parts, entries)?;
+    make_all_again(parts, &entries)?;
     Ok(true)
 }
 
 // Takes all calls back, newest first. False where one was not done so.
-fn take_all_back<B: Parts + Coded>(parts: &mut B, entries: &[Owned]) -> Result<bool, Refusal>
+fn take_all_back<B: Parts + Coded>(parts: &mut B, entries: &[Owned<'_>]) -> Result<bool, Refusal>
     requires { HasRoomBack B.meaning (calls_in entries.now) parts.old }
     ensures ok { IfOk result (λ taken. TakenBack B.meaning (calls_in entries.now) taken parts.old
         parts.new) }
@@ -36,7 +37,7 @@ fn take_all_back<B: Parts + Coded>(parts: &mut B, entries: &[Owned]) -> Result<b
     let mut place = entries.len();
     while place > 0 {
         place -= 1;
-        if !take_entry_back(parts, &entries[place].entry)? {
+        if !take_entry_back(parts, entries[place].entry)? {
             return Ok(false);
         }
     }
@@ -88,13 +89,13 @@ fn run_back<B: Parts + Coded>(parts: &mut B, asked: &Logged, back: &Call) -> Res
 }
 
 // Makes all calls again, in their order.
-fn make_all_again<B: Parts + Coded>(parts: &mut B, entries: &[Owned]) -> Result<(), Refusal>
+fn make_all_again<B: Parts + Coded>(parts: &mut B, entries: &[Owned<'_>]) -> Result<(), Refusal>
     requires { HasLed B.meaning (calls_in entries.now) parts.old }
     ensures ok { OnOk result (Leads (Does B.meaning) (calls_in entries.now) parts.old parts.new) }
     ensures refusal { IsOkUnless result Refusal.NoMemory }
 {
     for owned in entries {
-        make_again(parts, &owned.entry)?;
+        make_again(parts, owned.entry)?;
     }
     Ok(())
 }

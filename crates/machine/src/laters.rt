@@ -1,29 +1,26 @@
 // What transactions put off to their commits, and what their calls left to these.
 ghost use Rattle.std.specs.Prelude.{◌≡◌, [], ◌∷◌, length, map};
 ghost use Rattle.calls.specs.declared.reply.Reply.{Reply};
-ghost use Rattle.calls.specs.Transactions.{Leads, laters_of, own};
-ghost use Rattle.undo_log.specs.Entries.{entry_of, owned_entry};
+ghost use Rattle.calls.specs.Transactions.{Leads, laters_of};
+ghost use Rattle.undo_log.specs.Entries.{entry_of, stamped_entry};
 ghost use Rattle.machine.specs.Machine.{Does};
 ghost use Rattle.machine.specs.Machines.{CanRun};
 
 use calls::{Call, Reply};
 use catalog::Parts;
 use records::Coded;
-use undo_log::{Entry, Owned};
+use undo_log::{Entry, Stamped};
 
-// Runs what the transaction put off, in the order asked. How many calls that were.
-pub(crate) fn run_laters<B: Parts + Coded>(parts: &mut B, entries: &[Owned], number: u64) -> u64
-    requires can { CanRun B.meaning (laters_of (own number (map owned_entry entries.now)))
-        parts.old }
-    ensures runs { Leads (Does B.meaning) (laters_of (own number (map owned_entry entries.now)))
-        parts.old parts.new }
-    ensures count { result ≡ length (laters_of (own number (map owned_entry entries.now))) }
+// Runs what a transaction put off among its entries, in the order asked. How many calls that were.
+pub(crate) fn run_laters<B: Parts + Coded>(parts: &mut B, entries: &[Stamped]) -> u64
+    requires can { CanRun B.meaning (laters_of (map stamped_entry entries.now)) parts.old }
+    ensures runs { Leads (Does B.meaning) (laters_of (map stamped_entry entries.now)) parts.old
+        parts.new }
+    ensures count { result ≡ length (laters_of (map stamped_entry entries.now)) }
 {
     let mut count = 0;
-    for owned in entries {
-        if owned.owner == number {
-            count += run_put_off(parts, &owned.entry);
-        }
+    for stamped in entries {
+        count += run_put_off(parts, &stamped.entry);
     }
     count
 }

@@ -274,8 +274,8 @@ impl<B: Parts + Coded> Machine<B> {
         requires { IsRunning self.old number }
         ensures { CommitRow B.meaning self.old number self.new }
     {
-        let entries = self.ledger.live().in_order().as_slice();
-        let ran = run_laters(&mut self.parts, entries, number);
+        let entries = self.ledger.live().entries_of(number);
+        let ran = run_laters(&mut self.parts, entries);
         self.wear += ran;
         self.ledger.remove(number);
     }

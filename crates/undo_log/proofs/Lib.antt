@@ -1,4 +1,6 @@
+pub mod Rising
 pub mod Owns
-pub mod Counts
 pub mod Slots
-pub mod Newest
+pub mod Marks
+pub mod Written
+pub mod Sorting

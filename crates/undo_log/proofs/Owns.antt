@@ -1,117 +1,174 @@
--- How many entries of one number there are.
-use Rattle.std.proofs.Common.{◌≡◌, ◌≢◌, ℕ, ◌≤◌, ◌+◌, ◌==◌, Bool, true, false, not, cond, List, []}
-use Rattle.std.proofs.Common.{◌∷◌, ◌++◌, map, length, refl, sym, ap, ◌∙◌, arith}
-use Rattle.std.specs.List.{remove}
-use Rattle.std.proofs.lemmas.Bool.{eq-eqb, ne_eqb}
-use Rattle.calls.specs.Transactions.{Entry, own, others}
-use Rattle.undo_log.specs.declared.logged.Owned.{Owned}
-use Rattle.undo_log.specs.Entries.{event_of, owned_entry, IsNewestCall, IsNewestPlace}
-use Rattle.undo_log.proofs.Newest.{newest_is}
+-- Entries of one number and of all others, and the newest call of a number.
+use Rattle.std.proofs.Common.{◌≡◌, ℕ, suc, zero, ◌<◌, ◌==◌, Bool, true, false, cond}
+use Rattle.std.proofs.Common.{List, [], ◌∷◌, ◌++◌, map, take, drop, get_or, length, refl, sym, ap}
+use Rattle.std.proofs.Common.{subst, ◌∙◌, arith, length-drop}
+use Rattle.std.specs.List.{filter, remove}
+use Rattle.std.proofs.lemmas.List.{take-append-drop, drop_more, map-append}
+use Rattle.calls.specs.Transactions as transactions
+use Rattle.calls.specs.Transactions.{Event, own, others, calls_of}
+use Rattle.undo_log.specs.declared.logged.Logged.{Logged}
+use Rattle.undo_log.specs.declared.logged.Later.{Later}
+use Rattle.undo_log.specs.declared.logged.Entry.TheVariants.{Asked, PutOff}
+use Rattle.undo_log.specs.declared.logged.Stamped.{Stamped}
+use Rattle.undo_log.specs.Entries.{event_of, entry_of, stamped_entry}
+use Rattle.undo_log.specs.Entries.{IsNewestCall, IsNewestPlace}
 
-abbrev pub many : ℕ → List (ℕ × Entry) → ℕ
-many n es = length (own n es)
+-- ---- what passes a test
 
-one_by : (b : Bool) (e : ℕ × Entry) (us : List (ℕ × Entry)) →
-    length (map (λ x. x.1) (cond b (e ∷ us) us)) ≡ cond b 1 0 + length (map (λ x. x.1) us)
-one_by true e us = omega arith
-one_by false e us = omega arith
+module _ {X Y : Type 0} (p : X → Bool) (f : X → Y) where
+  -- f of what passes the test, between a and b: the list is parted there
+  pub record IsParted (xs : List X) (a : List Y) (y : Y) (b : List Y) : Type 0 where
+    pub before : List X
+    pub here : X
+    pub after : List X
+    pub is : xs ≡ before ++ here ∷ after
+    pub passes : p here ≡ true
+    pub here_is : f here ≡ y
+    pub before_is : map f (filter p before) ≡ a
+    pub after_is : map f (filter p after) ≡ b
 
-module _ (n : ℕ) where
-  one : (e : ℕ × Entry) (es : List (ℕ × Entry)) → many n (e ∷ es) ≡ cond (e.0 == n) 1 0 + many n es
-  one e es = one_by (e.0 == n) e _
+  push_front : (v : X) (xs : List X) (a : List Y) (y : Y) (b : List Y) → p v ≡ false →
+      IsParted xs a y b → IsParted (v ∷ xs) a y b
+  push_front v xs a y b fails r = record {
+    before = v ∷ r.before;
+    here = r.here;
+    after = r.after;
+    is = ap (λ l. v ∷ l) r.is;
+    passes = r.passes;
+    here_is = r.here_is;
+    before_is =
+        ap (λ c. map f (cond c (v ∷ filter p r.before) (filter p r.before))) fails ∙ r.before_is;
+    after_is = r.after_is;
+  }
 
-  one_mine : (e : ℕ × Entry) (es : List (ℕ × Entry)) → e.0 ≡ n → many n (e ∷ es) ≡ 1 + many n es
-  one_mine e es mine = one e es ∙ ap (λ b. cond b 1 0 + many n es) (eq-eqb e.0 n mine)
+  push_passing : (v : X) (xs : List X) (a : List Y) (y : Y) (b : List Y) → p v ≡ true →
+      IsParted xs a y b → IsParted (v ∷ xs) (f v ∷ a) y b
+  push_passing v xs a y b passes r = record {
+    before = v ∷ r.before;
+    here = r.here;
+    after = r.after;
+    is = ap (λ l. v ∷ l) r.is;
+    passes = r.passes;
+    here_is = r.here_is;
+    before_is =
+        ap (λ c. map f (cond c (v ∷ filter p r.before) (filter p r.before))) passes ∙
+        ap (λ l. f v ∷ l) r.before_is;
+    after_is = r.after_is;
+  }
 
-  one_other : (e : ℕ × Entry) (es : List (ℕ × Entry)) → e.0 ≢ n → many n (e ∷ es) ≡ many n es
-  one_other e es other =
-      let is = one e es ∙ ap (λ b. cond b 1 0 + many n es) (ne_eqb e.0 n other) in
-      omega arith
+  parted_by : (v : X) (xs : List X) (a : List Y) (y : Y) (b : List Y) (c : Bool) → p v ≡ c →
+      ((a : List Y) → map f (filter p xs) ≡ a ++ y ∷ b → IsParted xs a y b) →
+      map f (cond c (v ∷ filter p xs) (filter p xs)) ≡ a ++ y ∷ b → IsParted (v ∷ xs) a y b
+  parted_by v xs [] y b true is later h = record {
+    before = [];
+    here = v;
+    after = xs;
+    is = refl;
+    passes = is;
+    here_is = cc;
+    before_is = refl;
+    after_is = cc;
+  }
+  parted_by v xs (u ∷ a) y b true is later h =
+      let first : f v ≡ u = cc in
+      let rest : map f (filter p xs) ≡ a ++ y ∷ b = cc in
+      subst (λ w. IsParted (v ∷ xs) (w ∷ a) y b) first (push_passing v xs a y b is (later a rest))
+  parted_by v xs a y b false is later h = push_front v xs a y b is (later a h)
 
-  own_append : (es fs : List (ℕ × Entry)) → many n (es ++ fs) ≡ many n es + many n fs
-  own_append [] fs = omega arith
-  own_append (e ∷ es) fs = omega (arith, one e (es ++ fs), one e es, own_append es fs)
+  pub parted : (xs : List X) (a : List Y) (y : Y) (b : List Y) → map f (filter p xs) ≡ a ++ y ∷ b →
+      IsParted xs a y b
+  parted [] [] y b h = cc
+  parted [] (u ∷ a) y b h = cc
+  parted (v ∷ xs) a y b h = parted_by v xs a y b (p v) refl (λ c. parted xs c y b) h
 
-pub own_pushed : (n : ℕ) (x : Entry) (es : List (ℕ × Entry)) →
-    many n (es ++ (n, x) ∷ []) ≡ many n es + 1
-own_pushed n x es =
-    let all = own_append n es ((n, x) ∷ []) in
-    let mine = one_mine n (n, x) [] refl in
-    omega arith
+map_cond : {X Y : Type 0} (f : X → Y) (b : Bool) (x : X) (xs : List X) →
+    map f (cond b (x ∷ xs) xs) ≡ cond b (f x ∷ map f xs) (map f xs)
+map_cond f true x xs = refl
+map_cond f false x xs = refl
 
-pub own_pushed_other : (n m : ℕ) (x : Entry) (es : List (ℕ × Entry)) → m ≢ n →
-    many m (es ++ (n, x) ∷ []) ≡ many m es
-own_pushed_other n m x es other =
-    let all = own_append m es ((n, x) ∷ []) in
-    let none = one_other m (n, x) [] (λ same. other (sym same)) in
-    omega arith
+-- a test on what f gives
+pub filter_mapped : {X Y : Type 0} (p : Y → Bool) (f : X → Y) (xs : List X) →
+    filter p (map f xs) ≡ map f (filter (λ x. p (f x)) xs)
+filter_mapped p f [] = refl
+filter_mapped p f (x ∷ xs) =
+    ap (λ l. cond (p (f x)) (f x ∷ l) l) (filter_mapped p f xs) ∙
+    sym (map_cond f (p (f x)) x (filter (λ v. p (f v)) xs))
 
-one_most : (b : Bool) → cond b 1 0 ≤ 1
-one_most true = omega arith
-one_most false = omega arith
+module _ {X : Type 0} (p q : X → Bool) (weaker : (x : X) → p x ≡ true → q x ≡ true) where
+  through_by : (x : X) (xs ys : List X) (b c : Bool) → p x ≡ b → q x ≡ c →
+      filter p xs ≡ ys → filter p (cond c (x ∷ xs) xs) ≡ cond b (x ∷ ys) ys
+  through_by x xs ys true true is at h =
+      ap (λ b. cond b (x ∷ filter p xs) (filter p xs)) is ∙ ap (λ l. x ∷ l) h
+  through_by x xs ys true false is at h = let no : true ≡ false = sym (weaker x is) ∙ at in cc
+  through_by x xs ys false true is at h =
+      ap (λ b. cond b (x ∷ filter p xs) (filter p xs)) is ∙ h
+  through_by x xs ys false false is at h = h
 
--- no more than all
-pub own_within : (n : ℕ) (es : List (ℕ × Entry)) → many n es ≤ length es
-own_within n [] = omega arith
-own_within n (e ∷ es) =
-    let is = one n e es in
-    let most = one_most (e.0 == n) in
-    let rest = own_within n es in
-    omega arith
+  -- a test behind a weaker one
+  pub filter_through : (xs : List X) → filter p (filter q xs) ≡ filter p xs
+  filter_through [] = refl
+  filter_through (x ∷ xs) = through_by x (filter q xs) (filter p xs) (p x) (q x) refl refl
+      (filter_through xs)
 
-kept_mine : (n : ℕ) (b : Bool) (e : ℕ × Entry) (us : List (ℕ × Entry)) → (e.0 == n) ≡ b →
-    many n us ≡ 0 → many n (cond (not b) (e ∷ us) us) ≡ 0
-kept_mine n true e us is none = none
-kept_mine n false e us is none =
-    let all = one n e us ∙ ap (λ b. cond b 1 0 + many n us) is in
-    omega arith
+-- ---- the newest call
 
-pub own_of_others : (n : ℕ) (es : List (ℕ × Entry)) → many n (others n es) ≡ 0
-own_of_others n [] = refl
-own_of_others n (e ∷ es) = kept_mine n (e.0 == n) e (others n es) refl (own_of_others n es)
+after_drop : {X : Type 0} (i : ℕ) (xs : List X) (x : X) (rest : List X) → drop i xs ≡ x ∷ rest →
+    drop (suc i) xs ≡ rest
+after_drop zero [] x rest e = cc
+after_drop zero (y ∷ xs) x rest e = cc
+after_drop (suc i) [] x rest e = cc
+after_drop (suc i) (y ∷ xs) x rest e = after_drop i xs x rest e
 
-kept_other : (n m : ℕ) (b : Bool) (e : ℕ × Entry) (us es : List (ℕ × Entry)) → m ≢ n →
-    (e.0 == n) ≡ b → many m us ≡ many m es →
-    many m (cond (not b) (e ∷ us) us) ≡ many m (e ∷ es)
-kept_other n m true e us es other is same =
-    let mine : e.0 ≡ n = grind arith in
-    same ∙ sym (one_other m e es (λ here. other (sym here ∙ mine)))
-kept_other n m false e us es other is same =
-    one m e us ∙ ap (λ k. cond (e.0 == m) 1 0 + k) same ∙ sym (one m e es)
+-- the list before the place and behind it
+pub at_place : {X Y : Type 0} (f : X → Y) (i : ℕ) (xs : List X) (x : X) (rest : List X) →
+    drop i xs ≡ x ∷ rest → map f xs ≡ map f (take i xs) ++ f x ∷ map f rest
+at_place f i xs x rest e =
+    ap (map f) (sym (take-append-drop i xs) ∙ ap (λ r. take i xs ++ r) e) ∙
+    map-append f (take i xs) (x ∷ rest)
 
-pub own_of_others_other : (n m : ℕ) (es : List (ℕ × Entry)) → m ≢ n →
-    many m (others n es) ≡ many m es
-own_of_others_other n m [] other = refl
-own_of_others_other n m (e ∷ es) other =
-    kept_other n m (e.0 == n) e (others n es) es other refl (own_of_others_other n m es other)
+pub without_place : {X Y : Type 0} (f : X → Y) (i : ℕ) (xs : List X) (x : X) (rest : List X) →
+    drop i xs ≡ x ∷ rest → map f (remove xs i) ≡ map f (take i xs) ++ map f rest
+without_place f i xs x rest e =
+    ap (λ r. map f (take i xs ++ r)) (after_drop i xs x rest e) ∙ map-append f (take i xs) rest
 
--- one entry of a number taken out
-module _ (n : ℕ) (x : Entry) (es before after rest : List (ℕ × Entry))
-    (is : es ≡ before ++ (n, x) ∷ after) (rest_is : rest ≡ before ++ after) where
-  own_less : many n es ≡ many n rest + 1
-  own_less =
-      let all = ap (many n) is ∙ own_append n before ((n, x) ∷ after) in
-      let mine = one_mine n (n, x) after refl in
-      let left = ap (many n) rest_is ∙ own_append n before after in
-      omega arith
+-- the place is one of the list
+within : {X : Type 0} (i : ℕ) (xs : List X) (x : X) (rest : List X) → drop i xs ≡ x ∷ rest →
+    i < length xs
+within i xs x rest e = let short = ap length e in let long = length-drop i xs in omega arith
 
-  own_still : (m : ℕ) → m ≢ n → many m rest ≡ many m es
-  own_still m other =
-      let all = ap (many m) is ∙ own_append m before ((n, x) ∷ after) in
-      let none = one_other m (n, x) after (λ same. other (sym same)) in
-      let left = ap (many m) rest_is ∙ own_append m before after in
-      omega arith
+-- what is read at the place of the newest call
+module _ (ss : List Stamped) (i : ℕ) (s : Stamped) (is : s ≡ get_or ss i s)
+    (place : IsNewestPlace ss i) where
+  here : s.entry ≡ Asked place.3.0
+  here =
+      let more = drop_more ss i s (within i ss place.0 place.1 place.2) in
+      let at = place.2 in
+      let same : s ≡ place.0 = cc in
+      ap (λ v. v.entry) same ∙ place.3.1
 
--- the newest call of a number is taken out
-module _ (n : ℕ) (os : List Owned) (i : ℕ) (place : IsNewestPlace n os i) where
-  abbrev left : List (ℕ × Entry)
-  left = map owned_entry (remove os i)
+  pub newest_logged : (m : Logged) → s.entry ≡ Asked m → place.3.0 ≡ m
+  newest_logged m asked = let at = here in cc
 
-  out : IsNewestCall n (map owned_entry os) (event_of place.0) left
-  out = newest_is n os i place.0 place.1 place.2 place.3
+  pub newest_asked : (l : Later) → s.entry ≡ PutOff l → ⊥
+  newest_asked l put_off = let at = here in cc
 
-  pub popped : many n (map owned_entry os) ≡ many n left + 1
-  popped = own_less n _ _ out.before out.after _ out.is out.rest_is
-
-  pub popped_other : (m : ℕ) → m ≢ n → many m left ≡ many m (map owned_entry os)
-  popped_other m other = own_still n _ _ out.before out.after _ out.is out.rest_is m other
+-- The newest of a transaction's own entries, among all
+pub newest_of_all : (n : ℕ) (es : List (ℕ × transactions.Entry)) (ss : List Stamped) (i : ℕ)
+    (place : IsNewestPlace ss i) → map stamped_entry ss ≡ own n es →
+    (rest : List (ℕ × transactions.Entry)) × IsNewestCall n es (event_of place.3.0) rest
+newest_of_all n es ss i place told =
+    let r = parted (λ (e : ℕ × transactions.Entry). e.0 == n) (λ e. e.1) es
+    (map stamped_entry (take i ss)) (stamped_entry place.0) (map stamped_entry place.1)
+    (sym told ∙ at_place stamped_entry i ss place.0 place.1 place.2) in
+    let number : r.here.0 ≡ n = grind (arith, r.passes) in
+    let entry : r.here.1 ≡ transactions.Asked (event_of place.3.0) =
+    r.here_is ∙ ap entry_of place.3.1 in (
+      r.before ++ r.after,
+      record {
+        before = r.before;
+        after = r.after;
+        is = r.is ∙ ap (λ e. r.before ++ e ∷ r.after) (λ j. (number j, entry j));
+        rest_is = refl;
+        none_newer = ap calls_of r.after_is ∙ place.4;
+      },
+    )

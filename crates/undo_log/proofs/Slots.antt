@@ -1,8 +1,8 @@
 -- The live transactions in the slots, seen as a finite map, and who has room.
 use Rattle.std.proofs.Common.{◌≡◌, ◌≢◌, ℕ, suc, zero, ◌<◌, ◌≤◌, ◌+◌, min, IfSome, IfNone, ◌⊎◌, inl}
 use Rattle.std.proofs.Common.{inr, ⊎_elim, Bool, true, false, cond, Option, Some, None, is_some}
-use Rattle.std.proofs.Common.{List, [], ◌∷◌, map, get_or, count_by, refl, sym, ap, subst, ◌∙◌, ltb}
-use Rattle.std.proofs.Common.{arith}
+use Rattle.std.proofs.Common.{List, [], ◌∷◌, get_or, count_by, refl, sym, ap, subst, ◌∙◌, ltb}
+use Rattle.std.proofs.Common.{arith, set, vec_len, vec_capacity, ◌-◌, ◌^◌}
 use Rattle.std.specs.List.{Contains}
 use Rattle.std.specs.Option.{option_map_or}
 use Rattle.std.specs.Ordering.{nat_cmp}
@@ -16,14 +16,15 @@ use Rattle.std.proofs.lemmas.List.Elements.{Contains-append_cases}
 use Rattle.slab.specs.Slab.{Slab, get, Updates}
 use Rattle.calls.proofs.Points.{get_insert, get_insert_other, get_remove, get_remove_other}
 use Rattle.undo_log.specs.declared.live.Transaction.{Transaction}
-use Rattle.undo_log.specs.Logs.{Statuses, statuses, live_of, rooms_of, fallen, EachOnce, IsSlotOf}
+use Rattle.undo_log.specs.Logs.{Statuses, statuses, live_of, roomy, rooms_of, fallen, EachOnce}
+use Rattle.undo_log.specs.Logs.{IsSlotOf}
 use Rattle.undo_log.specs.Logs.{Lives, IsLeastLive, IsLeastSlot, IsNextLive, IsNextSlot}
 
-abbrev Once : List (Option Transaction) → Type 0
+abbrev pub Once : List (Option Transaction) → Type 0
 Once slots = (i j : ℕ) (t u : Transaction) → get_or slots i None ≡ Some t →
     get_or slots j None ≡ Some u → t.number ≡ u.number → i ≡ j
 
-once_rest : (x : Option Transaction) (rest : List (Option Transaction)) → Once (x ∷ rest) →
+pub once_rest : (x : Option Transaction) (rest : List (Option Transaction)) → Once (x ∷ rest) →
     Once rest
 once_rest x rest once i j t u a b e = let same : suc i ≡ suc j = once (suc i) (suc j) t u a b e in
     omega arith
@@ -124,7 +125,7 @@ from_live s n b h = from_slot s.slots n b h
 
 module _ (old new : Slab Transaction) (once : EachOnce old) (key : ℕ) (t : Transaction)
     (put : Updates old new key (Some t)) where
-  from_put : (k : ℕ) (u : Transaction) → get new k ≡ Some u →
+  pub from_put : (k : ℕ) (u : Transaction) → get new k ≡ Some u →
       ((k ≡ key) × (t ≡ u)) ⊎ ((k ≢ key) × (get old k ≡ Some u))
   from_put k u h =
       ⊎_elim
@@ -179,7 +180,7 @@ module _ (old new : Slab Transaction) (once : EachOnce old) (key : ℕ) (t : Tra
 
 module _ (old new : Slab Transaction) (once : EachOnce old) (key : ℕ) (t : Transaction)
     (there : get old key ≡ Some t) (gone : Updates old new key None) where
-  from_gone : (k : ℕ) (u : Transaction) → get new k ≡ Some u → (k ≢ key) × (get old k ≡ Some u)
+  pub from_gone : (k : ℕ) (u : Transaction) → get new k ≡ Some u → (k ≢ key) × (get old k ≡ Some u)
   from_gone k u h =
       ⊎_elim
       (λ (same : k ≡ key). let none : None ≡ Some u =
@@ -219,72 +220,157 @@ remove_absent m n none = maps.same_map nat_cmp_total maps.nat_cmp-IsAntisymmetri
     (λ (other : q ≡ n → ⊥). sym (get_remove_other m n q other))
     (cases_eq q n))
 
--- the numbers of a map made of entries are those of the entries
-numbered : (es : List (ℕ × Bool)) (n : ℕ) →
-    is_some (maps.get (maps.from_entries {R = nat_cmp} es) n) ≡ true →
-    Contains (map (λ e. e.0) es) n
-numbered [] n h = let none = maps.get-empty {X = Bool} nat_cmp n in
-    let no : is_some (maps.get (maps.empty {X = Bool} {R = nat_cmp}) n) ≡ false = ap is_some none in
-    cc
-numbered (e ∷ es) n h =
-    ⊎_elim
-    (λ (same : n ≡ e.0). subst (Contains (map (λ x. x.0) (e ∷ es))) (sym same)
-    (Contains-append_left (e.0 ∷ []) (map (λ x. x.0) es) e.0 (Contains-push [] e.0)))
-    (λ (other : n ≡ e.0 → ⊥). Contains-append_right (e.0 ∷ []) (map (λ x. x.0) es) n
-    (numbered es n (ap is_some (sym (get_insert_other (maps.from_entries es) e.0 e.1 n other)) ∙
-    h)))
-    (cases_eq n e.0)
-
 only : (x y : ℕ) → Contains (x ∷ []) y → x ≡ y
 only x y h = ⊎_elim (λ none. let lt = none.1 in absurd (omega arith)) (λ same. same)
     (Contains-push_cases [] x y h)
 
-with_status : (es : List (ℕ × Bool)) (n : ℕ) → Contains (map (λ e. e.0) es) n →
-    is_some (maps.get (maps.from_entries {R = nat_cmp} es) n) ≡ true
-with_status [] n h = let lt = h.1 in absurd (omega arith)
-with_status (e ∷ es) n h =
-    ⊎_elim
-    (λ (same : n ≡ e.0). ap is_some (get_insert (maps.from_entries es) e.0 e.1 n same))
-    (λ (other : n ≡ e.0 → ⊥). ap is_some (get_insert_other (maps.from_entries es) e.0 e.1 n other)
-    ∙ with_status es n (⊎_elim (λ first. absurd (other (sym (only e.0 n first)))) (λ later. later)
-    (Contains-append_cases (e.0 ∷ []) (map (λ x. x.0) es) n h)))
-    (cases_eq n e.0)
+pub in_head : {X : Type 0} (x : X) (xs : List X) → Contains (x ∷ xs) x
+in_head x xs = Contains-append_left (x ∷ []) xs x (Contains-push [] x)
 
--- a transaction has room where one entry more fits and it is live
-pub room_given : (len capacity : ℕ) (slots : List (Option Transaction)) (n : ℕ) → len < capacity →
-    is_some (maps.get (live_of slots) n) ≡ true → Contains (rooms_of len capacity slots) n
-unfolding live_of rooms_of
-room_given len capacity slots n fits live =
-    rw (lt-ltb len capacity fits) (numbered (statuses slots) n live)
+-- ---- who has room
 
-pub room_taken : (len capacity : ℕ) (slots : List (Option Transaction)) (n : ℕ) →
-    Contains (rooms_of len capacity slots) n →
-    (len < capacity) × (is_some (maps.get (live_of slots) n) ≡ true)
-unfolding live_of rooms_of
-room_taken len capacity slots n h = by (ltb len capacity) refl h
+-- There is room for one entry more of the transaction.
+abbrev pub Fits : Transaction → Type 0
+Fits t = vec_len t.entries < vec_capacity t.entries
+
+-- who has room is in a slot,
+from_roomy : (slots : List (Option Transaction)) (n : ℕ) → Contains (roomy slots) n →
+    (k : ℕ) × (t : Transaction) × (get_or slots k None ≡ Some t) × (t.number ≡ n) × Fits t
+from_roomy [] n h = let lt = h.1 in absurd (omega arith)
+from_roomy (None ∷ rest) n h = let r = from_roomy rest n h in (suc r.0, r.1, r.2, r.3, r.4)
+from_roomy (Some t ∷ rest) n h =
+    by (ltb (vec_len t.entries) (vec_capacity t.entries)) refl h (from_roomy rest n)
   where
-    by : (b : Bool) → ltb len capacity ≡ b →
-        Contains (cond b (map (λ e. e.0) (statuses slots)) []) n →
-        (len < capacity) × (is_some (maps.get (maps.from_entries {R = nat_cmp} (statuses slots))
-        n) ≡ true)
-    by true e h = (ltb-true len capacity e, with_status (statuses slots) n h)
+    by : (b : Bool) → ltb (vec_len t.entries) (vec_capacity t.entries) ≡ b →
+        Contains (cond b (t.number ∷ roomy rest) (roomy rest)) n →
+        (Contains (roomy rest) n → (k : ℕ) × (u : Transaction) × (get_or rest k None ≡ Some u) ×
+        (u.number ≡ n) × Fits u) →
+        (k : ℕ) × (u : Transaction) × (get_or (Some t ∷ rest) k None ≡ Some u) × (u.number ≡ n) ×
+        Fits u
+    by true e h later =
+        ⊎_elim
+        (λ first. (0, t, refl, only t.number n first, ltb-true _ _ e))
+        (λ behind. let r = later behind in (suc r.0, r.1, r.2, r.3, r.4))
+        (Contains-append_cases (t.number ∷ []) (roomy rest) n h)
+    by false e h later = let r = later h in (suc r.0, r.1, r.2, r.3, r.4)
+
+room_cond : (b : Bool) (m n : ℕ) (ns : List ℕ) → Contains ns n → Contains (cond b (m ∷ ns) ns) n
+room_cond true m n ns h = Contains-append_right (m ∷ []) ns n h
+room_cond false m n ns h = h
+
+-- and the other way round
+to_roomy : (slots : List (Option Transaction)) (k : ℕ) (t : Transaction) →
+    get_or slots k None ≡ Some t → Fits t → Contains (roomy slots) t.number
+to_roomy [] k t h fits = cc
+to_roomy (None ∷ rest) zero t h fits = cc
+to_roomy (None ∷ rest) (suc k) t h fits = to_roomy rest k t h fits
+to_roomy (Some u ∷ rest) zero t h fits =
+    let same = same_value u t h in
+    subst (λ v. Contains (cond (ltb (vec_len u.entries) (vec_capacity u.entries))
+    (u.number ∷ roomy rest) (roomy rest)) v.number) same
+    (rw (lt-ltb (vec_len u.entries) (vec_capacity u.entries) (subst Fits (sym same) fits))
+    (in_head u.number (roomy rest)))
+to_roomy (Some u ∷ rest) (suc k) t h fits =
+    room_cond (ltb (vec_len u.entries) (vec_capacity u.entries)) u.number t.number (roomy rest)
+    (to_roomy rest k t h fits)
+
+-- a transaction has room where one entry more fits in its slot and there is a stamp for it
+pub room_given : (next : ℕ) (s : Slab Transaction) (n k : ℕ) (t : Transaction) →
+    next < 2 ^ 64 - 1 → get s k ≡ Some t → t.number ≡ n → Fits t →
+    Contains (rooms_of next s.slots) n
+unfolding rooms_of
+room_given next s n k t stamp h mine fits =
+    rw (lt-ltb next (2 ^ 64 - 1) stamp)
+    (subst (Contains (roomy s.slots)) mine (to_roomy s.slots k t h fits))
+
+pub room_taken : (next : ℕ) (s : Slab Transaction) (n : ℕ) → Contains (rooms_of next s.slots) n →
+    (next < 2 ^ 64 - 1) × ((k : ℕ) × (t : Transaction) × (get s k ≡ Some t) × (t.number ≡ n) ×
+    Fits t)
+unfolding rooms_of
+room_taken next s n h = by (ltb next (2 ^ 64 - 1)) refl h
+  where
+    by : (b : Bool) → ltb next (2 ^ 64 - 1) ≡ b → Contains (cond b (roomy s.slots) []) n →
+        (next < 2 ^ 64 - 1) × ((k : ℕ) × (t : Transaction) × (get s k ≡ Some t) ×
+        (t.number ≡ n) × Fits t)
+    by true e h = (ltb-true next (2 ^ 64 - 1) e, from_roomy s.slots n h)
     by false e h = let lt = h.1 in absurd (omega arith)
 
--- who is still live keeps its room where none is lost
-pub room_stays : (len capacity len' capacity' : ℕ) (slots slots' : List (Option Transaction)) →
-    (len < capacity → len' < capacity') →
-    (n : ℕ) → is_some (maps.get (live_of slots') n) ≡ true →
-    Contains (rooms_of len capacity slots) n → Contains (rooms_of len' capacity' slots') n
-room_stays len capacity len' capacity' slots slots' more n live had =
-    room_given len' capacity' slots' n (more (room_taken len capacity slots n had).0) live
+-- who is still live keeps its room where none is lost in a slot that is written
+pub room_stays : (next : ℕ) (old new : Slab Transaction) (once : EachOnce old) (key : ℕ)
+    (slot : Option Transaction) → Updates old new key slot →
+    ((t u : Transaction) (k : ℕ) → slot ≡ Some t → get old k ≡ Some u → u.number ≡ t.number →
+    Fits u → Fits t) →
+    (n : ℕ) → is_some (maps.get (live_of new.slots) n) ≡ true →
+    Contains (rooms_of next old.slots) n → Contains (rooms_of next new.slots) n
+room_stays next old new once key slot put more n live had =
+    by (maps.get (live_of new.slots) n) refl live
+  where
+    by : (o : Option Bool) → maps.get (live_of new.slots) n ≡ o → is_some o ≡ true →
+        Contains (rooms_of next new.slots) n
+    by None is live = cc
+    by (Some b) is live =
+        let room = room_taken next old n had in
+        let r = from_live new n b is in
+        let was = room.1 in
+        let number = was.3 ∙ sym r.3 in
+        room_given next new n r.0 r.1 room.0 r.2 r.3
+        (⊎_elim
+        (λ (here : r.0 ≡ key).
+        more r.1 was.1 was.0 (sym put.changed ∙ ap (get new) (sym here) ∙ r.2) was.2 number was.4)
+        (λ (away : r.0 ≡ key → ⊥).
+        let there = sym (put.others r.0 away) ∙ r.2 in
+        let same_key = once was.0 r.0 was.1 r.1 was.2 there number in
+        let same = same_value was.1 r.1 (sym was.2 ∙ ap (get old) same_key ∙ there) in
+        subst Fits same was.4)
+        (cases_eq r.0 key))
+
+-- the slot of a transaction with room has it
+pub room_here : (next : ℕ) (s : Slab Transaction) (once : EachOnce s) (n key : ℕ)
+    (t : Transaction) → get s key ≡ Some t → t.number ≡ n → Contains (rooms_of next s.slots) n →
+    (next < 2 ^ 64 - 1) × Fits t
+room_here next s once n key t there number had =
+    let room = room_taken next s n had in
+    let was = room.1 in
+    let same_key = once was.0 key was.1 t was.2 there (was.3 ∙ sym number) in
+    let same = same_value was.1 t (sym was.2 ∙ ap (get s) same_key ∙ there) in
+    (room.0, subst Fits same was.4)
+
+-- the rooms are the same where a slot's room stays
+same_roomy : (slots : List (Option Transaction)) (k : ℕ) (was now : Transaction) →
+    get_or slots k None ≡ Some was → now.number ≡ was.number →
+    vec_len now.entries ≡ vec_len was.entries →
+    vec_capacity now.entries ≡ vec_capacity was.entries →
+    roomy (set slots k (Some now)) ≡ roomy slots
+same_roomy [] k was now h number len capacity = cc
+same_roomy (None ∷ rest) zero was now h number len capacity = cc
+same_roomy (None ∷ rest) (suc k) was now h number len capacity =
+    same_roomy rest k was now h number len capacity
+same_roomy (Some u ∷ rest) zero was now h number len capacity =
+    let same = same_value u was h in
+    let lens = len ∙ ap (λ t. vec_len t.entries) (sym same) in
+    let capacities = capacity ∙ ap (λ t. vec_capacity t.entries) (sym same) in
+    let numbers = number ∙ ap (λ t. t.number) (sym same) in
+    ap (λ l. cond (ltb l (vec_capacity now.entries)) (now.number ∷ roomy rest) (roomy rest)) lens ∙
+    ap (λ c. cond (ltb (vec_len u.entries) c) (now.number ∷ roomy rest) (roomy rest)) capacities ∙
+    ap (λ m. cond (ltb (vec_len u.entries) (vec_capacity u.entries)) (m ∷ roomy rest)
+    (roomy rest)) numbers
+same_roomy (Some u ∷ rest) (suc k) was now h number len capacity =
+    ap (λ l. cond (ltb (vec_len u.entries) (vec_capacity u.entries)) (u.number ∷ l) l)
+    (same_roomy rest k was now h number len capacity)
+
+pub same_rooms : (next : ℕ) (s : Slab Transaction) (k : ℕ) (was now : Transaction) →
+    get s k ≡ Some was → now.number ≡ was.number → vec_len now.entries ≡ vec_len was.entries →
+    vec_capacity now.entries ≡ vec_capacity was.entries →
+    rooms_of next (set s.slots k (Some now)) ≡ rooms_of next s.slots
+unfolding rooms_of
+same_rooms next s k was now h number len capacity =
+    ap (λ l. cond (ltb next (2 ^ 64 - 1)) l [])
+    (same_roomy s.slots k was now h number len capacity)
 
 -- with no transaction
 pub live_none : (slots : List (Option Transaction)) → slots ≡ [] → live_of slots ≡ maps.empty
 unfolding live_of
 live_none slots e = ap (λ l. maps.from_entries (statuses l)) e
-
-pub in_head : {X : Type 0} (x : X) (xs : List X) → Contains (x ∷ xs) x
-in_head x xs = Contains-append_left (x ∷ []) xs x (Contains-push [] x)
 
 -- a number that is not live is in no slot
 pub not_live_alone : (s : Slab Transaction) → EachOnce s → (n : ℕ) →

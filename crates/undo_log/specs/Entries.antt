@@ -5,6 +5,7 @@ use Rattle.calls.specs.Transactions.{Event, own, calls_of}
 use Rattle.undo_log.specs.declared.logged.Logged.{Logged}
 use Rattle.undo_log.specs.declared.logged.Entry.{Entry}
 use Rattle.undo_log.specs.declared.logged.Entry.TheVariants.{Asked, PutOff}
+use Rattle.undo_log.specs.declared.logged.Stamped.{Stamped}
 use Rattle.undo_log.specs.declared.logged.Owned.{Owned}
 
 -- A call with its reply, as transactions are told.
@@ -16,13 +17,17 @@ abbrev pub entry_of : Entry → transactions.Entry
 entry_of (Asked l) = transactions.Asked (event_of l)
 entry_of (PutOff l) = transactions.PutOff l.at l.call
 
+-- The same of one with a stamp.
+abbrev pub stamped_entry : Stamped → transactions.Entry
+stamped_entry s = entry_of s.entry
+
 -- The same with the number of its transaction.
 abbrev pub owned_entry : Owned → ℕ × transactions.Entry
-owned_entry o = (o.owner, entry_of o.entry)
+owned_entry o = (o.owner, entry_of o.entry.now)
 
--- It is a call that the transaction asked for.
-abbrev pub IsCallOf : ℕ → Owned → Type 0
-IsCallOf n o = (l : Logged) × (o ≡ record { owner = n; entry = Asked l })
+-- It is a call that was asked for, and not one that was put off.
+abbrev pub IsCall : Stamped → Type 0
+IsCall s = (l : Logged) × (s.entry ≡ Asked l)
 
 -- No call of the transaction is among the entries.
 abbrev pub HasNoCall : ℕ → List (ℕ × transactions.Entry) → Type 0
@@ -41,7 +46,7 @@ pub record IsNewestCall (n : ℕ) (es : List (ℕ × transactions.Entry)) (x : E
 abbrev pub HasNewestCall : ℕ → List (ℕ × transactions.Entry) → Event → Type 0
 HasNewestCall n es x = (rest : List (ℕ × transactions.Entry)) × IsNewestCall n es x rest
 
--- The newest call of the transaction stands at the place: no call of it comes behind.
-abbrev pub IsNewestPlace : ℕ → List Owned → ℕ → Type 0
-IsNewestPlace n os i = (l : Logged) × (rest : List Owned) ×
-    (drop i os ≡ record { owner = n; entry = Asked l } ∷ rest) × HasNoCall n (map owned_entry rest)
+-- The newest call of one transaction's entries stands at the place: no call comes behind.
+abbrev pub IsNewestPlace : List Stamped → ℕ → Type 0
+IsNewestPlace ss i = (s : Stamped) × (rest : List Stamped) × (drop i ss ≡ s ∷ rest) × IsCall s ×
+    (calls_of (map stamped_entry rest) ≡ [])

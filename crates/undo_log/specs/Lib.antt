@@ -1,3 +1,3 @@
-pub mod Counts
 pub mod Entries
 pub mod Logs
+pub mod Stamps

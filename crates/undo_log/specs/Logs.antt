@@ -1,6 +1,6 @@
 -- The live transactions, which of them are falling, and what they asked for.
 use Rattle.std.specs.Prelude.{◌≡◌, ℕ, ◌<◌, ◌≤◌, Bool, true, IsTrue, Option, Some, None, List, []}
-use Rattle.std.specs.Prelude.{◌∷◌, map, Contains, nat_lt, if◌then◌else◌}
+use Rattle.std.specs.Prelude.{◌∷◌, ◌-◌, ◌^◌, Contains, nat_lt, if◌then◌else◌, vec_len, vec_capacity}
 use Rattle.std.specs.Ordering.{nat_cmp}
 use Rattle.std.specs.FinMap as maps
 use Rattle.slab.specs.Slab.{Slab, get}
@@ -66,9 +66,18 @@ statuses (Some t ∷ rest) = (t.number, t.falling) ∷ statuses rest
 unfoldable pub live_of : List (Option Transaction) → Statuses
 live_of slots = maps.from_entries (statuses slots)
 
--- The numbers in the slots where one entry more fits, and else none.
-unfoldable pub rooms_of : (len capacity : ℕ) → List (Option Transaction) → List ℕ
-rooms_of len capacity slots = if nat_lt len capacity then map (λ s. s.0) (statuses slots) else []
+-- The numbers of the transactions in the slots that have room for one entry more.
+abbrev pub roomy : List (Option Transaction) → List ℕ
+roomy [] = []
+roomy (None ∷ rest) = roomy rest
+roomy (Some t ∷ rest) =
+    if nat_lt (vec_len t.entries) (vec_capacity t.entries)
+    then t.number ∷ roomy rest
+    else roomy rest
+
+-- The same as long as there is a stamp for it, and else none.
+unfoldable pub rooms_of : (next : ℕ) → List (Option Transaction) → List ℕ
+rooms_of next slots = if nat_lt next (2 ^ 64 - 1) then roomy slots else []
 
 -- No two slots have one number.
 abbrev pub EachOnce : Slab Transaction → Type 0

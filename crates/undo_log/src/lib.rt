@@ -6,4 +6,4 @@ mod live;
 mod logged;
 
 pub use live::Live;
-pub use logged::{Entry, Later, Logged, Owned};
+pub use logged::{Entry, Later, Logged, Owned, Stamped};

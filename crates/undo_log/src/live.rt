@@ -1,51 +1,58 @@
 // The live transactions in the slots of a slab, and a plain list of what they asked for.
-ghost use Rattle.std.specs.Prelude.{◌≡◌, ◌↔◌, ◌≤◌, ℕ, List, [], ◌∷◌, ◌++◌, Some, false, min};
-ghost use Rattle.std.specs.Prelude.{IsTrue, IsOk, IsOkUnless, IfSome, IfNone, OnOk, OnErr, length};
-ghost use Rattle.std.specs.Prelude.{map, ◌<◌, ◌+◌, ◌-◌, ◌^◌};
+ghost use Rattle.std.specs.Prelude.{◌≡◌, ◌↔◌, ◌≤◌, ℕ, List, [], ◌∷◌, ◌++◌, Some, false, min, map};
+ghost use Rattle.std.specs.Prelude.{IsTrue, IsOk, IsOkUnless, IfSome, IfNone, IfOk, OnOk, OnErr};
+ghost use Rattle.std.specs.Prelude.{length};
 ghost use Rattle.std.specs.FinMap as maps;
 ghost use Rattle.std.specs.Option.{option_map_or};
 ghost use Rattle.slab.specs.Slab.{get};
 ghost use Rattle.calls.specs.Transactions as transactions;
-ghost use Rattle.calls.specs.Transactions.{own, others, Asked, PutOff};
-ghost use Rattle.undo_log.specs.Entries.{event_of, entry_of, owned_entry, HasNoCall, HasNewestCall};
-ghost use Rattle.undo_log.specs.Entries.{IsNewestCall, IsNewestPlace};
+ghost use Rattle.calls.specs.Transactions.{own, others, Asked, PutOff, calls_of};
+ghost use Rattle.undo_log.specs.Entries.{event_of, entry_of, stamped_entry, owned_entry, HasNoCall};
+ghost use Rattle.undo_log.specs.Entries.{HasNewestCall, IsNewestCall, IsNewestPlace};
 ghost use Rattle.undo_log.specs.Logs.{Log, IsLive, IsFalling, HasRoom, KeepsRoom, fallen, live_of};
 ghost use Rattle.undo_log.specs.Logs.{EachOnce, IsSlotOf, IsLeastLive, IsLeastSlot, IsNextLive};
 ghost use Rattle.undo_log.specs.Logs.{IsNextSlot, Lives};
-ghost use Rattle.undo_log.specs.Counts.{IsRecounted};
+ghost use Rattle.undo_log.specs.Stamps.{marks, mark_of};
 ghost use Rattle.undo_log.specs.declared.live.Transaction.{Transaction};
 
-use crate::{Entry, Later, Logged, Owned};
+use crate::{Entry, Later, Logged, Owned, Stamped};
 use calls::Refusal;
 use slab::Slab;
 use std::alloc::Global;
 use std::marker::Model;
-use std::slice::Iter;
 
-/// A live transaction, with the count of its entries.
-#[derive(Clone, Copy)]
+/// A live transaction, with what it asked for and did not undo, in the order asked.
+#[derive(Drop)]
 struct Transaction {
     number: u64,
     falling: bool,
-    calls: usize,
+    entries: Vec<Stamped>,
 }
 
 /// The live transactions. Contracts see which numbers are live and which of them are falling; what
 /// they asked for and did not undo, in the order asked; and which have room for one entry more.
+///
+/// Each transaction has its own entries, and each entry a stamp that tells its place in the order
+/// asked. So what a call costs does not depend on what other transactions asked for, but for
+/// `in_order`. A search is one look at each slot: there are as many as transactions were live at
+/// one time.
 #[derive(Drop)]
 pub struct Live {
+    alloc: Global,
     slots: Slab<Transaction>,
-    entries: Vec<Owned>,
+    // the stamp of the next entry
+    next: u64,
+    // how many entries there are
+    count: usize,
 }
 
 impl Model for Live {
-    ghost use Rattle.std.specs.Prelude.{map, vec_len, vec_capacity};
+    ghost use Rattle.std.specs.Prelude.{map};
     ghost use Rattle.std.specs.FinMap as maps;
     ghost use Rattle.std.specs.Ordering.{nat_cmp};
     ghost use Rattle.std.specs.Coded.{codes, coded_ℕ, coded_bool};
-    ghost use Rattle.undo_log.specs.Entries.{owned_entry};
     ghost use Rattle.undo_log.specs.Logs.{Log, live_of, rooms_of, EachOnce};
-    ghost use Rattle.undo_log.specs.Counts.{IsCounted};
+    ghost use Rattle.undo_log.specs.Stamps.{merged, AreStamped};
 
     ghost Value = { Log };
 
@@ -53,12 +60,11 @@ impl Model for Live {
 
     ghost view = { λ log. record {
       live = live_of log.slots.slots;
-      entries = map owned_entry log.entries.items;
-      rooms = rooms_of (vec_len log.entries) (vec_capacity log.entries) log.slots.slots;
+      entries = map (λ m. m.1) (merged log.slots.slots);
+      rooms = rooms_of log.next log.slots.slots;
     } };
 
-    ghost invariant = { λ log.
-        EachOnce log.slots × IsCounted log.slots (map owned_entry log.entries.items) };
+    ghost invariant = { λ log. EachOnce log.slots × AreStamped log.slots log.next log.count };
 }
 
 impl Live {
@@ -68,19 +74,21 @@ impl Live {
         ensures entries { result.entries ≡ [] }
     {
         Self {
+            alloc,
             slots: Slab::new(alloc),
-            entries: Vec::new(alloc),
+            next: 0,
+            count: 0,
         }
     }
 
-    /// How many transactions are live.
+    /// How many transactions are live. The count is kept.
     pub fn count_live(&self) -> usize
         ensures { result ≡ maps.len self.now.live }
     {
         self.slots.len()
     }
 
-    /// The least number that is live. It takes no memory.
+    /// The least number that is live. One search; it takes no memory.
     pub fn least(&self) -> Option<u64>
         ensures found { IfSome result (IsLeastLive self.now.live) }
         ensures none { IfNone result (self.now.live ≡ maps.empty) }
@@ -88,7 +96,7 @@ impl Live {
         least_of(&self.slots)
     }
 
-    /// The least number above another that is live. It takes no memory.
+    /// The least number above another that is live. One search; it takes no memory.
     pub fn next_live(&self, after: u64) -> Option<u64>
         ensures found { IfSome result (IsNextLive self.now.live after) }
         ensures none { IfNone result ((n : ℕ) → Lives self.now.live n → n ≤ after) }
@@ -96,14 +104,14 @@ impl Live {
         next_of(&self.slots, after)
     }
 
-    /// Whether the transaction is live.
+    /// Whether the transaction is live. One search.
     pub fn is_live(&self, number: u64) -> bool
         ensures { IsTrue result ↔ IsLive self.now number }
     {
         matches!(slot_of(&self.slots, number), Some(_))
     }
 
-    /// Whether the transaction is live and falling.
+    /// Whether the transaction is live and falling. One search.
     pub fn is_falling(&self, number: u64) -> bool
         ensures { IsTrue result ↔ IsFalling self.now number }
     {
@@ -113,26 +121,33 @@ impl Live {
         }
     }
 
-    /// How many calls and laters there are, of all transactions together.
+    /// How many calls and laters there are, of all transactions together. The count is kept.
     pub fn len(&self) -> usize
         ensures { result ≡ length self.now.entries }
     {
-        self.entries.len()
+        self.count
     }
 
-    /// How many calls and laters of the transaction there are together. The count is kept with the
-    /// transaction.
-    pub fn count(&self, number: u64) -> usize
-        ensures { result ≡ length (own number self.now.entries) }
+    /// What the transaction asked for and did not undo, in the order asked: nothing where it is not
+    /// live. One search.
+    pub fn entries_of(&self, number: u64) -> &[Stamped]
+        ensures { map stamped_entry result.now ≡ own number self.now.entries }
     {
         match slot_of(&self.slots, number) {
-            Some(key) => self.slots[key].calls,
-            None => 0,
+            Some(key) => &self.slots[key].entries,
+            None => &[],
         }
     }
 
+    /// How many calls and laters of the transaction there are together. One search.
+    pub fn count(&self, number: u64) -> usize
+        ensures { result ≡ length (own number self.now.entries) }
+    {
+        self.entries_of(number).len()
+    }
+
     /// Makes the transaction live and running, with nothing asked for. NoMemory leaves all as
-    /// before.
+    /// before. It takes a slot, and moves the others where there is room for no more.
     pub fn enter(&mut self, number: u64) -> Result<(), Refusal>
         requires { IsLive self.old number → ⊥ }
         ensures live { OnOk result (self.new.live ≡ maps.insert self.old.live number false) }
@@ -144,13 +159,14 @@ impl Live {
         self.slots.insert(Transaction {
             number,
             falling: false,
-            calls: 0,
+            entries: Vec::new(self.alloc),
         })?;
         Ok(())
     }
 
     /// Makes room for one more entry of the transaction, if it is live. NoMemory, which leaves all
-    /// as before, only where it had no room.
+    /// as before, only where it had no room: where there is no memory, or no stamp is left of 2^64.
+    /// One search; where there is no room, the transaction's entries move.
     pub fn reserve(&mut self, number: u64) -> Result<(), Refusal>
         ensures room { OnOk result (IsLive self.old number → HasRoom self.new number) }
         ensures rooms { KeepsRoom self.old self.new }
@@ -160,7 +176,13 @@ impl Live {
         ensures succeeds { HasRoom self.old number → IsOk result }
         ensures unchanged { OnErr result (self.new ≡ self.old) }
     {
-        Ok(self.entries.reserve(1)?)
+        if self.next == u64::MAX {
+            return Err(Refusal::NoMemory);
+        }
+        if let Some(key) = slot_of(&self.slots, number) {
+            self.slots[key].entries.reserve(1)?;
+        }
+        Ok(())
     }
 
     // Notes the entry of the transaction as the newest one.
@@ -170,14 +192,18 @@ impl Live {
         ensures entries { self.new.entries ≡ self.old.entries ++ (number, entry_of entry) ∷ [] }
         ensures live { self.new.live ≡ self.old.live }
     {
-        count_up(&mut self.slots, number);
-        self.entries.push_reserved(Owned {
-            owner: number,
-            entry,
-        });
+        let Some(key) = slot_of(&self.slots, number) else {
+            unreachable!();
+        };
+        let stamp = self.next;
+        self.slots[key]
+            .entries
+            .push_reserved(Stamped { stamp, entry });
+        self.next += 1;
+        self.count += 1;
     }
 
-    /// Notes a call of the transaction as the newest entry. It takes no memory.
+    /// Notes a call of the transaction as the newest entry. One search; it takes no memory.
     pub fn push_call(&mut self, number: u64, logged: Logged)
         requires live { IsLive self.old number }
         requires room { HasRoom self.old number }
@@ -188,8 +214,8 @@ impl Live {
         self.push(number, Entry::Asked(logged));
     }
 
-    /// Notes a call that the transaction puts off to its commit as the newest entry. It takes no
-    /// memory.
+    /// Notes a call that the transaction puts off to its commit as the newest entry. One search; it
+    /// takes no memory.
     pub fn push_later(&mut self, number: u64, later: Later)
         requires live { IsLive self.old number }
         requires room { HasRoom self.old number }
@@ -200,30 +226,24 @@ impl Live {
         self.push(number, Entry::PutOff(later));
     }
 
-    /// The newest call of the transaction, those that it put off not counted.
-    ///
-    /// Without an entry of the transaction it looks only at the slots. Else it walks the entries of
-    /// all from the newest on.
+    /// The newest call of the transaction, those that it put off not counted. One search, and a
+    /// look at what the transaction put off since that call.
     pub fn newest(&self, number: u64) -> Option<&Logged>
         ensures found { IfSome result (λ logged. HasNewestCall number self.now.entries
             (event_of logged.now)) }
         ensures none { IfNone result (HasNoCall number self.now.entries) }
     {
-        if self.count(number) == 0 {
-            return None;
-        }
-        let place = newest_place(&self.entries, number)?;
-        match &self.entries[place].entry {
+        let entries = self.entries_of(number);
+        let place = newest_place(entries)?;
+        match &entries[place].entry {
             Entry::Asked(logged) => Some(logged),
             Entry::PutOff(_) => unreachable!(),
         }
     }
 
     /// Takes the newest call of the transaction out; the other entries stay in their order. Nothing
-    /// changes where it has no call.
-    ///
-    /// Without an entry of the transaction it looks only at the slots. Else it walks the entries of
-    /// all from the newest on, and moves up all that are newer.
+    /// changes where it has no call. One search, and what the transaction put off since that call
+    /// moves.
     pub fn pop(&mut self, number: u64) -> Option<Logged>
         ensures found { IfSome result (λ logged. IsNewestCall number self.old.entries
             (event_of logged) self.new.entries) }
@@ -232,19 +252,18 @@ impl Live {
         ensures live { self.new.live ≡ self.old.live }
         ensures rooms { KeepsRoom self.old self.new }
     {
-        if self.count(number) == 0 {
-            return None;
-        }
-        let place = newest_place(&self.entries, number)?;
-        count_down(&mut self.slots, number);
-        let Owned { owner: _, entry } = self.entries.remove(place);
+        let key = slot_of(&self.slots, number)?;
+        let place = newest_place(&self.slots[key].entries)?;
+        let Stamped { entry, .. } = self.slots[key].entries.remove(place);
+        self.count -= 1;
         match entry {
             Entry::Asked(logged) => Some(logged),
             Entry::PutOff(_) => unreachable!(),
         }
     }
 
-    /// Makes the transaction falling, from now on. Nothing changes where it is not live.
+    /// Makes the transaction falling, from now on. Nothing changes where it is not live. One
+    /// search.
     pub fn fall(&mut self, number: u64)
         ensures live { self.new.live ≡ fallen self.old.live number }
         ensures entries { self.new.entries ≡ self.old.entries }
@@ -255,23 +274,50 @@ impl Live {
         }
     }
 
-    /// Takes the transaction with all its entries out; the other entries stay in their order.
+    /// Takes the transaction with all its entries out; the other entries stay in their order. One
+    /// search, and what the transaction asked for is let go.
     pub fn remove(&mut self, number: u64)
         ensures live { self.new.live ≡ maps.remove self.old.live number }
         ensures entries { self.new.entries ≡ others number self.old.entries }
         ensures rooms { KeepsRoom self.old self.new }
     {
-        clear_slot(&mut self.slots, number);
-        self.entries.retain(|owned| owned.owner != number);
+        if let Some(freed) = slot_of(&self.slots, number) {
+            let gone = self.slots.remove(freed);
+            self.count -= gone.entries.len();
+        }
     }
 
-    /// All entries, each with the number of its transaction, in the order asked. It takes no
-    /// memory.
-    pub fn in_order(&self) -> Iter<'_, Owned>
-        ensures { map owned_entry result.rest.now ≡ self.now.entries }
+    /// All entries, each with the number of its transaction, in the order asked. It takes memory
+    /// for a reference to each, and sorts these by their stamps.
+    ///
+    /// NoMemory.
+    pub fn in_order(&self) -> Result<Vec<Owned<'_>>, Refusal>
+        ensures ok { IfOk result (λ all. map owned_entry all.items ≡ self.now.entries) }
+        ensures refusal { IsOkUnless result Refusal.NoMemory }
     {
-        self.entries.iter()
+        let mut all = Vec::with_capacity(self.alloc, self.count)?;
+        for (_, transaction) in self.slots.iter() {
+            push_all(&mut all, transaction)?;
+        }
+        all.sort_unstable_by_key(|owned| owned.stamp);
+        Ok(all)
     }
+}
+
+// Lists what the transaction asked for behind the others.
+fn push_all<'a>(all: &mut Vec<Owned<'a>>, transaction: &'a Transaction) -> Result<(), Refusal>
+    ensures told { OnOk result (map mark_of all.new.items ≡ map mark_of all.old.items ++
+        marks transaction.now) }
+    ensures refusal { IsOkUnless result Refusal.NoMemory }
+{
+    for stamped in &transaction.entries {
+        all.push(Owned {
+            owner: transaction.number,
+            stamp: stamped.stamp,
+            entry: &stamped.entry,
+        })?;
+    }
+    Ok(())
 }
 
 // The slot of a transaction's number.
@@ -324,54 +370,15 @@ fn lesser(least: Option<u64>, number: u64) -> u64
     }
 }
 
-// Makes the slot of a transaction's number free, if there is one.
-fn clear_slot(slots: &mut Slab<Transaction>, number: u64)
-    requires { EachOnce slots.old }
-    ensures once { EachOnce slots.new }
-    ensures live { live_of slots.new.slots ≡ maps.remove (live_of slots.old.slots) number }
-    ensures others { (key : ℕ) (t : Transaction) → get slots.new key ≡ Some t →
-        get slots.old key ≡ Some t }
-{
-    if let Some(key) = slot_of(slots, number) {
-        let _gone = slots.remove(key);
-    }
-}
-
-// Counts one entry more of a transaction.
-fn count_up(slots: &mut Slab<Transaction>, number: u64)
-    requires live { Lives (live_of slots.old.slots) number }
-    requires fits { (key : ℕ) (t : Transaction) → get slots.old key ≡ Some t →
-        t.calls < 2 ^ 64 - 1 }
-    ensures { IsRecounted slots.old slots.new number (λ calls. calls + 1) }
-{
-    let Some(key) = slot_of(slots, number) else {
-        unreachable!();
-    };
-    slots[key].calls += 1;
-}
-
-// Counts one entry less of a transaction.
-fn count_down(slots: &mut Slab<Transaction>, number: u64)
-    requires live { Lives (live_of slots.old.slots) number }
-    requires some { (key : ℕ) (t : Transaction) → get slots.old key ≡ Some t → t.number ≡ number →
-        0 < t.calls }
-    ensures { IsRecounted slots.old slots.new number (λ calls. calls - 1) }
-{
-    let Some(key) = slot_of(slots, number) else {
-        unreachable!();
-    };
-    slots[key].calls -= 1;
-}
-
-// Where the newest call of a transaction stands.
-fn newest_place(entries: &[Owned], number: u64) -> Option<usize>
-    ensures found { IfSome result (IsNewestPlace number entries.now) }
-    ensures none { IfNone result (HasNoCall number (map owned_entry entries.now)) }
+// Where the newest call of a transaction's entries stands.
+fn newest_place(entries: &[Stamped]) -> Option<usize>
+    ensures found { IfSome result (IsNewestPlace entries.now) }
+    ensures none { IfNone result (calls_of (map stamped_entry entries.now) ≡ []) }
 {
     let mut place = entries.len();
     while place > 0 {
         place -= 1;
-        if entries[place].is_call_of(number) {
+        if entries[place].is_call() {
             return Some(place);
         }
     }

@@ -1,6 +1,6 @@
 // What a live transaction asked for.
 ghost use Rattle.std.specs.Prelude.{◌↔◌, IsTrue};
-ghost use Rattle.undo_log.specs.Entries.{IsCallOf};
+ghost use Rattle.undo_log.specs.Entries.{IsCall};
 
 use calls::{Call, Reply};
 
@@ -26,18 +26,27 @@ pub enum Entry {
     PutOff(Later),
 }
 
-/// What a transaction asked for, with the transaction's number.
+/// What a transaction asked for, with its stamp: stamps rise in the order asked, over all
+/// transactions.
 #[derive(Drop)]
-pub struct Owned {
-    pub owner: u64,
+pub struct Stamped {
+    pub(crate) stamp: u64,
     pub entry: Entry,
 }
 
-impl Owned {
-    // Whether it is a call that the transaction asked for, and not one that it put off.
-    pub(crate) fn is_call_of(&self, number: u64) -> bool
-        ensures { IsTrue result ↔ IsCallOf number self.now }
+impl Stamped {
+    // Whether it is a call, and not one that was put off.
+    pub(crate) fn is_call(&self) -> bool
+        ensures { IsTrue result ↔ IsCall self.now }
     {
-        self.owner == number && matches!(self.entry, Entry::Asked(_))
+        matches!(self.entry, Entry::Asked(_))
     }
+}
+
+/// What a transaction asked for, with the transaction's number.
+#[derive(Clone, Copy)]
+pub struct Owned<'a> {
+    pub owner: u64,
+    pub(crate) stamp: u64,
+    pub entry: &'a Entry,
 }

@@ -15,7 +15,8 @@ IsGood e = IsNumber e.0 × IsAskedEntry e.1
 pub loop-owned-init : goal.loop-owned-init
 loop-owned-init c = logged_none (live_record c.args.live.now.live) IsGood c.args.packer.now _
     (subst (AllByRecursion IsGood) (sym
-    (ap (map owned_entry) c.as_slice-entries.ensures.value ∙ c.in_order.ensures)) c.requires)
+    (ap (map owned_entry) c.deref-owned-items.ensures.value ∙ c.in_ok-entries.ensures.ok))
+    c.requires)
 
 pub push_entry-requires : goal.push_entry-requires
 push_entry-requires c = logged_this (live_record c.args.live.now.live) IsGood c.args.packer.now _
@@ -33,6 +34,6 @@ pub returns-clause-told : goal.returns-clause-told
 returns-clause-told c =
     let one = live_record c.args.live.now.live in
     subst (λ es. Writes c.args.packer.now c.loop-owned.packer (λ rs. rs ≡ flat_map one es))
-    (ap (map owned_entry) c.as_slice-entries.ensures.value ∙ c.in_order.ensures)
+    (ap (map owned_entry) c.deref-owned-items.ensures.value ∙ c.in_ok-entries.ensures.ok)
     (logged_all one IsGood c.args.packer.now _ c.loop-owned.packer c.loop-owned.owned-index
     c.loop-owned.invariant c.loop-owned-test.false)

@@ -6,4 +6,4 @@ use Rattle.images.proofs.freezing.push_entries.Given as goal
 
 abbrev pub invariant-loop-owned : goal.invariant-loop-owned
 invariant-loop-owned l = AreLogged (live_record l.live.live) (λ e. IsNumber e.0 × IsAskedEntry e.1)
-    l.initial.packer l.packer l.entries l.owned-index
+    l.initial.packer l.packer l.owned-items l.owned-index

@@ -1,54 +1,42 @@
 use Rattle.std.proofs.Common.{arith}
-use Rattle.machine.proofs.PutOffRuns.{running_first, running_other, running_can, running_fits}
-use Rattle.machine.proofs.PutOffRuns.{running_mine, running_end}
+use Rattle.machine.proofs.PutOffRuns.{running_first, running_can, running_fits, running_more}
+use Rattle.machine.proofs.PutOffRuns.{running_end}
 use Rattle.machine.proofs.laters.run_laters.Goals as goal
-use Rattle.machine.proofs.laters.run_laters.Goals.{then-owned-number, else-owned-number}
 
-pub loop-owned-init : goal.loop-owned-init
-loop-owned-init g c = running_first g.B.Boosted.meaning g.met.B.Boosted.laws c.args.number
-    c.args.entries.now c.args.parts.now c.requires.can
+pub loop-stamped-init : goal.loop-stamped-init
+loop-stamped-init g c = running_first g.B.Boosted.meaning g.met.B.Boosted.laws c.args.entries.now
+    c.args.parts.now c.requires.can
 
 pub run_put_off-count-requires : goal.run_put_off-count-requires
 run_put_off-count-requires g c = record {
-  can = running_can g.B.Boosted.meaning g.met.B.Boosted.laws c.args.number c.args.entries.now
-      c.args.parts.now c.loop-owned.owned-index c.owned-item.result c.loop-owned-test.true
-      c.owned-item.is
-      c.loop-owned.parts c.loop-owned.count c.loop-owned.invariant c.if-owned-number.true;
+  can = running_can g.B.Boosted.meaning g.met.B.Boosted.laws c.args.entries.now c.args.parts.now
+      c.loop-stamped.stamped-index c.stamped-item.result c.loop-stamped-test.true c.stamped-item.is
+      c.loop-stamped.parts c.loop-stamped.count c.loop-stamped.invariant;
 }
 
 pub overflow_add-count : goal.overflow_add-count
 overflow_add-count g c =
-    let fits = running_fits g.B.Boosted.meaning g.met.B.Boosted.laws c.args.number
-    c.args.entries.now c.args.parts.now c.loop-owned.owned-index c.owned-item.result
-    c.loop-owned-test.true c.owned-item.is
-    c.loop-owned.parts c.loop-owned.count c.loop-owned.invariant c.if-owned-number.true in
+    let fits = running_fits g.B.Boosted.meaning g.met.B.Boosted.laws c.args.entries.now
+    c.args.parts.now c.loop-stamped.stamped-index c.stamped-item.result c.loop-stamped-test.true
+    c.stamped-item.is c.loop-stamped.parts c.loop-stamped.count c.loop-stamped.invariant in
     let ran = c.run_put_off-count.ensures.count in
     omega arith
 
-pub loop-owned-preserved : goal.loop-owned-preserved
-loop-owned-preserved g c =
-    elim c.if-owned-number.branch [
-      | then-owned-number w ↦ rw (w.parts-is, w.count-is, w.run_put_off-count.ensures.count)
-          (running_mine g.B.Boosted.meaning g.met.B.Boosted.laws c.args.number c.args.entries.now
-          c.args.parts.now c.loop-owned.owned-index c.owned-item.result c.loop-owned-test.true
-          c.owned-item.is
-          c.loop-owned.parts c.loop-owned.count c.loop-owned.invariant w.if-owned-number.true
-          w.run_put_off-count.new.parts w.run_put_off-count.ensures.runs)
-      | else-owned-number w ↦ rw (w.parts-is, w.count-is)
-          (running_other g.B.Boosted.meaning g.met.B.Boosted.laws c.args.number c.args.entries.now
-          c.args.parts.now c.loop-owned.owned-index c.owned-item.result c.loop-owned-test.true
-          c.owned-item.is
-          c.loop-owned.parts c.loop-owned.count c.loop-owned.invariant w.if-owned-number.false)
-    ]
+pub loop-stamped-preserved : goal.loop-stamped-preserved
+loop-stamped-preserved g c = rw c.run_put_off-count.ensures.count
+    (running_more g.B.Boosted.meaning g.met.B.Boosted.laws c.args.entries.now c.args.parts.now
+    c.loop-stamped.stamped-index c.stamped-item.result c.loop-stamped-test.true c.stamped-item.is
+    c.loop-stamped.parts c.loop-stamped.count c.loop-stamped.invariant c.run_put_off-count.new.parts
+    c.run_put_off-count.ensures.runs)
 
 pub returns-clause-runs : goal.returns-clause-runs
 returns-clause-runs g c =
-    (running_end g.B.Boosted.meaning g.met.B.Boosted.laws c.args.number c.args.entries.now
-    c.args.parts.now c.loop-owned.owned-index c.loop-owned.parts c.loop-owned.count
-    (omega (arith, c.loop-owned-test.false)) c.loop-owned.invariant).0
+    (running_end g.B.Boosted.meaning g.met.B.Boosted.laws c.args.entries.now c.args.parts.now
+    c.loop-stamped.stamped-index c.loop-stamped.parts c.loop-stamped.count
+    (omega (arith, c.loop-stamped-test.false)) c.loop-stamped.invariant).0
 
 pub returns-clause-count : goal.returns-clause-count
 returns-clause-count g c =
-    (running_end g.B.Boosted.meaning g.met.B.Boosted.laws c.args.number c.args.entries.now
-    c.args.parts.now c.loop-owned.owned-index c.loop-owned.parts c.loop-owned.count
-    (omega (arith, c.loop-owned-test.false)) c.loop-owned.invariant).1
+    (running_end g.B.Boosted.meaning g.met.B.Boosted.laws c.args.entries.now c.args.parts.now
+    c.loop-stamped.stamped-index c.loop-stamped.parts c.loop-stamped.count
+    (omega (arith, c.loop-stamped-test.false)) c.loop-stamped.invariant).1

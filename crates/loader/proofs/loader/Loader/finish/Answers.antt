@@ -1,12 +1,11 @@
-use Rattle.std.proofs.Common.{sym, ◌∙◌, ap, subst, map, rules}
+use Rattle.std.proofs.Common.{sym, ap, subst, map, rules}
 use Rattle.calls.specs.Transactions.{Leads, calls_of}
-use Rattle.undo_log.specs.Entries.{owned_entry}
 use Rattle.undo_log.specs.Logs.{Log}
 use Rattle.record_format.specs.Short.{AreShort}
 use Rattle.machine.specs.Machine.{Does}
 use Rattle.machine.specs.Machines.{IsUpheld}
 use Rattle.machine.specs.Sound.{IsSound}
-use Rattle.loader.specs.Loading.{calls_in, HasRoomBack, DoneAgain}
+use Rattle.loader.specs.Loading.{HasRoomBack, DoneAgain}
 use Rattle.loader.proofs.Loaded.{room_back, settled_upheld}
 use Rattle.machine.specs.Views.{state_with}
 use Rattle.machine.proofs.BookLaws.{BookLaws, book_laws}
@@ -20,8 +19,7 @@ laws g = book_laws g.met.B.Boosted.laws g.met.B.Parts.laws g.met.B.Coded.told
 
 pub redo-requires : goal.redo-requires
 redo-requires g c =
-    let noted = ap (map owned_entry) c.as_slice.ensures.value ∙ c.in_order.ensures ∙
-    ap (λ log. let l : Log = log in l.entries) c.live.ensures in
+    let noted = ap (λ log. let l : Log = log in l.entries) c.live.ensures in
     subst (λ l. HasRoomBack g.B.Boosted.meaning (calls_of (map (λ e. e.1) l)) c.self.inside.parts)
     (sym noted) (room_back g.B.Boosted.meaning g.B.Parts.making
     (λ s. AreShort (g.B.Coded.collections s)) (laws g) _ c.self.invariant.0)
@@ -29,10 +27,10 @@ redo-requires g c =
 pub of_parts-requires : goal.of_parts-requires
 of_parts-requires g c =
     let i = c.self.inside in
-    let noted = ap (map owned_entry) c.as_slice.ensures.value ∙ c.in_order.ensures ∙
-    ap (λ log. let l : Log = log in l.entries) c.live.ensures in
-    let done = subst (λ b. DoneAgain g.B.Boosted.meaning (calls_in c.as_slice.result.now) b i.parts
-    c.redo.new.parts) c.if-not-branch.false c.in_ok-redo.ensures.ok in
+    let noted = ap (λ log. let l : Log = log in l.entries) c.live.ensures in
+    let done = subst (λ b. DoneAgain g.B.Boosted.meaning
+    (calls_of (map (λ e. e.1) c.live.result.now.entries)) b i.parts c.redo.new.parts)
+    c.if-not-branch.false c.in_ok-redo.ensures.ok in
     let settled = subst (λ l. Leads (Does g.B.Boosted.meaning) (calls_of (map (λ e. e.1) l))
     done.1.0 i.parts) noted done.1.1 in
     subst (λ v. IsUpheld g.B.Boosted.meaning g.B.Parts.making

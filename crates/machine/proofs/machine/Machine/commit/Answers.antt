@@ -1,7 +1,7 @@
 use Rattle.std.proofs.Common.{◌+◌, map, length, sym, ◌∙◌, ap, subst, arith}
 use Rattle.calls.specs.Transactions.{laters_of, own}
 use Rattle.record_format.specs.Short.{AreShort}
-use Rattle.undo_log.specs.Entries.{owned_entry}
+use Rattle.undo_log.specs.Entries.{stamped_entry}
 use Rattle.undo_log.specs.Logs.{Log}
 use Rattle.machine.specs.Machine.{State, IsRunning, CommitRow}
 use Rattle.machine.specs.Machines.{CanRun}
@@ -20,24 +20,24 @@ laws g = book_laws g.met.B.Boosted.laws g.met.B.Parts.laws g.met.B.Coded.told
 
 pub run_laters-ran-requires : goal.run_laters-ran-requires
 run_laters-ran-requires g c =
-    let noted = ap (map owned_entry) c.as_slice-entries.ensures.value ∙ c.in_order.ensures ∙
-    ap (λ log. let l : Log = log in l.entries) c.live.ensures in
+    let noted = c.entries_of-entries.ensures ∙
+    ap (λ log. let l : Log = log in own c.args.number l.entries) c.live.ensures in
     let ready = commit_ready g.B.Boosted.meaning g.B.Parts.making
     (λ s. AreShort (g.B.Coded.collections s)) (laws g) _ c.self.invariant c.args.number
     (subst (λ (s : State _). IsRunning s c.args.number) (sym c.self.view_is) c.requires) in
     record {
-      can = subst (λ es. CanRun g.B.Boosted.meaning (laters_of (own c.args.number es))
-          c.self.inside.parts) (sym noted) ready;
+      can = subst (λ es. CanRun g.B.Boosted.meaning (laters_of es) c.self.inside.parts)
+          (sym noted) ready;
     }
 
 pub overflow_add-self : goal.overflow_add-self
 overflow_add-self g c =
-    let noted = ap (map owned_entry) c.as_slice-entries.ensures.value ∙ c.in_order.ensures ∙
-    ap (λ log. let l : Log = log in l.entries) c.live.ensures in
+    let noted = c.entries_of-entries.ensures ∙
+    ap (λ log. let l : Log = log in own c.args.number l.entries) c.live.ensures in
     let fits = commit_fits g.B.Boosted.meaning g.B.Parts.making
     (λ s. AreShort (g.B.Coded.collections s)) (laws g) _ c.self.invariant c.args.number in
     let ran = c.run_laters-ran.ensures.count ∙
-    ap (λ es. length (laters_of (own c.args.number es))) noted in
+    ap (λ es. length (laters_of es)) noted in
     omega arith
 
 -- the transaction is committed
@@ -47,10 +47,10 @@ step : (g : Over) (c : goal.After-remove g) → let i = c.self.inside in
 step g c =
     let i = c.self.inside in
     committed_row g.B.Boosted.meaning i.parts (needs_of i.ledger) (log_of i.ledger) i.wear
-    c.args.number (map owned_entry c.as_slice-entries.result.now) c.run_laters-ran.new.parts
+    c.args.number (map stamped_entry c.entries_of-entries.result.now) c.run_laters-ran.new.parts
     c.run_laters-ran.result (needs_of c.remove.new.self) (log_of c.remove.new.self)
-    (ap (map owned_entry) c.as_slice-entries.ensures.value ∙ c.in_order.ensures ∙
-    ap (λ log. let l : Log = log in l.entries) c.live.ensures)
+    (c.entries_of-entries.ensures ∙
+    ap (λ log. let l : Log = log in own c.args.number l.entries) c.live.ensures)
     (subst (λ (s : State _). IsRunning s c.args.number) (sym c.self.view_is) c.requires)
     c.run_laters-ran.ensures.runs c.run_laters-ran.ensures.count c.remove.ensures.live
     c.remove.ensures.entries c.remove.ensures.holds

@@ -1,25 +1,22 @@
-use Rattle.std.proofs.lemmas.Grind.{common_steps}
-use Rattle.std.proofs.Common.{subst, map, arith}
-use Rattle.std.specs.List.{remove}
-use Rattle.undo_log.specs.Entries.{owned_entry, event_of, IsNewestCall, IsNewestPlace}
-use Rattle.undo_log.specs.Logs.{Log}
-use Rattle.undo_log.proofs.Newest.{newest_here}
+use Rattle.std.proofs.Common.{subst, ◌∙◌, ap}
+use Rattle.undo_log.specs.Entries.{event_of, HasNewestCall}
+use Rattle.undo_log.proofs.Owns.{newest_of_all, newest_logged, newest_asked}
 use Rattle.undo_log.proofs.live.Live.newest.Goals as goal
 
 pub returns-clause-found : goal.returns-clause-found
 returns-clause-found c =
-    let number = c.args.number in
-    let items = c.self.inside.entries.items in
-    let place = c.in_ok-place.place in
-    let rest = map owned_entry (remove items place) in
-    let found = subst (λ os. IsNewestPlace number os place) c.deref.ensures.value
-    c.in_ok-place.ensures.found in (
-      rest,
-      subst (λ log. let l : Log = log in
-          IsNewestCall number l.entries (event_of c.in-Asked.logged) rest) c.self.view_is
-          (newest_here number items place c.index.result.now c.index.ensures c.in-Asked.logged
-          c.in-Asked.is found),
-    )
+    let ss = c.entries_of-entries.result.now in
+    let i = c.in_ok-place.place in
+    let s = c.index-entries-place.result in
+    let place = c.in_ok-place.ensures.found in
+    let asked = ap (λ v. v.entry) c.index-entries-place.is ∙ c.in-Asked.is in
+    let es = c.args.self.now.entries in
+    subst (λ l. HasNewestCall c.args.number es (event_of l))
+    (newest_logged ss i s c.index-entries-place.is place c.in-Asked.logged asked)
+    (newest_of_all c.args.number es ss i place c.entries_of-entries.ensures)
 
 pub unreachable-requires : goal.unreachable-requires
-unreachable-requires c = grind (arith, common_steps)
+unreachable-requires c =
+    let put_off = ap (λ v. v.entry) c.index-entries-place.is ∙ c.in-PutOff.is in
+    newest_asked c.entries_of-entries.result.now c.in_ok-place.place c.index-entries-place.result
+    c.index-entries-place.is c.in_ok-place.ensures.found c.in-PutOff.field-0 put_off

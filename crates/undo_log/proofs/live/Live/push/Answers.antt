@@ -1,48 +1,83 @@
-use Rattle.std.proofs.Common.{◌∙◌, ◌∷◌, ◌++◌, [], sym, ap, subst, map, arith, vec_len, vec_capacity}
-use Rattle.undo_log.specs.Entries.{owned_entry, entry_of}
-use Rattle.undo_log.specs.Logs.{Log, HasRoom, IsLive}
-use Rattle.undo_log.specs.Counts.{IsCounted}
-use Rattle.undo_log.proofs.Slots.{room_taken}
+use Rattle.std.proofs.Common.{◌∙◌, ◌≡◌, ℕ, ◌<◌, ◌-◌, ◌^◌, ◌∷◌, ◌++◌, [], refl, sym, ap, subst}
+use Rattle.std.proofs.Common.{is_some, arith, Some}
+use Rattle.std.specs.List.{Contains}
 use Rattle.std.proofs.lemmas.List.{map-append}
-use Rattle.undo_log.proofs.Counts.{recounted_once, recounted_live, recounted, counts_fit}
-use Rattle.undo_log.proofs.Owns.{own_pushed, own_pushed_other}
+use Rattle.slab.specs.Slab.{Slab, get}
+use Rattle.undo_log.specs.declared.live.Transaction.{Transaction}
+use Rattle.undo_log.specs.Entries.{entry_of}
+use Rattle.undo_log.specs.Logs.{Log, EachOnce, IsLive, rooms_of}
+use Rattle.undo_log.specs.Stamps.{merged}
+use Rattle.undo_log.proofs.Slots.{Fits, room_here, same_value, absent_live}
+use Rattle.undo_log.proofs.Marks.{told}
+use Rattle.undo_log.proofs.Written.{written_once, written_live, pushed_merged, pushed_stamped}
 use Rattle.undo_log.proofs.live.Live.push.Goals as goal
 
-pub count_up-requires-clause-live : goal.count_up-requires-clause-live
-count_up-requires-clause-live c =
-    subst (λ log. IsLive log c.args.number) (sym c.self.view_is) c.requires.live
+pub unreachable-requires : goal.unreachable-requires
+unreachable-requires c =
+    let absent = absent_live c.self.inside.slots c.args.number c.in_default.ensures.none in
+    let no = sym (ap is_some absent) ∙
+    subst (λ log. IsLive log c.args.number) (sym c.self.view_is) c.requires.live in
+    cc
 
-pub count_up-requires-clause-fits : goal.count_up-requires-clause-fits
-count_up-requires-clause-fits c =
-    let entries = c.self.inside.entries in
-    let n = c.args.number in
-    let slots = c.self.inside.slots.slots in
-    let had = subst (λ log. HasRoom log n) (sym c.self.view_is) c.requires.room in
-    let fits = (room_taken (vec_len entries) (vec_capacity entries) slots n had).0 in
-    counts_fit c.self.inside.slots entries.items c.self.invariant.1 (omega arith)
+-- the slot of a transaction with room has it, and there is a stamp
+room_of : (log : Log) (s : Slab Transaction) (next n key : ℕ) (t u : Transaction) → EachOnce s →
+    get s key ≡ Some t → get s key ≡ Some u → u.number ≡ n → Contains log.rooms n →
+    rooms_of next s.slots ≡ log.rooms → (next < 2 ^ 64 - 1) × Fits t
+room_of log s next n key t u once there found number had rooms =
+    room_here next s once n key t there
+    (ap (λ v. v.number) (same_value t u (sym there ∙ found)) ∙ number)
+    (subst (λ l. Contains l n) (sym rooms) had)
 
 pub push_reserved-requires : goal.push_reserved-requires
 push_reserved-requires c =
-    let entries = c.self.inside.entries in
-    (room_taken (vec_len entries) (vec_capacity entries) c.self.inside.slots.slots c.args.number
-    (subst (λ log. HasRoom log c.args.number) (sym c.self.view_is) c.requires.room)).0
+    let found = c.in-Some.ensures.found in
+    (room_of c.args.self.now c.self.inside.slots c.self.inside.next c.args.number c.in-Some.key
+    c.index_mut.result.now found.0 c.self.invariant.0 c.index_mut.ensures.value found.1 found.2
+    c.requires.room (ap (λ log. let l : Log = log in l.rooms) c.self.view_is)).1
+
+pub overflow_add-self : goal.overflow_add-self
+overflow_add-self c =
+    let found = c.in-Some.ensures.found in
+    let below = (room_of c.args.self.now c.self.inside.slots c.self.inside.next c.args.number
+    c.in-Some.key c.index_mut.result.now found.0 c.self.invariant.0 c.index_mut.ensures.value
+    found.1 found.2 c.requires.room (ap (λ log. let l : Log = log in l.rooms) c.self.view_is)).0 in
+    omega arith
+
+pub overflow_add-self-2 : goal.overflow_add-self-2
+overflow_add-self-2 c =
+    let found = c.in-Some.ensures.found in
+    let below = (room_of c.args.self.now c.self.inside.slots c.self.inside.next c.args.number
+    c.in-Some.key c.index_mut.result.now found.0 c.self.invariant.0 c.index_mut.ensures.value
+    found.1 found.2 c.requires.room (ap (λ log. let l : Log = log in l.rooms) c.self.view_is)).0 in
+    let few = c.self.invariant.1.few in
+    omega arith
 
 pub invariant_of-self : goal.invariant_of-self
-invariant_of-self c =
-    let old = c.self.inside.slots in
-    let new = c.count_up.new.slots in
-    let n = c.args.number in
-    let es = map owned_entry c.self.inside.entries.items in
-    let x = entry_of c.args.entry in
-    let noted = ap (map owned_entry) c.push_reserved.ensures.items
-    ∙ map-append owned_entry c.self.inside.entries.items _ in (
-      recounted_once old new c.self.invariant.0 n _ c.count_up.ensures,
-      subst (IsCounted new) (sym noted)
-          (recounted old new c.self.invariant.0 n _ c.count_up.ensures es (es ++ (n, x) ∷ [])
-          c.self.invariant.1 (own_pushed n x es) (λ m other. own_pushed_other n m x es other)),
-    )
+invariant_of-self c = (
+  written_once c.self.inside.slots c.self.invariant.0 c.in-Some.key c.index_mut.result.now _
+      c.index_mut.ensures.value refl,
+  pushed_stamped c.self.inside.slots c.self.invariant.0 c.in-Some.key c.index_mut.result.now _
+      c.index_mut.ensures.value refl c.self.inside.next c.self.inside.count c.self.invariant.1
+      c.args.entry c.push_reserved.ensures.items,
+)
+
+pub returns-clause-entries : goal.returns-clause-entries
+returns-clause-entries c =
+    let all = merged c.self.inside.slots.slots in
+    let was = c.index_mut.result.now in
+    let there = c.index_mut.ensures.value in
+    let found = c.in-Some.ensures.found in
+    let mine = ap (λ v. v.number) (same_value was found.0 (sym there ∙ found.1)) ∙ found.2 in
+    let e = entry_of c.args.entry in
+    let next = c.self.inside.next in
+    ap told (pushed_merged c.self.inside.slots c.self.invariant.0 c.in-Some.key was _ there refl
+    next c.self.inside.count c.self.invariant.1 c.args.entry c.push_reserved.ensures.items)
+    ∙ map-append (λ m. m.1) all ((next, (was.number, e)) ∷ [])
+    ∙ ap (λ n. told all ++ (n, e) ∷ []) mine
+    ∙ ap (λ log. let l : Log = log in l.entries ++ (c.args.number, e) ∷ []) c.self.view_is
 
 pub returns-clause-live : goal.returns-clause-live
 returns-clause-live c =
-    recounted_live _ c.count_up.new.slots c.self.invariant.0 c.args.number _ c.count_up.ensures
+    written_live c.self.inside.slots c.self.invariant.0 c.in-Some.key c.index_mut.result.now _
+    c.index_mut.ensures.value refl refl
     ∙ ap (λ log. let l : Log = log in l.live) c.self.view_is
