@@ -183,38 +183,38 @@ module _ {D : Type 0} (seen : D → List ℕ) (may_leave : D → List ℕ → Ty
   abbrev opened : State
   opened = resting start wear
 
-  whole : (stands : StandIn start wear [] opened blocks []) × (stands.since ≡ [])
-  whole = stands_whole start wear [] opened blocks opened refl (lags_self opened) opened are_read
-      (lags_self opened)
-
   none_more : blocks ++ [] ≡ blocks
   none_more = append-nil blocks
 
-  pub received_starts : HasReceived seen may_leave start wear [] opened [] [] k
-  received_starts = record {
-    good = tt;
+  -- Nothing was received yet, whatever records there are.
+  pub received_none : (records : List Record) (now : State) →
+      AllByRecursion (IsRecord None) records →
+      (stands : StandIn start wear records now blocks []) → stands.since ≡ records →
+      HasReceived seen may_leave start wear records now [] [] k
+  received_none records now good stands since = record {
+    good = good;
     brought = [];
     parts = ap option_to_list (sym fresh.holds_none);
     groups = [];
     carried = tt;
     last = [];
     held = subst (λ h. Carries 0 0 (option_to_list h) []) (sym fresh.holds_none) tt;
-    rest = [];
+    rest = records;
     begins = refl;
     uncrossed = All-nil _;
     old = blocks;
     covered = [];
-    stands = whole.0;
+    stands = stands;
     source = inl refl;
     kept = [];
-    later = [];
-    split = whole.1;
+    later = records;
+    split = since;
     reaches = omega arith;
     even = λ less. refl;
     covers = fresh.covers_none;
     marked = omega (arith, fresh.unmarked);
     stop = λ c left.
-        row_yields start wear [] opened blocks [] whole.0 tt [] [] whole.1 k.area k.mark c
+        row_yields start wear records now blocks [] stands good [] records since k.area k.mark c
         (omega (arith, fresh.unmarked))
         (head_headed k.area (seen k.disk) c (in_use.head.head_at_rest c left)
         (in_use.head.same_size c left) in_use.head.headed)
@@ -224,3 +224,9 @@ module _ {D : Type 0} (seen : D → List ℕ) (may_leave : D → List ℕ → Ty
     in_use = λ fine. subst (λ bs. IsInUse seen may_leave k.area k.disk bs) (sym none_more) in_use;
     imaging = λ fine l is. none_some l _ (sym fresh.no_image ∙ is);
   }
+
+  pub received_starts : HasReceived seen may_leave start wear [] opened [] [] k
+  received_starts =
+      let whole = stands_whole start wear [] opened blocks opened refl (lags_self opened) opened
+      are_read (lags_self opened) in
+      received_none [] opened tt whole.0 whole.1

@@ -7,6 +7,7 @@ ghost use Rattle.disk_model.specs.Disk.{ReadsOnly, Rises, IsAtRest};
 ghost use Rattle.gate_block.specs.Area.{has_failed};
 ghost use Rattle.checkpoint.specs.Keepers.{IsOneOfTwo, IsFresh};
 ghost use Rattle.repetition.specs.Journals.{StandsFor};
+ghost use Rattle.txn.specs.Books.{opened};
 ghost use Rattle.recovery.specs.Heads.{HasNoHeader};
 ghost use Rattle.undoing.specs.Undoing.{blocks_len};
 ghost use Rattle.recovery.specs.Openings.{IsOpened, IsDamagedAt, HasNoRoom, IsReadyStore};
@@ -50,6 +51,8 @@ fn open_on<D: Disk>(alloc: Global, disk: &mut D) -> Result<(Book<Catalog>, Area)
         o.undoing ≡ [] → ReadsOnly D.seen D.may_leave D.moment D.left_since disk.old disk.new) }
     ensures durable { IfOk result (λ x. D.is_honest disk.new →
         IsAtRest D.seen D.may_leave disk.old → IsAtRest D.seen D.may_leave disk.new) }
+    // Nothing is live or pending in the book, whatever the disk told.
+    ensures rests { IfOk result (λ x. x.0 ≡ opened x.0.state.now x.0.next x.0.state.wear) }
     // Where the area is.
     ensures area { IfOk result (λ x. (has_failed x.1 ≡ false) ×
         IsOneOfTwo x.1 (length (D.seen disk.new))) }
@@ -114,6 +117,7 @@ pub fn open<D: Disk>(alloc: Global, disk: D) -> Result<(Book<Catalog>, Keeper<D>
     ensures untouched { IfOk result
         (λ x. D.is_honest x.1.disk → (o : IsOpened (D.seen disk) x.0 x.1.area (D.seen x.1.disk)) →
         o.undoing ≡ [] → ReadsOnly D.seen D.may_leave D.moment D.left_since disk x.1.disk) }
+    ensures rests { IfOk result (λ x. x.0 ≡ opened x.0.state.now x.0.next x.0.state.wear) }
     ensures fresh { IfOk result (λ x. IsFresh x.1) }
     ensures ready { IfOk result (λ x. D.is_honest x.1.disk → IsAtRest D.seen D.may_leave disk →
         IsReadyStore D.seen D.may_leave (D.seen disk) x.0 x.1.area x.1.disk) }

@@ -32,7 +32,7 @@ use Rattle.txn.specs.Rows.{Standing, opening}
 use Rattle.txn.specs.Books.{BookState, opened, standing, Takes, CutAnswers}
 use Rattle.txn.specs.Freezing.{FreezeAnswers}
 use Rattle.txn.specs.Histories.{acts_of_action, records_of_action, committed_by, records_by}
-use Rattle.txn.specs.Histories.{Row, IsLegal}
+use Rattle.txn.specs.Histories.{CutRow, Row, IsLegal}
 use Rattle.txn.specs.Handing.{IsBetween, IsImageIn, HasHanded}
 use Rattle.txn.proofs.Takings.{taken, cut_taken, freeze_taken, leaves}
 
@@ -237,7 +237,8 @@ module _ {S : Type 0} (meaning : Meaning S ℕ) (making : Making S)
     pub cuts_on : (sends : List Block → Type 0) (full : Type 0) (a : Result Bool Refusal) →
         CutAnswers b sends full a c →
         (count : ℕ) × (bs : List Block) × (gs : List (List Record)) × sends bs ×
-        Handed (steps ++ step (Action.Cut count a) ∷ []) c (handed ++ bs) (groups ++ gs) images
+        Handed (steps ++ step (Action.Cut count a) ∷ []) c (handed ++ bs) (groups ++ gs) images ×
+        CutRow (standing b) count a (standing c)
     cuts_on sends full (Ok true) cut =
         let row = cut_taken meaning making b c sends full (Ok true) cut in
         let hands = cut.0.2 in
@@ -285,17 +286,18 @@ module _ {S : Type 0} (meaning : Meaning S ℕ) (making : Making S)
                 (λ image at. between_cut groups b c cut.0.0 image.end had.end hands cut.0.3
                 (λ f there behind. (cut.0.5 f).1 (there, behind)) at) images had.between;
           },
+          row.1,
         )
     cuts_on sends full (Ok false) cut =
         let row = cut_taken meaning making b c sends full (Ok false) cut in
         let on = stays_on (Action.Cut row.0 (Ok false)) row.1 refl cut.0.2 cut.0.3 cut.0.4
         (λ f there. subst (λ l. Contains l f) (sym cut.0.5) there) in
-        (row.0, [], [], cut.0.1, none_more (Action.Cut row.0 (Ok false)) on)
+        (row.0, [], [], cut.0.1, none_more (Action.Cut row.0 (Ok false)) on, row.1)
     cuts_on sends full (Err Refusal.NotNow) cut =
         let row = cut_taken meaning making b c sends full (Err Refusal.NotNow) cut in
         let on = stays_on (Action.Cut row.0 (Err Refusal.NotNow)) row.1 refl cut.0.2 cut.0.3 cut.0.4
         (λ f there. subst (λ l. Contains l f) (sym cut.0.5) there) in
-        (row.0, [], [], cut.0.1, none_more (Action.Cut row.0 (Err Refusal.NotNow)) on)
+        (row.0, [], [], cut.0.1, none_more (Action.Cut row.0 (Err Refusal.NotNow)) on, row.1)
     cuts_on sends full (Err e) cut = absurd cut.0
 
     -- A freeze: where it answers an image, that is one of the book now.

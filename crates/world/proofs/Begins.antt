@@ -1,18 +1,15 @@
 -- The past of a world begins with the store that was opened.
-use Rattle.std.proofs.Common.{◌≡◌, inl, ℕ, Bool, false, List, [], ◌∷◌, ◌++◌, None, length, map}
+use Rattle.std.proofs.Common.{◌≡◌, ℕ, List, [], ◌∷◌, ◌++◌, None, length}
 use Rattle.std.proofs.Common.{take, refl, sym, ◌∙◌, ap, subst, arith}
-use Rattle.std.specs.Prelude.{Contains, Option, Some, IfSome}
+use Rattle.std.specs.Prelude.{Contains}
 use Rattle.std.specs.List.{AllByRecursion}
 use Rattle.std.specs.FinMap as maps
-use Rattle.std.proofs.lemmas.List.{append-nil}
 use Rattle.abstract_locks.specs.declared.table.Hold.{Hold}
 use Rattle.boosted.proofs.Each.{weaker, each_append}
 use Rattle.undo_log.specs.Logs.{Lives}
 use Rattle.gate_block.specs.declared.area.Area.{Area}
-use Rattle.gate_block.specs.Row.{IsRow}
-use Rattle.gate_block.specs.Area.{bytes_of, IsReady}
 use Rattle.record_format.specs.declared.record.Record.{Record}
-use Rattle.record_format.specs.Records.{spelling, IsRecord, AreRecords}
+use Rattle.record_format.specs.Records.{IsRecord, AreRecords}
 use Rattle.blocks.specs.declared.block.Block.{Block}
 use Rattle.machine.specs.Machines.{resting}
 use Rattle.txn.specs.Books.{opened}
@@ -31,7 +28,6 @@ use Rattle.repetition.specs.Steps.{State}
 use Rattle.repetition.specs.Reading.{Unread, InJournal, Reads, AreAccepted, last_named}
 use Rattle.repetition.specs.Repetitions.{AreRead}
 use Rattle.recovery.specs.Openings.{IsOpened, IsReadyStore}
-use Rattle.repetition.proofs.LagLemmas.{lags_self}
 use Rattle.repetition.proofs.Lists.{leads_append, flat_map-append}
 use Rattle.undoing.proofs.UndoRecords.{blocks_hold}
 use Rattle.repetition.proofs.CatalogLaws.{laws}
@@ -103,7 +99,7 @@ module _ {D : Type 0} (seen : D → List ℕ) (may_leave : D → List ℕ → Ty
   rested = at_rest told.undone (sound_behind (records_in told.blocks) told.next told.state
       told.count told.is_read.accepted told.undoing told.undone told.undo.leads) told.undo.over
 
-  are_read : AreReadTo (told.blocks ++ told.written) (resting told.undone.now told.undone.wear)
+  pub are_read : AreReadTo (told.blocks ++ told.written) (resting told.undone.now told.undone.wear)
   are_read =
       let more = journal_reads told.undoing told.next told.state told.undone told.count
       told.undo.leads in
@@ -133,7 +129,7 @@ module _ {D : Type 0} (seen : D → List ℕ) (may_leave : D → List ℕ → Ty
   headed = outside_headed area bytes (seen disk) told.elsewhere
       (record { header = told.header; picks = sym told.picks })
 
-  in_use : IsInUse seen may_leave area disk (told.blocks ++ told.written)
+  pub in_use : IsInUse seen may_leave area disk (told.blocks ++ told.written)
   in_use = record {
     ready = ready.ready told;
     head = record {

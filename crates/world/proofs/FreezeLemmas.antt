@@ -1,5 +1,5 @@
 -- A freeze: the past of the world goes on, and an image begins that stands for all of its records.
-use Rattle.std.proofs.Common.{◌≡◌, ◌≢◌, ℕ, ◌+◌, ◌≤◌, List, [], ◌∷◌, ◌++◌, length, take, refl, sym}
+use Rattle.std.proofs.Common.{◌≡◌, ◌≢◌, ℕ, ◌≤◌, List, [], ◌∷◌, ◌++◌, length, refl, sym}
 use Rattle.std.proofs.Common.{◌∙◌, ap, subst, arith, append_assoc, length-append, Some, None}
 use Rattle.std.proofs.Common.{Result, Ok, Err}
 use Rattle.std.specs.Prelude.{Vec}
@@ -15,6 +15,7 @@ use Rattle.disk_model.specs.declared.disk.Disk.{Ghosts}
 use Rattle.record_format.specs.declared.record.Record.{Record}
 use Rattle.record_format.specs.Short.{AreShort}
 use Rattle.record_format.specs.Acts.{places}
+use Rattle.blocks.specs.declared.block.Block.{Block}
 use Rattle.blocks.specs.declared.block.Image.{Image}
 use Rattle.blocks.specs.Carried.{Carries}
 use Rattle.blocks.specs.Packings.{joined, AreWhole}
@@ -22,6 +23,7 @@ use Rattle.blocks.proofs.Places.{places_append}
 use Rattle.images.specs.Images.{IsPackedImage}
 use Rattle.machine.specs.Sound.{IsSound}
 use Rattle.txn.specs.declared.steps.Action.{Action}
+use Rattle.txn.specs.declared.steps.BookStep.{BookStep}
 use Rattle.txn.specs.Books.{IsKept}
 use Rattle.txn.specs.Freezing.{FreezeAnswers}
 use Rattle.txn.specs.Histories.{records_by}
@@ -29,8 +31,9 @@ use Rattle.txn.specs.Handing.{HasHanded}
 use Rattle.txn.proofs.Handings.{records_by-push, freezes_on, freezes_image}
 use Rattle.checkpoint.specs.ImageAnswers.{BeginAnswers}
 use Rattle.checkpoint.specs.Keepers.{KeeperState}
-use Rattle.checkpoint.specs.Stored.{AreReadTo, StandIn}
-use Rattle.checkpoint.specs.Keeping.{BegunImage, IsImageFor, HasReceived, BeginKeeps, begun_with}
+use Rattle.checkpoint.specs.Stored.{StandIn}
+use Rattle.checkpoint.specs.Keeping.{BegunImage, IsImageFor, HasReceived, BeginKeeps, LeavesKept}
+use Rattle.checkpoint.specs.Keeping.{begun_with}
 use Rattle.checkpoint.proofs.StandLemmas.{stands_whole}
 use Rattle.checkpoint.proofs.YieldLemmas.{all_lead}
 use Rattle.blocks.proofs.Carrying.{joined-append, carries_parts}
@@ -43,7 +46,7 @@ use Rattle.world.specs.declared.steps.Answer.{Answer}
 use Rattle.world.specs.Pasts.{BookState, Past, action_of, of_no_client, outcome, alone, told}
 use Rattle.world.specs.Worlds.{AreImagesFor, Parts, HasPast}
 use Rattle.world.proofs.PastLemmas.{are_push, greatest_told-push}
-use Rattle.world.proofs.StepLemmas.{alone_step, moments_then, quiet}
+use Rattle.world.proofs.StepLemmas.{alone_step, moments_then}
 use Rattle.world.proofs.KeeperSteps.{Yielded}
 use Rattle.world.proofs.ImageReading.{frozen_reads, accepted_named, repeats_named}
 use Rattle.catalog.specs.Meaning.{catalog_meaning, catalog_making}
@@ -72,11 +75,117 @@ freeze_tells : (r : Result (Unit {0}) Refusal) →
 freeze_tells (Ok done) = refl
 freeze_tells (Err e) = refl
 
-freeze_stays : (b c : BookState) (frozen : Result Image Refusal) →
+-- a freeze leaves the state
+pub freeze_stays : (b c : BookState) (frozen : Result Image Refusal) →
     FreezeAnswers (λ v. v) b frozen c → c.state ≡ b.state
 freeze_stays b c (Ok image) froze = ap (λ (x : BookState). x.state) froze.1
 freeze_stays b c (Err Refusal.NoMemory) froze = ap (λ (x : BookState). x.state) froze
 freeze_stays b c (Err e) froze = absurd froze
+
+-- A book that freezes and a keeper that has received blocks of it: the image stands for all records,
+-- and the keeper may begin it.
+module _ {D : Type 0} (g : Ghosts D) (start : List Collection) (wear : ℕ) (steps : List BookStep)
+    (book : BookState) (received waits : List Block) (groups : List (List Record))
+    (images : List Image) (begun : List BegunImage) (k : KeeperState D)
+    (handed : HasHanded catalog_meaning catalog_making (λ v. v) start wear steps book
+    (received ++ waits) groups images)
+    (keeps : HasReceived g.seen g.may_leave start wear (records_by steps) book.state begun received
+    k) (t : BookState) (image : Image) (froze : FreezeAnswers (λ v. v) book (Ok image) t)
+    (kept : IsKept catalog_meaning catalog_making AreShort (IsSound catalog_meaning catalog_making)
+    book) where
+  -- the names of what the book holds are good
+  names_good : AreNamed book.state.now × AreDistinct (names_of book.state.now)
+  names_good =
+      let stands = keeps.stands in
+      let first = accepted_named (records_in keeps.old) stands.are_read.next stands.base
+      stands.are_read.count stands.are_read.accepted in
+      let last = repeats_named stands.since stands.base stands.state stands.repeats first in
+      subst (λ (v : List Collection). AreNamed v × AreDistinct (names_of v)) stands.lags.now last
+
+  abbrev packed : List (List Record)
+  packed = froze.0.packed.groups
+
+  -- it is read up to a state that lags behind the book's
+  is_read : (s : State) × Leads Reads (joined packed) Unread (InJournal book.next s 0) ×
+      Lags s book.state
+  is_read = frozen_reads book kept names_good.0 names_good.1 image.blocks.items froze.0.packed
+
+  abbrev pub begins : BegunImage
+  begins = record { covered = records_by steps; blocks = packed }
+
+  -- and stands for all records
+  pub stands : StandIn start wear (records_by steps) book.state packed (records_by steps)
+  stands =
+      let old = keeps.stands in
+      (stands_whole start wear (records_by steps) book.state packed old.trail
+      (all_lead start wear (records_by steps) book.state keeps.old keeps.covered old) old.trails
+      is_read.0
+      (record {
+        next = book.next;
+        count = 0;
+        good = froze.0.packed.good;
+        accepted = is_read.1;
+      }) is_read.2).0
+
+  pub is_for : IsImageFor image begins
+  is_for = record {
+    whole = froze.0.packed.whole;
+    end = omega (
+      arith,
+      froze.0.end,
+      handed.end,
+      ap length handed.records,
+      length-append (records_in groups) book.pending,
+    );
+    place = omega (
+      arith,
+      froze.0.place,
+      kept.placed,
+      handed.place,
+      ap places handed.records,
+      places_append (records_in groups) book.pending,
+    );
+  }
+
+  -- what was received carries a beginning of the records
+  pub received_begins : (first : List (List Record)) × Carries 0 0 received first ×
+      IsPrefix (records_in first) (records_by steps)
+  received_begins =
+      let parts = carries_parts 0 0 received waits groups handed.carried in
+      let both = ap records_in parts.2 ∙ joined-append parts.0 parts.1 in (
+        parts.0,
+        parts.3,
+        (
+          records_in parts.1 ++ book.pending,
+          sym (append_assoc (records_in parts.0) (records_in parts.1) book.pending) ∙
+              ap (λ l. l ++ book.pending) (sym both) ∙ sym handed.records,
+        ),
+      )
+
+  -- and the image covers all of it, and all that is in use
+  pub covers_received : length (records_in received_begins.0) ≤ length (records_by steps)
+  covers_received = omega (
+    arith,
+    ap length received_begins.2.1,
+    length-append (records_in received_begins.0) received_begins.2.0,
+  )
+
+  pub covers_use : k.covered ≤ length (records_by steps)
+  covers_use = omega (
+    arith,
+    keeps.covers,
+    ap length keeps.stands.split,
+    length-append keeps.covered keeps.stands.since,
+  )
+
+  pub begins_image : (l : KeeperState D) (r : Result (Unit {0}) Refusal) →
+      BeginKeeps g image r k l →
+      HasReceived g.seen g.may_leave start wear (records_by steps) book.state
+      (begun_with begins begun r) received l
+      × LeavesKept g start (records_by steps) k l
+  begins_image l r may =
+      may start wear (records_by steps) book.state begun received received_begins.0 begins
+      received_begins.1 received_begins.2 is_for stands covers_received covers_use keeps
 
 module _ {D : Type 0} (g : Ghosts D) (start : List Collection) (past : Past) (w : Parts D)
     (had : HasPast g.seen g.may_leave start past w) (t : BookState) where
@@ -132,60 +241,8 @@ module _ {D : Type 0} (g : Ghosts D) (start : List Collection) (past : Past) (w 
   module _ (image : Image) (froze : FreezeAnswers (λ v. v) w.book (Ok image) t)
       (kept : IsKept catalog_meaning catalog_making AreShort
       (IsSound catalog_meaning catalog_making) w.book) where
-    -- the names of what the book holds are good
-    names_good : AreNamed w.book.state.now × AreDistinct (names_of w.book.state.now)
-    names_good =
-        let stands = had.keeps.stands in
-        let first = accepted_named (records_in had.keeps.old) stands.are_read.next stands.base
-        stands.are_read.count stands.are_read.accepted in
-        let last = repeats_named stands.since stands.base stands.state stands.repeats first in
-        subst (λ (v : List Collection). AreNamed v × AreDistinct (names_of v)) stands.lags.now last
-
-    abbrev groups : List (List Record)
-    groups = froze.0.packed.groups
-
-    -- it is read up to a state that lags behind the book's
-    is_read : (s : State) × Leads Reads (joined groups) Unread (InJournal w.book.next s 0) ×
-        Lags s w.book.state
-    is_read = frozen_reads w.book kept names_good.0 names_good.1 image.blocks.items froze.0.packed
-
-    abbrev begins : BegunImage
-    begins = record { covered = records_by had.steps; blocks = groups }
-
-    -- and stands for all records
-    stands : StandIn start had.wear (records_by had.steps) w.book.state groups
-        (records_by had.steps)
-    stands =
-        let old = had.keeps.stands in
-        (stands_whole start had.wear (records_by had.steps) w.book.state groups old.trail
-        (all_lead start had.wear (records_by had.steps) w.book.state had.keeps.old had.keeps.covered
-        old) old.trails is_read.0
-        (record {
-          next = w.book.next;
-          count = 0;
-          good = froze.0.packed.good;
-          accepted = is_read.1;
-        }) is_read.2).0
-
-    is_for : IsImageFor image begins
-    is_for = record {
-      whole = froze.0.packed.whole;
-      end = omega (
-        arith,
-        froze.0.end,
-        had.handed.end,
-        ap length had.handed.records,
-        length-append (records_in had.groups) w.book.pending,
-      );
-      place = omega (
-        arith,
-        froze.0.place,
-        kept.placed,
-        had.handed.place,
-        ap places had.handed.records,
-        places_append (records_in had.groups) w.book.pending,
-      );
-    }
+    abbrev begun_now : BegunImage
+    begun_now = record { covered = records_by had.steps; blocks = froze.0.packed.groups }
 
     pub freeze_past : (l : KeeperState D) (r : Result (Unit {0}) Refusal) →
         BeginKeeps g image r w.keeper l → w.keeper.mark ≡ l.mark →
@@ -193,28 +250,8 @@ module _ {D : Type 0} (g : Ghosts D) (start : List Collection) (past : Past) (w 
         (record w { book = t; keeper = l })
         × Yielded g start past w had (frozen_step r) l
     freeze_past l r keeps mark =
-        let parts = carries_parts 0 0 had.received w.transit had.groups had.handed.carried in
-        let first = parts.0 in
-        let more = parts.1 in
-        let both = ap records_in parts.2 ∙ joined-append first more in
-        let begins_all : IsPrefix (records_in first) (records_by had.steps) = (
-          records_in more ++ w.book.pending,
-          sym (append_assoc (records_in first) (records_in more) w.book.pending) ∙
-              ap (λ l. l ++ w.book.pending) (sym both) ∙ sym had.handed.records,
-        ) in
-        let fewer : length (records_in first) ≤ length (records_by had.steps) = omega (
-          arith,
-          ap length begins_all.1,
-          length-append (records_in first) begins_all.0,
-        ) in
-        let within : w.keeper.covered ≤ length (records_by had.steps) = omega (
-          arith,
-          had.keeps.covers,
-          ap length had.keeps.stands.split,
-          length-append had.keeps.covered had.keeps.stands.since,
-        ) in
-        let on = keeps start had.wear (records_by had.steps) w.book.state had.begun had.received
-        first begins parts.3 begins_all is_for stands fewer within had.keeps in (
+        let on = begins_image g start had.wear had.steps w.book had.received w.transit had.groups
+        had.images had.begun w.keeper had.handed had.keeps t image froze kept l r keeps in (
           begun_past l r mark on.0,
           moments_then g.seen g.may_leave start past w had g.moment g.left_since l.disk
               (frozen_step r) on.1,
@@ -223,15 +260,18 @@ module _ {D : Type 0} (g : Ghosts D) (start : List Collection) (past : Past) (w 
         begun_past : (l : KeeperState D) (r : Result (Unit {0}) Refusal) →
             w.keeper.mark ≡ l.mark →
             HasReceived g.seen g.may_leave start had.wear (records_by had.steps) w.book.state
-            (begun_with begins had.begun r) had.received l →
+            (begun_with begun_now had.begun r) had.received l →
             HasPast g.seen g.may_leave start (past ++ frozen_step r ∷ [])
             (record w { book = t; keeper = l })
         begun_past l (Ok done) mark has =
-            past_on (Ok done) l (image ∷ had.images) (begins ∷ had.begun)
+            past_on (Ok done) l (image ∷ had.images) (begun_now ∷ had.begun)
             (freeze_stays w.book t (Ok image) froze)
             (freezes_image catalog_meaning catalog_making (λ v. v) start had.wear had.steps w.book t
-            (had.received ++ w.transit) had.groups had.images had.handed None (Ok done) image froze)
-            (is_for, had.are_begun) has mark
+            (had.received ++ w.transit) had.groups had.images had.handed None (Ok done) image froze) (
+              is_for g start had.wear had.steps w.book had.received w.transit had.groups had.images
+                  had.begun w.keeper had.handed had.keeps t image froze kept,
+              had.are_begun,
+            ) has mark
         begun_past l (Err e) mark has =
             past_on (Err e) l had.images had.begun (freeze_stays w.book t (Ok image) froze)
             (freezes_on catalog_meaning catalog_making (λ v. v) start had.wear had.steps w.book t

@@ -1,10 +1,9 @@
 -- Steps of the keeper: the past of the world goes on, at each moment of them.
-use Rattle.std.proofs.Common.{◌≡◌, ◌≢◌, ◌⊎◌, inl, inr, ⊎_elim, ℕ, ◌+◌, ◌≤◌, ◌<◌, Bool, Option, Some}
-use Rattle.std.proofs.Common.{None, Result, Ok, Err, List, [], ◌∷◌, ◌++◌, length, take, All, refl}
+use Rattle.std.proofs.Common.{◌≡◌, inl, inr, ⊎_elim, ℕ, ◌+◌, ◌≤◌, Bool, Option, Some}
+use Rattle.std.proofs.Common.{None, Result, Ok, Err, List, [], ◌∷◌, ◌++◌, length, take, refl}
 use Rattle.std.proofs.Common.{sym}
-use Rattle.std.proofs.Common.{◌∙◌, ap, subst, arith, append_assoc, length-append}
+use Rattle.std.proofs.Common.{◌∙◌, ap, subst, arith, append_assoc}
 use Rattle.std.specs.List.{AllByRecursion}
-use Rattle.std.proofs.lemmas.List.{append-nil}
 use Rattle.std.proofs.lemmas.List.Elements.{All-nil, All-cons}
 use mathlib.Core.List.{IsPrefix}
 use Rattle.calls.specs.Contents.{Collection}
@@ -137,7 +136,8 @@ apart_between groups book position end (inl split) =
 apart_between groups book position end (inr behind) =
     apart_behind 0 groups position (omega (arith, end, behind.0))
 
-uncrossed : (groups : List (List Record)) (book : BookState) →
+-- where the ends of images stand between blocks, no block of these crosses one
+pub uncrossed : (groups : List (List Record)) (book : BookState) →
     book.end ≡ length (records_in groups) → (images : List Image) (begun : List BegunImage) →
     AreImagesFor images begun → AllByRecursion (λ image. IsBetween groups book image.end) images →
     Uncrossed begun groups

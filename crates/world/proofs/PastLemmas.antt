@@ -1,19 +1,16 @@
 -- Pasts, the steps of a book in them, and what they have committed.
-use Rattle.std.proofs.Common.{◌≡◌, ℕ, ◌+◌, ◌≤◌, true, Bool, Some, None, Result, Ok, Err, List, []}
-use Rattle.std.proofs.Common.{◌∷◌, ◌++◌, length, map, take, drop, refl, sym, ◌∙◌, ap, subst, arith}
-use Rattle.std.proofs.Common.{append_assoc}
+use Rattle.std.proofs.Common.{◌≡◌, ℕ, ◌≤◌, None, List, []}
+use Rattle.std.proofs.Common.{◌∷◌, ◌++◌, map, take, drop, refl, sym, ◌∙◌, ap, arith}
 use Rattle.std.specs.List.{flat_map}
 use Rattle.std.proofs.lemmas.List.{append-nil, map-append, take-take, take-append-drop}
 use Rattle.std.proofs.lemmas.Grind.{flat_map-append}
 use mathlib.Core.List.{IsPrefix}
 use Rattle.calls.specs.Contents.{Collection}
 use Rattle.calls.specs.Transactions.{Transaction, Act, committed_after, committed}
-use Rattle.calls.specs.declared.refusal.Refusal.{Refusal}
 use Rattle.machine.proofs.RecordRuns.{gathered, committed_append}
-use Rattle.record_format.specs.declared.record.Record.{Record}
 use Rattle.txn.specs.declared.steps.Action.{Action}
 use Rattle.txn.specs.declared.steps.BookStep.{BookStep}
-use Rattle.txn.specs.Histories.{acts_of_action, records_of_action, committed_by, records_by}
+use Rattle.txn.specs.Histories.{acts_of_action, committed_by, records_by}
 use Rattle.txn.specs.Histories.{without_count, uncounted}
 use Rattle.txn.proofs.Handings.{committed_records}
 use Rattle.checkpoint.specs.Crash.{Yields, committed_of}

@@ -1,5 +1,5 @@
 -- One step more of a world: its past goes on.
-use Rattle.std.proofs.Common.{◌≡◌, ◌⊎◌, ⊎_elim, ℕ, ◌≤◌, Bool, true, false, Option, Some, None}
+use Rattle.std.proofs.Common.{◌≡◌, ⊎_elim, ℕ, ◌≤◌, Bool, Option, Some, None}
 use Rattle.std.proofs.Common.{Result, Ok, Err, List, [], ◌∷◌, ◌++◌, length, take, refl, sym, ◌∙◌}
 use Rattle.std.proofs.Common.{ap}
 use Rattle.std.proofs.Common.{subst, arith, append_assoc}
@@ -30,7 +30,7 @@ use Rattle.world.specs.declared.steps.Answer.{Answer}
 use Rattle.world.specs.Pasts.{Past, BookState, action_of, of_no_client, committed_in, told, outcome}
 use Rattle.world.specs.Pasts.{BookTakes, CoreStep}
 use Rattle.world.specs.Worlds.{Parts, HasPast}
-use Rattle.world.proofs.PastLemmas.{are_push, are_still, committed_are, committed_in-append}
+use Rattle.world.proofs.PastLemmas.{are_push, are_still, committed_are}
 use Rattle.world.proofs.PastLemmas.{greatest_told-push, yields_on}
 use Rattle.catalog.specs.Meaning.{catalog_meaning, catalog_making}
 

@@ -1,5 +1,4 @@
 use Rattle.std.proofs.Common.{◌≡◌, ◌<◌, ◌≤◌, ◌+◌, length, List, ap, ◌++◌, [], ◌∙◌, refl, arith, sym}
-use Rattle.calls.specs.Contents.{Collection}
 use Rattle.disk_model.specs.Disk.{Rises}
 use Rattle.gate_block.specs.Area.{size_of, position_of}
 use Rattle.checkpoint.specs.Keepers.{IsPast}
