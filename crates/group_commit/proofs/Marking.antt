@@ -92,6 +92,17 @@ module _ (words : List ℕ) (views : List Tide) (k : Marked words views) (id : �
       splits (watcher v.counts v.flags)
       (λ seat. record { whole = λ q. off q; reached = f.reached; failed = f.failed })
 
+  pub reports : v ≡ keeper v.kept → Marked words (set views id v ++ watcher (v.kept ∷ []) [] ∷ [])
+  reports is =
+      let here = (k.fits id v at).whole (ap (λ (u : Tide). u.keeps) is) in
+      splits (watcher (v.kept ∷ []) [])
+      (λ seat. record {
+        whole = λ q. off q;
+        reached = All-push (λ (x : ℕ). x ≤ k.count) [] v.kept (none_reached k.count)
+            (omega (arith, here.1));
+        failed = λ h. absurd (none_failed h);
+      })
+
   -- another seat's view is taken in, and that seat is spent
   takes : (w : Tide) (other : ℕ) → Fits k.keeping k.count k.flag id w →
       Marked words (set (set views id w) other nobody)

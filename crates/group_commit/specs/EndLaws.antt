@@ -7,10 +7,12 @@ use Rattle.group_commit.specs.Orders.{SenderState, ReceiverState}
 use Rattle.group_commit.specs.Ends.{Sends, Receives}
 
 pub sends_none : (t : MutBor SenderState) → Sends t [] t
-sends_none t = record { same = refl; table = refl; sent = sym (append-nil t.now.sent) }
+sends_none t =
+    record { same = refl; table = refl; sent = sym (append-nil t.now.sent); noted = refl }
 
 pub receives_none : (t : MutBor ReceiverState) → Receives t [] t
-receives_none t = record { same = refl; table = refl; received = sym (append-nil t.now.received) }
+receives_none t =
+    record { same = refl; table = refl; received = sym (append-nil t.now.received); noted = refl }
 
 -- what comes behind one list is one list
 pub same_end : {X : Type 0} (front xs ys : List X) → front ++ xs ≡ front ++ ys → xs ≡ ys

@@ -4,6 +4,7 @@ pub mod Ends
 pub mod Histories
 pub mod Lines
 pub mod Marks
+pub mod NoImage
 pub mod NoStep
 pub mod Numbers
 pub mod Orders

@@ -7,18 +7,18 @@ pub record KeeperMark : Type 0 where
   pub table : TableId
   pub count : ℕ
 
--- what a watcher of a mark knows: the counts that it loaded, in order, and the failed flag, each
--- time that it loaded or set it
+-- what a watcher of a mark knows: the counts that it loaded or was told, in order, and the failed
+-- flag, each time that it loaded or set it
 pub record WatcherState : Type 0 where
   pub table : TableId
   pub counts : List ℕ
   pub flags : List Bool
 
--- a watcher that has loaded nothing
+-- a watcher that knows nothing
 abbrev pub new_watcher : TableId → WatcherState
 new_watcher table = record { table = table; counts = []; flags = [] }
 
--- one more count was loaded
+-- one more count was loaded, or told
 abbrev pub with_count : WatcherState → ℕ → WatcherState
 with_count w count = record { table = w.table; counts = w.counts ++ count ∷ []; flags = w.flags }
 

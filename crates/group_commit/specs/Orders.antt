@@ -1,17 +1,40 @@
--- The order of blocks on their way to the disk.
-use Rattle.std.specs.Prelude.{◌≡◌, ◌≤◌, List, ◌++◌, length}
+-- The order of blocks on their way to the disk, and the images that both ends have noted.
+use Rattle.std.specs.Prelude.{◌≡◌, ◌≤◌, List, [], ◌∷◌, ◌++◌, length}
 use Rattle.atomic_table.specs.Seated.{TableId}
 use Rattle.blocks.specs.declared.block.Block.{Block}
+use Rattle.blocks.specs.declared.block.Image.{Image}
 
--- what the sender of a hand-off has sent, in order
+-- what the sender of a hand-off has sent, in order, and the images that it has noted, the newest
+-- first
 pub record SenderState : Type 0 where
   pub table : TableId
   pub sent : List Block
+  pub noted : List Image
 
--- what the receiver of a hand-off has received, in order
+-- what the receiver of a hand-off has received, in order, and the images that it has noted, the
+-- newest first
 pub record ReceiverState : Type 0 where
   pub table : TableId
   pub received : List Block
+  pub noted : List Image
+
+-- one block more was sent
+abbrev pub sending : SenderState → Block → SenderState
+sending s block = record { table = s.table; sent = s.sent ++ block ∷ []; noted = s.noted }
+
+-- one block more was received
+abbrev pub receiving : ReceiverState → Block → ReceiverState
+receiving r block =
+    record { table = r.table; received = r.received ++ block ∷ []; noted = r.noted }
+
+-- the sender has noted one image more
+abbrev pub noting : SenderState → Image → SenderState
+noting s image = record { table = s.table; sent = s.sent; noted = image ∷ s.noted }
+
+-- the receiver has noted one image more
+abbrev pub noting_too : ReceiverState → Image → ReceiverState
+noting_too r image =
+    record { table = r.table; received = r.received; noted = image ∷ r.noted }
 
 -- what was sent is what was received, followed by these blocks in transit, at most four
 pub record AreInTransit (sent received transit : List Block) : Type 0 where

@@ -1,38 +1,57 @@
-// Blocks in transit, in order.
-ghost use Rattle.std.specs.Prelude.{◌≡◌, List, [], ◌∷◌, ◌++◌, IfOk, IfErr, IfSome, IfNone, OnOk};
-ghost use Rattle.std.specs.Prelude.{IsOkUnless};
+// Blocks in transit, in order, and the images that both ends have noted.
+ghost use Rattle.std.specs.Prelude.{◌≡◌, List, [], IfOk, IfErr, IfSome, IfNone, OnOk, IsOkUnless};
 ghost use Rattle.blocks.specs.declared.block.Block.{Block};
 ghost use Rattle.calls.specs.declared.refusal.Refusal.{Refusal};
 ghost use Rattle.group_commit.specs.Orders.{AreInTransit, WasFull, WasEmpty};
+ghost use Rattle.group_commit.specs.Orders.{sending, receiving, noting, noting_too};
+ghost use Rattle.group_commit.specs.Transit.{known, united, IsEnd, IsSender, IsReceiver};
 
-use blocks::Block;
+use blocks::{Block, Image};
 use calls::Refusal;
 use calls::limits::MAX_TRANSIT;
 use crossbeam_queue::protocol::{Join, Lesson, Outcome, Protocol, Split};
 use crossbeam_queue::{Pass, RuledArrayQueue};
 use std::alloc::Global;
 use std::collections::LinkedList;
-use std::marker::Model;
+use std::marker::{Brand, Model, PhantomData};
 use std::sync::Wait;
 
-// What an end may do, what it has sent and what it has received. No value of it is made.
+// What an end may do, what it has sent and what it has received, and the images that it has noted,
+// as one that sends and as one that receives. No value of it is made.
 pub(crate) struct Log {
     sends: bool,
     receives: bool,
     sent: LinkedList<Block>,
     received: LinkedList<Block>,
+    noted: LinkedList<Image>,
+    heard: LinkedList<Image>,
 }
 
-// What was sent is what was received, followed by what is in transit.
+// What was sent is what was received, followed by what is in transit. Both ends have noted the same
+// images.
 pub(crate) struct InOrder;
 
 impl Protocol<Block, Log> for InOrder {
-    ghost use Rattle.std.specs.Prelude.{true, []};
-    ghost use Rattle.group_commit.specs.Transit.{log, Ordered};
+    ghost use Rattle.std.specs.Prelude.{[]};
+    ghost use Rattle.group_commit.specs.Transit.{sender, receiver, united, Ordered};
 
     ghost holds = { Ordered };
 
-    ghost first = { log true true [] [] };
+    ghost first = { united (sender [] []) (receiver [] []) };
+}
+
+/// Which image both ends note. Each call picks it, by passing `Brand`, so that no image is stored:
+/// it exists in the proofs alone.
+pub trait OneImage {
+    ghost use Rattle.blocks.specs.declared.block.Image.{Image};
+
+    ghost image: { Image };
+}
+
+impl OneImage for Brand {
+    ghost use Rattle.group_commit.specs.NoImage.{no_image};
+
+    ghost image = { no_image };
 }
 
 // The first end is cut into the sender's and the receiver's, and these are joined again.
@@ -41,18 +60,31 @@ struct Roles;
 impl Split<Log> for Roles {
     ghost use Rattle.group_commit.specs.Transit.{sender, receiver};
 
-    ghost left = { λ v. sender v.sent };
+    ghost left = { λ v. sender v.sent v.noted };
 
-    ghost right = { λ v. receiver v.received };
+    ghost right = { λ v. receiver v.received v.heard };
 }
 
 impl Join<Log> for Roles {
-    ghost use Rattle.std.specs.Prelude.{true};
-    ghost use Rattle.group_commit.specs.Transit.{log, nobody};
+    ghost use Rattle.group_commit.specs.Transit.{united, nobody};
 
-    ghost both = { λ v w. log true true v.sent w.received };
+    ghost both = { united };
 
     ghost spent = { nobody };
+}
+
+// The joined end is cut again, and both have noted an image more.
+struct Note<W> {
+    of: PhantomData<W>,
+}
+
+impl<W: OneImage> Split<Log> for Note<W> {
+    ghost use Rattle.std.specs.Prelude.{◌∷◌};
+    ghost use Rattle.group_commit.specs.Transit.{sender, receiver};
+
+    ghost left = { λ v. sender v.sent (W.image ∷ v.noted) };
+
+    ghost right = { λ v. receiver v.received (W.image ∷ v.heard) };
 }
 
 // All that an end may do goes to another.
@@ -72,7 +104,7 @@ impl Outcome<Block, Log> for Sends {
     ghost use Rattle.std.specs.Prelude.{◌≡◌, ◌++◌, ◌∷◌, []};
     ghost use Rattle.group_commit.specs.Transit.{sender};
 
-    ghost then = { λ v x w. w ≡ sender (v.sent ++ x ∷ []) };
+    ghost then = { λ v x w. w ≡ sender (v.sent ++ x ∷ []) v.noted };
 }
 
 impl Lesson<Block, Log> for Sends {
@@ -89,7 +121,7 @@ impl Outcome<Block, Log> for Receives {
     ghost use Rattle.std.specs.Prelude.{◌≡◌, ◌++◌, ◌∷◌, []};
     ghost use Rattle.group_commit.specs.Transit.{receiver};
 
-    ghost then = { λ v x w. w ≡ receiver (v.received ++ x ∷ []) };
+    ghost then = { λ v x w. w ≡ receiver (v.received ++ x ∷ []) v.heard };
 }
 
 impl Lesson<Block, Log> for Receives {
@@ -104,13 +136,14 @@ impl Lesson<Block, Log> for Receives {
 struct Whole;
 
 impl Lesson<Block, Log> for Whole {
+    ghost use Rattle.std.specs.Prelude.{◌≡◌};
     ghost use Rattle.group_commit.specs.Orders.{AreInTransit};
 
-    ghost fact = { λ v transit. AreInTransit v.sent v.received transit };
+    ghost fact = { λ v transit. (v.noted ≡ v.heard) × AreInTransit v.sent v.received transit };
 }
 
-/// Blocks on their way from the book to the keeper, in order, at most four. Threads share it by
-/// `&`. Contracts see which table it is.
+/// Blocks on their way from the book to the keeper, in order, at most four. Both ends note the same
+/// images. Threads share it by `&`. Contracts see which table it is.
 #[derive(Drop)]
 pub struct Handoff {
     queue: RuledArrayQueue<Block, Log, InOrder>,
@@ -129,10 +162,16 @@ impl Model for Handoff {
 }
 
 /// The one end of a hand-off from which blocks are sent. It has no bytes. Contracts see what it has
-/// sent.
-#[derive(Drop)]
+/// sent, and the images that were noted.
 pub struct Sender {
     end: Pass<Block, Log>,
+}
+
+impl Drop for Sender {
+    fn drop(self) {
+        let Self { end } = self;
+        drop(end);
+    }
 }
 
 impl Model for Sender {
@@ -143,16 +182,27 @@ impl Model for Sender {
 
     ghost use Rattle.group_commit.specs.Transit.{known, sender};
 
-    ghost view = { λ s. record { table = s.end.table_id; sent = (known s.end).sent } };
+    ghost view = { λ s. record {
+      table = s.end.table_id;
+      sent = (known s.end).sent;
+      noted = (known s.end).noted;
+    } };
 
-    ghost invariant = { λ s. (s.end.me.1 ≡ []) × (known s.end ≡ sender (known s.end).sent) };
+    ghost invariant = { λ s. (s.end.me.1 ≡ []) ×
+        (known s.end ≡ sender (known s.end).sent (known s.end).noted) };
 }
 
 /// The one end of a hand-off at which blocks are received. It has no bytes. Contracts see what it
-/// has received.
-#[derive(Drop)]
+/// has received, and the images that were noted.
 pub struct Receiver {
     end: Pass<Block, Log>,
+}
+
+impl Drop for Receiver {
+    fn drop(self) {
+        let Self { end } = self;
+        drop(end);
+    }
 }
 
 impl Model for Receiver {
@@ -163,19 +213,25 @@ impl Model for Receiver {
 
     ghost use Rattle.group_commit.specs.Transit.{known, receiver};
 
-    ghost view = { λ s. record { table = s.end.table_id; received = (known s.end).received } };
+    ghost view = { λ s. record {
+      table = s.end.table_id;
+      received = (known s.end).received;
+      noted = (known s.end).heard;
+    } };
 
-    ghost invariant = { λ s. (s.end.me.1 ≡ []) × (known s.end ≡ receiver (known s.end).received) };
+    ghost invariant = { λ s. (s.end.me.1 ≡ []) ×
+        (known s.end ≡ receiver (known s.end).received (known s.end).heard) };
 }
 
 impl Handoff {
-    /// A hand-off with no block in transit, and its two ends.
+    /// A hand-off with no block in transit, and its two ends, which have noted no image.
     ///
     /// NoMemory for the queue.
     pub fn new(alloc: Global) -> Result<(Handoff, Sender, Receiver), Refusal>
-        ensures sender { IfOk result (λ made. made.1 ≡ record { table = made.0; sent = [] }) }
+        ensures sender { IfOk result
+            (λ made. made.1 ≡ record { table = made.0; sent = []; noted = [] }) }
         ensures receiver { IfOk result
-            (λ made. made.2 ≡ record { table = made.0; received = [] }) }
+            (λ made. made.2 ≡ record { table = made.0; received = []; noted = [] }) }
         ensures refusal { IsOkUnless result Refusal.NoMemory }
     {
         let (queue, mut end) = RuledArrayQueue::ruled(alloc, MAX_TRANSIT)?;
@@ -188,8 +244,7 @@ impl Handoff {
     /// `receive` that has begun.
     pub fn send<R: Wait>(&self, rt: &R, sender: &mut Sender, block: Block) -> Result<(), Block>
         requires { sender.old.table ≡ self.now }
-        ensures table { sender.new.table ≡ sender.old.table }
-        ensures sent { OnOk result (sender.new.sent ≡ sender.old.sent ++ block ∷ []) }
+        ensures sent { OnOk result (sender.new ≡ sending sender.old block) }
         ensures back { IfErr result (λ b. (b ≡ block) × (sender.new ≡ sender.old) ×
             WasFull sender.old.sent) }
     {
@@ -200,17 +255,29 @@ impl Handoff {
     /// moment of the call. It takes no memory, and may wait for a `send` that has begun.
     pub fn receive<R: Wait>(&self, rt: &R, receiver: &mut Receiver) -> Option<Block>
         requires { receiver.old.table ≡ self.now }
-        ensures table { receiver.new.table ≡ receiver.old.table }
-        ensures received { IfSome result
-            (λ b. receiver.new.received ≡ receiver.old.received ++ b ∷ []) }
+        ensures received { IfSome result (λ b. receiver.new ≡ receiving receiver.old b) }
         ensures none { IfNone result ((receiver.new ≡ receiver.old) ×
             WasEmpty receiver.old.received) }
     {
         self.queue.pop_as::<Receives, R>(rt, &mut receiver.end)
     }
 
-    /// What was sent is what was received, followed by at most four blocks in transit. It changes
-    /// nothing, and waits for nobody.
+    // What both ends know stands with the sender's from then on, until that is cut again.
+    fn unite(&self, sender: &mut Pass<Block, Log>, receiver: &mut Pass<Block, Log>)
+        requires sender { IsSender self.now sender.old }
+        requires receiver { IsReceiver self.now receiver.old }
+        ensures sender { IsEnd self.now (united (known sender.old) (known receiver.old)) sender.new }
+        ensures order { (transit : List Block) ×
+            AreInTransit (known sender.old).sent (known receiver.old).received transit }
+        ensures noted { (known sender.old).noted ≡ (known receiver.old).heard }
+    {
+        let whole = self.queue.another::<Leaving>(receiver);
+        self.queue.absorb::<Roles>(sender, whole);
+        self.queue.learn_as::<Whole>(sender);
+    }
+
+    /// What was sent is what was received, followed by at most four blocks in transit, and both
+    /// ends have noted the same images. It changes nothing, and waits for nobody.
     pub fn compare(&self, sender: &mut Sender, receiver: &mut Receiver)
         requires sender { sender.old.table ≡ self.now }
         requires receiver { receiver.old.table ≡ self.now }
@@ -218,10 +285,23 @@ impl Handoff {
         ensures receiver { receiver.new ≡ receiver.old }
         ensures order { (transit : List Block) ×
             AreInTransit sender.old.sent receiver.old.received transit }
+        ensures noted { sender.old.noted ≡ receiver.old.noted }
     {
-        let whole = self.queue.another::<Leaving>(&mut receiver.end);
-        self.queue.absorb::<Roles>(&mut sender.end, whole);
-        self.queue.learn_as::<Whole>(&mut sender.end);
+        self.unite(&mut sender.end, &mut receiver.end);
         receiver.end = self.queue.another::<Roles>(&mut sender.end);
+    }
+
+    /// Both ends note one image more: what the holder of the one learns at a freeze, the holder of
+    /// the other knows from then on. Up to then they have noted the same images. It moves no block,
+    /// takes no memory and waits for nobody.
+    pub fn note<W: OneImage>(&self, sender: &mut Sender, receiver: &mut Receiver)
+        requires sender { sender.old.table ≡ self.now }
+        requires receiver { receiver.old.table ≡ self.now }
+        ensures sender { sender.new ≡ noting sender.old W.image }
+        ensures receiver { receiver.new ≡ noting_too receiver.old W.image }
+        ensures same { sender.old.noted ≡ receiver.old.noted }
+    {
+        self.unite(&mut sender.end, &mut receiver.end);
+        receiver.end = self.queue.another::<Note<W>>(&mut sender.end);
     }
 }

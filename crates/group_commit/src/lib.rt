@@ -1,9 +1,10 @@
 //! What the threads of a store share beside the locks, and what each of them knows of it.
 //!
 //! - `Handoff`: blocks on their way from the book to the keeper. What was sent is what was
-//!   received, followed by what is in transit, in order, at most four.
+//!   received, followed by what is in transit, in order, at most four. Both ends have noted the
+//!   same images.
 //! - `Mark`: how many commits are kept. The count never falls, and is what the keeper's seat has
-//!   brought it to. A failed flag stays.
+//!   brought it to, which tells it to a watcher. A failed flag stays.
 //! - `Line`: the one history of the book. What each client has seen is a beginning of it, with all
 //!   that the history has of the client.
 //! - `Numbers`: each number that was drawn was drawn once.
@@ -16,8 +17,10 @@
 //!
 //! There are eight kinds of step: blocks are sent and received; the mark is brought on, its flag is
 //! set, and both are loaded; a step is tallied on the line, and the line is loaded; a number is
-//! drawn. The book's lock is held where blocks are sent, steps tallied and clients made, the
-//! keeper's where blocks are received and the mark is brought on.
+//! drawn. Seats are joined and cut, too: so one is told what another knows, and both ends of a
+//! hand-off note an image. The book's lock is held where blocks are sent, steps tallied and clients
+//! made, the keeper's where blocks are received and the mark is brought on and tells, and both
+//! where an image is noted.
 //!
 //! The value of a seat names its `table`, and a call asks for the seats of the part itself. What
 //! lies under a lock is known by its type alone: pick the tables by a type parameter, and let the
@@ -33,7 +36,7 @@ mod numbers;
 mod view;
 
 pub use ends::{Incoming, Outgoing};
-pub use handoff::{Handoff, Receiver, Sender};
+pub use handoff::{Handoff, OneImage, Receiver, Sender};
 pub use line::{BookSeat, ClientSeat, Line};
 pub use mark::{KeeperSeat, Mark, Watcher};
 pub use numbers::{Drawer, DrawerMaker, Numbers};

@@ -34,9 +34,15 @@ impl Model for Line {
 
 /// The one seat of a line that knows the whole history: the book's. It has no bytes. Contracts see
 /// the history, and how many clients were made.
-#[derive(Drop)]
 pub struct BookSeat {
     seat: LineSeat,
+}
+
+impl Drop for BookSeat {
+    fn drop(self) {
+        let Self { seat } = self;
+        drop(seat);
+    }
 }
 
 impl Model for BookSeat {
@@ -59,9 +65,15 @@ impl Model for BookSeat {
 /// A client's seat of a line. It has no bytes. Contracts see the client's number, and the history
 /// up to some step; `mine_of` is what it has seen of itself, which is all that the history has of
 /// it.
-#[derive(Drop)]
 pub struct ClientSeat {
     seat: LineSeat,
+}
+
+impl Drop for ClientSeat {
+    fn drop(self) {
+        let Self { seat } = self;
+        drop(seat);
+    }
 }
 
 impl Model for ClientSeat {

@@ -16,7 +16,8 @@ const COUNT: usize = 0;
 const FLAG: usize = 1;
 
 // What a seat knows: the keeper's the count that it has kept, each other one the counts that it
-// loaded, and the failed flag each time that it loaded or set it. No value of it is made.
+// loaded or was told, and the failed flag each time that it loaded or set it. No value of it is
+// made.
 pub(crate) struct Tide {
     keeps: bool,
     kept: u64,
@@ -108,6 +109,18 @@ impl Join<Tide> for Tell {
     ghost spent = { nobody };
 }
 
+// The keeper's seat tells the count that it has kept.
+struct Report;
+
+impl Split<Tide> for Report {
+    ghost use Rattle.std.specs.Prelude.{[], ◌∷◌};
+    ghost use Rattle.group_commit.specs.Rising.{watcher};
+
+    ghost left = { λ v. v };
+
+    ghost right = { λ v. watcher (v.kept ∷ []) [] };
+}
+
 // The keeper's seat is shown what a watcher loaded.
 struct Show;
 
@@ -139,9 +152,15 @@ impl Model for Mark {
 
 /// The one seat of a mark that brings it on: the keeper's. It has no bytes. Contracts see how far
 /// it has brought the count.
-#[derive(Drop)]
 pub struct KeeperSeat {
     seat: Seat<(), Tide>,
+}
+
+impl Drop for KeeperSeat {
+    fn drop(self) {
+        let Self { seat } = self;
+        drop(seat);
+    }
 }
 
 impl Model for KeeperSeat {
@@ -158,10 +177,16 @@ impl Model for KeeperSeat {
 }
 
 /// A seat from which a mark is watched: of a client, a committer or a checkpointer. It has no
-/// bytes. Contracts see what was loaded from it.
-#[derive(Drop)]
+/// bytes. Contracts see what was loaded from it, and what it was told.
 pub struct Watcher {
     seat: Seat<(), Tide>,
+}
+
+impl Drop for Watcher {
+    fn drop(self) {
+        let Self { seat } = self;
+        drop(seat);
+    }
 }
 
 impl Model for Watcher {
@@ -254,7 +279,22 @@ impl Mark {
         self.table.shared.join_seat::<Tell>(&mut to.seat, told);
     }
 
-    /// Each count that the watcher has loaded was reached by the keeper's. It changes nothing.
+    /// A watcher is told the count that the keeper's seat has reached, as if it had loaded it: the
+    /// counts that it loads from then on are at least that one, and none that it knew before is
+    /// past it. It is told nothing of the flag. It takes no memory, and waits for nobody.
+    pub fn tell(&self, keeper: &mut KeeperSeat, watcher: &mut Watcher)
+        requires keeper { keeper.old.table ≡ self.now }
+        requires watcher { watcher.old.table ≡ self.now }
+        ensures keeper { keeper.new ≡ keeper.old }
+        ensures watcher { watcher.new ≡ with_count watcher.old keeper.old.count }
+        ensures rises { AreReached watcher.old.counts keeper.old.count }
+    {
+        self.compare(keeper, watcher);
+        let told = self.table.shared.split_seat::<Report>(&mut keeper.seat);
+        self.table.shared.join_seat::<Tell>(&mut watcher.seat, told);
+    }
+
+    /// Each count that the watcher knows was reached by the keeper's seat. It changes nothing.
     pub fn compare(&self, keeper: &mut KeeperSeat, watcher: &mut Watcher)
         requires keeper { keeper.old.table ≡ self.now }
         requires watcher { watcher.old.table ≡ self.now }

@@ -124,10 +124,16 @@ impl Model for Numbers {
 }
 
 /// The one seat that makes drawers. Contracts see how many it made.
-#[derive(Drop)]
 pub struct DrawerMaker {
     seat: NumberSeat,
     made: u64,
+}
+
+impl Drop for DrawerMaker {
+    fn drop(self) {
+        let Self { seat, made: _made } = self;
+        drop(seat);
+    }
 }
 
 impl Model for DrawerMaker {
@@ -147,11 +153,17 @@ impl Model for DrawerMaker {
 }
 
 /// A client's seat, from which numbers are drawn. Contracts see which it drew.
-#[derive(Drop)]
 pub struct Drawer {
     seat: NumberSeat,
     // how many more it may draw
     left: u64,
+}
+
+impl Drop for Drawer {
+    fn drop(self) {
+        let Self { seat, left: _left } = self;
+        drop(seat);
+    }
 }
 
 impl Model for Drawer {
