@@ -1,0 +1,38 @@
+-- What the ends of a hand-off know once a borrow of them is given back.
+use Rattle.std.proofs.Common.{◌≡◌, ℕ, List, ap, ◌∙◌, sym}
+use Rattle.std.specs.Borrow.{MutBor}
+use Rattle.blocks.specs.declared.block.Block.{Block}
+use Rattle.group_commit.specs.Ends.{Sends, Receives}
+use Rattle.group_commit.specs.Orders.{SenderState, ReceiverState}
+use Rattle.store.specs.Turns.{IsSent, IsReceived}
+
+pub sent_back : (before after : MutBor SenderState) (bs : List Block) (left : SenderState) →
+    (before.ghost_name ≡ after.ghost_name → left ≡ after.now) → Sends before bs after →
+    IsSent before.now bs left
+sent_back before after bs left back sends =
+    let is = back (sym sends.same) in record {
+      table = ap (λ (s : SenderState). s.table) is ∙ sends.table;
+      sent = ap (λ (s : SenderState). s.sent) is ∙ sends.sent;
+      noted = ap (λ (s : SenderState). s.noted) is ∙ sends.noted;
+    }
+
+pub received_back : (before after : MutBor ReceiverState) (bs : List Block)
+    (left : ReceiverState) → (before.ghost_name ≡ after.ghost_name → left ≡ after.now) →
+    Receives before bs after → IsReceived before.now bs left
+received_back before after bs left back receives =
+    let is = back (sym receives.same) in record {
+      table = ap (λ (s : ReceiverState). s.table) is ∙ receives.table;
+      received = ap (λ (s : ReceiverState). s.received) is ∙ receives.received;
+      noted = ap (λ (s : ReceiverState). s.noted) is ∙ receives.noted;
+    }
+
+-- and the other way round
+pub received_there : (before after : MutBor ReceiverState) (bs : List Block)
+    (left : ReceiverState) → before.ghost_name ≡ after.ghost_name → left ≡ after.now →
+    IsReceived before.now bs left → Receives before bs after
+received_there before after bs left same is received = record {
+  same = sym same;
+  table = ap (λ (s : ReceiverState). s.table) (sym is) ∙ received.table;
+  received = ap (λ (s : ReceiverState). s.received) (sym is) ∙ received.received;
+  noted = ap (λ (s : ReceiverState). s.noted) (sym is) ∙ received.noted;
+}

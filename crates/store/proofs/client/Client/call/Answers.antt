@@ -1,0 +1,22 @@
+use Rattle.std.proofs.Common.{[], refl, ap, ◌∙◌, subst}
+use Rattle.txn.specs.declared.steps.Action.{Action}
+use Rattle.txn.specs.declared.steps.Target.{Target}
+use Rattle.store.specs.declared.phase.Phase.{Phase}
+use Rattle.store.specs.Known.{Known, known_of}
+use Rattle.store.specs.Calls.{Acts}
+use Rattle.store.proofs.Seeing.{acts_one, does_next}
+use Rattle.store.proofs.client.Client.call.Goals as goal
+
+pub returns : goal.returns
+returns g c =
+    let i = c.self-2.inside in
+    let n = c.in_ok-number.number in
+    let after = known_of c.call.new.me i.watcher i.drawer i.phase in
+    let action = Action.Call n (Target.Named c.args.name.now c.call.ensures.0) c.args.call.now
+    c.call.result in
+    does_next g.J.Naming c.args.self.now.phase c.args.self.now c.enter.new.self after n _ _
+    (λ m. Phase.Entered m) action refl c.in_ok-number.ensures (c.call.ensures.0, refl)
+    (subst (λ m. Acts g.J.Naming m [] action after) c.self-2.view_is
+    (acts_one g.J.Naming i.line c.call.new.me i.watcher i.drawer i.phase i.phase action
+    c.call.ensures.1))
+    (λ entered. ap (λ (k : Known). k.phase) c.self-2.view_is ∙ entered)

@@ -1,0 +1,41 @@
+-- What a store leaves that is closed.
+use Rattle.std.specs.Prelude.{ℕ, List, [], Option, Some, None, take}
+use mathlib.Core.List.{IsPrefix}
+use Rattle.calls.specs.Contents.{Collection}
+use Rattle.disk_model.specs.declared.disk.Disk as disks
+use Rattle.txn.specs.declared.steps.BookStep.{BookStep}
+use Rattle.txn.specs.Books.{BookState, standing}
+use Rattle.txn.specs.Histories.{committed_by}
+use Rattle.checkpoint.specs.Crash.{Yields}
+use Rattle.checkpoint.specs.Keepers.{KeeperState}
+use Rattle.group_commit.specs.Marks.{AreReached}
+use Rattle.store.specs.declared.naming.Naming.{Ghosts}
+use Rattle.store.specs.Known.{IsHistory}
+
+-- what a client had seen when it left, and the counts that it had loaded of the mark
+pub record SeenState : Type 0 where
+  pub number : ℕ
+  pub seen : List BookStep
+  pub counts : List ℕ
+
+abbrev pub seen_of : Option SeenState → List BookStep
+seen_of None = []
+seen_of (Some s) = s.seen
+
+abbrev pub counts_of : Option SeenState → List ℕ
+counts_of None = []
+counts_of (Some s) = s.counts
+
+-- The book stands where a legal history from the opened content ends, which begins with what was
+-- seen. Whatever a stop leaves of the disk now is sound, and stands for a content that some
+-- beginning of the transactions gives that the history commits; that beginning holds all that the
+-- mark tells, and each count that was loaded of it.
+pub record Closes {J D : Type 0} (j : Ghosts J) (g : disks.Ghosts D) (seen : List BookStep)
+    (counts : List ℕ) (book : BookState (List Collection)) (keeper : KeeperState D) :
+    Type 0 where
+  pub steps : List BookStep
+  pub legal : IsHistory j steps (standing book)
+  pub begins : IsPrefix seen steps
+  pub reached : AreReached counts keeper.mark
+  pub stop : j.sound → (bytes : List ℕ) → g.may_leave keeper.disk bytes →
+      Yields j.start (committed_by steps) (take keeper.mark (committed_by steps)) bytes

@@ -1,0 +1,41 @@
+-- A store that was opened and has no name yet.
+use Rattle.std.specs.Prelude.{◌≡◌, ℕ, List}
+use Rattle.calls.specs.Contents.{Collection}
+use Rattle.atomic_table.specs.Seated.{TableId}
+use Rattle.disk_model.specs.declared.disk.Disk as disks
+use Rattle.txn.specs.Books.{BookState}
+use Rattle.checkpoint.specs.Keepers.{KeeperState}
+use Rattle.recovery.specs.Openings.{IsOpened, IsReadyStore}
+use Rattle.store.specs.declared.naming.Naming.{Ghosts}
+
+-- the tables of the parts that threads share, and from which number on they draw
+pub record Tables : Type 0 where
+  pub line : TableId
+  pub mark : TableId
+  pub numbers : TableId
+  pub handoff : TableId
+  pub from : ℕ
+
+-- its book and its keeper, and the tables of its parts
+pub record OpenedState (D : Type 0) : Type 0 where
+  pub book : BookState (List Collection)
+  pub keeper : KeeperState D
+  pub tables : Tables
+
+-- The bytes were opened, of a disk that read true and was at rest.
+pub record IsSoundly {D : Type 0} (g : disks.Ghosts D) (o : OpenedState D) : Type 0 where
+  pub bytes : List ℕ
+  pub is_opened : IsOpened bytes o.book o.keeper.area (g.seen o.keeper.disk)
+  pub ready : IsReadyStore g.seen g.may_leave bytes o.book o.keeper.area o.keeper.disk
+
+-- The name is the store's.
+pub record IsNamed {J D : Type 0} (j : Ghosts J) (g : disks.Ghosts D) (o : OpenedState D) :
+    Type 0 where
+  pub line : o.tables.line ≡ j.line
+  pub mark : o.tables.mark ≡ j.mark
+  pub numbers : o.tables.numbers ≡ j.numbers
+  pub handoff : o.tables.handoff ≡ j.handoff
+  pub start : o.book.state.now ≡ j.start
+  pub wear : o.book.state.wear ≡ j.wear
+  pub next : o.book.next ≡ j.next
+  pub sound : j.sound → IsSoundly g o

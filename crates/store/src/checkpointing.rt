@@ -1,0 +1,99 @@
+// Checkpoints of a store that threads use.
+ghost use Rattle.std.specs.Prelude.{◌≡◌, IfOk};
+ghost use Rattle.store.specs.Turns.{CheckTells};
+
+use crate::desk::Desk;
+use crate::freezing::freeze;
+use crate::naming::Naming;
+use crate::shared::Shared;
+use crate::vault::{Vault, note_failure};
+use calls::Refusal;
+use disk_model::Disk;
+use group_commit::Watcher;
+use std::marker::Model;
+use std::sync::{Mutex, Wait};
+
+/// What a turn of a checkpointer did.
+#[derive(Clone, Copy, Debug, PartialEq, Eq)]
+pub enum Checkpoint {
+    /// The book was frozen, and its image is in progress.
+    Frozen,
+    /// A piece of the image was written.
+    Piece,
+    /// The image is the store, and all commits up to this place are kept: it is the mark.
+    Flipped(u64),
+}
+
+/// Takes checkpoints of a store, step by step. Contracts see what it has loaded of the mark.
+#[derive(Drop)]
+pub struct Checkpointer<'s, D: Disk, J: Naming> {
+    desk: &'s Mutex<Desk<J>>,
+    vault: &'s Mutex<Vault<D, J>>,
+    shared: &'s Shared<J>,
+    watcher: Watcher,
+}
+
+impl<'s, D: Disk, J: Naming> Model for Checkpointer<'s, D, J> {
+    ghost use Rattle.std.specs.Prelude.{◌≡◌};
+    ghost use Rattle.group_commit.specs.Marks.{WatcherState};
+
+    ghost Value = { WatcherState };
+
+    ghost view = { λ c. c.watcher };
+
+    ghost invariant = { λ c. c.watcher.table ≡ J.mark };
+}
+
+impl<'s, D: Disk, J: Naming> Checkpointer<'s, D, J> {
+    pub(crate) fn new(
+        desk: &'s Mutex<Desk<J>>,
+        vault: &'s Mutex<Vault<D, J>>,
+        shared: &'s Shared<J>,
+        watcher: Watcher,
+    ) -> Self
+        requires { watcher.table ≡ J.mark }
+        ensures { result ≡ watcher }
+    {
+        Self {
+            desk,
+            vault,
+            shared,
+            watcher,
+        }
+    }
+
+    /// Takes the next step of a checkpoint: freezes the book, where no image is in progress; else
+    /// writes a piece of the image, or flips to it where none is left. A freeze holds both locks,
+    /// the book's first, calls no device, and takes time and memory as `Book::freeze`; a piece is
+    /// one write, a flip two writes and two syncs, both under the keeper's lock alone.
+    ///
+    /// The refusals of `Book::freeze` and of `Keeper::begin_image`; or of `Keeper::image_piece`; or
+    /// of `Keeper::flip`. Where the keeper has failed in a piece or a flip, the mark's failed flag
+    /// is set.
+    pub fn turn<R: Wait>(&mut self, rt: &R) -> Result<Checkpoint, Refusal>
+        ensures { CheckTells self.old result self.new }
+    {
+        let vault = self.vault;
+        if let Some(done) = vault.lock(rt).lay(self.shared, &mut self.watcher) {
+            return done;
+        }
+        self.freeze(rt)
+    }
+
+    // Freezes the book and begins its image.
+    fn freeze<R: Wait>(&mut self, rt: &R) -> Result<Checkpoint, Refusal>
+        ensures { CheckTells self.old result self.new }
+    {
+        let desk = self.desk;
+        let vault = self.vault;
+        let mut desk = desk.lock(rt);
+        let mut vault = vault.lock(rt);
+        match freeze(self.shared, &mut desk, &mut vault) {
+            Ok(()) => Ok(Checkpoint::Frozen),
+            Err(refusal) => {
+                note_failure(&self.shared.mark, &mut self.watcher, refusal);
+                Err(refusal)
+            }
+        }
+    }
+}

@@ -1,0 +1,333 @@
+// A client of a store.
+ghost use Rattle.std.specs.Prelude.{◌≡◌, ◌≢◌, ◌↔◌, ◌≤◌, ◌<◌, ◌^◌, ℕ, [], ◌∷◌, ◌++◌, Ok, Err};
+ghost use Rattle.std.specs.Prelude.{◌⊎◌, List, Bool, Option, false, IsTrue, IfOk, IfErr};
+ghost use Rattle.std.specs.Prelude.{IfSome, IfNone};
+ghost use Rattle.calls.specs.declared.refusal.Refusal.{Refusal};
+ghost use Rattle.txn.specs.declared.steps.Action.{Action};
+ghost use Rattle.txn.specs.declared.steps.Target.{Target};
+ghost use Rattle.group_commit.specs.Lines.{IsLonger, steps_of};
+ghost use Rattle.group_commit.specs.Numbers.{AreApart};
+ghost use Rattle.store.specs.declared.phase.Phase.{Phase};
+ghost use Rattle.store.specs.Known.{Known, IsSeen};
+ghost use Rattle.store.specs.Calls.{IsOpen, IsWorn, Draws, Acts, Does, Enters, Undoes, Aborts};
+ghost use Rattle.store.specs.Calls.{ended_by, placed, back, backs, Loads, Hears, Waits};
+
+use crate::desk::Desk;
+use crate::naming::Naming;
+use crate::phase::Phase;
+use crate::seen::Seen;
+use crate::shared::Shared;
+use crate::ticket::Ticket;
+use calls::{Call, Kind, Refusal, Reply};
+use crossbeam_utils::Backoff;
+use group_commit::{ClientSeat, Drawer, Watcher};
+use std::marker::Model;
+use std::sync::{Mutex, Wait};
+
+/// A client of a store, which one thread has at a time. Contracts see what it knows.
+#[derive(Drop)]
+pub struct Client<'s, J: Naming> {
+    desk: &'s Mutex<Desk<J>>,
+    shared: &'s Shared<J>,
+    line: ClientSeat,
+    watcher: Watcher,
+    drawer: Drawer,
+    phase: Phase,
+}
+
+impl<'s, J: Naming> Model for Client<'s, J> {
+    ghost use Rattle.store.specs.Known.{Known, known_of};
+    ghost use Rattle.store.specs.Calls.{IsClient};
+
+    ghost Value = { Known };
+
+    ghost view = { λ c. known_of c.line c.watcher c.drawer c.phase };
+
+    ghost invariant = { λ c. IsClient ⟦<J as Naming>⟧ c.line c.watcher c.drawer };
+}
+
+impl<'s, J: Naming> Client<'s, J> {
+    pub(crate) fn new(
+        desk: &'s Mutex<Desk<J>>,
+        shared: &'s Shared<J>,
+        line: ClientSeat,
+        watcher: Watcher,
+        drawer: Drawer,
+    ) -> Self
+        requires line { (line.table ≡ J.line) × (line.seen ≡ []) }
+        requires watcher { (watcher.table ≡ J.mark) × (watcher.counts ≡ []) × (watcher.flags ≡ []) }
+        requires drawer { (drawer.table ≡ J.numbers) × (drawer.from ≡ J.next) ×
+            (drawer.drawn ≡ []) }
+        ensures { result ≡ record {
+          number =
+              line.number;
+          seen = [];
+          counts = [];
+          flags = [];
+          drawn = [];
+          phase = Phase.Closed;
+        } }
+    {
+        Self {
+            desk,
+            shared,
+            line,
+            watcher,
+            drawer,
+            phase: Phase::Closed,
+        }
+    }
+
+    /// What a client has seen is legal: steps that an object of one thread takes from the opened
+    /// content. It does nothing.
+    pub fn upheld(&self)
+        ensures { IsSeen ⟦<J as Naming>⟧ self.now.seen }
+    {
+        let _ = &self.phase;
+    }
+
+    /// Whether the client has a transaction.
+    pub fn is_open(&self) -> bool
+        ensures { IsTrue result ↔ IsOpen self.now.phase }
+    {
+        !matches!(&self.phase, Phase::Closed)
+    }
+
+    /// Begins a transaction: draws its number, which no client of the store drew before. The book
+    /// does not know it until the first call. It takes no memory, and waits for nobody.
+    ///
+    /// Worn exactly where the number is 2^61 or more, or the client has drawn 2^40; it has no
+    /// transaction then.
+    pub fn begin(&mut self) -> Result<u64, Refusal>
+        requires { self.old.phase ≡ Phase.Closed }
+        ensures drawn { IfOk result (λ n. (n < 2 ^ 61) × Draws J.next self.old n self.new ×
+            (self.new.phase ≡ Phase.Drawn n)) }
+        ensures worn { IfErr result (λ e. (e ≡ Refusal.Worn) × IsWorn J.next self.old self.new) }
+    {
+        let number = self.shared.numbers.draw(&mut self.drawer)?;
+        self.phase = Phase::Drawn(number);
+        Ok(number)
+    }
+
+    /// Makes an empty collection, a committed transaction of its own, and gives its ticket. The
+    /// refusals of `Book::make`. It takes the book's lock once.
+    pub fn make<R: Wait>(&mut self, rt: &R, name: &str, kind: Kind) -> Result<Ticket, Refusal>
+        ensures step { Acts ⟦<J as Naming>⟧ self.old []
+            (Action.Make name.now kind (placed result)) self.new }
+        ensures phase { self.new.phase ≡ self.old.phase }
+    {
+        let desk = self.desk;
+        let place = desk.lock(rt).make(self.shared, &mut self.line, name, kind)?;
+        Ok(Ticket { place })
+    }
+
+    /// A call of the client's transaction on the collection of a name, made at once. A number that
+    /// was only drawn is entered first. It takes the book's lock once, and calls no device.
+    ///
+    /// The refusals of `Book::enter` where it is entered, and then the transaction has no step; of
+    /// `Book::find`; of `Book::call`.
+    pub fn call<R: Wait>(&mut self, rt: &R, name: &str, call: &Call) -> Result<Reply, Refusal>
+        requires { IsOpen self.old.phase }
+        ensures { Does ⟦<J as Naming>⟧ self.old.phase self.old
+            (λ n a. (found : Option ℕ) ×
+            (a ≡ Action.Call n (Target.Named name.now found) call.now result))
+            (λ e. result ≡ Err e) Phase.Entered self.new }
+    {
+        let mutex = self.desk;
+        let mut desk = mutex.lock(rt);
+        let number = self.enter(&mut desk)?;
+        desk.call(self.shared, &mut self.line, number, name, call)
+    }
+
+    /// Puts a call of the client's transaction off to its commit, as `Book::later`. A number that
+    /// was only drawn is entered first. It takes the book's lock once.
+    ///
+    /// The refusals of `Book::enter` where it is entered, of `Book::find`, and of `Book::later`.
+    pub fn later<R: Wait>(&mut self, rt: &R, name: &str, call: &Call) -> Result<(), Refusal>
+        requires { IsOpen self.old.phase }
+        ensures { Does ⟦<J as Naming>⟧ self.old.phase self.old
+            (λ n a. (found : Option ℕ) ×
+            (a ≡ Action.Later n (Target.Named name.now found) call.now result))
+            (λ e. result ≡ Err e) Phase.Entered self.new }
+    {
+        let mutex = self.desk;
+        let mut desk = mutex.lock(rt);
+        let number = self.enter(&mut desk)?;
+        desk.later(self.shared, &mut self.line, number, name, call)
+    }
+
+    /// Commits the client's transaction and gives its ticket. It is in effect for all at once, and
+    /// kept through a stop once the mark reaches the ticket (`kept`, `wait`). A number that was only
+    /// drawn is entered first. It takes the book's lock once, and calls no device.
+    ///
+    /// The refusals of `Book::enter` where it is entered, and of `Book::commit`; the transaction
+    /// stays open then.
+    pub fn commit<R: Wait>(&mut self, rt: &R) -> Result<Ticket, Refusal>
+        requires { IsOpen self.old.phase }
+        ensures { Does ⟦<J as Naming>⟧ self.old.phase self.old
+            (λ n a. a ≡ Action.Commit n (placed result)) (λ e. result ≡ Err e) (ended_by result)
+            self.new }
+    {
+        let mutex = self.desk;
+        let mut desk = mutex.lock(rt);
+        let number = self.enter(&mut desk)?;
+        let place = desk.commit(self.shared, &mut self.line, number)?;
+        self.phase = Phase::Closed;
+        Ok(Ticket { place })
+    }
+
+    /// Aborts the client's transaction: undoes its calls one by one, the newest first, each under
+    /// the book's lock anew, and then ends it, so that its needs go. One whose number the book does
+    /// not know takes no step.
+    ///
+    /// The refusals of `Book::back` and of `Book::ended`: the transaction stays open, and can do
+    /// nothing but be aborted again.
+    pub fn abort<R: Wait>(&mut self, rt: &R) -> Result<(), Refusal>
+        requires { IsOpen self.old.phase }
+        ensures { Aborts ⟦<J as Naming>⟧ self.old.phase self.old result self.new }
+    {
+        match self.phase {
+            Phase::Entered(number) => {
+                self.end(rt, number)?;
+                self.phase = Phase::Closed;
+                Ok(())
+            }
+            Phase::Drawn(_) => {
+                self.phase = Phase::Closed;
+                Ok(())
+            }
+            Phase::Closed => unreachable!(),
+        }
+    }
+
+    // Undoes a transaction's calls, and ends it.
+    fn end<R: Wait>(&mut self, rt: &R, number: u64) -> Result<(), Refusal>
+        ensures step { (count : ℕ) ×
+            (Acts ⟦<J as Naming>⟧ self.old (backs number count ++ back number (Ok false) ∷ [])
+            (Action.Ended number result) self.new
+            ⊎ ((e : Refusal) × (result ≡ Err e) ×
+            Acts ⟦<J as Naming>⟧ self.old (backs number count) (back number (Err e)) self.new)) }
+        ensures phase { self.new.phase ≡ self.old.phase }
+    {
+        self.undo(rt, number)?;
+        let desk = self.desk;
+        desk.lock(rt).ended(self.shared, &mut self.line, number)
+    }
+
+    // Undoes a transaction's calls, until none is left.
+    fn undo<R: Wait>(&mut self, rt: &R, number: u64) -> Result<(), Refusal>
+        ensures step { Undoes ⟦<J as Naming>⟧ number self.old result self.new }
+        ensures phase { self.new.phase ≡ self.old.phase }
+    {
+        self.upheld();
+        for _ in rt.forever() {
+            if !self.back(rt, number)? {
+                return Ok(());
+            }
+        }
+        unreachable!()
+    }
+
+    // Undoes a transaction's newest call.
+    fn back<R: Wait>(&mut self, rt: &R, number: u64) -> Result<bool, Refusal>
+        ensures step { Acts ⟦<J as Naming>⟧ self.old [] (back number result) self.new }
+        ensures phase { self.new.phase ≡ self.old.phase }
+    {
+        let desk = self.desk;
+        desk.lock(rt).back(self.shared, &mut self.line, number)
+    }
+
+    // The number of the client's transaction, which is entered if it was only drawn.
+    fn enter(&mut self, desk: &mut Desk<J>) -> Result<u64, Refusal>
+        requires { IsOpen self.old.phase }
+        ensures { Enters ⟦<J as Naming>⟧ self.old.phase self.old result self.new }
+    {
+        match self.phase {
+            Phase::Entered(number) => Ok(number),
+            Phase::Drawn(number) => {
+                desk.enter(self.shared, &mut self.line, number)?;
+                self.phase = Phase::Entered(number);
+                Ok(number)
+            }
+            Phase::Closed => unreachable!(),
+        }
+    }
+
+    /// Whether what the ticket is of is kept through a stop: exactly where the mark, loaded now,
+    /// reaches its place. It takes no memory, and waits for nobody.
+    pub fn kept(&mut self, ticket: &Ticket) -> bool
+        ensures { (count : ℕ) × Loads self.old count self.new ×
+            (IsTrue result ↔ (ticket.now.place ≤ count)) }
+    {
+        let count = self.shared.mark.load(&mut self.watcher);
+        ticket.place <= count
+    }
+
+    /// Waits until what the ticket is of is kept: loads the mark's count, and then its failed flag,
+    /// until one decides, and backs off between two tries. Nothing is claimed of how long.
+    ///
+    /// Lost where the flag was set: keeping failed, which does not say that the ticket is not kept.
+    pub fn wait<R: Wait>(&mut self, rt: &R, ticket: &Ticket) -> Result<(), Refusal>
+        ensures { Waits self.old ticket.now.place result self.new }
+    {
+        let backoff = Backoff::new();
+        for _ in rt.forever() {
+            if let Some(done) = self.look(ticket) {
+                return done;
+            }
+            backoff.snooze();
+        }
+        unreachable!()
+    }
+
+    // Loads the count, and then the flag where that did not decide.
+    fn look(&mut self, ticket: &Ticket) -> Option<Result<(), Refusal>>
+        ensures some { IfSome result (λ r. Waits self.old ticket.now.place r self.new) }
+        ensures none { IfNone result ((counts : List ℕ) × (flags : List Bool) ×
+            Hears self.old counts flags self.new) }
+    {
+        if self.kept(ticket) {
+            return Some(Ok(()));
+        }
+        if self.failed() {
+            return Some(Err(Refusal::Lost));
+        }
+        None
+    }
+
+    // Loads the mark's failed flag.
+    fn failed(&mut self) -> bool
+        ensures { Hears self.old [] (result ∷ []) self.new }
+    {
+        self.shared.mark.failed(&mut self.watcher)
+    }
+
+    /// Both clients have seen the longer of what they had seen, which the shorter begins. They drew
+    /// no number both. It takes no memory, and waits for nobody.
+    pub fn meet(&mut self, other: &mut Client<'s, J>)
+        ensures one { self.new ≡ record self.old { seen = self.new.seen } }
+        ensures other { other.new ≡ record other.old { seen = self.new.seen } }
+        ensures longer { IsLonger self.old.seen other.old.seen self.new.seen }
+        ensures mine { steps_of self.new.number self.new.seen ≡
+            steps_of self.old.number self.old.seen }
+        ensures mine_of_other { steps_of other.new.number other.new.seen ≡
+            steps_of other.old.number other.old.seen }
+        ensures apart { self.old.number ≢ other.old.number }
+        ensures drawn { AreApart self.old.drawn other.old.drawn }
+    {
+        self.shared.line.meet(&mut self.line, &mut other.line);
+        self.shared
+            .numbers
+            .compare(&mut self.drawer, &mut other.drawer);
+    }
+
+    /// What the client has seen, without the store. A transaction that is open stays live, and is
+    /// undone when the disk is opened again.
+    pub fn leave(self) -> Seen<J>
+        ensures { (result.number ≡ self.entry.number) × (result.seen ≡ self.entry.seen) ×
+            (result.counts ≡ self.entry.counts) }
+    {
+        let Client { line, watcher, .. } = self;
+        Seen::new(line, watcher)
+    }
+}

@@ -1,0 +1,64 @@
+// The end of a store.
+ghost use Rattle.std.specs.Prelude.{◌≡◌};
+ghost use mathlib.Core.List.{IsPrefix};
+ghost use Rattle.group_commit.specs.Marks.{AreReached};
+ghost use Rattle.store.specs.Closing.{Closes, seen_of, counts_of};
+
+use crate::desk::Desk;
+use crate::naming::Naming;
+use crate::seen::Seen;
+use crate::shared::Shared;
+use crate::vault::Vault;
+use catalog::Catalog;
+use checkpoint::Keeper;
+use disk_model::Disk;
+use group_commit::{BookSeat, KeeperSeat};
+use txn::Book;
+
+/// The book and the keeper of a store that nobody shares any more.
+pub(crate) fn close<D: Disk, J: Naming>(
+    shared: &Shared<J>,
+    desk: Desk<J>,
+    vault: Vault<D, J>,
+    last: Option<Seen<J>>,
+) -> (Book<Catalog>, Keeper<D>)
+    ensures { Closes ⟦<J as Naming>⟧ ⟦<D as Disk>⟧ (seen_of last) (counts_of last) result.0
+        result.1 }
+{
+    let Desk {
+        book,
+        mut seat,
+        mut sender,
+        ..
+    } = desk;
+    let Vault {
+        keeper,
+        mut receiver,
+        mut mark,
+        ..
+    } = vault;
+    shared.handoff.compare(&mut sender, &mut receiver);
+    look_back(shared, &mut seat, &mut mark, last);
+    (book, keeper)
+}
+
+// What the last client had seen begins the history, and the mark reached what it had loaded.
+fn look_back<J: Naming>(
+    shared: &Shared<J>,
+    seat: &mut BookSeat,
+    mark: &mut KeeperSeat,
+    last: Option<Seen<J>>,
+)
+    requires seat { seat.old.table ≡ J.line }
+    requires mark { mark.old.table ≡ J.mark }
+    ensures seen { IsPrefix (seen_of last) seat.old.all }
+    ensures reached { AreReached (counts_of last) mark.old.count }
+{
+    match last {
+        Some(mut last) => {
+            shared.line.compare(seat, &mut last.line);
+            shared.mark.compare(mark, &mut last.watcher);
+        }
+        None => {}
+    }
+}

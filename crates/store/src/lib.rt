@@ -1,0 +1,52 @@
+//! A store of named collections that threads share: many clients run transactions on one book, a
+//! committer brings what they did to the disk, and a checkpointer writes images.
+//!
+//! Three lines open a store, the second in a function that is generic in its name:
+//!
+//! ```text
+//! let opened = Opened::open(alloc, disk)?;
+//! serve::<Brand, _, _>(&rt, opened)      // in `serve<J: Naming, ..>`:
+//! let store = opened.named::<J>();
+//! ```
+//!
+//! `serve` requires `IsNamed ⟦<J as Naming>⟧ ⟦<D as Disk>⟧ opened`, and the caller's
+//! `Invariants.antt` picks the name from the argument:
+//!
+//! ```text
+//! abbrev pub ghosts-serve : goal.ghosts-serve
+//! ghosts-serve g a = record {
+//!   line = a.opened.tables.line; mark = a.opened.tables.mark;
+//!   numbers = a.opened.tables.numbers; handoff = a.opened.tables.handoff;
+//!   start = a.opened.book.state.now; wear = a.opened.book.state.wear;
+//!   next = a.opened.book.next; sound = IsSoundly g.D.Disk a.opened;
+//! }
+//! ```
+//!
+//! Then each thread makes its own `Client`, `Committer` or `Checkpointer` of `&store`. No device is
+//! called under the book's lock; `begin`, `kept` and `meet` wait for nobody.
+#![tactic(auto)]
+
+mod checkpointing;
+mod client;
+mod closing;
+mod committing;
+mod desk;
+mod freezing;
+mod naming;
+mod opened;
+mod phase;
+mod seen;
+mod shared;
+mod store;
+mod ticket;
+mod vault;
+
+pub use checkpointing::{Checkpoint, Checkpointer};
+pub use client::Client;
+pub use committing::Committer;
+pub use naming::Naming;
+pub use opened::Opened;
+pub use phase::Phase;
+pub use seen::Seen;
+pub use store::Store;
+pub use ticket::Ticket;

@@ -1,0 +1,195 @@
+// A store that was opened and has no name yet.
+ghost use Rattle.std.specs.Prelude.{◌≡◌, ◌≤◌, ◌^◌, List, IfOk, IfErr, IsOkUnless};
+ghost use Rattle.calls.specs.Contents.{Collection};
+ghost use Rattle.calls.specs.declared.refusal.Refusal.{Refusal};
+ghost use Rattle.disk_model.specs.Disk.{ReadsOnly, Rises, IsAtRest};
+ghost use Rattle.repetition.specs.Journals.{StandsFor};
+ghost use Rattle.recovery.specs.Heads.{HasNoHeader};
+ghost use Rattle.recovery.specs.Openings.{IsOpened, IsDamagedAt, HasNoRoom, IsReadyStore};
+ghost use Rattle.recovery.specs.Openings.{IsOpenRefusal, KeepsContent};
+ghost use Rattle.store.specs.Openings.{IsNamed};
+
+use crate::desk::Desk;
+use crate::naming::Naming;
+use crate::shared::Shared;
+use crate::store::Store;
+use crate::vault::Vault;
+use calls::Refusal;
+use catalog::Catalog;
+use checkpoint::Keeper;
+use disk_model::Disk;
+use group_commit::{
+    BookSeat, DrawerMaker, Handoff, KeeperSeat, Line, Mark, Numbers, Receiver, Sender, Watcher,
+};
+use recovery::open;
+use std::alloc::Global;
+use std::marker::{Model, PhantomData};
+use txn::Book;
+
+/// A store that was opened and has no name yet: `named` gives the store. Contracts see its book and
+/// keeper, and the tables of its parts.
+#[derive(Drop)]
+pub struct Opened<D: Disk> {
+    book: Book<Catalog>,
+    keeper: Keeper<D>,
+    parts: Parts,
+}
+
+// What threads share beside the locks, with the first seats.
+#[derive(Drop)]
+struct Parts {
+    line: Line,
+    seat: BookSeat,
+    mark: Mark,
+    kept: KeeperSeat,
+    watcher: Watcher,
+    numbers: Numbers,
+    maker: DrawerMaker,
+    handoff: Handoff,
+    sender: Sender,
+    receiver: Receiver,
+}
+
+impl Model for Parts {
+    ghost use Rattle.std.specs.Prelude.{◌≡◌, []};
+    ghost use Rattle.group_commit.specs.Marks.{new_watcher};
+    ghost use Rattle.store.specs.Openings.{Tables};
+
+    ghost Value = { Tables };
+
+    ghost view = { λ p. record {
+      line = p.line;
+      mark = p.mark;
+      numbers = p.numbers;
+      handoff = p.handoff;
+      from = p.maker.from;
+    } };
+
+    ghost invariant = { λ p. (p.seat ≡ record { table = p.line; all = []; clients = 0 })
+        × (p.kept ≡ record { table = p.mark; count = 0 })
+        × (p.watcher ≡ new_watcher p.mark)
+        × (p.maker ≡ record { table = p.numbers; from = p.maker.from; made = 0 })
+        × (p.sender ≡ record { table = p.handoff; sent = []; noted = [] })
+        × (p.receiver ≡ record { table = p.handoff; received = []; noted = [] }) };
+}
+
+impl<D: Disk> Model for Opened<D> {
+    ghost use Rattle.std.specs.Prelude.{◌≡◌};
+    ghost use Rattle.std.specs.Coded.{codes, coded_ℕ, coded_bool};
+    ghost use Rattle.std.specs.FinMap as maps;
+    ghost use Rattle.std.specs.Ordering.{nat_cmp};
+    ghost use Rattle.catalog.specs.Holdings.{catalog_code};
+    ghost use Rattle.txn.specs.Books.{opened};
+    ghost use Rattle.checkpoint.specs.Keepers.{IsFresh};
+    ghost use Rattle.store.specs.Openings.{OpenedState};
+
+    ghost Value = { OpenedState D };
+
+    ghost coded = { Prim.hlevel (codes, catalog_code, maps.code {R = nat_cmp} coded_ℕ coded_bool) };
+
+    ghost view = { λ o. record { book = o.book; keeper = o.keeper; tables = o.parts } };
+
+    ghost invariant = { λ o. (o.parts.from ≡ o.book.next) × IsFresh o.keeper ×
+        (o.book ≡ opened o.book.state.now o.book.next o.book.state.wear) };
+}
+
+impl Parts {
+    // Parts of a store whose numbers begin there. Refused only for want of memory.
+    fn new(alloc: Global, from: u64) -> Result<Parts, Refusal>
+        requires { from ≤ 2 ^ 61 }
+        ensures from { IfOk result (λ p. p.from ≡ from) }
+        ensures refusal { IsOkUnless result Refusal.NoMemory }
+    {
+        let (line, seat) = Line::new(alloc)?;
+        let (mark, kept, watcher) = Mark::new(alloc)?;
+        let (numbers, maker) = Numbers::new(alloc, from)?;
+        let (handoff, sender, receiver) = Handoff::new(alloc)?;
+        Ok(Parts {
+            line,
+            seat,
+            mark,
+            kept,
+            watcher,
+            numbers,
+            maker,
+            handoff,
+            sender,
+            receiver,
+        })
+    }
+}
+
+impl<D: Disk> Opened<D> {
+    /// Opens the store on a disk, as `recovery::open` does, with its refusals, for threads.
+    /// Beside what that takes it takes the memory of a few words.
+    pub fn open(alloc: Global, disk: D) -> Result<Opened<D>, (Refusal, D)>
+        // What it answers, of a disk that read true.
+        ensures opened { IfOk result (λ o. D.is_honest o.keeper.disk →
+            IsOpened (D.seen disk) o.book o.keeper.area (D.seen o.keeper.disk)) }
+        ensures ready { IfOk result (λ o. D.is_honest o.keeper.disk →
+            IsAtRest D.seen D.may_leave disk →
+            IsReadyStore D.seen D.may_leave (D.seen disk) o.book o.keeper.area o.keeper.disk) }
+        ensures content { (content : List Collection) → StandsFor (D.seen disk) content →
+            IfOk result (λ o. D.is_honest o.keeper.disk → o.book.state.now ≡ content) }
+        // What a stop leaves.
+        ensures kept { IfOk result (λ o. D.is_honest o.keeper.disk →
+            KeepsContent D.seen D.may_leave D.moment D.left_since disk o.keeper.disk) }
+        ensures kept_in_refusal { IfErr result (λ x. D.is_honest x.1 →
+            KeepsContent D.seen D.may_leave D.moment D.left_since disk x.1) }
+        // Why it is refused.
+        ensures refused { IfErr result (λ x. IsOpenRefusal
+            (Rises (D.fault_count disk) (D.fault_count x.1))
+            (D.is_honest x.1 → HasNoHeader (D.seen disk))
+            (λ place. D.is_honest x.1 → IsDamagedAt (D.seen disk) place)
+            (D.is_honest x.1 → HasNoRoom (D.seen disk)) x.0) }
+        // What the device tells.
+        ensures honest { IfOk result (λ o. D.is_honest o.keeper.disk → D.is_honest disk) }
+        ensures honest_in_refusal { IfErr result (λ x. D.is_honest x.1 → D.is_honest disk) }
+    {
+        let (book, keeper) = open(alloc, disk)?;
+        book.upheld();
+        match Parts::new(alloc, book.next()) {
+            Ok(parts) => Ok(Opened {
+                book,
+                keeper,
+                parts,
+            }),
+            Err(refusal) => Err((refusal, keeper.into_disk())),
+        }
+    }
+
+    /// The store, under its name. Nothing is done for it.
+    pub fn named<J: Naming>(self) -> Store<D, J>
+        requires { IsNamed ⟦<J as Naming>⟧ ⟦<D as Disk>⟧ self }
+    {
+        let Opened {
+            book,
+            keeper,
+            parts,
+        } = self;
+        let Parts {
+            line,
+            seat,
+            mark,
+            kept,
+            watcher,
+            numbers,
+            maker,
+            handoff,
+            sender,
+            receiver,
+        } = parts;
+        let shared = Shared {
+            line,
+            mark,
+            numbers,
+            handoff,
+            of: PhantomData,
+        };
+        Store::new(
+            Desk::new(book, seat, sender, maker, watcher),
+            Vault::new(keeper, receiver, kept),
+            shared,
+        )
+    }
+}

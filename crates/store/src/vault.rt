@@ -1,0 +1,191 @@
+// What lies under the keeper's lock.
+ghost use Rattle.std.specs.Prelude.{◌≡◌, max, [], IfSome, IfNone};
+ghost use Rattle.store.specs.Turns.{Brings, TurnTells, CheckTells, brought_to, flipped_to, Fails};
+ghost use Rattle.store.specs.Turns.{Reaches};
+ghost use Rattle.store.specs.Vaults.{ReceivesAny};
+
+use crate::checkpointing::Checkpoint;
+use crate::naming::Naming;
+use crate::shared::Shared;
+use calls::Refusal;
+use checkpoint::{Keeper, Turn};
+use disk_model::Disk;
+use group_commit::{Handoff, Incoming, KeeperSeat, Mark, Receiver, Watcher};
+use std::marker::{Model, PhantomData};
+use std::sync::Wait;
+
+/// The keeper, with the receiving end of the hand-off and the seat that brings the mark on. What
+/// lies under a lock is known by its type: contracts see nothing else of it.
+#[derive(Drop)]
+pub(crate) struct Vault<D: Disk, J: Naming> {
+    pub(crate) keeper: Keeper<D>,
+    pub(crate) receiver: Receiver,
+    pub(crate) mark: KeeperSeat,
+    of: PhantomData<J>,
+}
+
+impl<D: Disk, J: Naming> Model for Vault<D, J> {
+    ghost use Rattle.store.specs.Vaults.{IsVault};
+
+    ghost Value = { Unit {0} };
+
+    ghost view = { λ v. tt };
+
+    ghost invariant = { λ v. IsVault ⟦<J as Naming>⟧ ⟦<D as Disk>⟧ v.keeper v.receiver v.mark };
+}
+
+impl<D: Disk, J: Naming> Vault<D, J> {
+    /// The vault of a keeper that was just opened.
+    pub(crate) fn new(keeper: Keeper<D>, receiver: Receiver, mark: KeeperSeat) -> Self
+        requires receiver { receiver ≡ record { table = J.handoff; received = []; noted = [] } }
+        requires mark { mark ≡ record { table = J.mark; count = 0 } }
+        requires received { J.sound →
+            ReceivesAny ⟦<D as Disk>⟧ J.start J.wear [] [] keeper }
+    {
+        Self {
+            keeper,
+            receiver,
+            mark,
+            of: PhantomData,
+        }
+    }
+
+    /// Brings a block to the disk: the answer of `Keeper::turn`. The mark is brought on, and the
+    /// watcher told of it; where the keeper met a fault, the failed flag is set.
+    pub(crate) fn turn<R: Wait>(
+        &mut self,
+        rt: &R,
+        shared: &Shared<J>,
+        watcher: &mut Watcher,
+    ) -> Result<Turn, Refusal>
+        requires { watcher.old.table ≡ J.mark }
+        ensures { TurnTells watcher.old result watcher.new }
+    {
+        let turned = bring(rt, &shared.handoff, &mut self.keeper, &mut self.receiver);
+        turn_told(&shared.mark, &mut self.mark, watcher, &turned);
+        turned
+    }
+
+    /// Goes on with the image in progress, by a piece or, where none is left, by the flip; the mark
+    /// and the watcher as in a turn. None where no image is in progress.
+    pub(crate) fn lay(
+        &mut self,
+        shared: &Shared<J>,
+        watcher: &mut Watcher,
+    ) -> Option<Result<Checkpoint, Refusal>>
+        requires { watcher.old.table ≡ J.mark }
+        ensures some { IfSome result (λ r. CheckTells watcher.old r watcher.new) }
+        ensures none { IfNone result (watcher.new ≡ watcher.old) }
+    {
+        let left = self.keeper.left()?;
+        if left >= 1 {
+            let laid = self.keeper.image_piece();
+            return Some(piece_told(&shared.mark, watcher, &laid));
+        }
+        let flipped = self.keeper.flip();
+        Some(flip_told(&shared.mark, &mut self.mark, watcher, &flipped))
+    }
+}
+
+// A turn of the keeper over the hand-off.
+fn bring<D: Disk, R: Wait>(
+    rt: &R,
+    handoff: &Handoff,
+    keeper: &mut Keeper<D>,
+    receiver: &mut Receiver,
+) -> Result<Turn, Refusal>
+    requires { receiver.old.table ≡ handoff.now }
+    ensures { Brings ⟦<D as Disk>⟧ keeper.old receiver.old result keeper.new receiver.new }
+{
+    let mut inbox = Incoming {
+        rt,
+        handoff,
+        receiver,
+    };
+    keeper.turn(&mut inbox)
+}
+
+// The mark reaches the place, and the watcher is told of it.
+fn reach(mark: &Mark, seat: &mut KeeperSeat, watcher: &mut Watcher, place: u64)
+    requires seat { seat.old.table ≡ mark.now }
+    requires watcher { watcher.old.table ≡ mark.now }
+    ensures seat { seat.new ≡ record { table = seat.old.table; count = max seat.old.count place } }
+    ensures watcher { Reaches watcher.old place watcher.new }
+{
+    mark.advance(seat, place);
+    mark.tell(seat, watcher);
+}
+
+/// Where the keeper met a fault, the failed flag is set.
+pub(crate) fn note_failure(mark: &Mark, watcher: &mut Watcher, refusal: Refusal)
+    requires { watcher.old.table ≡ mark.now }
+    ensures { Fails watcher.old refusal watcher.new }
+{
+    match refusal {
+        Refusal::Fault | Refusal::Failed => mark.fail(watcher),
+        _ => {}
+    }
+}
+
+// What a turn answered is told to the mark and to the watcher.
+fn turn_told(
+    mark: &Mark,
+    seat: &mut KeeperSeat,
+    watcher: &mut Watcher,
+    turned: &Result<Turn, Refusal>,
+)
+    requires seat { seat.old.table ≡ mark.now }
+    requires watcher { watcher.old.table ≡ mark.now }
+    ensures seat { seat.new ≡
+        record { table = seat.old.table; count = brought_to seat.old.count turned.now } }
+    ensures watcher { TurnTells watcher.old turned.now watcher.new }
+{
+    match turned {
+        Ok(Turn::Kept(place)) => reach(mark, seat, watcher, *place),
+        Ok(_) => {}
+        Err(refusal) => note_failure(mark, watcher, *refusal),
+    }
+}
+
+// What a piece of an image answered.
+fn piece_told(
+    mark: &Mark,
+    watcher: &mut Watcher,
+    laid: &Result<bool, Refusal>,
+) -> Result<Checkpoint, Refusal>
+    requires { watcher.old.table ≡ mark.now }
+    ensures { CheckTells watcher.old result watcher.new }
+{
+    match laid {
+        Ok(_) => Ok(Checkpoint::Piece),
+        Err(refusal) => {
+            note_failure(mark, watcher, *refusal);
+            Err(*refusal)
+        }
+    }
+}
+
+// What a flip answered is told to the mark and to the watcher.
+fn flip_told(
+    mark: &Mark,
+    seat: &mut KeeperSeat,
+    watcher: &mut Watcher,
+    flipped: &Result<u64, Refusal>,
+) -> Result<Checkpoint, Refusal>
+    requires seat { seat.old.table ≡ mark.now }
+    requires watcher { watcher.old.table ≡ mark.now }
+    ensures seat { seat.new ≡
+        record { table = seat.old.table; count = flipped_to seat.old.count flipped.now } }
+    ensures watcher { CheckTells watcher.old result watcher.new }
+{
+    match flipped {
+        Ok(place) => {
+            reach(mark, seat, watcher, *place);
+            Ok(Checkpoint::Flipped(*place))
+        }
+        Err(refusal) => {
+            note_failure(mark, watcher, *refusal);
+            Err(*refusal)
+        }
+    }
+}
