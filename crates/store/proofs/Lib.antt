@@ -3,3 +3,4 @@ pub mod Recording
 pub mod DeskSteps
 pub mod VaultSteps
 pub mod Seeing
+pub mod Sends

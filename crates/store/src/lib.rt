@@ -30,6 +30,7 @@ mod checkpointing;
 mod client;
 mod closing;
 mod committing;
+mod crossing;
 mod desk;
 mod freezing;
 mod naming;
