@@ -93,8 +93,9 @@ impl<'s, J: Naming> Client<'s, J> {
         !matches!(&self.phase, Phase::Closed)
     }
 
-    /// Begins a transaction: draws its number, which no client of the store drew before. The book
-    /// does not know it until the first call. It takes no memory, and waits for nobody.
+    /// Begins a transaction: draws its number, which this client did not draw before, nor did
+    /// another one (`meet`). The book does not know it until the first call. It takes no memory, and
+    /// waits for nobody.
     ///
     /// Worn exactly where the number is 2^61 or more, or the client has drawn 2^40; it has no
     /// transaction then.
@@ -157,8 +158,8 @@ impl<'s, J: Naming> Client<'s, J> {
     }
 
     /// Commits the client's transaction and gives its ticket. It is in effect for all at once, and
-    /// kept through a stop once the mark reaches the ticket (`kept`, `wait`). A number that was only
-    /// drawn is entered first. It takes the book's lock once, and calls no device.
+    /// kept through a stop once the mark reaches the ticket (`kept`, `wait`). A number that was
+    /// only drawn is entered first. It takes the book's lock once, and calls no device.
     ///
     /// The refusals of `Book::enter` where it is entered, and of `Book::commit`; the transaction
     /// stays open then.

@@ -120,8 +120,11 @@ impl Parts {
 }
 
 impl<D: Disk> Opened<D> {
-    /// Opens the store on a disk, as `recovery::open` does, with its refusals, for threads.
-    /// Beside what that takes it takes the memory of a few words.
+    /// Opens the store on a disk for threads, as `recovery::open` does, with its refusals. Beside what
+    /// that takes it takes the memory of a few words.
+    ///
+    /// NoMemory may also come once the disk is open: then what the opening wrote stays, and the disk,
+    /// which is handed back, has the same content and can be opened again.
     pub fn open(alloc: Global, disk: D) -> Result<Opened<D>, (Refusal, D)>
         // What it answers, of a disk that read true.
         ensures opened { IfOk result (λ o. D.is_honest o.keeper.disk →
