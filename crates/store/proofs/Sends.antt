@@ -1,6 +1,10 @@
 -- What a store is made of may go to another thread, or be shared.
-use denote.Param.Send.{IsSend, sendable}
+use denote.RattleType.{RattleType}
+use denote.Param.Send.{IsSend, IsSync, sendable, recorded_sync, struct_sync}
+use denote.Struct.Declared.{shape}
 use Rattle.std.proofs.Crossing.{crosses}
+use Rattle.std.specs.contracts.sync.Mutex as mutex
+use Rattle.disk_model.specs.declared.disk.Disk as disks
 use Rattle.blocks.specs.contracts.pending.Pending.{the_row}
 use Rattle.catalog.proofs.catalog.Catalog.TheSendSync as catalogs
 use Rattle.machine.proofs.machine.Machine.TheSendSync as machines
@@ -17,6 +21,12 @@ use Rattle.group_commit.proofs.mark.Watcher.TheSendSync as watchers
 use Rattle.group_commit.proofs.numbers.Numbers.TheSendSync as numbers
 use Rattle.group_commit.proofs.numbers.Drawer.TheSendSync as drawers
 use Rattle.group_commit.proofs.numbers.DrawerMaker.TheSendSync as makers
+use Rattle.store.specs.declared.naming.Naming as namings
+use Rattle.store.specs.contracts.desk.Desk as desk
+use Rattle.store.specs.contracts.vault.Vault as vault
+use Rattle.store.specs.contracts.shared.Shared as shared
+use Rattle.store.specs.contracts.store.Store as store
+use Rattle.store.proofs.vault.Vault.TheSendSync as vaults
 
 pub pending_sends : IsSend the_row
 pending_sends = search (sendable, crosses) depth 60
@@ -41,3 +51,19 @@ pub ruleset parts = (
   drawers.the_send,
   makers.the_send,
 )
+
+-- A store may be shared where its disk may be sent.
+module _ (D J : RattleType) (n : namings.Ghosts J.Denot) (d : disks.Ghosts D.Denot)
+    (D_send : IsSend D) (J_send : IsSend J) (J_sync : IsSync J) where
+  desk_sync : IsSync (mutex.the_row (desk.the_row J n))
+  desk_sync = search parts depth 80 fits 100000
+
+  vault_sync : IsSync (mutex.the_row (vault.the_row D J d n))
+  vault_sync = search (parts, vaults.the_send) depth 80 fits 100000
+
+  shared_sync : IsSync (shared.the_field J n).row
+  shared_sync = struct_sync (shape (shared.the_type J n)) (search parts depth 80 fits 100000)
+
+  pub store_sync : IsSync (store.the_row D J n d)
+  store_sync = recorded_sync (store.the_field D J n d).row _ _ (store.the_type D J n d).to_one
+      (struct_sync (shape (store.the_type D J n d)) (desk_sync, (vault_sync, (shared_sync, tt))))

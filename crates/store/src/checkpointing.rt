@@ -64,7 +64,7 @@ impl<'s, D: Disk, J: Naming> Checkpointer<'s, D, J> {
 
     /// Takes the next step of a checkpoint: freezes the book, where no image is in progress; else
     /// writes a piece of the image, or flips to it where none is left. A freeze holds both locks,
-    /// the book's first, calls no device, and takes time and memory as `Book::freeze`; a piece is
+    /// the keeper's first, so that no client waits for the disk, calls no device, and takes time and memory as `Book::freeze`; a piece is
     /// one write, a flip two writes and two syncs, both under the keeper's lock alone.
     ///
     /// The refusals of `Book::freeze` and of `Keeper::begin_image`; or of `Keeper::image_piece`; or
@@ -86,8 +86,8 @@ impl<'s, D: Disk, J: Naming> Checkpointer<'s, D, J> {
     {
         let desk = self.desk;
         let vault = self.vault;
-        let mut desk = desk.lock(rt);
         let mut vault = vault.lock(rt);
+        let mut desk = desk.lock(rt);
         match freeze(self.shared, &mut desk, &mut vault) {
             Ok(()) => Ok(Checkpoint::Frozen),
             Err(refusal) => {

@@ -1,12 +1,9 @@
 // What may cross threads: each function is accepted only where its argument may.
 use crate::client::Client;
-use crate::desk::Desk;
 use crate::naming::Naming;
 use crate::seen::Seen;
-use crate::shared::Shared;
-use crate::vault::Vault;
+use crate::store::Store;
 use disk_model::Disk;
-use std::sync::Mutex;
 
 fn sent<T: Send>(x: T) -> T {
     x
@@ -14,14 +11,9 @@ fn sent<T: Send>(x: T) -> T {
 
 fn shared<T: Sync>(_x: &T) {}
 
-// The book, under its lock.
-fn shares_desk<J: Naming + Send + Sync>(desk: &Mutex<Desk<J>>) {
-    shared(desk);
-}
-
-// The keeper, under its lock, and what threads share beside.
-fn shares_rest<D: Disk + Send, J: Naming + Send + Sync>(rest: &(Mutex<Vault<D, J>>, Shared<J>)) {
-    shared(rest);
+// A store.
+fn shares_store<D: Disk + Send, J: Naming + Send + Sync>(store: &Store<D, J>) {
+    shared(store);
 }
 
 // What a client's thread has.
