@@ -29,7 +29,6 @@ pub(crate) struct Filled {
 ///
 /// Contracts see the records that wait, in order, the positions that no block may cross, and how
 /// many records were handed over before.
-#[derive(Drop)]
 pub struct Pending {
     alloc: Global,
     // blocks into which no more records go, the one that is filled now, and room for one more
@@ -39,6 +38,23 @@ pub struct Pending {
     // how many records they are
     count: usize,
     handed: Handed,
+}
+
+// Written out, so that the crates above call it in place of proving it again.
+impl Drop for Pending {
+    fn drop(self) {
+        let Self {
+            alloc: _alloc,
+            full,
+            last,
+            spare,
+            count: _count,
+            handed: _handed,
+        } = self;
+        drop(full);
+        drop(last);
+        drop(spare);
+    }
 }
 
 impl Model for Pending {

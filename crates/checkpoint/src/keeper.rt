@@ -32,7 +32,6 @@ use std::marker::Model;
 ///
 /// The area is one of the two of the disk, and the image goes into the other one. Contracts see the
 /// keeper as a `KeeperState`.
-#[derive(Drop)]
 pub struct Keeper<D: Disk> {
     disk: D,
     area: Area,
@@ -41,6 +40,24 @@ pub struct Keeper<D: Disk> {
     failed: bool,
     covered: u64,
     image: Option<Laying>,
+}
+
+// Written out, so that the crates above call it in place of proving it again.
+impl<D: Disk + Drop> Drop for Keeper<D> {
+    fn drop(self) {
+        let Self {
+            disk,
+            area: _area,
+            mark: _mark,
+            held,
+            failed: _failed,
+            covered: _covered,
+            image,
+        } = self;
+        drop(disk);
+        drop(held);
+        drop(image);
+    }
 }
 
 impl<D: Disk> Model for Keeper<D> {
@@ -416,7 +433,17 @@ impl<D: Disk> Keeper<D> {
     pub fn into_disk(self) -> D
         ensures { result ≡ self.disk }
     {
-        let Self { disk, .. } = self;
+        let Self {
+            disk,
+            area: _area,
+            mark: _mark,
+            held,
+            failed: _failed,
+            covered: _covered,
+            image,
+        } = self;
+        drop(held);
+        drop(image);
         disk
     }
 }

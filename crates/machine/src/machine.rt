@@ -41,11 +41,23 @@ use undo_log::{Later, Live, Logged};
 ///
 /// Contracts see what the collections hold now, the live transactions with what they asked for and
 /// did not undo, the needs that they hold, and the wear.
-#[derive(Drop)]
 pub struct Machine<B: Parts + Coded> {
     parts: B,
     ledger: Ledger,
     wear: u64,
+}
+
+// Written out, so that the crates above call it in place of proving it again.
+impl<B: Parts + Coded + Drop> Drop for Machine<B> {
+    fn drop(self) {
+        let Self {
+            parts,
+            ledger,
+            wear: _wear,
+        } = self;
+        drop(parts);
+        drop(ledger);
+    }
 }
 
 impl<B: Parts + Coded> Model for Machine<B> {
@@ -186,7 +198,12 @@ impl<B: Parts + Coded> Machine<B> {
             self.live ≡ maps.empty → Serial (committed (acts_of rs)) (B.collections start)
             (B.collections result) }
     {
-        let Self { parts, .. } = self;
+        let Self {
+            parts,
+            ledger,
+            wear: _wear,
+        } = self;
+        drop(ledger);
         parts
     }
 

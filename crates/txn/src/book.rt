@@ -43,7 +43,6 @@ const MAKE_HEAD: usize = 3;
 /// Contracts see what the collections hold now, the live transactions with what they asked for and
 /// the needs that they hold, the wear, and the records that wait. A refused step changes nothing of
 /// that.
-#[derive(Drop)]
 pub struct Book<B: Parts + Coded> {
     alloc: Global,
     machine: Machine<B>,
@@ -52,6 +51,21 @@ pub struct Book<B: Parts + Coded> {
     places: u64,
     // above every number that was entered
     next: u64,
+}
+
+// Written out, so that the crates above call it in place of proving it again.
+impl<B: Parts + Coded + Drop> Drop for Book<B> {
+    fn drop(self) {
+        let Self {
+            alloc: _alloc,
+            machine,
+            pending,
+            places: _places,
+            next: _next,
+        } = self;
+        drop(machine);
+        drop(pending);
+    }
 }
 
 impl<B: Parts + Coded> Model for Book<B> {
