@@ -28,11 +28,24 @@ use txn::Book;
 
 /// A store that was opened and has no name yet: `named` gives the store. Contracts see its book and
 /// keeper, and the tables of its parts.
-#[derive(Drop)]
 pub struct Opened<D: Disk> {
     book: Book<Catalog>,
     keeper: Keeper<D>,
     parts: Parts,
+}
+
+// Written out, so that the crates above call it in place of proving it again.
+impl<D: Disk + Drop> Drop for Opened<D> {
+    fn drop(self) {
+        let Self {
+            book,
+            keeper,
+            parts,
+        } = self;
+        drop(book);
+        drop(keeper);
+        drop(parts);
+    }
 }
 
 // What threads share beside the locks, with the first seats.

@@ -23,11 +23,24 @@ use txn::Book;
 
 /// A store of named collections that threads share: a book under one lock, its keeper under
 /// another, and what they share beside. No device is called under the book's lock.
-#[derive(Drop)]
 pub struct Store<D: Disk, J: Naming> {
     desk: Mutex<Desk<J>>,
     vault: Mutex<Vault<D, J>>,
     shared: Shared<J>,
+}
+
+// Written out, so that the crates above call it in place of proving it again.
+impl<D: Disk + Drop, J: Naming> Drop for Store<D, J> {
+    fn drop(self) {
+        let Self {
+            desk,
+            vault,
+            shared,
+        } = self;
+        drop(desk);
+        drop(vault);
+        drop(shared);
+    }
 }
 
 impl<D: Disk, J: Naming> Store<D, J> {
