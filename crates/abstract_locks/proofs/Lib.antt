@@ -1,3 +1,9 @@
 pub mod Rooms
 pub mod Members
 pub mod Blockers
+pub mod Places
+pub mod Reaching
+pub mod Halving
+pub mod Putting
+pub mod Roomier
+pub mod Granting

@@ -1,7 +1,8 @@
 -- What is in a list after a filter, and after one is put to its end.
 use Rattle.std.proofs.Common.{◌≡◌, ◌≢◌, ℕ, ◌⊎◌, ◌==◌, inl, inr, Bool, true, false, not, cond, List}
-use Rattle.std.proofs.Common.{[], ◌∷◌, ◌++◌, refl, sym, subst, ⊎_elim, arith}
-use Rattle.std.specs.List.{filter, Contains}
+use Rattle.std.proofs.Common.{[], ◌∷◌, ◌++◌, take, drop, take-append-drop, refl, sym, subst, ⊎_elim}
+use Rattle.std.proofs.Common.{arith}
+use Rattle.std.specs.List.{filter, insert, Contains}
 use Rattle.std.proofs.lemmas.List.Elements.{Contains-push, Contains-push_cases}
 use Rattle.std.proofs.lemmas.List.Elements.{Contains-append_left, Contains-append_right}
 use Rattle.std.proofs.lemmas.List.Elements.{Contains-append_cases}
@@ -62,10 +63,40 @@ pushed_is_added holds h x = (
       (λ same. subst (Contains (holds ++ h ∷ [])) (sym same) (Contains-push holds h)) either,
 )
 
-test_says : (a b : ℕ) → not (a == b) ≡ true → a ≢ b
+-- a hold that was there
+pub present_is_added : (holds : List Hold) (h : Hold) → Contains holds h → IsAdded holds holds h
+present_is_added holds h there x = (
+  λ inside. inl inside,
+  λ either. ⊎_elim (λ old. old) (λ same. subst (Contains holds) (sym same) there) either,
+)
+
+-- a hold that is put at a place
+pub inserted_is_added : (holds : List Hold) (i : ℕ) (h : Hold) → IsAdded holds (insert holds i h) h
+inserted_is_added holds i h x =
+    let whole : take i holds ++ drop i holds ≡ holds = take-append-drop i holds in (
+      λ inside. ⊎_elim
+          (λ old. inl (subst (λ l. Contains l x) whole
+          (Contains-append_left (take i holds) (drop i holds) x old)))
+          (λ rest. ⊎_elim (λ one. inr (sym (only h x one)))
+          (λ later. inl (subst (λ l. Contains l x) whole
+          (Contains-append_right (take i holds) (drop i holds) x later)))
+          (Contains-append_cases (h ∷ []) (drop i holds) x rest))
+          (Contains-append_cases (take i holds) (h ∷ drop i holds) x inside),
+      λ either. ⊎_elim
+          (λ old. ⊎_elim (λ first. Contains-append_left (take i holds) (h ∷ drop i holds) x first)
+          (λ later. Contains-append_right (take i holds) (h ∷ drop i holds) x
+          (Contains-append_right (h ∷ []) (drop i holds) x later))
+          (Contains-append_cases (take i holds) (drop i holds) x
+          (subst (λ l. Contains l x) (sym whole) old)))
+          (λ same. Contains-append_right (take i holds) (h ∷ drop i holds) x
+          (Contains-append_left (h ∷ []) (drop i holds) x
+          (subst (Contains (h ∷ [])) (sym same) (Contains-push [] h)))) either,
+    )
+
+pub test_says : (a b : ℕ) → not (a == b) ≡ true → a ≢ b
 test_says a b e same = grind arith
 
-says_test : (a b : ℕ) → a ≢ b → not (a == b) ≡ true
+pub says_test : (a b : ℕ) → a ≢ b → not (a == b) ≡ true
 says_test a b n = grind arith
 
 -- the holds of others are what is left of all

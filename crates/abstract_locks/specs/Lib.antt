@@ -1,1 +1,4 @@
 pub mod Holds
+pub mod Claimed
+pub mod Claims
+pub mod Holders

@@ -1,6 +1,7 @@
 //! The needs that live transactions hold, and which other owner stands in the way of a need.
 #![tactic(auto)]
 
+mod claims;
 mod table;
 
 pub use table::NeedTable;
