@@ -10,9 +10,12 @@
 //! ```
 //!
 //! `serve` requires `IsNamed ⟦<J as Naming>⟧ ⟦<D as Disk>⟧ opened`, and the caller's
-//! `Invariants.antt` picks the name from the argument:
+//! `Invariants.antt` picks the name from the argument (the caller, here `serve_any` of a crate NAME, is
+//! generic in the disk alone):
 //!
 //! ```text
+//! use Rattle.NAME.proofs.serve_any.Given as goal
+//!
 //! abbrev pub ghosts-serve : goal.ghosts-serve
 //! ghosts-serve g a = record {
 //!   line = a.opened.tables.line; mark = a.opened.tables.mark;
