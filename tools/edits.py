@@ -1,9 +1,9 @@
 #!/usr/bin/env python3
 """edits.py CRATE [WORD..]: tries the crate's must-fail edits (those whose names contain a WORD) as the gate does, and times each.
 
-Each is tried over a copy of what the last check kept, so check the crate first. A line tells the seconds, the modules
-that took most of them, and what refused the edit. With --anew as the one WORD it times a check of the crate from nothing,
-in processor seconds: the one measure that says whether an answer made a proof cheaper.
+Each is tried over a copy of what the last check kept, so check the crate first. A line tells the processor seconds, the
+seconds, the modules that took most of these, and what refused the edit. With --anew as the one WORD it times a check of the
+crate from nothing, in processor seconds: the one measure that says whether an answer made a proof cheaper.
 """
 import importlib.machinery
 import importlib.util
@@ -41,11 +41,16 @@ def dearest(folder, began, ended):
     return "; ".join(f"{seconds:.1f} {name}" for seconds, name in sorted(took, reverse=True)[:4])
 
 
+def used():
+    """The processor seconds of the checks so far."""
+    so_far = resource.getrusage(resource.RUSAGE_CHILDREN)
+    return so_far.ru_utime + so_far.ru_stime
+
+
 def from_nothing(rt, crate, room):
     """Prints what a check of the crate from nothing takes."""
     ran = rt.checked(crate, {}, ["--jobs", "1"], room)
-    used = resource.getrusage(resource.RUSAGE_CHILDREN)
-    print(f"{used.ru_utime + used.ru_stime:.1f} processor seconds:", ran.stdout.rstrip().split("\n")[-1][:40])
+    print(f"{used():.1f} processor seconds:", ran.stdout.rstrip().split("\n")[-1][:40])
 
 
 def edits(rt, crate, words, room):
@@ -56,10 +61,10 @@ def edits(rt, crate, words, room):
             continue
         over = f"{room}/{name}"
         rt.linked(f"{crate.folder}/out/incremental", over)
-        began = time.time()
+        began, before = time.time(), used()
         _, said = rt.must_fail(crate, edit, ["--jobs", "1"], over)
         ended = time.time()
-        print(f"{ended - began:6.1f} {dearest(over, began, ended)}\n       {said[:200]}", flush=True)
+        print(f"{used() - before:6.1f} {ended - began:6.1f} {dearest(over, began, ended)}\n       {said[:200]}", flush=True)
         shutil.rmtree(over)
 
 
