@@ -79,7 +79,7 @@ fn sync_unless_broken(file: &File, is_broken: &mut bool) -> bool
     ensures stays { is_broken.old ≡ true → result ≡ false }
     ensures breaks { is_broken.new ≡ not result }
 {
-    let ok = !*is_broken && file.sync_all().is_ok();
+    let ok = !*is_broken && file.sync_data().is_ok();
     *is_broken = !ok;
     ok
 }
