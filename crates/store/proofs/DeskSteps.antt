@@ -1,6 +1,6 @@
 -- Each step of the book keeps what lies under its lock.
-use Rattle.std.proofs.Common.{◌≡◌, ◌⊎◌, ⊎_elim, ℕ, ◌-◌, ◌+◌, Bool, true, false, Option, Some, None}
-use Rattle.std.proofs.Common.{Result, Ok, Err, List, [], ◌∷◌, ◌++◌, length, refl, sym, ap, ◌∙◌}
+use Rattle.std.proofs.Common.{◌≡◌, ⊎_elim, ℕ, Bool, true, false, Option, None}
+use Rattle.std.proofs.Common.{Result, Ok, Err, List, [], ◌∷◌, ◌++◌, refl, sym, ap, ◌∙◌}
 use Rattle.std.proofs.Common.{subst, arith}
 use Rattle.std.specs.List.{AllByRecursion}
 use Rattle.std.proofs.lemmas.List.{append-nil}
@@ -11,7 +11,7 @@ use Rattle.record_format.specs.declared.record.Record.{Record}
 use Rattle.record_format.specs.Records.{IsRecord}
 use Rattle.blocks.specs.declared.block.Block.{Block}
 use Rattle.blocks.specs.declared.block.Image.{Image}
-use Rattle.repetition.specs.Steps.{State, Repeats}
+use Rattle.repetition.specs.Steps.{Repeats}
 use Rattle.txn.specs.declared.steps.Action.{Action}
 use Rattle.txn.specs.declared.steps.BookStep.{BookStep}
 use Rattle.txn.specs.Books.{BookState, standing, opened, Takes, CutAnswers}
@@ -21,7 +21,6 @@ use Rattle.txn.specs.Handing.{HasHanded}
 use Rattle.txn.proofs.Takings.{leaves}
 use Rattle.txn.proofs.Handings.{records_by-push, opens, takes_on, cuts_on}
 use Rattle.catalog.specs.Meaning.{catalog_meaning, catalog_making}
-use Rattle.checkpoint.specs.Keeping.{BegunImage}
 use Rattle.group_commit.specs.Lines as lines
 use Rattle.group_commit.specs.Lines.{stepped}
 use Rattle.group_commit.specs.Orders.{SenderState}

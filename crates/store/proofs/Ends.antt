@@ -1,5 +1,5 @@
 -- What the ends of a hand-off know once a borrow of them is given back.
-use Rattle.std.proofs.Common.{◌≡◌, ℕ, List, ap, ◌∙◌, sym}
+use Rattle.std.proofs.Common.{◌≡◌, List, ap, ◌∙◌, sym}
 use Rattle.std.specs.Borrow.{MutBor}
 use Rattle.blocks.specs.declared.block.Block.{Block}
 use Rattle.group_commit.specs.Ends.{Sends, Receives}

@@ -4,3 +4,4 @@ pub mod DeskSteps
 pub mod VaultSteps
 pub mod Seeing
 pub mod Sends
+pub mod Phases

@@ -1,6 +1,6 @@
 -- What a client has seen goes on with its steps.
-use Rattle.std.proofs.Common.{◌≡◌, ℕ, ◌+◌, List, [], ◌∷◌, ◌++◌, map, refl, sym, ap, ◌∙◌, subst}
-use Rattle.std.proofs.Common.{append_assoc, ⊎_elim, inl, Bool, true, false}
+use Rattle.std.proofs.Common.{◌≡◌, ℕ, ◌+◌, List, [], ◌∷◌, ◌++◌, map, sym, ap, ◌∙◌, subst}
+use Rattle.std.proofs.Common.{append_assoc, ⊎_elim, inl, Bool, true}
 use Rattle.std.proofs.Common.{Result, Ok, Err}
 use Rattle.calls.specs.declared.refusal.Refusal.{Refusal}
 use mathlib.Core.List.{IsPrefix}

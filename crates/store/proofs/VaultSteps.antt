@@ -1,13 +1,12 @@
 -- Each step of the keeper keeps what lies under its lock, and a freeze what lies under both.
-use Rattle.std.proofs.Common.{◌≡◌, ◌⊎◌, ⊎_elim, ℕ, ◌+◌, ◌≤◌, max, Some, None, Result, Ok, Err, List}
-use Rattle.std.proofs.Common.{[], ◌∷◌, ◌++◌, length, take, All, refl, sym, ap, ◌∙◌, subst, arith}
+use Rattle.std.proofs.Common.{◌≡◌, ℕ, ◌+◌, ◌≤◌, None, Result, Ok, Err, List}
+use Rattle.std.proofs.Common.{[], ◌∷◌, ◌++◌, length, take, refl, sym, ap, ◌∙◌, subst, arith}
 use Rattle.std.proofs.Common.{length-append, append_assoc, ◌<◌}
 use Rattle.std.specs.Borrow.{MutBor}
 use Rattle.disk_model.specs.Disk.{Rises}
 use Rattle.gate_block.specs.Area.{size_of, position_of}
 use Rattle.checkpoint.specs.declared.turn.Turn.{Turn}
 use mathlib.Core.List.{IsPrefix}
-use Rattle.std.specs.List.{AllByRecursion}
 use Rattle.std.proofs.lemmas.List.{append-nil}
 use Rattle.std.proofs.lemmas.List.Elements.{All-tail}
 use Rattle.calls.specs.Contents.{Collection}
@@ -18,22 +17,21 @@ use Rattle.record_format.specs.Acts.{places}
 use Rattle.record_format.specs.Short.{AreShort}
 use Rattle.blocks.specs.declared.block.Block.{Block}
 use Rattle.blocks.specs.declared.block.Image.{Image}
-use Rattle.blocks.specs.Carried.{IsCarried, Carries}
+use Rattle.blocks.specs.Carried.{Carries}
 use Rattle.blocks.specs.Packings.{joined}
 use Rattle.blocks.proofs.Carrying.{joined-append, carries_parts}
 use Rattle.machine.specs.Machines.{resting}
 use Rattle.machine.specs.Sound.{IsSound}
 use Rattle.repetition.specs.Journals.{records_in}
-use Rattle.repetition.specs.Steps.{State}
 use Rattle.txn.specs.declared.steps.Action.{Action}
 use Rattle.txn.specs.declared.steps.BookStep.{BookStep}
-use Rattle.txn.specs.Books.{BookState, IsKept, standing}
+use Rattle.txn.specs.Books.{BookState, IsKept}
 use Rattle.txn.specs.Freezing.{FreezeAnswers}
 use Rattle.txn.specs.Handing.{HasHanded}
-use Rattle.txn.specs.Histories.{records_by, committed_by}
+use Rattle.txn.specs.Histories.{records_by}
 use Rattle.txn.proofs.Handings.{records_by-push, freezes_on, freezes_image, committed_records}
 use Rattle.catalog.specs.Meaning.{catalog_meaning, catalog_making}
-use Rattle.checkpoint.specs.Crash.{Yields, YieldsUpTo}
+use Rattle.checkpoint.specs.Crash.{Yields}
 use Rattle.checkpoint.specs.ImageAnswers.{BeginAnswers}
 use Rattle.checkpoint.specs.Keepers.{KeeperState, IsFresh, IsPast, TurnAnswers}
 use Rattle.checkpoint.specs.Keeping.{BegunImage, IsApart, IsImageFor, Uncrossed, HasReceived}
@@ -43,7 +41,6 @@ use Rattle.checkpoint.specs.Stored.{StandIn, AreReadTo}
 use Rattle.checkpoint.proofs.GroupLemmas.{uncrossed_front}
 use Rattle.checkpoint.proofs.ReceivedLemmas.{received_none}
 use Rattle.world.specs.Pasts.{mark_behind, mark_flipped}
-use Rattle.world.specs.Worlds.{AreImagesFor}
 use Rattle.world.proofs.Begins as begins
 use Rattle.world.proofs.FreezeLemmas as freezes
 use Rattle.world.proofs.KeeperSteps.{uncrossed, mark_rises, mark_is, some_received}
@@ -57,7 +54,7 @@ use Rattle.store.specs.Closing.{Closes}
 use Rattle.store.specs.Desks.{AreRecorded, IsDesk}
 use Rattle.store.specs.Freezes.{Froze, Begins}
 use Rattle.store.specs.Notes.{alone}
-use Rattle.store.specs.Openings.{OpenedState, IsNamed, IsSoundly}
+use Rattle.store.specs.Openings.{OpenedState, IsSoundly}
 use Rattle.store.specs.Turns.{Brings, brought_to, flipped_to}
 use Rattle.store.specs.Vaults.{ReceivesAny, IsVault}
 use Rattle.store.proofs.Ends.{received_back, received_there}

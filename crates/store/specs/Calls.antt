@@ -1,7 +1,7 @@
 -- What each call of a client does to what the client knows.
-use Rattle.std.specs.Prelude.{◌≡◌, ℕ, ◌+◌, ◌<◌, ◌≤◌, ◌^◌, ◌⊎◌, Bool, true, false, List, [], ◌∷◌}
+use Rattle.std.specs.Prelude.{◌≡◌, ℕ, ◌<◌, ◌≤◌, ◌^◌, ◌⊎◌, Bool, true, false, List, [], ◌∷◌}
 use Rattle.std.specs.Prelude.{◌++◌}
-use Rattle.std.specs.Prelude.{length, replicate, map, Contains, All, Result, Ok, Err}
+use Rattle.std.specs.Prelude.{length, replicate, Contains, All, Result, Ok, Err}
 use Rattle.calls.specs.declared.refusal.Refusal.{Refusal}
 use Rattle.txn.specs.declared.steps.Action.{Action}
 use Rattle.group_commit.specs.Lines.{ClientState}
@@ -16,6 +16,11 @@ use Rattle.store.specs.Known.{Known, IsSeen, Took}
 abbrev pub IsOpen : Phase → Type 0
 IsOpen Phase.Closed = ⊥
 IsOpen phase = Unit {0}
+
+-- it has none where the end of the one that it had was accepted, and else it still has it
+abbrev pub IsEnded : {T : Type 0} → Result T Refusal → Phase → Type 0
+IsEnded (Ok done) phase = phase ≡ Phase.Closed
+IsEnded (Err e) phase = IsOpen phase
 
 -- its seats are of the store, and what it has seen is legal
 pub record IsClient {J : Type 0} (j : Ghosts J) (line : ClientState) (watcher : WatcherState)

@@ -1,5 +1,5 @@
 -- What a turn tells of the mark.
-use Rattle.std.specs.Prelude.{◌≡◌, ℕ, ◌≤◌, max, Bool, true, List, ◌++◌, Result, Ok, Err}
+use Rattle.std.specs.Prelude.{◌≡◌, ℕ, ◌≤◌, max, true, List, ◌++◌, Result, Ok, Err}
 use Rattle.calls.specs.declared.refusal.Refusal.{Refusal}
 use Rattle.disk_model.specs.declared.disk.Disk as disks
 use Rattle.blocks.specs.declared.block.Block.{Block}

@@ -24,7 +24,9 @@ pub enum Checkpoint {
     Flipped(u64),
 }
 
-/// Takes checkpoints of a store, step by step. Contracts see what it has loaded of the mark.
+/// Takes checkpoints of a store, step by step: an image of all collections goes into the area that
+/// is not in use, and then one byte makes it the store, with no journal behind it. Contracts see
+/// what it has loaded of the mark.
 #[derive(Drop)]
 pub struct Checkpointer<'s, D: Disk, J: Naming> {
     desk: &'s Mutex<Desk<J>>,
@@ -62,14 +64,16 @@ impl<'s, D: Disk, J: Naming> Checkpointer<'s, D, J> {
         }
     }
 
-    /// Takes the next step of a checkpoint: freezes the book, where no image is in progress; else
-    /// writes a piece of the image, or flips to it where none is left. A freeze holds both locks,
-    /// the keeper's first, so that no client waits for the disk, calls no device, and takes time and memory as `Book::freeze`; a piece is
-    /// one write, a flip two writes and two syncs, both under the keeper's lock alone.
+    /// Takes the next step of a checkpoint. Where no image is in progress it freezes the book: it
+    /// holds both locks, the keeper's first, calls no device, and takes the time and memory of a
+    /// copy of all collections. Else it writes a piece of the image, which is one write, or makes
+    /// the image the store where no piece is left, which is a write and two syncs. Both go on under
+    /// the keeper's lock alone, so clients go on meanwhile. Take turns until `Flipped`.
     ///
-    /// The refusals of `Book::freeze` and of `Keeper::begin_image`; or of `Keeper::image_piece`; or
-    /// of `Keeper::flip`. Where the keeper has failed in a piece or a flip, the mark's failed flag
-    /// is set.
+    /// Of a freeze NoMemory, Failed after a Fault, Full where the image does not fit into an area:
+    /// no image is in progress then, and everything else is as before. Of a piece Failed and Fault,
+    /// of a flip too. After these each client that waits is told Lost, and the disk is to be opened
+    /// again.
     pub fn turn<R: Wait>(&mut self, rt: &R) -> Result<Checkpoint, Refusal>
         ensures { CheckTells self.old result self.new }
     {

@@ -9,7 +9,7 @@ ghost use Rattle.group_commit.specs.Lines.{IsLonger, steps_of};
 ghost use Rattle.group_commit.specs.Numbers.{AreApart};
 ghost use Rattle.store.specs.declared.phase.Phase.{Phase};
 ghost use Rattle.store.specs.Known.{Known, IsSeen};
-ghost use Rattle.store.specs.Calls.{IsOpen, IsWorn, Draws, Acts, Does, Enters, Undoes, Aborts};
+ghost use Rattle.store.specs.Calls.{IsOpen, IsEnded, IsWorn, Draws, Acts, Does, Enters, Undoes, Aborts};
 ghost use Rattle.store.specs.Calls.{ended_by, placed, back, backs, Loads, Hears, Waits};
 
 use crate::desk::Desk;
@@ -24,7 +24,8 @@ use group_commit::{ClientSeat, Drawer, Watcher};
 use std::marker::Model;
 use std::sync::{Mutex, Wait};
 
-/// A client of a store, which one thread has at a time. Contracts see what it knows.
+/// A client of a store, which one thread has at a time. It has one transaction, or none. Contracts
+/// see what it knows.
 #[derive(Drop)]
 pub struct Client<'s, J: Naming> {
     desk: &'s Mutex<Desk<J>>,
@@ -78,8 +79,8 @@ impl<'s, J: Naming> Client<'s, J> {
         }
     }
 
-    /// What a client has seen is legal: steps that an object of one thread takes from the opened
-    /// content. It does nothing.
+    /// A law and no work: what a client has seen is a legal history, steps that one thread alone
+    /// could take from the opened content.
     pub fn upheld(&self)
         ensures { IsSeen ⟦<J as Naming>⟧ self.now.seen }
     {
@@ -93,11 +94,12 @@ impl<'s, J: Naming> Client<'s, J> {
         !matches!(&self.phase, Phase::Closed)
     }
 
-    /// Begins a transaction: draws its number, which this client did not draw before, nor did
-    /// another one (`meet`). The book does not know it until the first call. It takes no memory, and
-    /// waits for nobody.
+    /// Begins a transaction, and gives its number, from 1 on and below 2^61. No client was given it
+    /// before. Call it only of a client with no transaction. The book learns of the number with the
+    /// first call, so 64 live transactions are no limit here. It takes no memory, and waits for
+    /// nobody.
     ///
-    /// Worn exactly where the number is 2^61 or more, or the client has drawn 2^40; it has no
+    /// Worn where the client began 2^40 transactions, or the numbers have come to 2^61. It has no
     /// transaction then.
     pub fn begin(&mut self) -> Result<u64, Refusal>
         requires { self.old.phase ≡ Phase.Closed }
@@ -110,8 +112,12 @@ impl<'s, J: Naming> Client<'s, J> {
         Ok(number)
     }
 
-    /// Makes an empty collection, a committed transaction of its own, and gives its ticket. The
-    /// refusals of `Book::make`. It takes the book's lock once.
+    /// Makes an empty collection under the name, and gives its ticket. It is a committed
+    /// transaction of its own, whether the client has one or not. It takes the book's lock once,
+    /// and calls no device.
+    ///
+    /// Backlog, BadName, TooLong, NameTaken, TooManyCollections, NoMemory. Everything is as before
+    /// then.
     pub fn make<R: Wait>(&mut self, rt: &R, name: &str, kind: Kind) -> Result<Ticket, Refusal>
         ensures step { Acts ⟦<J as Naming>⟧ self.old []
             (Action.Make name.now kind (placed result)) self.new }
@@ -122,17 +128,30 @@ impl<'s, J: Naming> Client<'s, J> {
         Ok(Ticket { place })
     }
 
-    /// A call of the client's transaction on the collection of a name, made at once. A number that
-    /// was only drawn is entered first. It takes the book's lock once, and calls no device.
+    /// Makes a call of the client's transaction on the collection of the name, and gives the reply.
+    /// From then on calls of other transactions that conflict with it are answered Busy, until this
+    /// one ends. Call it only of a client with a transaction. It takes the book's lock once, and
+    /// calls no device.
     ///
-    /// The refusals of `Book::enter` where it is entered, and then the transaction has no step; of
-    /// `Book::find`; of `Book::call`.
+    /// At the first call of a transaction TooManyLive, Worn, Backlog, NoMemory, and then the book
+    /// does not know the transaction yet. After that BadName, TooLong, NoSuchCollection, Falling,
+    /// WrongKind, BadArg, TooLong of a value, Worn, TooManyCalls, Backlog, NoMemory, AlreadyGoing,
+    /// Busy, NoMemory. The collections and the transaction's locks are as before then, and the
+    /// transaction goes on.
+    ///
+    /// ```text
+    /// match client.call(rt, "jobs", &Call::Take)? {
+    ///     Reply::Item(priority, tag) => work(priority, tag),
+    ///     _ => rest(),
+    /// }
+    /// ```
     pub fn call<R: Wait>(&mut self, rt: &R, name: &str, call: &Call) -> Result<Reply, Refusal>
         requires { IsOpen self.old.phase }
-        ensures { Does ⟦<J as Naming>⟧ self.old.phase self.old
+        ensures step { Does ⟦<J as Naming>⟧ self.old.phase self.old
             (λ n a. (found : Option ℕ) ×
             (a ≡ Action.Call n (Target.Named name.now found) call.now result))
             (λ e. result ≡ Err e) Phase.Entered self.new }
+        ensures open { IsOpen self.new.phase }
     {
         let mutex = self.desk;
         let mut desk = mutex.lock(rt);
@@ -140,16 +159,18 @@ impl<'s, J: Naming> Client<'s, J> {
         desk.call(self.shared, &mut self.line, number, name, call)
     }
 
-    /// Puts a call of the client's transaction off to its commit, as `Book::later`. A number that
-    /// was only drawn is entered first. It takes the book's lock once.
+    /// Puts a bump off to the commit of the client's transaction. Until then it shows in no reply,
+    /// and an abort drops it. Call it only of a client with a transaction. It takes the book's lock
+    /// once, and calls no device.
     ///
-    /// The refusals of `Book::enter` where it is entered, of `Book::find`, and of `Book::later`.
+    /// The refusals of `call`, with BadArg for every call but a bump. They leave what those leave.
     pub fn later<R: Wait>(&mut self, rt: &R, name: &str, call: &Call) -> Result<(), Refusal>
         requires { IsOpen self.old.phase }
-        ensures { Does ⟦<J as Naming>⟧ self.old.phase self.old
+        ensures step { Does ⟦<J as Naming>⟧ self.old.phase self.old
             (λ n a. (found : Option ℕ) ×
             (a ≡ Action.Later n (Target.Named name.now found) call.now result))
             (λ e. result ≡ Err e) Phase.Entered self.new }
+        ensures open { IsOpen self.new.phase }
     {
         let mutex = self.desk;
         let mut desk = mutex.lock(rt);
@@ -157,17 +178,23 @@ impl<'s, J: Naming> Client<'s, J> {
         desk.later(self.shared, &mut self.line, number, name, call)
     }
 
-    /// Commits the client's transaction and gives its ticket. It is in effect for all at once, and
-    /// kept through a stop once the mark reaches the ticket (`kept`, `wait`). A number that was
-    /// only drawn is entered first. It takes the book's lock once, and calls no device.
+    /// Commits the client's transaction, and gives its ticket. What was put off runs now, and the
+    /// locks go. It is in effect for all at once, and kept through a stop a moment later: `kept`
+    /// and `wait` tell. Call it only of a client with a transaction. It takes the book's lock once,
+    /// and calls no device.
     ///
-    /// The refusals of `Book::enter` where it is entered, and of `Book::commit`; the transaction
-    /// stays open then.
+    /// Falling where an abort was begun, Backlog, NoMemory. Of a transaction without a call also
+    /// TooManyLive and Worn. The transaction stays open then, and can be committed again.
+    ///
+    /// ```text
+    /// let ticket = client.commit(rt)?;
+    /// ```
     pub fn commit<R: Wait>(&mut self, rt: &R) -> Result<Ticket, Refusal>
         requires { IsOpen self.old.phase }
-        ensures { Does ⟦<J as Naming>⟧ self.old.phase self.old
+        ensures step { Does ⟦<J as Naming>⟧ self.old.phase self.old
             (λ n a. a ≡ Action.Commit n (placed result)) (λ e. result ≡ Err e) (ended_by result)
             self.new }
+        ensures phase { IsEnded result self.new.phase }
     {
         let mutex = self.desk;
         let mut desk = mutex.lock(rt);
@@ -177,15 +204,16 @@ impl<'s, J: Naming> Client<'s, J> {
         Ok(Ticket { place })
     }
 
-    /// Aborts the client's transaction: undoes its calls one by one, the newest first, each under
-    /// the book's lock anew, and then ends it, so that its needs go. One whose number the book does
-    /// not know takes no step.
+    /// Aborts the client's transaction: takes its calls back one by one, the newest first, and then
+    /// ends it, so that its locks go. Call it only of a client with a transaction. It takes the
+    /// book's lock once for each call and twice more, and calls no device.
     ///
-    /// The refusals of `Book::back` and of `Book::ended`: the transaction stays open, and can do
-    /// nothing but be aborted again.
+    /// Backlog, NoMemory. The transaction stays open then. Once a call was taken back it can do
+    /// nothing but be aborted again, which goes on from there.
     pub fn abort<R: Wait>(&mut self, rt: &R) -> Result<(), Refusal>
         requires { IsOpen self.old.phase }
-        ensures { Aborts ⟦<J as Naming>⟧ self.old.phase self.old result self.new }
+        ensures step { Aborts ⟦<J as Naming>⟧ self.old.phase self.old result self.new }
+        ensures phase { IsEnded result self.new.phase }
     {
         match self.phase {
             Phase::Entered(number) => {
@@ -254,8 +282,8 @@ impl<'s, J: Naming> Client<'s, J> {
         }
     }
 
-    /// Whether what the ticket is of is kept through a stop: exactly where the mark, loaded now,
-    /// reaches its place. It takes no memory, and waits for nobody.
+    /// Whether the commit or making of the ticket is kept through a stop. It takes no memory, and
+    /// waits for nobody.
     pub fn kept(&mut self, ticket: &Ticket) -> bool
         ensures { (count : ℕ) × Loads self.old count self.new ×
             (IsTrue result ↔ (ticket.now.place ≤ count)) }
@@ -264,10 +292,16 @@ impl<'s, J: Naming> Client<'s, J> {
         ticket.place <= count
     }
 
-    /// Waits until what the ticket is of is kept: loads the mark's count, and then its failed flag,
-    /// until one decides, and backs off between two tries. Nothing is claimed of how long.
+    /// Waits until the commit or making of the ticket is kept through a stop. Some committer has to
+    /// take turns meanwhile. The thread backs off between two looks, and may wait for ever: nothing
+    /// is claimed of how long.
     ///
-    /// Lost where the flag was set: keeping failed, which does not say that the ticket is not kept.
+    /// Lost where keeping failed: the disk had a fault, or a committer was told to stop. The ticket
+    /// may be kept all the same. Open the disk again to find out.
+    ///
+    /// ```text
+    /// client.wait(rt, &ticket)?;
+    /// ```
     pub fn wait<R: Wait>(&mut self, rt: &R, ticket: &Ticket) -> Result<(), Refusal>
         ensures { Waits self.old ticket.now.place result self.new }
     {
@@ -303,8 +337,9 @@ impl<'s, J: Naming> Client<'s, J> {
         self.shared.mark.failed(&mut self.watcher)
     }
 
-    /// Both clients have seen the longer of what they had seen, which the shorter begins. They drew
-    /// no number both. It takes no memory, and waits for nobody.
+    /// Has two clients of one store meet. Contracts then know that both have seen the longer of
+    /// what they had seen, and that no number was given to both. It takes no memory, and waits for
+    /// nobody.
     pub fn meet(&mut self, other: &mut Client<'s, J>)
         ensures one { self.new ≡ record self.old { seen = self.new.seen } }
         ensures other { other.new ≡ record other.old { seen = self.new.seen } }
@@ -322,8 +357,9 @@ impl<'s, J: Naming> Client<'s, J> {
             .compare(&mut self.drawer, &mut other.drawer);
     }
 
-    /// What the client has seen, without the store. A transaction that is open stays live, and is
-    /// undone when the disk is opened again.
+    /// Ends the client, and gives what it has seen, for `Store::close`. A transaction that is open
+    /// stays live and keeps its locks; it is undone when the disk is opened again. Commit or abort
+    /// it before.
     pub fn leave(self) -> Seen<J>
         ensures { (result.number ≡ self.entry.number) × (result.seen ≡ self.entry.seen) ×
             (result.counts ≡ self.entry.counts) }

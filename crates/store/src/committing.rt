@@ -14,8 +14,8 @@ use group_commit::Watcher;
 use std::marker::Model;
 use std::sync::{Mutex, Wait};
 
-/// Brings what a store's clients did to its disk, block by block. Contracts see what it has loaded
-/// of the mark.
+/// Brings what a store's clients did to its disk, block by block. One thread has it at a time, and
+/// takes its turns in a loop. Contracts see what it has loaded of the mark.
 #[derive(Drop)]
 pub struct Committer<'s, D: Disk, J: Naming> {
     desk: &'s Mutex<Desk<J>>,
@@ -53,13 +53,15 @@ impl<'s, D: Disk, J: Naming> Committer<'s, D, J> {
         }
     }
 
-    /// Cuts a block of what the book has pending, under its lock, and then brings the next block to
-    /// the disk, under the keeper's lock alone: the answer of `Keeper::turn`. Where four blocks are
-    /// in transit none is cut. Once it answers that all up to a place are kept, the mark has
-    /// reached that place. It takes no memory.
+    /// Takes one turn: cuts a block of at most 65,535 bytes from what waits, and writes the next
+    /// block to the disk, with two writes and two syncs. `Turn::Kept` gives a place: all commits
+    /// and makings up to it are kept. `Turn::Idle` says that nothing was there to do, and
+    /// `Turn::Held` that the block waits for the image in progress. The block is cut under the
+    /// book's lock and written under the keeper's alone. It takes no memory.
     ///
-    /// The refusals of `Keeper::turn`: Failed, Full, Fault; at Fault and Failed the mark's failed
-    /// flag is set, so that who waits is told.
+    /// Failed after a Fault; Full where the block does not fit into the area: it is held, and goes
+    /// to the disk once a checkpoint has made room; Fault where the disk failed. After Fault and
+    /// Failed each client that waits is told Lost, and the disk is to be opened again.
     pub fn turn<R: Wait>(&mut self, rt: &R) -> Result<Turn, Refusal>
         ensures { TurnTells self.old result self.new }
     {
@@ -69,8 +71,8 @@ impl<'s, D: Disk, J: Naming> Committer<'s, D, J> {
         vault.lock(rt).turn(rt, self.shared, &mut self.watcher)
     }
 
-    /// Sets the mark's failed flag: who waits for a ticket that is not kept is told that it is
-    /// lost. It takes no memory, and waits for nobody.
+    /// Tells every client that waits for a ticket which is not kept yet, now or later, that it is
+    /// Lost. For a committer that takes no more turns. It takes no memory, and waits for nobody.
     pub fn stop(&mut self)
         ensures { self.new ≡ with_flag self.old true }
     {

@@ -1,5 +1,22 @@
-//! A store of named collections that threads share: many clients run transactions on one book, a
+//! A store of named collections that threads share. Many clients run transactions on one book, a
 //! committer brings what they did to the disk, and a checkpointer writes images.
+//!
+//! Each thread makes its own `Client`, `Committer` or `Checkpointer` of `&store`:
+//!
+//! ```text
+//! let mut client = store.client(rt)?;
+//! client.make(rt, "hits", Kind::Counter)?;
+//! client.begin()?;
+//! client.call(rt, "hits", &Call::Bump(1))?;
+//! let ticket = client.commit(rt)?;      // in effect for all
+//! client.wait(rt, &ticket)?;            // kept through a stop
+//! ```
+//!
+//! A commit is kept once a committer has brought it to the disk, so some thread must take turns. A
+//! call that another transaction is in the way of answers Busy at once: the client tries it again,
+//! or aborts. Two clients may be in each other's way for ever, so abort after some tries.
+//!
+//! No device is called under the book's lock. `begin`, `kept`, `meet` and `stop` wait for nobody.
 //!
 //! Three lines open a store, the second in a function that is generic in its name:
 //!
@@ -24,9 +41,6 @@
 //!   next = a.opened.book.next; sound = IsSoundly g.D.Disk a.opened;
 //! }
 //! ```
-//!
-//! Then each thread makes its own `Client`, `Committer` or `Checkpointer` of `&store`. No device is
-//! called under the book's lock; `begin`, `kept` and `meet` wait for nobody.
 #![tactic(auto)]
 
 mod checkpointing;

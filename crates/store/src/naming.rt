@@ -1,10 +1,9 @@
 // Which store it is.
 use std::marker::Brand;
 
-/// Which store it is: what lies under a lock is known by its type alone, so its type names the
-/// store. A program picks the name at one call, of a store that was just opened, by passing `Brand`
-/// to a function that is generic in it; the members are those of `Opened::named`. No value of it is
-/// made.
+/// Which store it is. What lies under a lock is known by its type alone, so the type of a store
+/// names it. A program picks the name once, for a store that was just opened: it passes `Brand` to
+/// a function that is generic in it. The crate's page shows how. No value of it is made.
 pub trait Naming {
     ghost use Rattle.std.specs.Prelude.{ℕ, List};
     ghost use Rattle.calls.specs.Contents.{Collection};

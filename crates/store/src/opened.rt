@@ -26,8 +26,8 @@ use std::alloc::Global;
 use std::marker::{Model, PhantomData};
 use txn::Book;
 
-/// A store that was opened and has no name yet: `named` gives the store. Contracts see its book and
-/// keeper, and the tables of its parts.
+/// A store that was opened and has no name yet: `named` gives the store. Contracts see its book,
+/// its keeper, and the tables of its parts.
 pub struct Opened<D: Disk> {
     book: Book<Catalog>,
     keeper: Keeper<D>,
@@ -133,11 +133,18 @@ impl Parts {
 }
 
 impl<D: Disk> Opened<D> {
-    /// Opens the store on a disk for threads, as `recovery::open` does, with its refusals. Beside what
-    /// that takes it takes the memory of a few words.
+    /// Opens the store on a disk for threads. The area in use is read, transactions that had not
+    /// ended are undone, and that is written to the disk. It takes the time and memory of
+    /// `recovery::open`, and a few words more.
     ///
-    /// NoMemory may also come once the disk is open: then what the opening wrote stays, and the disk,
-    /// which is handed back, has the same content and can be opened again.
+    /// NotAStore, Fault, Damaged, NoMemory, Full where the records of the undoing do not fit. Each
+    /// hands the disk back. NotAStore, Damaged and Full come with nothing written. NoMemory may
+    /// also come once the disk is open, and then what the opening wrote stays. A store that is
+    /// refused so has the same content as before, and can be opened again.
+    ///
+    /// ```text
+    /// let opened = Opened::open(alloc, disk).map_err(|(refusal, _disk)| refusal)?;
+    /// ```
     pub fn open(alloc: Global, disk: D) -> Result<Opened<D>, (Refusal, D)>
         // What it answers, of a disk that read true.
         ensures opened { IfOk result (λ o. D.is_honest o.keeper.disk →
@@ -174,7 +181,8 @@ impl<D: Disk> Opened<D> {
         }
     }
 
-    /// The store, under its name. Nothing is done for it.
+    /// The store, under its name, which the caller picks (see the crate's page). It takes no
+    /// memory, calls no device and is never refused.
     pub fn named<J: Naming>(self) -> Store<D, J>
         requires { IsNamed ⟦<J as Naming>⟧ ⟦<D as Disk>⟧ self }
     {

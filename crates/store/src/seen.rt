@@ -6,7 +6,8 @@ use crate::naming::Naming;
 use group_commit::{ClientSeat, Watcher};
 use std::marker::{Model, PhantomData};
 
-/// What a client has seen, without the store that it is of. Contracts see it.
+/// What a client had seen when it left, without the store. It may go to another thread, and
+/// `Store::close` takes it. Contracts see it.
 #[derive(Drop)]
 pub struct Seen<J: Naming> {
     pub(crate) line: ClientSeat,

@@ -21,8 +21,9 @@ use disk_model::Disk;
 use std::sync::{Mutex, Wait};
 use txn::Book;
 
-/// A store of named collections that threads share: a book under one lock, its keeper under
-/// another, and what they share beside. No device is called under the book's lock.
+/// A store of named collections that threads share. The book, which runs transactions in memory,
+/// lies under one lock, and the keeper of the disk under another. No device is called under the
+/// book's lock, so no client waits for the disk but in `Client::wait`.
 pub struct Store<D: Disk, J: Naming> {
     desk: Mutex<Desk<J>>,
     vault: Mutex<Vault<D, J>>,
@@ -52,10 +53,15 @@ impl<D: Disk, J: Naming> Store<D, J> {
         }
     }
 
-    /// A new client, which has seen nothing and has no transaction. It takes the book's lock, and
-    /// no memory.
+    /// A new client, for one thread at a time, with no transaction. It takes the book's lock once,
+    /// and no memory.
     ///
-    /// Worn where 65,536 clients were made in the store's life.
+    /// Worn where 65,536 clients were made since the store was opened. Everything is as before
+    /// then.
+    ///
+    /// ```text
+    /// let mut client = store.client(rt)?;
+    /// ```
     pub fn client<R: Wait>(&self, rt: &R) -> Result<Client<'_, J>, Refusal>
         ensures client { IfOk result (λ c. c ≡ record {
           number = c.number;
@@ -71,7 +77,8 @@ impl<D: Disk, J: Naming> Store<D, J> {
         Ok(Client::new(&self.desk, &self.shared, line, watcher, drawer))
     }
 
-    /// A committer, which has loaded nothing. It takes the book's lock, and no memory.
+    /// A committer, whose turns bring what clients did to the disk. A store may have several. It
+    /// takes the book's lock once, and no memory, and is never refused.
     pub fn committer<R: Wait>(&self, rt: &R) -> Committer<'_, D, J>
         ensures { result ≡ new_watcher J.mark }
     {
@@ -79,7 +86,8 @@ impl<D: Disk, J: Naming> Store<D, J> {
         Committer::new(&self.desk, &self.vault, &self.shared, watcher)
     }
 
-    /// A checkpointer, which has loaded nothing. It takes the book's lock, and no memory.
+    /// A checkpointer, whose turns write an image of the store and make it the store. It takes the
+    /// book's lock once, and no memory, and is never refused.
     pub fn checkpointer<R: Wait>(&self, rt: &R) -> Checkpointer<'_, D, J>
         ensures { result ≡ new_watcher J.mark }
     {
@@ -87,13 +95,14 @@ impl<D: Disk, J: Naming> Store<D, J> {
         Checkpointer::new(&self.desk, &self.vault, &self.shared, watcher)
     }
 
-    /// Ends the store: its book and its keeper, with what is still in transit dropped. `last` is a
-    /// client that left this store. No device is called.
+    /// Ends the store, and gives its book and its keeper. What was not brought to the disk yet is
+    /// dropped, so let the committer take turns before, until it answers Idle. `last` is what a
+    /// client of this store left, if one did: the contract says more then. No device is called.
     ///
     /// The book stands where a legal history from the opened content ends, which begins with what
-    /// the last client had seen; whatever a stop leaves of the disk is sound, and stands for a
-    /// content that a beginning of its committed transactions gives, which holds all that the mark
-    /// told.
+    /// the last client had seen. Whatever a stop leaves of the disk is sound, and stands for a
+    /// content that a beginning of its committed transactions gives. That beginning holds all that
+    /// was told to be kept.
     pub fn close(self, last: Option<Seen<J>>) -> (Book<Catalog>, Keeper<D>)
         ensures { Closes ⟦<J as Naming>⟧ ⟦<D as Disk>⟧ (seen_of last) (counts_of last) result.0
             result.1 }

@@ -4,11 +4,12 @@ use Rattle.txn.specs.declared.steps.Target.{Target}
 use Rattle.store.specs.declared.phase.Phase.{Phase}
 use Rattle.store.specs.Known.{Known, known_of}
 use Rattle.store.specs.Calls.{Acts}
+use Rattle.store.proofs.Phases.{does_open, enters_open}
 use Rattle.store.proofs.Seeing.{acts_one, does_next}
 use Rattle.store.proofs.client.Client.later.Goals as goal
 
-pub returns : goal.returns
-returns g c =
+pub returns-clause-step : goal.returns-clause-step
+returns-clause-step g c =
     let i = c.self-2.inside in
     let n = c.in_ok-number.number in
     let after = known_of c.later.new.me i.watcher i.drawer i.phase in
@@ -20,3 +21,12 @@ returns g c =
     (acts_one g.J.Naming i.line c.later.new.me i.watcher i.drawer i.phase i.phase action
     c.later.ensures.1))
     (λ entered. ap (λ (k : Known). k.phase) c.self-2.view_is ∙ entered)
+
+pub returns-clause-open : goal.returns-clause-open
+returns-clause-open g c =
+    does_open g.J.Naming c.args.self.now.phase c.args.self.now _ _ _ (returns-clause-step g c)
+
+pub returns-in_err-number-clause-open : goal.returns-in_err-number-clause-open
+returns-in_err-number-clause-open g c =
+    enters_open g.J.Naming c.args.self.now.phase c.args.self.now c.in_err-number.field-0.0
+    c.enter.new.self c.in_err-number.ensures

@@ -1,4 +1,4 @@
-use Rattle.std.proofs.Common.{ℕ, ◌+◌, [], true, false, Bool, Ok, Err, ◌∙◌, subst}
+use Rattle.std.proofs.Common.{◌+◌, [], false, Bool, Ok, Err, ◌∙◌, subst}
 use Rattle.std.proofs.lemmas.Result.{err_from_is_err_and}
 use Rattle.store.specs.Calls.{Acts, back}
 use Rattle.store.proofs.Seeing.{undoes_next, undoes_last}
