@@ -1,0 +1,41 @@
+//! Runs a program's work on a store beside the store's committer, which is in a thread of its own: it
+//! brings what clients commit to the disk, takes a checkpoint where the area is full, and sleeps while
+//! nothing is pending.
+//!
+//! A program says what each of its threads does, and hands that to `run` with a disk:
+//!
+//! ```text
+//! struct Counting;
+//!
+//! impl Work for Counting {
+//!     type Output = Result<(), Refusal>;
+//!
+//!     fn work<J: Naming, S: Clients<J>, R: Wait + AllocGlobal>(
+//!         &self,
+//!         rt: &R,
+//!         store: &S,
+//!         signal: &Signal,
+//!         thread: usize,
+//!     ) -> Result<(), Refusal> {
+//!         let mut client = store.client(rt)?;
+//!         client.begin()?;
+//!         client.call(rt, "hits", &Call::Bump(1))?;
+//!         let ticket = client.commit(rt)?;
+//!         signal.wake();
+//!         client.wait(rt, &ticket)
+//!     }
+//! }
+//!
+//! let (counted, disk) = run(&rt, FileDisk::<Unknown>::open(file)?, &Counting, 4);
+//! ```
+#![tactic(auto)]
+
+mod committing;
+mod running;
+mod signal;
+mod transacting;
+
+pub use committing::{Commits, start};
+pub use running::{Clients, Work, all_ended, run};
+pub use signal::{Signal, Sleeper};
+pub use transacting::{Transaction, transact};
