@@ -7,6 +7,7 @@ use Rattle.clap.specs.Words.{App, Row, Rule, Text, first_of, new_app, new_rule, 
 use Rattle.clap.specs.Words.{with_rule, with_subcommand}
 use Rattle.clap.specs.declared.builder.ArgAction.TheVariants.{Set}
 use Rattle.clap.specs.declared.builder.ValueParser.TheVariants as parsers
+use Rattle.arguments.specs.declared.Invocation.{Invocation}
 use Rattle.arguments.specs.declared.Task.{Task}
 
 -- ---- what can be written
@@ -27,13 +28,19 @@ area_rule = record (new_rule (codes "area")) {
 abbrev pub format_app : App
 format_app = with_rule (with_rule (new_app (codes "format")) (path_rule (codes "DISK"))) area_rule
 
-abbrev pub play_app : App
-play_app = with_rule (with_rule (new_app (codes "play")) (path_rule (codes "DISK")))
-    (path_rule (codes "SCRIPT"))
-
 -- a command on a disk alone
 abbrev pub disk_app : Text → App
 disk_app name = with_rule (new_app name) (path_rule (codes "DISK"))
+
+-- a command on a disk that runs a script
+abbrev pub script_app : Text → App
+script_app name = with_rule (disk_app name) (path_rule (codes "SCRIPT"))
+
+abbrev pub play_app : App
+play_app = script_app (codes "play")
+
+abbrev pub serve_app : App
+serve_app = script_app (codes "serve")
 
 abbrev pub show_app : App
 show_app = disk_app (codes "show")
@@ -50,7 +57,8 @@ bare_app = let a = new_app (codes "boost") in
 
 abbrev pub program_app : App
 program_app =
-    let on_disks = with_subcommand (with_subcommand bare_app format_app.top) play_app.top in
+    let plays = with_subcommand (with_subcommand bare_app format_app.top) play_app.top in
+    let on_disks = with_subcommand plays serve_app.top in
     with_subcommand (with_subcommand (with_subcommand on_disks show_app.top) check_app.top)
     demo_app.top
 
@@ -60,21 +68,29 @@ program_app =
 pub record IsNumberOf (n : ℕ) (text : Text) : Type 0 where
   pub parsed : ParsesUnsigned {E = ParseIntError} 64 10 text (Ok n)
 
+-- the arguments are the paths of a disk and of a script
+abbrev pub ArePaths : (disk script : Text) → List Row → Type 0
+ArePaths disk script rows = (first_of (codes "DISK") rows ≡ Some disk) ×
+    (first_of (codes "SCRIPT") rows ≡ Some script)
+
 -- the subcommand that was found, with its arguments
-abbrev pub Asks : Task → Text × List Row → Type 0
-Asks (Task.Format disk area) found =
+abbrev pub AsksTask : Task → Text × List Row → Type 0
+AsksTask (Task.Format disk area) found =
     (found.0 ≡ codes "format") × (first_of (codes "DISK") found.1 ≡ Some (string_bytes disk)) ×
     IsSomeAnd (first_of (codes "area") found.1) (IsNumberOf area)
-Asks (Task.Play disk script) found =
-    (found.0 ≡ codes "play") × (first_of (codes "DISK") found.1 ≡ Some (string_bytes disk)) ×
-    (first_of (codes "SCRIPT") found.1 ≡ Some (string_bytes script))
-Asks (Task.Show disk) found = (found.0 ≡ codes "show") ×
+AsksTask (Task.Play disk script) found = (found.0 ≡ codes "play") ×
+    ArePaths (string_bytes disk) (string_bytes script) found.1
+AsksTask (Task.Show disk) found = (found.0 ≡ codes "show") ×
     (first_of (codes "DISK") found.1 ≡ Some (string_bytes disk))
-Asks (Task.Check disk) found = (found.0 ≡ codes "check") ×
+AsksTask (Task.Check disk) found = (found.0 ≡ codes "check") ×
     (first_of (codes "DISK") found.1 ≡ Some (string_bytes disk))
-Asks Task.Demo found = found.0 ≡ codes "demo"
+AsksTask Task.Demo found = found.0 ≡ codes "demo"
 
--- The words ask for the task: clap finds the task's command in them, with the task's paths and
--- number.
-abbrev pub IsAskedBy : Task → List Text → Type 0
-IsAskedBy task words = IsSomeAnd (subcommand_of program_app words) (Asks task)
+abbrev pub Asks : Invocation → Text × List Row → Type 0
+Asks (Invocation.Run task) found = AsksTask task found
+Asks (Invocation.Serve disk script) found = (found.0 ≡ codes "serve") ×
+    ArePaths (string_bytes disk) (string_bytes script) found.1
+
+-- The words ask for this: clap finds the command in them, with its paths and number.
+abbrev pub IsAskedBy : Invocation → List Text → Type 0
+IsAskedBy command words = IsSomeAnd (subcommand_of program_app words) (Asks command)

@@ -7,8 +7,8 @@ ghost use Rattle.std.specs.Result.{IsOkAnd};
 ghost use Rattle.clap.specs.declared.builder.command.Command.TheViews.{out-Command};
 ghost use Rattle.clap.specs.Words.{app_of, found_of, first_of, rows_of, rule_of};
 ghost use Rattle.clap.specs.Words.{subcommand_rows_of, with_subcommand};
-ghost use Rattle.arguments.specs.Arguments.{path_rule, area_rule, disk_app, format_app, play_app};
-ghost use Rattle.arguments.specs.Arguments.{program_app, Asks, IsNumberOf, IsAskedBy};
+ghost use Rattle.arguments.specs.Arguments.{path_rule, area_rule, disk_app, format_app, script_app};
+ghost use Rattle.arguments.specs.Arguments.{program_app, ArePaths, Asks, AsksTask, IsNumberOf, IsAskedBy};
 
 use clap::error::ErrorKind;
 use clap::{Arg, ArgAction, ArgMatches, Error, value_parser};
@@ -16,8 +16,17 @@ use std::alloc::{AllocError, Global};
 
 /// What the program is asked to do, with the paths as they were written.
 #[derive(Drop, Debug)]
+pub enum Invocation {
+    /// A task of one thread.
+    Run(Task),
+    /// Runs the clients of a script on the store in the file, each in a thread of its own.
+    Serve { disk: String, script: String },
+}
+
+/// What the program does on one thread, with the paths as they were written.
+#[derive(Drop, Debug)]
 pub enum Task {
-    /// Makes the file, or sets its size, and formats it.
+    /// Makes the file, or sets its size, and formats it with two areas of so many bytes.
     Format { disk: String, area: u64 },
     /// Runs a script on the store in the file.
     Play { disk: String, script: String },
@@ -65,11 +74,12 @@ fn format_command<'a>(alloc: Global) -> Result<clap::Command<'a>, AllocError>
     disk_command(alloc, "format")?.arg(area(alloc))
 }
 
-// The command that plays a script on a disk.
-fn play_command<'a>(alloc: Global) -> Result<clap::Command<'a>, AllocError>
-    ensures { IfOk result (λ c. (app_of c ≡ play_app) × ((out-Command c).has_globals ≡ false)) }
+// A command on a disk that runs a script.
+fn script_command<'a>(alloc: Global, name: &'a str) -> Result<clap::Command<'a>, AllocError>
+    ensures { IfOk result (λ c. (app_of c ≡ script_app name.entry.now) ×
+        ((out-Command c).has_globals ≡ false)) }
 {
-    disk_command(alloc, "play")?.arg(path(alloc, "SCRIPT"))
+    disk_command(alloc, name)?.arg(path(alloc, "SCRIPT"))
 }
 
 // The program with one command more, where that could be made.
@@ -89,7 +99,8 @@ fn program<'a>(alloc: Global) -> Result<clap::Command<'a>, AllocError>
 {
     let program = clap::Command::new(alloc, "boost").subcommand_required(true);
     let program = with(program, format_command(alloc))?;
-    let program = with(program, play_command(alloc))?;
+    let program = with(program, script_command(alloc, "play"))?;
+    let program = with(program, script_command(alloc, "serve"))?;
     let program = with(program, disk_command(alloc, "show"))?;
     let program = with(program, disk_command(alloc, "check"))?;
     program.subcommand(clap::Command::new(alloc, "demo"))
@@ -112,10 +123,45 @@ fn number(found: &ArgMatches<'_>, id: &str) -> Option<u64>
     found.get_str(id)?.parse().ok()
 }
 
+// The paths of a disk and of a script.
+fn paths(alloc: Global, found: &ArgMatches<'_>) -> Result<Option<(String, String)>, AllocError>
+    ensures { IfOk result (λ paths. IfSome paths (λ p.
+        ArePaths (string_bytes p.0) (string_bytes p.1) (rows_of (found_of found.now)))) }
+{
+    let Some(disk) = text(alloc, found, "DISK")? else {
+        return Ok(None);
+    };
+    match text(alloc, found, "SCRIPT")? {
+        Some(script) => Ok(Some((disk, script))),
+        None => Ok(None),
+    }
+}
+
+// What the command of the name asks for.
+fn named(
+    alloc: Global,
+    name: &str,
+    found: &ArgMatches<'_>,
+) -> Result<Option<Invocation>, AllocError>
+    ensures { IfOk result (λ command. IfSome command
+        (λ c. Asks c (name.now, rows_of (found_of found.now)))) }
+{
+    if name == "serve" {
+        return match paths(alloc, found)? {
+            Some((disk, script)) => Ok(Some(Invocation::Serve { disk, script })),
+            None => Ok(None),
+        };
+    }
+    match task_of(alloc, name, found)? {
+        Some(task) => Ok(Some(Invocation::Run(task))),
+        None => Ok(None),
+    }
+}
+
 // The task of the command of the name.
-fn named(alloc: Global, name: &str, found: &ArgMatches<'_>) -> Result<Option<Task>, AllocError>
+fn task_of(alloc: Global, name: &str, found: &ArgMatches<'_>) -> Result<Option<Task>, AllocError>
     ensures { IfOk result (λ task. IfSome task
-        (λ t. Asks t (name.now, rows_of (found_of found.now)))) }
+        (λ t. AsksTask t (name.now, rows_of (found_of found.now)))) }
 {
     match name {
         "format" => {
@@ -127,15 +173,10 @@ fn named(alloc: Global, name: &str, found: &ArgMatches<'_>) -> Result<Option<Tas
                 None => Ok(None),
             }
         }
-        "play" => {
-            let Some(disk) = text(alloc, found, "DISK")? else {
-                return Ok(None);
-            };
-            match text(alloc, found, "SCRIPT")? {
-                Some(script) => Ok(Some(Task::Play { disk, script })),
-                None => Ok(None),
-            }
-        }
+        "play" => match paths(alloc, found)? {
+            Some((disk, script)) => Ok(Some(Task::Play { disk, script })),
+            None => Ok(None),
+        },
         "show" => match text(alloc, found, "DISK")? {
             Some(disk) => Ok(Some(Task::Show { disk })),
             None => Ok(None),
@@ -149,10 +190,10 @@ fn named(alloc: Global, name: &str, found: &ArgMatches<'_>) -> Result<Option<Tas
     }
 }
 
-// The task that the matches ask for.
-fn asked(alloc: Global, matches: ArgMatches<'_>) -> Result<Option<Task>, AllocError>
-    ensures { IfOk result (λ task. IfSome task
-        (λ t. IsSomeAnd (subcommand_rows_of matches.entry) (Asks t))) }
+// What the matches ask for.
+fn asked(alloc: Global, matches: ArgMatches<'_>) -> Result<Option<Invocation>, AllocError>
+    ensures { IfOk result (λ command. IfSome command
+        (λ c. IsSomeAnd (subcommand_rows_of matches.entry) (Asks c))) }
 {
     match matches.subcommand() {
         Some((name, found)) => named(alloc, name, found),
@@ -165,24 +206,26 @@ fn answer<'a>(
     alloc: Global,
     program: &mut clap::Command<'a>,
     words: &'a [&'a str],
-) -> Result<Task, Error>
+) -> Result<Invocation, Error>
     ensures { app_of program.old ≡ program_app →
-        IfOk result (λ task. IsAskedBy task (map (λ word. word.now) words.entry.now)) }
+        IfOk result (λ command. IsAskedBy command (map (λ word. word.now) words.entry.now)) }
 {
     let matches = program.try_get_matches_from_mut(words)?;
     match asked(alloc, matches)? {
-        Some(task) => Ok(task),
+        Some(command) => Ok(command),
         None => Err(program.error(ErrorKind::MissingSubcommand, "no command")?),
     }
 }
 
-/// The command that the words ask for; the first word is the program's name. Refused with clap's
-/// error, which has the text to print.
-pub fn command<'a>(alloc: Global, words: &'a [&'a str]) -> Result<Task, Error>
-    ensures { IfOk result (λ task. IsAskedBy task (map (λ word. word.now) words.entry.now)) }
+/// The command that the words of a command line ask for. The first word is the program's name.
+///
+/// Refused with clap's error, which has the text to print: for words that are no command, for want
+/// of memory, and where help is asked for.
+pub fn command<'a>(alloc: Global, words: &'a [&'a str]) -> Result<Invocation, Error>
+    ensures { IfOk result (λ command. IsAskedBy command (map (λ word. word.now) words.entry.now)) }
 {
     let mut program = program(alloc)?;
-    let task = answer(alloc, &mut program, words);
+    let command = answer(alloc, &mut program, words);
     drop(program);
-    task
+    command
 }

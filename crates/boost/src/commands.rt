@@ -30,29 +30,31 @@ pub use stored_run::STORED_RUN;
 use stored_run::demo;
 use world::World;
 
-/// Carries a command out on a disk, and answers the status of the program with the disk.
+/// Carries a command out on a disk, and answers the status of the program with the disk. Play runs
+/// `script`; the other commands do not look at it. The paths of a task are not looked at.
 ///
-/// Format makes the disk an empty store. Play runs the script, and prints for each line that is not
-/// passed over its number and its answer. Show prints for each collection, by rising number, a line
-/// with its kind and name, and then each of its items in a line of its own, after two spaces. Check
-/// prints how many collections, unfinished transactions and journal records the store has, and
-/// writes nothing. Demo runs a stored script on a disk in memory of its own and prints what Play
-/// does, and then what Show does: it touches neither the disk nor the script. Where its status is 0
-/// all of its lines were carried out, one after another, on a disk that was an empty store.
+/// - Format makes the disk an empty store.
+/// - Play opens the store and runs the script. For each line that is not passed over it prints the
+///   line's number and its answer.
+/// - Show opens the store. For each collection, in the order of making, it prints a line with its
+///   kind and name, and then each item in a line of its own, after two spaces.
+/// - Check prints how many collections, unfinished transactions and journal records the store has.
+///   It writes nothing.
+/// - Demo runs a stored script on a disk in memory of its own. It prints what Play does, and then
+///   what Show does. It leaves `disk` alone.
 ///
-/// Play and Show open the store: transactions that have not ended are undone, and that is written
-/// to the disk. On a disk at rest that reads true and whose bytes are sound, a stop at any moment
-/// of a Show leaves the content, and one of a Play a beginning of what its steps committed; a
-/// Format leaves an empty store, at rest, and a stop in it what `recovery::format` says. After a
-/// Play with status 0 all lines of the script were carried out, one after another, on the store
-/// that was opened, those that were refused among them; after one with another status a beginning
-/// of them was, or none.
+/// To open a store is to undo the transactions that have not ended, which is written to the disk.
 ///
-/// The status is 0 where the command was done, lines of the script that were refused among it; else
-/// a text goes to `err`, as `Failure` says: 3 for a script with a line that is not understood, of
-/// which no line is run and for which the store is not opened; 1 for a refusal that answers no
-/// line, with the disk as it was where the script is not understood; and 4, with no text, where
-/// output could not be written.
+/// What a stop leaves, of a disk at rest that reads true and whose bytes are sound: of a Show the
+/// content; of a Play the content that a beginning of what its steps committed gives; of a Format
+/// what `recovery::format` says. Output is held in a buffer, so it comes at the end and where the
+/// buffer is full.
+///
+/// The status is 0 where the command was done; lines of the script that were refused count as done.
+/// Else it is 3 for a script with a line that is not understood: no line was run, and the disk is
+/// as it was. It is 1 where the store refused the command, or where memory was refused. `err` gets
+/// a text then, as `Failure` says. It is 4, with no text, where output could not be written. After
+/// a Play with status 1 or 4 a beginning of the lines was carried out, or none.
 pub fn run<D: Disk, O: Write, E: Write>(
     alloc: Global,
     task: &Task,
@@ -78,8 +80,8 @@ pub fn run<D: Disk, O: Write, E: Write>(
     }
 }
 
-/// Says why a command was not done, in a line of its own, and answers the status; of `Unwritten` it
-/// says nothing. A text that cannot be written is passed over.
+/// Writes a line that says why a command was not done, and answers the status: 1, 3 or 4. Of
+/// `Unwritten` it writes nothing. Where the text cannot be written, that changes nothing.
 pub fn report<E: Write>(failure: &Failure<'_>, err: &mut E) -> u8
     ensures status { result ≡ status_of failure.now }
     ensures silent { failure.now ≡ Failure.Unwritten → err.new ≡ err.old }

@@ -2,8 +2,10 @@
 #![tactic(auto)]
 
 mod commands;
+mod serving;
 
-pub use arguments::{Task, command};
+pub use arguments::{Invocation, Task, command};
 pub use commands::{Failure, STORED_RUN, report, run};
 pub use player::Said;
 pub use script::{Action, Line, Operation, Request, ScriptError, Verb, parse};
+pub use serving::serve;

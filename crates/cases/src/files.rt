@@ -8,10 +8,12 @@ use disk_model::{FileDisk, Unknown};
 use std::fs::{self, File};
 use std::io::{self, Seek, SeekFrom, Write};
 use std::rt::Files;
+use std::sync::Wait;
+use std::thread::Threads;
 
 /// Prints what the program answers to a command line.
 pub fn run_program(
-    rt: &(impl Files<File = File> + AllocGlobal),
+    rt: &(impl Files<File = File> + Threads + Wait + AllocGlobal + Sync),
     line: &str,
     out: &mut impl Write,
 ) -> io::Result<()> {
@@ -21,7 +23,10 @@ pub fn run_program(
 }
 
 // What the program answers to the words of a command line.
-fn obeyed(rt: &(impl Files<File = File> + AllocGlobal), words: &[&str]) -> Ran {
+fn obeyed(
+    rt: &(impl Files<File = File> + Threads + Wait + AllocGlobal + Sync),
+    words: &[&str],
+) -> Ran {
     let (mut out, mut err) = (Vec::new(rt.alloc()), Vec::new(rt.alloc()));
     let status = obey(rt, words, &mut out, &mut err);
     Ran { status, out, err }

@@ -22,6 +22,8 @@ use bench::Bench;
 use std::fs::{self, File};
 use std::io::{self, BufWriter, Write};
 use std::rt::Files;
+use std::sync::Wait;
+use std::thread::Threads;
 
 // Tells an error with the line that it comes from.
 fn tell_error(name: &str, number: u64, error: io::Error, out: &mut impl Write) -> io::Result<()> {
@@ -31,7 +33,7 @@ fn tell_error(name: &str, number: u64, error: io::Error, out: &mut impl Write) -
 
 // Asks what the lines of a text ask, one after another. An error is told with its line.
 fn ask_all(
-    rt: &(impl Files<File = File> + AllocGlobal),
+    rt: &(impl Files<File = File> + Threads + Wait + AllocGlobal + Sync),
     bench: &mut Bench,
     name: &str,
     text: &str,
@@ -49,7 +51,7 @@ fn ask_all(
 
 // Plays the cases of a file.
 fn play_file(
-    rt: &(impl Files<File = File> + AllocGlobal),
+    rt: &(impl Files<File = File> + Threads + Wait + AllocGlobal + Sync),
     name: &str,
     out: &mut impl Write,
 ) -> io::Result<()> {
@@ -60,7 +62,7 @@ fn play_file(
 
 // Plays the cases of each file that is named.
 fn play_files(
-    rt: &(impl Files<File = File> + AllocGlobal),
+    rt: &(impl Files<File = File> + Threads + Wait + AllocGlobal + Sync),
     names: &str,
     out: &mut impl Write,
 ) -> io::Result<()> {

@@ -9,11 +9,13 @@ use std::alloc::Global;
 use std::fs::File;
 use std::io::{self, Write};
 use std::rt::Files;
+use std::sync::Wait;
+use std::thread::Threads;
 
 /// Asks what a line asks, and prints what is answered. An empty line and one that begins with `#`
 /// ask nothing; one with a bar in front, and a line that is repeated, are lines of the script.
 pub fn ask(
-    rt: &(impl Files<File = File> + AllocGlobal),
+    rt: &(impl Files<File = File> + Threads + Wait + AllocGlobal + Sync),
     bench: &mut Bench,
     line: &str,
     out: &mut impl Write,
@@ -32,9 +34,9 @@ pub fn ask(
     ask_by_word(rt, bench, word, rest, out)
 }
 
-// Asks a question of files, or else another.
+// Asks a question of files or of threads, or else another.
 fn ask_by_word(
-    rt: &(impl Files<File = File> + AllocGlobal),
+    rt: &(impl Files<File = File> + Threads + Wait + AllocGlobal + Sync),
     bench: &mut Bench,
     word: &str,
     rest: &str,
@@ -42,6 +44,7 @@ fn ask_by_word(
 ) -> io::Result<()> {
     match word {
         "boost" => files::run_program(rt, rest, out),
+        "serve" => runs::serve(rt, bench, out),
         "file" => files::write_script(rt, bench, rest),
         "size" => files::set_size(rt, rest),
         "bytes" => files::read(rt, rest, out),

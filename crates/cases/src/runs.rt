@@ -6,6 +6,8 @@ use boost::{Task, command, run};
 use disk_model::{Disk, MemDisk};
 use std::alloc::{AllocError, Global};
 use std::io::{self, ErrorKind, Write};
+use std::sync::Wait;
+use std::thread::Threads;
 
 /// What a run answered: its status, and what it printed.
 #[derive(Drop)]
@@ -120,6 +122,26 @@ pub fn demo(alloc: Global, bench: &mut Bench, out: &mut impl Write) -> io::Resul
     carry_out(alloc, bench, Task::Demo, out)
 }
 
+/// Serves the script that was written: each of its clients runs in a thread of its own.
+pub fn serve(
+    rt: &(impl Threads + Wait + AllocGlobal + Sync),
+    bench: &mut Bench,
+    out: &mut impl Write,
+) -> io::Result<()> {
+    let alloc = rt.alloc();
+    let disk = bench.take_disk(alloc)?;
+    let script = bench.take_script(alloc);
+    let (mut printed, mut errors) = (Vec::new(alloc), Vec::new(alloc));
+    let (status, disk) = boost::serve(rt, disk, script.as_slice(), &mut printed, &mut errors);
+    bench.disk = disk;
+    let ran = Ran {
+        status,
+        out: printed,
+        err: errors,
+    };
+    write_ran(&ran, bench.take_last(), out)
+}
+
 /// Plays a script of one line, which stands between two marks.
 pub fn play_line(
     alloc: Global,
@@ -153,13 +175,9 @@ pub fn words(alloc: Global, text: &str) -> Result<Vec<&str>, AllocError> {
 pub fn understand(alloc: Global, text: &str, out: &mut impl Write) -> io::Result<()> {
     let words = words(alloc, text)?;
     match command(alloc, words.as_slice()) {
-        Ok(task) => write_task(task, out),
+        Ok(asked) => writeln!(out, "{asked:?}"),
         Err(error) => write_refused(alloc, &error, out),
     }
-}
-
-fn write_task(task: Task, out: &mut impl Write) -> io::Result<()> {
-    writeln!(out, "{task:?}")
 }
 
 fn write_refused(alloc: Global, error: &clap::Error, out: &mut impl Write) -> io::Result<()> {

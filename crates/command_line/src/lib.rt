@@ -4,7 +4,7 @@
 
 ghost use Rattle.std.specs.Prelude.{◌≤◌, ◌↔◌, IsOk, IsOkUnless};
 
-use boost::{Failure, Task, command, report, run};
+use boost::{Failure, Invocation, Task, command, report, run, serve};
 use calls::Refusal;
 use calls::limits::{MAX_AREA, MIN_AREA};
 use clap::error::ErrorKind;
@@ -13,6 +13,8 @@ use std::alloc::Global;
 use std::fs::{File, OpenOptions};
 use std::io::Write;
 use std::rt::Files;
+use std::sync::Wait;
+use std::thread::Threads;
 use std::{fs, io};
 
 // How many bytes of a disk stand before its two areas.
@@ -124,6 +126,19 @@ fn run_with_script<'a, R: Files<File = File> + AllocGlobal>(
     run_on_old(rt, task, path, script.as_slice(), out, err)
 }
 
+// Reads a script, opens the file of a disk, and serves the script on it.
+fn serve_script<'a, R: Files<File = File> + Threads + Wait + AllocGlobal + Sync>(
+    rt: &R,
+    path: &'a str,
+    script: &'a str,
+    out: &mut impl Write,
+    err: &mut impl Write,
+) -> Result<u8, Failure<'a>> {
+    let script = opened(script, fs::read(rt, script))?;
+    let disk = opened(path, open_disk(rt, path))?;
+    Ok(serve(rt, disk, script.as_slice(), out, err).0)
+}
+
 // A disk in memory that holds nothing.
 fn memory<'a>(alloc: Global) -> Result<MemDisk, Failure<'a>> {
     Ok(MemDisk::new(alloc, 0)?)
@@ -131,7 +146,22 @@ fn memory<'a>(alloc: Global) -> Result<MemDisk, Failure<'a>> {
 
 // Opens the files of a command and carries it out. Answers the status, unless a file is missing or
 // an argument is bad.
-fn carry_out<'a, R: Files<File = File> + AllocGlobal>(
+fn carry_out<'a, R: Files<File = File> + Threads + Wait + AllocGlobal + Sync>(
+    rt: &R,
+    asked: &'a Invocation,
+    out: &mut impl Write,
+    err: &mut impl Write,
+) -> Result<u8, Failure<'a>> {
+    match asked {
+        Invocation::Run(task) => perform(rt, task, out, err),
+        Invocation::Serve { disk, script } => {
+            serve_script(rt, disk.as_str(), script.as_str(), out, err)
+        }
+    }
+}
+
+// Opens the files of a task and carries it out.
+fn perform<'a, R: Files<File = File> + AllocGlobal>(
     rt: &R,
     task: &'a Task,
     out: &mut impl Write,
@@ -150,13 +180,13 @@ fn carry_out<'a, R: Files<File = File> + AllocGlobal>(
 }
 
 // Carries a command out, and says why it was not. Answers the status.
-fn answer<R: Files<File = File> + AllocGlobal>(
+fn answer<R: Files<File = File> + Threads + Wait + AllocGlobal + Sync>(
     rt: &R,
-    task: &Task,
+    asked: &Invocation,
     out: &mut impl Write,
     err: &mut impl Write,
 ) -> u8 {
-    match carry_out(rt, task, out, err) {
+    match carry_out(rt, asked, out, err) {
         Ok(status) => status,
         Err(failure) => report(&failure, err),
     }
@@ -178,14 +208,14 @@ fn explain(error: &clap::Error, out: &mut impl Write, err: &mut impl Write) -> u
 }
 
 /// Understands the words of a command line and carries them out. Answers the status.
-pub fn obey<'a, R: Files<File = File> + AllocGlobal>(
+pub fn obey<'a, R: Files<File = File> + Threads + Wait + AllocGlobal + Sync>(
     rt: &R,
     words: &'a [&'a str],
     out: &mut impl Write,
     err: &mut impl Write,
 ) -> u8 {
     match command(rt.alloc(), words) {
-        Ok(task) => answer(rt, &task, out, err),
+        Ok(asked) => answer(rt, &asked, out, err),
         Err(error) => explain(&error, out, err),
     }
 }

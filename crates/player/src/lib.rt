@@ -7,5 +7,5 @@ mod committer;
 mod player;
 mod texts;
 
-pub use player::Player;
+pub use player::{Player, said_of};
 pub use texts::{Hex, Said};

@@ -119,8 +119,8 @@ fn obey<D: Disk>(
     }
 }
 
-// What is said of a client's ticket.
-fn said_of(kept: Option<bool>) -> Said
+/// What is said of a client's ticket: whether it is kept, if there is one.
+pub fn said_of(kept: Option<bool>) -> Said
     ensures { result ≡ said_kept kept }
 {
     match kept {

@@ -14,5 +14,5 @@ returns-in-Some c = λ form.
     let found = (c.in_ok-matches.ensures.ok.2 (ap is_simple form ∙ is_simple_program)).1 in
     let words = map (λ (word : Bor (List ℕ)). word.now) c.args.words.now in
     let same = found ∙ ap (λ (a : App). subcommand_of a words) form in
-    let asks = rw c.in-Some.is at c.in_ok-task.ensures in
-    subst (λ (o : Option (Text × List Row)). IsSomeAnd o (Asks c.in-Some.task)) same asks
+    let asks = rw c.in-Some.is at c.in_ok-command.ensures in
+    subst (λ (o : Option (Text × List Row)). IsSomeAnd o (Asks c.in-Some.command)) same asks

@@ -16,15 +16,18 @@ returns c =
     let first_is = with_gives c.format_command.result app_of
     (λ command. (out-Command command).has_globals) _ _ _ _
     c.format_command.ensures c.in_ok-program.ensures bare_is in
-    let second_is = with_gives c.play_command.result app_of
+    let second_is = with_gives c.script_command.result app_of
     (λ command. (out-Command command).has_globals) _ _ _ _
-    c.play_command.ensures c.in_ok-program-2.ensures first_is in
-    let third_is = with_gives c.disk_command.result app_of
+    c.script_command.ensures c.in_ok-program-2.ensures first_is in
+    let third_is = with_gives c.script_command-2.result app_of
     (λ command. (out-Command command).has_globals) _ _ _ _
-    c.disk_command.ensures c.in_ok-program-3.ensures second_is in
-    let fourth_is = with_gives c.disk_command-2.result app_of
+    c.script_command-2.ensures c.in_ok-program-3.ensures second_is in
+    let fourth_is = with_gives c.disk_command.result app_of
     (λ command. (out-Command command).has_globals) _ _ _ _
-    c.disk_command-2.ensures c.in_ok-program-4.ensures third_is in
+    c.disk_command.ensures c.in_ok-program-4.ensures third_is in
+    let fifth_is = with_gives c.disk_command-2.result app_of
+    (λ command. (out-Command command).has_globals) _ _ _ _
+    c.disk_command-2.ensures c.in_ok-program-5.ensures fourth_is in
     IfOk-weaker c.subcommand.result _ _
     (λ whole h. h.shape c.new-2.ensures.local ∙
-    ap₂ with_subcommand fourth_is (ap top c.new-2.ensures.app)) c.subcommand.ensures
+    ap₂ with_subcommand fifth_is (ap top c.new-2.ensures.app)) c.subcommand.ensures

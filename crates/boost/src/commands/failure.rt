@@ -23,7 +23,8 @@ pub enum Failure<'a> {
 impl Failure<'_> {
     ghost use Rattle.boost.specs.Commands.{status_of};
 
-    /// The status with which the program ends: 1, 3, or 4 for the last two.
+    /// The status with which the program ends: 1 for `Refused`, 3 for `NotUnderstood`, 4 for the
+    /// others.
     pub fn status(&self) -> u8
         ensures { result ≡ status_of self.now }
     {

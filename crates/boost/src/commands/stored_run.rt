@@ -15,7 +15,7 @@ use script::parse;
 use std::alloc::Global;
 use std::io::Write;
 
-/// The script of Demo.
+/// The script that Demo runs: a counter is made and bumped, and one block is brought to the disk.
 pub const STORED_RUN: &[u8] =
     b"c1 make counter hits\nc1 begin\nc1 call hits bump 1\nc1 commit\nc1 kept\nturn\nc1 kept\nturn\n";
 

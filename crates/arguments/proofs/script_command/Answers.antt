@@ -1,7 +1,7 @@
 use Rattle.std.proofs.Common.{rules, ap₂, ◌∙◌, ◌||◌}
 use Rattle.std.proofs.lemmas.Result.{IfOk-weaker}
 use Rattle.clap.specs.Words.{with_rule}
-use Rattle.arguments.proofs.play_command.Goals as goal
+use Rattle.arguments.proofs.script_command.Goals as goal
 
 pub returns : goal.returns
 returns c =

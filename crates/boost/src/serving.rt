@@ -1,0 +1,127 @@
+// Serving a script: each of its clients runs in a thread of its own.
+ghost use Rattle.std.specs.Prelude.{◌≡◌, ◌⊎◌, ℕ, OnOk, IfErr};
+ghost use Rattle.boost.specs.declared.commands.failure.Failure.{Failure};
+ghost use Rattle.boost.specs.Commands.{IsUnderstood, IsOfStore, IsWhyUnplayed, IsNotUnderstoodAt};
+ghost use Rattle.background.specs.Works.{IsLeftByWork};
+
+use crate::commands::{Failure, report};
+use background::{all_ended, run};
+use calls::Refusal;
+use crossbeam_channel::Receiver;
+use disk_model::Disk;
+use script::{Line, parse};
+use server::{Script, Transcript, collect};
+use std::alloc::{AllocGlobal, Global};
+use std::io::{BufWriter, Write};
+use std::sync::Wait;
+use std::thread::Threads;
+
+/// Opens the store of a disk, runs each client of a script in a thread of its own, beside a thread
+/// that brings what they commit to the disk, and prints, once all have ended, each client's number, the
+/// number and the answer of each of its lines, and whether its last ticket is kept. Lines without a
+/// client are passed over. Answers the status of the program with the disk.
+///
+/// On a disk at rest that reads true until it is open, and whose bytes are sound, a stop in the opening
+/// leaves the content, and one behind the call a beginning of what the clients committed, which holds
+/// what they were told is kept.
+///
+/// The status is 0 where all were served, lines that were refused among them; else a text goes to
+/// `err`, as `Failure` says: 3 for a script with a line that is not understood, of which no line is
+/// run and for which the store is not opened; 1 for a refusal that answers no line, where the store
+/// is not opened, or a thread or memory is wanting; and 4, with no text, where output could not be
+/// written. What a disk's fault, or a full one, takes from a client its own lines say.
+pub fn serve<D: Disk + Drop + Send, R: Threads + Wait + AllocGlobal + Sync>(
+    rt: &R,
+    disk: D,
+    script: &[u8],
+    out: &mut impl Write,
+    err: &mut impl Write,
+) -> (u8, D)
+    ensures status { (result.0 ≡ 0) ⊎ ((result.0 ≡ 1) ⊎ ((result.0 ≡ 3) ⊎ (result.0 ≡ 4))) }
+    ensures understood { result.0 ≡ 0 → IsUnderstood script.now }
+    ensures not_understood { result.0 ≡ 3 → (line : ℕ) × IsNotUnderstoodAt script.now line }
+    ensures untouched { result.0 ≡ 3 → result.1 ≡ disk }
+    ensures refused { result.0 ≡ 1 → IsUnderstood script.now ⊎ (result.1 ≡ disk) }
+    ensures left { IsLeftByWork ⟦<D as Disk>⟧ disk result.1 }
+    ensures silent { (result.0 ≡ 0) ⊎ (result.0 ≡ 4) → err.new ≡ err.old }
+{
+    match serve_script(rt, disk, script, out) {
+        (Ok(()), disk) => (0, disk),
+        (Err(failure), disk) => (report(&failure, err), disk),
+    }
+}
+
+// Serves a script on the store of a disk.
+fn serve_script<D: Disk + Drop + Send, R: Threads + Wait + AllocGlobal + Sync>(
+    rt: &R,
+    disk: D,
+    script: &[u8],
+    out: &mut impl Write,
+) -> (Result<(), Failure<'static>>, D)
+    ensures understood { OnOk result.0 (IsUnderstood script.now) }
+    ensures why { IfErr result.0 (IsWhyUnplayed script.now (result.1 ≡ disk)) }
+    ensures left { IsLeftByWork ⟦<D as Disk>⟧ disk result.1 }
+{
+    match parse(rt.alloc(), script) {
+        Ok(lines) => serve_lines(rt, disk, lines.as_slice(), out),
+        Err(error) => (Err(Failure::from(error)), untouched(disk)),
+    }
+}
+
+// Serves lines on the store of a disk.
+fn serve_lines<D: Disk + Drop + Send, R: Threads + Wait + AllocGlobal + Sync>(
+    rt: &R,
+    disk: D,
+    lines: &[Line],
+    out: &mut impl Write,
+) -> (Result<(), Failure<'static>>, D)
+    ensures why { IfErr result.0 IsOfStore }
+    ensures left { IsLeftByWork ⟦<D as Disk>⟧ disk result.1 }
+{
+    match Script::new(rt.alloc(), lines) {
+        Ok((script, receiver)) => {
+            let (ended, disk) = run(rt, disk, &script, script.threads());
+            drop(script);
+            (print(rt, ended, receiver, out), disk)
+        }
+        Err(refusal) => (Err(Failure::Refused(refusal)), untouched(disk)),
+    }
+}
+
+// The disk, of which a stop leaves the content, as nobody touched it.
+fn untouched<D: Disk>(disk: D) -> D
+    ensures same { result ≡ disk }
+    ensures left { IsLeftByWork ⟦<D as Disk>⟧ disk result }
+{
+    disk
+}
+
+// Prints what the clients were told, and answers whether each of them told it.
+fn print<R: Wait + AllocGlobal>(
+    rt: &R,
+    ended: Result<Vec<Result<(), Refusal>>, Refusal>,
+    receiver: Receiver<Transcript>,
+    out: &mut impl Write,
+) -> Result<(), Failure<'static>>
+    ensures { IfErr result IsOfStore }
+{
+    let ended = ended?;
+    let transcripts = collect(rt, rt.alloc(), receiver)?;
+    print_all(rt.alloc(), transcripts.as_slice(), out)?;
+    Ok(all_ended(ended.as_slice())?)
+}
+
+// Prints transcripts, one after another.
+fn print_all(
+    alloc: Global,
+    transcripts: &[Transcript],
+    out: &mut impl Write,
+) -> Result<(), Failure<'static>>
+    ensures { IfErr result IsOfStore }
+{
+    let mut out = BufWriter::new(alloc, out)?;
+    for transcript in transcripts {
+        write!(out, "{transcript}")?;
+    }
+    Ok(out.flush()?)
+}

@@ -1,0 +1,111 @@
+// The threads of a script's clients.
+ghost use Rattle.std.specs.Prelude.{IsOkUnless};
+ghost use Rattle.calls.specs.declared.refusal.Refusal.{Refusal};
+
+use crate::session::Session;
+use crate::transcript::Transcript;
+use background::{Clients, Signal, Work};
+use calls::Refusal;
+use crossbeam_channel::{Receiver, Sender, unbounded};
+use script::{Action, Line};
+use std::alloc::{AllocGlobal, Global};
+use std::sync::Wait;
+use store::Naming;
+
+// Clients are numbered from 1 to so many.
+const CLIENTS: u8 = 64;
+
+/// The lines of a script as work on a store: each client that has lines runs its own in a thread of
+/// its own, and sends what it was told. Lines without a client are passed over.
+#[derive(Drop)]
+pub struct Script<'a> {
+    lines: &'a [Line],
+    clients: Vec<u8>,
+    sender: Sender<Transcript>,
+}
+
+impl<'a> Script<'a> {
+    /// The script of the lines, and where its clients' transcripts come. Refused only for want of
+    /// memory.
+    pub fn new(
+        alloc: Global,
+        lines: &'a [Line],
+    ) -> Result<(Script<'a>, Receiver<Transcript>), Refusal>
+        ensures { IsOkUnless result Refusal.NoMemory }
+    {
+        let clients = clients_of(alloc, lines)?;
+        let (sender, receiver) = unbounded(alloc)?;
+        let script = Script {
+            lines,
+            clients,
+            sender,
+        };
+        Ok((script, receiver))
+    }
+
+    /// How many threads run it: one for each client that has lines.
+    pub fn threads(&self) -> usize {
+        self.clients.len()
+    }
+}
+
+impl Work for Script<'_> {
+    type Output = Result<(), Refusal>;
+
+    /// Runs the lines of a client (`Session::run`), and sends what it was told.
+    ///
+    /// Worn where the store makes no more clients; NoMemory where the answers, or the channel, take
+    /// more than there is.
+    fn work<J: Naming, S: Clients<J>, R: Wait + AllocGlobal>(
+        &self,
+        rt: &R,
+        store: &S,
+        signal: &Signal,
+        thread: usize,
+    ) -> Result<(), Refusal> {
+        let Some(client) = self.clients.get(thread) else {
+            return Ok(());
+        };
+        let mut session = Session::new(store.client(rt)?);
+        let transcript = session.run(rt, rt.alloc(), *client, self.lines, signal)?;
+        match self.sender.send(rt, transcript) {
+            Ok(()) => Ok(()),
+            Err(_) => Err(Refusal::NoMemory),
+        }
+    }
+}
+
+// The numbers of the clients that have lines, rising.
+fn clients_of(alloc: Global, lines: &[Line]) -> Result<Vec<u8>, Refusal>
+    ensures { IsOkUnless result Refusal.NoMemory }
+{
+    let mut clients = Vec::new(alloc);
+    for client in 1..=CLIENTS {
+        if has_lines(lines, client) {
+            clients.push(client)?;
+        }
+    }
+    Ok(clients)
+}
+
+// Whether a line is a request of the client of this number.
+fn has_lines(lines: &[Line], client: u8) -> bool {
+    lines.iter().any(|line| matches!(&line.what, Action::Client(number, _) if *number == client))
+}
+
+/// The transcripts that were sent, by rising number of their clients. The script is gone, so no more
+/// come. Refused only for want of memory.
+pub fn collect<R: Wait>(
+    rt: &R,
+    alloc: Global,
+    receiver: Receiver<Transcript>,
+) -> Result<Vec<Transcript>, Refusal>
+    ensures { IsOkUnless result Refusal.NoMemory }
+{
+    let mut transcripts = Vec::new(alloc);
+    for transcript in receiver.iter(rt) {
+        transcripts.push(transcript)?;
+    }
+    transcripts.sort_by_key(|transcript| transcript.client)?;
+    Ok(transcripts)
+}
