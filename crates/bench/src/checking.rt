@@ -1,0 +1,52 @@
+// Whether what is read at the end is what was acknowledged.
+use crate::calling::{FIRST_JOBS, KEYS};
+use crate::log::Log;
+use crate::outcome::Outcome;
+use crate::workload::Workload;
+use calls::{Item, Refusal};
+use catalog::Catalog;
+use std::alloc::{AllocError, Global};
+
+/// Whether the content of a store is what its clients were told: the counter's number is the count of
+/// transactions; no identifier was drawn twice, and all that were drawn are taken; no job was taken
+/// twice, and those are left that were put and not taken; all keys are there.
+pub fn is_right(
+    alloc: Global,
+    catalog: &Catalog,
+    workload: Workload,
+    outcome: &Outcome,
+) -> Result<bool, Refusal> {
+    let shown = catalog.show(0)?;
+    let items = shown.items.as_slice();
+    let count = items.len() as u64;
+    let taken = all_taken(alloc, outcome.logs.as_slice())?;
+    let are_once = taken.windows(2).all(|pair| pair[0] != pair[1]);
+    let taken = taken.len() as u64;
+    match workload {
+        Workload::Ids => Ok(are_once && count == taken),
+        Workload::JobQueue => {
+            let put = outcome.put().wrapping_add(u64::from(FIRST_JOBS));
+            Ok(are_once && count.wrapping_add(taken) == put)
+        }
+        Workload::Map => Ok(count == u64::from(KEYS)),
+        _ => Ok(total(items) == Some(i128::from(outcome.commits()))),
+    }
+}
+
+/// The number of the counter that these are the items of.
+pub fn total(items: &[Item]) -> Option<i128> {
+    match items {
+        [Item::Number(total)] => Some(*total),
+        _ => None,
+    }
+}
+
+// All that was drawn or taken, sorted.
+fn all_taken(alloc: Global, logs: &[Log]) -> Result<Vec<u64>, AllocError> {
+    let mut all = Vec::new(alloc);
+    for log in logs {
+        all.extend_from_slice(log.taken.as_slice())?;
+    }
+    all.as_mut_slice().sort_unstable();
+    Ok(all)
+}

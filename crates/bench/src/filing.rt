@@ -1,0 +1,49 @@
+// The file of the store.
+use crate::trouble::Trouble;
+use disk_model::{FileDisk, Unknown};
+use recovery::format;
+use std::alloc::{AllocError, Global};
+use std::fs::{File, OpenOptions};
+use std::io;
+use std::rt::Files;
+
+// The size of each of its two areas, in bytes.
+const AREA: u64 = 1 << 26;
+
+/// The size of a store's file, in bytes.
+pub const FILE_SIZE: u64 = 4096 + 2 * AREA;
+
+/// A file as a disk. What it holds is not known.
+pub type StoredDisk = FileDisk<Unknown>;
+
+/// Makes the file of an empty store in a folder, in place of one that is there.
+pub fn make_disk<R: Files<File = File> + AllocGlobal>(
+    rt: &R,
+    folder: &str,
+) -> Result<StoredDisk, Trouble> {
+    let path = path_in(rt.alloc(), folder)?;
+    let file = options().create(true).truncate(true).open(rt, path)?;
+    file.set_len(FILE_SIZE)?;
+    let mut disk = FileDisk::open(file)?;
+    format(&mut disk, AREA)?;
+    Ok(disk)
+}
+
+/// The file of the store that is in a folder.
+pub fn open_disk<R: Files<File = File> + AllocGlobal>(
+    rt: &R,
+    folder: &str,
+) -> Result<StoredDisk, Trouble> {
+    let path = path_in(rt.alloc(), folder)?;
+    Ok(FileDisk::open(options().open(rt, path)?)?)
+}
+
+fn options() -> OpenOptions {
+    let mut options = File::options();
+    options.read(true).write(true);
+    options
+}
+
+fn path_in(alloc: Global, folder: &str) -> Result<String, AllocError> {
+    format!(in alloc; "{folder}/store")
+}

@@ -1,0 +1,115 @@
+// The clients that are measured.
+use crate::calling::next_call;
+use crate::committing::{OneCall, commit_all, keep};
+use crate::log::Log;
+use crate::trouble::Trouble;
+use crate::window::Window;
+use crate::workload::Workload;
+use background::{Clients, Signal, Work};
+use calls::Reply;
+use rand_pcg::Pcg32;
+use std::alloc::AllocGlobal;
+use std::rt::Clock;
+use std::sync::Wait;
+use std::thread;
+use std::time::Instant;
+use store::{Client, Naming};
+
+/// What the clients do that are measured, each in a thread.
+#[derive(Drop)]
+pub struct Measuring<'a, C> {
+    /// The clock, and where what is kept is told.
+    pub clock: &'a C,
+    /// Whether each transaction that is kept is told.
+    pub is_told: bool,
+    pub workload: Workload,
+    /// How many transactions a client commits that waits for the last one alone.
+    pub count: u64,
+    /// What bounds those of clients that wait for each.
+    pub window: Window,
+}
+
+impl<C: Clock + Print> Work for Measuring<'_, C> {
+    type Output = Result<Log, Trouble>;
+
+    fn work<J: Naming, S: Clients<J>, R: Wait + AllocGlobal>(
+        &self,
+        rt: &R,
+        store: &S,
+        signal: &Signal,
+        thread: usize,
+    ) -> Result<Log, Trouble> {
+        let mut client = store.client(rt)?;
+        match self.workload {
+            Workload::CounterAsync | Workload::OpenFill => self.fill(rt, &mut client, signal),
+            _ => self.run(rt, &mut client, signal, thread as u64),
+        }
+    }
+}
+
+impl<C: Clock + Print> Measuring<'_, C> {
+    // Commits all transactions, and waits for the last one alone.
+    fn fill<J: Naming, R: Wait + AllocGlobal>(
+        &self,
+        rt: &R,
+        client: &mut Client<'_, J>,
+        signal: &Signal,
+    ) -> Result<Log, Trouble> {
+        let mut log = Log::new(rt.alloc(), Instant::now(self.clock)?);
+        commit_all(rt, client, signal, self.workload, self.count)?;
+        log.end = Instant::now(self.clock)?;
+        log.commits = self.count;
+        Ok(log)
+    }
+
+    // Does what the client of this number does, each transaction kept before the next one begins,
+    // until the window admits no more.
+    fn run<J: Naming, R: Wait + AllocGlobal>(
+        &self,
+        rt: &R,
+        client: &mut Client<'_, J>,
+        signal: &Signal,
+        number: u64,
+    ) -> Result<Log, Trouble> {
+        let workload = self.workload;
+        let mut numbers = Pcg32::new(number, 1);
+        let mut log = Log::new(rt.alloc(), Instant::now(self.clock)?);
+        for _ in rt.forever() {
+            if !self.window.admits(&log) {
+                return Ok(log);
+            }
+            let call = next_call(rt.alloc(), workload, number, &mut numbers, &mut log)?;
+            let start = log.end;
+            let reply = keep(rt, client, signal, &OneCall { workload, call })?;
+            log.end = Instant::now(self.clock)?;
+            self.note(reply, start, &mut log)?;
+            self.tell(number, &log)?;
+        }
+        unreachable!()
+    }
+
+    // Tells how many of a client's transactions are kept.
+    fn tell(&self, number: u64, log: &Log) -> Result<(), Trouble> {
+        if self.is_told {
+            println!(self.clock; "{number} {}", log.commits)?;
+        }
+        Ok(())
+    }
+
+    // Notes what a transaction came to, and how long it took. One that found no job is not counted.
+    fn note(&self, reply: Reply, start: Instant, log: &mut Log) -> Result<(), Trouble> {
+        match reply {
+            Reply::Nothing if self.workload == Workload::JobQueue => {
+                self.window.give_back();
+                thread::yield_now();
+                return Ok(());
+            }
+            Reply::Id(taken) | Reply::Item(_, taken) => log.taken.push(taken)?,
+            _ => {}
+        }
+        let time = log.end.duration_since(start).as_nanos();
+        log.times.push(u64::try_from(time).unwrap_or(u64::MAX))?;
+        log.commits = log.commits.wrapping_add(1);
+        Ok(())
+    }
+}

@@ -1,0 +1,77 @@
+// A run on a new store.
+use crate::checking::is_right;
+use crate::counts::Counts;
+use crate::log::Log;
+use crate::measuring::Measuring;
+use crate::options::{Options, Variant};
+use crate::outcome::Outcome;
+use crate::preparing::Preparing;
+use crate::trouble::Trouble;
+use crate::window::Window;
+use crate::workload::Workload;
+use background::{all_ended, run};
+use calls::Refusal;
+use disk_model::Disk;
+use recovery::open;
+use std::alloc::{AllocGlobal, Global};
+use std::rt::{Clock, Env, Files};
+use std::sync::Wait;
+use std::thread::Threads;
+
+/// Makes what the clients find at the start, and lets them run. What came of it, and whether what
+/// the store holds once it is opened again is what they were told.
+pub fn measure<
+    D: Disk + Drop + Send,
+    R: Threads + Wait + Clock + Env + Files + Print + AllocGlobal + Sync,
+>(rt: &R, disk: D, options: &Options<'_>) -> Result<(Outcome, bool), Trouble> {
+    let workload = options.workload;
+    let (prepared, disk) = run(rt, disk, &Preparing { workload }, 1);
+    all_ended(prepared?.as_slice())?;
+    let before = Counts::read(rt);
+    let (logs, disk) = run_clients(rt, disk, options)?;
+    let outcome = Outcome {
+        logs,
+        counts: Counts::read(rt).since(before),
+    };
+    let is_right = is_kept(rt, disk, workload, &outcome)?;
+    Ok((outcome, is_right))
+}
+
+// Lets the clients run, each in a thread of its own.
+fn run_clients<D: Disk + Drop + Send, R: Threads + Wait + Clock + Print + AllocGlobal + Sync>(
+    rt: &R,
+    disk: D,
+    options: &Options<'_>,
+) -> Result<(Vec<Log>, D), Trouble> {
+    let clients = Measuring {
+        clock: rt,
+        is_told: options.variant == Variant::Told,
+        workload: options.workload,
+        count: options.count,
+        window: Window::new(options),
+    };
+    let (logs, disk) = run(rt, disk, &clients, options.threads());
+    Ok((all_logs(rt.alloc(), logs?)?, disk))
+}
+
+// What each client did, where none met trouble.
+fn all_logs(alloc: Global, logs: Vec<Result<Log, Trouble>>) -> Result<Vec<Log>, Trouble> {
+    let mut all = Vec::new(alloc);
+    for log in logs {
+        all.push(log?)?;
+    }
+    Ok(all)
+}
+
+// Whether the store of a disk holds what the clients were told.
+fn is_kept<D: Disk + Drop>(
+    rt: &impl AllocGlobal,
+    disk: D,
+    workload: Workload,
+    outcome: &Outcome,
+) -> Result<bool, Refusal> {
+    match open(rt.alloc(), disk) {
+        Ok((book, _keeper)) => is_right(rt.alloc(), book.parts(), workload, outcome),
+        Err((refusal, _disk)) => Err(refusal),
+    }
+}
