@@ -1,0 +1,153 @@
+#!/usr/bin/env python3
+"""Builds the program for the script `boost`: `build.py proved`, with a line that tells how far it is, or
+`build.py unproved`, as the toolchain builds it for a try. What the toolchain prints goes into a log beside
+the program. The status is 0, or 5 where nothing was built."""
+import errno
+import glob
+import os
+import re
+import signal
+import subprocess
+import sys
+import tempfile
+import time
+
+TOP = os.path.dirname(os.path.dirname(os.path.abspath(__file__)))
+CRATE = os.path.join(TOP, 'crates', 'boost_main')
+OUT = os.path.join(CRATE, 'out')
+LOG = os.path.join(OUT, 'build.log')
+# What the toolchain prints at the end of a crate.
+NAMED = re.compile(r'crate (\w+): modules ')
+COUNTED = re.compile(r'logic=proved functions=(\d+)')
+
+
+def fail(why):
+    print(f'boost: {why}', file=sys.stderr)
+    sys.exit(5)
+
+
+# ---- before any proof
+
+
+def end_of(pipe, tried):
+    """The end of the pipe into which a script is written, once the program reads it; none where it never did."""
+    while tried.poll() is None:
+        try:
+            return os.open(pipe, os.O_WRONLY | os.O_NONBLOCK)
+        except OSError as error:
+            if error.errno != errno.ENXIO:
+                raise
+            time.sleep(0.05)
+    return None
+
+
+def build_unproved():
+    """A try of the toolchain keeps no file. So the program is given a script that does not come, is linked
+    under a name of its own while it waits, and is then told that the script is empty."""
+    with tempfile.TemporaryDirectory(prefix='try-', dir=OUT) as room, open(LOG, 'w', encoding='utf-8') as log:
+        pipe = os.path.join(room, 'script')
+        os.mkfifo(pipe)
+        words = ['rt', 'try', '--', 'play', os.path.join(room, 'disk'), pipe]
+        environment = {**os.environ, 'TMPDIR': room}
+        tried = subprocess.Popen(words, cwd=CRATE, env=environment, stdin=subprocess.DEVNULL, stdout=log, stderr=log)
+        end = end_of(pipe, tried)
+        found = glob.glob(os.path.join(room, '**', 'program'), recursive=True)
+        if end is not None and found:
+            kept = os.path.join(room, 'kept')
+            os.link(found[0], kept)
+            os.chmod(kept, 0o755)
+            os.replace(kept, os.path.join(OUT, 'unproved'))
+        if end is not None:
+            os.close(end)
+        tried.wait()
+        return bool(end is not None and found)
+
+
+# ---- with a proof
+
+
+def dependencies():
+    """Each crate of crates.txt with what it stands on."""
+    with open(os.path.join(TOP, 'crates.txt'), encoding='utf-8') as file:
+        rows = [line.split(':') for line in file if ':' in line and not line.startswith('#')]
+    return {crate: below.split() for crate, below in rows}
+
+
+def crates_up_to(name, needs):
+    """The crates on which one stands, and it, in the order in which the toolchain builds them."""
+    found = []
+    for below in needs[name]:
+        if below in needs:
+            found += [crate for crate in crates_up_to(below, needs) if crate not in found]
+    return [*found, name]
+
+
+class Progress:
+    """How far a build is: in one line of a terminal, else in a line for each crate."""
+
+    def __init__(self):
+        self.crates = crates_up_to('boost_main', dependencies())
+        self.is_terminal = sys.stderr.isatty()
+        self.began = time.monotonic()
+        self.proved = f'{len(self.crates)} crates to prove'
+        self.last, self.functions = None, 0
+        if self.is_terminal:
+            signal.signal(signal.SIGALRM, lambda number, frame: self.tell())
+            signal.setitimer(signal.ITIMER_REAL, 10, 10)
+        self.tell()
+
+    def tell(self):
+        minutes = int(time.monotonic() - self.began) // 60
+        line = f'boost: {self.proved}, {self.functions} functions, {minutes} minutes'
+        if self.is_terminal:
+            print(f'\r{line}\x1b[K', end='', file=sys.stderr, flush=True)
+        else:
+            print(line, file=sys.stderr, flush=True)
+
+    def read(self, line):
+        """Takes a line of the toolchain's into account."""
+        crate, count = NAMED.match(line), COUNTED.match(line)
+        if crate:
+            self.last = crate[1]
+        if count and self.last in self.crates:
+            self.functions += int(count[1])
+            self.proved = f'crate {self.crates.index(self.last) + 1} of {len(self.crates)} ({self.last}) proved'
+            self.tell()
+
+    def end(self):
+        signal.setitimer(signal.ITIMER_REAL, 0)
+        if self.is_terminal:
+            print(file=sys.stderr)
+
+
+def build_proved():
+    progress = Progress()
+    how = {'stdin': subprocess.DEVNULL, 'stdout': subprocess.DEVNULL, 'stderr': subprocess.PIPE}
+    with open(LOG, 'w', encoding='utf-8') as log:
+        run = subprocess.Popen(['rt', 'run', '--', '--help'], cwd=CRATE, text=True, **how)
+        for line in run.stderr:
+            log.write(line)
+            progress.read(line)
+    is_built = run.wait() == 0
+    progress.end()
+    if is_built:
+        os.utime(os.path.join(OUT, 'boost_main'))
+        print('boost: proved and built', file=sys.stderr)
+    return is_built
+
+
+def main():
+    os.makedirs(OUT, exist_ok=True)
+    try:
+        is_built = build_proved() if sys.argv[1:] == ['proved'] else build_unproved()
+    except FileNotFoundError as error:
+        if error.filename != 'rt':
+            raise
+        fail('no toolchain: the command rt is not there')
+    except KeyboardInterrupt:
+        fail('broken off')
+    if not is_built:
+        fail(f'the program was not built: see {os.path.relpath(LOG)}')
+
+
+main()
