@@ -1,5 +1,5 @@
 -- What a program that works on the store of a disk leaves there.
-use Rattle.std.specs.Prelude.{◌≡◌, ◌⊎◌, ℕ, List, [], take}
+use Rattle.std.specs.Prelude.{◌≡◌, ◌⊎◌, ℕ, List, []}
 use Rattle.calls.specs.Contents.{Collection}
 use Rattle.catalog.specs.Meaning.{catalog_meaning, catalog_making}
 use Rattle.checkpoint.specs.Crash.{Yields}
@@ -17,16 +17,14 @@ use Rattle.txn.specs.Rows.{Standing, opening}
 
 -- Threads took the steps of a legal history from the content. Whatever a stop leaves of the disk now
 -- is sound, and stands for a content that some beginning of the transactions gives that the history
--- commits, each run whole, one after another, with the replies that its client got; that beginning
--- holds the first so many, which the mark told.
+-- commits, each run whole, one after another, with the replies that its client got.
 pub record IsWorkedOn {D : Type 0} (g : Ghosts D) (content : List Collection) (new : D) : Type 0 where
   pub wear : ℕ
   pub steps : List BookStep
   pub behind : Standing (List Collection)
   pub legal : IsLegal catalog_meaning catalog_making (opening content wear) steps behind
-  pub mark : ℕ
   pub stop : (bytes : List ℕ) → g.may_leave new bytes →
-      Yields content (committed_by steps) (take mark (committed_by steps)) bytes
+      Yields content (committed_by steps) [] bytes
 
 -- A store was opened, and worked on. Where the disk read true until it was open, a stop in the
 -- opening leaves the content; and where it was at rest and its bytes stood for a content, the work

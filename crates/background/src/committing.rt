@@ -15,8 +15,8 @@ pub trait Commits {
     /// Brings what clients commit to the disk until the signal says that no more comes, and all is
     /// there; sleeps while nothing is pending. Where the area is full it takes a checkpoint.
     ///
-    /// It ends early where the disk fails, and where a checkpoint is refused: then the mark's failed
-    /// flag is set, so that who waits is told.
+    /// It ends early where the disk fails, and where a checkpoint is refused: then the mark's
+    /// failed flag is set, so that who waits is told.
     fn commit_all<R: Wait>(&self, rt: &R, signal: &Signal, sleeper: &Sleeper);
 }
 
@@ -67,8 +67,8 @@ fn checkpoint<D: Disk, J: Naming, R: Wait>(
 }
 
 /// Starts a thread in which all that clients of the store commit is brought to the disk
-/// (`Commits::commit_all`). It ends behind `Signal::end`, which is to be called on each way out of the
-/// scope.
+/// (`Commits::commit_all`). It ends behind `Signal::end`, which is to be called on each way out of
+/// the scope.
 ///
 /// NoMemory where no thread can be started.
 pub fn start<'s, E, S: Commits + Sync, R: Wait + Sync>(

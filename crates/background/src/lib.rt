@@ -1,6 +1,6 @@
-//! Runs a program's work on a store beside the store's committer, which is in a thread of its own: it
-//! brings what clients commit to the disk, takes a checkpoint where the area is full, and sleeps while
-//! nothing is pending.
+//! Runs a program's work on a store beside the store's committer, which is in a thread of its own:
+//! it brings what clients commit to the disk, takes a checkpoint where the area is full, and sleeps
+//! while nothing is pending.
 //!
 //! A program says what each of its threads does, and hands that to `run` with a disk:
 //!

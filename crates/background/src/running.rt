@@ -56,16 +56,16 @@ pub trait Work {
 
 /// Opens the store of a disk, works on it in so many threads, beside one that brings what is
 /// committed to the disk (`start`), and closes it once all work has ended and all that it committed
-/// is there. Answers what the threads answered, in their order, with the disk. Where the system makes
-/// no more threads, a thread does the work of several, one after another.
+/// is there. Answers what the threads answered, in their order, with the disk. Where the system
+/// makes no more threads, a thread does the work of several, one after another.
 ///
-/// On a disk at rest that reads true until it is open, and whose bytes stand for a content, a stop in
-/// the opening leaves the content, and one behind the call a beginning of what was committed, which
-/// holds all that the mark told.
+/// On a disk at rest that reads true until it is open, and whose bytes stand for a content, a stop
+/// in the opening leaves the content, and one behind the call a beginning of what was committed.
+/// How much of it no clause of this call says: `Store::close` does, of what a client was told.
 ///
 /// The refusals of `Opened::open`, and NoMemory where the committer's thread cannot be started: no
-/// work is begun then. NoMemory also where the answers take more than there is: then some of the work
-/// may be done.
+/// work is begun then. NoMemory also where the answers take more than there is: then some of the
+/// work may be done.
 pub fn run<D: Disk + Drop + Send, W: Work + Sync, R: Threads + Wait + AllocGlobal + Sync>(
     rt: &R,
     disk: D,

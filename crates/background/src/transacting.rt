@@ -24,11 +24,11 @@ pub trait Transaction {
         ensures { IsOpen client.new.phase };
 }
 
-/// Begins a transaction, makes its calls, commits it, and wakes the committer. Answers what the calls
-/// gave, and the ticket of the commit. Where another transaction is in the way (Busy), where too many
-/// are live (TooManyLive), or too many records wait for the disk (Backlog), it is taken back and tried
-/// again, after a pause that grows. One that the client had open is taken back first, and so is one
-/// whose taking back found too many records waiting.
+/// Begins a transaction, makes its calls, commits it, and wakes the committer. Answers what the
+/// calls gave, and the ticket of the commit. Where another transaction is in the way (Busy), where
+/// too many are live (TooManyLive), or too many records wait for the disk (Backlog), it is taken
+/// back and tried again, after a pause that grows. One that the client had open is taken back
+/// first, and so is one whose taking back found too many records waiting.
 ///
 /// Each other refusal of a call, of the begin or of the commit takes the transaction back and is
 /// answered; and so are those of `Client::abort`, which leave it open.

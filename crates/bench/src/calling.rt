@@ -27,7 +27,8 @@ pub fn first_count(workload: Workload) -> u32 {
     }
 }
 
-/// The call of this number, of those that make what is there at the start. Of a counter each is a bump.
+/// The call of this number, of those that make what is there at the start. Of a counter each is a
+/// bump.
 pub fn first_call(
     alloc: Global,
     workload: Workload,

@@ -7,9 +7,9 @@ use calls::{Item, Refusal};
 use catalog::Catalog;
 use std::alloc::{AllocError, Global};
 
-/// Whether the content of a store is what its clients were told: the counter's number is the count of
-/// transactions; no identifier was drawn twice, and all that were drawn are taken; no job was taken
-/// twice, and those are left that were put and not taken; all keys are there.
+/// Whether the content of a store is what its clients were told: the counter's number is the count
+/// of transactions; no identifier was drawn twice, and all that were drawn are taken; no job was
+/// taken twice, and those are left that were put and not taken; all keys are there.
 pub fn is_right(
     alloc: Global,
     catalog: &Catalog,

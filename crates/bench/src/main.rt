@@ -5,9 +5,9 @@
 //! COUNT transactions and begin none after SECONDS; the store's file lies in the folder DIR. The
 //! workloads are those of `Workload`.
 //!
-//! `openfill` ends without closing the store, as far as its file can tell: it returns with the file as
-//! the last sync left it, since the program does not kill itself, and neither closing a store nor
-//! opening one with no unfinished transaction writes anything.
+//! `openfill` ends without closing the store, as far as its file can tell: it returns with the file
+//! as the last sync left it, since the program does not kill itself, and neither closing a store
+//! nor opening one with no unfinished transaction writes anything.
 #![tactic(auto)]
 
 mod calling;

@@ -9,8 +9,8 @@ pub enum Variant {
     Timed,
     /// What came of it, but for what differs from run to run.
     Untimed,
-    /// The same, and before it a line for each transaction that is kept, as soon as its client is told
-    /// so: the client's number, and how many of its transactions are.
+    /// The same, and before it a line for each transaction that is kept, as soon as its client is
+    /// told so: the client's number, and how many of its transactions are.
     Told,
 }
 
@@ -41,8 +41,8 @@ pub struct Options<'a> {
 }
 
 impl<'a> Options<'a> {
-    /// Reads them from the words of a command line, the program's own name first. None where they are
-    /// not `VARIANT WORKLOAD CLIENTS COUNT SECONDS DIR`.
+    /// Reads them from the words of a command line, the program's own name first. None where they
+    /// are not `VARIANT WORKLOAD CLIENTS COUNT SECONDS DIR`.
     pub fn read(words: &'a [String]) -> Option<Options<'a>> {
         let [_, variant, workload, clients, count, seconds, folder] = words else {
             return None;

@@ -29,7 +29,8 @@ impl Outcome {
             .fold(0, u64::wrapping_add)
     }
 
-    /// How long it took, from the first client's start to the last one's end; nothing without clients.
+    /// How long it took, from the first client's start to the last one's end; nothing without
+    /// clients.
     pub fn time(&self) -> Duration {
         let start = self.logs.iter().map(|log| log.start).min();
         let end = self.logs.iter().map(|log| log.end).max();

@@ -9,8 +9,8 @@ use std::fs::File;
 use std::rt::{Clock, Files};
 use std::time::{Duration, Instant};
 
-/// Opens the store of the folder twice, the second time after it was closed, and prints how long each
-/// took, from before the opening to having read the counter.
+/// Opens the store of the folder twice, the second time after it was closed, and prints how long
+/// each took, from before the opening to having read the counter.
 pub fn measure<R: Clock + Files<File = File> + Print + AllocGlobal>(
     rt: &R,
     options: &Options<'_>,

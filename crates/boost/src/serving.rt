@@ -17,13 +17,12 @@ use std::sync::Wait;
 use std::thread::Threads;
 
 /// Opens the store of a disk, runs each client of a script in a thread of its own, beside a thread
-/// that brings what they commit to the disk, and prints, once all have ended, each client's number, the
-/// number and the answer of each of its lines, and whether its last ticket is kept. Lines without a
-/// client are passed over. Answers the status of the program with the disk.
+/// that brings what they commit to the disk, and prints, once all have ended, each client's number,
+/// the number and the answer of each of its lines, and whether its last ticket is kept. Lines
+/// without a client are passed over. Answers the status of the program with the disk.
 ///
-/// On a disk at rest that reads true until it is open, and whose bytes are sound, a stop in the opening
-/// leaves the content, and one behind the call a beginning of what the clients committed, which holds
-/// what they were told is kept.
+/// On a disk at rest that reads true until it is open, and whose bytes are sound, a stop in the
+/// opening leaves the content, and one behind the call a beginning of what the clients committed.
 ///
 /// The status is 0 where all were served, lines that were refused among them; else a text goes to
 /// `err`, as `Failure` says: 3 for a script with a line that is not understood, of which no line is

@@ -1,6 +1,6 @@
-//! A job queue in a store in a file: two threads put jobs in, and two take them out, the most urgent
-//! first. A job is taken, done and its result written in one transaction, so it is done once; each
-//! worker gives its first job up, which is there again.
+//! A job queue in a store in a file: two threads put jobs in, and two take them out, the most
+//! urgent first. A job is taken, done and its result written in one transaction, so it is done
+//! once; each worker gives its first job up, which is there again.
 #![tactic(auto)]
 
 use background::{Clients, Signal, Transaction, Work, all_ended, run, transact};

@@ -1,8 +1,8 @@
-//! Serves eight clients at once, each of which runs transactions on collections of all five kinds, gives
-//! some of them up, and tries those again that meet a lock of another one. Then the committed
-//! transactions are run once more, whole, in the order of their places, on a plain store of one thread:
-//! each call must get the reply there that its client got. Last the file is opened again, and what it
-//! holds is asked for and compared.
+//! Serves eight clients at once, each of which runs transactions on collections of all five kinds,
+//! gives some of them up, and tries those again that meet a lock of another one. Then the committed
+//! transactions are run once more, whole, in the order of their places, on a plain store of one
+//! thread: each call must get the reply there that its client got. Last the file is opened again,
+//! and what it holds is asked for and compared.
 #![tactic(auto)]
 
 mod clients;

@@ -25,7 +25,8 @@ impl Plain {
         }
     }
 
-    /// Runs a transaction whole. How many of its calls it answers otherwise than they were answered.
+    /// Runs a transaction whole. How many of its calls it answers otherwise than they were
+    /// answered.
     pub fn replay(&mut self, calls: &[(Call, Reply)]) -> Result<usize, Refusal> {
         let mut count = 0usize;
         for (call, reply) in calls {

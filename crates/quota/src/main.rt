@@ -1,6 +1,6 @@
 //! A quota: four threads spend from two accounts that have a limit, in a store in a file. What an
-//! account has left never falls below zero; it is filled up at a commit, and is there once the store
-//! was closed and opened again.
+//! account has left never falls below zero; it is filled up at a commit, and is there once the
+//! store was closed and opened again.
 #![tactic(auto)]
 
 use background::{Clients, Signal, Transaction, Work, all_ended, run, transact};
@@ -48,8 +48,8 @@ impl Transaction for Spend<'_> {
     }
 }
 
-// A transaction that fills an account up: what it gives is there once it commits, and is in nobody's
-// way before.
+// A transaction that fills an account up: what it gives is there once it commits, and is in
+// nobody's way before.
 #[derive(Clone, Copy)]
 struct Refill<'a> {
     account: &'a str,

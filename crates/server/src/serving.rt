@@ -93,8 +93,8 @@ fn has_lines(lines: &[Line], client: u8) -> bool {
     lines.iter().any(|line| matches!(&line.what, Action::Client(number, _) if *number == client))
 }
 
-/// The transcripts that were sent, by rising number of their clients. The script is gone, so no more
-/// come. Refused only for want of memory.
+/// The transcripts that were sent, by rising number of their clients. The script is gone, so no
+/// more come. Refused only for want of memory.
 pub fn collect<R: Wait>(
     rt: &R,
     alloc: Global,

@@ -18,8 +18,8 @@ use std::marker::Model;
 use std::sync::Wait;
 use store::{Client, Naming, Ticket};
 
-/// A client of a script on a store that threads share: what it knows of the store, and the ticket of
-/// what it last committed or made.
+/// A client of a script on a store that threads share: what it knows of the store, and the ticket
+/// of what it last committed or made.
 #[derive(Drop)]
 pub struct Session<'s, J: Naming> {
     client: Client<'s, J>,
@@ -213,8 +213,8 @@ impl<'s, J: Naming> Session<'s, J> {
         self.client.later(rt, name.as_str(), &Call::Bump(by))
     }
 
-    // Commits the open transaction, whose ticket is the client's then: NoSuchTxn where none is open,
-    // else what `Client::commit` answers.
+    // Commits the open transaction, whose ticket is the client's then: NoSuchTxn where none is
+    // open, else what `Client::commit` answers.
     fn commit<R: Wait>(&mut self, rt: &R) -> Result<Ticket, Refusal>
         ensures { InOpen ⟦<J as Naming>⟧ self.old result self.new
             (Commits ⟦<J as Naming>⟧ self.old.known result self.new.known ×
