@@ -39,11 +39,14 @@ pub enum Task {
 }
 
 // A path that has to stand on the command line.
-fn path<'a>(alloc: Global, id: &'a str) -> Arg<'a>
+fn path<'a>(alloc: Global, id: &'a str, help: &'a str) -> Arg<'a>
     ensures rule { rule_of result ≡ path_rule id.entry.now }
     ensures alone { result.global ≡ false }
 {
-    Arg::new(alloc, id).required(true).action(ArgAction::Set)
+    Arg::new(alloc, id)
+        .required(true)
+        .action(ArgAction::Set)
+        .help(help)
 }
 
 // The size of an area.
@@ -57,29 +60,44 @@ fn area<'a>(alloc: Global) -> Arg<'a>
         .required(true)
         .action(ArgAction::Set)
         .value_parser(value_parser!(u64))
+        .help("The bytes of each of its two areas, from 65536 to 1073741824")
 }
 
 // A command on a disk alone.
-fn disk_command<'a>(alloc: Global, name: &'a str) -> Result<clap::Command<'a>, AllocError>
+fn disk_command<'a>(
+    alloc: Global,
+    name: &'a str,
+    about: &'a str,
+) -> Result<clap::Command<'a>, AllocError>
     ensures { IfOk result (λ c. (app_of c ≡ disk_app name.entry.now) ×
         ((out-Command c).has_globals ≡ false)) }
 {
-    clap::Command::new(alloc, name).arg(path(alloc, "DISK"))
+    clap::Command::new(alloc, name)
+        .about(about)
+        .arg(path(alloc, "DISK", "The file that holds the store"))
 }
 
 // The command that formats a disk.
 fn format_command<'a>(alloc: Global) -> Result<clap::Command<'a>, AllocError>
     ensures { IfOk result (λ c. (app_of c ≡ format_app) × ((out-Command c).has_globals ≡ false)) }
 {
-    disk_command(alloc, "format")?.arg(area(alloc))
+    disk_command(alloc, "format", "Make an empty store in a file")?.arg(area(alloc))
 }
 
 // A command on a disk that runs a script.
-fn script_command<'a>(alloc: Global, name: &'a str) -> Result<clap::Command<'a>, AllocError>
+fn script_command<'a>(
+    alloc: Global,
+    name: &'a str,
+    about: &'a str,
+) -> Result<clap::Command<'a>, AllocError>
     ensures { IfOk result (λ c. (app_of c ≡ script_app name.entry.now) ×
         ((out-Command c).has_globals ≡ false)) }
 {
-    disk_command(alloc, name)?.arg(path(alloc, "SCRIPT"))
+    disk_command(alloc, name, about)?.arg(path(
+        alloc,
+        "SCRIPT",
+        "The file that holds the lines to run",
+    ))
 }
 
 // The program with one command more, where that could be made.
@@ -97,13 +115,24 @@ fn with<'a>(
 fn program<'a>(alloc: Global) -> Result<clap::Command<'a>, AllocError>
     ensures { IfOk result (λ c. app_of c ≡ program_app) }
 {
-    let program = clap::Command::new(alloc, "boost").subcommand_required(true);
+    let program = clap::Command::new(alloc, "boost")
+        .about("A store of named collections that is kept through crashes")
+        .subcommand_required(true);
+    let play = "Run the lines of a script one after another";
+    let serve = "Run the lines of a script, each client in a thread of its own";
+    let demo = "Run a stored script on a disk in memory";
     let program = with(program, format_command(alloc))?;
-    let program = with(program, script_command(alloc, "play"))?;
-    let program = with(program, script_command(alloc, "serve"))?;
-    let program = with(program, disk_command(alloc, "show"))?;
-    let program = with(program, disk_command(alloc, "check"))?;
-    program.subcommand(clap::Command::new(alloc, "demo"))
+    let program = with(program, script_command(alloc, "play", play))?;
+    let program = with(program, script_command(alloc, "serve", serve))?;
+    let program = with(
+        program,
+        disk_command(alloc, "show", "Print what the store holds"),
+    )?;
+    let program = with(
+        program,
+        disk_command(alloc, "check", "Count what the store holds"),
+    )?;
+    program.subcommand(clap::Command::new(alloc, "demo").about(demo))
 }
 
 fn text(alloc: Global, found: &ArgMatches<'_>, id: &str) -> Result<Option<String>, AllocError>

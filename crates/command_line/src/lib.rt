@@ -27,7 +27,7 @@ type StoredDisk = FileDisk<Unknown>;
 fn cannot_open<'a>(path: &'a str, error: &io::Error) -> Failure<'a> {
     match error.kind() {
         io::ErrorKind::OutOfMemory => Failure::Refused(Refusal::NoMemory),
-        _ => Failure::CannotOpen(path),
+        _ => Failure::CannotOpen(path, *error),
     }
 }
 

@@ -1,6 +1,7 @@
 use Rattle.std.proofs.Common.{ap, ap₂, ◌≡◌, ◌∙◌, true}
 use Rattle.std.proofs.lemmas.Result.{IfOk-weaker}
 use Rattle.clap.specs.declared.builder.command.Command.TheViews.{out-Command}
+use Rattle.clap.specs.Simple.{app_of_fields}
 use Rattle.clap.specs.Words.{App, app_of, with_subcommand}
 use Rattle.arguments.specs.Arguments.{bare_app}
 use Rattle.arguments.proofs.ArgumentCommands.{with_gives}
@@ -12,7 +13,7 @@ returns c =
     let bare_is : app_of c.subcommand_required-program.result ≡ bare_app =
     rw c.subcommand_required-program.ensures
     (ap (λ (a : App). record a { top = record a.top { subcommand_required = true } })
-    c.new.ensures.app) in
+    (ap app_of_fields c.about.ensures ∙ c.new.ensures.app)) in
     let first_is = with_gives c.format_command.result app_of
     (λ command. (out-Command command).has_globals) _ _ _ _
     c.format_command.ensures c.in_ok-program.ensures bare_is in
@@ -29,5 +30,7 @@ returns c =
     (λ command. (out-Command command).has_globals) _ _ _ _
     c.disk_command-2.ensures c.in_ok-program-5.ensures fourth_is in
     IfOk-weaker c.subcommand.result _ _
-    (λ whole h. h.shape c.new-2.ensures.local ∙
-    ap₂ with_subcommand fifth_is (ap top c.new-2.ensures.app)) c.subcommand.ensures
+    (λ whole h. h.shape (ap (λ f. f.has_globals) c.about-2.ensures ∙ c.new-2.ensures.local) ∙
+    ap₂ with_subcommand fifth_is
+    (ap top (ap app_of_fields c.about-2.ensures ∙ c.new-2.ensures.app)))
+    c.subcommand.ensures

@@ -6,16 +6,17 @@ use script::ScriptError;
 use std::alloc::AllocError;
 use std::{fmt, io};
 
-/// Why a command was not done. Its text begins with the program's name; that of `Unwritten` is
-/// empty.
+/// Why a command was not done. Each line of its text begins with the program's name; that of
+/// `Unwritten` is empty.
 #[derive(Clone, Copy)]
 pub enum Failure<'a> {
     /// The store refused, and no line of a script answers for it.
     Refused(Refusal),
     /// The number of the first line of the script that is not understood.
     NotUnderstood(u64),
-    /// The path of a file that cannot be opened, made or read.
-    CannotOpen(&'a str),
+    /// The path of a file that cannot be opened, made or read, and what the system says of it. Its
+    /// text has a line for each of the two.
+    CannotOpen(&'a str, io::Error),
     /// Output could not be written.
     Unwritten,
 }
@@ -31,7 +32,7 @@ impl Failure<'_> {
         match self {
             Failure::Refused(_) => 1,
             Failure::NotUnderstood(_) => 3,
-            Failure::CannotOpen(_) | Failure::Unwritten => 4,
+            Failure::CannotOpen(..) | Failure::Unwritten => 4,
         }
     }
 }
@@ -44,7 +45,9 @@ impl fmt::Display for Failure<'_> {
                 write!(f, "boost: refused {number} {refusal}")
             }
             Failure::NotUnderstood(line) => write!(f, "boost: line {line}: not understood"),
-            Failure::CannotOpen(path) => write!(f, "boost: cannot open {path}"),
+            Failure::CannotOpen(path, error) => {
+                write!(f, "boost: cannot open {path}\nboost: {error}")
+            }
             Failure::Unwritten => Ok(()),
         }
     }
