@@ -141,6 +141,11 @@ def inverse(call, reply, kind):
     return ("free", reply[1]) if what == "draw" else None
 
 
+def written(call, reply):
+    """Whether a record tells of the call: it did not only read."""
+    return need(call, reply)[2] != READ
+
+
 def conflict(one, other):
     return one[0] <= other[1] and other[0] <= one[1] and not (one[2] == other[2] and one[2] != WRITE)
 
@@ -226,7 +231,7 @@ class Store:
         transaction.calls.append((name, call, reply))
         if reply == ("queued",):
             transaction.laters.append((name, ("free", call[1])))
-        self.note()
+        self.note(written(call, reply))
         if reply[0] in ("value", "entry"):
             return " ".join(map(str, (*reply[:-1], hexed(reply[-1]))))
         return " ".join(map(str, reply))
@@ -261,7 +266,7 @@ class Store:
                 back = inverse(call, reply, self.now.kinds[name])
                 if back:
                     self.now.run(name, back, ("done",))
-            self.note(len(transaction.calls) + 1)
+            self.note(sum(written(call, reply) for _, call, reply in transaction.calls) + 1)
         client.number = None
         return "aborted"
 

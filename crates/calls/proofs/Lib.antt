@@ -10,3 +10,4 @@ pub mod ContentLaws
 pub mod KindLaws
 pub mod Conflicts
 mod KindNames
+pub mod Readings

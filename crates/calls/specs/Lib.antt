@@ -7,5 +7,6 @@ pub mod Counters
 pub mod Pools
 pub mod Contents
 pub mod Transactions
+pub mod Reads
 pub mod Names
 pub mod Refusals

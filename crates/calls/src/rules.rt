@@ -7,6 +7,7 @@ ghost use Rattle.calls.specs.declared.call.Call.{Call};
 ghost use Rattle.calls.specs.declared.refusal.Refusal.{Refusal};
 ghost use Rattle.calls.specs.Rules.{need_of, inverse_of, undone_by, left_by, Pairs, Askable};
 ghost use Rattle.calls.specs.Rules.{PutsNothingBack, IsShort, CallRefused, Deferrable, Disposable};
+ghost use Rattle.calls.specs.Reads.{reads};
 
 use crate::limits::MAX_VALUE;
 use crate::{Bytes, Call, Mode, Need, Refusal, Reply};
@@ -41,6 +42,16 @@ impl Call {
             (Call::Free(x), _) => at(*x, Mode::Write),
             (Call::Pluck(priority, _), _) => at(*priority, Mode::Write),
             _ => over(0, u64::MAX, Mode::Write),
+        }
+    }
+
+    /// Whether the call, answered so, only reads, as its need says. It takes no memory.
+    pub fn reads(&self, reply: &Reply) -> bool
+        ensures { result ≡ reads self.now reply.now }
+    {
+        match self.need(reply).mode {
+            Mode::Read => true,
+            Mode::Write | Mode::Add => false,
         }
     }
 

@@ -17,8 +17,8 @@ use Rattle.record_format.specs.Acts.{places}
 use Rattle.blocks.specs.declared.block.Block.{Block}
 use Rattle.blocks.proofs.Places.{places_append}
 use Rattle.boosted.proofs.Each.{each_append}
-use Rattle.machine.specs.Machine.{FallRow}
 use Rattle.machine.specs.Machines.{resting}
+use Rattle.machine.proofs.Journalled.{GoesUnheard}
 use Rattle.repetition.specs.Journals.{records_in}
 use Rattle.repetition.specs.Steps.{State, Steps}
 use Rattle.repetition.proofs.LagLemmas.{lags_self}
@@ -30,7 +30,7 @@ use Rattle.checkpoint.specs.Stored.{AreReadTo, StandIn}
 use Rattle.checkpoint.specs.DiskHeads.{IsInUse}
 use Rattle.checkpoint.specs.Crash.{YieldsUpTo, committed_of}
 use Rattle.checkpoint.specs.Keeping.{BegunImage, HasReceived}
-use Rattle.checkpoint.proofs.StandLemmas.{stands_as, stands_push, stands_fall, stands_whole}
+use Rattle.checkpoint.proofs.StandLemmas.{stands_as, stands_push, stands_unheard, stands_whole}
 use Rattle.checkpoint.proofs.HeadLemmas.{head_headed}
 use Rattle.checkpoint.proofs.YieldLemmas.{row_yields, length-committed, committed_more}
 use Rattle.checkpoint.proofs.YieldLemmas.{yields_more}
@@ -158,15 +158,15 @@ module _ {D : Type 0} (seen : D → List ℕ) (may_leave : D → List ℕ → Ty
       received_more (r ∷ []) next (good, tt)
       (λ blocks covered old. stands_push start wear records now blocks covered r next row old)
 
-  -- a transaction falls, of which no record tells
-  pub received_fall : (n : ℕ) (next : State) → FallRow now n next →
+  -- it has taken one of which no record tells
+  pub received_unheard : (next : State) → GoesUnheard now next →
       HasReceived seen may_leave start wear records next images received k
-  received_fall n next row =
+  received_unheard next step =
       subst (λ rs. HasReceived seen may_leave start wear rs next images received k)
       (append-nil records)
       (received_more [] next tt
       (λ blocks covered old.
-      let one = stands_fall start wear records now blocks covered n next row old in
+      let one = stands_unheard start wear records now blocks covered next step old in
       let two = stands_as start wear records next blocks covered (records ++ [])
       (sym (append-nil records)) one.0 in
       (two.0, two.1 ∙ one.1 ∙ sym (append-nil old.since))))

@@ -3,14 +3,14 @@ use Rattle.std.proofs.Common.{◌≡◌, ℕ, ◌≤◌, List, [], ◌∷◌, �
 use Rattle.std.proofs.Common.{arith, append_assoc, inl, inr, ◌⊎◌, ⊎_elim}
 use Rattle.std.proofs.lemmas.List.{append-nil}
 use Rattle.calls.specs.Contents.{Collection}
-use Rattle.machine.specs.Machine.{FallRow}
 use Rattle.machine.specs.Machines.{resting}
+use Rattle.machine.proofs.Journalled.{GoesUnheard}
 use Rattle.record_format.specs.declared.record.Record.{Record}
 use Rattle.repetition.specs.Steps.{State, Steps, Repeats}
 use Rattle.repetition.specs.Lagging.{Lags}
 use Rattle.repetition.proofs.Lists.{leads_push}
 use Rattle.checkpoint.specs.Stored.{IsLevel, GoAlong, AreReadTo, StandIn}
-use Rattle.repetition.proofs.LagLemmas.{lags_step, lags_falls, lags_calls}
+use Rattle.repetition.proofs.LagLemmas.{lags_step, lags_unheard, lags_calls}
 
 -- ---- beginnings of lists
 
@@ -101,11 +101,11 @@ module _ (start : List Collection) (wear : ℕ) (rs : List Record) (now : State)
     refl,
   )
 
-  -- a transaction falls, of which no record tells
-  pub stands_fall : (n : ℕ) (next : State) → FallRow now n next →
+  -- a step of which no record tells
+  pub stands_unheard : (next : State) → GoesUnheard now next →
       (old : StandIn start wear rs now blocks covered) →
       (new : StandIn start wear rs next blocks covered) × (new.since ≡ old.since)
-  stands_fall n next row old = (
+  stands_unheard next step old = (
     record {
       since = old.since;
       split = old.split;
@@ -113,12 +113,12 @@ module _ (start : List Collection) (wear : ℕ) (rs : List Record) (now : State)
       led = old.led;
       trail = old.trail;
       leads = old.leads;
-      trails = lags_falls old.trail now old.trails n next row;
+      trails = lags_unheard old.trail now old.trails next step;
       base = old.base;
       are_read = old.are_read;
       state = old.state;
       repeats = old.repeats;
-      lags = lags_falls old.state now old.lags n next row;
+      lags = lags_unheard old.state now old.lags next step;
       along = old.along;
     },
     refl,

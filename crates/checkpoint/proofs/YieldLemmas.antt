@@ -27,7 +27,6 @@ use Rattle.repetition.specs.Journals.{Holds, AreSpelt, records_in, StandsFor}
 use Rattle.repetition.proofs.Lists.{leads_append, flat_map-append}
 use Rattle.boosted.proofs.Each.{each_front, each_back}
 use Rattle.repetition.proofs.CatalogLaws.{laws}
-use Rattle.repetition.proofs.LagLemmas.{lags_calls}
 use Rattle.repetition.proofs.Grammar.{records_spelt}
 use Rattle.repetition.proofs.RepeatLemmas.{records_append, read_records}
 use Rattle.repetition.proofs.Parts.{IsParts, journal_reads}
@@ -268,22 +267,3 @@ all_lead start wear all end blocks covered stands =
     subst (λ rs. Repeats rs (resting start wear) stands.trail) (sym stands.split)
     (leads_append Steps covered stands.since (resting start wear) stands.there stands.trail
     stands.led stands.leads)
-
--- What all records commit leads, each transaction run whole, one after another, to what the state
--- holds without the live transactions.
-pub all_settle : (start : List Collection) (wear : ℕ) (all : List Record) (end : State)
-    (blocks : List (List Record)) (covered : List Record) →
-    StandIn start wear all end blocks covered →
-    (content : List Collection) × IsSettled catalog_meaning end content ×
-    Serial (committed_of all) start content
-all_settle start wear all end blocks covered stands =
-    let run = all_lead start wear all end blocks covered stands in
-    let last = comes start wear all stands.trail run [] in (
-      last.content,
-      level_settles stands.trail end
-          (record {
-            now = stands.trails.now;
-            calls = lags_calls stands.trail end stands.trails;
-          }) last.content last.settled,
-      told_always start wear all stands.trail run [],
-    )

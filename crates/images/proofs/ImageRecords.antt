@@ -19,6 +19,7 @@ use Rattle.calls.specs.Contents.{Collection}
 use Rattle.calls.specs.Contents.{kind_of_content, IsItemOf}
 use Rattle.calls.specs.Names.{IsName}
 use Rattle.calls.specs.Rules.{Deferrable, inverse_of}
+use Rattle.calls.specs.Reads.{reads}
 use Rattle.calls.specs.Transactions.{Entry, Asked, PutOff}
 use Rattle.catalog.specs.declared.shown.Shown.{Shown}
 use Rattle.catalog.specs.Places.{At}
@@ -28,6 +29,7 @@ use Rattle.undo_log.specs.Entries.{owned_entry}
 use Rattle.undo_log.specs.Logs.{Statuses, Lives, IsNextLive}
 use Rattle.boosted.proofs.Each.{each_append}
 use Rattle.record_format.specs.declared.record.Record.{Record}
+use Rattle.record_format.specs.declared.record.CallRecord.{CallRecord}
 use Rattle.record_format.specs.declared.record.LaterRecord.{LaterRecord}
 use Rattle.record_format.specs.Records.{call_record, FitsCall, FitsReply, FitsItem}
 use Rattle.record_format.specs.Records.{IsNumber, IsRecord, AreRecords, named_by}
@@ -38,7 +40,7 @@ use Rattle.record_format.specs.Short.{IsShortItem, AreShort}
 use Rattle.machine.specs.Machine.{State}
 use Rattle.blocks.specs.Packings.{joined, Writes, AreWhole}
 use Rattle.images.specs.Images.{AreOf, TellsLive, TellsState, IsPackedImage}
-use Rattle.images.specs.LiveRecords.{live_record, live_records, unless_falling}
+use Rattle.images.specs.LiveRecords.{live_record, live_records, unless_falling, unless_read}
 use Rattle.blocks.specs.Drafts.{ArePacked}
 use Rattle.machine.specs.Machines.{IsAskedEntry}
 
@@ -459,10 +461,17 @@ later_are (Some true) l rs are = are
 later_are (Some false) l rs are = (tt, are)
 later_are None l rs are = (tt, are)
 
+call_are : (b : Bool) (c : CallRecord) (rs : List Record) → AllByRecursion IsLiveRecord rs →
+    AllByRecursion IsLiveRecord (unless_read b (Record.LiveCall c) ++ rs)
+call_are true c rs are = are
+call_are false c rs are = (tt, are)
+
 live_are : (live : Statuses) (es : List (ℕ × Entry)) →
     AllByRecursion IsLiveRecord (flat_map (live_record live) es)
 live_are live [] = tt
-live_are live ((n, Asked e) ∷ es) = (tt, live_are live es)
+live_are live ((n, Asked e) ∷ es) =
+    call_are (reads e.call e.reply) (call_record n e.at e.call e.reply (inverse_of e.call e.reply))
+    (flat_map (live_record live) es) (live_are live es)
 live_are live ((n, PutOff at c) ∷ es) =
     later_are (maps.get live n) (record { number = n; collection = at; call = c })
     (flat_map (live_record live) es) (live_are live es)

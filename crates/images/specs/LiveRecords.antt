@@ -1,8 +1,9 @@
 -- What an image tells of the live transactions.
-use Rattle.std.specs.Prelude.{ℕ, Bool, true, List, [], ◌∷◌, Option, Some}
+use Rattle.std.specs.Prelude.{ℕ, Bool, true, false, List, [], ◌∷◌, Option, Some}
 use Rattle.std.specs.FinMap as maps
 use Rattle.std.specs.List.{flat_map}
 use Rattle.calls.specs.Rules.{inverse_of}
+use Rattle.calls.specs.Reads.{reads}
 use Rattle.calls.specs.Transactions.{Entry, Asked, PutOff}
 use Rattle.undo_log.specs.Logs.{Statuses}
 use Rattle.record_format.specs.declared.record.Record.{Record}
@@ -14,11 +15,16 @@ abbrev pub unless_falling : Option Bool → Record → List Record
 unless_falling (Some true) r = []
 unless_falling other r = r ∷ []
 
--- What an image tells of one entry of a live transaction: each call, and what was put off by one
--- that is not falling.
+-- the record, unless it is of a call that only reads
+abbrev pub unless_read : Bool → Record → List Record
+unless_read true r = []
+unless_read false r = r ∷ []
+
+-- What an image tells of one entry of a live transaction: each call that did not only read, and
+-- what was put off by one that is not falling.
 abbrev pub live_record : Statuses → ℕ × Entry → List Record
-live_record live (n, Asked e) =
-    Record.LiveCall (call_record n e.at e.call e.reply (inverse_of e.call e.reply)) ∷ []
+live_record live (n, Asked e) = unless_read (reads e.call e.reply)
+    (Record.LiveCall (call_record n e.at e.call e.reply (inverse_of e.call e.reply)))
 live_record live (n, PutOff at call) =
     unless_falling (maps.get live n)
     (Record.LiveLater (record { number = n; collection = at; call = call }))

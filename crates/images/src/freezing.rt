@@ -30,7 +30,7 @@ use undo_log::{Entry, Later, Live, Logged, Owned};
 
 /// The records of an image of the machine, in whole blocks, with the mark of the next number:
 /// marks, collections with their items, live numbers rising, what these asked for in its order, but
-/// for what a falling one put off, and the end.
+/// for calls that only read and what a falling one put off, and the end.
 ///
 /// It takes time and memory in proportion to what the collections hold and the live transactions
 /// asked for, of which the image is one copy; beside it the items of one collection at a time are
@@ -181,7 +181,7 @@ fn push_entries(live: &Live, packer: &mut Packer) -> Result<(), Refusal>
     Ok(())
 }
 
-// Writes what was asked for, but for what a falling transaction put off.
+// Writes what was asked for, but for calls that only read and what a falling transaction put off.
 fn push_entry(live: &Live, owned: &Owned<'_>, packer: &mut Packer) -> Result<(), Refusal>
     requires { IsNumber owned.now.owner × IsAskedEntry (entry_of owned.now.entry.now) }
     ensures told { OnOk result (Writes packer.old packer.new
@@ -189,7 +189,12 @@ fn push_entry(live: &Live, owned: &Owned<'_>, packer: &mut Packer) -> Result<(),
     ensures refusal { IsOkUnless result Refusal.NoMemory }
 {
     match owned.entry {
-        Entry::Asked(logged) => push_call(owned.owner, logged, packer),
+        Entry::Asked(logged) => {
+            if logged.call.reads(&logged.reply) {
+                return Ok(());
+            }
+            push_call(owned.owner, logged, packer)
+        }
         Entry::PutOff(later) => {
             if live.is_falling(owned.owner) {
                 return Ok(());

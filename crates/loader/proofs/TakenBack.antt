@@ -19,6 +19,7 @@ use Rattle.boosted.proofs.Each.{weaker, each_front, each_back}
 use Rattle.boosted.proofs.Runs.{Leads-append, Leads-split, Leads-unique}
 use Rattle.machine.specs.Machine.{Does}
 use Rattle.loader.specs.Loading.{calls_in, HasRoomBack, HasLed, TakenBack, DoneAgain}
+use Rattle.machine.proofs.JoinedEntries.{calls_append}
 use Rattle.machine.proofs.PutOffRuns.{leads_once}
 use Rattle.machine.proofs.RoomForRuns.{wears_more}
 use Rattle.boosted.specs.Laws.{BoostedLaws}
@@ -83,11 +84,6 @@ module _ {S : Type 0} {meaning : Meaning S ℕ} {making : Making S}
 first_calls : (e : Entry) (es : List Entry) → calls_of (e ∷ es) ≡ calls_of (e ∷ []) ++ calls_of es
 first_calls (Asked e) es = refl
 first_calls (PutOff at c) es = refl
-
-calls_append : (xs ys : List Entry) → calls_of (xs ++ ys) ≡ calls_of xs ++ calls_of ys
-calls_append [] ys = refl
-calls_append (Asked e ∷ xs) ys = ap (λ l. e ∷ l) (calls_append xs ys)
-calls_append (PutOff at c ∷ xs) ys = calls_append xs ys
 
 calls_in_append : (os qs : List Owned) → calls_in (os ++ qs) ≡ calls_in os ++ calls_in qs
 calls_in_append os qs =

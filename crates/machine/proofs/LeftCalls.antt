@@ -1,11 +1,12 @@
 -- What calls of a number have left to its commit, as the theory has it and as the machine has it.
-use Rattle.std.proofs.Common.{◌≡◌, ℕ, ◌==◌, inl, inr}
+use Rattle.std.proofs.Common.{◌≡◌, ℕ, ◌==◌, ◌⊎◌, inl, inr}
 use Rattle.std.proofs.Common.{⊎_elim, List, [], ◌∷◌, map, refl, ap}
-use Rattle.std.proofs.Common.{subst}
+use Rattle.std.proofs.Common.{subst, arith}
 use Rattle.std.specs.Prelude.{Contains}
 use Rattle.std.specs.List.{filter, AllByRecursion}
-use Rattle.std.proofs.lemmas.List.Elements.{Contains-push}
+use Rattle.std.proofs.lemmas.List.Elements.{Contains-push, Contains-push_cases}
 use Rattle.std.proofs.lemmas.List.Elements.{Contains-append_left, Contains-append_right}
+use Rattle.std.proofs.lemmas.List.Elements.{Contains-append_cases}
 use Rattle.calls.specs.declared.call.Call.{Call}
 use Rattle.calls.specs.declared.reply.Reply.{Reply}
 use Rattle.calls.specs.Rules.{left_by}
@@ -27,6 +28,20 @@ module _ {X : Type 0} where
       ⊎_elim (λ (same : y ≡ x). subst (Contains (y ∷ ys)) same
       (Contains-append_left (y ∷ []) ys y (Contains-push [] y)))
       (λ (k : Has ys x). Contains-append_right (y ∷ []) ys x (has_contains ys x k)) h
+
+  holds_first : (y : X) (ys : List X) (x : X) → Contains (y ∷ ys) x → (y ≡ x) ⊎ Contains ys x
+  holds_first y ys x h =
+      ⊎_elim
+      (λ (one : Contains (y ∷ []) x). inl
+      (⊎_elim (λ none. let below = none.1 in absurd (omega arith)) (λ same. same)
+      (Contains-push_cases [] y x one)))
+      (λ (more : Contains ys x). inr more)
+      (Contains-append_cases (y ∷ []) ys x h)
+
+  pub contains_has : (xs : List X) (x : X) → Contains xs x → Has xs x
+  contains_has [] x h = let below = h.1 in absurd (omega arith)
+  contains_has (y ∷ ys) x h = ⊎_elim (λ (same : y ≡ x). inl same)
+      (λ (more : Contains ys x). inr (contains_has ys x more)) (holds_first y ys x h)
 
 module _ {X Y : Type 0} (f : X → Y) where
   has_map : (xs : List X) (x : X) → Has xs x → Has (map f xs) (f x)

@@ -18,3 +18,5 @@ pub mod UndoneCall
 pub mod AlikeStates
 pub mod JoinedEntries
 pub mod HeldNeeds
+pub mod Journalled
+pub mod Readings

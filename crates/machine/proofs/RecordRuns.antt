@@ -35,13 +35,13 @@ use Rattle.catalog.specs.Making.{Making}
 
 -- ---- the entries of one number
 
-own_of_others : (n k : ℕ) (es : List (ℕ × Entry)) → (k ≡ n → ⊥) → own k (others n es) ≡ own k es
+pub own_of_others : (n k : ℕ) (es : List (ℕ × Entry)) → (k ≡ n → ⊥) → own k (others n es) ≡ own k es
 own_of_others n k es other = ap (map (λ e. e.1)) (own_others_other number n k es other)
 
-own_of_its_others : (n : ℕ) (es : List (ℕ × Entry)) → own n (others n es) ≡ []
+pub own_of_its_others : (n : ℕ) (es : List (ℕ × Entry)) → own n (others n es) ≡ []
 own_of_its_others n es = ap (map (λ e. e.1)) (own_others_same number n es)
 
-own_of_rest : (k : ℕ) (before : List (ℕ × Entry)) (x : ℕ × Entry) (after : List (ℕ × Entry)) →
+pub own_of_rest : (k : ℕ) (before : List (ℕ × Entry)) (x : ℕ × Entry) (after : List (ℕ × Entry)) →
     (x.0 ≡ k → ⊥) → own k (before ++ x ∷ after) ≡ own k (before ++ after)
 own_of_rest k before x after other = ap (map (λ e. e.1)) (own_without number k before x after other)
 

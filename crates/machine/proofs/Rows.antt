@@ -1,5 +1,6 @@
 -- The rows of the machine, from the parts of its state before and after.
-use Rattle.std.proofs.Common.{◌≡◌, ℕ, ◌+◌, ◌<◌, false, List, [], ◌∷◌, ◌++◌, length, refl, ◌∙◌, ap}
+use Rattle.std.proofs.Common.{◌≡◌, ℕ, ◌+◌, ◌<◌, true, false, List, [], ◌∷◌, ◌++◌, length, refl, ◌∙◌}
+use Rattle.std.proofs.Common.{ap}
 use Rattle.std.proofs.Common.{subst, arith}
 use Rattle.std.specs.FinMap as maps
 use Rattle.calls.specs.declared.kind.Kind.{Kind}
@@ -10,12 +11,13 @@ use Rattle.catalog.specs.Making as naming
 use Rattle.record_format.specs.declared.record.Record.{Record}
 use Rattle.abstract_locks.specs.Holds.{Holdings, hold, IsAdded, IsGivenUp}
 use Rattle.undo_log.specs.Logs.{Log}
-use Rattle.machine.specs.Machine.{State, IsLeft, MakeRow, CanCall, CallRow}
+use Rattle.machine.specs.Machine.{State, IsLeft, MakeRow, CanCall, CallRow, ReadRow}
 use Rattle.machine.specs.Machines.{resting, unmade, HasRoomFor, StepAnswers}
 use Rattle.machine.specs.Views.{state_of}
 use Rattle.boosted.specs.Meaning.{Meaning}
 use Rattle.catalog.specs.Making.{Making, MakingLaws}
 use Rattle.calls.specs.Rules.{need_of}
+use Rattle.calls.specs.Reads.{reads}
 
 -- a state with no live transaction
 pub resting_is : {S : Type 0} (now : S) (needs : Holdings) (log : Log) (wear : ℕ) →
@@ -150,6 +152,38 @@ module _ {S : Type 0} (now : S) (needs : Holdings) (log : Log) (wear n : ℕ) wh
                 holds = needs'.holds;
                 wear = wear + 1;
               } in s) noted;
+        }
+
+    -- A call that only reads is noted.
+    pub read_row : (e : Event) (added : List _) (needs' : Holdings) (kept log' : Log) →
+        CanCall meaning (state_of now needs log wear) n e → reads e.call e.reply ≡ true →
+        HasRoomFor (state_of now needs log wear) 1 →
+        added ≡ needs.holds → IsAdded added needs'.holds (hold n e.at (need_of e.call e.reply)) →
+        kept.live ≡ log.live → kept.entries ≡ log.entries → log'.live ≡ kept.live →
+        log'.entries ≡ kept.entries ++ (n, Asked e) ∷ [] →
+        ReadRow meaning (state_of now needs log wear) n e (state_of now needs' log' wear)
+    read_row e added needs' kept log' can only_reads room same holds live_kept entries_kept live
+        entries = record {
+          can = can;
+          only_reads = only_reads;
+          room = room;
+          holds = subst (λ l. IsAdded l needs'.holds (hold n e.at (need_of e.call e.reply))) same
+              holds;
+          is = ap (λ v. let s : State S =
+              record {
+                now = now;
+                live = v;
+                entries = log'.entries;
+                holds = needs'.holds;
+                wear = wear;
+              } in s) (live ∙ live_kept)
+              ∙ ap (λ v. let s : State S = record {
+                now = now;
+                live = log.live;
+                entries = v;
+                holds = needs'.holds;
+                wear = wear;
+              } in s) (entries ∙ ap (λ l. l ++ (n, Asked e) ∷ []) entries_kept);
         }
 
 -- A making that the collections refuse is none of the machine's steps.

@@ -10,3 +10,4 @@ pub mod Open
 pub mod Loading
 pub mod Whole
 pub mod Collections
+pub mod Fewer

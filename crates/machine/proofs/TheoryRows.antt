@@ -338,8 +338,6 @@ module _ {S : Type 0} (meaning : Meaning S ℕ) (making : Making S) where
           },
           record {
             live = (shows.live n).1 row.live;
-            undone = subst (theory.HasNoCall owner n) (sym shows.entries)
-                (no_call n s.entries row.undone);
             is = refl;
           },
         )

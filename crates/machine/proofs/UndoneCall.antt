@@ -1,16 +1,18 @@
 -- The newest call of a transaction is undone.
 use Rattle.std.proofs.Common.{◌≡◌, ℕ, ◌==◌, ◌+◌, Bool, true, false, Option, Some, None, is_some}
 use Rattle.std.proofs.Common.{◌↔◌, IfSome, IfNone, List, [], ◌∷◌, ◌++◌, map, cond, refl, sym, ◌∙◌}
-use Rattle.std.proofs.Common.{ap, subst}
-use Rattle.std.proofs.lemmas.Bool.{eq-eqb}
+use Rattle.std.proofs.Common.{ap, subst, true≢false, MatchOption}
+use Rattle.std.proofs.lemmas.Bool.{eq-eqb, false_from_ne_true}
 use Rattle.std.specs.List.{filter}
+use Rattle.calls.specs.Reads.{reads}
 use Rattle.calls.specs.Transactions.{Event, Entry, Asked, PutOff, own, calls_of}
 use Rattle.abstract_locks.specs.Holds.{Holdings}
 use Rattle.undo_log.specs.declared.logged.Logged.{Logged}
 use Rattle.undo_log.specs.Entries.{event_of, HasNoCall, HasNewestCall, IsNewestCall}
 use Rattle.undo_log.specs.Logs.{Log, Lives, fallen}
 use Rattle.boosted.specs.Meaning.{Undoes, Meaning}
-use Rattle.machine.specs.Machine.{State, BackRow, FallRow}
+use Rattle.machine.specs.Machine.{State, BackRow, FallRow, UnreadRow, HasNewestRead}
+use Rattle.machine.specs.Machine.{WrittenBackRow}
 use Rattle.machine.specs.Views.{state_of}
 
 none_behind : (b : Bool) (n k : ℕ) (e : Entry) (rest : List (ℕ × Entry)) →
@@ -139,6 +141,35 @@ module _ {S : Type 0} (now : S) (needs : Holdings) (log : Log) (wear n : ℕ) wh
         } in s) same;
   }
 
+  -- The newest call is taken out, which only reads.
+  pub unread_row : (popped log' : Log) (taken : Option Logged) → Lives log.live n →
+      HasNewestRead n log.entries →
+      IfSome taken (λ l. IsNewestCall n log.entries (event_of l) popped.entries) →
+      IfNone taken (HasNoCall n log.entries) →
+      popped.live ≡ log.live → log'.live ≡ fallen popped.live n → log'.entries ≡ popped.entries →
+      UnreadRow (state_of now needs log wear) n (state_of now needs log' wear)
+  unread_row popped log' taken live (x, kept, newest, only_reads) found none same falls rest =
+      let left : log'.entries ≡ kept =
+      rest ∙ popped_rest n log.entries popped.entries x kept taken newest found none in
+      let fell : log'.live ≡ fallen log.live n = falls ∙ ap (λ v. fallen v n) same in
+      record {
+        live = live;
+        call = x;
+        rest = kept;
+        newest = newest;
+        only_reads = only_reads;
+        is = ap (λ v. let s : State S =
+            record { now = now; live = v; entries = log'.entries; holds = needs.holds; wear = wear }
+            in s) fell
+            ∙ ap (λ v. let s : State S = record {
+              now = now;
+              live = fallen log.live n;
+              entries = v;
+              holds = needs.holds;
+              wear = wear;
+            } in s) left;
+      }
+
 -- Whether a number has a call is decided.
 pub some_or_none : (n : ℕ) (es : List (ℕ × Entry)) → ((HasNoCall n es → ⊥) → ⊥) → HasNoCall n es
 some_or_none n es twice = by (calls_of (own n es)) refl
@@ -163,3 +194,29 @@ pub undoes_call : {S : Type 0} (meaning : Meaning S ℕ) (s : State S) (n : ℕ)
     BackRow meaning s n t → HasNoCall n s.entries → ⊥
 undoes_call meaning s n t row none =
     has_call n row.newest.before row.newest.after row.call (subst (HasNoCall n) row.newest.is none)
+
+-- Whether the newest call that was found only reads is whether there is one that does.
+pub newest_read_there : {X : Type 0} (n : ℕ) (es : List (ℕ × Entry)) (event : X → Event)
+    (found : Option X) → IfSome found (λ l. HasNewestCall n es (event l)) →
+    IfNone found (HasNoCall n es) → (result : Bool) →
+    MatchOption found (result ≡ false) (λ l. result ≡ reads (event l).call (event l).reply) →
+    (result ≡ true) ↔ HasNewestRead n es
+newest_read_there n es event None there none result is = (
+  λ yes. absurd (true≢false (sym yes ∙ is)),
+  λ has. absurd (has_call n has.2.before has.2.after has.0
+      (subst (HasNoCall n) has.2.is none)),
+)
+newest_read_there n es event (Some l) there none result is = (
+  λ yes. (event l, there.0, there.1, sym is ∙ yes),
+  λ has. is ∙ ap (λ (x : Event). reads x.call x.reply)
+      (newest_once n es (event l) has.0 there.0 has.1 there.1 has.2).0 ∙ has.3,
+)
+
+-- A newest call that is undone does not only read where none does.
+pub written_back : {S : Type 0} (meaning : Meaning S ℕ) (s t : State S) (n : ℕ) →
+    (HasNewestRead n s.entries → ⊥) → BackRow meaning s n t → WrittenBackRow meaning s n t
+written_back meaning s t n none row = record {
+  back = row;
+  written = false_from_ne_true (reads row.call.call row.call.reply)
+      (λ is. none (row.call, row.rest, row.newest, is));
+}

@@ -1,11 +1,14 @@
 -- The machine over records: the state that records lead to. The book runs it forward, and recovery
 -- repeats it.
-use Rattle.std.specs.Prelude.{◌≡◌, ℕ, ◌+◌, ◌<◌, ◌≤◌, ◌^◌, false, List, [], ◌∷◌, ◌++◌, length, map}
+use Rattle.std.specs.Prelude.{◌≡◌, ℕ, ◌+◌, ◌<◌, ◌≤◌, ◌^◌, true, false, List, [], ◌∷◌, ◌++◌}
+use Rattle.std.specs.Prelude.{length, map}
+use Rattle.std.specs.List.{filter}
 use Rattle.std.specs.FinMap as maps
 use Rattle.calls.specs.declared.kind.Kind.{Kind}
 use Rattle.calls.specs.declared.call.Call.{Call}
 use Rattle.calls.specs.declared.reply.Reply.{Reply}
 use Rattle.calls.specs.Rules.{need_of}
+use Rattle.calls.specs.Reads.{reads, is_journalled}
 use Rattle.calls.specs.Transactions.{Event, Entry, Asked, PutOff, own, others, calls_of, laters_of}
 use Rattle.ledger.specs.LeftCalls.{GoesTwice}
 use Rattle.calls.specs.Transactions.{Leads}
@@ -30,8 +33,17 @@ pub record State (S : Type 0) : Type 0 where
   pub entries : List (ℕ × Entry)
   -- the needs that they hold
   pub holds : List Hold
-  -- how often anything was entered, called, put off, run in a commit or undone
+  -- how often anything was entered, called, put off, run in a commit or undone, but for what only
+  -- reads and leaves no record
   pub wear : ℕ
+
+-- What a journal tells of what was asked for: nothing of calls that only read.
+abbrev pub journalled_entries : List (ℕ × Entry) → List (ℕ × Entry)
+journalled_entries es = filter (λ e. is_journalled e.1) es
+
+-- the state as its journal tells of it
+abbrev pub journalled : {S : Type 0} → State S → State S
+journalled s = record s { entries = journalled_entries s.entries }
 
 -- The number is live, and nothing of it was undone.
 pub record IsRunning {S : Type 0} (s : State S) (n : ℕ) : Type 0 where
@@ -69,6 +81,21 @@ pub record FallRow {S : Type 0} (s : State S) (n : ℕ) (t : State S) : Type 0 w
   pub live : Lives s.live n
   pub undone : HasNoCall n s.entries
   pub is : t ≡ record s { live = fallen s.live n }
+
+-- The newest call of the number is there, and only reads.
+abbrev pub HasNewestRead : ℕ → List (ℕ × Entry) → Type 0
+HasNewestRead n es = (x : Event) × (rest : List (ℕ × Entry)) × IsNewestCall n es x rest ×
+    (reads x.call x.reply ≡ true)
+
+-- The newest call of a transaction is undone, which only reads: nothing was changed by it. This
+-- leaves no record, and does not wear.
+pub record UnreadRow {S : Type 0} (s : State S) (n : ℕ) (t : State S) : Type 0 where
+  pub live : Lives s.live n
+  pub call : Event
+  pub rest : List (ℕ × Entry)
+  pub newest : IsNewestCall n s.entries call rest
+  pub only_reads : reads call.call call.reply ≡ true
+  pub is : t ≡ record s { live = fallen s.live n; entries = rest }
 
 -- A collection is made, under a good name that is free, where there are fewer than 256.
 pub record MakeRow {S : Type 0} (making : Making S) (s : State S) (name : List ℕ) (kind : Kind)
@@ -108,6 +135,15 @@ module _ {S : Type 0} (meaning : Meaning S ℕ) where
       holds = t.holds;
       wear = s.wear + 1;
     }
+
+  -- A call that only reads is made and noted, with the need that it has. This leaves no record, and
+  -- does not wear.
+  pub record ReadRow (s : State S) (n : ℕ) (e : Event) (t : State S) : Type 0 where
+    pub can : CanCall s n e
+    pub only_reads : reads e.call e.reply ≡ true
+    pub room : s.wear + 1 + (length s.entries + 1) ≤ 2 ^ 61 + 65536
+    pub holds : IsAdded s.holds t.holds (hold n e.at (need_of e.call e.reply))
+    pub is : t ≡ record s { entries = s.entries ++ (n, Asked e) ∷ []; holds = t.holds }
 
   -- A call that a running transaction puts off to its commit, under the need that it has with the
   -- reply Done. It would get that reply now.
@@ -151,6 +187,11 @@ module _ {S : Type 0} (meaning : Meaning S ℕ) where
     pub next : S
     pub undoes : Undoes meaning s.now call.at call.call call.reply next
     pub is : t ≡ record s { now = next; live = fallen s.live n; entries = rest; wear = s.wear + 1 }
+
+  -- The newest call of a transaction is undone, under a record: it did not only read.
+  pub record WrittenBackRow (s : State S) (n : ℕ) (t : State S) : Type 0 where
+    pub back : BackRow s n t
+    pub written : reads back.call.call back.call.reply ≡ false
 
   -- The record leads from one state to another: what it asks, and what it changes.
   module _ (making : Making S) where

@@ -1,5 +1,6 @@
 // The machine over records: the same steps as the book's, of records that stand already.
-ghost use Rattle.std.specs.Prelude.{◌≡◌, ◌↔◌, ℕ, ◌+◌, ◌<◌, ◌≤◌, ◌^◌, [], false, None, List, IsTrue};
+ghost use Rattle.std.specs.Prelude.{◌≡◌, ◌↔◌, ℕ, ◌+◌, ◌<◌, ◌≤◌, ◌^◌, [], true, false, None, List};
+ghost use Rattle.std.specs.Prelude.{IsTrue};
 ghost use Rattle.std.specs.Prelude.{IfSome, IfNone, IfErr, Ok, OnOk, OnErr, IsOkUnless, length};
 ghost use Rattle.std.specs.FinMap as maps;
 ghost use Rattle.calls.specs.Names.{IsName};
@@ -17,13 +18,14 @@ ghost use Rattle.record_format.specs.Records.{IsRecord, IsNumber};
 ghost use Rattle.record_format.specs.Short.{AreShort};
 ghost use Rattle.machine.specs.Machine.{IsRunning, CanBegin, BeginRow, CommitRow, EndedRow};
 ghost use Rattle.machine.specs.Machine.{FallRow, MakeRow, CanCall, CallRow, CanPutOff, LaterRow};
-ghost use Rattle.machine.specs.Machine.{BackRow, Steps};
+ghost use Rattle.machine.specs.Machine.{BackRow, ReadRow, UnreadRow, HasNewestRead, Steps};
 ghost use Rattle.ledger.specs.LeftCalls.{GoesTwice};
 ghost use Rattle.machine.specs.Machines.{resting, unmade, HasRoomFor, IsUpheld, StepAnswers};
 ghost use Rattle.machine.specs.Machines.{RepeatAnswers};
 ghost use Rattle.machine.specs.Sound.{IsSound};
 ghost use Rattle.machine.specs.Views.{state_with};
 ghost use Rattle.calls.specs.Rules.{need_of};
+ghost use Rattle.calls.specs.Reads.{reads};
 
 use crate::laters::run_laters;
 use crate::undoing::undo;
@@ -105,7 +107,8 @@ impl<B: Parts + Coded> Machine<B> {
         &self.parts
     }
 
-    /// How often anything was entered, called, put off, run in a commit or undone.
+    /// How often anything was entered, called, put off, run in a commit or undone. What `read`
+    /// noted and `unread` undid does not count.
     pub fn wear(&self) -> u64
         ensures { result ≡ self.now.wear }
     {
@@ -142,6 +145,16 @@ impl<B: Parts + Coded> Machine<B> {
         ensures none { result ≡ false → HasNoCall number self.now.entries }
     {
         self.ledger.live().newest(number).is_some()
+    }
+
+    /// Whether the newest call of the transaction is there and only reads.
+    pub fn newest_reads(&self, number: u64) -> bool
+        ensures { IsTrue result ↔ HasNewestRead number self.now.entries }
+    {
+        match self.ledger.live().newest(number) {
+            Some(newest) => newest.call.reads(&newest.reply),
+            None => false,
+        }
     }
 
     /// Takes the record's step, where it is one from here, and answers true; false, with nothing
@@ -266,6 +279,36 @@ impl<B: Parts + Coded> Machine<B> {
         self.ledger.note_call(number, asked, need);
         self.wear += 1;
         Ok(())
+    }
+
+    /// Notes a call that only reads, answered so, with the need that it has. No record tells of it,
+    /// so it does not wear.
+    ///
+    /// NoMemory leaves all as before.
+    pub fn read(&mut self, number: u64, asked: Logged) -> Result<(), Refusal>
+        requires can { CanCall B.meaning self.old number (logs.event_of asked) }
+        requires only_reads { reads asked.call asked.reply ≡ true }
+        requires room { HasRoomFor self.old 1 }
+        ensures ok { OnOk result (ReadRow B.meaning self.old number (logs.event_of asked)
+            self.new) }
+        ensures same { OnErr result (self.new ≡ self.old) }
+        ensures refusal { IsOkUnless result Refusal.NoMemory }
+    {
+        self.ledger.reserve(number, asked.at)?;
+        let held = asked.call.need(&asked.reply);
+        self.ledger.note_call(number, asked, held);
+        Ok(())
+    }
+
+    /// Undoes the newest call of the transaction, which only reads. From then on it is falling. It
+    /// holds its needs until `ended`. It takes no memory and does not wear.
+    pub fn unread(&mut self, number: u64)
+        requires live { Lives self.old.live number }
+        requires newest { HasNewestRead number self.old.entries }
+        ensures { UnreadRow self.old number self.new }
+    {
+        let _read = self.ledger.pop(number);
+        self.ledger.fall(number);
     }
 
     /// Puts the call off to the commit of the transaction, and notes it with the need that it has.

@@ -3,7 +3,7 @@
 use Rattle.std.proofs.Common.{◌≡◌, ℕ, ◌+◌, ◌<◌, ◌≤◌, ◌^◌, ◌==◌, inl, inr, ⊎_elim, Bool, true, false}
 use Rattle.std.proofs.Common.{not, cond, List, [], ◌∷◌, ◌++◌, length, map, refl, sym, ◌∙◌, ap}
 use Rattle.std.proofs.Common.{subst, arith}
-use Rattle.std.specs.Prelude.{◌↔◌, Contains}
+use Rattle.std.specs.Prelude.{◌↔◌, ◌⊎◌, Contains}
 use Rattle.std.specs.List.{filter}
 use Rattle.std.specs.FinMap as maps
 use Rattle.std.proofs.lemmas.List.Elements.{All-contains, Contains-get_or}
@@ -20,13 +20,14 @@ use Rattle.abstract_locks.specs.Holds.{hold, Blocks, IsClear, IsAdded, IsGivenUp
 use Rattle.abstract_locks.proofs.Members.{pushed_is_added, filtered_is_given_up}
 use Rattle.undo_log.specs.Entries.{HasNoCall, IsNewestCall}
 use Rattle.undo_log.specs.Logs.{Statuses, Lives, Falls, fallen}
-use Rattle.machine.specs.Machine.{Does, IsRunning, IsLeft, BeginRow, FallRow, MakeRow}
+use Rattle.machine.specs.Machine.{Does, IsRunning, IsLeft, BeginRow, MakeRow}
 use Rattle.ledger.specs.LeftCalls.{GoesTwice}
 use Rattle.machine.specs.Machine.{CallRow, LaterRow, CommitRow, BackRow, EndedRow}
 use Rattle.machine.proofs.Theory.Lists.{not_same}
 use Rattle.machine.proofs.LiveNumbers.{fallen_is, lives_more, falls_more, falls_fresh, lives_fewer}
 use Rattle.machine.proofs.LiveNumbers.{falls_fewer}
 use Rattle.machine.proofs.Sizes.{len_begun, len_fallen, len_left}
+use Rattle.machine.proofs.Journalled.{GoesUnheard}
 use Rattle.record_format.specs.declared.record.Record.{Record}
 use Rattle.record_format.specs.Acts.{event_of}
 use Rattle.repetition.specs.Steps.{State, Steps}
@@ -507,14 +508,27 @@ module _ (t : State) (l : Statuses) (es : List (ℕ × Entry)) (hs : List Hold)
             (falls_still t.live n row.live)) fewer),
       )
 
-  -- a transaction falls of which nothing is left to undo: no record tells of it
-  fall_lags : (n : ℕ) (u : State) → FallRow t n u → Lags (beside t l es hs) u
-  fall_lags n u row =
-      let next : State = record t { live = fallen t.live n } in
-      subst (Lags (beside t l es hs)) (sym row.is)
-      (lags_beside next l es hs (behind_fall l t.live behind n row.live)
-      (thinned_more t.live es t.entries thin (fallen t.live n) (falls_still t.live n row.live))
-      fewer)
+  -- who is live and falls behind a step of which no record tells
+  still_behind : (m : Statuses) →
+      (m ≡ t.live) ⊎ ((n : ℕ) × Lives t.live n × (m ≡ fallen t.live n)) →
+      Behind l m × IsThinned m es t.entries
+  still_behind m (inl same) = (
+    subst (Behind l) (sym same) behind,
+    subst (λ k. IsThinned k es t.entries) (sym same) thin,
+  )
+  still_behind m (inr (n, lives, falls)) = (
+    subst (Behind l) (sym falls) (behind_fall l t.live behind n lives),
+    subst (λ k. IsThinned k es t.entries) (sym falls)
+        (thinned_more t.live es t.entries thin (fallen t.live n) (falls_still t.live n lives)),
+  )
+
+  -- a step of which no record tells
+  unheard_lags : (u : State) → GoesUnheard t u → Lags (beside t l es hs) u
+  unheard_lags u step =
+      let next : State = record t { live = u.live; holds = u.holds } in
+      let still = still_behind u.live step.falls in
+      subst (Lags (beside t l es hs)) (sym step.is)
+      (lags_beside next l es hs still.0 still.1 (λ h inside. step.more h (fewer h inside)))
 
 module _ (t : State) (l : Statuses) (es : List (ℕ × Entry)) (hs : List Hold)
     (behind : Behind l t.live) (thin : IsThinned t.live es t.entries)
@@ -588,10 +602,10 @@ lags_step s t lag r u row =
     subst (λ w. (v : State) × Steps w r v × Lags v u) (sym (is_beside s t lag))
     (beside_step t s.live s.entries s.holds (behind_of s t lag) lag.entries lag.holds r u row)
 
-pub lags_falls : (s t : State) → Lags s t → (n : ℕ) (u : State) → FallRow t n u → Lags s u
-lags_falls s t lag n u row =
+pub lags_unheard : (s t : State) → Lags s t → (u : State) → GoesUnheard t u → Lags s u
+lags_unheard s t lag u step =
     subst (λ w. Lags w u) (sym (is_beside s t lag))
-    (fall_lags t s.live s.entries s.holds (behind_of s t lag) lag.entries lag.holds n u row)
+    (unheard_lags t s.live s.entries s.holds (behind_of s t lag) lag.entries lag.holds u step)
 
 pub lags_calls : (s t : State) → Lags s t →
     calls_of (map (λ e. e.1) s.entries) ≡ calls_of (map (λ e. e.1) t.entries)

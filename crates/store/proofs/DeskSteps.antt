@@ -11,15 +11,16 @@ use Rattle.record_format.specs.declared.record.Record.{Record}
 use Rattle.record_format.specs.Records.{IsRecord}
 use Rattle.blocks.specs.declared.block.Block.{Block}
 use Rattle.blocks.specs.declared.block.Image.{Image}
+use Rattle.machine.specs.Machine.{journalled}
 use Rattle.repetition.specs.Steps.{Repeats}
 use Rattle.txn.specs.declared.steps.Action.{Action}
 use Rattle.txn.specs.declared.steps.BookStep.{BookStep}
 use Rattle.txn.specs.Books.{BookState, standing, opened, Takes, CutAnswers}
 use Rattle.txn.specs.Rows.{Standing}
-use Rattle.txn.specs.Histories.{records_by, records_of_action, CutRow}
+use Rattle.txn.specs.Histories.{records_by, CutRow}
 use Rattle.txn.specs.Handing.{HasHanded}
-use Rattle.txn.proofs.Takings.{leaves}
-use Rattle.txn.proofs.Handings.{records_by-push, opens, takes_on, cuts_on}
+use Rattle.txn.proofs.Handings.{records_by-push, records_then, opens, taken_left, takes_on}
+use Rattle.txn.proofs.Handings.{cuts_on}
 use Rattle.catalog.specs.Meaning.{catalog_meaning, catalog_making}
 use Rattle.group_commit.specs.Lines as lines
 use Rattle.group_commit.specs.Lines.{stepped}
@@ -28,7 +29,7 @@ use Rattle.store.specs.declared.naming.Naming.{Ghosts}
 use Rattle.store.specs.Desks.{AreRecorded, IsDesk}
 use Rattle.store.specs.Notes.{handed_count}
 use Rattle.store.specs.Turns.{IsSent}
-use Rattle.store.proofs.Recording.{recorded_none, recorded_leads, recorded_falls}
+use Rattle.store.proofs.Recording.{recorded_none, recorded_leads, recorded_unheard}
 
 abbrev Book : Type 0
 Book = BookState (List Collection)
@@ -59,8 +60,9 @@ module _ {J : Type 0} (j : Ghosts J) where
         AllByRecursion (IsRecord None) after.pending → now ≡ stepped seat (step action) →
         IsDesk j after now sender
     desk_takes action after now took good now_is =
-        let rs = records_of_action action in
-        let left = leaves catalog_meaning catalog_making book after action took in
+        let rs = records_then seat.all action in
+        let left = taken_left catalog_meaning catalog_making (λ v. v) j.start j.wear seat.all book
+        after sender.sent is.groups sender.noted is.handed client action took in
         let more : AllByRecursion (IsRecord None) rs = each_back (IsRecord None) book.pending rs
         (subst (AllByRecursion (IsRecord None)) left.pending good) in
         rw now_is (record {
@@ -72,18 +74,18 @@ module _ {J : Type 0} (j : Ghosts J) where
           recorded = λ s.
               let old = is.recorded s in (
                 old.0,
-                subst (λ l. AreRecorded j.start j.wear l after.state sender.noted old.0)
-                    (sym (records_by-push seat.all (step action)))
+                subst (λ l. AreRecorded j.start j.wear l (journalled after.state) sender.noted
+                    old.0) (sym (records_by-push seat.all (step action)))
                     (⊎_elim
-                    (λ (leads : Repeats rs book.state after.state).
+                    (λ (leads : Repeats rs (journalled book.state) (journalled after.state)).
                     recorded_leads j.start j.wear sender.noted old.0 (records_by seat.all)
-                    book.state rs after.state more leads old.1)
-                    (λ fall. subst
-                    (λ l. AreRecorded j.start j.wear l after.state sender.noted old.0)
+                    (journalled book.state) rs (journalled after.state) more leads old.1)
+                    (λ unheard. subst
+                    (λ l. AreRecorded j.start j.wear l (journalled after.state) sender.noted old.0)
                     (sym (append-nil (records_by seat.all)) ∙
-                    ap (λ l. records_by seat.all ++ l) (sym fall.0))
-                    (recorded_falls j.start j.wear sender.noted old.0 (records_by seat.all)
-                    book.state fall.1.0 after.state fall.1.1 old.1))
+                    ap (λ l. records_by seat.all ++ l) (sym unheard.0))
+                    (recorded_unheard j.start j.wear sender.noted old.0 (records_by seat.all)
+                    (journalled book.state) (journalled after.state) unheard.1 old.1))
                     left.leads),
               );
         })
@@ -134,11 +136,11 @@ module _ {J : Type 0} (j : Ghosts J) where
             let old = is.recorded s in (
               old.0,
               subst (λ l. AreRecorded j.start j.wear (records_by (seat.all ++ step ∷ []))
-                  after.state l old.0) (sym on.3.noted)
-                  (subst (λ l. AreRecorded j.start j.wear l after.state sender.noted old.0)
-                  (sym same)
+                  (journalled after.state) l old.0) (sym on.3.noted)
+                  (subst (λ l. AreRecorded j.start j.wear l (journalled after.state) sender.noted
+                  old.0) (sym same)
                   (subst (λ v. AreRecorded j.start j.wear (records_by seat.all) v sender.noted
-                  old.0) (sym (ap (λ (x : Book). x.state) cut.1)) old.1)),
+                  old.0) (sym (ap (λ (x : Book). journalled x.state) cut.1)) old.1)),
             );
       })
 

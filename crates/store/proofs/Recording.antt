@@ -8,14 +8,14 @@ use Rattle.calls.specs.Contents.{Collection}
 use Rattle.record_format.specs.declared.record.Record.{Record}
 use Rattle.record_format.specs.Records.{IsRecord}
 use Rattle.blocks.specs.declared.block.Image.{Image}
-use Rattle.machine.specs.Machine.{FallRow}
 use Rattle.machine.specs.Machines.{resting}
+use Rattle.machine.proofs.Journalled.{GoesUnheard}
 use Rattle.repetition.specs.Steps.{State, Steps, Repeats}
-use Rattle.repetition.proofs.LagLemmas.{lags_self, lags_step, lags_falls}
+use Rattle.repetition.proofs.LagLemmas.{lags_self, lags_step, lags_unheard}
 use Rattle.repetition.proofs.Lists.{leads_push, leads_split}
 use Rattle.checkpoint.specs.Keeping.{BegunImage}
 use Rattle.checkpoint.specs.Stored.{StandIn, AreReadTo, GoAlong}
-use Rattle.checkpoint.proofs.StandLemmas.{stands_push, stands_fall}
+use Rattle.checkpoint.proofs.StandLemmas.{stands_push, stands_unheard}
 use Rattle.store.specs.Desks.{AreRecorded}
 
 module _ (start : List Collection) (wear : ℕ) where
@@ -64,18 +64,18 @@ module _ (start : List Collection) (wear : ℕ) where
         (recorded_leads (records ++ r ∷ []) leads.0 rs next good.1 leads.2
         (recorded_push records now r leads.0 good.0 leads.1 is))
 
-    -- a transaction falls, of which no record tells
-    pub recorded_falls : (records : List Record) (now : State) (n : ℕ) (next : State) →
-        FallRow now n next → AreRecorded start wear records now images begun →
+    -- a step of which no record tells
+    pub recorded_unheard : (records : List Record) (now next : State) → GoesUnheard now next →
+        AreRecorded start wear records now images begun →
         AreRecorded start wear records next images begun
-    recorded_falls records now n next row is = record {
+    recorded_unheard records now next step is = record {
       good = is.good;
       trail = is.trail;
       leads = is.leads;
-      trails = lags_falls is.trail now is.trails n next row;
+      trails = lags_unheard is.trail now is.trails next step;
       are_begun = is.are_begun;
       stand = weaker (Standing records now) (Standing records next)
-          (λ b old. (stands_fall start wear records now b.blocks b.covered n next row old).0)
+          (λ b old. (stands_unheard start wear records now b.blocks b.covered next step old).0)
           begun is.stand;
     }
 

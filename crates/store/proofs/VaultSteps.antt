@@ -20,16 +20,17 @@ use Rattle.blocks.specs.declared.block.Image.{Image}
 use Rattle.blocks.specs.Carried.{Carries}
 use Rattle.blocks.specs.Packings.{joined}
 use Rattle.blocks.proofs.Carrying.{joined-append, carries_parts}
+use Rattle.machine.specs.Machine.{journalled}
 use Rattle.machine.specs.Machines.{resting}
 use Rattle.machine.specs.Sound.{IsSound}
 use Rattle.repetition.specs.Journals.{records_in}
 use Rattle.txn.specs.declared.steps.Action.{Action}
 use Rattle.txn.specs.declared.steps.BookStep.{BookStep}
-use Rattle.txn.specs.Books.{BookState, IsKept}
+use Rattle.txn.specs.Books.{BookState, standing, IsKept}
 use Rattle.txn.specs.Freezing.{FreezeAnswers}
 use Rattle.txn.specs.Handing.{HasHanded}
 use Rattle.txn.specs.Histories.{records_by}
-use Rattle.txn.proofs.Handings.{records_by-push, freezes_on, freezes_image, committed_records}
+use Rattle.txn.proofs.Handings.{records_by-push, freezes_on, freezes_image}
 use Rattle.catalog.specs.Meaning.{catalog_meaning, catalog_making}
 use Rattle.checkpoint.specs.Crash.{Yields}
 use Rattle.checkpoint.specs.ImageAnswers.{BeginAnswers}
@@ -39,11 +40,12 @@ use Rattle.checkpoint.specs.Keeping.{TurnKeeps, ImageKeeps}
 use Rattle.checkpoint.specs.DiskHeads.{IsInUse}
 use Rattle.checkpoint.specs.Stored.{StandIn, AreReadTo}
 use Rattle.checkpoint.proofs.GroupLemmas.{uncrossed_front}
-use Rattle.checkpoint.proofs.ReceivedLemmas.{received_none}
+use Rattle.checkpoint.proofs.ReceivedLemmas.{received_none, mark_few}
 use Rattle.world.specs.Pasts.{mark_behind, mark_flipped}
 use Rattle.world.proofs.Begins as begins
 use Rattle.world.proofs.FreezeLemmas as freezes
 use Rattle.world.proofs.KeeperSteps.{uncrossed, mark_rises, mark_is, some_received}
+use Rattle.world.proofs.Readings.{history_yields}
 use Rattle.group_commit.specs.Ends.{Receives, WasEmptyAt}
 use Rattle.group_commit.specs.Lines as lines
 use Rattle.group_commit.specs.Lines.{stepped}
@@ -197,13 +199,13 @@ module _ {D : Type 0} (g : disks.Ghosts D) where
         abbrev begun : List BegunImage
         begun = (desk.recorded s).0
 
-        keeps : HasReceived g.seen g.may_leave j.start j.wear (records_by seat.all) book.state
-            begun receiver.received k
+        keeps : HasReceived g.seen g.may_leave j.start j.wear (records_by seat.all)
+            (journalled book.state) begun receiver.received k
         keeps =
             let recorded = (desk.recorded s).1 in
-            vault.received s (records_by seat.all) book.state begun parts.0
-            (subst (λ is. AreRecorded j.start j.wear (records_by seat.all) book.state is begun)
-            same recorded) parts.3 begins_all
+            vault.received s (records_by seat.all) (journalled book.state) begun parts.0
+            (subst (λ is. AreRecorded j.start j.wear (records_by seat.all) (journalled book.state)
+            is begun) same recorded) parts.3 begins_all
             (uncrossed_front begun parts.0 parts.1 (subst (Uncrossed begun) parts.2
             (uncrossed desk.groups book handed.end sender.noted begun recorded.are_begun
             handed.between)))
@@ -216,8 +218,10 @@ module _ {D : Type 0} (g : disks.Ghosts D) where
         begins = begins;
         reached = reached_more counts mark.count k.mark vault.marked reached;
         stop = λ s bytes left.
-            subst (λ ts. Yields j.start ts (take k.mark ts) bytes)
-            (sym (committed_records seat.all)) ((keeps s).stop bytes left);
+            history_yields j.start j.wear seat.all (standing book) handed.legal k.mark
+            (mark_few g.seen g.may_leave j.start j.wear (records_by seat.all)
+            (journalled book.state) (begun s) receiver.received k (keeps s)) bytes
+            ((keeps s).stop bytes left);
       }
 
       module _ (kept : IsKept catalog_meaning catalog_making AreShort
@@ -229,7 +233,7 @@ module _ {D : Type 0} (g : disks.Ghosts D) where
             (seat.all ++ alone (Action.Freeze a) ∷ []) c sender.sent desk.groups images →
             c.state ≡ book.state →
             (j.sound → (b : List BegunImage) ×
-            AreRecorded j.start j.wear (records_by seat.all) book.state images b) →
+            AreRecorded j.start j.wear (records_by seat.all) (journalled book.state) images b) →
             IsDesk j c now (record { table = sender.table; sent = sender.sent; noted = images })
         desk_frozen a c images now now_is on state recorded =
             let records : records_by (seat.all ++ alone (Action.Freeze a) ∷ []) ≡
@@ -264,8 +268,8 @@ module _ {D : Type 0} (g : disks.Ghosts D) where
           is_for s = freezes.is_for g j.start j.wear seat.all book receiver.received transit
               desk.groups sender.noted (begun s) k handed (keeps s) c image froze kept
 
-          stands : j.sound → StandIn j.start j.wear (records_by seat.all) book.state
-              begin.blocks begin.covered
+          stands : j.sound → StandIn j.start j.wear (records_by seat.all)
+              (journalled book.state) begin.blocks begin.covered
           stands s = freezes.stands g j.start j.wear seat.all book receiver.received transit
               desk.groups sender.noted (begun s) k handed (keeps s) c image froze kept
 

@@ -5,6 +5,7 @@ use Rattle.calls.specs.Contents.{Collection}
 use Rattle.record_format.specs.declared.record.Record.{Record}
 use Rattle.record_format.specs.Records.{IsRecord}
 use Rattle.blocks.specs.declared.block.Image.{Image}
+use Rattle.machine.specs.Machine.{journalled}
 use Rattle.machine.specs.Machines.{resting}
 use Rattle.repetition.specs.Steps.{State, Repeats}
 use Rattle.repetition.specs.Lagging.{Lags}
@@ -19,8 +20,8 @@ use Rattle.group_commit.specs.Lines as lines
 use Rattle.group_commit.specs.Orders.{SenderState}
 use Rattle.store.specs.declared.naming.Naming.{Ghosts}
 
--- The records are good, and lead the opened book to a state that lags behind the one now; and these
--- images stand for beginnings of them.
+-- The records are good, and lead the opened book to a state that lags behind the one now, which is
+-- what a journal tells of the book; and these images stand for beginnings of them.
 pub record AreRecorded (start : List Collection) (wear : ℕ) (records : List Record) (now : State)
     (images : List Image) (begun : List BegunImage) : Type 0 where
   pub good : AllByRecursion (IsRecord None) records
@@ -40,4 +41,4 @@ pub record IsDesk {J : Type 0} (j : Ghosts J) (book : BookState (List Collection
   pub handed : HasHanded catalog_meaning catalog_making (λ v. v) j.start j.wear seat.all book
       sender.sent groups sender.noted
   pub recorded : j.sound → (begun : List BegunImage) ×
-      AreRecorded j.start j.wear (records_by seat.all) book.state sender.noted begun
+      AreRecorded j.start j.wear (records_by seat.all) (journalled book.state) sender.noted begun

@@ -1,7 +1,7 @@
 -- What a history of a book comes to.
-use Rattle.std.proofs.Common.{◌≡◌, ℕ, ◌+◌, true, false, Ok, Err, Some, None, List, []}
+use Rattle.std.proofs.Common.{◌≡◌, ℕ, ◌+◌, Bool, true, false, Ok, Err, Some, None, List, []}
 use Rattle.std.proofs.Common.{◌∷◌, Result}
-use Rattle.std.proofs.Common.{length, refl, sym, ◌∙◌, ap, subst, arith, length-append}
+use Rattle.std.proofs.Common.{length, refl, sym, ◌∙◌, ap, subst, arith, length-append, inl, inr}
 use Rattle.std.specs.List.{flat_map}
 use Rattle.std.specs.FinMap as maps
 use Rattle.calls.specs.declared.kind.Kind.{Kind}
@@ -9,7 +9,8 @@ use Rattle.calls.specs.declared.call.Call.{Call}
 use Rattle.calls.specs.declared.reply.Reply.{Reply}
 use Rattle.calls.specs.declared.refusal.Refusal.{Refusal}
 use Rattle.calls.specs.Contents.{Collection, AnswersAt, after_at}
-use Rattle.calls.specs.Transactions.{Entry, Act, Makes, own, committed_after}
+use Rattle.calls.specs.Reads.{reads}
+use Rattle.calls.specs.Transactions.{Event, Entry, Asked, Act, Asks, Makes, own, committed_after}
 use Rattle.record_format.specs.declared.record.Record.{Record}
 use Rattle.record_format.specs.Acts.{acts_of_record}
 use Rattle.machine.specs.Machine.{State, IsSettled, Steps}
@@ -18,12 +19,14 @@ use Rattle.machine.specs.Theory.Rules.{RuleLaws}
 use Rattle.machine.specs.Theory.Collections.{collection_rules}
 use Rattle.machine.proofs.NamedContents.{serial_told}
 use Rattle.machine.proofs.Steps.{none_live}
+use Rattle.machine.proofs.Readings.{one_read, one_unread}
 use Rattle.machine.proofs.RecordRuns as machine
 use Rattle.machine.proofs.RecordRuns.{gathered, committed_append, Tells}
 use Rattle.txn.specs.declared.steps.Action.{Action}
 use Rattle.txn.specs.declared.steps.BookStep.{BookStep}
 use Rattle.txn.specs.declared.steps.Target.{Target}
-use Rattle.txn.specs.Rows.{Standing, CallAnswers, LaterAnswers, record_of, later_record}
+use Rattle.txn.specs.Rows.{Standing, IsMade, IsUndone, CallAnswers, LaterAnswers, record_of}
+use Rattle.txn.specs.Rows.{later_record}
 use Rattle.txn.specs.Histories.{acts_of_action, Adds, Shifts, Row, IsLegal, ComesTo}
 use Rattle.boosted.specs.Meaning.{Meaning}
 use Rattle.catalog.specs.Making.{Making}
@@ -67,14 +70,37 @@ module _ {S : Type 0} (meaning : Meaning S ℕ) (making : Making S)
       refused c is = subst (IsBookPlayed es [] b d) (sym is)
           (unheard b (machine.stays meaning making laws es b.state sound tells d settled) refl)
 
+      -- a step that a record more does not tell of
+      unrecorded : (acts : List Act) (c : Standing S) → IsPlayed es acts d c.state →
+          c.places ≡ b.places → length (committed_after es acts) ≡ 0 → IsBookPlayed es acts b d c
+      unrecorded acts c played same none =
+          record { played = played; places = omega (arith, same, none) }
+
+      -- a call that is made
+      made : (only_reads : Bool) (n : ℕ) (e : Event) (c : Standing S) →
+          IsMade meaning making (λ v. v) Adds Shifts only_reads b n e c →
+          IsBookPlayed es (Asks n (Asked e) ∷ []) b d c
+      made true n e c acts =
+          unrecorded (Asks n (Asked e) ∷ []) c
+          (one_read meaning making laws b.state c.state es sound tells d settled n e acts.0)
+          (ap (λ v. v.places) acts.2) refl
+      made false n e c acts = recorded (record_of n e) c acts.0 (ap (λ v. v.places) acts.1.is)
+
+      -- one that is undone
+      undone : (n : ℕ) (c : Standing S) → IsUndone meaning making (λ v. v) Adds Shifts b n c →
+          IsBookPlayed es [] b d c
+      undone n c (inl acts) = recorded (Record.Back n) c acts.0.back (ap (λ v. v.places) acts.1.is)
+      undone n c (inr acts) =
+          unheard c (one_unread meaning making laws b.state c.state es sound tells d settled n
+          acts.0) (ap (λ v. v.places) acts.2)
+
       -- a call on a collection
       called : (n p : ℕ) (call : Call) (a : Result Reply Refusal) (c : Standing S) →
           CallAnswers meaning making (λ v. v) Adds Shifts b n p call a c →
           IsBookPlayed es
           (acts_of_action (Action.Call n (Target.Number p) call a)) b d c
       called n p call (Ok reply) c acts =
-          recorded (record_of n (record { at = p; call = call; reply = reply })) c acts.0
-          (ap (λ v. v.places) acts.2.is)
+          made (reads call reply) n (record { at = p; call = call; reply = reply }) c acts.0
       called n p call (Err e) c acts = refused c acts.0
 
       put_off : (n p : ℕ) (call : Call) (a : Result (Unit {0}) Refusal) (c : Standing S) →
@@ -108,8 +134,7 @@ module _ {S : Type 0} (meaning : Meaning S ℕ) (making : Making S)
       one (Action.Commit n (Ok place)) c acts =
           recorded (Record.Commit n) c acts.0 (ap (λ v. v.places) acts.1.is)
       one (Action.Commit n (Err e)) c acts = refused c acts.0
-      one (Action.Back n (Ok true)) c acts =
-          recorded (Record.Back n) c acts.0 (ap (λ v. v.places) acts.1.is)
+      one (Action.Back n (Ok true)) c acts = undone n c acts
       one (Action.Back n (Ok false)) c acts =
           unheard c (machine.one_fall meaning making laws es b.state sound tells d settled n c.state
           acts.0) (ap (λ v. v.places) acts.2)

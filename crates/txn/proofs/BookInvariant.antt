@@ -16,7 +16,7 @@ use Rattle.record_format.specs.Acts.{places}
 use Rattle.record_format.specs.Records.{IsRecord, IsNumber}
 use Rattle.record_format.proofs.CallRecords.{later_is_record}
 use Rattle.machine.specs.Machine.{State, BeginRow, CommitRow, EndedRow, FallRow, MakeRow, CallRow}
-use Rattle.machine.specs.Machine.{LaterRow, BackRow}
+use Rattle.machine.specs.Machine.{LaterRow, BackRow, ReadRow, UnreadRow}
 use Rattle.txn.specs.Rows.{record_of, later_record}
 use Rattle.txn.specs.Books.{BookState, opened, next_behind, Appends, Moves, CutAnswers, IsKept}
 use Rattle.machine.specs.Machines.{IsUpheld}
@@ -30,6 +30,7 @@ use Rattle.machine.proofs.InvariantRows.{later_names, later_upheld, commit_names
 use Rattle.machine.proofs.InvariantRows.{ended_upheld, fallen_lives, back_names, back_upheld}
 use Rattle.machine.proofs.InvariantRows.{fall_upheld}
 use Rattle.machine.proofs.InvariantRows.{resting_upheld}
+use Rattle.machine.proofs.Readings.{read_upheld, unread_upheld}
 use Rattle.machine.proofs.Sizes.{append_length, len_begun, len_fallen, len_left, pushed_length}
 use Rattle.blocks.proofs.Places.{places_append, one_place}
 use Rattle.boosted.specs.Meaning.{Meaning}
@@ -215,27 +216,51 @@ module _ {S : Type 0} (meaning : Meaning S ℕ) (making : Making S)
         (λ k there. fallen_lives meaning making short laws b.state kept.upheld n k row.live
         (subst (λ (v : State S). Lives v.live k) row.is there)) (omega arith)
 
-    pub fall_keeps : (n : ℕ) (c : BookState S) → FallRow b.state n c.state →
-        Moves b c → Kept c
-    fall_keeps n c row is =
-        let same_live = len_fallen b.state.live n row.live in
-        let live = ap (λ (v : State S). maps.len v.live) row.is in
-        let wear = ap (λ (v : State S). v.wear) row.is in
-        let same_names = ap (λ (v : State S). length (making.names v.now)) row.is in
+    -- a step that adds no record
+    keep_moved : (c : BookState S) → Moves b c → IsUpheld meaning making short Sound c.state →
+        ((n : ℕ) → Lives c.state.live n → Lives b.state.live n) →
+        maps.len c.state.live ≡ maps.len b.state.live → c.state.wear ≡ b.state.wear →
+        length (making.names c.state.now) ≡ length (making.names b.state.now) → Kept c
+    keep_moved c is upheld lived same_live same_wear same_names =
         let before = kept.positions in
         subst Kept (sym is) (record {
           records = kept.records;
           few_pending = kept.few_pending;
           frozen = kept.frozen;
-          upheld = fall_upheld meaning making short laws b.state kept.upheld n c.state row;
-          below = λ k there. kept.below k
-              (fallen_lives meaning making short laws b.state kept.upheld n k row.live
-              (subst (λ (v : State S). Lives v.live k) row.is there));
+          upheld = upheld;
+          below = λ k there. kept.below k (lived k there);
           next = kept.next;
           positions = omega arith;
           placed = kept.placed;
           counted = kept.counted;
         })
+
+    pub fall_keeps : (n : ℕ) (c : BookState S) → FallRow b.state n c.state →
+        Moves b c → Kept c
+    fall_keeps n c row is =
+        keep_moved c is (fall_upheld meaning making short laws b.state kept.upheld n c.state row)
+        (λ k there. fallen_lives meaning making short laws b.state kept.upheld n k row.live
+        (subst (λ (v : State S). Lives v.live k) row.is there))
+        (ap (λ (v : State S). maps.len v.live) row.is ∙ len_fallen b.state.live n row.live)
+        (ap (λ (v : State S). v.wear) row.is)
+        (ap (λ (v : State S). length (making.names v.now)) row.is)
+
+    pub read_keeps : (n : ℕ) (e : Event) (c : BookState S) → ReadRow meaning b.state n e c.state →
+        Moves b c → Kept c
+    read_keeps n e c row is =
+        keep_moved c is (read_upheld meaning making short laws b.state kept.upheld c.state n e row)
+        (λ k there. subst (λ (v : State S). Lives v.live k) row.is there)
+        (ap (λ (v : State S). maps.len v.live) row.is) (ap (λ (v : State S). v.wear) row.is)
+        (ap (λ (v : State S). length (making.names v.now)) row.is)
+
+    pub unread_keeps : (n : ℕ) (c : BookState S) → UnreadRow b.state n c.state → Moves b c → Kept c
+    unread_keeps n c row is =
+        keep_moved c is (unread_upheld meaning making short laws b.state kept.upheld c.state n row)
+        (λ k there. fallen_lives meaning making short laws b.state kept.upheld n k row.live
+        (subst (λ (v : State S). Lives v.live k) row.is there))
+        (ap (λ (v : State S). maps.len v.live) row.is ∙ len_fallen b.state.live n row.live)
+        (ap (λ (v : State S). v.wear) row.is)
+        (ap (λ (v : State S). length (making.names v.now)) row.is)
 
     -- The first pending records are handed over.
     pub handed_keeps : (first rest : List Record) (left : List ℕ) → b.pending ≡ first ++ rest →

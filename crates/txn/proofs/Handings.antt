@@ -4,12 +4,10 @@ use Rattle.std.proofs.Common.{None, Some, Result, Ok, Err, List, [], ◌∷◌, 
 use Rattle.std.proofs.Common.{◌∙◌, ap}
 use Rattle.std.proofs.Common.{subst, arith, append_assoc, length-append}
 use Rattle.std.specs.Prelude.{Contains}
-use Rattle.std.specs.List.{AllByRecursion, flat_map}
+use Rattle.std.specs.List.{AllByRecursion}
 use Rattle.std.proofs.lemmas.Bool.{cases_eq}
 use Rattle.std.proofs.lemmas.List.{append-nil}
-use Rattle.std.proofs.lemmas.Grind.{flat_map-append}
 use Rattle.calls.specs.Contents.{Collection}
-use Rattle.calls.specs.Transactions.{committed}
 use Rattle.calls.specs.declared.refusal.Refusal.{Refusal}
 use Rattle.boosted.specs.Meaning.{Meaning}
 use Rattle.boosted.proofs.Each.{weaker, each_append, each_back}
@@ -17,7 +15,7 @@ use Rattle.boosted.proofs.Runs.{Leads-push}
 use Rattle.catalog.specs.Making.{Making}
 use Rattle.record_format.specs.declared.record.Record.{Record}
 use Rattle.record_format.specs.Records.{IsRecord}
-use Rattle.record_format.specs.Acts.{acts_of_record, acts_of, places}
+use Rattle.record_format.specs.Acts.{places}
 use Rattle.blocks.specs.declared.block.Block.{Block}
 use Rattle.blocks.specs.declared.block.Image.{Image}
 use Rattle.blocks.specs.Carried.{Carries}
@@ -27,51 +25,36 @@ use Rattle.blocks.proofs.Places.{places_append}
 use Rattle.blocks.proofs.Carrying.{joined-push, carries_append}
 use Rattle.txn.specs.declared.steps.Action.{Action}
 use Rattle.txn.specs.declared.steps.BookStep.{BookStep}
-use Rattle.txn.specs.declared.steps.Target.{Target}
 use Rattle.txn.specs.Rows.{Standing, opening}
 use Rattle.txn.specs.Books.{BookState, opened, standing, Takes, CutAnswers}
 use Rattle.txn.specs.Freezing.{FreezeAnswers}
-use Rattle.txn.specs.Histories.{acts_of_action, records_of_action, committed_by, records_by}
-use Rattle.txn.specs.Histories.{CutRow, Row, IsLegal}
+use Rattle.txn.specs.Histories.{LiveCalls, shows, shown_by, no_calls, records_of_action}
+use Rattle.txn.specs.Histories.{records_after, records_by, CutRow, Row, IsLegal}
 use Rattle.txn.specs.Handing.{IsBetween, IsImageIn, HasHanded}
-use Rattle.txn.proofs.Takings.{taken, cut_taken, freeze_taken, leaves}
+use Rattle.txn.proofs.LiveCalls.{history_shown}
+use Rattle.txn.proofs.Takings.{taken, cut_taken, freeze_taken, IsTaken, leaves}
 
--- ---- what steps say, and what their records say
+-- ---- records of steps
 
--- a step says of transactions what its records say
-action_acts : (a : Action) → acts_of_action a ≡ acts_of (records_of_action a)
-action_acts (Action.Make name kind (Ok place)) = refl
-action_acts (Action.Enter n (Ok done)) = refl
-action_acts (Action.Call n (Target.Number p) call (Ok reply)) = refl
-action_acts (Action.Call n (Target.Named name (Some p)) call (Ok reply)) = refl
-action_acts (Action.Call n (Target.Named name None) call (Ok reply)) = refl
-action_acts (Action.Later n (Target.Number p) call (Ok done)) = refl
-action_acts (Action.Later n (Target.Named name (Some p)) call (Ok done)) = refl
-action_acts (Action.Later n (Target.Named name None) call (Ok done)) = refl
-action_acts (Action.Commit n (Ok place)) = refl
-action_acts (Action.Back n (Ok true)) = refl
-action_acts (Action.Ended n (Ok done)) = refl
-action_acts a = refl
+records_after-append : (live : LiveCalls) (steps more : List BookStep) →
+    records_after live (steps ++ more) ≡
+    records_after live steps ++ records_after (shown_by live steps) more
+records_after-append live [] more = refl
+records_after-append live (x ∷ steps) more =
+    ap (λ l. records_of_action live x.action ++ l)
+    (records_after-append (shows live x.action) steps more) ∙
+    sym (append_assoc (records_of_action live x.action)
+    (records_after (shows live x.action) steps)
+    (records_after (shown_by (shows live x.action) steps) more))
 
-acts_by : (steps : List BookStep) → flat_map (λ x. acts_of_action x.action) steps ≡
-    acts_of (records_by steps)
-acts_by [] = refl
-acts_by (x ∷ steps) = (λ i. action_acts x.action i ++ acts_by steps i) ∙
-    sym (flat_map-append acts_of_record (records_of_action x.action) (records_by steps))
-
--- The steps commit what their records commit.
-pub committed_records : (steps : List BookStep) →
-    committed_by steps ≡ committed (acts_of (records_by steps))
-committed_records steps = ap committed (acts_by steps)
-
-pub records_by-append : (steps more : List BookStep) →
-    records_by (steps ++ more) ≡ records_by steps ++ records_by more
-records_by-append steps more = flat_map-append (λ x. records_of_action x.action) steps more
+-- what a step adds behind others
+abbrev pub records_then : List BookStep → Action → List Record
+records_then steps action = records_of_action (shown_by no_calls steps) action
 
 pub records_by-push : (steps : List BookStep) (x : BookStep) →
-    records_by (steps ++ x ∷ []) ≡ records_by steps ++ records_of_action x.action
-records_by-push steps x = records_by-append steps (x ∷ []) ∙
-    ap (λ l. records_by steps ++ l) (append-nil (records_of_action x.action))
+    records_by (steps ++ x ∷ []) ≡ records_by steps ++ records_then steps x.action
+records_by-push steps x = records_after-append no_calls steps (x ∷ []) ∙
+    ap (λ l. records_by steps ++ l) (append-nil (records_then steps x.action))
 
 -- ---- positions between blocks
 
@@ -174,13 +157,19 @@ module _ {S : Type 0} (meaning : Meaning S ℕ) (making : Making S)
     still_imaged action = weaker (Imaged steps) (Imaged (steps ++ step action ∷ []))
         (λ image is. images_more steps (step action) image is) images had.are_images
 
+    -- What one step more that hands nothing over adds to the journal.
+    pub taken_left : (action : Action) → Takes meaning making b action c →
+        IsTaken meaning making b (records_then steps action) c
+    taken_left action takes = leaves meaning making b c (shown_by no_calls steps)
+        (history_shown meaning making start wear steps (standing b) had.legal) action takes
+
     -- One step more that hands nothing over.
     pub takes_on : (action : Action) → Takes meaning making b action c →
         AllByRecursion (IsRecord None) c.pending →
         Handed (steps ++ step action ∷ []) c handed groups images
     takes_on action takes good =
-        let rs = records_of_action action in
-        let left = leaves meaning making b c action takes in
+        let rs = records_then steps action in
+        let left = taken_left action takes in
         let all = records_by-push steps (step action) in
         record {
           legal = legal_on action (taken meaning making b c action takes);
@@ -204,7 +193,7 @@ module _ {S : Type 0} (meaning : Meaning S ℕ) (making : Making S)
 
     -- A step that leaves the book's records, and adds none.
     stays_on : (action : Action) → Row meaning making (standing b) action (standing c) →
-        records_of_action action ≡ [] → c.pending ≡ b.pending → c.end ≡ b.end →
+        records_then steps action ≡ [] → c.pending ≡ b.pending → c.end ≡ b.end →
         c.place ≡ b.place → ((f : ℕ) → Contains b.freezes f → Contains c.freezes f) →
         Handed (steps ++ step action ∷ []) c handed groups images
     stays_on action row none pending end place keeps =

@@ -1,26 +1,35 @@
 -- What a book does is a row of its histories.
 use Rattle.std.proofs.Common.{◌≡◌, ℕ, ◌+◌, true, false, Bool, Some, None, Result, Ok, Err, List}
 use Rattle.std.proofs.Common.{[], ◌∷◌, ◌++◌, length, refl, sym, ◌∙◌, ap, arith, ◌⊎◌, inl, inr}
+use Rattle.std.proofs.Common.{subst, cond}
 use Rattle.std.proofs.lemmas.List.{append-nil}
 use Rattle.calls.specs.declared.call.Call.{Call}
 use Rattle.calls.specs.declared.reply.Reply.{Reply}
 use Rattle.calls.specs.declared.refusal.Refusal.{Refusal}
 use Rattle.calls.specs.Contents.{Collection}
-use Rattle.calls.specs.Transactions.{Leads}
+use Rattle.calls.specs.Reads.{reads}
+use Rattle.calls.specs.Transactions.{Leads, Event, Entry}
+use Rattle.undo_log.specs.Entries.{IsNewestCall}
 use Rattle.boosted.specs.Meaning.{Meaning}
 use Rattle.catalog.specs.Making.{Making}
 use Rattle.record_format.specs.declared.record.Record.{Record}
 use Rattle.record_format.specs.Acts.{places}
-use Rattle.machine.specs.Machine.{State, Steps, FallRow}
+use Rattle.machine.specs.Machine.{State, Steps, journalled}
+use Rattle.machine.proofs.Journalled.{GoesUnheard, fall_unheard, read_unheard, unread_unheard}
+use Rattle.machine.proofs.Journalled.{make_told, begin_told, call_told, later_told, commit_told}
+use Rattle.machine.proofs.Journalled.{back_told, ended_told}
 use Rattle.machine.proofs.Sizes.{append_length, pushed_length}
 use Rattle.blocks.specs.declared.block.Block.{Block}
 use Rattle.blocks.specs.declared.block.Image.{Image}
 use Rattle.txn.specs.declared.steps.Action.{Action}
 use Rattle.txn.specs.declared.steps.Target.{Target}
-use Rattle.txn.specs.Rows.{Standing, CallAnswers, LaterAnswers, NotFound, record_of, later_record}
+use Rattle.txn.specs.Rows.{Standing, IsMade, IsUndone, CallAnswers, LaterAnswers, NotFound}
+use Rattle.txn.specs.Rows.{record_of, later_record}
 use Rattle.txn.specs.Books.{BookState, standing, Appends, Moves, Takes, CutAnswers}
 use Rattle.txn.specs.Freezing.{FreezeAnswers}
-use Rattle.txn.specs.Histories.{Adds, Shifts, CutRow, Row, records_of_action}
+use Rattle.txn.specs.Histories.{Adds, Shifts, CutRow, Row, LiveCalls, unless_read, back_records}
+use Rattle.txn.specs.Histories.{records_of_action}
+use Rattle.txn.proofs.LiveCalls.{AreShown, newest_shown}
 
 module _ {S : Type 0} (meaning : Meaning S ℕ) (making : Making S) (b c : BookState S) where
   adds : (r : Record) → Appends b r c → Adds (standing b) r (standing c)
@@ -33,10 +42,22 @@ module _ {S : Type 0} (meaning : Meaning S ℕ) (making : Making S) (b c : BookS
     }) (pushed_length b.pending r);
   }
 
+  made : (only_reads : Bool) (n : ℕ) (e : Event) →
+      IsMade meaning making standing Appends Moves only_reads b n e c →
+      IsMade meaning making (λ v. v) Adds Shifts only_reads (standing b) n e (standing c)
+  made true n e takes = (takes.0, takes.1, ap standing takes.2)
+  made false n e takes = (takes.0, adds _ takes.1)
+
+  undone : (n : ℕ) → IsUndone meaning making standing Appends Moves b n c →
+      IsUndone meaning making (λ v. v) Adds Shifts (standing b) n (standing c)
+  undone n (inl written) = inl (written.0, adds _ written.1)
+  undone n (inr unread) = inr (unread.0, unread.1, ap standing unread.2)
+
   called : (n p : ℕ) (call : Call) (a : Result Reply Refusal) →
       CallAnswers meaning making standing Appends Moves b n p call a c →
       CallAnswers meaning making (λ v. v) Adds Shifts (standing b) n p call a (standing c)
-  called n p call (Ok reply) takes = (takes.0, takes.1, adds _ takes.2)
+  called n p call (Ok reply) takes =
+      (made (reads call reply) n (record { at = p; call = call; reply = reply }) takes.0, takes.1)
   called n p call (Err e) takes = (ap standing takes.0, takes.1)
 
   put_off : (n p : ℕ) (call : Call) (a : Result (Unit {0}) Refusal) →
@@ -68,7 +89,7 @@ module _ {S : Type 0} (meaning : Meaning S ℕ) (making : Making S) (b c : BookS
   taken (Action.Later n (Target.Named name None) call a) takes = not_found name a takes
   taken (Action.Commit n (Ok place)) takes = (takes.0, adds _ takes.1, takes.2)
   taken (Action.Commit n (Err e)) takes = (ap standing takes.0, takes.1)
-  taken (Action.Back n (Ok true)) takes = (takes.0, adds _ takes.1)
+  taken (Action.Back n (Ok true)) takes = undone n takes
   taken (Action.Back n (Ok false)) takes = (takes.0, takes.1, ap standing takes.2)
   taken (Action.Back n (Err e)) takes = (ap standing takes.0, takes.1)
   taken (Action.Ended n (Ok done)) takes = (takes.0, adds _ takes.1)
@@ -110,15 +131,15 @@ module _ {S : Type 0} (meaning : Meaning S ℕ) (making : Making S) (b c : BookS
   freeze_taken collections (Err e) froze = absurd froze
 
 -- What a step of a book leaves besides what histories speak of: its records wait behind the others,
--- and lead the state on; or a transaction falls, of which no record tells.
+-- and lead on what a journal tells of the state; or the step goes unheard.
 pub record IsTaken {S : Type 0} (meaning : Meaning S ℕ) (making : Making S) (b : BookState S)
     (rs : List Record) (c : BookState S) : Type 0 where
   pub pending : c.pending ≡ b.pending ++ rs
   pub freezes : c.freezes ≡ b.freezes
   pub end : c.end ≡ b.end
   pub place : c.place ≡ b.place
-  pub leads : Leads (Steps meaning making) rs b.state c.state ⊎ ((rs ≡ []) × ((n : ℕ) ×
-      FallRow b.state n c.state))
+  pub leads : Leads (Steps meaning making) rs (journalled b.state) (journalled c.state) ⊎
+      ((rs ≡ []) × GoesUnheard (journalled b.state) (journalled c.state))
 
 module _ {S : Type 0} (meaning : Meaning S ℕ) (making : Making S) (b c : BookState S) where
   same : c ≡ b → IsTaken meaning making b [] c
@@ -127,63 +148,114 @@ module _ {S : Type 0} (meaning : Meaning S ℕ) (making : Making S) (b c : BookS
     freezes = ap (λ v. v.freezes) is;
     end = ap (λ v. v.end) is;
     place = ap (λ v. v.place) is;
-    leads = inl (sym (ap (λ v. v.state) is));
+    leads = inl (ap (λ (v : BookState S). journalled v.state) (sym is));
   }
 
-  one_more : (r : Record) → Steps meaning making b.state r c.state → Appends b r c →
-      IsTaken meaning making b (r ∷ []) c
+  one_more : (r : Record) → Steps meaning making (journalled b.state) r (journalled c.state) →
+      Appends b r c → IsTaken meaning making b (r ∷ []) c
   one_more r row appends = record {
     pending = ap (λ v. v.pending) appends.is;
     freezes = ap (λ v. v.freezes) appends.is;
     end = ap (λ v. v.end) appends.is;
     place = ap (λ v. v.place) appends.is;
-    leads = inl (c.state, row, refl);
+    leads = inl (journalled c.state, row, refl);
   }
 
-  call_leaves : (n p : ℕ) (call : Call) (a : Result Reply Refusal) →
+  none_more : Moves b c → GoesUnheard (journalled b.state) (journalled c.state) →
+      IsTaken meaning making b [] c
+  none_more is unheard = record {
+    pending = ap (λ v. v.pending) is ∙ sym (append-nil b.pending);
+    freezes = ap (λ v. v.freezes) is;
+    end = ap (λ v. v.end) is;
+    place = ap (λ v. v.place) is;
+    leads = inr (refl, unheard);
+  }
+
+  -- the records of a call, or of its undoing, by whether it only reads
+  read_or : (only_reads : Bool) (e : Event) (r : Record) → reads e.call e.reply ≡ only_reads →
+      IsTaken meaning making b (cond only_reads [] (r ∷ [])) c →
+      IsTaken meaning making b (unless_read e r) c
+  read_or only_reads e r is taken =
+      subst (λ x. IsTaken meaning making b (cond x [] (r ∷ [])) c) (sym is) taken
+
+  call_by : (only_reads : Bool) (n : ℕ) (e : Event) → reads e.call e.reply ≡ only_reads →
+      IsMade meaning making standing Appends Moves only_reads b n e c →
+      IsTaken meaning making b (unless_read e (record_of n e)) c
+  call_by true n e is made =
+      read_or true e (record_of n e) is
+      (none_more made.2 (read_unheard meaning b.state c.state n e made.0))
+  call_by false n e is made =
+      read_or false e (record_of n e) is
+      (one_more (record_of n e) (call_told meaning making b.state c.state n e is made.0) made.1)
+
+  -- The newest call is undone, which is the first of those that steps show.
+  module _ (live : LiveCalls) (shown : AreShown live b.state.entries) (n : ℕ) where
+    back_by : (x : Event) (rest : List (ℕ × Entry)) → IsNewestCall n b.state.entries x rest →
+        IsTaken meaning making b (unless_read x (Record.Back n)) c →
+        IsTaken meaning making b (back_records n (live n)) c
+    back_by x rest new taken =
+        subst (λ es. IsTaken meaning making b (back_records n es) c)
+        (sym (shown n ∙ newest_shown n b.state.entries x rest new)) taken
+
+    undone_leaves : IsUndone meaning making standing Appends Moves b n c →
+        IsTaken meaning making b (back_records n (live n)) c
+    undone_leaves (inl (written, appends)) =
+        let row = written.back in
+        back_by row.call row.rest row.newest
+        (read_or false row.call (Record.Back n) written.written
+        (one_more (Record.Back n) (back_told meaning making b.state c.state n written) appends))
+    undone_leaves (inr (row, room, moves)) =
+        back_by row.call row.rest row.newest
+        (read_or true row.call (Record.Back n) row.only_reads
+        (none_more moves (unread_unheard b.state c.state n row)))
+
+  call_leaves : (live : LiveCalls) (n p : ℕ) (call : Call) (a : Result Reply Refusal) →
       CallAnswers meaning making standing Appends Moves b n p call a c →
-      IsTaken meaning making b (records_of_action (Action.Call n (Target.Number p) call a)) c
-  call_leaves n p call (Ok reply) takes =
-      one_more (record_of n (record { at = p; call = call; reply = reply })) takes.0 takes.2
-  call_leaves n p call (Err e) takes = same takes.0
+      IsTaken meaning making b (records_of_action live (Action.Call n (Target.Number p) call a)) c
+  call_leaves live n p call (Ok reply) takes =
+      call_by (reads call reply) n (record { at = p; call = call; reply = reply }) refl takes.0
+  call_leaves live n p call (Err e) takes = same takes.0
 
-  later_leaves : (n p : ℕ) (call : Call) (a : Result (Unit {0}) Refusal) →
+  later_leaves : (live : LiveCalls) (n p : ℕ) (call : Call) (a : Result (Unit {0}) Refusal) →
       LaterAnswers meaning making standing Appends Moves b n p call a c →
-      IsTaken meaning making b (records_of_action (Action.Later n (Target.Number p) call a)) c
-  later_leaves n p call (Ok done) takes = one_more (later_record n p call) takes.0 takes.2
-  later_leaves n p call (Err e) takes = same takes.0
+      IsTaken meaning making b (records_of_action live (Action.Later n (Target.Number p) call a)) c
+  later_leaves live n p call (Ok done) takes = one_more (later_record n p call)
+      (later_told meaning making b.state c.state n p call takes.0) takes.2
+  later_leaves live n p call (Err e) takes = same takes.0
 
-  pub leaves : (action : Action) → Takes meaning making b action c →
-      IsTaken meaning making b (records_of_action action) c
-  leaves (Action.Make name kind (Ok place)) takes =
-      one_more (Record.Make kind name) takes.0 takes.1
-  leaves (Action.Make name kind (Err e)) takes = same takes.0
-  leaves (Action.Enter n (Ok done)) takes = one_more (Record.Begin n) takes.0 takes.2
-  leaves (Action.Enter n (Err e)) takes = same takes.0
-  leaves (Action.Call n (Target.Number p) call a) takes = call_leaves n p call a takes
-  leaves (Action.Call n (Target.Named name (Some p)) call (Ok reply)) takes =
-      call_leaves n p call (Ok reply) takes.1
-  leaves (Action.Call n (Target.Named name (Some p)) call (Err e)) takes = same takes.1.0
-  leaves (Action.Call n (Target.Named name None) call (Ok reply)) takes = absurd takes
-  leaves (Action.Call n (Target.Named name None) call (Err e)) takes = same takes.0
-  leaves (Action.Later n (Target.Number p) call a) takes = later_leaves n p call a takes
-  leaves (Action.Later n (Target.Named name (Some p)) call (Ok done)) takes =
-      later_leaves n p call (Ok done) takes.1
-  leaves (Action.Later n (Target.Named name (Some p)) call (Err e)) takes = same takes.1.0
-  leaves (Action.Later n (Target.Named name None) call (Ok done)) takes = absurd takes
-  leaves (Action.Later n (Target.Named name None) call (Err e)) takes = same takes.0
-  leaves (Action.Commit n (Ok place)) takes = one_more (Record.Commit n) takes.0 takes.1
-  leaves (Action.Commit n (Err e)) takes = same takes.0
-  leaves (Action.Back n (Ok true)) takes = one_more (Record.Back n) takes.0 takes.1
-  leaves (Action.Back n (Ok false)) takes = record {
-    pending = ap (λ v. v.pending) takes.2 ∙ sym (append-nil b.pending);
-    freezes = ap (λ v. v.freezes) takes.2;
-    end = ap (λ v. v.end) takes.2;
-    place = ap (λ v. v.place) takes.2;
-    leads = inr (refl, (n, takes.0));
-  }
-  leaves (Action.Back n (Err e)) takes = same takes.0
-  leaves (Action.Ended n (Ok done)) takes = one_more (Record.Ended n) takes.0 takes.1
-  leaves (Action.Ended n (Err e)) takes = same takes.0
-  leaves (Action.Cut count a) takes = absurd takes
-  leaves (Action.Freeze a) takes = absurd takes
+  pub leaves : (live : LiveCalls) → AreShown live b.state.entries → (action : Action) →
+      Takes meaning making b action c →
+      IsTaken meaning making b (records_of_action live action) c
+  leaves live shown (Action.Make name kind (Ok place)) takes = one_more (Record.Make kind name)
+      (make_told meaning making b.state c.state name kind takes.0) takes.1
+  leaves live shown (Action.Make name kind (Err e)) takes = same takes.0
+  leaves live shown (Action.Enter n (Ok done)) takes = one_more (Record.Begin n)
+      (begin_told meaning making b.state c.state n takes.0) takes.2
+  leaves live shown (Action.Enter n (Err e)) takes = same takes.0
+  leaves live shown (Action.Call n (Target.Number p) call a) takes =
+      call_leaves live n p call a takes
+  leaves live shown (Action.Call n (Target.Named name (Some p)) call (Ok reply)) takes =
+      call_leaves live n p call (Ok reply) takes.1
+  leaves live shown (Action.Call n (Target.Named name (Some p)) call (Err e)) takes = same takes.1.0
+  leaves live shown (Action.Call n (Target.Named name None) call (Ok reply)) takes = absurd takes
+  leaves live shown (Action.Call n (Target.Named name None) call (Err e)) takes = same takes.0
+  leaves live shown (Action.Later n (Target.Number p) call a) takes =
+      later_leaves live n p call a takes
+  leaves live shown (Action.Later n (Target.Named name (Some p)) call (Ok done)) takes =
+      later_leaves live n p call (Ok done) takes.1
+  leaves live shown (Action.Later n (Target.Named name (Some p)) call (Err e)) takes =
+      same takes.1.0
+  leaves live shown (Action.Later n (Target.Named name None) call (Ok done)) takes = absurd takes
+  leaves live shown (Action.Later n (Target.Named name None) call (Err e)) takes = same takes.0
+  leaves live shown (Action.Commit n (Ok place)) takes = one_more (Record.Commit n)
+      (commit_told meaning making b.state c.state n takes.0) takes.1
+  leaves live shown (Action.Commit n (Err e)) takes = same takes.0
+  leaves live shown (Action.Back n (Ok true)) takes = undone_leaves live shown n takes
+  leaves live shown (Action.Back n (Ok false)) takes =
+      none_more takes.2 (fall_unheard b.state c.state n takes.0)
+  leaves live shown (Action.Back n (Err e)) takes = same takes.0
+  leaves live shown (Action.Ended n (Ok done)) takes = one_more (Record.Ended n)
+      (ended_told meaning making b.state c.state n takes.0) takes.1
+  leaves live shown (Action.Ended n (Err e)) takes = same takes.0
+  leaves live shown (Action.Cut count a) takes = absurd takes
+  leaves live shown (Action.Freeze a) takes = absurd takes

@@ -1,10 +1,13 @@
 -- Histories of a book: its steps with their answers, and what they commit.
-use Rattle.std.specs.Prelude.{◌≡◌, ℕ, ◌+◌, ◌<◌, ◌≤◌, List, [], ◌∷◌, length, map, Bool, true, false}
+use Rattle.std.specs.Prelude.{◌≡◌, ℕ, ◌==◌, ◌+◌, ◌<◌, ◌≤◌, List, [], ◌∷◌, ◌++◌, length, drop}
+use Rattle.std.specs.Prelude.{cond, Bool, true, false}
 use Rattle.std.specs.Prelude.{Option, Some, None, Result, Ok, Err}
 use Rattle.std.specs.List.{flat_map}
 use Rattle.calls.specs.declared.refusal.Refusal.{Refusal}
 use Rattle.calls.specs.Contents.{Collection}
-use Rattle.calls.specs.Transactions.{Leads, Asked, PutOff, Transaction, Act, Begins, Asks, Commits}
+use Rattle.calls.specs.Reads.{reads}
+use Rattle.calls.specs.Transactions.{Leads, Event, Asked, PutOff, Transaction, Act, Begins, Asks}
+use Rattle.calls.specs.Transactions.{Commits}
 use Rattle.calls.specs.Transactions.{Creates, committed, Serial}
 use Rattle.record_format.specs.declared.record.Record.{Record}
 use Rattle.record_format.specs.Acts.{places}
@@ -40,22 +43,65 @@ acts_of_action action = []
 abbrev pub committed_by : List BookStep → List Transaction
 committed_by steps = committed (flat_map (λ x. acts_of_action x.action) steps)
 
--- What a step adds to the journal. A refused one adds nothing.
-abbrev pub records_of_action : Action → List Record
-records_of_action (Action.Make name kind (Ok place)) = Record.Make kind name ∷ []
-records_of_action (Action.Enter n (Ok done)) = Record.Begin n ∷ []
-records_of_action (Action.Call n target call (Ok reply)) = of_target target
-    (λ at. record_of n (record { at = at; call = call; reply = reply }) ∷ [])
-records_of_action (Action.Later n target call (Ok done)) =
-    of_target target (λ at. later_record n at call ∷ [])
-records_of_action (Action.Commit n (Ok place)) = Record.Commit n ∷ []
-records_of_action (Action.Back n (Ok true)) = Record.Back n ∷ []
-records_of_action (Action.Ended n (Ok done)) = Record.Ended n ∷ []
-records_of_action action = []
+-- the calls of each number that are not undone, the newest first
+abbrev pub LiveCalls : Type 0
+LiveCalls = ℕ → List Event
 
--- The records of the steps, in their order.
+-- the same, where one number has these
+abbrev pub with_calls : LiveCalls → ℕ → List Event → LiveCalls
+with_calls live n es = λ m. cond (m == n) es (live m)
+
+-- What steps show of them, with one step more.
+abbrev pub shows : LiveCalls → Action → LiveCalls
+shows live (Action.Call n target call (Ok reply)) = with_calls live n
+    (of_target target (λ at. record { at = at; call = call; reply = reply } ∷ []) ++ live n)
+shows live (Action.Back n (Ok true)) = with_calls live n (drop 1 (live n))
+shows live (Action.Commit n (Ok place)) = with_calls live n []
+shows live (Action.Ended n (Ok done)) = with_calls live n []
+shows live action = live
+
+-- the live calls behind the steps
+abbrev pub shown_by : LiveCalls → List BookStep → LiveCalls
+shown_by live [] = live
+shown_by live (x ∷ steps) = shown_by (shows live x.action) steps
+
+-- the record, unless it would tell of a call that only reads
+abbrev pub unless_read : Event → Record → List Record
+unless_read e r = cond (reads e.call e.reply) [] (r ∷ [])
+
+-- The record of the undoing of the first of these calls.
+abbrev pub back_records : ℕ → List Event → List Record
+back_records n [] = Record.Back n ∷ []
+back_records n (e ∷ es) = unless_read e (Record.Back n)
+
+-- What a step adds to the journal, where these calls are live. A refused one adds nothing, and one
+-- that only reads, or undoes what only read, adds nothing either.
+abbrev pub records_of_action : LiveCalls → Action → List Record
+records_of_action live (Action.Make name kind (Ok place)) = Record.Make kind name ∷ []
+records_of_action live (Action.Enter n (Ok done)) = Record.Begin n ∷ []
+records_of_action live (Action.Call n target call (Ok reply)) = of_target target
+    (λ at. let e : Event = record { at = at; call = call; reply = reply } in
+    unless_read e (record_of n e))
+records_of_action live (Action.Later n target call (Ok done)) =
+    of_target target (λ at. later_record n at call ∷ [])
+records_of_action live (Action.Commit n (Ok place)) = Record.Commit n ∷ []
+records_of_action live (Action.Back n (Ok true)) = back_records n (live n)
+records_of_action live (Action.Ended n (Ok done)) = Record.Ended n ∷ []
+records_of_action live action = []
+
+-- The records of the steps, in their order, where these calls were live before them.
+abbrev pub records_after : LiveCalls → List BookStep → List Record
+records_after live [] = []
+records_after live (x ∷ steps) =
+    records_of_action live x.action ++ records_after (shows live x.action) steps
+
+-- where no call is live
+abbrev pub no_calls : LiveCalls
+no_calls = λ n. []
+
+-- The records of the steps since a book was opened, in their order.
 abbrev pub records_by : List BookStep → List Record
-records_by steps = flat_map (λ x. records_of_action x.action) steps
+records_by steps = records_after no_calls steps
 
 -- What is done, without the number of records that a cut handed over.
 abbrev pub without_count : Action → Action

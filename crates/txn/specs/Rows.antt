@@ -7,6 +7,7 @@ use Rattle.calls.specs.declared.call.Call.{Call}
 use Rattle.calls.specs.declared.reply.Reply.{Reply}
 use Rattle.calls.specs.declared.refusal.Refusal.{Refusal}
 use Rattle.calls.specs.Rules.{need_of, AsksForValue}
+use Rattle.calls.specs.Reads.{reads}
 use Rattle.calls.specs.Transactions.{Event, own}
 use Rattle.abstract_locks.specs.Holds.{IsBusy, IsClear}
 use Rattle.undo_log.specs.Entries.{HasNoCall}
@@ -20,7 +21,8 @@ use Rattle.record_format.specs.declared.record.Record.{Record}
 use Rattle.record_format.specs.Acts.{places}
 use Rattle.record_format.specs.Records.{record_of_call, IsNumber}
 use Rattle.machine.specs.Machine.{State, IsRunning, CanBegin, BeginRow, CommitRow}
-use Rattle.machine.specs.Machine.{EndedRow, FallRow, MakeRow, CallRow, LaterRow, BackRow}
+use Rattle.machine.specs.Machine.{EndedRow, FallRow, MakeRow, CallRow, LaterRow, ReadRow, UnreadRow}
+use Rattle.machine.specs.Machine.{WrittenBackRow}
 use Rattle.machine.specs.Machines.{resting}
 use Rattle.txn.specs.declared.steps.Action.{Action}
 use Rattle.txn.specs.declared.steps.Target.{Target}
@@ -168,12 +170,23 @@ later_record n at call = Record.Later (record { number = n; collection = at; cal
 -- Appends: one record comes behind those that wait. Moves: none does.
 module _ {S X : Type 0} (meaning : Meaning S ℕ) (making : Making S) (at : X → Standing S)
     (Appends : X → Record → X → Type 0) (Moves : X → X → Type 0) where
+  -- A call is made: one that only reads leaves no record, where there would be room for it.
+  abbrev pub IsMade : (only_reads : Bool) → X → ℕ → Event → X → Type 0
+  IsMade true x n e y =
+      ReadRow meaning (at x).state n e (at y).state × ((at x).pending < 16384) × Moves x y
+  IsMade false x n e y = CallRow meaning (at x).state n e (at y).state × Appends x (record_of n e) y
+
+  -- The newest call is undone: of one that only reads no record tells.
+  abbrev pub IsUndone : X → ℕ → X → Type 0
+  IsUndone x n y =
+      (WrittenBackRow meaning (at x).state n (at y).state × Appends x (Record.Back n) y) ⊎
+      (UnreadRow (at x).state n (at y).state × ((at x).pending < 16384) × Moves x y)
+
   -- A call on the collection of a number.
   abbrev pub CallAnswers : X → (n p : ℕ) → Call → Result Reply Refusal → X → Type 0
   CallAnswers x n p call (Ok reply) y =
-      CallRow meaning (at x).state n (record { at = p; call = call; reply = reply }) (at y).state ×
-      ((at x).state.wear < 2 ^ 61) ×
-      Appends x (record_of n (record { at = p; call = call; reply = reply })) y
+      IsMade (reads call reply) x n (record { at = p; call = call; reply = reply }) y ×
+      ((at x).state.wear < 2 ^ 61)
   CallAnswers x n p call (Err e) y = (y ≡ x) × CallRefused meaning (at x) n p call e
 
   abbrev pub LaterAnswers : X → (n p : ℕ) → Call → Result (Unit {0}) Refusal → X → Type 0
@@ -215,8 +228,7 @@ module _ {S X : Type 0} (meaning : Meaning S ℕ) (making : Making S) (at : X �
       CommitRow meaning (at x).state n (at y).state × Appends x (Record.Commit n) y ×
       (place ≡ (at y).places)
   Answers x (Action.Commit n (Err e)) y = (y ≡ x) × CommitRefused (at x) n e
-  Answers x (Action.Back n (Ok true)) y =
-      BackRow meaning (at x).state n (at y).state × Appends x (Record.Back n) y
+  Answers x (Action.Back n (Ok true)) y = IsUndone x n y
   Answers x (Action.Back n (Ok false)) y =
       FallRow (at x).state n (at y).state × ((at x).pending < 16384) × Moves x y
   Answers x (Action.Back n (Err e)) y = (y ≡ x) × BackRefused (at x) n e

@@ -1,6 +1,6 @@
 // The book: transactions on shared collections, one step at a time.
 ghost use Rattle.std.specs.Prelude.{◌≡◌, ℕ, ◌<◌, ◌≤◌, ◌^◌, ◌+◌, [], ◌∷◌, ◌++◌, IfOk, IfErr};
-ghost use Rattle.std.specs.Prelude.{OnOk, OnErr, Ok, Err, IsOkUnless, length};
+ghost use Rattle.std.specs.Prelude.{OnOk, OnErr, Ok, Err, IsOkUnless, length, true, false};
 ghost use Rattle.calls.specs.Names.{IsName};
 ghost use Rattle.calls.specs.Transactions.{Whole, own};
 ghost use Rattle.undo_log.specs.Entries.{event_of};
@@ -20,6 +20,7 @@ ghost use Rattle.txn.specs.Freezing.{FreezeAnswers};
 ghost use Rattle.machine.specs.Transactions.{RunsWhole};
 ghost use Rattle.machine.specs.Sound.{IsSound};
 ghost use Rattle.calls.specs.Rules.{need_of};
+ghost use Rattle.calls.specs.Reads.{reads};
 
 use blocks::{Image, Outbox, Pending};
 use calls::limits::{MAX_CALLS, MAX_LIVE, MAX_PENDING, NUMBER_END};
@@ -181,7 +182,8 @@ impl<B: Parts + Coded> Book<B> {
     }
 
     /// The transaction's call on a collection, made at once under the need that it has with its
-    /// reply.
+    /// reply. A call that only reads is not journalled: no record waits for it, and it does not
+    /// wear. Its need is held to the end as that of another.
     ///
     /// NoSuchTxn, Falling, NoSuchCollection, WrongKind, BadArg for a call that no client can ask,
     /// TooLong, Worn, TooManyCalls at 1,024 calls and laters, Backlog, NoMemory in the look-up for
@@ -248,7 +250,8 @@ impl<B: Parts + Coded> Book<B> {
     }
 
     /// Undoes the newest call of the transaction that is not undone, and answers true; false where
-    /// none is left. From then on the transaction is falling. It holds its needs until `ended`.
+    /// none is left. From then on the transaction is falling. It holds its needs until `ended`. No
+    /// record tells of the undoing of a call that only read, and it does not wear.
     ///
     /// NoSuchTxn, Backlog, NoMemory.
     pub fn back(&mut self, number: u64) -> Result<bool, Refusal>
@@ -261,6 +264,10 @@ impl<B: Parts + Coded> Book<B> {
         if !self.machine.has_call(number) {
             self.machine.fall(number);
             return Ok(false);
+        }
+        if self.machine.newest_reads(number) {
+            self.machine.unread(number);
+            return Ok(true);
         }
         self.pending.reserve(MARK_LEN)?;
         self.machine.back(number)?;
@@ -343,15 +350,56 @@ impl<B: Parts + Coded> Book<B> {
         }
         let need = call.need(reply);
         self.machine.test(number, col, &need)?;
-        self.note_call(number, col, call, reply)
+        self.make_call(number, col, call, reply)
     }
 
-    // Makes the call under its record, from its parts.
+    // Makes the call, under its record unless it only reads.
+    fn make_call(&mut self, number: u64, col: u8, call: &Call, reply: &Reply) -> Result<(), Refusal>
+        requires open { IsOpen (CanAsk B.meaning self.old.state.now col call.now)
+            (standing self.old) number }
+        requires can { CanCall B.meaning self.old.state number
+            (record { at = col; call = call.now; reply = reply.now }) }
+        requires short { IsShortReply reply.now }
+        ensures ok { OnOk result (Takes B.meaning B.making self.old
+            (Action.Call number (Target.Number col) call.now (Ok reply.now)) self.new) }
+        ensures same { OnErr result (self.new ≡ self.old) }
+        ensures refusal { IsOkUnless result Refusal.NoMemory }
+        ensures settled { (c : B) → IsSettled B.meaning self.old.state c →
+            IsSettled B.meaning self.new.state c }
+    {
+        if call.reads(reply) {
+            self.note_read(number, col, call, reply)
+        } else {
+            self.note_call(number, col, call, reply)
+        }
+    }
+
+    // Notes the call, which only reads.
+    fn note_read(&mut self, number: u64, at: u8, call: &Call, reply: &Reply) -> Result<(), Refusal>
+        requires open { IsOpen (CanAsk B.meaning self.old.state.now at call.now)
+            (standing self.old) number }
+        requires can { CanCall B.meaning self.old.state number
+            (record { at = at; call = call.now; reply = reply.now }) }
+        requires only_reads { reads call.now reply.now ≡ true }
+        ensures ok { OnOk result (Takes B.meaning B.making self.old
+            (Action.Call number (Target.Number at) call.now (Ok reply.now)) self.new) }
+        ensures same { OnErr result (self.new ≡ self.old) }
+        ensures refusal { IsOkUnless result Refusal.NoMemory }
+        ensures settled { (c : B) → IsSettled B.meaning self.old.state c →
+            IsSettled B.meaning self.new.state c }
+    {
+        let asked = logged(at, call, reply)?;
+        self.machine.read(number, asked)?;
+        Ok(())
+    }
+
+    // Makes the call, which does not only read, under its record, from its parts.
     fn note_call(&mut self, number: u64, col: u8, call: &Call, reply: &Reply) -> Result<(), Refusal>
         requires open { IsOpen (CanAsk B.meaning self.old.state.now col call.now)
             (standing self.old) number }
         requires can { CanCall B.meaning self.old.state number
             (record { at = col; call = call.now; reply = reply.now }) }
+        requires written { reads call.now reply.now ≡ false }
         requires short { IsShortReply reply.now }
         ensures ok { OnOk result (Takes B.meaning B.making self.old
             (Action.Call number (Target.Number col) call.now (Ok reply.now)) self.new) }

@@ -14,6 +14,7 @@ use Rattle.undo_log.specs.Entries.{IsNewestCall}
 use Rattle.undo_log.specs.Logs.{Statuses, Lives, fallen}
 use Rattle.record_format.specs.declared.record.Record.{Record}
 use Rattle.record_format.specs.Records.{IsNumber}
+use Rattle.machine.proofs.JoinedEntries.{calls_append}
 use Rattle.machine.proofs.LiveNumbers.{nobody, fallen_is, lives_more, lives_fewer}
 use Rattle.machine.proofs.Sizes.{len_fallen, len_left}
 use Rattle.machine.proofs.Theory.Lists.{own_others_other}
@@ -43,16 +44,11 @@ own-other : (m n : ℕ) (e : Entry) (es : List (ℕ × Entry)) → (m ≡ n → 
     own m ((n, e) ∷ es) ≡ own m es
 own-other m n e es other = own_by (n == m) m n e es refl other
 
-calls_of-append : (xs ys : List Entry) → calls_of (xs ++ ys) ≡ calls_of xs ++ calls_of ys
-calls_of-append [] ys = refl
-calls_of-append (Asked e ∷ xs) ys = ap (λ l. e ∷ l) (calls_of-append xs ys)
-calls_of-append (PutOff at c ∷ xs) ys = calls_of-append xs ys
-
 calls_own : (n : ℕ) (xs ys : List (ℕ × Entry)) →
     length (calls_of (own n (xs ++ ys))) ≡
     length (calls_of (own n xs)) + length (calls_of (own n ys))
 calls_own n xs ys = ap (λ l. length (calls_of l)) (own-append n xs ys) ∙
-    ap length (calls_of-append (own n xs) (own n ys)) ∙
+    ap length (calls_append (own n xs) (own n ys)) ∙
     length-append (calls_of (own n xs)) (calls_of (own n ys))
 
 -- without its newest call a number has one call less, and another has as many

@@ -21,6 +21,7 @@ use Rattle.blocks.specs.Carried.{Carries}
 use Rattle.blocks.specs.Packings.{joined, AreWhole}
 use Rattle.blocks.proofs.Places.{places_append}
 use Rattle.images.specs.Images.{IsPackedImage}
+use Rattle.machine.specs.Machine.{journalled}
 use Rattle.machine.specs.Sound.{IsSound}
 use Rattle.txn.specs.declared.steps.Action.{Action}
 use Rattle.txn.specs.declared.steps.BookStep.{BookStep}
@@ -82,15 +83,16 @@ freeze_stays b c (Ok image) froze = ap (λ (x : BookState). x.state) froze.1
 freeze_stays b c (Err Refusal.NoMemory) froze = ap (λ (x : BookState). x.state) froze
 freeze_stays b c (Err e) froze = absurd froze
 
--- A book that freezes and a keeper that has received blocks of it: the image stands for all records,
--- and the keeper may begin it.
+-- A book that freezes and a keeper that has received blocks of it: the image stands for all
+-- records, and the keeper may begin it.
 module _ {D : Type 0} (g : Ghosts D) (start : List Collection) (wear : ℕ) (steps : List BookStep)
     (book : BookState) (received waits : List Block) (groups : List (List Record))
     (images : List Image) (begun : List BegunImage) (k : KeeperState D)
     (handed : HasHanded catalog_meaning catalog_making (λ v. v) start wear steps book
     (received ++ waits) groups images)
-    (keeps : HasReceived g.seen g.may_leave start wear (records_by steps) book.state begun received
-    k) (t : BookState) (image : Image) (froze : FreezeAnswers (λ v. v) book (Ok image) t)
+    (keeps : HasReceived g.seen g.may_leave start wear (records_by steps) (journalled book.state)
+    begun received k) (t : BookState) (image : Image)
+    (froze : FreezeAnswers (λ v. v) book (Ok image) t)
     (kept : IsKept catalog_meaning catalog_making AreShort (IsSound catalog_meaning catalog_making)
     book) where
   -- the names of what the book holds are good
@@ -107,18 +109,20 @@ module _ {D : Type 0} (g : Ghosts D) (start : List Collection) (wear : ℕ) (ste
 
   -- it is read up to a state that lags behind the book's
   is_read : (s : State) × Leads Reads (joined packed) Unread (InJournal book.next s 0) ×
-      Lags s book.state
+      Lags s (journalled book.state)
   is_read = frozen_reads book kept names_good.0 names_good.1 image.blocks.items froze.0.packed
 
   abbrev pub begins : BegunImage
   begins = record { covered = records_by steps; blocks = packed }
 
   -- and stands for all records
-  pub stands : StandIn start wear (records_by steps) book.state packed (records_by steps)
+  pub stands : StandIn start wear (records_by steps) (journalled book.state) packed
+      (records_by steps)
   stands =
       let old = keeps.stands in
-      (stands_whole start wear (records_by steps) book.state packed old.trail
-      (all_lead start wear (records_by steps) book.state keeps.old keeps.covered old) old.trails
+      (stands_whole start wear (records_by steps) (journalled book.state) packed old.trail
+      (all_lead start wear (records_by steps) (journalled book.state) keeps.old keeps.covered old)
+      old.trails
       is_read.0
       (record {
         next = book.next;
@@ -180,11 +184,12 @@ module _ {D : Type 0} (g : Ghosts D) (start : List Collection) (wear : ℕ) (ste
 
   pub begins_image : (l : KeeperState D) (r : Result (Unit {0}) Refusal) →
       BeginKeeps g image r k l →
-      HasReceived g.seen g.may_leave start wear (records_by steps) book.state
+      HasReceived g.seen g.may_leave start wear (records_by steps) (journalled book.state)
       (begun_with begins begun r) received l
       × LeavesKept g start (records_by steps) k l
   begins_image l r may =
-      may start wear (records_by steps) book.state begun received received_begins.0 begins
+      may start wear (records_by steps) (journalled book.state) begun received received_begins.0
+      begins
       received_begins.1 received_begins.2 is_for stands covers_received covers_use keeps
 
 module _ {D : Type 0} (g : Ghosts D) (start : List Collection) (past : Past) (w : Parts D)
@@ -200,8 +205,8 @@ module _ {D : Type 0} (g : Ghosts D) (start : List Collection) (past : Past) (w 
         HasHanded catalog_meaning catalog_making (λ v. v) start had.wear
         (had.steps ++ alone_step (Action.Freeze r) ∷ []) t (had.received ++ w.transit) had.groups
         images → AreImagesFor images begun →
-        HasReceived g.seen g.may_leave start had.wear (records_by had.steps) w.book.state begun
-        had.received l → w.keeper.mark ≡ l.mark →
+        HasReceived g.seen g.may_leave start had.wear (records_by had.steps)
+        (journalled w.book.state) begun had.received l → w.keeper.mark ≡ l.mark →
         HasPast g.seen g.may_leave start (past ++ frozen_step ∷ [])
         (record w { book = t; keeper = l })
     past_on l images begun same handed for keeps mark =
@@ -219,10 +224,10 @@ module _ {D : Type 0} (g : Ghosts D) (start : List Collection) (past : Past) (w 
           handed = handed;
           begun = begun;
           are_begun = for;
-          keeps = subst (λ rs. HasReceived g.seen g.may_leave start had.wear rs t.state begun
-              had.received l) (sym all)
-              (subst (λ s. HasReceived g.seen g.may_leave start had.wear (records_by had.steps) s
-              begun had.received l) (sym same) keeps);
+          keeps = subst (λ rs. HasReceived g.seen g.may_leave start had.wear rs
+              (journalled t.state) begun had.received l) (sym all)
+              (subst (λ (s : State). HasReceived g.seen g.may_leave start had.wear
+              (records_by had.steps) (journalled s) begun had.received l) (sym same) keeps);
           marked = had.marked ∙ mark;
           told = greatest_told-push past Step.Freeze (outcome (alone Answer.Frozen) r) w.mark
               had.told (omega (arith, freeze_tells r));
@@ -259,8 +264,8 @@ module _ {D : Type 0} (g : Ghosts D) (start : List Collection) (past : Past) (w 
       where
         begun_past : (l : KeeperState D) (r : Result (Unit {0}) Refusal) →
             w.keeper.mark ≡ l.mark →
-            HasReceived g.seen g.may_leave start had.wear (records_by had.steps) w.book.state
-            (begun_with begun_now had.begun r) had.received l →
+            HasReceived g.seen g.may_leave start had.wear (records_by had.steps)
+            (journalled w.book.state) (begun_with begun_now had.begun r) had.received l →
             HasPast g.seen g.may_leave start (past ++ frozen_step r ∷ [])
             (record w { book = t; keeper = l })
         begun_past l (Ok done) mark has =

@@ -7,7 +7,6 @@ use Rattle.std.specs.List.{AllByRecursion, filter}
 use Rattle.std.proofs.lemmas.List.{map-append, length-append}
 use Rattle.std.proofs.lemmas.List.Elements.{All-from_recursion, Contains-push, Contains-push_cases}
 use Rattle.std.proofs.lemmas.List.Elements.{Contains-append_left, Contains-append_right}
-use Rattle.std.proofs.lemmas.List.Elements.{Contains-append_cases}
 use Rattle.calls.specs.declared.kind.Kind.{Kind}
 use Rattle.calls.specs.declared.call.Call.{Call}
 use Rattle.calls.specs.declared.reply.Reply.{Reply}
@@ -30,6 +29,7 @@ use Rattle.machine.specs.Theory.Loads as loads
 use Rattle.machine.specs.Theory.Collections.{collection_rules, later_of}
 use Rattle.machine.proofs.Theory.Lists.{at, filter_has, has_filter, has_left, has_right}
 use Rattle.machine.proofs.OwnedEntries.{owner, left}
+use Rattle.machine.proofs.LeftCalls.{contains_has}
 use Rattle.machine.proofs.TheoryRows.{needs_more}
 use Rattle.repetition.specs.Steps.{State}
 use Rattle.repetition.specs.Reading.{Progress, InCalls, HoldsLive, Reads, ReadsLive}
@@ -45,20 +45,6 @@ Theirs = theory.State (List Collection) (ℕ × Event) Hold
 -- ---- what is contained
 
 module _ {X : Type 0} where
-  holds_first : (y : X) (ys : List X) (x : X) → Contains (y ∷ ys) x → (y ≡ x) ⊎ Contains ys x
-  holds_first y ys x h =
-      ⊎_elim
-      (λ (one : Contains (y ∷ []) x). inl
-      (⊎_elim (λ none. let below = none.1 in absurd (omega arith)) (λ same. same)
-      (Contains-push_cases [] y x one)))
-      (λ (more : Contains ys x). inr more)
-      (Contains-append_cases (y ∷ []) ys x h)
-
-  contains_has : (xs : List X) (x : X) → Contains xs x → Has xs x
-  contains_has [] x h = let below = h.1 in absurd (omega arith)
-  contains_has (y ∷ ys) x h = ⊎_elim (λ (same : y ≡ x). inl same)
-      (λ (more : Contains ys x). inr (contains_has ys x more)) (holds_first y ys x h)
-
   each_held : (P : X → Type 0) (xs : List X) → ((x : X) → Contains xs x → P x) → AllByRecursion P xs
   each_held P [] held = tt
   each_held P (y ∷ ys) held = (

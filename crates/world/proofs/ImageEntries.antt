@@ -10,14 +10,15 @@ use Rattle.calls.specs.declared.reply.Reply.{Reply}
 use Rattle.calls.specs.Contents.{Collection, after_at}
 use Rattle.catalog.specs.Laws.OneContent.{kind_after}
 use Rattle.calls.specs.Rules.{inverse_of}
+use Rattle.calls.specs.Reads.{reads}
 use Rattle.calls.specs.Transactions.{Event, Entry, Asked, PutOff, Leads, calls_of, own}
 use Rattle.undo_log.specs.Logs.{Statuses, Falls}
 use Rattle.catalog.specs.Places.{Belongs}
 use Rattle.catalog.specs.Laws.ByPlace.{answered_belongs}
 use Rattle.record_format.specs.declared.record.Record.{Record}
 use Rattle.record_format.specs.Records.{call_record}
-use Rattle.machine.specs.Machine.{Does}
-use Rattle.images.specs.LiveRecords.{unless_falling, live_record}
+use Rattle.machine.specs.Machine.{Does, journalled_entries}
+use Rattle.images.specs.LiveRecords.{unless_falling, unless_read, live_record}
 use Rattle.machine.specs.Sound.{owned, all_owned}
 use Rattle.machine.specs.Theory.Rules.{Has}
 use Rattle.machine.specs.Theory.Journal as journal
@@ -56,14 +57,23 @@ put_record (Some false) n at c rs us e =
 put_record None n at c rs us e =
     ap (λ l. Record.LiveLater (record { number = n; collection = at; call = c }) ∷ l) e
 
+call_record_of : (b : Bool) (live : Statuses) (n : ℕ) (e : Event) (rs : List Record)
+    (es : List (ℕ × Entry)) → rs ≡ map entry_record (kept live es) →
+    unless_read b (entry_record (n, Asked e)) ++ rs ≡
+    map entry_record (kept live (cond (not b) ((n, Asked e) ∷ es) es))
+call_record_of true live n e rs es is = is
+call_record_of false live n e rs es is = ap (λ l. entry_record (n, Asked e) ∷ l) is
+
+-- The records of an image are those of the entries that are journalled and kept.
 pub kept_records : (live : Statuses) (es : List (ℕ × Entry)) →
-    flat_map (live_record live) es ≡ map entry_record (kept live es)
+    flat_map (live_record live) es ≡ map entry_record (kept live (journalled_entries es))
 kept_records live [] = refl
 kept_records live ((n, Asked e) ∷ es) =
-    ap (λ l. entry_record (n, Asked e) ∷ l) (kept_records live es)
+    call_record_of (reads e.call e.reply) live n e (flat_map (live_record live) es)
+    (journalled_entries es) (kept_records live es)
 kept_records live ((n, PutOff at c) ∷ es) =
-    put_record (maps.get live n) n at c (flat_map (live_record live) es) (kept live es)
-    (kept_records live es)
+    put_record (maps.get live n) n at c (flat_map (live_record live) es)
+    (kept live (journalled_entries es)) (kept_records live es)
 
 -- ---- they are some of all
 

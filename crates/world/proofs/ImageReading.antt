@@ -19,7 +19,7 @@ use Rattle.blocks.specs.Packings.{joined}
 use Rattle.txn.specs.Books.{BookState, IsKept}
 use Rattle.images.specs.Images.{IsPackedImage}
 use Rattle.images.specs.LiveRecords.{live_records}
-use Rattle.machine.specs.Machine.{Does}
+use Rattle.machine.specs.Machine.{Does, journalled}
 use Rattle.machine.specs.Machines.{resting, IsAskedEntry, IsUpheld}
 use Rattle.machine.specs.Sound.{IsSound, Shows, all_owned}
 use Rattle.machine.specs.Theory.Rules.{Has}
@@ -30,6 +30,7 @@ use Rattle.machine.proofs.Theory.Lists.{at, filter_has}
 use Rattle.machine.proofs.Theory.Loading.{image_loads}
 use Rattle.machine.proofs.LiveNumbers.{nobody}
 use Rattle.machine.proofs.OwnedEntries.{owner}
+use Rattle.machine.proofs.Readings.{journalled_upheld}
 use Rattle.repetition.specs.Steps.{State, Repeats}
 use Rattle.repetition.specs.Reading.{Progress, Unread, InCollections, InJournal, Reads, Settles}
 use Rattle.repetition.specs.Reading.{AreAccepted}
@@ -262,12 +263,17 @@ pub frozen_reads : (b : BookState (List Collection)) →
     IsKept catalog_meaning catalog_making AreShort (IsSound catalog_meaning catalog_making) b →
     AreNamed b.state.now → AreDistinct (names_of b.state.now) → (blocks : List (Vec ℕ Global)) →
     (packed : IsPackedImage (λ v. v) b.next b.state blocks) →
-    (s : State) × Leads Reads (joined packed.groups) Unread (InJournal b.next s 0) × Lags s b.state
+    (s : State) × Leads Reads (joined packed.groups) Unread (InJournal b.next s 0) ×
+    Lags s (journalled b.state)
 frozen_reads b kept good distinct blocks packed =
     let tells = packed.tells in
-    image_lead b.state kept.upheld tells.numbers tells.are_live tells.is_image.rise b.next
-    (live_records b.state) (joined packed.groups) (kept_records b.state.live b.state.entries)
-    tells.is_image kept.below good distinct
+    let s : State = journalled b.state in
+    image_lead s (journalled_upheld catalog_meaning catalog_making AreShort laws b.state
+    kept.upheld)
+    tells.numbers tells.are_live tells.is_image.rise b.next (live_records b.state)
+    (joined packed.groups) (kept_records b.state.live b.state.entries) tells.is_image kept.below
+    good
+    distinct
 
 -- ---- names
 

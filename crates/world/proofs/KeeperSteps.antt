@@ -14,6 +14,7 @@ use Rattle.record_format.specs.declared.record.Record.{Record}
 use Rattle.blocks.specs.declared.block.Block.{Block}
 use Rattle.blocks.specs.declared.block.Image.{Image}
 use Rattle.blocks.specs.Carried.{Carries}
+use Rattle.machine.specs.Machine.{journalled}
 use Rattle.repetition.specs.Journals.{records_in}
 use Rattle.txn.specs.Handing.{IsBetween, HasHanded}
 use Rattle.txn.specs.Histories.{records_by}
@@ -180,8 +181,8 @@ module _ {D : Type 0} (g : Ghosts D) (start : List Collection) (past : Past) (w 
             ap (λ l. l ++ w.book.pending)
             (sym (ap records_in parts.2 ∙ joined-append first more)) ∙ sym had.handed.records,
       ) in
-      let on = turns start had.wear (records_by had.steps) w.book.state had.begun had.received bs
-      first received parts.3 begins
+      let on = turns start had.wear (records_by had.steps) (journalled w.book.state) had.begun
+      had.received bs first received parts.3 begins
       (uncrossed_front had.begun first more (subst (Uncrossed had.begun) parts.2
       (uncrossed had.groups w.book had.handed.end had.images had.begun had.are_begun
       had.handed.between))) had.keeps in
@@ -211,8 +212,8 @@ module _ {D : Type 0} (g : Ghosts D) (start : List Collection) (past : Past) (w 
       HasPast g.seen g.may_leave start (past ++ x ∷ []) (record w { keeper = l; mark = mark })
       × Yielded x l
   imaged x l mark none images same rises tells =
-      let on = images start had.wear (records_by had.steps) w.book.state had.begun had.received
-      had.keeps in (
+      let on = images start had.wear (records_by had.steps) (journalled w.book.state) had.begun
+      had.received had.keeps in (
         record {
           wear = had.wear;
           steps = had.steps;

@@ -1,4 +1,5 @@
 pub mod PastLemmas
+pub mod Readings
 pub mod StepLemmas
 pub mod KeeperSteps
 pub mod CoreLemmas

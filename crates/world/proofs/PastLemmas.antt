@@ -10,10 +10,9 @@ use Rattle.calls.specs.Transactions.{Transaction, Act, committed_after, committe
 use Rattle.machine.proofs.RecordRuns.{gathered, committed_append}
 use Rattle.txn.specs.declared.steps.Action.{Action}
 use Rattle.txn.specs.declared.steps.BookStep.{BookStep}
-use Rattle.txn.specs.Histories.{acts_of_action, committed_by, records_by}
+use Rattle.txn.specs.Histories.{acts_of_action, committed_by}
 use Rattle.txn.specs.Histories.{without_count, uncounted}
-use Rattle.txn.proofs.Handings.{committed_records}
-use Rattle.checkpoint.specs.Crash.{Yields, committed_of}
+use Rattle.checkpoint.specs.Crash.{Yields}
 use Rattle.checkpoint.proofs.YieldLemmas.{prefix_trans}
 use Rattle.world.specs.declared.steps.Step.{Step}
 use Rattle.world.specs.declared.steps.Answer.{Answer}
@@ -52,11 +51,10 @@ acts_uncounted : (steps : List BookStep) →
 acts_uncounted [] = refl
 acts_uncounted (x ∷ steps) = (λ i. uncounted_acts x.action i ++ acts_uncounted steps i)
 
--- The past commits what the records of its steps commit.
+-- The past commits what its steps do.
 pub committed_are : (past : Past) (steps : List BookStep) → AreBookSteps past steps →
-    committed_in past ≡ committed_of (records_by steps)
-committed_are past steps are = ap committed_by (sym are) ∙ ap committed (acts_uncounted steps) ∙
-    committed_records steps
+    committed_in past ≡ committed_by steps
+committed_are past steps are = ap committed_by (sym are) ∙ ap committed (acts_uncounted steps)
 
 -- more of a past commits more
 pub committed_in-append : (past more : Past) → IsPrefix (committed_in past)

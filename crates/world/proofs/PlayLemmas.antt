@@ -13,14 +13,15 @@ use Rattle.world.specs.declared.steps.Step.{Step}
 use Rattle.world.specs.declared.steps.Answer.{Answer}
 use Rattle.world.specs.Pasts.{Past, committed_in, greatest_told, acknowledged, AreAnswered, Draws}
 use Rattle.checkpoint.specs.Crash.{Yields}
-use Rattle.checkpoint.proofs.YieldLemmas.{take_longer, all_settle}
-use Rattle.txn.specs.Histories.{records_by}
+use Rattle.checkpoint.proofs.YieldLemmas.{take_longer}
+use Rattle.txn.specs.Books.{standing}
 use Rattle.world.specs.Pasts.{IsOneHistory}
 use Rattle.world.specs.Worlds.{Parts, HasPast}
 use Rattle.world.specs.Moves.{Whole, Moves}
 use Rattle.world.specs.OneStep.{parts, TakesStep}
 use Rattle.world.proofs.PastLemmas.{committed_are, committed_in-append, prefix_take, yields_on}
 use Rattle.world.proofs.PastLemmas.{yields_fewer}
+use Rattle.world.proofs.Readings.{comes_to}
 use Rattle.world.proofs.StepLemmas.{few_marked, rests}
 
 -- What the past says of the book.
@@ -28,13 +29,12 @@ pub one_history : {D : Type 0} (seen : D → List ℕ) (may_leave : D → List �
     (start : List Collection) (past : Past) (w : Parts D) →
     HasPast seen may_leave start past w → IsOneHistory start past w.book
 one_history seen may_leave start past w had =
-    let all = all_settle start had.wear (records_by had.steps) w.book.state had.keeps.old
-    had.keeps.covered had.keeps.stands in
+    let comes = comes_to start had.wear had.steps (standing w.book) had.handed.legal in
     record {
-      content = all.0;
-      settled = all.1;
-      serial = subst (λ ts. Serial ts start all.0) (sym (committed_are past had.steps had.are))
-          all.2;
+      content = comes.content;
+      settled = comes.is_settled;
+      serial = subst (λ ts. Serial ts start comes.content)
+          (sym (committed_are past had.steps had.are)) comes.serial;
     }
 
 -- one step with its answer more

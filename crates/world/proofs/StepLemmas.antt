@@ -13,18 +13,18 @@ use Rattle.disk_model.proofs.Walk.{weaker}
 use Rattle.record_format.specs.declared.record.Record.{Record}
 use Rattle.record_format.specs.Records.{IsRecord}
 use Rattle.blocks.specs.declared.block.Block.{Block}
+use Rattle.machine.specs.Machine.{journalled}
 use Rattle.repetition.specs.Steps.{State, Repeats}
 use Rattle.txn.specs.declared.steps.Action.{Action}
 use Rattle.txn.specs.declared.steps.BookStep.{BookStep}
 use Rattle.txn.specs.Books as books
-use Rattle.txn.specs.Histories.{records_of_action, records_by, without_count}
+use Rattle.txn.specs.Histories.{records_by, without_count}
 use Rattle.txn.specs.Handing.{HasHanded}
-use Rattle.txn.proofs.Takings.{leaves}
-use Rattle.txn.proofs.Handings.{records_by-push, takes_on, cuts_on}
+use Rattle.txn.proofs.Handings.{records_by-push, records_then, taken_left, takes_on, cuts_on}
 use Rattle.checkpoint.specs.Crash.{Yields, committed_of}
 use Rattle.checkpoint.specs.Keepers.{KeeperState}
 use Rattle.checkpoint.specs.Keeping.{BegunImage, HasReceived}
-use Rattle.checkpoint.proofs.ReceivedLemmas.{received_push, received_fall, still_kept, mark_few}
+use Rattle.checkpoint.proofs.ReceivedLemmas.{received_push, received_unheard, still_kept, mark_few}
 use Rattle.world.specs.declared.steps.Step.{Step}
 use Rattle.world.specs.declared.steps.Answer.{Answer}
 use Rattle.world.specs.Pasts.{Past, BookState, action_of, of_no_client, committed_in, told, outcome}
@@ -32,6 +32,7 @@ use Rattle.world.specs.Pasts.{BookTakes, CoreStep}
 use Rattle.world.specs.Worlds.{Parts, HasPast}
 use Rattle.world.proofs.PastLemmas.{are_push, are_still, committed_are}
 use Rattle.world.proofs.PastLemmas.{greatest_told-push, yields_on}
+use Rattle.world.proofs.Readings.{as_many_committed, history_yields}
 use Rattle.catalog.specs.Meaning.{catalog_meaning, catalog_making}
 
 -- The records of a book grow.
@@ -86,17 +87,29 @@ cut_action (Err e) = refl
 module _ {D : Type 0} (seen : D → List ℕ) (may_leave : D → List ℕ → Type 0)
     (start : List Collection) (past : Past) (w : Parts D)
     (had : HasPast seen may_leave start past w) where
+  -- the mark counts transactions that the records commit
+  few_kept : w.keeper.mark ≤ length (committed_of (records_by had.steps))
+  few_kept = mark_few seen may_leave start had.wear (records_by had.steps) (journalled w.book.state)
+      had.begun had.received w.keeper had.keeps
+
+  -- What is yielded of what the records commit is yielded of what the past did.
+  yields_now : (c : List ℕ) → Yields start (committed_of (records_by had.steps))
+      (take w.keeper.mark (committed_of (records_by had.steps))) c →
+      Yields start (committed_in past) (take w.mark (committed_in past)) c
+  yields_now c y =
+      subst (λ m. Yields start (committed_in past) (take m (committed_in past)) c) (sym had.marked)
+      (subst (λ ts. Yields start ts (take w.keeper.mark ts) c)
+      (sym (committed_are past had.steps had.are))
+      (history_yields start had.wear had.steps (books.standing w.book) had.handed.legal
+      w.keeper.mark few_kept c y))
+
   -- what a stop leaves now, or at a moment, is what the past yields that goes on so
   pub yields_then : (x : Step × Answer) (c : List ℕ) →
       Yields start (committed_of (records_by had.steps))
       (take w.keeper.mark (committed_of (records_by had.steps))) c →
       Yields start (committed_in (past ++ x ∷ [])) (take w.mark (committed_in past)) c
-  yields_then x c y =
-      let same = sym (committed_are past had.steps had.are) in
-      yields_on start past (x ∷ []) (take w.mark (committed_in past)) c
-      (subst (λ m. Yields start (committed_in past) (take m (committed_in past)) c)
-      (sym had.marked)
-      (subst (λ ts. Yields start ts (take w.keeper.mark ts) c) same y))
+  yields_then x c y = yields_on start past (x ∷ []) (take w.mark (committed_in past)) c
+      (yields_now c y)
 
   pub moments_then : (moment : D → ℕ) (left_since : D → ℕ → List ℕ → Type 0) (disk : D)
       (x : Step × Answer) →
@@ -119,13 +132,12 @@ module _ {D : Type 0} (seen : D → List ℕ) (may_leave : D → List ℕ → Ty
       LeavesOnly moment left_since w.keeper.disk w.keeper.disk
       (Yields start (committed_in past) (take w.mark (committed_in past)))
   rests moment left_since only_now =
-      let same = sym (committed_are past had.steps had.are) in
-      subst (λ m. LeavesOnly moment left_since w.keeper.disk w.keeper.disk
-      (Yields start (committed_in past) (take m (committed_in past)))) (sym had.marked)
-      (subst (λ ts. LeavesOnly moment left_since w.keeper.disk w.keeper.disk
-      (Yields start ts (take w.keeper.mark ts))) same
-      (still_kept seen may_leave start had.wear (records_by had.steps) w.book.state had.begun
-      had.received w.keeper had.keeps moment left_since only_now))
+      weaker moment left_since w.keeper.disk w.keeper.disk
+      (Yields start (committed_of (records_by had.steps))
+      (take w.keeper.mark (committed_of (records_by had.steps))))
+      (Yields start (committed_in past) (take w.mark (committed_in past)))
+      (still_kept seen may_leave start had.wear (records_by had.steps) (journalled w.book.state)
+      had.begun had.received w.keeper had.keeps moment left_since only_now) yields_now
 
   -- and what it yields that goes on
   pub quiet : (moment : D → ℕ) (left_since : D → ℕ → List ℕ → Type 0) →
@@ -135,15 +147,18 @@ module _ {D : Type 0} (seen : D → List ℕ) (may_leave : D → List ℕ → Ty
       (Yields start (committed_in (past ++ x ∷ [])) (take w.mark (committed_in past)))
   quiet moment left_since only_now x =
       moments_then moment left_since w.keeper.disk x
-      (still_kept seen may_leave start had.wear (records_by had.steps) w.book.state had.begun
-      had.received w.keeper had.keeps moment left_since only_now)
+      (still_kept seen may_leave start had.wear (records_by had.steps) (journalled w.book.state)
+      had.begun had.received w.keeper had.keeps moment left_since only_now)
 
   -- the mark counts transactions that are committed
   pub few_marked : w.mark ≤ length (committed_in past)
-  few_marked =
-      let few = mark_few seen may_leave start had.wear (records_by had.steps) w.book.state had.begun
-      had.received w.keeper had.keeps in
-      omega (arith, few, had.marked, ap length (committed_are past had.steps had.are))
+  few_marked = omega (
+    arith,
+    few_kept,
+    had.marked,
+    ap length (committed_are past had.steps had.are),
+    as_many_committed start had.wear had.steps (books.standing w.book) had.handed.legal,
+  )
 
   -- a step in which the book and the keeper take no part
   pub passes : (x : Step × Answer) → action_of x.0 x.1 ≡ None → told x.0 x.1 ≤ w.mark →
@@ -171,22 +186,26 @@ module _ {D : Type 0} (seen : D → List ℕ) (may_leave : D → List ℕ → Ty
       HasPast seen may_leave start (past ++ x ∷ []) (record w { book = t })
   takes x action t is tells took good =
       let step = alone_step action in
-      let rs = records_of_action action in
-      let left = leaves catalog_meaning catalog_making w.book t action took in
+      let rs = records_then had.steps action in
+      let left = taken_left catalog_meaning catalog_making (λ v. v) start had.wear had.steps w.book
+      t
+      (had.received ++ w.transit) had.groups had.images had.handed None action took in
       let more : AllByRecursion (IsRecord None) rs = each_back (IsRecord None) w.book.pending rs
       (subst (AllByRecursion (IsRecord None)) left.pending good) in
-      let keeps : HasReceived seen may_leave start had.wear (records_by had.steps ++ rs) t.state
-      had.begun had.received w.keeper =
+      let keeps : HasReceived seen may_leave start had.wear (records_by had.steps ++ rs)
+      (journalled t.state) had.begun had.received w.keeper =
       ⊎_elim
-      (λ (leads : Repeats rs w.book.state t.state).
-      received_leads seen may_leave start had.wear (records_by had.steps) w.book.state had.begun
-      had.received w.keeper had.keeps rs t.state more leads)
-      (λ fall. subst (λ l. HasReceived seen may_leave start had.wear l t.state had.begun
-      had.received w.keeper)
+      (λ (leads : Repeats rs (journalled w.book.state) (journalled t.state)).
+      received_leads seen may_leave start had.wear (records_by had.steps)
+      (journalled w.book.state) had.begun had.received w.keeper had.keeps rs
+      (journalled t.state) more leads)
+      (λ unheard. subst (λ l. HasReceived seen may_leave start had.wear l (journalled t.state)
+      had.begun had.received w.keeper)
       (sym (append-nil (records_by had.steps)) ∙
-      ap (λ l. records_by had.steps ++ l) (sym fall.0))
-      (received_fall seen may_leave start had.wear (records_by had.steps) w.book.state had.begun
-      had.received w.keeper had.keeps fall.1.0 t.state fall.1.1))
+      ap (λ l. records_by had.steps ++ l) (sym unheard.0))
+      (received_unheard seen may_leave start had.wear (records_by had.steps)
+      (journalled w.book.state) had.begun had.received w.keeper had.keeps (journalled t.state)
+      unheard.1))
       left.leads in
       record {
         wear = had.wear;
@@ -200,8 +219,8 @@ module _ {D : Type 0} (seen : D → List ℕ) (may_leave : D → List ℕ → Ty
             (had.received ++ w.transit) had.groups had.images had.handed None action took good;
         begun = had.begun;
         are_begun = had.are_begun;
-        keeps = subst (λ l. HasReceived seen may_leave start had.wear l t.state had.begun
-            had.received w.keeper) (sym (records_by-push had.steps step)) keeps;
+        keeps = subst (λ l. HasReceived seen may_leave start had.wear l (journalled t.state)
+            had.begun had.received w.keeper) (sym (records_by-push had.steps step)) keeps;
         marked = had.marked;
         told = greatest_told-push past x.0 x.1 w.mark had.told tells;
       }
@@ -232,11 +251,11 @@ module _ {D : Type 0} (seen : D → List ℕ) (may_leave : D → List ℕ → Ty
             on.4;
         begun = had.begun;
         are_begun = had.are_begun;
-        keeps = subst (λ l. HasReceived seen may_leave start had.wear l t.state had.begun
-            had.received w.keeper) (sym all)
+        keeps = subst (λ l. HasReceived seen may_leave start had.wear l (journalled t.state)
+            had.begun had.received w.keeper) (sym all)
             (subst (λ s. HasReceived seen may_leave start had.wear (records_by had.steps) s
-            had.begun had.received w.keeper) (sym (ap (λ (x : BookState). x.state) cut.1))
-            had.keeps);
+            had.begun had.received w.keeper)
+            (sym (ap (λ (x : BookState). journalled x.state) cut.1)) had.keeps);
         marked = had.marked;
         told = greatest_told-push past Step.Cut (outcome Answer.Cut a) w.mark had.told
             (omega arith);

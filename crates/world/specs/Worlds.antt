@@ -5,6 +5,7 @@ use Rattle.calls.specs.Contents.{Collection}
 use Rattle.record_format.specs.declared.record.Record.{Record}
 use Rattle.blocks.specs.declared.block.Block.{Block}
 use Rattle.blocks.specs.declared.block.Image.{Image}
+use Rattle.machine.specs.Machine.{journalled}
 use Rattle.txn.specs.declared.steps.BookStep.{BookStep}
 use Rattle.txn.specs.Histories.{records_by}
 use Rattle.txn.specs.Handing.{HasHanded}
@@ -50,8 +51,8 @@ pub record HasPast {D : Type 0} (seen : D → List ℕ) (may_leave : D → List 
   -- one of them, and a stop now leaves what `Yields` says of the transactions that the mark tells
   pub begun : List BegunImage
   pub are_begun : AreImagesFor images begun
-  pub keeps : HasReceived seen may_leave start wear (records_by steps) w.book.state begun received
-      w.keeper
+  pub keeps : HasReceived seen may_leave start wear (records_by steps) (journalled w.book.state)
+      begun received w.keeper
   -- the mark is the keeper's, and what was told is kept
   pub marked : w.mark ≡ w.keeper.mark
   pub told : greatest_told past ≤ w.mark

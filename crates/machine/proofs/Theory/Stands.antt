@@ -5,15 +5,16 @@ use Rattle.std.specs.List.{filter, AllByRecursion}
 use Rattle.calls.specs.Transactions.{Leads}
 use Rattle.boosted.specs.Runs.{own}
 use Rattle.boosted.proofs.Runs.{Leads-append}
-use Rattle.boosted.proofs.Each.{weaker, each_filter}
+use Rattle.boosted.proofs.Each.{weaker, each_append, each_filter}
 use Rattle.boosted.proofs.Owners.{AllApart-filter}
 use Rattle.machine.specs.Theory.Rules.{Rules, RuleLaws, Has, AllDiffer}
 use Rattle.machine.specs.Theory.Journal.{Entry, Asked, PutOff, event, asker, Record, RunsWhole}
 use Rattle.machine.specs.Theory.Journal.{Serial, gather, commits, committed, gathered}
 use Rattle.machine.specs.Theory.Machine.{State, puts, IsSound, IsSettled, Tells, lefts}
-use Rattle.machine.specs.Theory.Images.{Move, Kept, Falls, FallsRow, Plays, records, is_put, member}
+use Rattle.machine.specs.Theory.Images.{Move, Kept, Falls, Holds, FallsRow, HoldsRow, Plays}
+use Rattle.machine.specs.Theory.Images.{records, is_put, member}
 use Rattle.machine.specs.Theory.Images.{shown, image_of, ImageRepeats, ImageStands, BookIsSerial}
-use Rattle.machine.proofs.Theory.Lists.{each_map, every}
+use Rattle.machine.proofs.Theory.Lists.{each_map, every, has_left}
 use Rattle.machine.proofs.Theory.Serial.{step_settles, step_tells, step_commits, beginnings_commit}
 use Rattle.machine.proofs.Theory.Sound.{step_sound}
 use Rattle.machine.proofs.Theory.Thin.{calls_shown, own_shown, IsThin, follow_all}
@@ -38,7 +39,7 @@ module _ {E : Type 0} (test : Entry E → Bool) where
   put_put P true d r p h = (p, h)
   put_put P false d r p h = h
 
-  each_put : (P : E → Type 0) (es : List (Entry E)) → AllByRecursion P (puts es) →
+  pub each_put : (P : E → Type 0) (es : List (Entry E)) → AllByRecursion P (puts es) →
       AllByRecursion P (puts (filter test es))
   each_put P [] h = tt
   each_put P (Asked a ∷ es) h = asked_put P (test (Asked a)) a (filter test es) (each_put P es h)
@@ -59,6 +60,9 @@ split_plays rules (Kept q ∷ ms) (r ∷ rs) more s t w e =
 split_plays rules (Falls n ∷ ms) (r ∷ rs) more s t w e =
     let k = split_plays rules ms (r ∷ rs) more w.0 t w.2 e in
     (Falls n ∷ k.0, k.1, (w.0, w.1, k.2), k.3)
+split_plays rules (Holds x ∷ ms) (r ∷ rs) more s t w e =
+    let k = split_plays rules ms (r ∷ rs) more w.0 t w.2 e in
+    (Holds x ∷ k.0, k.1, (w.0, w.1, k.2), k.3)
 
 module _ {S E M N : Type 0} {rules : Rules S E M N} (laws : RuleLaws rules) where
   pub falls_sound : (s : State S E N) (n : ℕ) (t : State S E N) → IsSound rules s →
@@ -79,6 +83,26 @@ module _ {S E M N : Type 0} {rules : Rules S E M N} (laws : RuleLaws rules) wher
       Tells rules.owner es s → FallsRow rules s n t → Tells rules.owner es t
   falls_tells es s n t tells row =
       subst (Tells rules.owner es) (sym row.is) (λ k live run. tells k live (λ f. run (inr f)))
+
+  holds_sound : (s : State S E N) (x : E) (t : State S E N) → IsSound rules s →
+      HoldsRow rules s x t → IsSound rules t
+  holds_sound s x t sound row = subst (IsSound rules) (sym row.is)
+      (record {
+        held = weaker _ _ (λ e h. has_left s.needs (rules.need x ∷ []) (rules.need (event e)) h)
+            s.entries sound.held;
+        alive = sound.alive;
+        apart = sound.apart;
+        asked = sound.asked;
+        put = sound.put;
+        once = sound.once;
+        holders = each_append (λ k. Has s.live (rules.holder k)) s.needs (rules.need x ∷ [])
+            sound.holders (subst (Has s.live) (sym (laws.held x)) row.live, tt);
+        fallers = sound.fallers;
+      })
+
+  holds_tells : (es : List (Entry E)) (s : State S E N) (x : E) (t : State S E N) →
+      Tells rules.owner es s → HoldsRow rules s x t → Tells rules.owner es t
+  holds_tells es s x t tells row = subst (Tells rules.owner es) (sym row.is) tells
 
   -- what a book plays: the state that it comes to, and what it commits
   record IsPlayed (ms : List (Move E M)) (es : List (Entry E)) (t : State S E N) (c : S) : Type
@@ -124,6 +148,17 @@ module _ {S E M N : Type 0} {rules : Rules S E M N} (laws : RuleLaws rules) wher
         serial = more.serial;
         settled = more.settled;
       }
+  played (Holds x ∷ ms) es s t c sound tells w run =
+      let more = played ms es run.0 t c (holds_sound s x run.0 sound run.1)
+      (holds_tells es s x run.0 tells run.1) (subst (λ v. IsSettled rules v c) (sym run.1.is) w)
+      run.2 in
+      record {
+        sound = more.sound;
+        tells = more.tells;
+        content = more.content;
+        serial = more.serial;
+        settled = more.settled;
+      }
 
   pub book_is_serial : BookIsSerial rules
   book_is_serial ms es s t c sound tells w run = let p = played ms es s t c sound tells w run in
@@ -144,6 +179,9 @@ module _ {S E M N : Type 0} {rules : Rules S E M N} (laws : RuleLaws rules) wher
   committed_same (Falls n ∷ ms) es fs s t sound a b run =
       committed_same ms es fs run.0 t (falls_sound s n run.0 sound run.1)
       (falls_tells es s n run.0 a run.1) (falls_tells fs s n run.0 b run.1) run.2
+  committed_same (Holds x ∷ ms) es fs s t sound a b run =
+      committed_same ms es fs run.0 t (holds_sound s x run.0 sound run.1)
+      (holds_tells es s x run.0 a run.1) (holds_tells fs s x run.0 b run.1) run.2
 
   pub image_sound : (s : State S E N) → IsSound rules s → IsSound rules (image_of rules s)
   image_sound s sound =

@@ -9,7 +9,8 @@ use Rattle.machine.specs.Theory.Rules.{Rules, Has, Lacks}
 use Rattle.machine.specs.Theory.Journal.{Entry, Asked, PutOff, asker, calls, laters, Record, Make}
 use Rattle.machine.specs.Theory.Journal.{Begin, Call, Later, Commit, Back, Ended}
 use Rattle.machine.specs.Theory.Machine.{State, without, laters_of, ended_at, Steps, Repeats, lefts}
-use Rattle.machine.specs.Theory.Images.{Move, Kept, Falls, Plays, records, is_put, member, shown}
+use Rattle.machine.specs.Theory.Images.{Move, Kept, Falls, Holds, Plays, records, is_put, member}
+use Rattle.machine.specs.Theory.Images.{shown}
 use Rattle.boosted.proofs.Each.{differ}
 use Rattle.machine.proofs.Theory.Lists.{at, every, not_same, without_has, has_without, has_filter}
 use Rattle.machine.proofs.Theory.Lists.{filter_has, has_left, has_right, append_has}
@@ -369,4 +370,22 @@ module _ {S E M N : Type 0} (rules : Rules S E M N) where
             (thin rules.owner t more.hidden' more.falling' more.needs')) row.is more.run;
         is_thin =
             more.is_thin;
+      }
+  follow_all (Holds x ∷ ms) s t hidden falling needs is w =
+      let row = w.1 in
+      let is' : IsThin w.0 hidden falling needs =
+      subst (λ v. IsThin v hidden falling needs) (sym row.is)
+      (record {
+        hides = is.hides;
+        falls = is.falls;
+        fewer = λ k h. has_left s.needs (rules.need x ∷ []) k (is.fewer k h);
+      }) in
+      let more = follow_all ms w.0 t hidden falling needs is' w.2 in
+      record {
+        hidden' = more.hidden';
+        falling' = more.falling';
+        needs' = more.needs';
+        run = subst (λ v. Repeats rules (records ms) (thin rules.owner v hidden falling needs)
+            (thin rules.owner t more.hidden' more.falling' more.needs')) row.is more.run;
+        is_thin = more.is_thin;
       }

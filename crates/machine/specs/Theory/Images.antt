@@ -5,24 +5,26 @@ use Rattle.calls.specs.Transactions.{Leads}
 use Rattle.machine.specs.Theory.Rules.{Rules, Has}
 use Rattle.machine.specs.Theory.Journal.{Entry, Asked, PutOff, event, asker, calls, Record, Serial}
 use Rattle.machine.specs.Theory.Journal.{committed}
-use Rattle.machine.specs.Theory.Machine.{State, HasNoCall, Steps, Repeats, IsSettled, IsSound}
+use Rattle.machine.specs.Theory.Machine.{State, Steps, Repeats, IsSettled, IsSound}
 use Rattle.machine.specs.Theory.Machine.{Tells}
 use Rattle.machine.specs.Theory.Theorems.{StandsFor}
 
--- A step of a book: one that appends a record, or a going back that finds nothing left to undo.
+-- A step of a book, as its journal tells of the book: one that appends a record; or one without, by
+-- which a transaction falls, or the need of a call more is held.
 pub data Move (E M : Type 0) : Type 0 where
   Kept : Record E M → Move E M
   Falls : ℕ → Move E M
+  Holds : E → Move E M
 
 abbrev pub records : {E M : Type 0} → List (Move E M) → List (Record E M)
 records [] = []
 records (Kept r ∷ ms) = r ∷ records ms
 records (Falls n ∷ ms) = records ms
+records (Holds x ∷ ms) = records ms
 
 pub record FallsRow {S E M N : Type 0} (rules : Rules S E M N) (s : State S E N) (n : ℕ)
     (t : State S E N) : Type 0 where
   pub live : Has s.live n
-  pub undone : HasNoCall rules.owner n s.entries
   pub is : t ≡ record {
     now = s.now;
     entries = s.entries;
@@ -31,10 +33,22 @@ pub record FallsRow {S E M N : Type 0} (rules : Rules S E M N) (s : State S E N)
     needs = s.needs;
   }
 
+pub record HoldsRow {S E M N : Type 0} (rules : Rules S E M N) (s : State S E N) (x : E)
+    (t : State S E N) : Type 0 where
+  pub live : Has s.live (rules.owner x)
+  pub is : t ≡ record {
+    now = s.now;
+    entries = s.entries;
+    live = s.live;
+    falling = s.falling;
+    needs = s.needs ++ rules.need x ∷ [];
+  }
+
 abbrev pub Moves : {S E M N : Type 0} → Rules S E M N → State S E N → Move E M → State S E N →
     Type 0
 Moves rules s (Kept r) t = Steps rules s r t
 Moves rules s (Falls n) t = FallsRow rules s n t
+Moves rules s (Holds x) t = HoldsRow rules s x t
 
 abbrev pub Plays : {S E M N : Type 0} → Rules S E M N → List (Move E M) → State S E N →
     State S E N → Type 0

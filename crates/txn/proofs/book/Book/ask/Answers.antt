@@ -16,15 +16,15 @@ laws : (g : Over) → BookLaws g.B.Boosted.meaning g.B.Parts.making
     (λ s. AreShort (g.B.Coded.collections s))
 laws g = book_laws g.met.B.Boosted.laws g.met.B.Parts.laws g.met.B.Coded.told
 
-pub note_call-requires-clause-short : goal.note_call-requires-clause-short
-note_call-requires-clause-short g c =
+pub make_call-requires-clause-short : goal.make_call-requires-clause-short
+make_call-requires-clause-short g c =
     let answered = subst (λ b. g.B.Boosted.meaning.answers b.state.now c.args.col c.args.call.now
     c.args.reply.now) (sym c.self.view_is) c.requires.answered in
     (laws g).short_replies c.self.inside.machine.now c.args.col
     c.args.call.now c.args.reply.now c.self.invariant.upheld.spells answered
 
-pub note_call-requires-clause-can : goal.note_call-requires-clause-can
-note_call-requires-clause-can g c =
+pub make_call-requires-clause-can : goal.make_call-requires-clause-can
+make_call-requires-clause-can g c =
     subst (λ b. CanCall g.B.Boosted.meaning b.state c.args.number
     (record { at = c.args.col; call = c.args.call.now; reply = c.args.reply.now }))
     c.self.view_is (record {
@@ -50,7 +50,7 @@ returns-clause-err g c =
     c.args.reply.now) (sym c.self.view_is) c.requires.answered in
     rw (← c.self.view_is) (ask_refused g.B.Boosted.meaning g.B.Parts.making
     (book_of i.machine i.pending i.places i.next) _ c.args.number c.args.col c.args.call.now
-    c.note_call.result
+    c.make_call.result
     (subst (λ b. IsOpen (CanAsk g.B.Boosted.meaning b.state.now c.args.col c.args.call.now)
     (standing b) c.args.number) (sym c.self.view_is) c.requires.open) (
       c.args.reply.now,
@@ -59,5 +59,5 @@ returns-clause-err g c =
       subst (λ k. IsClear i.machine.holds c.args.number c.args.col k) c.need-need.ensures
           c.in_ok-test.ensures.clear,
     )
-    (subst (λ b. OnErr c.note_call.result (c.note_call.new.self ≡ b)) (sym c.self.view_is)
-    c.note_call.ensures.same) c.note_call.ensures.refusal)
+    (subst (λ b. OnErr c.make_call.result (c.make_call.new.self ≡ b)) (sym c.self.view_is)
+    c.make_call.ensures.same) c.make_call.ensures.refusal)

@@ -1,15 +1,17 @@
-use Rattle.std.proofs.Common.{◌<◌, length, refl, sym, subst, arith}
+use Rattle.std.proofs.Common.{◌<◌, length, refl, sym, subst, arith, inl, inr}
 use Rattle.record_format.specs.declared.record.Record.{Record}
 use Rattle.record_format.specs.Short.{AreShort}
 use Rattle.undo_log.specs.Logs.{Lives}
-use Rattle.machine.specs.Machine.{BackRow}
+use Rattle.machine.specs.Machine.{WrittenBackRow}
 use Rattle.txn.specs.Books.{BookState, Appends}
 use Rattle.txn.specs.Views.{book_of}
 use Rattle.blocks.specs.Waits.{HasRoomFor}
 use Rattle.machine.proofs.BookLaws.{BookLaws, book_laws}
 use Rattle.txn.proofs.BookLemmas.{mark_length, recorded}
-use Rattle.txn.proofs.BookInvariant.{back_keeps, fall_keeps}
+use Rattle.txn.proofs.BookInvariant.{back_keeps, fall_keeps, unread_keeps}
 use Rattle.machine.proofs.Steps.{back_settles}
+use Rattle.machine.proofs.Readings.{unread_settles}
+use Rattle.machine.proofs.UndoneCall.{written_back}
 use Rattle.txn.proofs.book.Book.back.Given.{Over}
 use Rattle.txn.proofs.book.Book.back.Goals as goal
 
@@ -35,7 +37,7 @@ laws g = book_laws g.met.B.Boosted.laws g.met.B.Parts.laws g.met.B.Coded.told
 -- the step that was taken
 step : (g : Over) (c : goal.After-push g) → let i = c.self.inside in
     let old = book_of i.machine i.pending i.places i.next in
-    BackRow g.B.Boosted.meaning old.state c.args.number c.back.new.self ×
+    WrittenBackRow g.B.Boosted.meaning old.state c.args.number c.back.new.self ×
     Appends old (Record.Back c.args.number)
     (book_of c.back.new.self c.push.new.self i.places i.next)
 step g c =
@@ -44,23 +46,37 @@ step g c =
     c.back.new.self c.reserve.new.self c.push.new.self i.places i.next
     (subst (λ b. length b.pending < 16384) (sym c.self.view_is) c.in_ok-check_backlog.ensures.ok)
     c.in_ok-reserve.ensures.records c.in_ok-reserve.ensures.freezes c.in_ok-reserve.ensures.handed
-    c.push.ensures.records c.push.ensures.freezes c.push.ensures.handed (omega arith) refl in
-    (c.in_ok-back.ensures.ok, written)
+    c.push.ensures.records c.push.ensures.freezes c.push.ensures.handed (omega arith) refl in (
+      written_back g.B.Boosted.meaning i.machine c.back.new.self c.args.number
+          (λ read. let yes = c.newest_reads.ensures.1 read in let no' = c.if-newest_reads.false in
+          cc) c.in_ok-back.ensures.ok,
+      written,
+    )
 
 pub invariant_of-self : goal.invariant_of-self
 invariant_of-self g c = fall_keeps g.B.Boosted.meaning g.B.Parts.making
     (λ s. AreShort (g.B.Coded.collections s)) (laws g) _ c.self.invariant c.args.number _
     c.fall.ensures refl
 
+pub invariant_of-self-then-newest_reads : goal.invariant_of-self-then-newest_reads
+invariant_of-self-then-newest_reads g c = unread_keeps g.B.Boosted.meaning g.B.Parts.making
+    (λ s. AreShort (g.B.Coded.collections s)) (laws g) _ c.self.invariant c.args.number _
+    c.unread.ensures refl
+
+pub returns-then-newest_reads-clause-settled : goal.returns-then-newest_reads-clause-settled
+returns-then-newest_reads-clause-settled g c = rw (← c.self.view_is)
+    (λ d w. unread_settles g.B.Boosted.meaning g.B.Parts.making (laws g).rules _ _ c.args.number d
+    c.self.invariant.upheld.holds c.unread.ensures w)
+
 pub invariant_of-self-2 : goal.invariant_of-self-2
 invariant_of-self-2 g c = let done = step g c in
     back_keeps g.B.Boosted.meaning g.B.Parts.making (λ s. AreShort (g.B.Coded.collections s))
-    (laws g) _ c.self.invariant c.args.number _ done.0 done.1
+    (laws g) _ c.self.invariant c.args.number _ done.0.back done.1
 
 pub returns-clause-answer : goal.returns-clause-answer
-returns-clause-answer g c = rw (← c.self.view_is) (step g c)
+returns-clause-answer g c = rw (← c.self.view_is) (inl (step g c))
 
 pub returns-clause-settled : goal.returns-clause-settled
 returns-clause-settled g c = rw (← c.self.view_is)
     (λ d w. back_settles g.B.Boosted.meaning g.B.Parts.making (laws g).rules _
-    c.self.invariant.upheld.holds c.args.number _ d (step g c).0 w)
+    c.self.invariant.upheld.holds c.args.number _ d (step g c).0.back w)

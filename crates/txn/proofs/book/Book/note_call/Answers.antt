@@ -3,8 +3,8 @@ use Rattle.record_format.specs.Short.{AreShort}
 use Rattle.calls.specs.Transactions.{Event}
 use Rattle.boosted.specs.Meaning.{CanAsk}
 use Rattle.machine.specs.Machine.{CanCall, CallRow}
-use Rattle.txn.specs.Rows.{IsOpen, record_of}
-use Rattle.txn.specs.Books.{standing, Appends}
+use Rattle.txn.specs.Rows.{IsOpen, IsMade, record_of}
+use Rattle.txn.specs.Books.{standing, Appends, Moves}
 use Rattle.txn.specs.Views.{book_of}
 use Rattle.machine.proofs.BookLaws.{BookLaws, book_laws}
 use Rattle.txn.proofs.BookLemmas.{recorded}
@@ -74,7 +74,15 @@ step g c =
     )
 
 pub returns-clause-ok : goal.returns-clause-ok
-returns-clause-ok g c = rw (← c.self.view_is) ((step g c).0, (asks g c).unworn, (step g c).1)
+returns-clause-ok g c =
+    let i = c.self.inside in
+    rw (← c.self.view_is) (
+      subst (λ b. IsMade g.B.Boosted.meaning g.B.Parts.making standing Appends Moves b
+          (book_of i.machine i.pending i.places i.next) c.args.number (event g c)
+          (book_of c.call.new.self c.push_call.new.self i.places i.next))
+          (sym c.requires.written) (step g c),
+      (asks g c).unworn,
+    )
 
 pub invariant_of-self-2 : goal.invariant_of-self-2
 invariant_of-self-2 g c =
