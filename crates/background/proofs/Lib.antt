@@ -1,1 +1,2 @@
+pub mod TicketLemmas
 pub mod WorkLemmas

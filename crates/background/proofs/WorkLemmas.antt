@@ -1,20 +1,138 @@
 -- A store that was closed was worked on.
-use Rattle.std.proofs.Common.{◌≡◌, ℕ, List, [], refl, subst, take}
+use Rattle.std.proofs.Common.{◌≡◌, ◌⊎◌, inl, inr, ℕ, zero, suc, ◌≤◌, ◌<◌, List, [], ◌∷◌, ◌++◌}
+use Rattle.std.proofs.Common.{length, Some, Result, Ok, Err, refl, sym, ap, ◌∙◌, subst, take, append_assoc}
+use Rattle.std.proofs.Common.{arith, length-append}
+use Rattle.std.specs.Prelude.{Contains, IfOk, slice_get, get_or}
+use mathlib.Core.List.{IsPrefix}
+use Rattle.std.proofs.lemmas.Option.{same_Some, none-some}
+use Rattle.std.proofs.lemmas.List.Elements.{All-contains, All-contains_itself, All-weaker}
+use Rattle.std.proofs.lemmas.List.Elements.{Contains-append_left, Contains-append_right}
 use Rattle.calls.specs.Contents.{Collection}
 use Rattle.calls.specs.Transactions.{Transaction}
+use Rattle.calls.specs.declared.refusal.Refusal.{Refusal}
 use Rattle.catalog.specs.Meaning.{catalog_meaning, catalog_making}
 use Rattle.checkpoint.specs.Crash.{Yields}
+use Rattle.disk_model.specs.Disk.{IsAtRest}
 use Rattle.disk_model.specs.declared.disk.Disk.{Ghosts}
+use Rattle.group_commit.specs.Marks.{AreReached}
+use Rattle.recovery.specs.Openings.{KeepsContent}
+use Rattle.repetition.specs.Journals.{StandsFor}
+use Rattle.store.specs.Closing.{SeenState}
+use Rattle.store.specs.Known.{Known}
 use Rattle.store.specs.declared.naming.Naming as namings
 use Rattle.txn.specs.Books.{standing}
+use Rattle.txn.specs.declared.steps.BookStep.{BookStep}
 use Rattle.txn.specs.Histories.{IsLegal, committed_by}
 use Rattle.txn.specs.Rows.{opening}
-use Rattle.background.specs.Works.{IsClosed, IsWorkedOn}
+use Rattle.background.specs.Works.{IsSaid, AreSaid, AreParts, AreTold}
+use Rattle.background.specs.Works.{IsClosed, IsWorkedOn, WasOpened, IsLeftByWork}
 
--- what is known of the transactions is let go
-yields_some : (start : List Collection) (all known : List Transaction) (bytes : List ℕ) →
+-- what holds of an answer, and what follows from it
+pub ok_then : {X E : Type 0} (r : Result X E) (P Q : X → Type 0) → IfOk r P →
+    ((x : X) → P x → Q x) → IfOk r Q
+ok_then (Ok x) P Q p then = then x p
+ok_then (Err e) P Q p then = tt
+
+-- ---- beginnings of a list
+
+prefix_through : (xs ys zs : List BookStep) → IsPrefix xs ys → IsPrefix ys zs → IsPrefix xs zs
+prefix_through xs ys zs a b = (a.0 ++ b.0, sym (append_assoc xs a.0 b.0) ∙ (ap (λ l. l ++ b.0) a.1 ∙ b.1))
+
+-- two lists of one length, with one more each
+pub snocs_same : {A B : Type 0} (xs : List A) (ys : List B) (x : A) (y : B) →
+    length xs ≡ length ys → length (xs ++ x ∷ []) ≡ length (ys ++ y ∷ [])
+snocs_same xs ys x y same =
+    omega (arith, length-append xs (x ∷ []), length-append ys (y ∷ []), same)
+
+-- an element of a list with one more is of the list, or the one more
+snoc_at : {A : Type 0} (xs : List A) (x a : A) (i : ℕ) → slice_get (xs ++ x ∷ []) i ≡ Some a →
+    (slice_get xs i ≡ Some a) ⊎ ((i ≡ length xs) × (x ≡ a))
+snoc_at [] x a zero e = inr (refl, same_Some x a e)
+snoc_at [] x a (suc i) e = absurd (none-some a e)
+snoc_at (y ∷ ys) x a zero e = inl e
+snoc_at (y ∷ ys) x a (suc i) e = elim (snoc_at ys x a i e) [
+  | inl within ↦ inl within
+  | inr last ↦ inr (ap suc last.0, last.1)
+]
+
+-- ---- what threads answered
+
+module _ {A : Type 0} (says : ℕ → A → Known → Type 0) where
+  pub parts_none : AreParts says [] [] []
+  parts_none thread answer at = absurd (none-some answer at)
+
+  -- what a thread answered that was given a client
+  pub said_at : (ended : List (Result (A × SeenState) Refusal)) (n k : ℕ) →
+      AreSaid says ended n → k < n → (x : Result (A × SeenState) Refusal) →
+      x ≡ get_or ended k x → (e : A × SeenState) → x ≡ Ok e → IsSaid says k e.0 e.1
+  said_at ended n k are within x at e ok =
+      subst (λ (r : Result (A × SeenState) Refusal). IfOk r (λ e. IsSaid says k e.0 e.1))
+      (sym at ∙ ok) (are k x within)
+
+  -- the answer of one thread more
+  pub parts_more : (answers : List A) (seen more : List BookStep) (counts loaded : List ℕ)
+      (answer : A) (left : SeenState) → AreParts says answers seen counts →
+      IsSaid says (length answers) answer left → IsPrefix seen more → IsPrefix left.seen more →
+      loaded ≡ counts ++ left.counts → AreParts says (answers ++ answer ∷ []) more loaded
+  parts_more answers seen more counts loaded answer left are said goes comes all thread a at =
+      elim (snoc_at answers answer a thread at) [
+        | inl within ↦
+            let part = are thread a within in record {
+              known = part.known;
+              said = part.said;
+              begins = prefix_through part.known.seen seen more part.begins goes;
+              loaded = λ count some. subst (λ l. Contains l count) (sym all)
+                  (Contains-append_left counts left.counts count (part.loaded count some));
+            }
+        | inr last ↦ record {
+          known = said.known;
+          said = subst (λ (x : A). says thread x said.known) last.1
+              (subst (λ n. says n answer said.known) (sym last.0) said.said);
+          begins = subst (λ l. IsPrefix l more) said.seen comes;
+          loaded = λ count some. subst (λ l. Contains l count) (sym all)
+              (Contains-append_right counts left.counts count
+              (subst (λ l. Contains l count) (sym said.counts) some));
+        }
+      ]
+
+  -- the history begins with all of it, and the mark has reached all of it
+  pub parts_told : (answers : List A) (seen steps : List BookStep) (counts : List ℕ)
+      (kept : ℕ) → AreParts says answers seen counts → IsPrefix seen steps →
+      AreReached counts kept → AreTold says answers kept steps
+  parts_told answers seen steps counts kept are begins reached thread answer at =
+      let part = are thread answer at in
+      let loaded = part.known.counts in record {
+        known = part.known;
+        said = part.said;
+        begins = prefix_through part.known.seen seen steps part.begins begins;
+        reached = All-weaker (Contains loaded) (λ x. x ≤ kept)
+            (λ x some. All-contains (λ y. y ≤ kept) counts x reached (part.loaded x some)) loaded
+            (All-contains_itself loaded);
+      }
+
+-- ---- what is left
+
+-- more is known of the parts
+pub closed_with : {J D : Type 0} (j : namings.Ghosts J) (g : Ghosts D)
+    (some more : List BookStep → List ℕ → Type 0) (new : D) (kept : ℕ) →
+    IsClosed j g some new kept →
+    ((seen : List BookStep) (counts : List ℕ) → some seen counts → more seen counts) →
+    IsClosed j g more new kept
+closed_with j g some more new kept closed then = record {
+  seen = closed.seen;
+  counts = closed.counts;
+  book = closed.book;
+  keeper = closed.keeper;
+  closes = closed.closes;
+  disk = closed.disk;
+  mark = closed.mark;
+  parts_of = then closed.seen closed.counts closed.parts_of;
+}
+
+-- fewer of the transactions are known
+yields_fewer : (start : List Collection) (all known : List Transaction) (bytes : List ℕ) →
     Yields start all known bytes → Yields start all [] bytes
-yields_some start all known bytes y = record {
+yields_fewer start all known bytes y = record {
   sound = y.sound;
   content = y.content;
   stands = y.stands;
@@ -24,20 +142,52 @@ yields_some start all known bytes y = record {
   serial = y.serial;
 }
 
-pub worked_on : {J D : Type 0} (j : namings.Ghosts J) (g : Ghosts D) (new : D)
-    (content : List Collection) → j.sound → j.start ≡ content → IsClosed j g new →
-    IsWorkedOn g content new
-worked_on j g new content sound same closed =
-    let steps = closed.closes.steps in
-    let mark = closed.keeper.mark in record {
-      wear = j.wear;
-      steps = steps;
-      behind = standing closed.book;
-      legal = subst (λ s. IsLegal catalog_meaning catalog_making (opening s j.wear) steps
-          (standing closed.book)) same closed.closes.legal;
-      stop = λ bytes left.
-          subst (λ s. Yields s (committed_by steps) [] bytes) same
-          (yields_some j.start (committed_by steps) (take mark (committed_by steps)) bytes
-          (closed.closes.stop sound bytes
-          (subst (λ d. g.may_leave d bytes) closed.disk left)));
-    }
+module _ {D : Type 0} (g : Ghosts D) where
+  -- A store that was opened under a name was worked on.
+  pub was_opened : {J : Type 0} (j : namings.Ghosts J) (parts : List BookStep → List ℕ → Type 0)
+      (told : List BookStep → Type 0) (old opened new : D) (kept : ℕ) →
+      (closed : IsClosed j g parts new kept) → told closed.closes.steps →
+      (g.is_honest opened → KeepsContent g.seen g.may_leave g.moment g.left_since old opened) →
+      (g.is_honest opened → IsAtRest g.seen g.may_leave old → j.sound) →
+      ((content : List Collection) → StandsFor (g.seen old) content → g.is_honest opened →
+      j.start ≡ content) → WasOpened g told old new kept
+  was_opened j parts told old opened new kept closed told_of keeps sound content =
+      let steps = closed.closes.steps in record {
+        opened = opened;
+        keeps = keeps;
+        worked = λ honest held rest stands. record {
+          wear = j.wear;
+          steps = steps;
+          behind = standing closed.book;
+          legal = subst (λ s. IsLegal catalog_meaning catalog_making (opening s j.wear) steps
+              (standing closed.book)) (content held stands honest) closed.closes.legal;
+          told_of = told_of;
+          stop = λ bytes left.
+              subst (λ s. Yields s (committed_by steps) (take kept (committed_by steps)) bytes)
+              (content held stands honest)
+              (subst (λ n. Yields j.start (committed_by steps) (take n (committed_by steps)) bytes)
+              (sym closed.mark) (closed.closes.stop (sound honest rest) bytes
+              (subst (λ d. g.may_leave d bytes) closed.disk left)));
+        };
+      }
+
+  -- Less is said where it is not told how much is kept.
+  pub left_by_any : (old new : D) (kept : ℕ) → IsLeftByWork g old new kept →
+      IsLeftByWork g old new 0
+  left_by_any old new kept left = elim left [
+    | inl refused ↦ inl refused
+    | inr worked ↦ inr (record {
+      opened = worked.opened;
+      keeps = worked.keeps;
+      worked = λ honest content rest stands.
+          let w = worked.worked honest content rest stands in record {
+            wear = w.wear;
+            steps = w.steps;
+            behind = w.behind;
+            legal = w.legal;
+            told_of = tt;
+            stop = λ bytes may. yields_fewer content (committed_by w.steps)
+                (take kept (committed_by w.steps)) bytes (w.stop bytes may);
+          };
+    })
+  ]

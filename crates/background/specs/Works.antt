@@ -1,50 +1,121 @@
 -- What a program that works on the store of a disk leaves there.
-use Rattle.std.specs.Prelude.{◌≡◌, ◌⊎◌, ℕ, List, []}
+use Rattle.std.specs.Prelude.{◌≡◌, ◌⊎◌, ℕ, ◌<◌, ◌≤◌, List, [], ◌∷◌, ◌++◌, Some, Result, Ok, IfOk}
+use Rattle.std.specs.Prelude.{Contains, slice_get, slice_index_or, take}
+use mathlib.Core.List.{IsPrefix}
 use Rattle.calls.specs.Contents.{Collection}
+use Rattle.calls.specs.declared.refusal.Refusal.{Refusal}
 use Rattle.catalog.specs.Meaning.{catalog_meaning, catalog_making}
 use Rattle.checkpoint.specs.Crash.{Yields}
 use Rattle.disk_model.specs.Disk.{IsAtRest}
 use Rattle.disk_model.specs.declared.disk.Disk.{Ghosts}
+use Rattle.group_commit.specs.Marks.{AreReached}
 use Rattle.checkpoint.specs.Keepers.{KeeperState}
 use Rattle.recovery.specs.Openings.{KeepsContent}
 use Rattle.repetition.specs.Journals.{StandsFor}
-use Rattle.store.specs.Closing.{Closes}
+use Rattle.store.specs.Closing.{Closes, SeenState}
+use Rattle.store.specs.Known.{Known, step_of}
 use Rattle.store.specs.declared.naming.Naming as namings
 use Rattle.txn.specs.Books.{BookState}
+use Rattle.txn.specs.declared.steps.Action.{Action}
 use Rattle.txn.specs.declared.steps.BookStep.{BookStep}
 use Rattle.txn.specs.Histories.{IsLegal, committed_by}
 use Rattle.txn.specs.Rows.{Standing, opening}
 
+-- ---- what threads answer
+
+-- The last step that the client has seen is its own commit of this place.
+pub record HasCommitted (known : Known) (place : ℕ) : Type 0 where
+  pub number : ℕ
+  pub before : List BookStep
+  pub ends : known.seen ≡
+      before ++ step_of known.number (Action.Commit number (Ok place)) ∷ []
+
+-- the client was told that all commits and makings up to the place are kept
+abbrev pub WasToldKept : Known → ℕ → Type 0
+WasToldKept known place = (count : ℕ) × Contains known.counts count × (place ≤ count)
+
+module _ {A : Type 0} (says : ℕ → A → Known → Type 0) where
+  -- A thread's answer says so of what its client knew at the end. The history begins with what the
+  -- client had seen, and what it was told as kept is kept.
+  pub record IsTold (steps : List BookStep) (kept : ℕ) (thread : ℕ) (answer : A) : Type 0 where
+    pub known : Known
+    pub said : says thread answer known
+    pub begins : IsPrefix known.seen steps
+    pub reached : AreReached known.counts kept
+
+  -- so it is with the answer of each thread
+  abbrev pub AreTold : List A → ℕ → List BookStep → Type 0
+  AreTold answers kept steps = (thread : ℕ) (answer : A) →
+      slice_get answers thread ≡ Some answer → IsTold steps kept thread answer
+
+  -- A thread's answer says so of what its client knew, which left this.
+  pub record IsSaid (thread : ℕ) (answer : A) (left : SeenState) : Type 0 where
+    pub known : Known
+    pub said : says thread answer known
+    pub seen : left.seen ≡ known.seen
+    pub counts : left.counts ≡ known.counts
+
+  -- so it is with the answers of so many threads, unless one was refused a client
+  abbrev pub AreSaid : List (Result (A × SeenState) Refusal) → ℕ → Type 0
+  AreSaid ended n = (thread : ℕ) (d : Result (A × SeenState) Refusal) → thread < n →
+      IfOk (slice_index_or ended thread d) (λ e. IsSaid thread e.0 e.1)
+
+  -- So it is, and what the client had seen and loaded is part of this.
+  pub record IsPart (seen : List BookStep) (counts : List ℕ) (thread : ℕ) (answer : A) :
+      Type 0 where
+    pub known : Known
+    pub said : says thread answer known
+    pub begins : IsPrefix known.seen seen
+    pub loaded : (count : ℕ) → Contains known.counts count → Contains counts count
+
+  -- so it is with the answer of each thread
+  abbrev pub AreParts : List A → List BookStep → List ℕ → Type 0
+  AreParts answers seen counts = (thread : ℕ) (answer : A) →
+      slice_get answers thread ≡ Some answer → IsPart seen counts thread answer
+
+-- ---- what is left
+
 -- Threads took the steps of a legal history from the content. Whatever a stop leaves of the disk now
 -- is sound, and stands for a content that some beginning of the transactions gives that the history
--- commits, each run whole, one after another, with the replies that its client got.
-pub record IsWorkedOn {D : Type 0} (g : Ghosts D) (content : List Collection) (new : D) : Type 0 where
+-- commits, each run whole, one after another, with the replies that its client got; and that
+-- beginning holds the first so many of them. told: what is known of the history.
+pub record IsWorkedOn {D : Type 0} (g : Ghosts D) (told : List BookStep → Type 0)
+    (content : List Collection) (new : D) (kept : ℕ) : Type 0 where
   pub wear : ℕ
   pub steps : List BookStep
   pub behind : Standing (List Collection)
   pub legal : IsLegal catalog_meaning catalog_making (opening content wear) steps behind
+  pub told_of : told steps
   pub stop : (bytes : List ℕ) → g.may_leave new bytes →
-      Yields content (committed_by steps) [] bytes
+      Yields content (committed_by steps) (take kept (committed_by steps)) bytes
 
 -- A store was opened, and worked on. Where the disk read true until it was open, a stop in the
 -- opening leaves the content; and where it was at rest and its bytes stood for a content, the work
 -- went on from that.
-pub record WasOpened {D : Type 0} (g : Ghosts D) (old new : D) : Type 0 where
+pub record WasOpened {D : Type 0} (g : Ghosts D) (told : List BookStep → Type 0) (old new : D)
+    (kept : ℕ) : Type 0 where
   pub opened : D
-  pub kept : g.is_honest opened →
+  pub keeps : g.is_honest opened →
       KeepsContent g.seen g.may_leave g.moment g.left_since old opened
   pub worked : g.is_honest opened → (content : List Collection) →
-      IsAtRest g.seen g.may_leave old → StandsFor (g.seen old) content → IsWorkedOn g content new
+      IsAtRest g.seen g.may_leave old → StandsFor (g.seen old) content →
+      IsWorkedOn g told content new kept
 
 -- The opening was refused: a stop leaves the content. Or the store was opened and worked on.
-abbrev pub IsLeftByWork : {D : Type 0} (g : Ghosts D) → (old new : D) → Type 0
-IsLeftByWork g old new =
+abbrev pub IsLeftByWork : {D : Type 0} (g : Ghosts D) → (old new : D) → (kept : ℕ) → Type 0
+IsLeftByWork g old new kept =
     (g.is_honest new → KeepsContent g.seen g.may_leave g.moment g.left_since old new)
-    ⊎ WasOpened g old new
+    ⊎ WasOpened g (λ steps. Unit {0}) old new kept
 
--- A store was closed, and this is its disk.
-pub record IsClosed {J D : Type 0} (j : namings.Ghosts J) (g : Ghosts D) (new : D) : Type 0 where
+-- A store was closed, and this is its disk, and its keeper's mark. parts: of what the clients had
+-- seen and loaded that was compared.
+pub record IsClosed {J D : Type 0} (j : namings.Ghosts J) (g : Ghosts D)
+    (parts : List BookStep → List ℕ → Type 0) (new : D) (kept : ℕ) : Type 0 where
+  pub seen : List BookStep
+  pub counts : List ℕ
   pub book : BookState (List Collection)
   pub keeper : KeeperState D
-  pub closes : Closes j g [] [] book keeper
+  pub closes : Closes j g seen counts book keeper
   pub disk : new ≡ keeper.disk
+  pub mark : kept ≡ keeper.mark
+  pub parts_of : parts seen counts

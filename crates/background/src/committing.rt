@@ -2,6 +2,7 @@
 ghost use Rattle.std.specs.Prelude.{IsOkUnless};
 ghost use Rattle.calls.specs.declared.refusal.Refusal.{Refusal};
 
+use crate::burst::Burst;
 use crate::signal::{Signal, Sleeper};
 use calls::Refusal;
 use checkpoint::Turn;
@@ -13,7 +14,9 @@ use store::{Checkpoint, Checkpointer, Committer, Naming, Store};
 /// A store whose commits a thread brings to the disk.
 pub trait Commits {
     /// Brings what clients commit to the disk until the signal says that no more comes, and all is
-    /// there; sleeps while nothing is pending. Where the area is full it takes a checkpoint.
+    /// there; sleeps while nothing is pending. Before it cuts a block it waits for a moment where
+    /// clients whose commits were just kept come back with more, so that a burst gets into one.
+    /// Where the area is full it takes a checkpoint.
     ///
     /// It ends early where the disk fails, and where a checkpoint is refused: then the mark's
     /// failed flag is set, so that who waits is told.
@@ -24,13 +27,15 @@ impl<D: Disk, J: Naming> Commits for Store<D, J> {
     fn commit_all<R: Wait>(&self, rt: &R, signal: &Signal, sleeper: &Sleeper) {
         let mut committer = self.committer(rt);
         let mut checkpointer = self.checkpointer(rt);
+        let mut burst = Burst::new();
         for _ in rt.forever() {
+            let wakes = burst.gather(signal);
             // Asked before the turn: what was committed before the end is cut by a turn behind it.
             let is_over = signal.is_over();
             match committer.turn(rt) {
                 Ok(Turn::Idle) if is_over => return,
-                Ok(Turn::Idle) => sleeper.sleep(rt),
-                Ok(Turn::Kept(_)) => {}
+                Ok(Turn::Idle) => sleeper.sleep(rt, signal, wakes),
+                Ok(Turn::Kept(_)) => burst.release(signal),
                 // Another checkpointer's image is in progress.
                 Ok(Turn::Held) => thread::yield_now(),
                 Err(refusal) => {

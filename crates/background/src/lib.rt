@@ -10,14 +10,13 @@
 //! impl Work for Counting {
 //!     type Output = Result<(), Refusal>;
 //!
-//!     fn work<J: Naming, S: Clients<J>, R: Wait + AllocGlobal>(
+//!     fn work<J: Naming, R: Wait + AllocGlobal>(
 //!         &self,
 //!         rt: &R,
-//!         store: &S,
+//!         client: &mut Client<'_, J>,
 //!         signal: &Signal,
 //!         thread: usize,
 //!     ) -> Result<(), Refusal> {
-//!         let mut client = store.client(rt)?;
 //!         client.begin()?;
 //!         client.call(rt, "hits", &Call::Bump(1))?;
 //!         let ticket = client.commit(rt)?;
@@ -26,16 +25,17 @@
 //!     }
 //! }
 //!
-//! let (counted, disk) = run(&rt, FileDisk::<Unknown>::open(file)?, &Counting, 4);
+//! let (counted, closed) = run(&rt, FileDisk::<Unknown>::open(file)?, &Counting, 4);
 //! ```
 #![tactic(auto)]
 
+mod burst;
 mod committing;
 mod running;
 mod signal;
 mod transacting;
 
 pub use committing::{Commits, start};
-pub use running::{Clients, Work, all_ended, run};
+pub use running::{Closed, Work, all_ended, run};
 pub use signal::{Signal, Sleeper};
-pub use transacting::{Transaction, transact};
+pub use transacting::{Transaction, keep, transact};

@@ -1,34 +1,64 @@
 // A program's work on the store of a disk.
-ghost use Rattle.std.specs.Prelude.{◌≡◌, [], All, Contains, Ok, Err, IfOk, IsOkUnless};
-ghost use Rattle.std.specs.Prelude.{MatchResult};
+ghost use Rattle.std.specs.Prelude.{◌≡◌, ◌++◌, All, Contains, Ok, Err, IfOk, IsOkUnless};
+ghost use Rattle.std.specs.Prelude.{MatchResult, vec_len};
 ghost use Rattle.std.specs.Thread.{IsSend, IsSync};
+ghost use mathlib.Core.List.{IsPrefix};
 ghost use Rattle.calls.specs.declared.refusal.Refusal.{Refusal};
-ghost use Rattle.store.specs.declared.phase.Phase.{Phase};
+ghost use Rattle.store.specs.Closing.{seen_of, counts_of};
+ghost use Rattle.store.specs.Known.{newcomer};
 ghost use Rattle.store.specs.Openings.{IsNamed};
-ghost use Rattle.background.specs.Works.{IsLeftByWork, IsClosed};
+ghost use Rattle.background.specs.Works.{IsLeftByWork, WasOpened, IsClosed, AreTold, IsSaid};
+ghost use Rattle.background.specs.Works.{AreSaid, AreParts};
 
 use crate::committing::{Commits, start};
 use crate::signal::Signal;
 use calls::Refusal;
 use disk_model::Disk;
-use std::alloc::AllocGlobal;
+use std::alloc::{AllocGlobal, Global};
 use std::marker::Brand;
 use std::sync::Wait;
 use std::thread::{self, Threads};
-use store::{Client, Naming, Opened, Store};
+use store::{Client, Naming, Opened, Seen, Store};
 
-/// A store that is open, as its clients see it: what threads share of it.
-pub trait Clients<J: Naming> {
-    /// A new client, as `Store::client` makes it, with its refusal.
+/// What each of a program's threads does with a store.
+pub trait Work {
+    ghost use Rattle.std.specs.Prelude.{ℕ, ⊤};
+    ghost use Rattle.store.specs.Known.{Known};
+
+    type Output: Send + Drop;
+
+    /// What the answer of the thread of this number says of what its client knows at the end, of
+    /// the history and of the mark.
+    ghost says: { Self → ℕ → Self.Output → Known → Type 0 } = { λ _ _ _ _. ⊤ };
+
+    /// What the thread of this number does; they are counted from 0. The client is its own. Behind
+    /// a commit that it will wait for it calls `Signal::wake`. What the client leaves open is
+    /// undone when the disk is opened again.
+    fn work<J: Naming, R: Wait + AllocGlobal>(
+        &self,
+        rt: &R,
+        client: &mut Client<'_, J>,
+        signal: &Signal,
+        thread: usize,
+    ) -> Self::Output
+        requires { client.old ≡ newcomer client.old.number }
+        ensures { says self.now thread result client.new };
+}
+
+/// The disk of a store that was worked on and closed.
+#[derive(Drop)]
+pub struct Closed<D> {
+    pub disk: D,
+    /// The commits and makings up to this place are kept through a stop: all whose tickets have a
+    /// place that is not above it. 0 where the store was not opened.
+    pub kept: u64,
+}
+
+// A store that is open, as its clients see it: what threads share of it.
+trait Clients<J: Naming> {
+    // A new client, as `Store::client` makes it, with its refusal.
     fn client<R: Wait>(&self, rt: &R) -> Result<Client<'_, J>, Refusal>
-        ensures client { IfOk result (λ c. c ≡ record {
-          number = c.number;
-          seen = [];
-          counts = [];
-          flags = [];
-          drawn = [];
-          phase = Phase.Closed;
-        }) }
+        ensures client { IfOk result (λ c. c ≡ newcomer c.number) }
         ensures worn { IsOkUnless result Refusal.Worn };
 }
 
@@ -38,45 +68,38 @@ impl<D: Disk, J: Naming> Clients<J> for Store<D, J> {
     }
 }
 
-/// What each of a program's threads does with a store.
-pub trait Work {
-    type Output: Send + Drop;
-
-    /// What the thread of this number does; they are counted from 0. It makes a client of its own.
-    /// Behind a commit that it will wait for it calls `Signal::wake`. What clients leave open is
-    /// undone when the disk is opened again.
-    fn work<J: Naming, S: Clients<J>, R: Wait + AllocGlobal>(
-        &self,
-        rt: &R,
-        store: &S,
-        signal: &Signal,
-        thread: usize,
-    ) -> Self::Output;
-}
+// What a thread answered, and what its client had seen.
+type Ended<O, J> = Result<(O, Seen<J>), Refusal>;
 
 /// Opens the store of a disk, works on it in so many threads, beside one that brings what is
 /// committed to the disk (`start`), and closes it once all work has ended and all that it committed
-/// is there. Answers what the threads answered, in their order, with the disk. Where the system
-/// makes no more threads, a thread does the work of several, one after another.
+/// is there. Answers what the threads answered, in their order, with the disk and how much of what
+/// was committed is kept there. Where the system makes no more threads, a thread does the work of
+/// several, one after another.
 ///
 /// On a disk at rest that reads true until it is open, and whose bytes stand for a content, a stop
-/// in the opening leaves the content, and one behind the call a beginning of what was committed.
-/// How much of it no clause of this call says: `Store::close` does, of what a client was told.
+/// in the opening leaves the content, and one behind the call a beginning of what was committed,
+/// which has all commits up to `kept`. What a thread's client has seen begins the history of these
+/// commits, and no count of kept commits that it was told is past `kept`: so a commit that a thread
+/// was told is kept is there. Each answer says of its client what `Work::says` says.
 ///
 /// The refusals of `Opened::open`, and NoMemory where the committer's thread cannot be started: no
-/// work is begun then. NoMemory also where the answers take more than there is: then some of the
-/// work may be done.
+/// work is begun then. NoMemory also where the answers take more than there is, and Worn where a
+/// thread above the 65,536th wants a client: then some of the work may be done.
 pub fn run<D: Disk + Drop + Send, W: Work + Sync, R: Threads + Wait + AllocGlobal + Sync>(
     rt: &R,
     disk: D,
     work: &W,
     threads: usize,
-) -> (Result<Vec<W::Output>, Refusal>, D)
-    ensures left { IsLeftByWork ⟦<D as Disk>⟧ disk result.1 }
+) -> (Result<Vec<W::Output>, Refusal>, Closed<D>)
+    ensures answers { IfOk result.0 (λ answers. vec_len answers ≡ threads) }
+    ensures opened { IfOk result.0 (λ answers. WasOpened ⟦<D as Disk>⟧
+        (AreTold (W.says work.now) answers.items result.1.kept) disk result.1.disk result.1.kept) }
+    ensures left { IsLeftByWork ⟦<D as Disk>⟧ disk result.1.disk result.1.kept }
 {
     match Opened::open(rt.alloc(), disk) {
         Ok(opened) => run_opened::<Brand, D, W, R>(rt, opened, work, threads),
-        Err((refusal, disk)) => (Err(refusal), disk),
+        Err((refusal, disk)) => (Err(refusal), Closed { disk, kept: 0 }),
     }
 }
 
@@ -86,14 +109,80 @@ fn run_opened<
     D: Disk + Drop + Send,
     W: Work + Sync,
     R: Threads + Wait + AllocGlobal + Sync,
->(rt: &R, opened: Opened<D>, work: &W, threads: usize) -> (Result<Vec<W::Output>, Refusal>, D)
+>(
+    rt: &R,
+    opened: Opened<D>,
+    work: &W,
+    threads: usize,
+) -> (Result<Vec<W::Output>, Refusal>, Closed<D>)
     requires { IsNamed ⟦<J as Naming>⟧ ⟦<D as Disk>⟧ opened }
-    ensures { IsClosed ⟦<J as Naming>⟧ ⟦<D as Disk>⟧ result.1 }
+    ensures answers { IfOk result.0 (λ answers. vec_len answers ≡ threads) }
+    ensures closed { IsClosed ⟦<J as Naming>⟧ ⟦<D as Disk>⟧ (λ seen counts. IfOk result.0
+        (λ answers. AreParts (W.says work.now) answers.items seen counts)) result.1.disk
+        result.1.kept }
 {
     let store = opened.named::<J>();
-    let done = run_beside::<J, Store<D, J>, W, R>(rt, &store, work, threads);
-    let (_, keeper) = store.close(None);
-    (done, keeper.into_disk())
+    match run_beside::<J, Store<D, J>, W, R>(rt, &store, work, threads) {
+        Ok(ended) => match gather::<J, D, W>(rt.alloc(), &store, work, ended) {
+            Ok((answers, last)) => (Ok(answers), close(store, last)),
+            Err(refusal) => (Err(refusal), close(store, None)),
+        },
+        Err(refusal) => (Err(refusal), close(store, None)),
+    }
+}
+
+// Closes a store whose clients had seen so much.
+fn close<J: Naming, D: Disk + Drop>(store: Store<D, J>, last: Option<Seen<J>>) -> Closed<D>
+    ensures { IsClosed ⟦<J as Naming>⟧ ⟦<D as Disk>⟧
+        (λ seen counts. (seen ≡ seen_of last) × (counts ≡ counts_of last)) result.disk
+        result.kept }
+{
+    let (_, keeper) = store.close(last);
+    let kept = keeper.mark();
+    Closed {
+        disk: keeper.into_disk(),
+        kept,
+    }
+}
+
+// Takes what the threads answered, in their order, from what their clients had seen, which is put
+// together.
+fn gather<J: Naming, D: Disk, W: Work>(
+    alloc: Global,
+    store: &Store<D, J>,
+    work: &W,
+    ended: Vec<Ended<W::Output, J>>,
+) -> Result<(Vec<W::Output>, Option<Seen<J>>), Refusal>
+    requires { AreSaid (W.says work.now) ended.items (vec_len ended) }
+    ensures len { IfOk result (λ r. vec_len r.0 ≡ vec_len ended) }
+    ensures parts { IfOk result (λ r.
+        AreParts (W.says work.now) r.0.items (seen_of r.1) (counts_of r.1)) }
+{
+    let _ = work;
+    let mut answers = Vec::new(alloc);
+    let mut last = None;
+    for one in ended {
+        let (answer, seen) = one?;
+        last = Some(put_together(store, last, seen));
+        answers.push(answer)?;
+    }
+    Ok((answers, last))
+}
+
+// What a client had seen, with what others had, if there are any.
+fn put_together<J: Naming, D: Disk>(
+    store: &Store<D, J>,
+    others: Option<Seen<J>>,
+    seen: Seen<J>,
+) -> Seen<J>
+    ensures others { IsPrefix (seen_of others) result.seen }
+    ensures seen { IsPrefix seen.seen result.seen }
+    ensures counts { result.counts ≡ counts_of others ++ seen.counts }
+{
+    match others {
+        Some(others) => store.together(others, seen),
+        None => seen,
+    }
 }
 
 // Works on a store beside its committer's thread.
@@ -102,14 +191,20 @@ fn run_beside<
     S: Commits + Clients<J> + Sync,
     W: Work + Sync,
     R: Threads + Wait + AllocGlobal + Sync,
->(rt: &R, store: &S, work: &W, threads: usize) -> Result<Vec<W::Output>, Refusal> {
+>(rt: &R, store: &S, work: &W, threads: usize) -> Result<Vec<Ended<W::Output, J>>, Refusal>
+    ensures len { IfOk result (λ ended. vec_len ended ≡ threads) }
+    ensures said { IfOk result (λ ended. AreSaid (W.says work.now) ended.items threads) }
+{
     let (signal, sleeper) = Signal::new(rt.alloc())?;
     let signal = &signal;
     thread::scope(
         thread::scope_env(),
         rt,
-        move |scope| -> Result<Vec<W::Output>, Refusal>
+        move |scope| -> Result<Vec<Ended<W::Output, J>>, Refusal>
             requires { IsSend J.row × IsSync J.row × IsSync S.row × IsSync W.row × IsSync R.row }
+            ensures len { IfOk result (λ ended. vec_len ended ≡ threads) }
+            ensures said { IfOk result (λ ended.
+                AreSaid (W.says work.entry.now) ended.items threads) }
         {
             let committer = start(scope, rt, store, signal, sleeper)?;
             let done = work_all::<J, S, W, R>(rt, store, work, signal, threads);
@@ -126,9 +221,35 @@ fn work_all<
     S: Clients<J> + Sync,
     W: Work + Sync,
     R: Threads + Wait + AllocGlobal + Sync,
->(rt: &R, store: &S, work: &W, signal: &Signal, threads: usize) -> Result<Vec<W::Output>, Refusal> {
-    let one = |thread: usize| -> W::Output { work.work::<J, S, R>(rt, store, signal, thread) };
+>(
+    rt: &R,
+    store: &S,
+    work: &W,
+    signal: &Signal,
+    threads: usize,
+) -> Result<Vec<Ended<W::Output, J>>, Refusal>
+    ensures len { IfOk result (λ ended. vec_len ended ≡ threads) }
+    ensures said { IfOk result (λ ended. AreSaid (W.says work.now) ended.items threads) }
+{
+    let one = |thread: usize| -> Ended<W::Output, J>
+        ensures { IfOk result (λ e. IsSaid (W.says work.entry.now) thread e.0 e.1) }
+    { work_one::<J, S, W, R>(rt, store, work, signal, thread) };
     Ok(thread::map_indices(rt, rt.alloc(), threads, &one)?)
+}
+
+// Does the work of one thread, with a client of its own.
+fn work_one<J: Naming, S: Clients<J>, W: Work, R: Wait + AllocGlobal>(
+    rt: &R,
+    store: &S,
+    work: &W,
+    signal: &Signal,
+    thread: usize,
+) -> Ended<W::Output, J>
+    ensures { IfOk result (λ e. IsSaid (W.says work.now) thread e.0 e.1) }
+{
+    let mut client = store.client(rt)?;
+    let answer = work.work::<J, R>(rt, &mut client, signal, thread);
+    Ok((answer, client.leave()))
 }
 
 /// Refused with the first refusal that threads answered, if there is one.

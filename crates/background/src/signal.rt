@@ -2,12 +2,14 @@
 use crossbeam_utils::sync::{Parker, Unparker};
 use std::alloc::{AllocError, Global};
 use std::sync::Wait;
-use std::sync::atomic::{AtomicBool, Ordering};
+use std::sync::atomic::{AtomicBool, AtomicU64, Ordering};
 
 /// Wakes a store's committer, and tells it when no more commits come. Threads share it.
 #[derive(Drop)]
 pub struct Signal {
     unparker: Unparker,
+    is_asleep: AtomicBool,
+    wakes: AtomicU64,
     is_over: AtomicBool,
 }
 
@@ -22,14 +24,22 @@ impl Signal {
     pub fn new(alloc: Global) -> Result<(Signal, Sleeper), AllocError> {
         let parker = Parker::new(alloc)?;
         let unparker = parker.unparker().clone()?;
-        let is_over = AtomicBool::new(false);
-        Ok((Signal { unparker, is_over }, Sleeper { parker }))
+        let signal = Signal {
+            unparker,
+            is_asleep: AtomicBool::new(false),
+            wakes: AtomicU64::new(0),
+            is_over: AtomicBool::new(false),
+        };
+        Ok((signal, Sleeper { parker }))
     }
 
-    /// Something was committed, or made: wakes the committer. It takes no memory, and waits for
-    /// nobody.
+    /// Something was committed, or made: wakes the committer, if it sleeps. It takes no memory, and
+    /// waits for nobody.
     pub fn wake(&self) {
-        self.unparker.unpark();
+        self.wakes.fetch_add(1, Ordering::SeqCst);
+        if self.is_asleep.load(Ordering::SeqCst) {
+            self.unparker.unpark();
+        }
     }
 
     /// No more commits come: once all that was committed is on the disk, the committer ends. It
@@ -42,11 +52,22 @@ impl Signal {
     pub(crate) fn is_over(&self) -> bool {
         self.is_over.load(Ordering::SeqCst)
     }
+
+    // How often it was called for the committer.
+    pub(crate) fn wakes(&self) -> u64 {
+        self.wakes.load(Ordering::SeqCst)
+    }
 }
 
 impl Sleeper {
-    // Sleeps until the signal wakes it, or did since the last sleep.
-    pub(crate) fn sleep<R: Wait>(&self, rt: &R) {
-        self.parker.park(rt);
+    // Sleeps until the signal is called for more than so many wakes; it may end early. Who wakes
+    // counts first and asks then whether the committer sleeps, which it tells before it looks at
+    // the count: so one of the two sees the other.
+    pub(crate) fn sleep<R: Wait>(&self, rt: &R, signal: &Signal, wakes: u64) {
+        signal.is_asleep.store(true, Ordering::SeqCst);
+        if signal.wakes() == wakes {
+            self.parker.park(rt);
+        }
+        signal.is_asleep.store(false, Ordering::SeqCst);
     }
 }

@@ -1,7 +1,8 @@
 // Transactions that are tried until they go through.
-ghost use Rattle.std.specs.Prelude.{◌≡◌, OnOk};
+ghost use Rattle.std.specs.Prelude.{◌≡◌, IfOk, OnOk};
 ghost use Rattle.store.specs.declared.phase.Phase.{Phase};
 ghost use Rattle.store.specs.Calls.{IsOpen};
+ghost use Rattle.background.specs.Works.{HasCommitted, WasToldKept};
 
 use crate::signal::Signal;
 use calls::Refusal;
@@ -38,7 +39,8 @@ pub fn transact<T: Transaction, J: Naming, R: Wait>(
     signal: &Signal,
     transaction: &T,
 ) -> Result<(T::Output, Ticket), Refusal>
-    ensures { OnOk result (client.new.phase ≡ Phase.Closed) }
+    ensures closed { OnOk result (client.new.phase ≡ Phase.Closed) }
+    ensures committed { IfOk result (λ done. HasCommitted client.new done.1.place) }
 {
     let backoff = Backoff::new();
     for _ in rt.forever() {
@@ -59,6 +61,24 @@ pub fn transact<T: Transaction, J: Naming, R: Wait>(
     unreachable!()
 }
 
+/// Commits a transaction as `transact` does, and waits until it is kept.
+///
+/// The refusals of `transact`. Lost where keeping failed, with the transaction in effect.
+pub fn keep<T: Transaction, J: Naming, R: Wait>(
+    rt: &R,
+    client: &mut Client<'_, J>,
+    signal: &Signal,
+    transaction: &T,
+) -> Result<(T::Output, Ticket), Refusal>
+    ensures closed { OnOk result (client.new.phase ≡ Phase.Closed) }
+    ensures committed { IfOk result (λ done. HasCommitted client.new done.1.place) }
+    ensures kept { IfOk result (λ done. WasToldKept client.new done.1.place) }
+{
+    let (output, ticket) = transact(rt, client, signal, transaction)?;
+    client.wait(rt, &ticket)?;
+    Ok((output, ticket))
+}
+
 // Whether a transaction that was refused so may go through later.
 fn is_passing(refusal: Refusal) -> bool {
     matches!(
@@ -73,7 +93,8 @@ fn attempt<T: Transaction, J: Naming, R: Wait>(
     client: &mut Client<'_, J>,
     transaction: &T,
 ) -> Result<(T::Output, Ticket), Refusal>
-    ensures { OnOk result (client.new.phase ≡ Phase.Closed) }
+    ensures closed { OnOk result (client.new.phase ≡ Phase.Closed) }
+    ensures committed { IfOk result (λ done. HasCommitted client.new done.1.place) }
 {
     begin(rt, client)?;
     let output = transaction.make_calls(rt, client)?;

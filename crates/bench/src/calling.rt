@@ -1,16 +1,9 @@
 // The calls that clients make.
-use crate::log::Log;
 use crate::workload::Workload;
-use calls::{Bytes, Call};
+use calls::{Bytes, Call, Kind};
 use rand_core::utils::NextWord;
 use rand_pcg::Pcg32;
 use std::alloc::{AllocError, Global};
-
-/// How many keys the map has.
-pub const KEYS: u32 = 100_000;
-
-/// How many jobs are there at the start.
-pub const FIRST_JOBS: u32 = 1000;
 
 // Priorities of jobs are below that.
 const PRIORITIES: u32 = 1000;
@@ -18,51 +11,60 @@ const PRIORITIES: u32 = 1000;
 // How many bytes a value has.
 const VALUE_SIZE: usize = 100;
 
-/// How many calls make what is there at the start.
-pub fn first_count(workload: Workload) -> u32 {
-    match workload {
-        Workload::JobQueue => FIRST_JOBS,
-        Workload::Map => KEYS,
-        _ => 0,
-    }
+/// What the collection of a workload holds at the start.
+#[derive(Clone, Copy)]
+pub struct Content {
+    pub workload: Workload,
+    /// How many calls made it, which is how many entries it has; of a counter it is its number.
+    pub size: u32,
 }
 
-/// The call of this number, of those that make what is there at the start. Of a counter each is a
-/// bump.
-pub fn first_call(
-    alloc: Global,
-    workload: Workload,
-    number: u64,
-    numbers: &mut Pcg32,
-) -> Result<Call, AllocError> {
-    match workload {
-        Workload::JobQueue => Ok(Call::QueueAdd(priority(numbers), tag(u64::MAX, number))),
-        Workload::Map => Ok(Call::Put(number, value(alloc, b'v')?)),
-        _ => Ok(Call::Bump(1)),
+impl Content {
+    /// What a store holds for the workload.
+    pub fn of(workload: Workload) -> Content {
+        Content {
+            workload,
+            size: workload.first_count(),
+        }
     }
-}
 
-/// The call of a client's next transaction: every other client of the queue puts jobs, and the
-/// others take them.
-pub fn next_call(
-    alloc: Global,
-    workload: Workload,
-    client: u64,
-    numbers: &mut Pcg32,
-    log: &mut Log,
-) -> Result<Call, AllocError> {
-    match workload {
-        Workload::JobQueue if client % 2 == 1 => Ok(Call::Take),
-        Workload::JobQueue => {
-            log.put = log.put.wrapping_add(1);
-            Ok(Call::QueueAdd(priority(numbers), tag(client, log.put)))
+    /// The call of this number, of those that make it.
+    pub fn first_call(
+        &self,
+        alloc: Global,
+        number: u64,
+        numbers: &mut Pcg32,
+    ) -> Result<Call, AllocError> {
+        match self.workload.kind() {
+            Kind::Queue => Ok(Call::QueueAdd(priority(numbers), tag(u64::MAX, number))),
+            Kind::Map => Ok(Call::Put(number, value(alloc, b'v')?)),
+            Kind::Pool => Ok(Call::Draw),
+            _ => Ok(Call::Bump(1)),
         }
-        Workload::Ids => Ok(Call::Draw),
-        Workload::Map => {
-            let key = u64::from(numbers.next_word() % KEYS);
-            Ok(Call::Put(key, value(alloc, b'a')?))
+    }
+
+    /// The call of a client's next transaction: every other client of the queue puts jobs, so many
+    /// so far, and the others take them.
+    pub fn next_call(
+        &self,
+        alloc: Global,
+        client: u64,
+        numbers: &mut Pcg32,
+        put: &mut u64,
+    ) -> Result<Call, AllocError> {
+        match self.workload.kind() {
+            Kind::Queue if client % 2 == 1 => Ok(Call::Take),
+            Kind::Queue => {
+                *put = put.wrapping_add(1);
+                Ok(Call::QueueAdd(priority(numbers), tag(client, *put)))
+            }
+            Kind::Map => {
+                let key = u64::from(numbers.next_word() % self.size.max(1));
+                Ok(Call::Put(key, value(alloc, b'a')?))
+            }
+            Kind::Pool => Ok(Call::Draw),
+            _ => Ok(Call::Bump(1)),
         }
-        _ => Ok(Call::Bump(1)),
     }
 }
 

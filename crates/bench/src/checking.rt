@@ -1,15 +1,14 @@
 // Whether what is read at the end is what was acknowledged.
-use crate::calling::{FIRST_JOBS, KEYS};
 use crate::log::Log;
 use crate::outcome::Outcome;
 use crate::workload::Workload;
-use calls::{Item, Refusal};
+use calls::{Item, Kind, Refusal};
 use catalog::Catalog;
 use std::alloc::{AllocError, Global};
 
 /// Whether the content of a store is what its clients were told: the counter's number is the count
-/// of transactions; no identifier was drawn twice, and all that were drawn are taken; no job was
-/// taken twice, and those are left that were put and not taken; all keys are there.
+/// of calls; no identifier was drawn twice, and all that were drawn are taken; no job was taken
+/// twice, and those are left that were put and not taken; all keys are there.
 pub fn is_right(
     alloc: Global,
     catalog: &Catalog,
@@ -22,14 +21,17 @@ pub fn is_right(
     let taken = all_taken(alloc, outcome.logs.as_slice())?;
     let are_once = taken.windows(2).all(|pair| pair[0] != pair[1]);
     let taken = taken.len() as u64;
-    match workload {
-        Workload::Ids => Ok(are_once && count == taken),
-        Workload::JobQueue => {
-            let put = outcome.put().wrapping_add(u64::from(FIRST_JOBS));
-            Ok(are_once && count.wrapping_add(taken) == put)
+    let first = u64::from(workload.first_count());
+    match workload.kind() {
+        Kind::Pool => Ok(are_once && count == taken.wrapping_add(first)),
+        Kind::Queue => {
+            Ok(are_once && count.wrapping_add(taken) == outcome.put().wrapping_add(first))
         }
-        Workload::Map => Ok(count == u64::from(KEYS)),
-        _ => Ok(total(items) == Some(i128::from(outcome.commits()))),
+        Kind::Map => Ok(count == first),
+        _ => {
+            let calls = outcome.commits().wrapping_mul(u64::from(workload.calls()));
+            Ok(total(items) == Some(i128::from(calls)))
+        }
     }
 }
 

@@ -1,5 +1,5 @@
-// Transactions of one call.
-use crate::calling::first_call;
+// Transactions of the same call.
+use crate::calling::Content;
 use crate::workload::Workload;
 use background::{Signal, Transaction, transact};
 use calls::{Call, Refusal, Reply};
@@ -8,14 +8,15 @@ use std::alloc::AllocGlobal;
 use std::sync::Wait;
 use store::{Client, Naming};
 
-/// A transaction of one call, of the collection that its workload has.
+/// A transaction of one call, of the collection that its workload has, or of as many of the same as
+/// the workload's transactions have.
 #[derive(Drop)]
-pub struct OneCall {
+pub struct SameCall {
     pub workload: Workload,
     pub call: Call,
 }
 
-impl Transaction for OneCall {
+impl Transaction for SameCall {
     type Output = Reply;
 
     fn make_calls<J: Naming, R: Wait>(
@@ -23,40 +24,31 @@ impl Transaction for OneCall {
         rt: &R,
         client: &mut Client<'_, J>,
     ) -> Result<Reply, Refusal> {
-        client.call(rt, self.workload.collection(), &self.call)
+        let name = self.workload.collection();
+        for _ in 1..self.workload.calls() {
+            client.call(rt, name, &self.call)?;
+        }
+        client.call(rt, name, &self.call)
     }
 }
 
-/// Commits a transaction, and waits until it is kept: its reply.
+/// Commits so many of the calls that make the content, each in a transaction, without waiting
+/// between them, and waits for the last one.
 ///
-/// The refusals of `transact`; Lost where the disk failed.
-pub fn keep<J: Naming, R: Wait>(
-    rt: &R,
-    client: &mut Client<'_, J>,
-    signal: &Signal,
-    transaction: &OneCall,
-) -> Result<Reply, Refusal> {
-    let (reply, ticket) = transact(rt, client, signal, transaction)?;
-    client.wait(rt, &ticket)?;
-    Ok(reply)
-}
-
-/// Commits so many of the workload's first calls, each in a transaction, without waiting between
-/// them, and waits for the last one.
-///
-/// The refusals of `keep`; NoMemory.
+/// The refusals of `transact`; Lost where the disk failed; NoMemory.
 pub fn commit_all<J: Naming, R: Wait + AllocGlobal>(
     rt: &R,
     client: &mut Client<'_, J>,
     signal: &Signal,
-    workload: Workload,
+    content: Content,
     count: u64,
 ) -> Result<(), Refusal> {
+    let workload = content.workload;
     let mut numbers = Pcg32::new(0, 1);
     let mut last = None;
     for number in 0..count {
-        let call = first_call(rt.alloc(), workload, number, &mut numbers)?;
-        let (_, ticket) = transact(rt, client, signal, &OneCall { workload, call })?;
+        let call = content.first_call(rt.alloc(), number, &mut numbers)?;
+        let (_, ticket) = transact(rt, client, signal, &SameCall { workload, call })?;
         last = Some(ticket);
     }
     if let Some(ticket) = last {

@@ -5,11 +5,16 @@
 //! COUNT transactions and begin none after SECONDS; the store's file lies in the folder DIR. The
 //! workloads are those of `Workload`.
 //!
+//! `book WORKLOAD OTHERS COUNT SIZE DIR` measures a book by itself, on one thread and without a
+//! disk: COUNT transactions on a collection of SIZE entries, beside OTHERS live transactions of
+//! 1,000 calls each. Nothing is done in DIR.
+//!
 //! `openfill` ends without closing the store, as far as its file can tell: it returns with the file
 //! as the last sync left it, since the program does not kill itself, and neither closing a store
 //! nor opening one with no unfinished transaction writes anything.
 #![tactic(auto)]
 
+mod book_cost;
 mod calling;
 mod checking;
 mod committing;
@@ -27,6 +32,7 @@ mod trouble;
 mod window;
 mod workload;
 
+use book_cost::Cost;
 use filing::make_disk;
 use options::Options;
 use std::alloc::AllocGlobal;
@@ -47,6 +53,9 @@ impl<R: Threads + Wait + Clock + Env + Files<File = File> + Print + AllocGlobal>
 // Does what the words of the command line ask for.
 fn obey<R: System + Sync>(rt: &R) -> Result<(), Trouble> {
     let words: Vec<String> = env::args(rt)?.collect(rt.alloc())?;
+    if let Some(cost) = Cost::read(words.as_slice()) {
+        return cost.measure(rt);
+    }
     let Some(options) = Options::read(words.as_slice()) else {
         return Err(Trouble::Usage);
     };

@@ -1,12 +1,12 @@
 // The clients that are measured.
-use crate::calling::next_call;
-use crate::committing::{OneCall, commit_all, keep};
+use crate::calling::Content;
+use crate::committing::{SameCall, commit_all};
 use crate::log::Log;
 use crate::trouble::Trouble;
 use crate::window::Window;
 use crate::workload::Workload;
-use background::{Clients, Signal, Work};
-use calls::Reply;
+use background::{Signal, Work, keep};
+use calls::{Kind, Reply};
 use rand_pcg::Pcg32;
 use std::alloc::AllocGlobal;
 use std::rt::Clock;
@@ -32,17 +32,16 @@ pub struct Measuring<'a, C> {
 impl<C: Clock + Print> Work for Measuring<'_, C> {
     type Output = Result<Log, Trouble>;
 
-    fn work<J: Naming, S: Clients<J>, R: Wait + AllocGlobal>(
+    fn work<J: Naming, R: Wait + AllocGlobal>(
         &self,
         rt: &R,
-        store: &S,
+        client: &mut Client<'_, J>,
         signal: &Signal,
         thread: usize,
     ) -> Result<Log, Trouble> {
-        let mut client = store.client(rt)?;
         match self.workload {
-            Workload::CounterAsync | Workload::OpenFill => self.fill(rt, &mut client, signal),
-            _ => self.run(rt, &mut client, signal, thread as u64),
+            Workload::CounterAsync | Workload::OpenFill => self.fill(rt, client, signal),
+            _ => self.run(rt, client, signal, thread as u64),
         }
     }
 }
@@ -56,7 +55,7 @@ impl<C: Clock + Print> Measuring<'_, C> {
         signal: &Signal,
     ) -> Result<Log, Trouble> {
         let mut log = Log::new(rt.alloc(), Instant::now(self.clock)?);
-        commit_all(rt, client, signal, self.workload, self.count)?;
+        commit_all(rt, client, signal, Content::of(self.workload), self.count)?;
         log.end = Instant::now(self.clock)?;
         log.commits = self.count;
         Ok(log)
@@ -72,15 +71,16 @@ impl<C: Clock + Print> Measuring<'_, C> {
         number: u64,
     ) -> Result<Log, Trouble> {
         let workload = self.workload;
+        let content = Content::of(workload);
         let mut numbers = Pcg32::new(number, 1);
         let mut log = Log::new(rt.alloc(), Instant::now(self.clock)?);
         for _ in rt.forever() {
             if !self.window.admits(&log) {
                 return Ok(log);
             }
-            let call = next_call(rt.alloc(), workload, number, &mut numbers, &mut log)?;
+            let call = content.next_call(rt.alloc(), number, &mut numbers, &mut log.put)?;
             let start = log.end;
-            let reply = keep(rt, client, signal, &OneCall { workload, call })?;
+            let (reply, _) = keep(rt, client, signal, &SameCall { workload, call })?;
             log.end = Instant::now(self.clock)?;
             self.note(reply, start, &mut log)?;
             self.tell(number, &log)?;
@@ -99,7 +99,7 @@ impl<C: Clock + Print> Measuring<'_, C> {
     // Notes what a transaction came to, and how long it took. One that found no job is not counted.
     fn note(&self, reply: Reply, start: Instant, log: &mut Log) -> Result<(), Trouble> {
         match reply {
-            Reply::Nothing if self.workload == Workload::JobQueue => {
+            Reply::Nothing if self.workload.kind() == Kind::Queue => {
                 self.window.give_back();
                 thread::yield_now();
                 return Ok(());

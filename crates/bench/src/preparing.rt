@@ -1,12 +1,12 @@
 // What is there before the clients are measured.
-use crate::calling::first_count;
+use crate::calling::Content;
 use crate::committing::commit_all;
 use crate::workload::Workload;
-use background::{Clients, Signal, Work};
+use background::{Signal, Work};
 use calls::Refusal;
 use std::alloc::AllocGlobal;
 use std::sync::Wait;
-use store::Naming;
+use store::{Client, Naming};
 
 /// Makes the collection of a workload, with what it holds at the start.
 #[derive(Clone, Copy)]
@@ -17,19 +17,18 @@ pub struct Preparing {
 impl Work for Preparing {
     type Output = Result<(), Refusal>;
 
-    fn work<J: Naming, S: Clients<J>, R: Wait + AllocGlobal>(
+    fn work<J: Naming, R: Wait + AllocGlobal>(
         &self,
         rt: &R,
-        store: &S,
+        client: &mut Client<'_, J>,
         signal: &Signal,
         _thread: usize,
     ) -> Result<(), Refusal> {
         let workload = self.workload;
-        let mut client = store.client(rt)?;
         let ticket = client.make(rt, workload.collection(), workload.kind())?;
         signal.wake();
         client.wait(rt, &ticket)?;
-        let count = u64::from(first_count(workload));
-        commit_all(rt, &mut client, signal, workload, count)
+        let content = Content::of(workload);
+        commit_all(rt, client, signal, content, u64::from(content.size))
     }
 }

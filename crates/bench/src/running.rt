@@ -25,10 +25,10 @@ pub fn measure<
     R: Threads + Wait + Clock + Env + Files + Print + AllocGlobal + Sync,
 >(rt: &R, disk: D, options: &Options<'_>) -> Result<(Outcome, bool), Trouble> {
     let workload = options.workload;
-    let (prepared, disk) = run(rt, disk, &Preparing { workload }, 1);
+    let (prepared, closed) = run(rt, disk, &Preparing { workload }, 1);
     all_ended(prepared?.as_slice())?;
     let before = Counts::read(rt);
-    let (logs, disk) = run_clients(rt, disk, options)?;
+    let (logs, disk) = run_clients(rt, closed.disk, options)?;
     let outcome = Outcome {
         logs,
         counts: Counts::read(rt).since(before),
@@ -50,8 +50,8 @@ fn run_clients<D: Disk + Drop + Send, R: Threads + Wait + Clock + Print + AllocG
         count: options.count,
         window: Window::new(options),
     };
-    let (logs, disk) = run(rt, disk, &clients, options.threads());
-    Ok((all_logs(rt.alloc(), logs?)?, disk))
+    let (logs, closed) = run(rt, disk, &clients, options.threads());
+    Ok((all_logs(rt.alloc(), logs?)?, closed.disk))
 }
 
 // What each client did, where none met trouble.

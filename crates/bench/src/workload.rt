@@ -8,10 +8,16 @@ pub enum Workload {
     Counter,
     /// Every other one puts a job of a random priority, the others take the least.
     JobQueue,
+    /// The same, with a million jobs there at the start.
+    JobQueueMillion,
     /// Each draws an identifier.
     Ids,
+    /// The same, with a million identifiers taken at the start.
+    IdsMillion,
     /// Each puts a value of 100 bytes at a random key of 100,000, all of which are there.
     Map,
+    /// Each adds 1 to the one counter 1,024 times in a transaction.
+    Long,
     /// One adds 1 to the counter, again and again, and waits for the last time alone.
     CounterAsync,
     /// The same, and then the program ends without closing the store.
@@ -21,11 +27,14 @@ pub enum Workload {
 }
 
 // Each with the word for it.
-const WORDS: [(Workload, &str); 7] = [
+const WORDS: [(Workload, &str); 10] = [
     (Workload::Counter, "counter"),
     (Workload::JobQueue, "jobqueue"),
+    (Workload::JobQueueMillion, "jobqueue-million"),
     (Workload::Ids, "ids"),
+    (Workload::IdsMillion, "ids-million"),
     (Workload::Map, "map"),
+    (Workload::Long, "long"),
     (Workload::CounterAsync, "counter-async"),
     (Workload::OpenFill, "openfill"),
     (Workload::Open, "open"),
@@ -43,8 +52,11 @@ impl Workload {
         match self {
             Workload::Counter => "counter",
             Workload::JobQueue => "jobqueue",
+            Workload::JobQueueMillion => "jobqueue-million",
             Workload::Ids => "ids",
+            Workload::IdsMillion => "ids-million",
             Workload::Map => "map",
+            Workload::Long => "long",
             Workload::CounterAsync => "counter-async",
             Workload::OpenFill => "openfill",
             Workload::Open => "open",
@@ -53,10 +65,10 @@ impl Workload {
 
     /// The name of the collection that its clients call.
     pub fn collection(self) -> &'static str {
-        match self {
-            Workload::JobQueue => "jobs",
-            Workload::Ids => "ids",
-            Workload::Map => "map",
+        match self.kind() {
+            Kind::Queue => "jobs",
+            Kind::Pool => "ids",
+            Kind::Map => "map",
             _ => "hits",
         }
     }
@@ -64,10 +76,28 @@ impl Workload {
     /// The kind of that collection.
     pub fn kind(self) -> Kind {
         match self {
-            Workload::JobQueue => Kind::Queue,
-            Workload::Ids => Kind::Pool,
+            Workload::JobQueue | Workload::JobQueueMillion => Kind::Queue,
+            Workload::Ids | Workload::IdsMillion => Kind::Pool,
             Workload::Map => Kind::Map,
             _ => Kind::Counter,
+        }
+    }
+
+    /// How many entries that collection has at the start.
+    pub fn first_count(self) -> u32 {
+        match self {
+            Workload::JobQueue => 1000,
+            Workload::JobQueueMillion | Workload::IdsMillion => 1_000_000,
+            Workload::Map => 100_000,
+            _ => 0,
+        }
+    }
+
+    /// How many calls a transaction makes.
+    pub fn calls(self) -> u32 {
+        match self {
+            Workload::Long => 1024,
+            _ => 1,
         }
     }
 }

@@ -41,7 +41,7 @@ pub fn serve<D: Disk + Drop + Send, R: Threads + Wait + AllocGlobal + Sync>(
     ensures not_understood { result.0 ≡ 3 → (line : ℕ) × IsNotUnderstoodAt script.now line }
     ensures untouched { result.0 ≡ 3 → result.1 ≡ disk }
     ensures refused { result.0 ≡ 1 → IsUnderstood script.now ⊎ (result.1 ≡ disk) }
-    ensures left { IsLeftByWork ⟦<D as Disk>⟧ disk result.1 }
+    ensures left { IsLeftByWork ⟦<D as Disk>⟧ disk result.1 0 }
     ensures silent { (result.0 ≡ 0) ⊎ (result.0 ≡ 4) → err.new ≡ err.old }
 {
     match serve_script(rt, disk, script, out) {
@@ -59,7 +59,7 @@ fn serve_script<D: Disk + Drop + Send, R: Threads + Wait + AllocGlobal + Sync>(
 ) -> (Result<(), Failure<'static>>, D)
     ensures understood { OnOk result.0 (IsUnderstood script.now) }
     ensures why { IfErr result.0 (IsWhyUnplayed script.now (result.1 ≡ disk)) }
-    ensures left { IsLeftByWork ⟦<D as Disk>⟧ disk result.1 }
+    ensures left { IsLeftByWork ⟦<D as Disk>⟧ disk result.1 0 }
 {
     match parse(rt.alloc(), script) {
         Ok(lines) => serve_lines(rt, disk, lines.as_slice(), out),
@@ -75,13 +75,13 @@ fn serve_lines<D: Disk + Drop + Send, R: Threads + Wait + AllocGlobal + Sync>(
     out: &mut impl Write,
 ) -> (Result<(), Failure<'static>>, D)
     ensures why { IfErr result.0 IsOfStore }
-    ensures left { IsLeftByWork ⟦<D as Disk>⟧ disk result.1 }
+    ensures left { IsLeftByWork ⟦<D as Disk>⟧ disk result.1 0 }
 {
     match Script::new(rt.alloc(), lines) {
         Ok((script, receiver)) => {
-            let (ended, disk) = run(rt, disk, &script, script.threads());
+            let (ended, closed) = run(rt, disk, &script, script.threads());
             drop(script);
-            (print(rt, ended, receiver, out), disk)
+            (print(rt, ended, receiver, out), closed.disk)
         }
         Err(refusal) => (Err(Failure::Refused(refusal)), untouched(disk)),
     }
@@ -90,7 +90,7 @@ fn serve_lines<D: Disk + Drop + Send, R: Threads + Wait + AllocGlobal + Sync>(
 // The disk, of which a stop leaves the content, as nobody touched it.
 fn untouched<D: Disk>(disk: D) -> D
     ensures same { result ≡ disk }
-    ensures left { IsLeftByWork ⟦<D as Disk>⟧ disk result }
+    ensures left { IsLeftByWork ⟦<D as Disk>⟧ disk result 0 }
 {
     disk
 }

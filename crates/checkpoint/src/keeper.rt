@@ -116,6 +116,13 @@ impl<D: Disk> Keeper<D> {
         }
     }
 
+    /// The place up to which all commits and makings are kept: the mark.
+    pub fn mark(&self) -> u64
+        ensures { result ≡ self.now.mark }
+    {
+        self.mark
+    }
+
     /// How many pieces of the image are not yet written: none, where no image is in progress.
     pub fn left(&self) -> Option<u64>
         ensures { result ≡ pieces_left self.now.image }

@@ -2,7 +2,7 @@
 //! closed, opened again and drawn from once more. No identifier is given twice.
 #![tactic(auto)]
 
-use background::{Clients, Signal, Transaction, Work, all_ended, run, transact};
+use background::{Signal, Transaction, Work, all_ended, keep, run};
 use calls::limits::MIN_AREA;
 use calls::{Call, Kind, Refusal, Reply};
 use disk_model::{FileDisk, Unknown};
@@ -41,14 +41,14 @@ struct Making;
 impl Work for Making {
     type Output = Result<(), Refusal>;
 
-    fn work<J: Naming, S: Clients<J>, R: Wait + AllocGlobal>(
+    fn work<J: Naming, R: Wait + AllocGlobal>(
         &self,
         rt: &R,
-        store: &S,
+        client: &mut Client<'_, J>,
         _signal: &Signal,
         _thread: usize,
     ) -> Result<(), Refusal> {
-        store.client(rt)?.make(rt, "ids", Kind::Pool)?;
+        client.make(rt, "ids", Kind::Pool)?;
         Ok(())
     }
 }
@@ -59,18 +59,16 @@ struct Drawing;
 impl Work for Drawing {
     type Output = Result<Vec<u64>, Refusal>;
 
-    fn work<J: Naming, S: Clients<J>, R: Wait + AllocGlobal>(
+    fn work<J: Naming, R: Wait + AllocGlobal>(
         &self,
         rt: &R,
-        store: &S,
+        client: &mut Client<'_, J>,
         signal: &Signal,
         _thread: usize,
     ) -> Result<Vec<u64>, Refusal> {
-        let mut client = store.client(rt)?;
         let mut drawn = Vec::new(rt.alloc());
         for _ in 0..EACH {
-            let (id, ticket) = transact(rt, &mut client, signal, &Draw)?;
-            client.wait(rt, &ticket)?;
+            let (id, _ticket) = keep(rt, client, signal, &Draw)?;
             drawn.push(id)?;
         }
         Ok(drawn)
@@ -102,11 +100,11 @@ fn main(rt: HostRuntime) -> anyhow::Result<()> {
     file.set_len(4096 + 2 * MIN_AREA)?;
     let mut disk: FileDisk<Unknown> = FileDisk::open(file)?;
     format(&mut disk, MIN_AREA)?;
-    let (made, disk) = run(&rt, disk, &Making, 1);
+    let (made, closed) = run(&rt, disk, &Making, 1);
     all_ended(made?.as_slice())?;
-    let (drawn, disk) = run(&rt, disk, &Drawing, THREADS);
+    let (drawn, closed) = run(&rt, closed.disk, &Drawing, THREADS);
     let mut ids = all(rt.alloc(), drawn?)?;
-    drop(disk);
+    drop(closed);
     println!(rt; "drew {} identifiers", ids.len())?;
 
     let file = File::options()
@@ -114,7 +112,7 @@ fn main(rt: HostRuntime) -> anyhow::Result<()> {
         .write(true)
         .open(&rt, "ids.disk")?;
     let disk: FileDisk<Unknown> = FileDisk::open(file)?;
-    let (drawn, _disk) = run(&rt, disk, &Drawing, THREADS);
+    let (drawn, _closed) = run(&rt, disk, &Drawing, THREADS);
     let more = all(rt.alloc(), drawn?)?;
     println!(rt; "drew {} more once the file was opened again", more.len())?;
     ids.extend_from_slice(more.as_slice())?;

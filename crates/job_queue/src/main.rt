@@ -3,7 +3,7 @@
 //! once; each worker gives its first job up, which is there again.
 #![tactic(auto)]
 
-use background::{Clients, Signal, Transaction, Work, all_ended, run, transact};
+use background::{Signal, Transaction, Work, all_ended, keep, run, transact};
 use calls::limits::MIN_AREA;
 use calls::{Bytes, Call, Kind, Refusal, Reply};
 use disk_model::{FileDisk, Unknown};
@@ -97,14 +97,13 @@ struct Making;
 impl Work for Making {
     type Output = Result<(), Refusal>;
 
-    fn work<J: Naming, S: Clients<J>, R: Wait + AllocGlobal>(
+    fn work<J: Naming, R: Wait + AllocGlobal>(
         &self,
         rt: &R,
-        store: &S,
+        client: &mut Client<'_, J>,
         _signal: &Signal,
         _thread: usize,
     ) -> Result<(), Refusal> {
-        let mut client = store.client(rt)?;
         client.make(rt, "jobs", Kind::Queue)?;
         client.make(rt, "results", Kind::Map)?;
         Ok(())
@@ -121,18 +120,17 @@ struct Doing {
 impl Work for Doing {
     type Output = Result<(), Refusal>;
 
-    fn work<J: Naming, S: Clients<J>, R: Wait + AllocGlobal>(
+    fn work<J: Naming, R: Wait + AllocGlobal>(
         &self,
         rt: &R,
-        store: &S,
+        client: &mut Client<'_, J>,
         signal: &Signal,
         thread: usize,
     ) -> Result<(), Refusal> {
-        let mut client = store.client(rt)?;
         match thread {
-            0 => produce(rt, &mut client, signal, 0),
-            1 => produce(rt, &mut client, signal, EACH),
-            _ => consume(rt, &mut client, signal, &self.done),
+            0 => produce(rt, client, signal, 0),
+            1 => produce(rt, client, signal, EACH),
+            _ => consume(rt, client, signal, &self.done),
         }
     }
 }
@@ -148,8 +146,7 @@ fn produce<J: Naming, R: Wait>(
         let put = Put {
             job: first.wrapping_add(job),
         };
-        let (_, ticket) = transact(rt, client, signal, &put)?;
-        client.wait(rt, &ticket)?;
+        let (_, _ticket) = keep(rt, client, signal, &put)?;
     }
     Ok(())
 }
@@ -194,17 +191,16 @@ struct Counting;
 impl Work for Counting {
     type Output = Result<u64, Refusal>;
 
-    fn work<J: Naming, S: Clients<J>, R: Wait + AllocGlobal>(
+    fn work<J: Naming, R: Wait + AllocGlobal>(
         &self,
         rt: &R,
-        store: &S,
+        client: &mut Client<'_, J>,
         signal: &Signal,
         _thread: usize,
     ) -> Result<u64, Refusal> {
-        let mut client = store.client(rt)?;
         let mut count = 0u64;
         for job in 0..JOBS {
-            let (has_result, _) = transact(rt, &mut client, signal, &Look { job })?;
+            let (has_result, _) = transact(rt, client, signal, &Look { job })?;
             count = count.wrapping_add(u64::from(has_result));
         }
         Ok(count)
@@ -220,14 +216,14 @@ fn main(rt: HostRuntime) -> anyhow::Result<()> {
     file.set_len(4096 + 2 * MIN_AREA)?;
     let mut disk: FileDisk<Unknown> = FileDisk::open(file)?;
     format(&mut disk, MIN_AREA)?;
-    let (made, disk) = run(&rt, disk, &Making, 1);
+    let (made, closed) = run(&rt, disk, &Making, 1);
     all_ended(made?.as_slice())?;
     let doing = Doing {
         done: AtomicU64::new(0),
     };
-    let (done, disk) = run(&rt, disk, &doing, 4);
+    let (done, closed) = run(&rt, closed.disk, &doing, 4);
     all_ended(done?.as_slice())?;
-    drop(disk);
+    drop(closed);
     println!(rt; "{JOBS} jobs are done")?;
 
     let file = File::options()
@@ -235,7 +231,7 @@ fn main(rt: HostRuntime) -> anyhow::Result<()> {
         .write(true)
         .open(&rt, "jobs.disk")?;
     let disk: FileDisk<Unknown> = FileDisk::open(file)?;
-    let (counts, _disk) = run(&rt, disk, &Counting, 1);
+    let (counts, _closed) = run(&rt, disk, &Counting, 1);
     for count in counts? {
         println!(rt;
             "{} have their result once the file was opened again",

@@ -1,6 +1,6 @@
 // What the clients do.
 use crate::requests::{Asked, all_calls, calls_of};
-use background::{Clients, Signal, Transaction, Work, transact};
+use background::{Signal, Transaction, Work, keep};
 use calls::{Call, Kind, Refusal, Reply};
 use std::alloc::{AllocError, AllocGlobal, Global};
 use std::sync::Wait;
@@ -70,14 +70,13 @@ pub struct Making;
 impl Work for Making {
     type Output = Result<Vec<Round>, Refusal>;
 
-    fn work<J: Naming, S: Clients<J>, R: Wait + AllocGlobal>(
+    fn work<J: Naming, R: Wait + AllocGlobal>(
         &self,
         rt: &R,
-        store: &S,
+        client: &mut Client<'_, J>,
         _signal: &Signal,
         _thread: usize,
     ) -> Result<Vec<Round>, Refusal> {
-        let mut client = store.client(rt)?;
         client.make(rt, "set", Kind::Set)?;
         client.make(rt, "map", Kind::Map)?;
         client.make(rt, "queue", Kind::Queue)?;
@@ -93,23 +92,22 @@ pub struct Running;
 impl Work for Running {
     type Output = Result<Vec<Round>, Refusal>;
 
-    fn work<J: Naming, S: Clients<J>, R: Wait + AllocGlobal>(
+    fn work<J: Naming, R: Wait + AllocGlobal>(
         &self,
         rt: &R,
-        store: &S,
+        client: &mut Client<'_, J>,
         signal: &Signal,
         thread: usize,
     ) -> Result<Vec<Round>, Refusal> {
         let alloc = rt.alloc();
-        let mut client = store.client(rt)?;
         let mut rounds = Vec::new(alloc);
         for number in 0..EACH {
             let choice = Choice::Own(thread, number);
             let calls = Calls { alloc, choice };
             if number % 5 == 4 {
-                give_up(rt, &mut client, &calls)?;
+                give_up(rt, client, &calls)?;
             } else {
-                rounds.push(commit(rt, &mut client, signal, &calls)?)?;
+                rounds.push(commit(rt, client, signal, &calls)?)?;
             }
         }
         Ok(rounds)
@@ -122,10 +120,10 @@ pub struct Looking;
 impl Work for Looking {
     type Output = Result<Vec<Round>, Refusal>;
 
-    fn work<J: Naming, S: Clients<J>, R: Wait + AllocGlobal>(
+    fn work<J: Naming, R: Wait + AllocGlobal>(
         &self,
         rt: &R,
-        store: &S,
+        client: &mut Client<'_, J>,
         signal: &Signal,
         _thread: usize,
     ) -> Result<Vec<Round>, Refusal> {
@@ -134,9 +132,8 @@ impl Work for Looking {
             alloc,
             choice: Choice::All,
         };
-        let mut client = store.client(rt)?;
         let mut rounds = Vec::new(alloc);
-        rounds.push(commit(rt, &mut client, signal, &calls)?)?;
+        rounds.push(commit(rt, client, signal, &calls)?)?;
         Ok(rounds)
     }
 }
@@ -148,8 +145,7 @@ fn commit<J: Naming, R: Wait>(
     signal: &Signal,
     calls: &Calls,
 ) -> Result<Round, Refusal> {
-    let (calls, ticket) = transact(rt, client, signal, calls)?;
-    client.wait(rt, &ticket)?;
+    let (calls, ticket) = keep(rt, client, signal, calls)?;
     Ok(Round {
         place: ticket.place,
         calls,

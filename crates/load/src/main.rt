@@ -55,14 +55,14 @@ fn compare<
     work: &W,
     threads: usize,
 ) -> anyhow::Result<FileDisk<Unknown>> {
-    let (done, disk) = run(rt, disk, work, threads);
+    let (done, closed) = run(rt, disk, work, threads);
     let rounds = in_order(rt.alloc(), done?)?;
     let differences = differences(plain, rounds.as_slice())?;
     println!(rt;
         "{threads} clients, {} transactions committed, {differences} replies differ",
         rounds.len()
     )?;
-    Ok(disk)
+    Ok(closed.disk)
 }
 
 fn main(rt: HostRuntime) -> anyhow::Result<()> {

@@ -3,7 +3,7 @@
 //! store was closed and opened again.
 #![tactic(auto)]
 
-use background::{Clients, Signal, Transaction, Work, all_ended, run, transact};
+use background::{Signal, Transaction, Work, all_ended, keep, run};
 use calls::limits::MIN_AREA;
 use calls::{Call, Kind, Refusal, Reply};
 use disk_model::{FileDisk, Unknown};
@@ -76,20 +76,18 @@ struct Filling {
 impl Work for Filling {
     type Output = Result<(), Refusal>;
 
-    fn work<J: Naming, S: Clients<J>, R: Wait + AllocGlobal>(
+    fn work<J: Naming, R: Wait + AllocGlobal>(
         &self,
         rt: &R,
-        store: &S,
+        client: &mut Client<'_, J>,
         signal: &Signal,
         _thread: usize,
     ) -> Result<(), Refusal> {
-        let mut client = store.client(rt)?;
         for account in ACCOUNTS {
             if self.are_new {
                 client.make(rt, account, Kind::Counter)?;
             }
-            let (_, ticket) = transact(rt, &mut client, signal, &Refill { account })?;
-            client.wait(rt, &ticket)?;
+            let (_, _ticket) = keep(rt, client, signal, &Refill { account })?;
         }
         Ok(())
     }
@@ -104,21 +102,19 @@ struct Spending {
 impl Work for Spending {
     type Output = Result<usize, Refusal>;
 
-    fn work<J: Naming, S: Clients<J>, R: Wait + AllocGlobal>(
+    fn work<J: Naming, R: Wait + AllocGlobal>(
         &self,
         rt: &R,
-        store: &S,
+        client: &mut Client<'_, J>,
         signal: &Signal,
         _thread: usize,
     ) -> Result<usize, Refusal> {
-        let mut client = store.client(rt)?;
         let spend = Spend {
             account: self.account,
         };
         let mut granted = 0usize;
         for _ in 0..ASKS {
-            let (is_granted, ticket) = transact(rt, &mut client, signal, &spend)?;
-            client.wait(rt, &ticket)?;
+            let (is_granted, _ticket) = keep(rt, client, signal, &spend)?;
             granted = granted.wrapping_add(usize::from(is_granted));
         }
         Ok(granted)
@@ -132,8 +128,8 @@ fn spend_all<R: Threads + Wait + AllocGlobal + Print + Sync>(
 ) -> anyhow::Result<FileDisk<Unknown>> {
     let mut disk = disk;
     for account in ACCOUNTS {
-        let (granted, left) = run(rt, disk, &Spending { account }, THREADS);
-        disk = left;
+        let (granted, closed) = run(rt, disk, &Spending { account }, THREADS);
+        disk = closed.disk;
         let granted = sum(granted?)?;
         println!(rt; "{account}: {granted} of {} asks granted", THREADS * ASKS)?;
     }
@@ -158,12 +154,12 @@ fn main(rt: HostRuntime) -> anyhow::Result<()> {
     file.set_len(4096 + 2 * MIN_AREA)?;
     let mut disk: FileDisk<Unknown> = FileDisk::open(file)?;
     format(&mut disk, MIN_AREA)?;
-    let (filled, disk) = run(&rt, disk, &Filling { are_new: true }, 1);
+    let (filled, closed) = run(&rt, disk, &Filling { are_new: true }, 1);
     all_ended(filled?.as_slice())?;
-    let disk = spend_all(&rt, disk)?;
-    let (filled, disk) = run(&rt, disk, &Filling { are_new: false }, 1);
+    let disk = spend_all(&rt, closed.disk)?;
+    let (filled, closed) = run(&rt, disk, &Filling { are_new: false }, 1);
     all_ended(filled?.as_slice())?;
-    drop(disk);
+    drop(closed);
 
     println!(rt; "filled up, and opened again")?;
     let file = File::options()

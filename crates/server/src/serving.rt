@@ -4,13 +4,13 @@ ghost use Rattle.calls.specs.declared.refusal.Refusal.{Refusal};
 
 use crate::session::Session;
 use crate::transcript::Transcript;
-use background::{Clients, Signal, Work};
+use background::{Signal, Work};
 use calls::Refusal;
 use crossbeam_channel::{Receiver, Sender, unbounded};
 use script::{Action, Line};
 use std::alloc::{AllocGlobal, Global};
 use std::sync::Wait;
-use store::Naming;
+use store::{Client, Naming};
 
 // Clients are numbered from 1 to so many.
 const CLIENTS: u8 = 64;
@@ -54,20 +54,19 @@ impl Work for Script<'_> {
 
     /// Runs the lines of a client (`Session::run`), and sends what it was told.
     ///
-    /// Worn where the store makes no more clients; NoMemory where the answers, or the channel, take
-    /// more than there is.
-    fn work<J: Naming, S: Clients<J>, R: Wait + AllocGlobal>(
+    /// NoMemory where the answers, or the channel, take more than there is.
+    fn work<J: Naming, R: Wait + AllocGlobal>(
         &self,
         rt: &R,
-        store: &S,
+        client: &mut Client<'_, J>,
         signal: &Signal,
         thread: usize,
     ) -> Result<(), Refusal> {
-        let Some(client) = self.clients.get(thread) else {
+        let Some(number) = self.clients.get(thread) else {
             return Ok(());
         };
-        let mut session = Session::new(store.client(rt)?);
-        let transcript = session.run(rt, rt.alloc(), *client, self.lines, signal)?;
+        let mut session = Session::new(client);
+        let transcript = session.run(rt, rt.alloc(), *number, self.lines, signal)?;
         match self.sender.send(rt, transcript) {
             Ok(()) => Ok(()),
             Err(_) => Err(Refusal::NoMemory),

@@ -21,23 +21,23 @@ use store::{Client, Naming, Ticket};
 /// A client of a script on a store that threads share: what it knows of the store, and the ticket
 /// of what it last committed or made.
 #[derive(Drop)]
-pub struct Session<'s, J: Naming> {
-    client: Client<'s, J>,
+pub struct Session<'c, 's, J: Naming> {
+    client: &'c mut Client<'s, J>,
     ticket: Option<Ticket>,
 }
 
-impl<'s, J: Naming> Model for Session<'s, J> {
+impl<'c, 's, J: Naming> Model for Session<'c, 's, J> {
     ghost use Rattle.server.specs.Sessions.{SessionState};
 
     ghost Value = { SessionState };
 
-    ghost view = { λ s. record { known = s.client; ticket = s.ticket } };
+    ghost view = { λ s. record { known = s.client.now; ticket = s.ticket } };
 }
 
-impl<'s, J: Naming> Session<'s, J> {
+impl<'c, 's, J: Naming> Session<'c, 's, J> {
     /// A session that has no ticket yet.
-    pub fn new(client: Client<'s, J>) -> Self
-        ensures { result ≡ record { known = client.entry; ticket = None } }
+    pub fn new(client: &'c mut Client<'s, J>) -> Self
+        ensures { result ≡ record { known = client.old; ticket = None } }
     {
         Self {
             client,
@@ -197,7 +197,7 @@ impl<'s, J: Naming> Session<'s, J> {
         if !self.client.is_open() {
             return Err(Refusal::NoSuchTxn);
         }
-        ask(rt, &mut self.client, name, operation)
+        ask(rt, self.client, name, operation)
     }
 
     // Puts a bump of the counter of the name off to the commit: NoSuchTxn where no transaction is

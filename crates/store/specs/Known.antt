@@ -27,6 +27,17 @@ pub record Known : Type 0 where
   pub drawn : List ℕ
   pub phase : Phase
 
+-- a client that did nothing: it has seen and loaded nothing, and has no transaction
+abbrev pub newcomer : ℕ → Known
+newcomer number = record {
+  number = number;
+  seen = [];
+  counts = [];
+  flags = [];
+  drawn = [];
+  phase = Phase.Closed;
+}
+
 -- what the seats of a client know
 abbrev pub known_of : ClientState → WatcherState → DrawerState → Phase → Known
 known_of line watcher drawer phase = record {

@@ -39,3 +39,17 @@ pub record IsNamed {J D : Type 0} (j : Ghosts J) (g : disks.Ghosts D) (o : Opene
   pub wear : o.book.state.wear ≡ j.wear
   pub next : o.book.next ≡ j.next
   pub sound : j.sound → IsSoundly g o
+
+-- The name of the store: the tables of its parts, and what its book held. What is taken for granted
+-- is that its bytes were opened, of a disk that read true and was at rest.
+abbrev pub naming_of : {J D : Type 0} → disks.Ghosts D → OpenedState D → Ghosts J
+naming_of g o = record {
+  line = o.tables.line;
+  mark = o.tables.mark;
+  numbers = o.tables.numbers;
+  handoff = o.tables.handoff;
+  start = o.book.state.now;
+  wear = o.book.state.wear;
+  next = o.book.next;
+  sound = IsSoundly g o;
+}

@@ -8,7 +8,7 @@ ghost use Rattle.txn.specs.declared.steps.Target.{Target};
 ghost use Rattle.group_commit.specs.Lines.{IsLonger, steps_of};
 ghost use Rattle.group_commit.specs.Numbers.{AreApart};
 ghost use Rattle.store.specs.declared.phase.Phase.{Phase};
-ghost use Rattle.store.specs.Known.{Known, IsSeen};
+ghost use Rattle.store.specs.Known.{Known, IsSeen, newcomer};
 ghost use Rattle.store.specs.Calls.{IsOpen, IsEnded, IsWorn, Draws, Acts, Does, Enters, Undoes, Aborts};
 ghost use Rattle.store.specs.Calls.{ended_by, placed, back, backs, Loads, Hears, Waits};
 
@@ -59,15 +59,7 @@ impl<'s, J: Naming> Client<'s, J> {
         requires watcher { (watcher.table ≡ J.mark) × (watcher.counts ≡ []) × (watcher.flags ≡ []) }
         requires drawer { (drawer.table ≡ J.numbers) × (drawer.from ≡ J.next) ×
             (drawer.drawn ≡ []) }
-        ensures { result ≡ record {
-          number =
-              line.number;
-          seen = [];
-          counts = [];
-          flags = [];
-          drawn = [];
-          phase = Phase.Closed;
-        } }
+        ensures { result ≡ newcomer line.number }
     {
         Self {
             desk,

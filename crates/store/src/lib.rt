@@ -31,15 +31,11 @@
 //! generic in the disk alone):
 //!
 //! ```text
+//! use Rattle.store.specs.Openings.{naming_of}
 //! use Rattle.NAME.proofs.serve_any.Given as goal
 //!
 //! abbrev pub ghosts-serve : goal.ghosts-serve
-//! ghosts-serve g a = record {
-//!   line = a.opened.tables.line; mark = a.opened.tables.mark;
-//!   numbers = a.opened.tables.numbers; handoff = a.opened.tables.handoff;
-//!   start = a.opened.book.state.now; wear = a.opened.book.state.wear;
-//!   next = a.opened.book.next; sound = IsSoundly g.D.Disk a.opened;
-//! }
+//! ghosts-serve g a = naming_of g.D.Disk a.opened
 //! ```
 #![tactic(auto)]
 

@@ -1,8 +1,9 @@
 // The store.
-ghost use Rattle.std.specs.Prelude.{◌≡◌, [], IfOk, IsOkUnless};
+ghost use Rattle.std.specs.Prelude.{◌≡◌, ◌++◌, IfOk, IsOkUnless};
 ghost use Rattle.calls.specs.declared.refusal.Refusal.{Refusal};
+ghost use Rattle.group_commit.specs.Lines.{IsLonger};
 ghost use Rattle.group_commit.specs.Marks.{new_watcher};
-ghost use Rattle.store.specs.declared.phase.Phase.{Phase};
+ghost use Rattle.store.specs.Known.{newcomer};
 ghost use Rattle.store.specs.Closing.{Closes, seen_of, counts_of};
 
 use crate::checkpointing::Checkpointer;
@@ -63,14 +64,7 @@ impl<D: Disk, J: Naming> Store<D, J> {
     /// let mut client = store.client(rt)?;
     /// ```
     pub fn client<R: Wait>(&self, rt: &R) -> Result<Client<'_, J>, Refusal>
-        ensures client { IfOk result (λ c. c ≡ record {
-          number = c.number;
-          seen = [];
-          counts = [];
-          flags = [];
-          drawn = [];
-          phase = Phase.Closed;
-        }) }
+        ensures client { IfOk result (λ c. c ≡ newcomer c.number) }
         ensures worn { IsOkUnless result Refusal.Worn }
     {
         let (line, watcher, drawer) = self.desk.lock(rt).client(&self.shared)?;
@@ -93,6 +87,29 @@ impl<D: Disk, J: Naming> Store<D, J> {
     {
         let watcher = self.desk.lock(rt).watcher(&self.shared);
         Checkpointer::new(&self.desk, &self.vault, &self.shared, watcher)
+    }
+
+    /// What two clients of this store had seen when they left, as one, for `close`: the longer of
+    /// what they had seen, under the number of the first, and the counts that either loaded. It
+    /// takes no memory, and waits for nobody.
+    pub fn together(&self, one: Seen<J>, other: Seen<J>) -> Seen<J>
+        ensures number { result.number ≡ one.number }
+        ensures longer { IsLonger one.seen other.seen result.seen }
+        ensures counts { result.counts ≡ one.counts ++ other.counts }
+    {
+        let Seen {
+            mut line,
+            mut watcher,
+            ..
+        } = one;
+        let Seen {
+            line: mut other_line,
+            watcher: mut other_watcher,
+            ..
+        } = other;
+        self.shared.line.meet(&mut line, &mut other_line);
+        self.shared.mark.inform(&mut other_watcher, &mut watcher);
+        Seen::new(line, watcher)
     }
 
     /// Ends the store, and gives its book and its keeper. What was not brought to the disk yet is

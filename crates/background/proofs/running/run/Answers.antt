@@ -1,24 +1,40 @@
-use Rattle.std.proofs.Common.{inl, inr}
-use Rattle.background.proofs.WorkLemmas.{worked_on}
+use Rattle.std.proofs.Common.{inl, inr, sym, subst}
+use Rattle.group_commit.specs.Marks.{AreReached}
+use Rattle.background.specs.Works.{AreTold}
+use Rattle.background.proofs.WorkLemmas.{ok_then, parts_told, was_opened}
 use Rattle.background.proofs.running.run.Goals as goal
 
-pub returns-in-Ok : goal.returns-in-Ok
-returns-in-Ok g c =
+pub returns-in-Ok-clause-opened : goal.returns-in-Ok-clause-opened
+returns-in-Ok-clause-opened g c =
     let opened = c.in-Ok.ensures in
-    record {
-      left = inr (record {
-        opened = c.in-Ok.opened.keeper.disk;
-        kept = opened.kept;
-        worked = λ honest content rest stands.
-            worked_on _ g.D.Disk c.run_opened.result.1 content
-            (record {
-              bytes = g.D.Disk.seen c.args.disk;
-              is_opened = opened.opened honest;
-              ready = opened.ready honest rest;
-            })
-            (opened.content content stands honest) c.run_opened.ensures;
-      });
-    }
+    let result = c.run_opened.result in
+    let closed = c.run_opened.ensures.closed in
+    let says = g.W.Work.says c.args.work.now in
+    ok_then result.0 _ _ closed.parts_of (λ answers are.
+    was_opened g.D.Disk _ _ (AreTold says answers.items result.1.kept) c.args.disk
+    c.in-Ok.opened.keeper.disk result.1.disk result.1.kept closed
+    (parts_told says answers.items closed.seen closed.closes.steps closed.counts
+    result.1.kept are closed.closes.begins
+    (subst (AreReached closed.counts) (sym closed.mark) closed.closes.reached))
+    opened.kept (λ honest rest. record {
+      bytes = g.D.Disk.seen c.args.disk;
+      is_opened = opened.opened honest;
+      ready = opened.ready honest rest;
+    })
+    (λ content stands honest. opened.content content stands honest))
 
-pub returns-in-Err : goal.returns-in-Err
-returns-in-Err g c = record { left = inl c.in-Err.ensures.kept_in_refusal }
+pub returns-in-Ok-clause-left : goal.returns-in-Ok-clause-left
+returns-in-Ok-clause-left g c =
+    let opened = c.in-Ok.ensures in
+    let result = c.run_opened.result in
+    inr (was_opened g.D.Disk _ _ (λ steps. Unit {0}) c.args.disk c.in-Ok.opened.keeper.disk
+    result.1.disk result.1.kept c.run_opened.ensures.closed tt opened.kept
+    (λ honest rest. record {
+      bytes = g.D.Disk.seen c.args.disk;
+      is_opened = opened.opened honest;
+      ready = opened.ready honest rest;
+    })
+    (λ content stands honest. opened.content content stands honest))
+
+pub returns-in-Err-clause-left : goal.returns-in-Err-clause-left
+returns-in-Err-clause-left g c = inl c.in-Err.ensures.kept_in_refusal

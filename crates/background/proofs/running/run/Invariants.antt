@@ -1,14 +1,5 @@
-use Rattle.store.specs.Openings.{IsSoundly}
+use Rattle.store.specs.Openings.{naming_of}
 use Rattle.background.proofs.running.run.Given as goal
 
 abbrev pub ghosts-run_opened : goal.ghosts-run_opened
-ghosts-run_opened g a = record {
-  line = a.opened.tables.line;
-  mark = a.opened.tables.mark;
-  numbers = a.opened.tables.numbers;
-  handoff = a.opened.tables.handoff;
-  start = a.opened.book.state.now;
-  wear = a.opened.book.state.wear;
-  next = a.opened.book.next;
-  sound = IsSoundly g.D.Disk a.opened;
-}
+ghosts-run_opened g a = naming_of g.D.Disk a.opened
