@@ -1,8 +1,8 @@
 #!/usr/bin/env python3
 """Makes the generated stories of crates/cases, and says what they must answer, from a plain model of a store.
 
-    tools/stories.py          writes the stories, and what each shows after each place, into crates/cases/data
-    tools/stories.py told     prints what the program must print of them
+    tools/stories.py          writes the stories, the sweeps, and what each shows after each place, into crates/cases/data
+    tools/stories.py told     prints what the program must print of the stories
 
 The model knows what a store means, and nothing of how the program does it: five kinds of collections with a row for
 each call and reply, needs that conflict, transactions that are live, what they put off, places, and which blocks a turn
@@ -393,7 +393,8 @@ def played(ground, lines):
 
 
 def case(name, ground, lines):
-    return [f"@ {name}", *ground.lines, *(f"| {line}" for line in lines)]
+    scripted = (line if line.startswith("repeat ") else f"| {line}" for line in lines)
+    return [f"@ {name}", *ground.lines, *scripted]
 
 
 def brief(line):
@@ -427,6 +428,54 @@ def whole(name, lines):
     """The case of a story that is played and shown, and what the program prints of it."""
     head, tail, _ = told_story(name, EMPTY, lines)
     return case(name, EMPTY, lines) + ["play", "show"], head + tail
+
+
+# Scripts that a sweep fails and stops at each call, by the files of what they show. They are those of cases, without turns that
+# a store with nothing pending or a full area answers otherwise than the model.
+SWEPT = {
+    "element": ["c1 make set s", "c1 begin", "c1 call s add 7", "c1 call s add 7", "c1 commit", "turn", "c1 kept"],
+    "bumps": ["c1 make counter n", "c1 begin", "c2 begin", "c1 call n bump 5", "c2 call n bump 7", "c1 call n bump 1", "c1 abort",
+              "c2 commit", "turn", "c2 kept"],
+    "covered": ["c1 make counter n", "c1 begin", "c1 call n bump 5", "checkpoint", "c2 begin", "c2 call n bump 2", "c2 commit",
+                "turn", "turn", "c2 kept"],
+    "loser": ["c1 make counter n", "c1 begin", "c2 begin", "repeat 0 100 c1 call n bump 1", "c2 call n bump 2", "c2 commit", "turn"],
+    "release": ["c1 make pool p", "c1 begin", "c1 call p draw", "c1 call p release 0", "c1 call p release 0", "c1 commit", "turn",
+                "c1 begin", "c1 call p draw", "c1 call p release 0", "turn", "c1 kept"],
+    "room": ["c1 make map m", "c1 begin", f"repeat 0 100 c1 call m put # {ZEROS}", "c1 commit", "turn", "c1 begin", f"repeat 0 40 c1 call m put # {ZEROS}", "c1 commit", "turn",
+             "c1 begin", f"repeat 0 10 c1 call m put # {ZEROS}", "c1 commit", "turn", "c1 kept", "checkpoint", "c1 kept", "turn", "turn"],
+}
+
+
+HITS = ["c1 make counter hits", "c1 begin", "c1 call hits bump 1", "c1 commit", "turn"]
+
+
+def expanded(lines):
+    """The lines of a script, of which one may be repeated with a number in the place of its mark."""
+    for line in lines:
+        if line.startswith("repeat "):
+            _, first, end, text = line.split(" ", 3)
+            yield from (text.replace("#", str(n), 1) for n in range(int(first), int(end)))
+        else:
+            yield line
+
+
+def swept(name, ground, lines):
+    """The case of a script that is swept, and what it shows after each place, with its file."""
+    store, _ = played(ground, expanded(lines))
+    file = f"{name}.shown"
+    shown = ["=\n" if text == before else text for before, text in zip([None, *store.shown], store.shown)]
+    return case(f"{name} is failed and stopped at each call", ground, lines) + [f"sweep {file}"], file, ".\n".join(shown)
+
+
+def write_sweeps(folder, scripts):
+    """Writes the cases of scripts that are swept, by their names, into the file sweeps of a folder, and what they show beside it."""
+    lines = ["# Scripts that are failed and stopped at each call of the disk, written by tools/stories.py."]
+    for name, (ground, script) in scripts.items():
+        cased, file, shown = swept(name, ground, script)
+        lines += cased
+        (folder / file).write_text(shown)
+    lines += case("a thousand areas of bytes of a generator", EMPTY, HITS) + ["play", "areas 1 1000"]
+    (folder / "sweeps").write_text("\n".join(lines) + "\n")
 
 
 def any_bytes(seed):
@@ -465,6 +514,7 @@ def main():
         (DATA / "stories").write_text("\n".join([head, *cases]) + "\n")
         head = "# Bytes that look like chance, written by tools/stories.py: each area is refused or opened."
         (DATA / "any_bytes").write_text("\n".join([head, *any_bytes(1)]) + "\n")
+        write_sweeps(DATA, {name: (EMPTY, lines) for name, lines in SWEPT.items()})
 
 
 if __name__ == "__main__":

@@ -1,6 +1,6 @@
 // How a burst of commits gets into one block.
 use crate::signal::Signal;
-use std::{hint, thread};
+use std::hint;
 
 // How often the committer pauses, with no commit meanwhile, before it cuts all the same.
 const PATIENCE: u32 = 16;
@@ -61,9 +61,9 @@ impl Burst {
     }
 }
 
-// Lets others run, and is no hurry where none wants to.
+// A few microseconds. It does not yield: where other programs are at work on all processors, who
+// yields may get its own back some milliseconds later.
 fn pause() {
-    thread::yield_now();
     for _ in 0..SPINS {
         hint::spin_loop();
     }

@@ -44,6 +44,8 @@ use world::World;
 ///   what Show does. It leaves `disk` alone.
 ///
 /// To open a store is to undo the transactions that have not ended, which is written to the disk.
+/// The memory that it takes is bounded by the bytes of the area in use, as `recovery::open` says.
+/// Show holds the items of one collection at a time beside it.
 ///
 /// What a stop leaves, of a disk at rest that reads true and whose bytes are sound: of a Show the
 /// content; of a Play the content that a beginning of what its steps committed gives; of a Format

@@ -1,13 +1,14 @@
 // Stores with bytes that no program wrote: what a check and a show make of them.
 use crate::bench::{Bench, empty_store};
 use crate::brief::write_line;
-use crate::disks::{self, bytes_at, disk_of};
+use crate::disks::{self, disk_of};
 use crate::runs::{Ran, run_on, text, to_check, to_show};
+use crate::through_store::play;
 use crate::values::{byte, bytes, number, three};
-use boost::Task;
-use disk_model::{Disk, MemDisk};
+use disk_model::MemDisk;
 use std::alloc::{AllocError, Global};
 use std::io::{self, Write};
+use std::sync::Wait;
 
 // Adds the lines of a text to a line.
 fn add_lines(line: &mut String, text: &str) -> Result<(), AllocError> {
@@ -26,27 +27,36 @@ fn line_of(alloc: Global, ran: &Ran) -> Result<String, AllocError> {
     Ok(line)
 }
 
-// What a task answers on a disk, in one line, and the disk.
-fn line_on(alloc: Global, task: Task, disk: MemDisk) -> Result<(String, MemDisk), AllocError> {
-    let (ran, disk) = run_on(alloc, task, disk, &[]);
-    Ok((line_of(alloc, &ran)?, disk))
-}
-
-// What a check answered, and what a show answered where that is otherwise.
-fn joined(checked: String, shown: &str) -> Result<String, AllocError> {
+// What a check answered, and what a show and an opening for threads answered, where that is
+// otherwise.
+fn joined(checked: String, shown: &str, is_shared_alike: bool) -> Result<String, AllocError> {
     let mut found = checked;
     if shown != found.as_str() {
         found.push_str(", shows ")?;
         found.push_str(shown)?;
     }
+    if !is_shared_alike {
+        found.push_str(", and is opened otherwise for threads")?;
+    }
     Ok(found)
 }
 
-// What a check answers, and what a show answers where that is otherwise.
-fn found_on(alloc: Global, disk: MemDisk) -> Result<String, AllocError> {
-    let (checked, disk) = line_on(alloc, to_check(alloc), disk)?;
-    let (shown, _) = line_on(alloc, to_show(alloc), disk)?;
-    joined(checked, shown.as_str())
+// Whether two runs ended alike.
+pub fn is_alike(one: &Ran, other: &Ran) -> bool {
+    one.status == other.status && one.err == other.err
+}
+
+// What a check answers, and what a show and an opening for threads answer, where that is otherwise.
+fn found_on(rt: &(impl Wait + AllocGlobal), disk: MemDisk) -> Result<String, AllocError> {
+    let alloc = rt.alloc();
+    let (checked, disk) = run_on(alloc, to_check(alloc), disk, &[]);
+    let (shared, disk) = play(rt, disk, &[])?;
+    let (shown, _) = run_on(alloc, to_show(alloc), disk, &[]);
+    joined(
+        line_of(alloc, &checked)?,
+        line_of(alloc, &shown)?.as_str(),
+        is_alike(&shown, &shared.ran),
+    )
 }
 
 // An empty store whose first area begins with these bytes.
@@ -57,44 +67,52 @@ fn store_with(alloc: Global, text: &str) -> io::Result<MemDisk> {
 
 /// An empty store whose first area begins with these bytes: prints what a check and a show make of
 /// it.
-pub fn tell_area(alloc: Global, text: &str, out: &mut impl Write) -> io::Result<()> {
-    let found = found_on(alloc, store_with(alloc, text)?)?;
+pub fn tell_area(
+    rt: &(impl Wait + AllocGlobal),
+    text: &str,
+    out: &mut impl Write,
+) -> io::Result<()> {
+    let found = found_on(rt, store_with(rt.alloc(), text)?)?;
     write_line(found.as_str(), out)
 }
 
 // What a check and a show make of a disk of these bytes but for one.
-fn found_with(alloc: Global, bytes: &[u8], at: u64, value: u8) -> io::Result<String> {
-    let disk = disks::changed(disk_of(alloc, bytes)?, at, &[value])?;
-    Ok(found_on(alloc, disk)?)
+fn found_with(
+    rt: &(impl Wait + AllocGlobal),
+    bytes: &[u8],
+    at: u64,
+    value: u8,
+) -> io::Result<String> {
+    let disk = disks::changed(disk_of(rt.alloc(), bytes)?, at, &[value])?;
+    Ok(found_on(rt, disk)?)
 }
 
 /// Changes each byte of the disk from the first to the end, which is left out, to a value, one at a
 /// time. Prints what a check and a show make of it, where that is not what they made of the byte
 /// before. The disk of the case stays.
 pub fn change_each(
-    alloc: Global,
+    rt: &(impl Wait + AllocGlobal),
     bench: &mut Bench,
     text: &str,
     out: &mut impl Write,
 ) -> io::Result<()> {
     let (first, end, value) = three(text)?;
     let (first, end, value) = (number(first)?, number(end)?, byte(value)?);
-    let size = bench.disk.size();
-    let bytes = bytes_at(alloc, &mut bench.disk, 0, size)?;
-    change_all(alloc, bytes.as_slice(), first, end, value, out)
+    let bytes = bench.bytes(rt.alloc())?;
+    change_all(rt, bytes.as_slice(), first, end, value, out)
 }
 
 fn change_all(
-    alloc: Global,
+    rt: &(impl Wait + AllocGlobal),
     bytes: &[u8],
     first: u64,
     end: u64,
     value: u8,
     out: &mut impl Write,
 ) -> io::Result<()> {
-    let mut last = String::new(alloc);
+    let mut last = String::new(rt.alloc());
     for at in first..end {
-        let found = found_with(alloc, bytes, at, value)?;
+        let found = found_with(rt, bytes, at, value)?;
         if found.as_str() != last.as_str() {
             write_found(at, found.as_str(), out)?;
         }

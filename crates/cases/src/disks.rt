@@ -59,12 +59,13 @@ pub fn write(alloc: Global, bench: &mut Bench, text: &str) -> io::Result<()> {
 /// A disk of so many zeros.
 pub fn resize(alloc: Global, bench: &mut Bench, text: &str) -> io::Result<()> {
     bench.disk = MemDisk::new(alloc, number(text)?)?;
+    bench.fail_in = 0;
     Ok(())
 }
 
 /// The call of the disk of this number from now fails.
 pub fn fail(bench: &mut Bench, text: &str) -> io::Result<()> {
-    bench.disk.fail_at(number(text)?);
+    bench.fail_at(number(text)?);
     Ok(())
 }
 
@@ -109,5 +110,6 @@ pub fn stop(alloc: Global, bench: &mut Bench, text: &str) -> io::Result<()> {
     let picks = picks(alloc, bench.disk.size(), text)?;
     let disk = bench.take_disk(alloc)?;
     bench.disk = disk.stop(picks.as_slice());
+    bench.fail_in = 0;
     Ok(())
 }

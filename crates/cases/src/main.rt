@@ -3,10 +3,13 @@
 //! be. A line that is no question ends the run.
 #![tactic(auto)]
 
+mod any_areas;
 mod bench;
 mod brief;
+mod compared;
 mod damage;
 mod disks;
+mod faults;
 mod files;
 mod image_bytes;
 mod questions;
@@ -15,7 +18,9 @@ mod scripts;
 mod spellings;
 mod steps;
 mod stops;
+mod sweeps;
 mod texts;
+mod through_store;
 mod values;
 
 use bench::Bench;
@@ -57,7 +62,8 @@ fn play_file(
 ) -> io::Result<()> {
     let mut bench = Bench::new(rt.alloc())?;
     let text = fs::read_to_string(rt, name)?;
-    ask_all(rt, &mut bench, name, text.as_str(), out)
+    ask_all(rt, &mut bench, name, text.as_str(), out)?;
+    bench.compared.write(out)
 }
 
 // Plays the cases of each file that is named.

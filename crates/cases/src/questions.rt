@@ -2,7 +2,8 @@
 use crate::bench::Bench;
 use crate::values::not_understood;
 use crate::{
-    brief, damage, disks, files, image_bytes, runs, scripts, spellings, steps, stops, texts,
+    any_areas, brief, damage, disks, files, image_bytes, runs, scripts, spellings, steps, stops,
+    sweeps, texts,
 };
 use disk_model::Disk;
 use std::alloc::Global;
@@ -44,6 +45,8 @@ fn ask_by_word(
 ) -> io::Result<()> {
     match word {
         "boost" => files::run_program(rt, rest, out),
+        "play" => runs::play(rt, bench, out),
+        "line" => runs::play_line(rt, bench, rest, out),
         "serve" => runs::serve(rt, bench, out),
         "file" => files::write_script(rt, bench, rest),
         "size" => files::set_size(rt, rest),
@@ -53,6 +56,11 @@ fn ask_by_word(
         "remove" => files::remove(rt, rest),
         "play_read_only" => files::play_read_only(rt, bench, rest, out),
         "stops" => stops::stop_story(rt, bench, rest, out),
+        "play_shared" => runs::play_shared(rt, bench, out),
+        "area" => damage::tell_area(rt, rest, out),
+        "change" => damage::change_each(rt, bench, rest, out),
+        "areas" => any_areas::open_all(rt, bench, rest, out),
+        "sweep" => sweeps::sweep(rt, bench, rest, out),
         _ => ask_of_runs(rt.alloc(), bench, word, rest, out),
     }
 }
@@ -66,13 +74,11 @@ fn ask_of_runs(
     out: &mut impl Write,
 ) -> io::Result<()> {
     match word {
-        "play" => runs::play(alloc, bench, out),
         "show" => runs::show(alloc, bench, out),
         "check" => runs::check(alloc, bench, out),
         "format" => runs::format(alloc, bench, rest, out),
         "demo" => runs::demo(alloc, bench, out),
         "demo_short" => runs::run_short(alloc, rest, out),
-        "line" => runs::play_line(alloc, bench, rest, out),
         "steps" => steps::take(alloc, bench, out),
         "stop_opening" => stops::stop_opening(alloc, bench, out),
         "stop_format" => stops::stop_format(alloc, bench, rest, out),
@@ -98,7 +104,6 @@ fn ask_of_disk(
         "fail" => disks::fail(bench, rest),
         "faults" => writeln!(out, "{}", bench.disk.faults()),
         "stop" => disks::stop(alloc, bench, rest),
-        "change" => damage::change_each(alloc, bench, rest, out),
         _ => ask_of_table(alloc, bench, word, rest, out),
     }
 }
@@ -114,7 +119,6 @@ fn ask_of_table(
     match word {
         "record" => spellings::read(alloc, rest, out),
         "image" => image_bytes::open(alloc, bench, rest, out),
-        "area" => damage::tell_area(alloc, rest, out),
         "command" => runs::understand(alloc, rest, out),
         "texts" => texts::write_all(out),
         "sizes" => texts::write_sizes(out),

@@ -1,6 +1,8 @@
 // Commands that are carried out on the disk of a case.
 use crate::bench::Bench;
 use crate::brief::write_last;
+use crate::disks::bytes_at;
+use crate::through_store;
 use crate::values::{not_understood, number};
 use boost::{Task, command, run};
 use disk_model::{Disk, MemDisk};
@@ -79,7 +81,7 @@ pub fn run_told(
 ) -> io::Result<()> {
     let disk = bench.take_disk(alloc)?;
     let (ran, disk) = run_on(alloc, task, disk, script);
-    bench.disk = disk;
+    bench.put_back(disk);
     write_ran(&ran, last, out)
 }
 
@@ -91,9 +93,56 @@ fn carry_out(alloc: Global, bench: &mut Bench, task: Task, out: &mut impl Write)
     run_told(alloc, bench, task, script.as_slice(), last, out)
 }
 
-/// Plays the script that was written.
-pub fn play(alloc: Global, bench: &mut Bench, out: &mut impl Write) -> io::Result<()> {
-    carry_out(alloc, bench, to_play(alloc), out)
+/// Plays the script that was written, and once more through the store that threads share: what that
+/// answers or leaves otherwise is told too.
+pub fn play(
+    rt: &(impl Wait + AllocGlobal),
+    bench: &mut Bench,
+    out: &mut impl Write,
+) -> io::Result<()> {
+    let alloc = rt.alloc();
+    let beside = bench.copy(alloc)?;
+    let script = bench.take_script(alloc);
+    let last = bench.take_last();
+    let disk = bench.take_disk(alloc)?;
+    let (ran, disk) = run_on(alloc, to_play(alloc), disk, script.as_slice());
+    bench.put_back(disk);
+    write_ran(&ran, last, out)?;
+    let (played, beside) = through_store::play(rt, beside, script.as_slice())?;
+    bench.compared.compare(&ran, &played.ran, out)?;
+    compare_disks(alloc, bench, beside, out)
+}
+
+/// Plays the script that was written through the store that threads share. What was printed so far
+/// is out then.
+pub fn play_shared(
+    rt: &(impl Wait + AllocGlobal),
+    bench: &mut Bench,
+    out: &mut impl Write,
+) -> io::Result<()> {
+    let alloc = rt.alloc();
+    let script = bench.take_script(alloc);
+    let disk = bench.take_disk(alloc)?;
+    let (played, disk) = through_store::play(rt, disk, script.as_slice())?;
+    bench.put_back(disk);
+    write_ran(&played.ran, bench.take_last(), out)?;
+    out.flush()
+}
+
+// Compares what the disk of the case holds with what the other one does.
+fn compare_disks(
+    alloc: Global,
+    bench: &mut Bench,
+    beside: MemDisk,
+    out: &mut impl Write,
+) -> io::Result<()> {
+    let bytes = bench.bytes(alloc)?;
+    let mut beside = beside.stop(&[]);
+    let size = beside.size();
+    let others = bytes_at(alloc, &mut beside, 0, size)?;
+    bench
+        .compared
+        .compare_disks(bytes.as_slice(), others.as_slice(), out)
 }
 
 /// Shows the store.
@@ -133,7 +182,7 @@ pub fn serve(
     let script = bench.take_script(alloc);
     let (mut printed, mut errors) = (Vec::new(alloc), Vec::new(alloc));
     let (status, disk) = boost::serve(rt, disk, script.as_slice(), &mut printed, &mut errors);
-    bench.disk = disk;
+    bench.put_back(disk);
     let ran = Ran {
         status,
         out: printed,
@@ -144,7 +193,7 @@ pub fn serve(
 
 /// Plays a script of one line, which stands between two marks.
 pub fn play_line(
-    alloc: Global,
+    rt: &(impl Wait + AllocGlobal),
     bench: &mut Bench,
     text: &str,
     out: &mut impl Write,
@@ -156,7 +205,7 @@ pub fn play_line(
         return Err(not_understood());
     };
     bench.script.extend_from_slice(line.as_bytes())?;
-    play(alloc, bench, out)
+    play(rt, bench, out)
 }
 
 /// Words with a comma between each two; no words where there is no text.

@@ -1,6 +1,6 @@
 // What is stopped at each call of the disk, in each of four ways, and then opened.
 use crate::bench::Bench;
-use crate::disks::{self, all_as, bytes_at};
+use crate::disks::{self, all_as};
 use crate::runs::{Ran, run_on, text, to_check, to_format, to_play, to_show};
 use crate::values::number;
 use boost::Task;
@@ -51,7 +51,7 @@ fn stop_told_story(
     told: &str,
     out: &mut impl Write,
 ) -> io::Result<()> {
-    let bytes = ground(alloc, bench)?;
+    let bytes = bench.bytes(alloc)?;
     let disk = disk_of(alloc, bytes.as_slice())?;
     let script = bench.take_script(alloc);
     let (front, _) = run_on(alloc, to_show(alloc), disk, &[]);
@@ -67,7 +67,7 @@ fn stop_told_story(
 /// is checked as then, where that is not what it was at the call before. It is stopped at that call
 /// three times over, and then opened to the end.
 pub fn stop_opening(alloc: Global, bench: &mut Bench, out: &mut impl Write) -> io::Result<()> {
-    let bytes = ground(alloc, bench)?;
+    let bytes = bench.bytes(alloc)?;
     let disk = disk_of(alloc, bytes.as_slice())?;
     let (shown, checked) = show_and_check(alloc, disk);
     let trial = Trial::Opening {
@@ -93,14 +93,8 @@ pub fn stop_format(
     out: &mut impl Write,
 ) -> io::Result<()> {
     let area = number(area)?;
-    let bytes = ground(alloc, bench)?;
+    let bytes = bench.bytes(alloc)?;
     stop_in_each_way(alloc, Trial::Format { area }, bytes.as_slice(), out)
-}
-
-// All bytes of the disk of the case.
-fn ground(alloc: Global, bench: &mut Bench) -> io::Result<Vec<u8>> {
-    let size = bench.disk.size();
-    bytes_at(alloc, &mut bench.disk, 0, size)
 }
 
 // A disk of these bytes, at rest.
@@ -234,13 +228,13 @@ fn go_on(alloc: Global, disk: MemDisk) -> Ran {
     shown
 }
 
-// What is shown behind the front and before the counter that was made last.
-fn behind<'a>(front: &str, shown: &'a str) -> Option<&'a str> {
+/// What is shown behind the front and before the counter that was made last.
+pub fn behind<'a>(front: &str, shown: &'a str) -> Option<&'a str> {
     shown.strip_prefix(front)?.strip_suffix("counter y\n  0\n")
 }
 
-// The last place that is known to be kept, and the last that was answered.
-fn may_show(said: &str) -> (u64, u64) {
+/// The last place that is known to be kept, and the last that was answered.
+pub fn may_show(said: &str) -> (u64, u64) {
     let kept = last_number(said, ": kept ").max(last_number(said, ": flipped "));
     (kept, last_number(said, ": place "))
 }
@@ -256,11 +250,16 @@ fn last_number(said: &str, word: &str) -> u64 {
     found
 }
 
-// Whether one of the texts from the first to the last is this one.
-fn is_among(texts: &str, first: u64, last: u64, found: &str) -> bool {
+/// Whether one of the texts from the first to the last is this one. A line `=` stands for the text
+/// before it.
+pub fn is_among(texts: &str, first: u64, last: u64, found: &str) -> bool {
     let mut at = 0u64;
+    let mut is_found = false;
     for text in texts.split(".\n") {
-        if at >= first && at <= last && text == found {
+        if text != "=\n" {
+            is_found = text == found;
+        }
+        if at >= first && at <= last && is_found {
             return true;
         }
         at = at.saturating_add(1);

@@ -10,7 +10,7 @@ use calls::limits::{MAX_AREA, MIN_AREA};
 use clap::error::ErrorKind;
 use disk_model::{Disk, FileDisk, MemDisk, Unknown};
 use std::alloc::Global;
-use std::fs::{File, OpenOptions};
+use std::fs::File;
 use std::io::Write;
 use std::rt::Files;
 use std::sync::Wait;
@@ -42,25 +42,30 @@ fn check_area(area: u64) -> Result<(), Refusal>
     Ok(())
 }
 
+// Opens a file for this run alone. Refused as WouldBlock where another run has it.
+fn open_alone(rt: &impl Files<File = File>, path: &str, may_make: bool) -> io::Result<File> {
+    let file = File::options()
+        .read(true)
+        .write(true)
+        .create(may_make)
+        .open(rt, path)?;
+    file.try_lock()?;
+    Ok(file)
+}
+
 // Makes a file, or takes the one that is there, and gives it the size of a disk with two such
 // areas.
 fn make_disk(rt: &impl Files<File = File>, path: &str, area: u64) -> io::Result<StoredDisk>
     requires { area ≤ MAX_AREA }
 {
-    let file = options().create(true).open(rt, path)?;
+    let file = open_alone(rt, path, true)?;
     file.set_len(AREAS_AT + 2 * area)?;
     FileDisk::open(file)
 }
 
 // Opens a file that is there.
 fn open_disk(rt: &impl Files<File = File>, path: &str) -> io::Result<StoredDisk> {
-    FileDisk::open(options().open(rt, path)?)
-}
-
-fn options() -> OpenOptions {
-    let mut options = File::options();
-    options.read(true).write(true);
-    options
+    FileDisk::open(open_alone(rt, path, false)?)
 }
 
 // What was opened or read, or that the file cannot be opened.

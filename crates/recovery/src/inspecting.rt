@@ -12,7 +12,7 @@ use std::alloc::Global;
 
 /// Looks at the store on a disk: how many collections it has, how many transactions that have not
 /// ended, and how many records stand behind its image. It reads all that an opening reads, undoes
-/// the losers in memory, and writes nothing.
+/// the losers in memory, and writes nothing. It takes as much memory as an opening.
 ///
 /// Refused NotAStore, where the disk read true only if it has no head of a store; Fault where the
 /// disk failed; Damaged with the position of the gate of the block in which the first damage

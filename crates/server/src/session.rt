@@ -132,8 +132,9 @@ impl<'c, 's, J: Naming> Session<'c, 's, J> {
         }
     }
 
-    // What a request is answered.
-    fn say<R: Wait>(&mut self, rt: &R, request: &Request) -> Said
+    /// Carries a request out, and says what it is answered: a refusal of the store too. It waits
+    /// for the book's lock alone. It wakes no committer.
+    pub fn say<R: Wait>(&mut self, rt: &R, request: &Request) -> Said
         ensures { Says ⟦<J as Naming>⟧ self.old request.now result self.new }
     {
         match self.obey(rt, request) {
@@ -249,8 +250,9 @@ impl<'c, 's, J: Naming> Session<'c, 's, J> {
         Some(self.client.kept(&ticket))
     }
 
-    // Waits for the client's last ticket, if it has one.
-    fn end<R: Wait>(&mut self, rt: &R) -> End
+    /// Waits for the client's last ticket, if it has one: some committer has to take turns meanwhile,
+    /// or have met a fault of the disk.
+    pub fn end<R: Wait>(&mut self, rt: &R) -> End
         ensures { Ends self.old result self.new }
     {
         let Some(ticket) = self.ticket else {
