@@ -7,6 +7,7 @@ show` are run on each, as they are built from crates/boost_main. Prints, for eac
 status of both, how much memory each took at its peak beyond what an empty store takes, and how many bytes that is for each
 byte of the records.
 """
+import multiprocessing
 import os
 import struct
 import subprocess
@@ -195,7 +196,14 @@ def peak(*words):
 
 
 def main():
-    area = int(sys.argv[1] if len(sys.argv) > 1 else "16") << 20
+    # What a program has at its peak counts what the process had that started it. So a small one starts them all, which
+    # is made before any file is.
+    with multiprocessing.Pool(1) as starter:
+        measure(int(sys.argv[1] if len(sys.argv) > 1 else "16") << 20, lambda *words: starter.apply(peak, words))
+
+
+def measure(area, peak):
+    """Prints what each sort of file takes, by what tells the status and the peak of a run."""
     with tempfile.TemporaryDirectory() as folder:
         path = os.path.join(folder, "disk")
         if peak("format", path, "--area", str(area))[0] != 0:
