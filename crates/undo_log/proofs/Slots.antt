@@ -1,10 +1,9 @@
 -- The live transactions in the slots, seen as a finite map, and who has room.
-use Rattle.std.proofs.Common.{◌≡◌, ◌≢◌, ℕ, suc, zero, ◌<◌, ◌≤◌, ◌+◌, min, IfSome, IfNone, ◌⊎◌, inl}
+use Rattle.std.proofs.Common.{◌≡◌, ◌≢◌, ℕ, suc, zero, ◌<◌, ◌≤◌, ◌+◌, IfSome, IfNone, ◌⊎◌, inl}
 use Rattle.std.proofs.Common.{inr, ⊎_elim, Bool, true, false, cond, Option, Some, None, is_some}
 use Rattle.std.proofs.Common.{List, [], ◌∷◌, get_or, count_by, refl, sym, ap, subst, ◌∙◌, ltb}
 use Rattle.std.proofs.Common.{arith, set, vec_len, vec_capacity, ◌-◌, ◌^◌}
 use Rattle.std.specs.List.{Contains}
-use Rattle.std.specs.Option.{option_map_or}
 use Rattle.std.specs.Ordering.{nat_cmp}
 use Rattle.std.specs.Cmp.{nat_cmp_total}
 use Rattle.std.specs.FinMap as maps
@@ -403,31 +402,6 @@ fallen_there live n b h = ap (λ x. cond x (maps.insert live n true) live) (ap i
 pub fallen_absent : (live : Statuses) (n : ℕ) → maps.get live n ≡ None → fallen live n ≡ live
 fallen_absent live n h = ap (λ x. cond x (maps.insert live n true) live) (ap is_some h)
 
--- The least number so far, if there is one, is not above the number.
-abbrev pub Bounds : Option ℕ → ℕ → Type 0
-Bounds None m = ⊥
-Bounds (Some n) m = n ≤ m
-
--- one number more is looked at: the least so far is not above it, nor above what it was not above
--- before,
-pub bounds_this : (least : Option ℕ) (m : ℕ) → Bounds (Some (option_map_or (min m) least m)) m
-bounds_this None m = omega arith
-bounds_this (Some n) m = omega arith
-
-pub bounds_more : (least : Option ℕ) (m k : ℕ) → Bounds least k →
-    Bounds (Some (option_map_or (min m) least m)) k
-bounds_more None m k b = absurd b
-bounds_more (Some n) m k b = omega arith
-
--- and is one of those that were looked at
-pub least_is_one : (P : ℕ → Type 0) (least : Option ℕ) (m : ℕ) → IfSome least P → P m →
-    P (option_map_or (min m) least m)
-least_is_one P None m p q = q
-least_is_one P (Some n) m p q =
-    ⊎_elim (λ (same : min m n ≡ m). subst P (sym same) q)
-    (λ (other : min m n ≡ m → ⊥). let is : min m n ≡ n = omega arith in subst P (sym is) p)
-    (cases_eq (min m n) m)
-
 -- the least number in the slots is the least that is live
 pub least_live : (s : Slab Transaction) → EachOnce s → (n : ℕ) → IsLeastSlot s n →
     IsLeastLive (live_of s.slots) n
@@ -451,19 +425,6 @@ none_in_slots s free =
     (λ q b h. let none = maps.get-empty {X = Bool} nat_cmp q in
     let no : None ≡ Some b = sym none ∙ h in cc)
 
--- the same of what was found
-pub least_slot : (s : Slab Transaction) (least : Option ℕ) →
-    ((k : ℕ) (t : Transaction) → get s k ≡ Some t → Bounds least t.number) →
-    IfSome least (λ n. (k : ℕ) × IsSlotOf s n k) → IfSome least (IsLeastSlot s)
-least_slot s None bounds one = tt
-least_slot s (Some n) bounds one = record { key = one.0; there = one.1; least = bounds }
-
-pub no_slot : (s : Slab Transaction) (least : Option ℕ) →
-    ((k : ℕ) (t : Transaction) → get s k ≡ Some t → Bounds least t.number) →
-    IfNone least ((key : ℕ) (t : Transaction) → get s key ≡ Some t → ⊥)
-no_slot s None bounds = bounds
-no_slot s (Some n) bounds = tt
-
 pub least_found : (s : Slab Transaction) → EachOnce s → (least : Option ℕ) →
     IfSome least (IsLeastSlot s) → IfSome least (IsLeastLive (live_of s.slots))
 least_found s once None found = tt
@@ -474,39 +435,6 @@ pub least_none : (s : Slab Transaction) (least : Option ℕ) →
     IfNone least (live_of s.slots ≡ maps.empty)
 least_none s None none = none_in_slots s none
 least_none s (Some n) none = tt
-
--- The number is not above the other, or the next so far is not above it.
-abbrev pub IsPassed : (after : ℕ) → Option ℕ → ℕ → Type 0
-IsPassed after next m = (m ≤ after) ⊎ Bounds next m
-
--- A number above the other, that of a slot.
-abbrev pub IsAbove : Slab Transaction → (after n : ℕ) → Type 0
-IsAbove slots after n = (after < n) × ((k : ℕ) × IsSlotOf slots n k)
-
-pub passed_more : (after : ℕ) (next : Option ℕ) (m k : ℕ) → IsPassed after next k →
-    IsPassed after (Some (option_map_or (min m) next m)) k
-passed_more after next m k (inl low) = inl low
-passed_more after next m k (inr bounds) = inr (bounds_more next m k bounds)
-
--- what is passed is not above the other, or not below the next
-pub next_slot : (s : Slab Transaction) (after : ℕ) (next : Option ℕ) →
-    ((k : ℕ) (t : Transaction) → get s k ≡ Some t → IsPassed after next t.number) →
-    IfSome next (IsAbove s after) → IfSome next (IsNextSlot s after)
-next_slot s after None passed one = tt
-next_slot s after (Some n) passed one = record {
-  key = one.1.0;
-  there = one.1.1;
-  above = one.0;
-  least = λ k t there above. elim (passed k t there)
-      [ inl low ↦ absurd (omega arith) | inr bounds ↦ bounds ];
-}
-
-pub no_next_slot : (s : Slab Transaction) (after : ℕ) (next : Option ℕ) →
-    ((k : ℕ) (t : Transaction) → get s k ≡ Some t → IsPassed after next t.number) →
-    IfNone next ((key : ℕ) (t : Transaction) → get s key ≡ Some t → t.number ≤ after)
-no_next_slot s after None passed =
-    λ k t there. elim (passed k t there) [ inl low ↦ low | inr bounds ↦ absurd bounds ]
-no_next_slot s after (Some n) passed = tt
 
 -- who lives is in a slot
 in_slot : (s : Slab Transaction) (P : ℕ → Type 0) (m : ℕ) →

@@ -1,9 +1,9 @@
 // The live transactions in the slots of a slab, and a plain list of what they asked for.
-ghost use Rattle.std.specs.Prelude.{◌≡◌, ◌↔◌, ◌≤◌, ℕ, List, [], ◌∷◌, ◌++◌, Some, false, min, map};
+ghost use Rattle.std.specs.Prelude.{◌≡◌, ◌↔◌, ◌≤◌, ℕ, List, [], ◌∷◌, ◌++◌, Some, false, map};
 ghost use Rattle.std.specs.Prelude.{IsTrue, IsOk, IsOkUnless, IfSome, IfNone, IfOk, OnOk, OnErr};
-ghost use Rattle.std.specs.Prelude.{length};
+ghost use Rattle.std.specs.Prelude.{length, ◌<◌, ◌≢◌, ◌⊎◌, All, Contains, IfErr, HoldsAt, vec_len};
+ghost use Rattle.std.specs.Prelude.{vec_capacity, take, drop};
 ghost use Rattle.std.specs.FinMap as maps;
-ghost use Rattle.std.specs.Option.{option_map_or};
 ghost use Rattle.slab.specs.Slab.{get};
 ghost use Rattle.calls.specs.Transactions as transactions;
 ghost use Rattle.calls.specs.Transactions.{own, others, Asked, PutOff, calls_of};
@@ -13,7 +13,9 @@ ghost use Rattle.undo_log.specs.Logs.{Log, IsLive, IsFalling, HasRoom, KeepsRoom
 ghost use Rattle.undo_log.specs.Logs.{EachOnce, IsSlotOf, IsLeastLive, IsLeastSlot, IsNextLive};
 ghost use Rattle.undo_log.specs.Logs.{IsNextSlot, Lives};
 ghost use Rattle.undo_log.specs.Stamps.{marks, mark_of};
+ghost use Rattle.undo_log.specs.Index.{AreRising, IsIndex, IsGapFor};
 ghost use Rattle.undo_log.specs.declared.live.Transaction.{Transaction};
+ghost use Rattle.undo_log.specs.declared.live.Seat.{Seat};
 
 use crate::{Entry, Later, Logged, Owned, Stamped};
 use calls::Refusal;
@@ -29,17 +31,31 @@ struct Transaction {
     entries: Vec<Stamped>,
 }
 
+/// A live number, and the slot of its transaction.
+#[derive(Drop)]
+struct Seat {
+    number: u64,
+    slot: usize,
+}
+
+/// The live transactions in their slots, and the slot of each number in an index that rises by
+/// number.
+#[derive(Drop)]
+struct Table {
+    slots: Slab<Transaction>,
+    index: Vec<Seat>,
+}
+
 /// The live transactions. Contracts see which numbers are live and which of them are falling; what
 /// they asked for and did not undo, in the order asked; and which have room for one entry more.
 ///
 /// Each transaction has its own entries, and each entry a stamp that tells its place in the order
 /// asked. So what a call costs does not depend on what other transactions asked for, but for
-/// `in_order`. A search is one look at each slot: there are as many as transactions were live at
-/// one time.
+/// `in_order`. A search is a halving of the live numbers.
 #[derive(Drop)]
 pub struct Live {
     alloc: Global,
-    slots: Slab<Transaction>,
+    table: Table,
     // the stamp of the next entry
     next: u64,
     // how many entries there are
@@ -53,18 +69,21 @@ impl Model for Live {
     ghost use Rattle.std.specs.Coded.{codes, coded_ℕ, coded_bool};
     ghost use Rattle.undo_log.specs.Logs.{Log, live_of, rooms_of, EachOnce};
     ghost use Rattle.undo_log.specs.Stamps.{merged, AreStamped};
+    ghost use Rattle.undo_log.specs.Index.{IsIndex};
 
     ghost Value = { Log };
 
     ghost coded = { Prim.hlevel (codes, maps.code {R = nat_cmp} coded_ℕ coded_bool) };
 
     ghost view = { λ log. record {
-      live = live_of log.slots.slots;
-      entries = map (λ m. m.1) (merged log.slots.slots);
-      rooms = rooms_of log.next log.slots.slots;
+      live = live_of log.table.slots.slots;
+      entries = map (λ m. m.1) (merged log.table.slots.slots);
+      rooms = rooms_of log.next log.table.slots.slots;
     } };
 
-    ghost invariant = { λ log. EachOnce log.slots × AreStamped log.slots log.next log.count };
+    ghost invariant = { λ log. EachOnce log.table.slots ×
+        AreStamped log.table.slots log.next log.count ×
+        IsIndex log.table.slots log.table.index.items };
 }
 
 impl Live {
@@ -75,7 +94,10 @@ impl Live {
     {
         Self {
             alloc,
-            slots: Slab::new(alloc),
+            table: Table {
+                slots: Slab::new(alloc),
+                index: Vec::new(alloc),
+            },
             next: 0,
             count: 0,
         }
@@ -85,15 +107,15 @@ impl Live {
     pub fn count_live(&self) -> usize
         ensures { result ≡ maps.len self.now.live }
     {
-        self.slots.len()
+        self.table.slots.len()
     }
 
-    /// The least number that is live. One search; it takes no memory.
+    /// The least number that is live. It stands first in the index; it takes no memory.
     pub fn least(&self) -> Option<u64>
         ensures found { IfSome result (IsLeastLive self.now.live) }
         ensures none { IfNone result (self.now.live ≡ maps.empty) }
     {
-        least_of(&self.slots)
+        least_of(&self.table)
     }
 
     /// The least number above another that is live. One search; it takes no memory.
@@ -101,22 +123,22 @@ impl Live {
         ensures found { IfSome result (IsNextLive self.now.live after) }
         ensures none { IfNone result ((n : ℕ) → Lives self.now.live n → n ≤ after) }
     {
-        next_of(&self.slots, after)
+        next_of(&self.table, after)
     }
 
     /// Whether the transaction is live. One search.
     pub fn is_live(&self, number: u64) -> bool
         ensures { IsTrue result ↔ IsLive self.now number }
     {
-        matches!(slot_of(&self.slots, number), Some(_))
+        matches!(slot_of(&self.table, number), Some(_))
     }
 
     /// Whether the transaction is live and falling. One search.
     pub fn is_falling(&self, number: u64) -> bool
         ensures { IsTrue result ↔ IsFalling self.now number }
     {
-        match slot_of(&self.slots, number) {
-            Some(key) => self.slots[key].falling,
+        match slot_of(&self.table, number) {
+            Some(key) => self.table.slots[key].falling,
             None => false,
         }
     }
@@ -133,8 +155,8 @@ impl Live {
     pub fn entries_of(&self, number: u64) -> &[Stamped]
         ensures { map stamped_entry result.now ≡ own number self.now.entries }
     {
-        match slot_of(&self.slots, number) {
-            Some(key) => &self.slots[key].entries,
+        match slot_of(&self.table, number) {
+            Some(key) => &self.table.slots[key].entries,
             None => &[],
         }
     }
@@ -147,7 +169,8 @@ impl Live {
     }
 
     /// Makes the transaction live and running, with nothing asked for. NoMemory leaves all as
-    /// before. It takes a slot, and moves the others where there is room for no more.
+    /// before. It takes a slot, and moves the others where there is room for no more; in the index
+    /// the greater numbers move. One search.
     pub fn enter(&mut self, number: u64) -> Result<(), Refusal>
         requires { IsLive self.old number → ⊥ }
         ensures live { OnOk result (self.new.live ≡ maps.insert self.old.live number false) }
@@ -156,11 +179,13 @@ impl Live {
         ensures refusal { IsOkUnless result Refusal.NoMemory }
         ensures unchanged { OnErr result (self.new ≡ self.old) }
     {
-        self.slots.insert(Transaction {
+        self.table.index.reserve(1)?;
+        let slot = self.table.slots.insert(Transaction {
             number,
             falling: false,
             entries: Vec::new(self.alloc),
         })?;
+        list(&mut self.table.index, Seat { number, slot });
         Ok(())
     }
 
@@ -179,8 +204,8 @@ impl Live {
         if self.next == u64::MAX {
             return Err(Refusal::NoMemory);
         }
-        if let Some(key) = slot_of(&self.slots, number) {
-            self.slots[key].entries.reserve(1)?;
+        if let Some(key) = slot_of(&self.table, number) {
+            self.table.slots[key].entries.reserve(1)?;
         }
         Ok(())
     }
@@ -192,11 +217,11 @@ impl Live {
         ensures entries { self.new.entries ≡ self.old.entries ++ (number, entry_of entry) ∷ [] }
         ensures live { self.new.live ≡ self.old.live }
     {
-        let Some(key) = slot_of(&self.slots, number) else {
+        let Some(key) = slot_of(&self.table, number) else {
             unreachable!();
         };
         let stamp = self.next;
-        self.slots[key]
+        self.table.slots[key]
             .entries
             .push_reserved(Stamped { stamp, entry });
         self.next += 1;
@@ -252,9 +277,9 @@ impl Live {
         ensures live { self.new.live ≡ self.old.live }
         ensures rooms { KeepsRoom self.old self.new }
     {
-        let key = slot_of(&self.slots, number)?;
-        let place = newest_place(&self.slots[key].entries)?;
-        let Stamped { entry, .. } = self.slots[key].entries.remove(place);
+        let key = slot_of(&self.table, number)?;
+        let place = newest_place(&self.table.slots[key].entries)?;
+        let Stamped { entry, .. } = self.table.slots[key].entries.remove(place);
         self.count -= 1;
         match entry {
             Entry::Asked(logged) => Some(logged),
@@ -269,20 +294,21 @@ impl Live {
         ensures entries { self.new.entries ≡ self.old.entries }
         ensures rooms { KeepsRoom self.old self.new }
     {
-        if let Some(key) = slot_of(&self.slots, number) {
-            self.slots[key].falling = true;
+        if let Some(key) = slot_of(&self.table, number) {
+            self.table.slots[key].falling = true;
         }
     }
 
     /// Takes the transaction with all its entries out; the other entries stay in their order. One
-    /// search, and what the transaction asked for is let go.
+    /// search; what the transaction asked for is let go, and in the index the greater numbers move.
     pub fn remove(&mut self, number: u64)
         ensures live { self.new.live ≡ maps.remove self.old.live number }
         ensures entries { self.new.entries ≡ others number self.old.entries }
         ensures rooms { KeepsRoom self.old self.new }
     {
-        if let Some(freed) = slot_of(&self.slots, number) {
-            let gone = self.slots.remove(freed);
+        if let Ok(place) = place_of(&self.table.index, number) {
+            let seat = self.table.index.remove(place);
+            let gone = self.table.slots.remove(seat.slot);
             self.count -= gone.entries.len();
         }
     }
@@ -296,7 +322,7 @@ impl Live {
         ensures refusal { IsOkUnless result Refusal.NoMemory }
     {
         let mut all = Vec::with_capacity(self.alloc, self.count)?;
-        for (_, transaction) in self.slots.iter() {
+        for (_, transaction) in self.table.slots.iter() {
             push_all(&mut all, transaction)?;
         }
         all.sort_unstable_by_key(|owned| owned.stamp);
@@ -320,53 +346,76 @@ fn push_all<'a>(all: &mut Vec<Owned<'a>>, transaction: &'a Transaction) -> Resul
     Ok(())
 }
 
-// The slot of a transaction's number.
-fn slot_of(slots: &Slab<Transaction>, number: u64) -> Option<usize>
-    ensures found { IfSome result (IsSlotOf slots.now number) }
-    ensures none { IfNone result ((key : ℕ) → IsSlotOf slots.now number key → ⊥) }
+// Where the number stands in the index, or would stand. Halving.
+fn place_of(index: &[Seat], number: u64) -> Result<usize, usize>
+    requires { AreRising index.now }
+    ensures found { IfOk result (λ i. (i < length index.now) ×
+        HoldsAt (λ seat. seat.number ≡ number) index.now i) }
+    ensures absent { IfErr result (IsGapFor number index.now) }
 {
-    for (key, transaction) in slots.iter() {
-        if transaction.number == number {
-            return Some(key);
-        }
+    index.binary_search_by_key(&number, |seat| seat.number)
+}
+
+// Puts a number that is not in the index into it. It takes no memory.
+fn list(index: &mut Vec<Seat>, seat: Seat)
+    requires rising { AreRising index.old.items }
+    requires room { vec_len index.old < vec_capacity index.old }
+    requires fresh { All (λ other. other.number ≢ seat.number) index.old.items }
+    ensures rising { AreRising index.new.items }
+    ensures listed { (s : Seat) → Contains index.new.items s ↔
+        (Contains index.old.items s ⊎ (s ≡ seat)) }
+{
+    let Err(place) = place_of(index, seat.number) else {
+        unreachable!();
+    };
+    let Ok(()) = index.insert(place, seat) else {
+        unreachable!();
+    };
+}
+
+// The slot of a transaction's number.
+fn slot_of(table: &Table, number: u64) -> Option<usize>
+    requires { IsIndex table.now.slots table.now.index.items }
+    ensures found { IfSome result (IsSlotOf table.now.slots number) }
+    ensures none { IfNone result ((key : ℕ) → IsSlotOf table.now.slots number key → ⊥) }
+{
+    match place_of(&table.index, number) {
+        Ok(place) => Some(table.index[place].slot),
+        Err(_) => None,
     }
-    None
 }
 
 // The least number in the slots.
-fn least_of(slots: &Slab<Transaction>) -> Option<u64>
-    ensures found { IfSome result (IsLeastSlot slots.now) }
-    ensures none { IfNone result ((key : ℕ) (t : Transaction) → get slots.now key ≡ Some t → ⊥) }
+fn least_of(table: &Table) -> Option<u64>
+    requires { IsIndex table.now.slots table.now.index.items }
+    ensures found { IfSome result (IsLeastSlot table.now.slots) }
+    ensures none { IfNone result ((key : ℕ) (t : Transaction) →
+        get table.now.slots key ≡ Some t → ⊥) }
 {
-    let mut least = None;
-    for (_, transaction) in slots.iter() {
-        least = Some(lesser(least, transaction.number));
-    }
-    least
+    let seat = table.index.first()?;
+    Some(seat.number)
 }
 
 // The least number above another in the slots.
-fn next_of(slots: &Slab<Transaction>, after: u64) -> Option<u64>
-    ensures found { IfSome result (IsNextSlot slots.now after) }
-    ensures none { IfNone result ((key : ℕ) (t : Transaction) → get slots.now key ≡ Some t →
-        t.number ≤ after) }
+fn next_of(table: &Table, after: u64) -> Option<u64>
+    requires { IsIndex table.now.slots table.now.index.items }
+    ensures found { IfSome result (IsNextSlot table.now.slots after) }
+    ensures none { IfNone result ((key : ℕ) (t : Transaction) →
+        get table.now.slots key ≡ Some t → t.number ≤ after) }
 {
-    let mut next = None;
-    for (_, transaction) in slots.iter() {
-        if transaction.number > after {
-            next = Some(lesser(next, transaction.number));
-        }
-    }
-    next
+    let place = place_above(&table.index, after);
+    Some(table.index.get(place)?.number)
 }
 
-// The lesser of the numbers.
-fn lesser(least: Option<u64>, number: u64) -> u64
-    ensures { result ≡ option_map_or (min number) least number }
+// Where the numbers above another begin in the index. Halving.
+fn place_above(index: &[Seat], after: u64) -> usize
+    requires { AreRising index.now }
+    ensures below { All (λ seat. seat.number ≤ after) (take result index.now) }
+    ensures above { All (λ seat. after < seat.number) (drop result index.now) }
 {
-    match least {
-        Some(other) => number.min(other),
-        None => number,
+    match place_of(index, after) {
+        Ok(place) => place + 1,
+        Err(place) => place,
     }
 }
 

@@ -1,64 +1,16 @@
-use Rattle.std.proofs.Common.{◌≡◌, ℕ, Some, min, arith, inl, inr, refl, subst, ◌∙◌}
-use Rattle.std.specs.Option.{option_map_or}
-use Rattle.slab.specs.Slab.{get}
-use Rattle.slab.proofs.SlabLemmas.{Contains-cons, Contains-cons_cases, Contains-entries}
-use Rattle.undo_log.specs.declared.live.Transaction.{Transaction}
-use Rattle.undo_log.specs.Logs.{IsSlotOf}
-use Rattle.undo_log.proofs.Slots.{in_head, bounds_this, bounds_more, least_is_one, least_slot}
-use Rattle.undo_log.proofs.Slots.{no_slot, Bounds}
+use Rattle.std.proofs.Common.{refl, sym}
+use Rattle.std.proofs.lemmas.Bool.{ltb-true}
+use Rattle.undo_log.proofs.Index.{least_seat, no_seat}
 use Rattle.undo_log.proofs.live.least_of.Goals as goal
 
-pub loop-transaction-init : goal.loop-transaction-init
-loop-transaction-init c =
-    let left = c.into_iter-transaction-iterator.ensures.into_iter_gives ∙
-    c.iter-transaction-items.ensures.rest in (
-      tt,
-      tt,
-      λ k t found. inl (rw left ((Contains-entries c.args.slots.now k t).1 found)),
-      λ k t there. (Contains-entries c.args.slots.now k t).0 (rw left at there),
-      tt,
-    )
-
-pub loop-transaction-preserved : goal.loop-transaction-preserved
-loop-transaction-preserved c =
-    let at = c.in-Some.ensures.steps in
-    let least = c.loop-transaction.least in
-    let number = c.in-Some.transaction.now.number in (
-      tt,
-      tt,
-      λ k t found. rw c.lesser.ensures (elim (c.loop-transaction.invariant.2 k t found) [
-        | inl there ↦ elim (Contains-cons_cases _ _ _ (rw at at there)) [
-          | inl same ↦ inr (subst (λ (e : ℕ × _). Bounds
-              (Some (option_map_or (min number) least number)) e.1.number) same
-              (bounds_this least number))
-          | inr rest ↦ inl rest
-        ]
-        | inr below ↦ inr (bounds_more least number t.number below)
-      ]),
-      λ k t there. c.loop-transaction.invariant.3 k t (rw at (Contains-cons _ _ _ there)),
-      rw c.lesser.ensures (least_is_one (λ n. (k : ℕ) × IsSlotOf c.args.slots.now n k) least number
-          c.loop-transaction.invariant.4 (
-            c.in-Some.field-0-0,
-            (
-              c.in-Some.transaction.now,
-              c.loop-transaction.invariant.3 _ _ (rw at (in_head _ _)),
-              refl,
-            ),
-          )),
-    )
-
--- every slot was seen
-seen : (c : goal.In-None) (k : ℕ) (t : Transaction) → get c.args.slots.now k ≡ Some t →
-    Bounds c.loop-transaction.least t.number
-seen c k t found = elim (c.loop-transaction.invariant.2 k t found) [
-  | inl there ↦ let none = rw (c.in-None.ensures.steps.0) at there in let below = none.1 in
-      absurd (omega arith)
-  | inr below ↦ below
-]
+pub returns-in_err-seat-clause-none : goal.returns-in_err-seat-clause-none
+returns-in_err-seat-clause-none c =
+    let over = rw c.deref.ensures.value at c.in_err-seat.ensures.item in
+    rw c.from_residual.ensures
+    (no_seat c.args.table.now.slots c.args.table.now.index.items c.requires over.3)
 
 pub returns-clause-found : goal.returns-clause-found
-returns-clause-found c = least_slot c.args.slots.now c.loop-transaction.least (seen c)
-    c.loop-transaction.invariant.4
-
-pub returns-clause-none : goal.returns-clause-none
-returns-clause-none c = no_slot c.args.slots.now c.loop-transaction.least (seen c)
+returns-clause-found c =
+    let there = rw c.deref.ensures.value at c.in_ok-seat.ensures.item in
+    least_seat c.args.table.now.slots c.args.table.now.index.items c.requires 0
+    (ltb-true _ _ (sym there.0)) c.in_ok-seat.seat.now there.1 refl

@@ -11,7 +11,7 @@ use Rattle.undo_log.proofs.live.Live.in_order.Goals as goal
 
 pub returns-clause-ok : goal.returns-clause-ok
 returns-clause-ok c =
-    let s = c.self.inside.slots in
+    let s = c.self.inside.table.slots in
     let listed = c.loop-transaction.all.items in
     let sorted = c.sort_unstable_by_key.new.self.items in
     let up = IsNonDecreasingBy-from_sort_by_key (λ (o : Owned). o.stamp) sorted

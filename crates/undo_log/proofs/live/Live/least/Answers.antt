@@ -7,10 +7,10 @@ use Rattle.undo_log.proofs.live.Live.least.Goals as goal
 pub returns-clause-found : goal.returns-clause-found
 returns-clause-found c =
     subst (λ log. let l : Log = log in IfSome c.least_of.result (IsLeastLive l.live)) c.self.view_is
-    (least_found c.self.inside.slots c.self.invariant.0 c.least_of.result
+    (least_found c.self.inside.table.slots c.self.invariant.0 c.least_of.result
     c.least_of.ensures.found)
 
 pub returns-clause-none : goal.returns-clause-none
 returns-clause-none c =
     subst (λ log. let l : Log = log in IfNone c.least_of.result (l.live ≡ maps.empty))
-    c.self.view_is (least_none c.self.inside.slots c.least_of.result c.least_of.ensures.none)
+    c.self.view_is (least_none c.self.inside.table.slots c.least_of.result c.least_of.ensures.none)

@@ -2,12 +2,14 @@ use Rattle.std.proofs.Common.{map, ap}
 use Rattle.undo_log.proofs.Slots.{live_none}
 use Rattle.undo_log.proofs.Marks.{none_merged}
 use Rattle.undo_log.proofs.Written.{none_once, none_stamped}
+use Rattle.undo_log.proofs.Index.{none_index}
 use Rattle.undo_log.proofs.live.Live.new.Goals as goal
 
 pub invariant_of-result : goal.invariant_of-result
 invariant_of-result c = (
   none_once c.new.result c.new.ensures.empty,
   none_stamped c.new.result c.new.ensures.empty,
+  rw c.new-2.ensures.items (none_index c.new.result c.new.ensures.empty),
 )
 
 pub returns-clause-live : goal.returns-clause-live

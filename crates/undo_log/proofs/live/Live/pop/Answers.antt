@@ -11,13 +11,14 @@ use Rattle.undo_log.proofs.Slots.{same_value}
 use Rattle.undo_log.proofs.Marks.{own_slot, own_none, told}
 use Rattle.undo_log.proofs.Written.{written_once, written_live, written_rooms, slot_within}
 use Rattle.undo_log.proofs.Written.{popped_stamped, popped_newest}
+use Rattle.undo_log.proofs.Index.{written_index}
 use Rattle.undo_log.proofs.live.Live.pop.Goals as goal
 
 pub returns-in_err-key-clause-none : goal.returns-in_err-key-clause-none
 returns-in_err-key-clause-none c =
     rw c.from_residual.ensures
     (ap (λ log. let l : Log = log in calls_of (own c.args.number l.entries)) (sym c.self.view_is)
-    ∙ ap calls_of (own_none c.self.inside.slots c.args.number c.in_err-key.ensures.none))
+    ∙ ap calls_of (own_none c.self.inside.table.slots c.args.number c.in_err-key.ensures.none))
 
 pub returns-in_err-place-clause-none : goal.returns-in_err-place-clause-none
 returns-in_err-place-clause-none c =
@@ -26,7 +27,7 @@ returns-in_err-place-clause-none c =
     let mine = ap (λ u. u.number) (same_value c.index.result.now t.0 (sym here ∙ t.1)) ∙ t.2 in
     rw c.from_residual-in_err-place.ensures
     (ap (λ log. let l : Log = log in calls_of (own c.args.number l.entries)) (sym c.self.view_is)
-    ∙ ap calls_of (sym (own_slot c.self.inside.slots c.self.invariant.1.each c.args.number
+    ∙ ap calls_of (sym (own_slot c.self.inside.table.slots c.self.invariant.1.each c.args.number
     c.in_ok-key.key c.index.result.now here mine))
     ∙ ap (λ ss. calls_of (map stamped_entry ss)) (sym c.deref.ensures.value)
     ∙ c.in_err-place.ensures.none)
@@ -42,29 +43,33 @@ place_in s key t u ss i items here there place =
 pub overflow_sub-self : goal.overflow_sub-self
 overflow_sub-self c =
     let was = c.index_mut.result.now in
-    let most = slot_within c.self.inside.slots c.in_ok-key.key was c.index_mut.ensures.value
+    let most = slot_within c.self.inside.table.slots c.in_ok-key.key was c.index_mut.ensures.value
     c.self.inside.next c.self.inside.count c.self.invariant.1 in
     let fewer = c.remove-entry.ensures.len in
     let many = was.entries.ok in
     omega arith
 
 place : (c : goal.In-Asked) → IsNewestPlace c.index_mut.result.now.entries.items c.in_ok-place.place
-place c = place_in c.self.inside.slots c.in_ok-key.key c.index.result.now c.index_mut.result.now
+place c = place_in c.self.inside.table.slots c.in_ok-key.key c.index.result.now
+    c.index_mut.result.now
     c.deref.result.now c.in_ok-place.place c.deref.ensures.value c.index.ensures
     c.index_mut.ensures.value c.in_ok-place.ensures.found
 
 pub invariant_of-self : goal.invariant_of-self
 invariant_of-self c = (
-  written_once c.self.inside.slots c.self.invariant.0 c.in_ok-key.key c.index_mut.result.now _
+  written_once c.self.inside.table.slots c.self.invariant.0 c.in_ok-key.key c.index_mut.result.now _
       c.index_mut.ensures.value refl,
-  popped_stamped c.self.inside.slots c.self.invariant.0 c.in_ok-key.key c.index_mut.result.now _
+  popped_stamped c.self.inside.table.slots c.self.invariant.0 c.in_ok-key.key c.index_mut.result.now
+      _
       c.index_mut.ensures.value refl c.self.inside.next c.self.inside.count c.self.invariant.1
       c.in_ok-place.place (place c) c.remove-entry.ensures.items,
+  written_index c.self.inside.table.slots c.self.inside.table.index.items c.self.invariant.2
+      c.in_ok-key.key c.index_mut.result.now _ c.index_mut.ensures.value refl,
 )
 
 pub returns-clause-found : goal.returns-clause-found
 returns-clause-found c =
-    let old = c.self.inside.slots in
+    let old = c.self.inside.table.slots in
     let was = c.index_mut.result.now in
     let now : Transaction = record was { entries = c.remove-entry.new.self } in
     let there = c.index_mut.ensures.value in
@@ -83,7 +88,8 @@ returns-clause-found c =
 
 pub returns-clause-live : goal.returns-clause-live
 returns-clause-live c =
-    written_live c.self.inside.slots c.self.invariant.0 c.in_ok-key.key c.index_mut.result.now _
+    written_live c.self.inside.table.slots c.self.invariant.0 c.in_ok-key.key c.index_mut.result.now
+    _
     c.index_mut.ensures.value refl refl
     ∙ ap (λ log. let l : Log = log in l.live) c.self.view_is
 
@@ -91,7 +97,8 @@ pub returns-clause-rooms : goal.returns-clause-rooms
 returns-clause-rooms c n live had =
     let fewer = c.remove-entry.ensures.len in
     let same = c.remove-entry.ensures.capacity in
-    written_rooms c.self.inside.slots c.self.invariant.0 c.in_ok-key.key c.index_mut.result.now
+    written_rooms c.self.inside.table.slots c.self.invariant.0 c.in_ok-key.key
+    c.index_mut.result.now
     (record c.index_mut.result.now { entries = c.remove-entry.new.self })
     c.index_mut.ensures.value refl c.self.inside.next (λ fits. omega arith) n live
     (subst (λ log. HasRoom log n) (sym c.self.view_is) had)
@@ -99,7 +106,7 @@ returns-clause-rooms c n live had =
 pub unreachable-requires : goal.unreachable-requires
 unreachable-requires c =
     let was = c.index_mut.result.now in
-    let place = place_in c.self.inside.slots c.in_ok-key.key c.index.result.now was
+    let place = place_in c.self.inside.table.slots c.in_ok-key.key c.index.result.now was
     c.deref.result.now c.in_ok-place.place c.deref.ensures.value c.index.ensures
     c.index_mut.ensures.value c.in_ok-place.ensures.found in
     newest_asked was.entries.items c.in_ok-place.place c.remove-entry.result

@@ -10,11 +10,12 @@ use Rattle.undo_log.specs.Stamps.{merged}
 use Rattle.undo_log.proofs.Slots.{Fits, room_here, same_value, absent_live}
 use Rattle.undo_log.proofs.Marks.{told}
 use Rattle.undo_log.proofs.Written.{written_once, written_live, pushed_merged, pushed_stamped}
+use Rattle.undo_log.proofs.Index.{written_index}
 use Rattle.undo_log.proofs.live.Live.push.Goals as goal
 
 pub unreachable-requires : goal.unreachable-requires
 unreachable-requires c =
-    let absent = absent_live c.self.inside.slots c.args.number c.in_default.ensures.none in
+    let absent = absent_live c.self.inside.table.slots c.args.number c.in_default.ensures.none in
     let no = sym (ap is_some absent) ∙
     subst (λ log. IsLive log c.args.number) (sym c.self.view_is) c.requires.live in
     cc
@@ -31,14 +32,15 @@ room_of log s next n key t u once there found number had rooms =
 pub push_reserved-requires : goal.push_reserved-requires
 push_reserved-requires c =
     let found = c.in-Some.ensures.found in
-    (room_of c.args.self.now c.self.inside.slots c.self.inside.next c.args.number c.in-Some.key
+    (room_of c.args.self.now c.self.inside.table.slots c.self.inside.next c.args.number
+    c.in-Some.key
     c.index_mut.result.now found.0 c.self.invariant.0 c.index_mut.ensures.value found.1 found.2
     c.requires.room (ap (λ log. let l : Log = log in l.rooms) c.self.view_is)).1
 
 pub overflow_add-self : goal.overflow_add-self
 overflow_add-self c =
     let found = c.in-Some.ensures.found in
-    let below = (room_of c.args.self.now c.self.inside.slots c.self.inside.next c.args.number
+    let below = (room_of c.args.self.now c.self.inside.table.slots c.self.inside.next c.args.number
     c.in-Some.key c.index_mut.result.now found.0 c.self.invariant.0 c.index_mut.ensures.value
     found.1 found.2 c.requires.room (ap (λ log. let l : Log = log in l.rooms) c.self.view_is)).0 in
     omega arith
@@ -46,7 +48,7 @@ overflow_add-self c =
 pub overflow_add-self-2 : goal.overflow_add-self-2
 overflow_add-self-2 c =
     let found = c.in-Some.ensures.found in
-    let below = (room_of c.args.self.now c.self.inside.slots c.self.inside.next c.args.number
+    let below = (room_of c.args.self.now c.self.inside.table.slots c.self.inside.next c.args.number
     c.in-Some.key c.index_mut.result.now found.0 c.self.invariant.0 c.index_mut.ensures.value
     found.1 found.2 c.requires.room (ap (λ log. let l : Log = log in l.rooms) c.self.view_is)).0 in
     let few = c.self.invariant.1.few in
@@ -54,23 +56,26 @@ overflow_add-self-2 c =
 
 pub invariant_of-self : goal.invariant_of-self
 invariant_of-self c = (
-  written_once c.self.inside.slots c.self.invariant.0 c.in-Some.key c.index_mut.result.now _
+  written_once c.self.inside.table.slots c.self.invariant.0 c.in-Some.key c.index_mut.result.now _
       c.index_mut.ensures.value refl,
-  pushed_stamped c.self.inside.slots c.self.invariant.0 c.in-Some.key c.index_mut.result.now _
+  pushed_stamped c.self.inside.table.slots c.self.invariant.0 c.in-Some.key c.index_mut.result.now _
       c.index_mut.ensures.value refl c.self.inside.next c.self.inside.count c.self.invariant.1
       c.args.entry c.push_reserved.ensures.items,
+  written_index c.self.inside.table.slots c.self.inside.table.index.items c.self.invariant.2
+      c.in-Some.key c.index_mut.result.now _ c.index_mut.ensures.value refl,
 )
 
 pub returns-clause-entries : goal.returns-clause-entries
 returns-clause-entries c =
-    let all = merged c.self.inside.slots.slots in
+    let all = merged c.self.inside.table.slots.slots in
     let was = c.index_mut.result.now in
     let there = c.index_mut.ensures.value in
     let found = c.in-Some.ensures.found in
     let mine = ap (λ v. v.number) (same_value was found.0 (sym there ∙ found.1)) ∙ found.2 in
     let e = entry_of c.args.entry in
     let next = c.self.inside.next in
-    ap told (pushed_merged c.self.inside.slots c.self.invariant.0 c.in-Some.key was _ there refl
+    ap told (pushed_merged c.self.inside.table.slots c.self.invariant.0 c.in-Some.key was _ there
+    refl
     next c.self.inside.count c.self.invariant.1 c.args.entry c.push_reserved.ensures.items)
     ∙ map-append (λ m. m.1) all ((next, (was.number, e)) ∷ [])
     ∙ ap (λ n. told all ++ (n, e) ∷ []) mine
@@ -78,6 +83,6 @@ returns-clause-entries c =
 
 pub returns-clause-live : goal.returns-clause-live
 returns-clause-live c =
-    written_live c.self.inside.slots c.self.invariant.0 c.in-Some.key c.index_mut.result.now _
+    written_live c.self.inside.table.slots c.self.invariant.0 c.in-Some.key c.index_mut.result.now _
     c.index_mut.ensures.value refl refl
     ∙ ap (λ log. let l : Log = log in l.live) c.self.view_is

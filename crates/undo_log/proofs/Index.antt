@@ -1,0 +1,468 @@
+-- The index of the live numbers: one is found, put in, or taken out.
+use Rattle.std.proofs.Common.{◌≡◌, ◌≢◌, ◌∙◌, ℕ, zero, suc, ◌+◌, ◌<◌, ◌≤◌, List, [], ◌∷◌, ◌++◌}
+use Rattle.std.proofs.Common.{length, get_or, take, drop, sym, ap, subst, ⊎_elim, ◌⊎◌, inl, inr}
+use Rattle.std.proofs.Common.{arith, refl, take-append-drop, length-take, length-drop, Some, None}
+use Rattle.std.proofs.Common.{Result, Ok, Err, IfOk, IfErr, is_some, ◌↔◌}
+use Rattle.std.specs.List.{All, Contains, HoldsAt, insert, remove}
+use Rattle.std.specs.List.Sorted.{IsSearchInRange, IsBinarySearchResult, IsNonDecreasingBy}
+use Rattle.std.specs.Ordering.{nat_cmp, ordering_index}
+use Rattle.std.proofs.lemmas.Cmp.{ranked}
+use Rattle.std.proofs.lemmas.Bool.{cases_order, cases_eq}
+use Rattle.std.proofs.lemmas.Bool.Decides.{nat_tests}
+use Rattle.std.proofs.lemmas.List.{get_or-take, get_or-drop, drop_more}
+use Rattle.std.proofs.lemmas.List.Elements.{All-append, All-cons, All-contains, All-head, All-tail}
+use Rattle.std.proofs.lemmas.List.Elements.{All-nil, All-weaker, All-contains_itself}
+use Rattle.std.proofs.lemmas.List.Elements.{Contains-append_left}
+use Rattle.std.proofs.lemmas.List.Elements.{Contains-append_right, Contains-append_cases}
+use Rattle.std.proofs.lemmas.List.Elements.{Contains-push, Contains-push_cases}
+use Rattle.slab.specs.Slab.{Slab, get, Updates, with_value}
+use Rattle.slab.proofs.SlabLemmas.{Updates-with_value}
+use Rattle.undo_log.specs.declared.live.Transaction.{Transaction}
+use Rattle.undo_log.specs.declared.live.Seat.{Seat}
+use Rattle.undo_log.specs.Logs.{IsSlotOf, IsLeastSlot, IsNextSlot}
+use Rattle.undo_log.specs.Index.{AreRising, IsIndex, IsGapFor}
+use Rattle.undo_log.proofs.Slots.{same_value}
+
+-- ---- what is in a list
+
+module _ {X : Type 0} where
+  all_front : (P : X → Type 0) (xs ys : List X) → All P (xs ++ ys) → All P xs
+  all_front P [] ys all = All-nil P
+  all_front P (x ∷ xs) ys all = All-cons P x xs (All-head P x (xs ++ ys) all)
+      (all_front P xs ys (All-tail P x (xs ++ ys) all))
+
+  all_back : (P : X → Type 0) (xs ys : List X) → All P (xs ++ ys) → All P ys
+  all_back P [] ys all = all
+  all_back P (x ∷ xs) ys all = all_back P xs ys (All-tail P x (xs ++ ys) all)
+
+  only : (x y : X) → Contains (x ∷ []) y → x ≡ y
+  only x y h = ⊎_elim (λ none. let lt = none.1 in absurd (omega arith)) (λ same. same)
+      (Contains-push_cases [] x y h)
+
+  -- what is before an element, is it, or is behind it
+  cases : (l : List X) (x : X) (r : List X) (y : X) → Contains (l ++ x ∷ r) y →
+      Contains l y ⊎ ((x ≡ y) ⊎ Contains r y)
+  cases l x r y inside =
+      ⊎_elim (λ a. inl a)
+      (λ rest. inr (⊎_elim (λ one. inl (only x y one)) (λ later. inr later)
+      (Contains-append_cases (x ∷ []) r y rest)))
+      (Contains-append_cases l (x ∷ r) y inside)
+
+  here : (l : List X) (x : X) (r : List X) → Contains (l ++ x ∷ r) x
+  here l x r = Contains-append_right l (x ∷ r) x
+      (Contains-append_left (x ∷ []) r x (Contains-push [] x))
+
+  -- one element more in the middle
+  amid : (l : List X) (x : X) (r : List X) (y : X) → Contains (l ++ r) y → Contains (l ++ x ∷ r) y
+  amid l x r y inside =
+      ⊎_elim (λ a. Contains-append_left l (x ∷ r) y a)
+      (λ b. Contains-append_right l (x ∷ r) y (Contains-append_right (x ∷ []) r y b))
+      (Contains-append_cases l r y inside)
+
+  -- the list around a place
+  around : (xs : List X) (i : ℕ) (d : X) → i < length xs →
+      xs ≡ take i xs ++ get_or xs i d ∷ drop (suc i) xs
+  around xs i d lt =
+      let next : i + 1 ≡ suc i = omega arith in
+      let behind : drop i xs ≡ get_or xs i d ∷ drop (suc i) xs =
+      drop_more xs i d lt ∙ ap (λ n. get_or xs i d ∷ drop n xs) next in
+      sym (take-append-drop i xs) ∙ ap (λ l. take i xs ++ l) behind
+
+-- ---- seats in the order of their numbers
+
+-- Those of l stand below x, and those of r above it.
+record IsFork (l : List Seat) (x : Seat) (r : List Seat) : Type 0 where
+  left : AreRising l
+  right : AreRising r
+  below : All (λ y. y.number < x.number) l
+  above : All (λ y. x.number < y.number) r
+
+split : (l : List Seat) (x : Seat) (r : List Seat) → AreRising (l ++ x ∷ r) → IsFork l x r
+split [] x r up = record {
+  left = tt;
+  right = up.1;
+  below = All-nil (λ y. y.number < x.number);
+  above = up.0;
+}
+split (y ∷ l) x r up =
+    let rest = split l x r up.1 in
+    let behind : y.number < x.number =
+    All-head (λ z. y.number < z.number) x r (all_back (λ z. y.number < z.number) l (x ∷ r) up.0) in
+    record {
+      left = (all_front (λ z. y.number < z.number) l (x ∷ r) up.0, rest.left);
+      right = rest.right;
+      below = All-cons (λ z. z.number < x.number) y l behind rest.below;
+      above = rest.above;
+    }
+
+join : (l : List Seat) (x : Seat) (r : List Seat) → IsFork l x r → AreRising (l ++ x ∷ r)
+join [] x r f = (f.above, f.right)
+join (y ∷ l) x r f =
+    let behind : y.number < x.number = All-head (λ z. z.number < x.number) y l f.below in
+    let far : All (λ z. y.number < z.number) r = All-weaker (λ z. x.number < z.number)
+    (λ z. y.number < z.number) (λ z up. omega arith) r f.above in (
+      All-append (λ z. y.number < z.number) l (x ∷ r) f.left.0
+          (All-cons (λ z. y.number < z.number) x r behind far),
+      join l x r (record {
+        left = f.left.1;
+        right = f.right;
+        below = All-tail (λ z. z.number < x.number) y l f.below;
+        above = f.above;
+      }),
+    )
+
+rise_front : (l r : List Seat) → AreRising (l ++ r) → AreRising l
+rise_front [] r up = tt
+rise_front (x ∷ l) r up = (all_front (λ y. x.number < y.number) l r up.0, rise_front l r up.1)
+
+rise_back : (l r : List Seat) → AreRising (l ++ r) → AreRising r
+rise_back [] r up = up
+rise_back (x ∷ l) r up = rise_back l r up.1
+
+-- the order without one of them
+without : (l : List Seat) (x : Seat) (r : List Seat) → AreRising (l ++ x ∷ r) → AreRising (l ++ r)
+without [] x r up = up.1
+without (y ∷ l) x r up = (
+  All-append (λ z. y.number < z.number) l r (all_front (λ z. y.number < z.number) l (x ∷ r) up.0)
+      (All-tail (λ z. y.number < z.number) x r (all_back (λ z. y.number < z.number) l (x ∷ r)
+      up.0)),
+  without l x r up.1,
+)
+
+-- the order place by place
+rise_at : (xs : List Seat) (i j : ℕ) (d : Seat) → AreRising xs → i < j → j < length xs →
+    (get_or xs i d).number < (get_or xs j d).number
+rise_at [] i j d up less lt = absurd (omega arith)
+rise_at (x ∷ xs) zero zero d up less lt = absurd (omega arith)
+rise_at (x ∷ xs) zero (suc j) d up less lt = up.0 j d (omega arith)
+rise_at (x ∷ xs) (suc i) zero d up less lt = absurd (omega arith)
+rise_at (x ∷ xs) (suc i) (suc j) d up less lt =
+    rise_at xs i j d up.1 (omega arith) (omega arith)
+
+abbrev pub number_of : Seat → ℕ
+number_of s = s.number
+
+module _ (index : List Seat) (up : AreRising index) (n : ℕ) where
+  comparisons_rise : IsNonDecreasingBy (λ x. ordering_index (nat_cmp x.number n)) index
+  comparisons_rise i j d le lt =
+      let numbers_rise : (get_or index i d).number ≤ (get_or index j d).number =
+      ⊎_elim (λ same. let e : (get_or index i d).number ≡ (get_or index j d).number =
+      ap (λ k. number_of (get_or index k d)) same in omega arith)
+      (λ rest. ⊎_elim
+      (λ less. let a = rise_at index i j d up less lt in omega arith)
+      (λ more. absurd (omega arith)) rest)
+      (cases_order i j) in
+      grind (arith, nat_tests)
+
+  -- where a halving ends
+  pub searched : (r : Result ℕ ℕ) → IsSearchInRange r (length index) →
+      IsBinarySearchResult (λ x. nat_cmp x.number n) index r →
+      record {
+        found : IfOk r (λ i. (i < length index) × HoldsAt (λ x. x.number ≡ n) index i);
+        absent : IfErr r (IsGapFor n index);
+      }
+  searched (Ok i) in_range equal = record {
+    found = (in_range, λ d. ranked _ n _ (sym (equal d)));
+    absent = tt;
+  }
+  searched (Err i) in_range parted =
+      let both = parted comparisons_rise in
+      record {
+        found = tt;
+        absent = record {
+          within = in_range;
+          lesser = λ k d lt.
+              let few = length-take i index in
+              let below : k < i = omega arith in
+              rw (get_or-take i index k d below) (ranked _ n _ (sym (both.0 k d (omega arith)
+              below)));
+          greater = λ k d lt.
+              let few = length-drop i index in
+              rw (get_or-drop i index k d)
+              (ranked _ n _ (sym (both.1 (i + k) d (omega arith) (omega arith))));
+        };
+      }
+
+-- ---- the index of the slots
+
+module _ (s : Slab Transaction) (index : List Seat) (is : IsIndex s index) where
+  -- a seat that stands in the index is that of a slot
+  pub seat_found : (n i : ℕ) → i < length index → HoldsAt (λ x. x.number ≡ n) index i →
+      (x : Seat) → x ≡ get_or index i x → IsSlotOf s n x.slot
+  seat_found n i lt holds x here = subst (λ m. IsSlotOf s m x.slot)
+      (ap number_of here ∙ holds x) ((is.seats x).0 (i, lt, sym here))
+
+  -- a number for which there is a gap has no slot
+  pub none_in_gap : (n i : ℕ) → IsGapFor n index i → (key : ℕ) → IsSlotOf s n key → ⊥
+  none_in_gap n i gap key slot =
+      let seat : Seat = record { number = n; slot = key } in
+      let other : All (λ x. x.number ≢ n) index =
+      subst (All (λ x. x.number ≢ n)) (take-append-drop i index)
+      (All-append (λ x. x.number ≢ n) (take i index) (drop i index)
+      (All-weaker (λ x. x.number < n) (λ x. x.number ≢ n) (λ x less e. omega arith)
+      (take i index) gap.lesser)
+      (All-weaker (λ x. n < x.number) (λ x. x.number ≢ n) (λ x more e. omega arith)
+      (drop i index) gap.greater)) in
+      All-contains (λ x. x.number ≢ n) index seat other ((is.seats seat).1 slot) refl
+
+  -- no seat has a number that no slot has
+  pub all_others : (n : ℕ) → ((k : ℕ) (t : Transaction) → get s k ≡ Some t → t.number ≢ n) →
+      All (λ x. x.number ≢ n) index
+  all_others n fresh = All-weaker (Contains index) (λ x. x.number ≢ n)
+      (λ x inside same. let slot = (is.seats x).0 inside in
+      fresh x.slot slot.0 slot.1 (slot.2 ∙ same)) index (All-contains_itself index)
+
+-- the index stays where the slots keep their numbers
+pub index_kept : (old new : Slab Transaction) (index : List Seat) → IsIndex old index →
+    ((n k : ℕ) → IsSlotOf old n k ↔ IsSlotOf new n k) → IsIndex new index
+index_kept old new index is same = record {
+  rising = is.rising;
+  seats = λ s. (
+    λ inside. (same s.number s.slot).0 ((is.seats s).0 inside),
+    λ slot. (is.seats s).1 ((same s.number s.slot).1 slot),
+  );
+}
+
+-- with no slot
+pub none_index : (s : Slab Transaction) → s.slots ≡ [] → IsIndex s []
+none_index s empty = record {
+  rising = tt;
+  seats = λ x. (
+    λ inside. let lt = inside.1 in absurd (omega arith),
+    λ slot. let no : None ≡ Some slot.0 = sym (ap (λ l. get_or l x.slot None) empty) ∙ slot.1 in
+        cc,
+  );
+}
+
+-- the slot of a transaction is written
+pub written_index : (old : Slab Transaction) (index : List Seat) → IsIndex old index → (key : ℕ)
+    (was now : Transaction) → get old key ≡ Some was → now.number ≡ was.number →
+    IsIndex (with_value old key now) index
+written_index old index is key was now there number =
+    let put = Updates-with_value old key now (ap is_some there) in
+    index_kept old (with_value old key now) index is (λ n k. (
+      λ slot. ⊎_elim
+          (λ (same : k ≡ key). (
+            now,
+            ap (get (with_value old key now)) same ∙ put.changed,
+            number ∙ ap (λ t. t.number) (same_value was slot.0
+                (sym there ∙ ap (get old) (sym same) ∙
+                slot.1)) ∙ slot.2,
+          ))
+          (λ (other : k ≡ key → ⊥). (slot.0, put.others k other ∙ slot.1, slot.2))
+          (cases_eq k key),
+      λ slot. ⊎_elim
+          (λ (same : k ≡ key). (
+            was,
+            ap (get old) same ∙ there,
+            sym number ∙ ap (λ t. t.number) (same_value now slot.0 (sym put.changed ∙
+                ap (get (with_value old key now)) (sym same) ∙ slot.1)) ∙ slot.2,
+          ))
+          (λ (other : k ≡ key → ⊥). (slot.0, sym (put.others k other) ∙ slot.1, slot.2))
+          (cases_eq k key),
+    ))
+
+-- a seat is put in
+module _ (index : List Seat) (up : AreRising index) (i : ℕ) (seat : Seat)
+    (gap : IsGapFor seat.number index i) where
+  parts : AreRising (take i index ++ drop i index)
+  parts = subst AreRising (sym (take-append-drop i index)) up
+
+  pub inserted_rises : AreRising (insert index i seat)
+  inserted_rises = join (take i index) seat (drop i index) (record {
+    left = rise_front (take i index) (drop i index) parts;
+    right = rise_back (take i index) (drop i index) parts;
+    below = gap.lesser;
+    above = gap.greater;
+  })
+
+  pub inserted : (s : Seat) → Contains (insert index i seat) s ↔ (Contains index s ⊎ (s ≡ seat))
+  inserted s =
+      let whole = take-append-drop i index in (
+        λ inside. ⊎_elim
+            (λ a. inl (subst (λ l. Contains l s) whole
+            (Contains-append_left (take i index) (drop i index) s a)))
+            (λ rest. ⊎_elim (λ one. inr (sym one))
+            (λ b. inl (subst (λ l. Contains l s) whole
+            (Contains-append_right (take i index) (drop i index) s b))) rest)
+            (cases (take i index) seat (drop i index) s inside),
+        λ either. ⊎_elim
+            (λ was. amid (take i index) seat (drop i index) s
+            (subst (λ l. Contains l s) (sym whole) was))
+            (λ same. subst (Contains (insert index i seat)) (sym same)
+            (here (take i index) seat (drop i index)))
+            either,
+      )
+
+-- a number gets a slot
+pub put_index : (old new : Slab Transaction) (index put : List Seat) → IsIndex old index →
+    (key : ℕ) (t : Transaction) → get old key ≡ None → Updates old new key (Some t) →
+    AreRising put →
+    ((s : Seat) → Contains put s ↔
+    (Contains index s ⊎ (s ≡ record { number = t.number; slot = key }))) → IsIndex new put
+put_index old new index put is key t vacant updates rising listed = record {
+  rising = rising;
+  seats = λ s. (
+    λ inside. ⊎_elim
+        (λ was. let slot = (is.seats s).0 was in
+        let away : s.slot ≢ key = λ same. let no : None ≡ Some slot.0 =
+        sym vacant ∙ ap (get old) (sym same) ∙ slot.1 in cc in
+        (slot.0, updates.others s.slot away ∙ slot.1, slot.2))
+        (λ (same : s ≡ record { number = t.number; slot = key }). (
+          t,
+          ap (λ (x : Seat). get new x.slot) same ∙ updates.changed,
+          sym (ap number_of same),
+        ))
+        ((listed s).0 inside),
+    λ slot. (listed s).1 (⊎_elim
+        (λ (same : s.slot ≡ key).
+        let number : s.number ≡ t.number = sym slot.2 ∙ ap (λ u. u.number)
+        (same_value slot.0 t (sym slot.1 ∙ ap (get new) same ∙ updates.changed)) in
+        inr (λ i. record { number = number i; slot = same i }))
+        (λ (other : s.slot ≡ key → ⊥). inl ((is.seats s).1
+        (slot.0, sym (updates.others s.slot other) ∙ slot.1, slot.2)))
+        (cases_eq s.slot key)),
+  );
+}
+
+-- a seat of the index
+module _ (s : Slab Transaction) (index : List Seat) (is : IsIndex s index) (i : ℕ)
+    (lt : i < length index) (x : Seat) (at : x ≡ get_or index i x) where
+  whole : index ≡ take i index ++ x ∷ drop (suc i) index
+  whole = around index i x lt ∙ ap (λ y. take i index ++ y ∷ drop (suc i) index) (sym at)
+
+  fork : IsFork (take i index) x (drop (suc i) index)
+  fork = split (take i index) x (drop (suc i) index) (subst AreRising whole is.rising)
+
+  pub its : IsSlotOf s x.number x.slot
+  its = (is.seats x).0 (i, lt, sym at)
+
+  -- what is not before it has no lesser number
+  not_less : (seat : Seat) → IsSlotOf s seat.number seat.slot →
+      (Contains (take i index) seat → ⊥) → x.number ≤ seat.number
+  not_less seat slot later =
+      ⊎_elim (λ a. absurd (later a))
+      (λ rest. ⊎_elim
+      (λ one. let same : x.number ≡ seat.number = ap number_of one in omega arith)
+      (λ b. let more = All-contains (λ y. x.number < y.number) (drop (suc i) index) seat fork.above
+      b in omega arith) rest)
+      (cases (take i index) x (drop (suc i) index) seat
+      (subst (λ l. Contains l seat) whole ((is.seats seat).1 slot)))
+
+  -- the first one has the least number,
+  pub least_seat : i ≡ 0 → IsLeastSlot s x.number
+  least_seat first = record {
+    key = x.slot;
+    there = its;
+    least = λ key t h. not_less (record { number = t.number; slot = key }) (t, h, refl)
+        (λ before. let few = length-take i index in let within = before.1 in absurd (omega arith));
+  }
+
+  -- and the first above another the least above that
+  pub next_seat : (after : ℕ) → All (λ y. y.number ≤ after) (take i index) →
+      All (λ y. after < y.number) (drop i index) → IsNextSlot s after x.number
+  next_seat after below above = record {
+    key = x.slot;
+    there = its;
+    above = All-head (λ y. after < y.number) x (drop (i + 1) index)
+        (subst (All (λ y. after < y.number))
+        (drop_more index i x lt ∙ ap (λ y. y ∷ drop (i + 1) index) (sym at)) above);
+    least = λ key t h over. let seat : Seat = record { number = t.number; slot = key } in
+        not_less seat (t, h, refl) (λ before.
+        let low = All-contains (λ y. y.number ≤ after) (take i index) seat below before in
+        absurd (omega arith));
+  }
+
+-- with no seat, or none above the other
+pub no_seat : (s : Slab Transaction) (index : List Seat) → IsIndex s index → length index ≤ 0 →
+    (key : ℕ) (t : Transaction) → get s key ≡ Some t → ⊥
+no_seat s index is empty key t h =
+    let inside = (is.seats (record { number = t.number; slot = key })).1 (t, h, refl) in
+    let within = inside.1 in
+    absurd (omega arith)
+
+pub none_above : (s : Slab Transaction) (index : List Seat) → IsIndex s index → (after i : ℕ) →
+    All (λ y. y.number ≤ after) (take i index) → length index ≤ i →
+    (key : ℕ) (t : Transaction) → get s key ≡ Some t → t.number ≤ after
+none_above s index is after i below over key t h =
+    let seat : Seat = record { number = t.number; slot = key } in
+    ⊎_elim
+    (λ a. All-contains (λ y. y.number ≤ after) (take i index) seat below a)
+    (λ b. let few = length-drop i index in let within = b.1 in absurd (omega arith))
+    (Contains-append_cases (take i index) (drop i index) seat
+    (subst (λ l. Contains l seat) (sym (take-append-drop i index))
+    ((is.seats seat).1 (t, h, refl))))
+
+-- where the numbers above one begin that is there
+module _ (index : List Seat) (up : AreRising index) (n i : ℕ) (lt : i < length index)
+    (holds : HoldsAt (λ x. x.number ≡ n) index i) where
+  pub found_below : All (λ y. y.number ≤ n) (take (i + 1) index)
+  found_below k d within =
+      let few = length-take (i + 1) index in
+      let below : k < i + 1 = omega arith in
+      let here : (get_or index i d).number ≡ n = holds d in
+      rw (get_or-take (i + 1) index k d below)
+      (⊎_elim
+      (λ same. let e : (get_or index k d).number ≡ (get_or index i d).number =
+      ap (λ j. number_of (get_or index j d)) same in omega arith)
+      (λ rest. ⊎_elim (λ less. let a = rise_at index k i d up less lt in omega arith)
+      (λ more. absurd (omega arith)) rest)
+      (cases_order k i))
+
+  pub found_above : All (λ y. n < y.number) (drop (i + 1) index)
+  found_above k d within =
+      let few = length-drop (i + 1) index in
+      let here : (get_or index i d).number ≡ n = holds d in
+      let over = rise_at index i (i + 1 + k) d up (omega arith) (omega arith) in
+      rw (get_or-drop (i + 1) index k d) (omega arith)
+
+-- and above one that is not there
+pub gap_below : (index : List Seat) (n i : ℕ) → IsGapFor n index i →
+    All (λ y. y.number ≤ n) (take i index)
+gap_below index n i gap = All-weaker (λ y. y.number < n) (λ y. y.number ≤ n)
+    (λ y less. omega arith) (take i index) gap.lesser
+
+-- a number's slot becomes free
+module _ (old new : Slab Transaction) (index : List Seat) (is : IsIndex old index) (i : ℕ)
+    (lt : i < length index) (x : Seat) (at : x ≡ get_or index i x)
+    (gone : Updates old new x.slot None) where
+  all : index ≡ take i index ++ x ∷ drop (suc i) index
+  all = whole old index is i lt x at
+
+  -- what is left has another number
+  other : (s : Seat) → Contains (remove index i) s → s.number ≢ x.number
+  other s inside same =
+      ⊎_elim
+      (λ a. let less = All-contains (λ y. y.number < x.number) (take i index) s
+      (fork old index is i lt x at).below a in
+      absurd (omega arith))
+      (λ b. let more = All-contains (λ y. x.number < y.number) (drop (suc i) index) s
+      (fork old index is i lt x at).above b
+      in absurd (omega arith))
+      (Contains-append_cases (take i index) (drop (suc i) index) s inside)
+
+  mine : IsSlotOf old x.number x.slot
+  mine = its old index is i lt x at
+
+  pub gone_index : IsIndex new (remove index i)
+  gone_index = record {
+    rising = without (take i index) x (drop (suc i) index) (subst AreRising all is.rising);
+    seats = λ s. (
+      λ inside.
+          let was : Contains index s = subst (λ l. Contains l s) (sym all)
+          (amid (take i index) x (drop (suc i) index) s inside) in
+          let slot = (is.seats s).0 was in
+          let away : s.slot ≢ x.slot = λ same. other s inside (sym slot.2 ∙ ap (λ u. u.number)
+          (same_value slot.0 mine.0 (sym slot.1 ∙ ap (get old) same ∙ mine.1)) ∙ mine.2) in
+          (slot.0, gone.others s.slot away ∙ slot.1, slot.2),
+      λ slot.
+          let away : s.slot ≢ x.slot = λ same. let no : None ≡ Some slot.0 =
+          sym gone.changed ∙ ap (get new) (sym same) ∙ slot.1 in cc in
+          let was = (is.seats s).1 (slot.0, sym (gone.others s.slot away) ∙ slot.1, slot.2) in
+          ⊎_elim
+          (λ a. Contains-append_left (take i index) (drop (suc i) index) s a)
+          (λ rest. ⊎_elim (λ one. absurd (away (ap (λ (y : Seat). y.slot) (sym one))))
+          (λ b. Contains-append_right (take i index) (drop (suc i) index) s b) rest)
+          (cases (take i index) x (drop (suc i) index) s (subst (λ l. Contains l s) all was)),
+    );
+  }
