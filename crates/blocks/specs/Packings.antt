@@ -13,9 +13,9 @@ abbrev pub joined : List (List Record) → List Record
 joined groups = flat_map (λ g. g) groups
 
 -- Records that may stand anywhere, and of which P holds, come behind the others.
-pub record Writes (before after : List (List Record)) (P : List Record → Type 0) : Type 0 where
+pub record Writes (before after : List Record) (P : List Record → Type 0) : Type 0 where
   pub written : List Record
-  pub are : joined after ≡ joined before ++ written
+  pub are : after ≡ before ++ written
   pub good : (last : Option Kind) → AreRecords last written
   pub is : P written
 

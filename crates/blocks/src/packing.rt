@@ -63,8 +63,10 @@ impl Packer {
         written
     }
 
-    // Writes the record behind the others. It is not taken.
-    fn write(&mut self, entry: &Record) -> Result<(), Refusal>
+    /// Writes the record behind the others, as `push` does. It is not taken.
+    ///
+    /// NoMemory, behind which the records may be dropped only.
+    pub fn write(&mut self, entry: &Record) -> Result<(), Refusal>
         requires { Fits entry.now }
         ensures written { OnOk result (joined self.new ≡ joined self.old ++ entry.now ∷ []) }
         ensures refusal { IsOkUnless result Refusal.NoMemory }

@@ -16,6 +16,7 @@ use Rattle.std.proofs.lemmas.List.Quantifiers.{position-Some}
 use Rattle.std.proofs.lemmas.Map.Keys.{IsDistinct-head, IsDistinct-tail}
 use Rattle.std.proofs.lemmas.Map.Entries.{lookup_head, lookup_tail, place_from_lookup}
 use Rattle.std.proofs.lemmas.Option.{slice_get_within, slice_get_read, get_or_from_slice_get}
+use Rattle.std.proofs.lemmas.Option.{slice_get-map}
 use Rattle.std.proofs.lemmas.Slice.Eq.{bytes_eq-Decides}
 use Rattle.indexmap.specs.IndexMap.{set_value_at, insert_entry}
 use Rattle.indexmap.proofs.MapLemmas.{absent_from_lookup, insert_entry-absent}
@@ -349,6 +350,17 @@ shown_at P s es i at e seen place there h = rw (← seen, ← place) (go es i th
     go (f ∷ fs) zero t = let same : e ≡ f = cc in
         subst (λ v. P (record { name = string_bytes v.0; content = content_of v.1 })) same h
     go (f ∷ fs) (suc j) t = go fs j t
+
+abbrev collection_of : Entry → Collection
+collection_of e = record { name = string_bytes e.0; content = content_of e.1 }
+
+-- The collection that is found there.
+pub collection_at : (s : List Collection) (es : List Entry) (i at : ℕ) (e : Entry) →
+    collections_of es ≡ s → i ≡ at → Some e ≡ slice_get es i →
+    slice_get s at ≡ Some (record { name = string_bytes e.0; content = content_of e.1 })
+collection_at s es i at e seen place there =
+    ap (λ l. slice_get l at) (sym seen) ∙ slice_get-map collection_of es at ∙
+    ap (option_map collection_of) (ap (slice_get es) (sym place) ∙ sym there)
 
 -- Each entry's name is a good one, also after a change at a place,
 pub named_at : (es : List Entry) (i : ℕ) (e : Entry) → AreNamed (collections_of es) →

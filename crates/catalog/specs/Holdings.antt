@@ -57,7 +57,8 @@ content_code =
     (coded⊎ (maps.code (coded× coded_ℕ coded_ℕ) coded_ℕ) (coded⊎ coded_ℤ (sets.code coded_ℕ)))))
     shape_of content_from shape_gives
 
-abbrev collection_code : Coded Collection
+-- the code of a collection
+abbrev pub collection_code : Coded Collection
 collection_code = code_by (List ℕ × Content) (coded× (coded_list coded_ℕ) content_code)
     (λ c. (c.name, c.content)) (λ p. record { name = p.0; content = p.1 }) (λ c. refl)
 

@@ -14,11 +14,12 @@ ghost use Rattle.catalog.specs.Meaning.{catalog_meaning, catalog_making};
 ghost use Rattle.catalog.specs.Laws.Catalogs.{making_laws};
 
 use crate::holding::are_items;
-use crate::{Holding, Parts, Shown};
+use crate::shown::shown_of;
+use crate::{Holding, NamedHolding, Parts, Shown};
 use calls::limits::MAX_COLLECTIONS;
 use calls::{Call, Item, Kind, Name, Refusal, Reply, check_name};
 use indexmap::IndexMap;
-use std::alloc::{AllocError, Global};
+use std::alloc::Global;
 use std::marker::Model;
 
 /// Named collections, at most 256, in the order of making: the place of a collection is its number.
@@ -150,22 +151,11 @@ impl Catalog {
     }
 }
 
-// What is shown of a collection.
-fn shown_of(name: &String, holding: &Holding) -> Result<Shown, AllocError>
-    requires { IsName (string_bytes name.now) }
-    ensures { IfOk result (λ shown. Shows
-        (record { name = string_bytes name.now; content = content_of holding.now }) shown) }
-{
-    let text = name.clone()?;
-    let items = holding.items(*name.allocator())?;
-    Ok(Shown {
-        name: Name::new(text),
-        kind: holding.kind(),
-        items,
-    })
-}
-
 impl Parts for Catalog {
+    type Part = NamedHolding;
+
+    ghost collections = { λ s. s };
+
     ghost making = { catalog_making };
 
     fn find(&self, name: &str) -> Result<u8, Refusal> {
@@ -193,6 +183,14 @@ impl Parts for Catalog {
         let alloc = *self.collections.allocator();
         self.add(name, Holding::new(kind, alloc))?;
         Ok(at as u8)
+    }
+
+    fn copy(&self, at: u8) -> Result<NamedHolding, Refusal> {
+        let place = usize::from(at);
+        match self.collections.get_index(place) {
+            Some((name, holding)) => NamedHolding::copy_of(name, holding),
+            None => Err(Refusal::NoSuchCollection),
+        }
     }
 
     ghost laws = { making_laws };

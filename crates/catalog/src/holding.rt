@@ -55,6 +55,20 @@ impl Holding {
         }
     }
 
+    // The same once more. NoMemory alone is refused.
+    pub(crate) fn copy(&self, alloc: Global) -> Result<Self, Refusal>
+        ensures ok { IfOk result (λ copy. content_of copy ≡ content_of self.now) }
+        ensures refusal { IsOkUnless result Refusal.NoMemory }
+    {
+        match self {
+            Holding::Set(set) => Ok(Holding::Set(set.copy()?)),
+            Holding::Map(map) => Ok(Holding::Map(map.copy(alloc)?)),
+            Holding::Queue(queue) => Ok(Holding::Queue(queue.copy()?)),
+            Holding::Counter(counter) => Ok(Holding::Counter(counter.copy())),
+            Holding::Pool(pool) => Ok(Holding::Pool(pool.copy()?)),
+        }
+    }
+
     // Whether the call may get this reply now. It takes no memory.
     pub(crate) fn fits(&self, call: &Call, reply: &Reply) -> bool
         ensures { IsTrue result ↔ Answers (content_of self.now) call.now reply.now }

@@ -3,11 +3,13 @@
 
 mod catalog;
 mod holding;
+mod part;
 mod parts;
 mod product;
 mod shown;
 
 pub use catalog::Catalog;
 pub use holding::{Holding, follows, one_content};
+pub use part::{NamedHolding, Part};
 pub use parts::Parts;
 pub use shown::Shown;

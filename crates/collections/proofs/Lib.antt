@@ -4,3 +4,4 @@ pub mod Tables
 pub mod Sifts
 pub mod Holders
 pub mod Items
+mod Copies

@@ -35,6 +35,13 @@ impl CounterCol {
         Self { total }
     }
 
+    /// The same counter once more. Its cost is constant.
+    pub fn copy(&self) -> Self
+        ensures { result ≡ self.now }
+    {
+        Self { total: self.total }
+    }
+
     /// The number. Its cost is constant.
     pub fn total(&self) -> i128
         ensures { result ≡ self.now }

@@ -53,6 +53,19 @@ impl MapCol {
         self.values.iter()
     }
 
+    /// The same map once more. Refused only for want of memory. Its cost is a copy of each value,
+    /// and a search for its place.
+    pub fn copy(&self, alloc: Global) -> Result<Self, Refusal>
+        ensures ok { IfOk result (λ copy. copy ≡ self.now) }
+        ensures refusal { IsOkUnless result Refusal.NoMemory }
+    {
+        let mut copy = Self::new(alloc);
+        for (key, value) in self.iter() {
+            copy.put(*key, value.copy()?)?;
+        }
+        Ok(copy)
+    }
+
     // The value at the key.
     fn get(&self, key: u64) -> Option<&Bytes>
         ensures { option_copied result ≡ map.get self.now key }

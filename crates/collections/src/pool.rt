@@ -1,5 +1,5 @@
 // A pool of identifiers.
-ghost use Rattle.std.specs.Prelude.{◌≡◌, ◌↔◌, false, IsTrue, IsOk, OnOk, OnErr, IsOkUnless};
+ghost use Rattle.std.specs.Prelude.{◌≡◌, ◌↔◌, false, IsTrue, IsOk, IfOk, OnOk, OnErr, IsOkUnless};
 ghost use Rattle.std.specs.Prelude.{IsOkAnd};
 ghost use Rattle.std.specs.FinSet as set;
 ghost use Rattle.std.specs.List.Sorted.{IsStrictlySortedBy};
@@ -8,7 +8,7 @@ ghost use Rattle.calls.specs.Rules.{TakesNoMemory};
 ghost use Rattle.calls.specs.Pools.{Answers, after, CanLook};
 
 use calls::{Call, Refusal, Reply};
-use std::alloc::Global;
+use std::alloc::{AllocError, Global};
 use std::collections::BTreeSet;
 use std::collections::btree_set::Iter;
 use std::marker::Model;
@@ -48,6 +48,16 @@ impl PoolCol {
         ensures members { set.from_list result ≡ self.now }
     {
         self.taken.iter()
+    }
+
+    /// The same pool once more. Refused only for want of memory. Its cost is linear in the number
+    /// of identifiers that are taken.
+    pub fn copy(&self) -> Result<Self, AllocError>
+        ensures { IfOk result (λ pool. pool ≡ self.now) }
+    {
+        Ok(Self {
+            taken: self.taken.clone()?,
+        })
     }
 
     // Whether the identifier is taken.

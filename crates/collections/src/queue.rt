@@ -48,6 +48,17 @@ impl QueueCol {
         }
     }
 
+    /// The same queue once more. Refused only for want of memory. Its cost is linear in the number
+    /// of pairs.
+    pub fn copy(&self) -> Result<Self, AllocError>
+        ensures { IfOk result (λ queue. queue ≡ self.now) }
+    {
+        Ok(Self {
+            holders: self.holders.clone()?,
+            marked: self.marked,
+        })
+    }
+
     /// The pairs in order, the least first, each as often as it is there. NoMemory alone is
     /// refused. Its cost is a copy of the pairs and a sort of it.
     pub fn to_vec(&self, alloc: Global) -> Result<Vec<(u64, u64)>, AllocError>

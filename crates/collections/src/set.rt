@@ -1,5 +1,6 @@
 // A set of numbers.
-ghost use Rattle.std.specs.Prelude.{◌≡◌, ◌↔◌, IsTrue, IsOk, OnOk, OnErr, IsOkUnless, IsOkAnd};
+ghost use Rattle.std.specs.Prelude.{◌≡◌, ◌↔◌, IsTrue, IsOk, IfOk, OnOk, OnErr, IsOkUnless};
+ghost use Rattle.std.specs.Prelude.{IsOkAnd};
 ghost use Rattle.std.specs.FinSet as set;
 ghost use Rattle.std.specs.List.Sorted.{IsStrictlySortedBy};
 ghost use Rattle.std.specs.Ordering.{nat_cmp};
@@ -7,7 +8,7 @@ ghost use Rattle.calls.specs.Rules.{TakesNoMemory};
 ghost use Rattle.calls.specs.Sets.{Answers, after, CanLook};
 
 use calls::{Call, Refusal, Reply};
-use std::alloc::Global;
+use std::alloc::{AllocError, Global};
 use std::collections::BTreeSet;
 use std::collections::btree_set::Iter;
 use std::marker::Model;
@@ -47,6 +48,16 @@ impl SetCol {
         ensures members { set.from_list result ≡ self.now }
     {
         self.elements.iter()
+    }
+
+    /// The same set once more. Refused only for want of memory. Its cost is linear in the number of
+    /// elements.
+    pub fn copy(&self) -> Result<Self, AllocError>
+        ensures { IfOk result (λ set. set ≡ self.now) }
+    {
+        Ok(Self {
+            elements: self.elements.clone()?,
+        })
     }
 
     // Whether the element is in the set.

@@ -1,5 +1,5 @@
 -- The records of an image, written part by part.
-use Rattle.std.proofs.Common.{◌≡◌, ℕ, zero, suc, ◌+◌, ◌≤◌, ◌<◌, ◌^◌}
+use Rattle.std.proofs.Common.{◌≡◌, ℕ, zero, suc, ◌+◌, ◌≤◌, ◌<◌}
 use Rattle.std.proofs.Common.{◌⊎◌, inl, inr, ◌↔◌, Bool, true, false, Option, Some}
 use Rattle.std.proofs.Common.{None, List, [], ◌∷◌, ◌++◌, length, map, drop, get_or, Contains, refl}
 use Rattle.std.proofs.Common.{sym, ◌∙◌, ap, subst, arith, append_assoc, length-append}
@@ -31,15 +31,18 @@ use Rattle.boosted.proofs.Each.{each_append}
 use Rattle.record_format.specs.declared.record.Record.{Record}
 use Rattle.record_format.specs.declared.record.CallRecord.{CallRecord}
 use Rattle.record_format.specs.declared.record.LaterRecord.{LaterRecord}
-use Rattle.record_format.specs.Records.{call_record, FitsCall, FitsReply, FitsItem}
+use Rattle.record_format.specs.Records.{call_record, FitsCall, FitsReply, FitsItem, Fits}
 use Rattle.record_format.specs.Records.{IsNumber, IsRecord, AreRecords, named_by}
 use Rattle.records.proofs.Items.{AreItems, content_items}
 use Rattle.records.specs.Images.{TellsOf, TellOf, Rise, IsLiveRecord}
 use Rattle.record_format.proofs.CallRecords.{inverse_fits, later_is_record}
-use Rattle.record_format.specs.Short.{IsShortItem, AreShort}
+use Rattle.record_format.specs.Short.{IsShortItem, HoldsShort, AreShort}
 use Rattle.machine.specs.Machine.{State}
 use Rattle.blocks.specs.Packings.{joined, Writes, AreWhole}
-use Rattle.images.specs.Images.{AreOf, TellsLive, TellsState, IsPackedImage}
+use Rattle.images.specs.Images.{AreOf, TellsLive, TellsState, IsPacked}
+use Rattle.images.specs.Images.{TellsTransactions}
+use Rattle.images.specs.Gathers.{CopyState, gathered}
+use Rattle.images.specs.Images.{CanStand, TellsGathered}
 use Rattle.images.specs.LiveRecords.{live_record, live_records, unless_falling, unless_read}
 use Rattle.blocks.specs.Drafts.{ArePacked}
 use Rattle.machine.specs.Machines.{IsAskedEntry}
@@ -55,32 +58,32 @@ good_append rs ss first then_ last = go rs last (first last)
     go [] last are = then_ last
     go (r ∷ rs) last are = (are.0, go rs (named_by last r) are.1)
 
-pub writes_none : (P : List Record → Type 0) (before : List (List Record)) → P [] →
+pub writes_none : (P : List Record → Type 0) (before : List Record) → P [] →
     Writes before before P
 writes_none P before is = record {
   written = [];
-  are = sym (append-nil (joined before));
+  are = sym (append-nil before);
   good = λ last. tt;
   is = is;
 }
 
-pub writes_one : (P : List Record → Type 0) (before after : List (List Record)) (r : Record) →
-    joined after ≡ joined before ++ r ∷ [] → ((last : Option Kind) → IsRecord last r) → P (r ∷ []) →
+pub writes_one : (P : List Record → Type 0) (before after : List Record) (r : Record) →
+    after ≡ before ++ r ∷ [] → ((last : Option Kind) → IsRecord last r) → P (r ∷ []) →
     Writes before after P
 writes_one P before after r are good is =
     record { written = r ∷ []; are = are; good = λ last. (good last, tt); is = is }
 
-pub writes_both : (P Q R : List Record → Type 0) (a b c : List (List Record)) → Writes a b P →
+pub writes_both : (P Q R : List Record → Type 0) (a b c : List Record) → Writes a b P →
     Writes b c Q → ((rs ss : List Record) → P rs → Q ss → R (rs ++ ss)) → Writes a c R
 writes_both P Q R a b c first more is = record {
   written = first.written ++ more.written;
   are = more.are ∙ ap (λ l. l ++ more.written) first.are ∙
-      append_assoc (joined a) first.written more.written;
+      append_assoc a first.written more.written;
   good = good_append first.written more.written first.good more.good;
   is = is first.written more.written first.is more.is;
 }
 
-pub writes_as : (P Q : List Record → Type 0) (a b : List (List Record)) → Writes a b P →
+pub writes_as : (P Q : List Record → Type 0) (a b : List Record) → Writes a b P →
     ((rs : List Record) → P rs → Q rs) → Writes a b Q
 writes_as P Q a b writes is = record {
   written = writes.written;
@@ -129,16 +132,16 @@ item_records kind (i ∷ items) fits are =
     (record { fits = fits.0; suits = are.0.1; sound = tt }, item_records kind items fits.1 are.1)
 
 -- A collection is written.
-pub shown_writes : (shown : Shown) (before mid after : List (List Record)) → IsName shown.name →
+pub shown_writes : (shown : Shown) (before mid after : List Record) → IsName shown.name →
     AllByRecursion (λ i. IsShortItem i × IsItemOf shown.kind i) shown.items.items →
     AllByRecursion FitsItem shown.items.items →
-    joined mid ≡ joined before ++ Record.Name shown.kind shown.name ∷ [] →
-    joined after ≡ joined mid ++ map Record.Item shown.items.items →
+    mid ≡ before ++ Record.Name shown.kind shown.name ∷ [] →
+    after ≡ mid ++ map Record.Item shown.items.items →
     Writes before after (AreOf shown)
 shown_writes shown before mid after name items fits first more = record {
   written = Record.Name shown.kind shown.name ∷ map Record.Item shown.items.items;
   are = more ∙ ap (λ l. l ++ map Record.Item shown.items.items) first ∙
-      append_assoc (joined before) (Record.Name shown.kind shown.name ∷ [])
+      append_assoc before (Record.Name shown.kind shown.name ∷ [])
       (map Record.Item shown.items.items);
   good = λ last. (
     record { fits = name; suits = tt; sound = tt },
@@ -153,44 +156,55 @@ each_short kind [] are = tt
 each_short kind (i ∷ items) are = (are.0.0, each_short kind items are.1)
 
 -- What is shown of a collection can be written,
+pub can_show : (x : Collection) (shown : Shown) → Shows x shown → HoldsShort x.content →
+    IsName shown.name × AllByRecursion (λ i. IsShortItem i × IsItemOf shown.kind i)
+    shown.items.items
+can_show x shown shows short = (
+  shows.good,
+  subst (λ k. AreItems k shown.items.items) (sym shows.of_kind)
+      (content_items x.content shown.items.items short shows.holds),
+)
+
+-- and then tells of it.
+pub tells_of : (x : Collection) (shown : Shown) (rs : List Record) → Shows x shown →
+    AreOf shown rs → TellsOf x rs
+tells_of x shown rs shows is = record {
+  items = shown.items.items;
+  lists = shows.holds;
+  is = is ∙ ap (λ k. Record.Name k shown.name ∷ map Record.Item shown.items.items) shows.of_kind ∙
+      ap (λ n. Record.Name (kind_of_content x.content) n ∷ map Record.Item shown.items.items)
+      shows.named;
+}
+
+-- The same of a collection at its place.
 pub at_shown : (s : List Collection) (at : ℕ) (shown : Shown) → At (λ x. Shows x shown) s at →
     AreShort s → IsName shown.name ×
     AllByRecursion (λ i. IsShortItem i × IsItemOf shown.kind i) shown.items.items
 at_shown [] at shown there short = absurd there
-at_shown (x ∷ xs) zero shown there short = (
-  there.good,
-  subst (λ k. AreItems k shown.items.items) (sym there.of_kind)
-      (content_items x.content shown.items.items short.0 there.holds),
-)
+at_shown (x ∷ xs) zero shown there short = can_show x shown there short.0
 at_shown (x ∷ xs) (suc at) shown there short = at_shown xs at shown there short.1
 
--- and then tells of it.
-pub at_writes : (s : List Collection) (at : ℕ) (shown : Shown) (before after : List (List Record)) →
+pub at_writes : (s : List Collection) (at : ℕ) (shown : Shown) (before after : List Record) →
     At (λ x. Shows x shown) s at → Writes before after (AreOf shown) →
     At (λ x. Writes before after (TellsOf x)) s at
 at_writes [] at shown before after there writes = absurd there
 at_writes (x ∷ xs) zero shown before after there writes =
-    writes_as (AreOf shown) (TellsOf x) before after writes (λ rs is. record {
-      items = shown.items.items;
-      lists = there.holds;
-      is = is ∙ ap (λ k. Record.Name k shown.name ∷ map Record.Item shown.items.items)
-          there.of_kind ∙ ap (λ n. Record.Name (kind_of_content x.content) n ∷
-          map Record.Item shown.items.items) there.named;
-    })
+    writes_as (AreOf shown) (TellsOf x) before after writes
+    (λ rs is. tells_of x shown rs there is)
 at_writes (x ∷ xs) (suc at) shown before after there writes =
     at_writes xs at shown before after there writes
 
 -- ---- the collections, one after another
 
 -- The first of them are told of.
-pub record AreTold (before now : List (List Record)) (s : List Collection) (at : ℕ) : Type 0 where
+pub record AreTold (before now : List Record) (s : List Collection) (at : ℕ) : Type 0 where
   pub done : List Collection
   pub rest : List Collection
   pub are : s ≡ done ++ rest
   pub count : length done ≡ at
   pub told : Writes before now (TellOf done)
 
-pub told_none : (before : List (List Record)) (s : List Collection) → AreTold before before s 0
+pub told_none : (before : List Record) (s : List Collection) → AreTold before before s 0
 told_none before s = record {
   done = [];
   rest = s;
@@ -218,7 +232,7 @@ at_split P [] [] there = absurd there
 at_split P [] (x ∷ rest) there = (x, rest, refl, there)
 at_split P (y ∷ done) rest there = at_split P done rest there
 
-pub told_one : (before now after : List (List Record)) (s : List Collection) (at : ℕ) →
+pub told_one : (before now after : List Record) (s : List Collection) (at : ℕ) →
     AreTold before now s at → At (λ x. Writes now after (TellsOf x)) s at →
     AreTold before after s (at + 1)
 told_one before now after s at told there =
@@ -240,7 +254,7 @@ none_left : (done rest : List Collection) → length (done ++ rest) ≤ length d
 none_left done [] few = refl
 none_left done (x ∷ rest) few = absurd (omega (arith, few, length-append done (x ∷ rest)))
 
-pub told_all : (before now : List (List Record)) (s : List Collection) (at : ℕ) →
+pub told_all : (before now : List Record) (s : List Collection) (at : ℕ) →
     AreTold before now s at → length s ≤ at → Writes before now (TellOf s)
 told_all before now s at told few =
     let none : told.rest ≡ [] = none_left told.done told.rest
@@ -248,17 +262,73 @@ told_all before now s at told few =
     subst (λ l. Writes before now (TellOf l))
     (sym (told.are ∙ ap (λ l. told.done ++ l) none ∙ append-nil told.done)) told.told
 
+-- A copy at its place.
+module _ {A : Type 0} (copy : A → CopyState) (o : A) where
+  pub at_copy : (P : Collection → Type 0) (os : List A) (i : ℕ) → i < length os →
+      o ≡ get_or os i o → P (copy o).collection → At P (gathered (map copy os)) i
+  at_copy P [] i below is h = absurd (omega (arith, below))
+  at_copy P (x ∷ os) zero below is h = subst (λ v. P (copy v).collection) is h
+  at_copy P (x ∷ os) (suc i) below is h = at_copy P os i (omega (arith, below)) is h
+
+  pub short_copy : (os : List A) (i : ℕ) → i < length os → o ≡ get_or os i o →
+      AreShort (gathered (map copy os)) → HoldsShort (copy o).collection.content
+  short_copy [] i below is short = absurd (omega (arith, below))
+  short_copy (x ∷ os) zero below is short =
+      subst (λ v. HoldsShort (copy v).collection.content) (sym is) short.0
+  short_copy (x ∷ os) (suc i) below is short =
+      short_copy os i (omega (arith, below)) is short.1
+
+pub count_copies : {A : Type 0} (copy : A → CopyState) (os : List A) →
+    length (gathered (map copy os)) ≡ length os
+count_copies copy [] = refl
+count_copies copy (o ∷ os) = ap suc (count_copies copy os)
+
+-- ---- records as they are
+
+-- Those before a place are written, and those from it on are left.
+pub record AreWritten (before now rs : List Record) (i : ℕ) : Type 0 where
+  pub told : now ++ drop i rs ≡ before ++ rs
+  pub left : AllByRecursion Fits (drop i rs)
+
+module _ (before rs : List Record) where
+  module _ (now : List Record) (i : ℕ) (so_far : AreWritten before now rs i) where
+    pub written_all : length rs ≤ i → now ≡ before ++ rs
+    written_all done = sym (append-nil now) ∙ ap (λ l. now ++ l) (sym (drop_all i rs done)) ∙
+        so_far.told
+
+    module _ (r : Record) (below : i < length rs) (is : r ≡ get_or rs i r) where
+      behind : drop i rs ≡ r ∷ drop (i + 1) rs
+      behind = drop_more rs i r below ∙ ap (λ v. v ∷ drop (i + 1) rs) (sym is)
+
+      pub written_this : Fits r
+      written_this = (subst (AllByRecursion Fits) behind so_far.left).0
+
+      pub written_one : (after : List Record) → after ≡ now ++ r ∷ [] →
+          AreWritten before after rs (i + 1)
+      written_one after one = record {
+        told = ap (λ l. l ++ drop (i + 1) rs) one ∙
+            append_assoc now (r ∷ []) (drop (i + 1) rs) ∙
+            ap (λ l. now ++ l) (sym behind) ∙ so_far.told;
+        left = (subst (AllByRecursion Fits) behind so_far.left).1;
+      }
+
+-- Records that may stand anywhere fit.
+pub each_fits : (last : Option Kind) (rs : List Record) → AreRecords last rs →
+    AllByRecursion Fits rs
+each_fits last [] are = tt
+each_fits last (r ∷ rs) are = (are.0.fits, each_fits (named_by last r) rs are.1)
+
 -- ---- the live transactions
 
 -- Those up to a number are told of.
-pub record HaveBegun (before now : List (List Record)) (live : Statuses) (last : ℕ) : Type 0 where
+pub record HaveBegun (before now : List Record) (live : Statuses) (last : ℕ) : Type 0 where
   pub numbers : List ℕ
   pub rise : Rise numbers
   pub below : AllByRecursion (λ n. n ≤ last) numbers
   pub are_live : (n : ℕ) → Contains numbers n ↔ (Lives live n × (n ≤ last))
   pub told : Writes before now (λ rs. rs ≡ map Record.Begin numbers)
 
-pub begun_none : (before : List (List Record)) (live : Statuses) →
+pub begun_none : (before : List Record) (live : Statuses) →
     ((n : ℕ) → Lives live n → IsNumber n) → HaveBegun before before live 0
 begun_none before live numbers = record {
   numbers = [];
@@ -296,9 +366,9 @@ pub begin_good : (n : ℕ) (last : Option Kind) → IsNumber n → IsRecord last
 begin_good n last number = let below = number.below in
     record { fits = omega arith; suits = tt; sound = number }
 
-pub begun_one : (before now after : List (List Record)) (live : Statuses) (last n : ℕ) →
+pub begun_one : (before now after : List Record) (live : Statuses) (last n : ℕ) →
     HaveBegun before now live last → IsNextLive live last n → IsNumber n →
-    joined after ≡ joined now ++ Record.Begin n ∷ [] → HaveBegun before after live n
+    after ≡ now ++ Record.Begin n ∷ [] → HaveBegun before after live n
 begun_one before now after live last n begun next number more =
     let ns = begun.numbers in
     let above = each_below ns last n next.above begun.below in
@@ -343,7 +413,7 @@ begun_one before now after live last n begun next number more =
             by (inl le) = le
             by (inr lt) = absurd (other (omega (arith, low, next.least m lives lt)))
 
-pub begun_all : (before now : List (List Record)) (live : Statuses) (last : ℕ) →
+pub begun_all : (before now : List Record) (live : Statuses) (last : ℕ) →
     HaveBegun before now live last → ((n : ℕ) → Lives live n → n ≤ last) →
     Writes before now (TellsLive live)
 begun_all before now live last begun none =
@@ -362,12 +432,12 @@ begun_all before now live last begun none =
 
 -- The entries before a place are written, and those from it on are left.
 pub record AreLogged (one : ℕ × Entry → List Record) (P : ℕ × Entry → Type 0)
-    (before now : List (List Record)) (os : List Owned) (i : ℕ) : Type 0 where
+    (before now : List Record) (os : List Owned) (i : ℕ) : Type 0 where
   pub told : Writes before now (λ rs. rs ++ flat_map one (map owned_entry (drop i os)) ≡
       flat_map one (map owned_entry os))
   pub left : AllByRecursion P (map owned_entry (drop i os))
 
-module _ (one : ℕ × Entry → List Record) (P : ℕ × Entry → Type 0) (before : List (List Record))
+module _ (one : ℕ × Entry → List Record) (P : ℕ × Entry → Type 0) (before : List Record)
     (os : List Owned) where
   pub logged_none : AllByRecursion P (map owned_entry os) → AreLogged one P before before os 0
   logged_none all = record {
@@ -377,7 +447,7 @@ module _ (one : ℕ × Entry → List Record) (P : ℕ × Entry → Type 0) (bef
     left = all;
   }
 
-  module _ (now : List (List Record)) (i : ℕ) (so_far : AreLogged one P before now os i) where
+  module _ (now : List Record) (i : ℕ) (so_far : AreLogged one P before now os i) where
     pub logged_all : length os ≤ i →
         Writes before now (λ rs. rs ≡ flat_map one (map owned_entry os))
     logged_all done =
@@ -394,7 +464,7 @@ module _ (one : ℕ × Entry → List Record) (P : ℕ × Entry → Type 0) (bef
       pub logged_this : P (owned_entry o)
       logged_this = (subst (λ l. AllByRecursion P (map owned_entry l)) next so_far.left).0
 
-      pub logged_one : (after : List (List Record)) →
+      pub logged_one : (after : List Record) →
           Writes now after (λ rs. rs ≡ one (owned_entry o)) →
           AreLogged one P before after os (i + 1)
       logged_one after this = record {
@@ -452,7 +522,7 @@ live_later_good n at c last number few put_off =
     let later = later_is_record last n at c number few put_off in
     record { fits = later.fits; suits = tt; sound = later.sound }
 
--- ---- the whole image
+-- ---- what an image tells of live transactions
 
 later_are : (o : Option Bool) (l : LaterRecord) (rs : List Record) →
     AllByRecursion IsLiveRecord rs →
@@ -466,7 +536,7 @@ call_are : (b : Bool) (c : CallRecord) (rs : List Record) → AllByRecursion IsL
 call_are true c rs are = are
 call_are false c rs are = (tt, are)
 
-live_are : (live : Statuses) (es : List (ℕ × Entry)) →
+pub live_are : (live : Statuses) (es : List (ℕ × Entry)) →
     AllByRecursion IsLiveRecord (flat_map (live_record live) es)
 live_are live [] = tt
 live_are live ((n, Asked e) ∷ es) =
@@ -476,91 +546,113 @@ live_are live ((n, PutOff at c) ∷ es) =
     later_are (maps.get live n) (record { number = n; collection = at; call = c })
     (flat_map (live_record live) es) (live_are live es)
 
-module _ {S : Type 0} (collections : S → List Collection) (next : ℕ) (s : State S) where
-  marks_good : 1 ≤ next → next ≤ 2 ^ 61 → s.wear < 2 ^ 64 → (last : Option Kind) →
-      IsRecord last (Record.Marks next s.wear)
-  marks_good low high worn last =
-      record { fits = (omega (arith, high), worn); suits = tt; sound = (low, high) }
+-- The records that tell of live transactions, written behind none.
+module _ (live : Statuses) (es : List (ℕ × Entry)) (mid all : List Record)
+    (begun : Writes [] mid (TellsLive live))
+    (asked : Writes mid all (λ rs. rs ≡ flat_map (live_record live) es)) where
+  live_all : all ≡ begun.written ++ asked.written
+  live_all = asked.are ∙ ap (λ l. l ++ asked.written) begun.are
+
+  pub live_told : TellsTransactions live es all
+  live_told = record {
+    numbers = begun.is.numbers;
+    rise = begun.is.rise;
+    are_live = begun.is.are_live;
+    are = live_all ∙ ap (λ l. l ++ asked.written) begun.is.are ∙
+        ap (λ l. map Record.Begin begun.is.numbers ++ l) asked.is;
+  }
+
+  pub live_good : (last : Option Kind) → AreRecords last all
+  live_good = subst (λ rs. (last : Option Kind) → AreRecords last rs) (sym live_all)
+      (good_append begun.written asked.written begun.good asked.good)
+
+-- ---- the whole image
+
+module _ (next wear : ℕ) (xs : List Collection) (live : List Record) where
+  marks_good : CanStand next wear live → (last : Option Kind) →
+      IsRecord last (Record.Marks next wear)
+  marks_good can last = record {
+    fits = (
+      let high = can.high in
+          omega arith,
+      can.worn,
+    );
+    suits = tt;
+    sound = (can.low, can.high);
+  }
 
   end_good : (last : Option Kind) → IsRecord last Record.ImageEnd
   end_good last = record { fits = tt; suits = tt; sound = tt }
 
-  pub image_writes : (a b c d e f : List (List Record)) → (1 ≤ next) × (next ≤ 2 ^ 61) →
-      s.wear < 2 ^ 64 → joined b ≡ joined a ++ Record.Marks next s.wear ∷ [] →
-      Writes b c (TellOf (collections s.now)) → Writes c d (TellsLive s.live) →
-      Writes d e (λ rs. rs ≡ live_records s) → joined f ≡ joined e ++ Record.ImageEnd ∷ [] →
-      Writes a f (TellsState collections next s)
-  image_writes a b c d e f fits worn marks told begun logged end = record {
-    written = Record.Marks next s.wear ∷
-        (told.written ++ (begun.written ++ (logged.written ++ Record.ImageEnd ∷ [])));
-    are = behind;
-    good = good;
-    is = record {
-      numbers = begun.is.numbers;
-      are_live = begun.is.are_live;
-      is_image = record {
-        told = told.written;
-        tells = told.is;
-        rise = begun.is.rise;
-        all_live = live_are s.live s.entries;
-        is = ap (λ l. Record.Marks next s.wear ∷
-            (told.written ++ (l ++ (logged.written ++ Record.ImageEnd ∷ [])))) begun.is.are
-            ∙ ap (λ l. Record.Marks next s.wear ∷
-            (told.written ++ (map Record.Begin begun.is.numbers ++
-            (l ++ Record.ImageEnd ∷ [])))) logged.is;
-      };
-    };
+  pub whole_writes : (a b c d e : List Record) → CanStand next wear live →
+      b ≡ a ++ Record.Marks next wear ∷ [] → Writes b c (TellOf xs) → d ≡ c ++ live →
+      e ≡ d ++ Record.ImageEnd ∷ [] → Writes a e (TellsGathered next wear xs live)
+  whole_writes a b c d e can marks told lived end = record {
+    written = Record.Marks next wear ∷ (told.written ++ (live ++ tail));
+    are = end ∙ ap (λ l. l ++ tail) lived ∙ append_assoc c live tail ∙
+        ap (λ l. l ++ (live ++ tail)) told.are ∙ append_assoc b told.written (live ++ tail) ∙
+        ap (λ l. l ++ (told.written ++ (live ++ tail))) marks ∙
+        append_assoc a (Record.Marks next wear ∷ []) (told.written ++ (live ++ tail));
+    good = λ last. (
+      marks_good can last,
+      good_append told.written (live ++ tail) told.good
+          (good_append live tail can.good (λ kind. (end_good kind, tt))) last,
+    );
+    is = record { told = told.written; tells = told.is; is = refl };
   }
     where
       tail : List Record
       tail = Record.ImageEnd ∷ []
 
-      behind : joined f ≡ joined a ++
-          (Record.Marks next s.wear ∷ (told.written ++
-          (begun.written ++ (logged.written ++ Record.ImageEnd ∷ []))))
-      behind =
-          end ∙ ap (λ l. l ++ Record.ImageEnd ∷ []) logged.are ∙
-          append_assoc (joined d) logged.written (Record.ImageEnd ∷ [])
-          ∙ ap (λ l. l ++ (logged.written ++ Record.ImageEnd ∷ [])) begun.are ∙
-          append_assoc (joined c) begun.written (logged.written ++ Record.ImageEnd ∷ [])
-          ∙ ap (λ l. l ++ (begun.written ++ (logged.written ++ Record.ImageEnd ∷ []))) told.are ∙
-          append_assoc (joined b) told.written
-          (begun.written ++ (logged.written ++ Record.ImageEnd ∷ []))
-          ∙ ap (λ l. l ++ (told.written ++
-          (begun.written ++ (logged.written ++ Record.ImageEnd ∷ [])))) marks
-          ∙ append_assoc (joined a) (Record.Marks next s.wear ∷ [])
-          (told.written ++ (begun.written ++ (logged.written ++ Record.ImageEnd ∷ [])))
-
-      good : (last : Option Kind) → AreRecords last
-          (Record.Marks next s.wear ∷ (told.written ++
-          (begun.written ++ (logged.written ++ Record.ImageEnd ∷ []))))
-      good last = (
-        marks_good fits.0 fits.1 worn last,
-        good_append told.written (begun.written ++ (logged.written ++ Record.ImageEnd ∷ []))
-            told.good
-            (good_append begun.written (logged.written ++ Record.ImageEnd ∷ []) begun.good
-            (good_append logged.written (Record.ImageEnd ∷ []) logged.good
-            (λ kind. (end_good kind, tt)))) last,
-      )
-
-  -- The records that were written to none are those of the blocks.
-  pub image_packed : (groups before : List (List Record)) (blocks : List (Vec ℕ Global)) →
-      joined before ≡ [] → Writes before groups (TellsState collections next s) →
+-- The records that were written behind none are those of the blocks.
+module _ (P : List Record → Type 0) (some : (rs : List Record) → P rs → 0 < length rs)
+    (groups before : List (List Record))
+    (writes : Writes (joined before) (joined groups) P) where
+  pub packed_of : (blocks : List (Vec ℕ Global)) → joined before ≡ [] →
       AreWhole blocks groups → ArePacked groups → AllByRecursion (λ g. 0 < length g) groups →
-      IsPackedImage collections next s blocks
-  image_packed groups before blocks none writes whole packed some =
+      IsPacked P blocks
+  packed_of blocks none whole packed full =
       let all : joined groups ≡ writes.written = writes.are ∙ ap (λ l. l ++ writes.written) none in
       record {
         groups = groups;
-        tells = subst (TellsState collections next s) (sym all) writes.is;
+        tells = subst P (sym all) writes.is;
         good = subst (AreRecords None) (sym all) (writes.good None);
-        packed = (packed, some);
+        packed = (packed, full);
         whole = whole;
       }
 
   -- There is something in them.
-  pub image_some : (groups before : List (List Record)) →
-      Writes before groups (TellsState collections next s) → 0 < length (joined groups)
-  image_some groups before writes =
-      let told : 0 < length writes.written = omega (arith, ap length writes.is.is_image.is) in
-      omega (arith, told, ap length writes.are, length-append (joined before) writes.written)
+  pub packed_some : 0 < length (joined groups)
+  packed_some = omega (
+    arith,
+    some writes.written writes.is,
+    ap length writes.are,
+    length-append (joined before) writes.written,
+  )
+
+pub gathered_some : (next wear : ℕ) (xs : List Collection) (live rs : List Record) →
+    TellsGathered next wear xs live rs → 0 < length rs
+gathered_some next wear xs live rs tells = omega (arith, ap length tells.is)
+
+-- What was gathered of a state tells of it.
+pub tells_state : {S : Type 0} (collections : S → List Collection) (next : ℕ) (s : State S)
+    (live : List Record) → TellsTransactions s.live s.entries live → (rs : List Record) →
+    TellsGathered next s.wear (collections s.now) live rs → TellsState collections next s rs
+tells_state collections next s live told rs tells = record {
+  numbers = told.numbers;
+  are_live = told.are_live;
+  is_image = record {
+    told = tells.told;
+    tells = tells.tells;
+    rise = told.rise;
+    all_live = live_are s.live s.entries;
+    is = tells.is ∙
+        ap (λ l. Record.Marks next s.wear ∷ (tells.told ++ (l ++ Record.ImageEnd ∷ []))) told.are ∙
+        ap (λ l. Record.Marks next s.wear ∷ (tells.told ++ l))
+        (append_assoc (map Record.Begin told.numbers) (live_records s) (Record.ImageEnd ∷ []));
+  };
+}
+
+pub state_some : {S : Type 0} (collections : S → List Collection) (next : ℕ) (s : State S)
+    (rs : List Record) → TellsState collections next s rs → 0 < length rs
+state_some collections next s rs tells = omega (arith, ap length tells.is_image.is)

@@ -1,1 +1,3 @@
-mod ImageRecords
+pub mod ImageRecords
+pub mod Repeats
+pub mod Following

@@ -1,2 +1,5 @@
 pub mod LiveRecords
 pub mod Images
+pub mod Gathers
+pub mod Views
+pub mod Following

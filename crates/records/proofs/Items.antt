@@ -155,7 +155,7 @@ map_after m (Call.MapRemove k) (Reply.Value o) h l =
     (sym (get-remove nat_cmp_total m k q) ∙ e)
 map_after m c r h l = h
 
-content_after : (k : Content) (c : Call) (r : Reply) → HoldsShort k → IsShort c →
+pub content_after : (k : Content) (c : Call) (r : Reply) → HoldsShort k → IsShort c →
     HoldsShort (after k c r)
 content_after (InSet s) c r h l = tt
 content_after (InMap m) c r h l = map_after m c r h l

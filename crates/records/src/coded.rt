@@ -1,6 +1,5 @@
 // Collections that records tell of.
-ghost use Rattle.std.specs.Prelude.{◌≡◌, List, false, IsTrue, IfOk, IfErr, OnErr};
-ghost use Rattle.calls.specs.Contents.{Collection};
+ghost use Rattle.std.specs.Prelude.{◌≡◌, false, IsTrue, IfOk, IfErr, OnErr};
 ghost use Rattle.catalog.specs.Places.{At};
 ghost use Rattle.catalog.specs.Holdings.{Shows, ShowRefused, AreItems, Loads, LoadRefused};
 ghost use Rattle.catalog.specs.Making.{IsNew};
@@ -12,16 +11,13 @@ use catalog::{Catalog, Parts, Shown};
 /// Named collections that records tell of: what is in a journal says what their calls do, and what
 /// is in an image says what they hold.
 pub trait Coded: Parts {
-    /// The content, as named collections in the order of making.
-    ghost collections: { Self → List Collection };
-
     /// The name, which is a good one, the kind and the items of the collection at the place, the
     /// items in their order.
     ///
     /// NoSuchCollection where there is none, then NoMemory.
     fn shown(&self, at: u8) -> Result<Shown, Refusal>
-        ensures ok { IfOk result (λ shown. At (λ x. Shows x shown) (collections self.now) at) }
-        ensures err { IfErr result (ShowRefused (collections self.now) at) };
+        ensures ok { IfOk result (λ shown. At (λ x. Shows x shown) (Self.collections self.now) at) }
+        ensures err { IfErr result (ShowRefused (Self.collections self.now) at) };
 
     /// Puts a collection of the name, the kind and these items at the end; false, with nothing
     /// changed, where no collection of the kind has these items in this order.
@@ -31,7 +27,8 @@ pub trait Coded: Parts {
     fn load(&mut self, name: &str, kind: Kind, items: Vec<Item>) -> Result<bool, Refusal>
         ensures new { IfOk result (λ loaded. IsNew (Self.making.names self.old) name.now) }
         ensures loads { IfOk result (λ loaded. IsTrue loaded →
-            Loads (collections self.old) name.now kind items.items (collections self.new)) }
+            Loads (Self.collections self.old) name.now kind items.items
+            (Self.collections self.new)) }
         ensures not { IfOk result (λ loaded. loaded ≡ false →
             (self.new ≡ self.old) × (AreItems kind items.items → ⊥)) }
         ensures as_before { OnErr result (self.new ≡ self.old) }
@@ -39,12 +36,10 @@ pub trait Coded: Parts {
             items.items) };
 
     /// The collections tell all of a content, and what its calls and makings do.
-    ghost told: { Tells Self.meaning Self.making collections };
+    ghost told: { Tells Self.meaning Self.making Self.collections };
 }
 
 impl Coded for Catalog {
-    ghost collections = { λ s. s };
-
     fn shown(&self, at: u8) -> Result<Shown, Refusal> {
         self.show(at)
     }

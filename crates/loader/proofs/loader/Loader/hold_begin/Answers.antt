@@ -15,7 +15,7 @@ use Rattle.loader.proofs.loader.Loader.hold_begin.Goals as goal
 
 -- the laws of the collections
 laws : (g : Over) → BookLaws g.B.Boosted.meaning g.B.Parts.making
-    (λ s. AreShort (g.B.Coded.collections s))
+    (λ s. AreShort (g.B.Parts.collections s))
 laws g = book_laws g.met.B.Boosted.laws g.met.B.Parts.laws g.met.B.Coded.told
 
 pub invariant_of-self-2 : goal.invariant_of-self-2
@@ -36,7 +36,7 @@ invariant_of-self-2 g c =
       c.if-count_live-ge-MAX_LIVE.false,
     )) c.in_ok-enter.ensures.live
     c.in_ok-enter.ensures.entries) in (
-      stand_upheld g.B.Boosted.meaning g.B.Parts.making (λ s. AreShort (g.B.Coded.collections s))
+      stand_upheld g.B.Boosted.meaning g.B.Parts.making (λ s. AreShort (g.B.Parts.collections s))
           (laws g) _ c.self.invariant.0 n _ row,
       last_begun i.ledger.live c.enter.new.self.live n above c.in_ok-enter.ensures.live,
     )

@@ -17,20 +17,20 @@ use Rattle.loader.proofs.loader.Loader.load.Goals.{in-Ok, in-Err}
 
 -- the laws of the collections
 laws : (g : Over) → BookLaws g.B.Boosted.meaning g.B.Parts.making
-    (λ s. AreShort (g.B.Coded.collections s))
+    (λ s. AreShort (g.B.Parts.collections s))
 laws g = book_laws g.met.B.Boosted.laws g.met.B.Parts.laws g.met.B.Coded.told
 
 pub returns-then-not-are_reached : goal.returns-then-not-are_reached
 returns-then-not-are_reached g c =
     let i = c.self.inside in
-    let none = read_unreached g.B.Coded.collections g.B.Boosted.meaning g.B.Parts.making
+    let none = read_unreached g.B.Parts.collections g.B.Boosted.meaning g.B.Parts.making
     g.met.B.Coded.told i.parts (needs_of i.ledger) (log_of i.ledger) i.wear c.args.name.now
     c.args.kind c.args.items.items
     (λ reached. let yes = c.are_reached.ensures.1
     (subst (AllByRecursion (IsReached i.wear)) (sym c.as_slice.ensures.value) reached) in
     let no_one = c.if-not-are_reached.true in cc) in (
       refl,
-      λ v row. none v (subst (λ (s : State _). LoadRow g.B.Coded.collections
+      λ v row. none v (subst (λ (s : State _). LoadRow g.B.Parts.collections
           g.B.Boosted.meaning g.B.Parts.making s c.args.name.now c.args.kind c.args.items.items v)
           (sym c.self.view_is) row),
     )
@@ -43,9 +43,9 @@ reached g c = subst (AllByRecursion (IsReached c.self.inside.wear)) c.as_slice.e
 
 pub invariant_of-self : goal.invariant_of-self
 invariant_of-self g c = (
-  read_kept g.B.Boosted.meaning g.B.Parts.making (λ s. AreShort (g.B.Coded.collections s)) (laws g)
-      g.B.Coded.collections g.met.B.Coded.told
-      (λ s t name kind items loads. short_loaded (g.B.Coded.collections s) (g.B.Coded.collections t)
+  read_kept g.B.Boosted.meaning g.B.Parts.making (λ s. AreShort (g.B.Parts.collections s)) (laws g)
+      g.B.Parts.collections g.met.B.Coded.told
+      (λ s t name kind items loads. short_loaded (g.B.Parts.collections s) (g.B.Parts.collections t)
       name kind items loads)
       c.self.inside.parts (needs_of c.self.inside.ledger) (log_of c.self.inside.ledger)
       c.self.inside.wear c.args.name.now c.args.kind c.args.items.items c.load.new.self
@@ -62,20 +62,20 @@ returns g c =
     elim c.match-load.branch [
       | in-Ok w ↦ rw w.result-is
           (subst (λ (s : State _). LoadAnswers
-          (LoadRow g.B.Coded.collections g.B.Boosted.meaning g.B.Parts.making s c.args.name.now
+          (LoadRow g.B.Parts.collections g.B.Boosted.meaning g.B.Parts.making s c.args.name.now
           c.args.kind c.args.items.items) s (Ok w.in-Ok.loaded)
           (state_with c.load.new.self i.ledger i.wear)) c.self.view_is
-          (read_answered g.B.Coded.collections g.B.Boosted.meaning g.B.Parts.making
+          (read_answered g.B.Parts.collections g.B.Boosted.meaning g.B.Parts.making
           g.met.B.Coded.told i.parts (needs_of i.ledger) (log_of i.ledger) i.wear
           c.args.name.now c.args.kind c.args.items.items
           c.load.new.self w.in-Ok.loaded (reached g c) c.self.invariant.0.reached
           w.in-Ok.ensures.new w.in-Ok.ensures.loads w.in-Ok.ensures.not))
       | in-Err w ↦ rw (w.result-is, w.unmade.ensures)
           (subst (λ (s : State _). LoadAnswers
-          (LoadRow g.B.Coded.collections g.B.Boosted.meaning g.B.Parts.making s c.args.name.now
+          (LoadRow g.B.Parts.collections g.B.Boosted.meaning g.B.Parts.making s c.args.name.now
           c.args.kind c.args.items.items) s (unmade w.in-Err.refusal)
           (state_with c.load.new.self i.ledger i.wear)) c.self.view_is
-          (read_refused g.B.Coded.collections g.B.Boosted.meaning g.B.Parts.making
+          (read_refused g.B.Parts.collections g.B.Boosted.meaning g.B.Parts.making
           g.met.B.Coded.told i.parts (needs_of i.ledger) (log_of i.ledger) i.wear
           c.args.name.now c.args.kind c.args.items.items
           c.load.new.self w.in-Err.refusal w.in-Err.ensures.as_before w.in-Err.ensures.err))

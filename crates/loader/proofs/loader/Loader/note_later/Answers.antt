@@ -13,7 +13,7 @@ use Rattle.loader.proofs.loader.Loader.note_later.Goals as goal
 
 -- the laws of the collections
 laws : (g : Over) → BookLaws g.B.Boosted.meaning g.B.Parts.making
-    (λ s. AreShort (g.B.Coded.collections s))
+    (λ s. AreShort (g.B.Parts.collections s))
 laws g = book_laws g.met.B.Boosted.laws g.met.B.Parts.laws g.met.B.Coded.told
 
 -- what was noted
@@ -37,7 +37,7 @@ step g c =
 
 pub invariant_of-self-2 : goal.invariant_of-self-2
 invariant_of-self-2 g c = (
-  later_upheld g.B.Boosted.meaning g.B.Parts.making (λ s. AreShort (g.B.Coded.collections s))
+  later_upheld g.B.Boosted.meaning g.B.Parts.making (λ s. AreShort (g.B.Parts.collections s))
       (laws g) _ c.self.invariant.0 c.args.number c.args.put.at c.args.put.call _ (step g c),
   subst (λ l. IsLast l c.self.inside.last)
       (sym (c.note_later.ensures.live ∙ c.in_ok-reserve.ensures.live)) c.self.invariant.1,

@@ -15,7 +15,7 @@ use Rattle.machine.proofs.machine.Machine.back.Goals as goal
 
 -- the laws of the collections
 laws : (g : Over) → BookLaws g.B.Boosted.meaning g.B.Parts.making
-    (λ s. AreShort (g.B.Coded.collections s))
+    (λ s. AreShort (g.B.Parts.collections s))
 laws g = book_laws g.met.B.Boosted.laws g.met.B.Parts.laws g.met.B.Coded.told
 
 -- the step that was taken
@@ -53,14 +53,14 @@ undo-requires-clause-undoes g c =
 
 pub undo-requires-clause-room : goal.undo-requires-clause-room
 undo-requires-clause-room g c =
-    back_room g.B.Boosted.meaning g.B.Parts.making (λ s. AreShort (g.B.Coded.collections s))
+    back_room g.B.Boosted.meaning g.B.Parts.making (λ s. AreShort (g.B.Parts.collections s))
     (laws g) _ c.self.invariant c.args.number (event_of c.in-Some.newest.now) _
     (subst (λ (l : Log). HasNewestCall c.args.number l.entries (event_of c.in-Some.newest.now))
     c.live.ensures c.in-Some.ensures.found).1
 
 pub invariant_of-self-2 : goal.invariant_of-self-2
 invariant_of-self-2 g c = back_upheld g.B.Boosted.meaning g.B.Parts.making
-    (λ s. AreShort (g.B.Coded.collections s)) (laws g) _ c.self.invariant c.args.number _ (step g c)
+    (λ s. AreShort (g.B.Parts.collections s)) (laws g) _ c.self.invariant c.args.number _ (step g c)
 
 pub returns-clause-ok : goal.returns-clause-ok
 returns-clause-ok g c = rw (← c.self.view_is) (step g c)

@@ -15,7 +15,7 @@ use Rattle.machine.proofs.machine.Machine.commit.Goals as goal
 
 -- the laws of the collections
 laws : (g : Over) → BookLaws g.B.Boosted.meaning g.B.Parts.making
-    (λ s. AreShort (g.B.Coded.collections s))
+    (λ s. AreShort (g.B.Parts.collections s))
 laws g = book_laws g.met.B.Boosted.laws g.met.B.Parts.laws g.met.B.Coded.told
 
 pub run_laters-ran-requires : goal.run_laters-ran-requires
@@ -23,7 +23,7 @@ run_laters-ran-requires g c =
     let noted = c.entries_of-entries.ensures ∙
     ap (λ log. let l : Log = log in own c.args.number l.entries) c.live.ensures in
     let ready = commit_ready g.B.Boosted.meaning g.B.Parts.making
-    (λ s. AreShort (g.B.Coded.collections s)) (laws g) _ c.self.invariant c.args.number
+    (λ s. AreShort (g.B.Parts.collections s)) (laws g) _ c.self.invariant c.args.number
     (subst (λ (s : State _). IsRunning s c.args.number) (sym c.self.view_is) c.requires) in
     record {
       can = subst (λ es. CanRun g.B.Boosted.meaning (laters_of es) c.self.inside.parts)
@@ -35,7 +35,7 @@ overflow_add-self g c =
     let noted = c.entries_of-entries.ensures ∙
     ap (λ log. let l : Log = log in own c.args.number l.entries) c.live.ensures in
     let fits = commit_fits g.B.Boosted.meaning g.B.Parts.making
-    (λ s. AreShort (g.B.Coded.collections s)) (laws g) _ c.self.invariant c.args.number in
+    (λ s. AreShort (g.B.Parts.collections s)) (laws g) _ c.self.invariant c.args.number in
     let ran = c.run_laters-ran.ensures.count ∙
     ap (λ es. length (laters_of es)) noted in
     omega arith
@@ -57,7 +57,7 @@ step g c =
 
 pub invariant_of-self : goal.invariant_of-self
 invariant_of-self g c = commit_upheld g.B.Boosted.meaning g.B.Parts.making
-    (λ s. AreShort (g.B.Coded.collections s)) (laws g) _ c.self.invariant c.args.number _ (step g c)
+    (λ s. AreShort (g.B.Parts.collections s)) (laws g) _ c.self.invariant c.args.number _ (step g c)
 
 pub returns : goal.returns
 returns g c = rw (← c.self.view_is) (step g c)

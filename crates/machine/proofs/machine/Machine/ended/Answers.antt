@@ -13,7 +13,7 @@ use Rattle.machine.proofs.machine.Machine.ended.Goals as goal
 
 -- the laws of the collections
 laws : (g : Over) → BookLaws g.B.Boosted.meaning g.B.Parts.making
-    (λ s. AreShort (g.B.Coded.collections s))
+    (λ s. AreShort (g.B.Parts.collections s))
 laws g = book_laws g.met.B.Boosted.laws g.met.B.Parts.laws g.met.B.Coded.told
 
 -- the transaction is taken out
@@ -34,7 +34,7 @@ step g c =
 
 pub invariant_of-self : goal.invariant_of-self
 invariant_of-self g c = ended_upheld g.B.Boosted.meaning g.B.Parts.making
-    (λ s. AreShort (g.B.Coded.collections s)) (laws g) _ c.self.invariant c.args.number _ (step g c)
+    (λ s. AreShort (g.B.Parts.collections s)) (laws g) _ c.self.invariant c.args.number _ (step g c)
 
 pub returns : goal.returns
 returns g c = rw (← c.self.view_is) (step g c)

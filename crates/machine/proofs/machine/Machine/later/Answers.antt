@@ -13,7 +13,7 @@ use Rattle.machine.proofs.machine.Machine.later.Goals as goal
 
 -- the laws of the collections
 laws : (g : Over) → BookLaws g.B.Boosted.meaning g.B.Parts.making
-    (λ s. AreShort (g.B.Coded.collections s))
+    (λ s. AreShort (g.B.Parts.collections s))
 laws g = book_laws g.met.B.Boosted.laws g.met.B.Parts.laws g.met.B.Coded.told
 
 -- the step that was taken
@@ -38,7 +38,7 @@ step g c =
 
 pub invariant_of-self-2 : goal.invariant_of-self-2
 invariant_of-self-2 g c = later_upheld g.B.Boosted.meaning g.B.Parts.making
-    (λ s. AreShort (g.B.Coded.collections s)) (laws g) _ c.self.invariant c.args.number
+    (λ s. AreShort (g.B.Parts.collections s)) (laws g) _ c.self.invariant c.args.number
     c.args.put.at c.args.put.call _ (step g c)
 
 pub returns-clause-ok : goal.returns-clause-ok

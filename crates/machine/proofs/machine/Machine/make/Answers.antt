@@ -11,7 +11,7 @@ use Rattle.machine.proofs.machine.Machine.make.Goals as goal
 
 -- the laws of the collections
 laws : (g : Over) → BookLaws g.B.Boosted.meaning g.B.Parts.making
-    (λ s. AreShort (g.B.Coded.collections s))
+    (λ s. AreShort (g.B.Parts.collections s))
 laws g = book_laws g.met.B.Boosted.laws g.met.B.Parts.laws g.met.B.Coded.told
 
 -- the collection is made
@@ -27,7 +27,7 @@ step g c =
 
 pub invariant_of-self-2 : goal.invariant_of-self-2
 invariant_of-self-2 g c = make_upheld g.B.Boosted.meaning g.B.Parts.making
-    (λ s. AreShort (g.B.Coded.collections s)) (laws g) _ c.self.invariant c.args.name.now
+    (λ s. AreShort (g.B.Parts.collections s)) (laws g) _ c.self.invariant c.args.name.now
     c.args.kind _ (step g c)
 
 pub returns-clause-ok : goal.returns-clause-ok

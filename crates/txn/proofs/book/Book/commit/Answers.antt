@@ -22,7 +22,7 @@ commit-requires g c = subst (λ (b : BookState _). IsRunning b.state c.args.numb
 
 -- the laws of the collections
 laws : (g : Over) → BookLaws g.B.Boosted.meaning g.B.Parts.making
-    (λ s. AreShort (g.B.Coded.collections s))
+    (λ s. AreShort (g.B.Parts.collections s))
 laws g = book_laws g.met.B.Boosted.laws g.met.B.Parts.laws g.met.B.Coded.told
 
 -- the step that was taken
@@ -42,7 +42,7 @@ step g c =
 
 pub invariant_of-self-2 : goal.invariant_of-self-2
 invariant_of-self-2 g c = commit_keeps g.B.Boosted.meaning g.B.Parts.making
-    (λ s. AreShort (g.B.Coded.collections s)) (laws g) _ c.self.invariant c.args.number _
+    (λ s. AreShort (g.B.Parts.collections s)) (laws g) _ c.self.invariant c.args.number _
     (step g c).0 (step g c).1
 
 pub returns-clause-answer : goal.returns-clause-answer

@@ -11,7 +11,7 @@ use Rattle.txn.proofs.book.Book.freeze.Goals as goal
 
 -- the laws of the collections
 laws : (g : Over) → BookLaws g.B.Boosted.meaning g.B.Parts.making
-    (λ s. AreShort (g.B.Coded.collections s))
+    (λ s. AreShort (g.B.Parts.collections s))
 laws g = book_laws g.met.B.Boosted.laws g.met.B.Parts.laws g.met.B.Coded.told
 
 pub invariant_of-result : goal.invariant_of-result
@@ -21,7 +21,7 @@ invariant_of-result g c = let packed = c.in_ok-blocks.ensures.image in
 pub invariant_of-self-2 : goal.invariant_of-self-2
 invariant_of-self-2 g c =
     let i = c.self.inside in
-    freeze_keeps g.B.Boosted.meaning g.B.Parts.making (λ s. AreShort (g.B.Coded.collections s))
+    freeze_keeps g.B.Boosted.meaning g.B.Parts.making (λ s. AreShort (g.B.Parts.collections s))
     (laws g) _ c.self.invariant
     (book_of i.machine c.seal.new.self i.places i.next)
     (only_sealed i.machine i.pending c.seal.new.self i.places i.next c.seal.ensures.records

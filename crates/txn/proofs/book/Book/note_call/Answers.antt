@@ -17,7 +17,7 @@ use Rattle.txn.proofs.book.Book.note_call.Goals as goal
 
 -- the laws of the collections
 laws : (g : Over) → BookLaws g.B.Boosted.meaning g.B.Parts.making
-    (λ s. AreShort (g.B.Coded.collections s))
+    (λ s. AreShort (g.B.Parts.collections s))
 laws g = book_laws g.met.B.Boosted.laws g.met.B.Parts.laws g.met.B.Coded.told
 
 pub call-requires-clause-can : goal.call-requires-clause-can
@@ -32,7 +32,7 @@ pub call-requires-clause-room : goal.call-requires-clause-room
 call-requires-clause-room g c =
     let asked = subst (λ b. IsOpen (CanAsk g.B.Boosted.meaning b.state.now c.args.col
     c.args.call.now) (standing b) c.args.number) (sym c.self.view_is) c.requires.open in
-    (call_room g.B.Boosted.meaning g.B.Parts.making (λ s. AreShort (g.B.Coded.collections s))
+    (call_room g.B.Boosted.meaning g.B.Parts.making (λ s. AreShort (g.B.Parts.collections s))
     (laws g) c.self.inside.machine c.self.invariant.upheld c.args.number c.args.col
     c.args.call.now asked.running asked.few asked.unworn).0
 
@@ -88,12 +88,12 @@ pub invariant_of-self-2 : goal.invariant_of-self-2
 invariant_of-self-2 g c =
     let asked = asks g c in
     let number = c.self.invariant.upheld.numbers c.args.number asked.running.live in
-    let good = is_record c.args.number c.args.col (g.B.Coded.collections c.self.inside.machine.now)
+    let good = is_record c.args.number c.args.col (g.B.Parts.collections c.self.inside.machine.now)
     c.args.call.now c.args.reply.now number c.ranges.col.fits asked.asked.1
     ((g.met.B.Coded.told.answers c.self.inside.machine.now c.args.col c.args.call.now
     c.args.reply.now).0 (answered g c)) (c.fits_call.ensures.fits.0 c.if-prove.false)
     (c.fits_reply.ensures.fits.0 c.if-prove-2.false) in
-    call_keeps g.B.Boosted.meaning g.B.Parts.making (λ s. AreShort (g.B.Coded.collections s))
+    call_keeps g.B.Boosted.meaning g.B.Parts.making (λ s. AreShort (g.B.Parts.collections s))
     (laws g) _ c.self.invariant c.args.number (event g c) _ (step g c).0 (step g c).1 good
 
 pub returns-clause-settled : goal.returns-clause-settled

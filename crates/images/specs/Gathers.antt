@@ -1,0 +1,115 @@
+-- What is gathered of a book: copies of its collections, the calls that were run behind them, and
+-- what was noted when it was frozen.
+use Rattle.std.specs.Prelude.{◌≡◌, ℕ, zero, suc, ◌<◌, cond, nat_lt, List, [], ◌∷◌, ◌++◌, map}
+use Rattle.std.specs.Prelude.{Option, Some, None}
+use Rattle.std.specs.List.{AllByRecursion}
+use Rattle.calls.specs.Contents.{Collection, Answers, after}
+use Rattle.calls.specs.Rules.{IsShort}
+use Rattle.boosted.specs.Meaning.{IsRoomy}
+use Rattle.catalog.specs.Places.{Reaches}
+use Rattle.record_format.specs.declared.record.Record.{Record}
+use Rattle.record_format.specs.Short.{AreShort}
+use Rattle.blocks.specs.declared.block.Image.{Image}
+use Rattle.undo_log.specs.Logs.{Log}
+use Rattle.images.specs.declared.effect.Effect.{Effect}
+use Rattle.images.specs.declared.gather.Marks.{Marks}
+use Rattle.images.specs.Images.{TellsTransactions, TellsGathered, CanStand, IsPacked}
+
+-- A copy of a collection, and where it was taken: how many records came before.
+pub record CopyState : Type 0 where
+  pub collection : Collection
+  pub stamp : ℕ
+
+-- Where the book stood when it was frozen, and the records that tell of its live transactions.
+pub record FrozenState : Type 0 where
+  pub marks : Marks
+  pub live : List Record
+
+pub record GatherState : Type 0 where
+  -- copies of the first collections, in the order of making
+  pub parts : List CopyState
+  -- the calls that are not repeated yet, in the order run
+  pub effects : List Effect
+  pub frozen : Option FrozenState
+
+-- the collections of the copies
+abbrev pub gathered : List CopyState → List Collection
+gathered parts = map (λ p. p.collection) parts
+
+-- ---- repeating what was run behind the copies
+
+-- The copy with the call run on it too, if that came behind the copy.
+abbrev pub with_effect : CopyState → Effect → CopyState
+with_effect p e = cond (nat_lt p.stamp e.position) (record p {
+  collection = record p.collection { content = after p.collection.content e.call e.reply };
+}) p
+
+-- The same of the copy at the place.
+abbrev pub with_effect_at : List CopyState → ℕ → Effect → List CopyState
+with_effect_at [] at e = []
+with_effect_at (p ∷ ps) zero e = with_effect p e ∷ ps
+with_effect_at (p ∷ ps) (suc at) e = p ∷ with_effect_at ps at e
+
+-- What the copies come to: the calls are run one after another, each on the copy of its collection.
+abbrev pub caught_up : List CopyState → List Effect → List CopyState
+caught_up ps [] = ps
+caught_up ps (e ∷ es) = caught_up (with_effect_at ps e.collection e) es
+
+-- If the call came behind the copy, it can be run on it: it gets its reply, and there is room.
+abbrev pub CanRepeat : CopyState → Effect → Type 0
+CanRepeat p e = p.stamp < e.position →
+    Answers p.collection.content e.call e.reply × IsRoomy (Reaches p.collection.content)
+
+abbrev pub CanRepeatAt : List CopyState → ℕ → Effect → Type 0
+CanRepeatAt [] at e = Unit {0}
+CanRepeatAt (p ∷ ps) zero e = CanRepeat p e
+CanRepeatAt (p ∷ ps) (suc at) e = CanRepeatAt ps at e
+
+-- The calls can be run so, one after another.
+abbrev pub CanCatchUp : List CopyState → List Effect → Type 0
+CanCatchUp ps [] = Unit {0}
+CanCatchUp ps (e ∷ es) =
+    CanRepeatAt ps e.collection e × CanCatchUp (with_effect_at ps e.collection e) es
+
+-- The first of the calls were repeated: the copies come to what they came to before.
+pub record HaveRepeated (parts : List CopyState) (effects : List Effect)
+    (new_parts : List CopyState) (left : List Effect) : Type 0 where
+  pub done : List Effect
+  pub are : effects ≡ done ++ left
+  pub is : new_parts ≡ caught_up parts done
+
+-- The first of the calls that were left are repeated, and nothing else changed.
+pub record Repeats (old new : GatherState) : Type 0 where
+  pub repeated : HaveRepeated old.parts old.effects new.parts new.effects
+  pub frozen : new.frozen ≡ old.frozen
+
+-- ---- freezing and packing
+
+-- Nothing changed but that the marks were noted, and records that tell of the live transactions.
+pub record Freezes (old : GatherState) (marks : Marks) (live : Log) (new : GatherState) :
+    Type 0 where
+  pub records : List Record
+  pub tells : TellsTransactions live.live live.entries records
+  pub is : new ≡ record old { frozen = Some (record { marks = marks; live = records }) }
+
+-- The image is that of what was gathered, which is frozen: of what the copies come to.
+pub record Packs (g : GatherState) (image : Image) : Type 0 where
+  pub frozen : FrozenState
+  pub is_frozen : g.frozen ≡ Some frozen
+  pub packed : IsPacked (TellsGathered frozen.marks.next frozen.marks.wear
+      (gathered (caught_up g.parts g.effects)) frozen.live) image.blocks.items
+  pub end : image.end ≡ frozen.marks.end
+  pub place : image.place ≡ frozen.marks.place
+
+-- ---- what holds of all that is gathered
+
+abbrev pub IsFrozenWell : Option FrozenState → Type 0
+IsFrozenWell None = Unit {0}
+IsFrozenWell (Some f) = CanStand f.marks.next f.marks.wear f.live
+
+-- What is left can be repeated, and all can be spelled.
+pub record IsGathered (g : GatherState) : Type 0 where
+  pub can : CanCatchUp g.parts g.effects
+  pub short : AreShort (gathered g.parts)
+  pub short_calls : AllByRecursion (λ e. IsShort e.call) g.effects
+  pub frozen : IsFrozenWell g.frozen

@@ -1,0 +1,238 @@
+// What is gathered of a book.
+ghost use Rattle.std.specs.Prelude.{◌≡◌, ℕ, ◌≤◌, ◌^◌, ◌++◌, ◌∷◌, [], None, OnOk, OnErr, IfOk};
+ghost use Rattle.std.specs.Prelude.{IfErr, IsSome, IsOkUnless, length};
+ghost use Rattle.std.specs.List.{AllByRecursion};
+ghost use Rattle.calls.specs.declared.refusal.Refusal.{Refusal};
+ghost use Rattle.undo_log.specs.Logs.{Lives};
+ghost use Rattle.record_format.specs.Records.{IsNumber};
+ghost use Rattle.record_format.specs.Short.{HoldsShort};
+ghost use Rattle.machine.specs.Machines.{IsAskedEntry};
+ghost use Rattle.images.specs.Gathers.{CanCatchUp, HaveRepeated, Repeats, Freezes, Packs};
+ghost use Rattle.images.specs.Views.{copies_of};
+ghost use Rattle.calls.specs.Rules.{IsShort};
+
+use crate::Effect;
+use crate::packing::pack;
+use crate::stamped::{Stamped, repeat};
+use crate::telling::live_records;
+use blocks::Image;
+use calls::Refusal;
+use catalog::Part;
+use records::Record;
+use std::alloc::Global;
+use std::collections::VecDeque;
+use std::marker::Model;
+use std::mem;
+use undo_log::Live;
+
+/// Where a book stands: a number above every one that was entered, the wear, how many records came
+/// before, and how many commits and makes.
+#[derive(Clone, Copy)]
+pub struct Marks {
+    pub next: u64,
+    pub wear: u64,
+    pub end: u64,
+    pub place: u64,
+}
+
+/// What was noted of a book when it was frozen.
+#[derive(Drop)]
+pub(crate) struct Frozen {
+    pub(crate) marks: Marks,
+    pub(crate) live: Vec<Record>,
+}
+
+/// What is gathered of a book for an image: copies of its collections, taken at different moments,
+/// the calls that were run behind them, and what stood beside the collections at the end. It is
+/// filled while the book is held, and works by itself. Contracts see what the copies hold, with the
+/// positions at which they were taken, the calls that are not repeated on them yet, and what was
+/// noted at the freeze.
+pub struct Gather<P: Part> {
+    alloc: Global,
+    copies: Vec<Stamped<P>>,
+    effects: VecDeque<Effect>,
+    frozen: Option<Frozen>,
+}
+
+// Written out, so that the crates above call it in place of proving it again.
+impl<P: Part> Drop for Gather<P> {
+    fn drop(self) {
+        let Self {
+            alloc: _alloc,
+            copies,
+            effects,
+            frozen,
+        } = self;
+        drop(copies);
+        drop(effects);
+        drop(frozen);
+    }
+}
+
+impl<P: Part> Model for Gather<P> {
+    ghost use Rattle.std.specs.Coded.{codes};
+    ghost use Rattle.catalog.specs.Holdings.{collection_code};
+    ghost use Rattle.images.specs.Gathers.{GatherState, IsGathered};
+    ghost use Rattle.images.specs.Views.{gather_of};
+
+    ghost Value = { GatherState };
+
+    ghost coded = { Prim.hlevel (codes, collection_code) };
+
+    ghost view = { λ g. gather_of P.collection g.copies.items g.effects.items g.frozen };
+
+    ghost invariant = { λ g. IsGathered
+        (gather_of P.collection g.copies.items g.effects.items g.frozen) };
+}
+
+impl<P: Part> Gather<P> {
+    /// Nothing is gathered. It takes no memory.
+    pub fn new(alloc: Global) -> Self
+        ensures { result ≡ record { parts = []; effects = []; frozen = None } }
+    {
+        Self {
+            alloc,
+            copies: Vec::new(alloc),
+            effects: VecDeque::new(alloc),
+            frozen: None,
+        }
+    }
+
+    /// How many copies there are.
+    pub fn copied(&self) -> usize
+        ensures { result ≡ length self.now.parts }
+    {
+        self.copies.len()
+    }
+
+    /// Adds a copy of the next collection. `stamp` is how many records came before it was taken.
+    ///
+    /// NoMemory, which leaves all as before.
+    pub fn add(&mut self, part: P, stamp: u64) -> Result<(), Refusal>
+        requires short { HoldsShort (P.collection part).content }
+        requires behind { AllByRecursion (λ e. e.position ≤ stamp) self.old.effects }
+        ensures ok { OnOk result (self.new ≡ record self.old {
+          parts = self.old.parts ++ record { collection = P.collection part; stamp = stamp } ∷ [];
+        }) }
+        ensures err { OnErr result (self.new ≡ self.old) }
+        ensures refusal { IsOkUnless result Refusal.NoMemory }
+    {
+        self.copies.push(Stamped { part, stamp })?;
+        Ok(())
+    }
+
+    /// Takes calls that were run on the collections, behind those that were taken before: all of
+    /// them, in the order run.
+    ///
+    /// NoMemory, which leaves them where they are, and all as before.
+    pub fn take(&mut self, effects: &mut VecDeque<Effect>) -> Result<(), Refusal>
+        requires can { CanCatchUp self.old.parts (self.old.effects ++ effects.old.items) }
+        requires short { AllByRecursion (λ e. IsShort e.call) effects.old.items }
+        ensures ok { OnOk result (self.new ≡ record self.old {
+          effects = self.old.effects ++ effects.old.items;
+        }) }
+        ensures taken { OnOk result (effects.new.items ≡ []) }
+        ensures err { OnErr result (self.new ≡ self.old) }
+        ensures kept { OnErr result (effects.new.items ≡ effects.old.items) }
+        ensures refusal { IsOkUnless result Refusal.NoMemory }
+    {
+        self.effects.append(effects)?;
+        Ok(())
+    }
+
+    /// Repeats the calls that are left, each on the copy of its collection where it came behind
+    /// that, so that the copies come to what the collections held when the last of them was run. Its
+    /// cost is that of these calls.
+    ///
+    /// NoMemory, which leaves what is repeated. It may be called again.
+    pub fn catch_up(&mut self) -> Result<(), Refusal>
+        ensures repeats { Repeats self.old self.new }
+        ensures all { OnOk result (self.new.effects ≡ []) }
+        ensures refusal { IsOkUnless result Refusal.NoMemory }
+    {
+        let mut effects = mem::replace(&mut self.effects, VecDeque::new(self.alloc));
+        let done = repeat_all(&mut self.copies, &mut effects);
+        self.effects = effects;
+        done
+    }
+
+    /// Notes where the book stands, and the records that tell of its live transactions: that each
+    /// began, by rising number, and then what they asked for in its order, but for calls that only
+    /// read and what a falling one put off. It takes time and memory in proportion to these.
+    ///
+    /// NoMemory, which leaves all as before.
+    pub fn freeze(&mut self, marks: Marks, live: &Live) -> Result<(), Refusal>
+        requires next { (1 ≤ marks.next) × (marks.next ≤ 2 ^ 61) }
+        requires numbers { (n : ℕ) → Lives live.now.live n → IsNumber n }
+        requires asked { AllByRecursion (λ e. IsNumber e.0 × IsAskedEntry e.1) live.now.entries }
+        ensures ok { OnOk result (Freezes self.old marks live.now self.new) }
+        ensures err { OnErr result (self.new ≡ self.old) }
+        ensures refusal { IsOkUnless result Refusal.NoMemory }
+    {
+        let live = live_records(self.alloc, live)?;
+        self.frozen = Some(Frozen { marks, live });
+        Ok(())
+    }
+
+    /// The image of what was gathered, which is frozen, in whole blocks: the marks, the collections
+    /// with their items, the records of the live transactions, and the end. The calls that are left
+    /// are repeated first, as `catch_up` does.
+    ///
+    /// It takes time and memory in proportion to what was gathered, of which the image is one copy;
+    /// beside it the items of one collection at a time are copied.
+    ///
+    /// NoMemory, which hands back what was gathered, with what is repeated.
+    pub fn pack(mut self) -> Result<Image, (Refusal, Self)>
+        requires { IsSome self.frozen }
+        ensures ok { IfOk result (λ image. Packs self image) }
+        ensures refusal { IfErr result (λ x. x.0 ≡ Refusal.NoMemory) }
+        ensures back { IfErr result (λ x. Repeats self x.1) }
+    {
+        if let Err(refusal) = self.catch_up() {
+            return Err((refusal, self));
+        }
+        match self.image() {
+            Ok(image) => Ok(image),
+            Err(refusal) => Err((refusal, self)),
+        }
+    }
+
+    // The image of what was gathered, where nothing is left to repeat.
+    fn image(&self) -> Result<Image, Refusal>
+        requires frozen { IsSome self.now.frozen }
+        requires done { self.now.effects ≡ [] }
+        ensures ok { IfOk result (λ image. Packs self.now image) }
+        ensures refusal { IsOkUnless result Refusal.NoMemory }
+    {
+        match &self.frozen {
+            Some(frozen) => Ok(Image {
+                blocks: pack(self.alloc, &self.copies, frozen)?,
+                end: frozen.marks.end,
+                place: frozen.marks.place,
+            }),
+            None => unreachable!(),
+        }
+    }
+}
+
+// Repeats the calls on the copies, the first of them first. NoMemory leaves those that are not
+// repeated.
+fn repeat_all<P: Part>(
+    copies: &mut [Stamped<P>],
+    effects: &mut VecDeque<Effect>,
+) -> Result<(), Refusal>
+    requires can { CanCatchUp (copies_of P.collection copies.old) effects.old.items }
+    ensures repeated { HaveRepeated (copies_of P.collection copies.old) effects.old.items
+        (copies_of P.collection copies.new) effects.new.items }
+    ensures all { OnOk result (effects.new.items ≡ []) }
+    ensures refusal { IsOkUnless result Refusal.NoMemory }
+{
+    while let Some(effect) = effects.pop_front() {
+        if let Err(refusal) = repeat(copies, &effect) {
+            effects.push_front_reserved(effect);
+            return Err(refusal);
+        }
+        drop(effect);
+    }
+    Ok(())
+}
