@@ -17,9 +17,9 @@ use Rattle.disk_model.specs.declared.disk.Disk.{Ghosts}
 use Rattle.group_commit.specs.Marks.{AreReached}
 use Rattle.recovery.specs.Openings.{KeepsContent}
 use Rattle.repetition.specs.Journals.{StandsFor}
-use Rattle.store.specs.Closing.{SeenState}
-use Rattle.store.specs.Known.{Known}
-use Rattle.store.specs.declared.naming.Naming as namings
+use Rattle.clients.specs.Known.{SeenState}
+use Rattle.clients.specs.Known.{Known}
+use Rattle.clients.specs.declared.naming.Naming as namings
 use Rattle.txn.specs.Books.{standing}
 use Rattle.txn.specs.declared.steps.BookStep.{BookStep}
 use Rattle.txn.specs.Histories.{IsLegal, committed_by}

@@ -12,9 +12,10 @@ use Rattle.group_commit.specs.Marks.{AreReached}
 use Rattle.checkpoint.specs.Keepers.{KeeperState}
 use Rattle.recovery.specs.Openings.{KeepsContent}
 use Rattle.repetition.specs.Journals.{StandsFor}
-use Rattle.store.specs.Closing.{Closes, SeenState}
-use Rattle.store.specs.Known.{Known, step_of}
-use Rattle.store.specs.declared.naming.Naming as namings
+use Rattle.clients.specs.Known.{SeenState}
+use Rattle.store.specs.Closing.{Closes}
+use Rattle.clients.specs.Known.{Known, step_of}
+use Rattle.clients.specs.declared.naming.Naming as namings
 use Rattle.txn.specs.Books.{BookState}
 use Rattle.txn.specs.declared.steps.Action.{Action}
 use Rattle.txn.specs.declared.steps.BookStep.{BookStep}

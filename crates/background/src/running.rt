@@ -4,8 +4,8 @@ ghost use Rattle.std.specs.Prelude.{MatchResult, vec_len};
 ghost use Rattle.std.specs.Thread.{IsSend, IsSync};
 ghost use mathlib.Core.List.{IsPrefix};
 ghost use Rattle.calls.specs.declared.refusal.Refusal.{Refusal};
-ghost use Rattle.store.specs.Closing.{seen_of, counts_of};
-ghost use Rattle.store.specs.Known.{newcomer};
+ghost use Rattle.clients.specs.Known.{seen_of, counts_of};
+ghost use Rattle.clients.specs.Known.{newcomer};
 ghost use Rattle.store.specs.Openings.{IsNamed};
 ghost use Rattle.background.specs.Works.{IsLeftByWork, WasOpened, IsClosed, AreTold, IsSaid};
 ghost use Rattle.background.specs.Works.{AreSaid, AreParts};
@@ -23,7 +23,7 @@ use store::{Client, Naming, Opened, Seen, Store};
 /// What each of a program's threads does with a store.
 pub trait Work {
     ghost use Rattle.std.specs.Prelude.{ℕ, ⊤};
-    ghost use Rattle.store.specs.Known.{Known};
+    ghost use Rattle.clients.specs.Known.{Known};
 
     type Output: Send + Drop;
 

@@ -1,7 +1,7 @@
 // Transactions that are tried until they go through.
 ghost use Rattle.std.specs.Prelude.{◌≡◌, IfOk, OnOk};
-ghost use Rattle.store.specs.declared.phase.Phase.{Phase};
-ghost use Rattle.store.specs.Calls.{IsOpen};
+ghost use Rattle.clients.specs.declared.phase.Phase.{Phase};
+ghost use Rattle.clients.specs.Calls.{IsOpen};
 ghost use Rattle.background.specs.Works.{HasCommitted, WasToldKept};
 
 use crate::signal::Signal;

@@ -76,8 +76,8 @@ fn nanos_each(time: Duration, count: u64) -> f64 {
     time.as_secs_f64() * 1e9 / nearest_u64_to_f64(count.max(1))
 }
 
-// A book with the list that its blocks go to, the number of its next transaction, and how many calls
-// were made.
+// A book with the list that its blocks go to, the number of its next transaction, and how many
+// calls were made.
 #[derive(Drop)]
 struct BookBench {
     alloc: Global,

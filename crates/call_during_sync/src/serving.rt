@@ -1,6 +1,6 @@
 // The two threads on one store.
 ghost use Rattle.std.specs.Prelude.{◌≡◌};
-ghost use Rattle.store.specs.declared.phase.Phase.{Phase};
+ghost use Rattle.clients.specs.declared.phase.Phase.{Phase};
 ghost use Rattle.store.specs.Openings.{IsNamed};
 
 use crate::signals::Signals;

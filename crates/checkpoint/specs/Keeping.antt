@@ -38,6 +38,12 @@ pub record IsImageFor (image : Image) (begun : BegunImage) : Type 0 where
   pub end : image.end ≡ length begun.covered
   pub place : image.place ≡ places begun.covered
 
+-- These are the images that were begun, each with what it covers.
+abbrev pub AreImagesFor : List Image → List BegunImage → Type 0
+AreImagesFor [] [] = Unit {0}
+AreImagesFor (image ∷ images) (b ∷ begun) = IsImageFor image b × AreImagesFor images begun
+AreImagesFor images begun = ⊥
+
 -- No block, of those that begin behind so many records, has records from both sides of the
 -- position.
 abbrev pub IsApart : (front : ℕ) → List (List Record) → (position : ℕ) → Type 0

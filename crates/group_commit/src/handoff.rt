@@ -266,7 +266,8 @@ impl Handoff {
     fn unite(&self, sender: &mut Pass<Block, Log>, receiver: &mut Pass<Block, Log>)
         requires sender { IsSender self.now sender.old }
         requires receiver { IsReceiver self.now receiver.old }
-        ensures sender { IsEnd self.now (united (known sender.old) (known receiver.old)) sender.new }
+        ensures sender { IsEnd self.now (united (known sender.old) (known receiver.old))
+            sender.new }
         ensures order { (transit : List Block) ×
             AreInTransit (known sender.old).sent (known receiver.old).received transit }
         ensures noted { (known sender.old).noted ≡ (known receiver.old).heard }

@@ -5,13 +5,12 @@
 //! and what it holds is asked for and compared.
 #![tactic(auto)]
 
-mod clients;
 mod plain;
 mod requests;
+mod workers;
 
 use background::run;
 use calls::Refusal;
-use clients::{Looking, Making, Round, Running};
 use disk_model::{FileDisk, Unknown};
 use plain::Plain;
 use recovery::format;
@@ -19,6 +18,7 @@ use std::alloc::{AllocGlobal, Global};
 use std::fs::File;
 use std::sync::Wait;
 use std::thread::Threads;
+use workers::{Looking, Making, Round, Running};
 
 const CLIENTS: usize = 8;
 

@@ -95,9 +95,9 @@ fn open_on<D: Disk>(alloc: Global, disk: &mut D) -> Result<(Book<Catalog>, Area)
 ///
 /// It holds the body of one block at a time, beside what the collections hold, the live
 /// transactions asked for, and the records of the undoing. So the memory that it takes is bounded
-/// by the bytes of the area in use, whatever they are: at most some 50 bytes were measured for each
-/// of these (`tools/memory.py`). Each record is read once, and repeated in the time of its call and
-/// of the needs and live calls that stand then.
+/// by the bytes of the area in use, whatever they are: at most 15 bytes were measured for each of
+/// these (`tools/memory.py`). Each record is read once, and repeated in the time of its call and of
+/// the needs and live calls that stand then.
 ///
 /// Refused NotAStore, where the disk read true only if it has no head of a store; Fault where the
 /// disk failed; Damaged with the position of the gate of the block in which the first damage

@@ -3,7 +3,7 @@ use Rattle.std.proofs.Common.{ℕ, List, [], ◌∷◌, ◌++◌, append_assoc, 
 use Rattle.std.proofs.Common.{Option}
 use Rattle.std.proofs.lemmas.List.{append-nil}
 use Rattle.script.specs.declared.line.Line.{Line}
-use Rattle.store.specs.declared.naming.Naming.{Ghosts}
+use Rattle.clients.specs.declared.naming.Naming.{Ghosts}
 use Rattle.server.specs.declared.transcript.Answer.{Answer}
 use Rattle.server.specs.Sessions.{SessionState, Answers, CarriesOut, answers_of}
 

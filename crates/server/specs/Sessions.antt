@@ -7,11 +7,11 @@ use Rattle.calls.specs.declared.reply.Reply.{Reply}
 use Rattle.calls.specs.declared.refusal.Refusal.{Refusal}
 use Rattle.txn.specs.declared.steps.Action.{Action}
 use Rattle.txn.specs.declared.steps.Target.{Target}
-use Rattle.store.specs.declared.naming.Naming.{Ghosts}
-use Rattle.store.specs.declared.phase.Phase.{Phase}
-use Rattle.store.specs.declared.ticket.Ticket.{Ticket}
-use Rattle.store.specs.Known.{Known}
-use Rattle.store.specs.Calls as calls
+use Rattle.clients.specs.declared.naming.Naming.{Ghosts}
+use Rattle.clients.specs.declared.phase.Phase.{Phase}
+use Rattle.clients.specs.declared.ticket.Ticket.{Ticket}
+use Rattle.clients.specs.Known.{Known}
+use Rattle.clients.specs.Calls as calls
 use Rattle.player.specs.Requests.{telling, saying, said_kept}
 use Rattle.player.specs.declared.texts.Said.{Said}
 use Rattle.script.specs.declared.action.Action as actions

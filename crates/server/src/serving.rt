@@ -1,5 +1,6 @@
 // The threads of a script's clients.
-ghost use Rattle.std.specs.Prelude.{IsOkUnless};
+ghost use Rattle.std.specs.Prelude.{IsOkUnless, IfOk};
+ghost use Rattle.std.specs.List.Sorted.{IsNonDecreasingBy};
 ghost use Rattle.calls.specs.declared.refusal.Refusal.{Refusal};
 
 use crate::session::Session;
@@ -99,7 +100,9 @@ pub fn collect<R: Wait>(
     alloc: Global,
     receiver: Receiver<Transcript>,
 ) -> Result<Vec<Transcript>, Refusal>
-    ensures { IsOkUnless result Refusal.NoMemory }
+    ensures rising { IfOk result (λ transcripts. IsNonDecreasingBy (λ t. t.client)
+        transcripts.items) }
+    ensures refused { IsOkUnless result Refusal.NoMemory }
 {
     let mut transcripts = Vec::new(alloc);
     for transcript in receiver.iter(rt) {

@@ -3,7 +3,7 @@ ghost use Rattle.std.specs.Prelude.{◌≡◌, ◌↔◌, Ok, Err, None, List, I
 ghost use Rattle.calls.specs.declared.call.Call.{Call};
 ghost use Rattle.calls.specs.declared.refusal.Refusal.{Refusal};
 ghost use Rattle.script.specs.declared.action.Operation.{Operation};
-ghost use Rattle.store.specs.Calls.{IsOpen, Aborts};
+ghost use Rattle.clients.specs.Calls.{IsOpen, Aborts};
 ghost use Rattle.server.specs.Sessions.{SessionState, Makes, Begins, InOpen, AsksFor, PutsOff};
 ghost use Rattle.server.specs.Sessions.{Commits, Looks, Obeys, Answers, CarriesOut, Ends};
 ghost use Rattle.server.specs.Sessions.{ticket_after, IsRun, Says, Notes};
@@ -250,8 +250,8 @@ impl<'c, 's, J: Naming> Session<'c, 's, J> {
         Some(self.client.kept(&ticket))
     }
 
-    /// Waits for the client's last ticket, if it has one: some committer has to take turns meanwhile,
-    /// or have met a fault of the disk.
+    /// Waits for the client's last ticket, if it has one: some committer has to take turns
+    /// meanwhile, or have met a fault of the disk.
     pub fn end<R: Wait>(&mut self, rt: &R) -> End
         ensures { Ends self.old result self.new }
     {

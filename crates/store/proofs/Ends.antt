@@ -1,20 +1,10 @@
--- What the ends of a hand-off know once a borrow of them is given back.
+-- What the receiving end of a hand-off knows once a borrow of it is given back.
 use Rattle.std.proofs.Common.{◌≡◌, List, ap, ◌∙◌, sym}
 use Rattle.std.specs.Borrow.{MutBor}
 use Rattle.blocks.specs.declared.block.Block.{Block}
-use Rattle.group_commit.specs.Ends.{Sends, Receives}
-use Rattle.group_commit.specs.Orders.{SenderState, ReceiverState}
-use Rattle.store.specs.Turns.{IsSent, IsReceived}
-
-pub sent_back : (before after : MutBor SenderState) (bs : List Block) (left : SenderState) →
-    (before.ghost_name ≡ after.ghost_name → left ≡ after.now) → Sends before bs after →
-    IsSent before.now bs left
-sent_back before after bs left back sends =
-    let is = back (sym sends.same) in record {
-      table = ap (λ (s : SenderState). s.table) is ∙ sends.table;
-      sent = ap (λ (s : SenderState). s.sent) is ∙ sends.sent;
-      noted = ap (λ (s : SenderState). s.noted) is ∙ sends.noted;
-    }
+use Rattle.group_commit.specs.Ends.{Receives}
+use Rattle.group_commit.specs.Orders.{ReceiverState}
+use Rattle.store.specs.Turns.{IsReceived}
 
 pub received_back : (before after : MutBor ReceiverState) (bs : List Block)
     (left : ReceiverState) → (before.ghost_name ≡ after.ghost_name → left ≡ after.now) →

@@ -21,10 +21,10 @@ use Rattle.group_commit.proofs.mark.Watcher.TheSendSync as watchers
 use Rattle.group_commit.proofs.numbers.Numbers.TheSendSync as numbers
 use Rattle.group_commit.proofs.numbers.Drawer.TheSendSync as drawers
 use Rattle.group_commit.proofs.numbers.DrawerMaker.TheSendSync as makers
-use Rattle.store.specs.declared.naming.Naming as namings
-use Rattle.store.specs.contracts.desk.Desk as desk
+use Rattle.clients.specs.declared.naming.Naming as namings
+use Rattle.clients.specs.contracts.desk.Desk as desk
 use Rattle.store.specs.contracts.vault.Vault as vault
-use Rattle.store.specs.contracts.shared.Shared as shared
+use Rattle.clients.specs.contracts.shared.Shared as shared
 use Rattle.store.specs.contracts.store.Store as store
 use Rattle.store.proofs.vault.Vault.TheSendSync as vaults
 

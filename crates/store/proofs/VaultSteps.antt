@@ -51,16 +51,16 @@ use Rattle.group_commit.specs.Lines as lines
 use Rattle.group_commit.specs.Lines.{stepped}
 use Rattle.group_commit.specs.Marks.{KeeperMark, AreReached}
 use Rattle.group_commit.specs.Orders.{SenderState, ReceiverState, AreInTransit}
-use Rattle.store.specs.declared.naming.Naming.{Ghosts}
+use Rattle.clients.specs.declared.naming.Naming.{Ghosts}
 use Rattle.store.specs.Closing.{Closes}
-use Rattle.store.specs.Desks.{AreRecorded, IsDesk}
+use Rattle.clients.specs.Desks.{AreRecorded, IsDesk}
 use Rattle.store.specs.Freezes.{Froze, Begins}
-use Rattle.store.specs.Notes.{alone}
+use Rattle.clients.specs.Notes.{alone}
 use Rattle.store.specs.Openings.{OpenedState, IsSoundly}
 use Rattle.store.specs.Turns.{Brings, brought_to, flipped_to}
 use Rattle.store.specs.Vaults.{ReceivesAny, IsVault}
 use Rattle.store.proofs.Ends.{received_back, received_there}
-use Rattle.store.proofs.Recording.{opened_stands}
+use Rattle.clients.proofs.Recording.{opened_stands}
 
 abbrev Book : Type 0
 Book = BookState (List Collection)

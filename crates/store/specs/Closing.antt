@@ -9,22 +9,8 @@ use Rattle.txn.specs.Histories.{committed_by}
 use Rattle.checkpoint.specs.Crash.{Yields}
 use Rattle.checkpoint.specs.Keepers.{KeeperState}
 use Rattle.group_commit.specs.Marks.{AreReached}
-use Rattle.store.specs.declared.naming.Naming.{Ghosts}
-use Rattle.store.specs.Known.{IsHistory}
-
--- what a client had seen when it left, and the counts that it had loaded of the mark
-pub record SeenState : Type 0 where
-  pub number : ℕ
-  pub seen : List BookStep
-  pub counts : List ℕ
-
-abbrev pub seen_of : Option SeenState → List BookStep
-seen_of None = []
-seen_of (Some s) = s.seen
-
-abbrev pub counts_of : Option SeenState → List ℕ
-counts_of None = []
-counts_of (Some s) = s.counts
+use Rattle.clients.specs.declared.naming.Naming.{Ghosts}
+use Rattle.clients.specs.Known.{IsHistory}
 
 -- The book stands where a legal history from the opened content ends, which begins with what was
 -- seen. Whatever a stop leaves of the disk now is sound, and stands for a content that some

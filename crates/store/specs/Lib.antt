@@ -1,10 +1,5 @@
-pub mod Calls
 pub mod Closing
-pub mod Desks
 pub mod Freezes
-pub mod Known
-pub mod NoStore
-pub mod Notes
 pub mod Openings
 pub mod Turns
 pub mod Vaults

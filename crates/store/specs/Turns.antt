@@ -6,7 +6,7 @@ use Rattle.blocks.specs.declared.block.Block.{Block}
 use Rattle.checkpoint.specs.declared.turn.Turn.{Turn}
 use Rattle.checkpoint.specs.Keepers.{KeeperState}
 use Rattle.checkpoint.specs.Keeping.{TurnKeeps}
-use Rattle.group_commit.specs.Orders.{SenderState, ReceiverState}
+use Rattle.group_commit.specs.Orders.{ReceiverState}
 use Rattle.group_commit.specs.Marks.{WatcherState, with_count, with_flag}
 use Rattle.store.specs.declared.checkpointing.Checkpoint.{Checkpoint}
 
@@ -40,12 +40,6 @@ abbrev pub CheckTells : WatcherState → Result Checkpoint Refusal → WatcherSt
 CheckTells old (Ok (Checkpoint.Flipped place)) new = Reaches old place new
 CheckTells old (Ok c) new = new ≡ old
 CheckTells old (Err e) new = Fails old e new
-
--- these blocks were sent, in order, and no image was noted
-pub record IsSent (before : SenderState) (blocks : List Block) (after : SenderState) : Type 0 where
-  pub table : after.table ≡ before.table
-  pub sent : after.sent ≡ before.sent ++ blocks
-  pub noted : after.noted ≡ before.noted
 
 -- these blocks were received, in order, and no image was noted
 pub record IsReceived (before : ReceiverState) (blocks : List Block) (after : ReceiverState) :

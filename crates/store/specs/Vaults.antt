@@ -13,8 +13,8 @@ use Rattle.checkpoint.specs.Keepers.{KeeperState}
 use Rattle.checkpoint.specs.Keeping.{BegunImage, Uncrossed, HasReceived}
 use Rattle.group_commit.specs.Orders.{ReceiverState}
 use Rattle.group_commit.specs.Marks.{KeeperMark}
-use Rattle.store.specs.declared.naming.Naming.{Ghosts}
-use Rattle.store.specs.Desks.{AreRecorded}
+use Rattle.clients.specs.declared.naming.Naming.{Ghosts}
+use Rattle.clients.specs.Desks.{AreRecorded}
 
 -- Whatever records a book of the store has made: where these blocks carry a beginning of them, and
 -- these images were noted, the keeper has received the blocks.

@@ -2,12 +2,10 @@
 ghost use Rattle.std.specs.Prelude.{◌≡◌, IfOk};
 ghost use Rattle.store.specs.Turns.{CheckTells};
 
-use crate::desk::Desk;
 use crate::freezing::freeze;
-use crate::naming::Naming;
-use crate::shared::Shared;
 use crate::vault::{Vault, note_failure};
 use calls::Refusal;
+use clients::{Desk, Naming, Shared};
 use disk_model::Disk;
 use group_commit::Watcher;
 use std::marker::Model;

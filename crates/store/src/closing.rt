@@ -2,15 +2,13 @@
 ghost use Rattle.std.specs.Prelude.{◌≡◌};
 ghost use mathlib.Core.List.{IsPrefix};
 ghost use Rattle.group_commit.specs.Marks.{AreReached};
-ghost use Rattle.store.specs.Closing.{Closes, seen_of, counts_of};
+ghost use Rattle.clients.specs.Known.{seen_of, counts_of};
+ghost use Rattle.store.specs.Closing.{Closes};
 
-use crate::desk::Desk;
-use crate::naming::Naming;
-use crate::seen::Seen;
-use crate::shared::Shared;
 use crate::vault::Vault;
 use catalog::Catalog;
 use checkpoint::Keeper;
+use clients::{Desk, Naming, Seen, Shared};
 use disk_model::Disk;
 use group_commit::{BookSeat, KeeperSeat};
 use txn::Book;
@@ -25,12 +23,7 @@ pub(crate) fn close<D: Disk, J: Naming>(
     ensures { Closes ⟦<J as Naming>⟧ ⟦<D as Disk>⟧ (seen_of last) (counts_of last) result.0
         result.1 }
 {
-    let Desk {
-        book,
-        mut seat,
-        mut sender,
-        ..
-    } = desk;
+    let (book, mut seat, mut sender) = desk.into_parts();
     let Vault {
         keeper,
         mut receiver,

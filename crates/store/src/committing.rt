@@ -3,12 +3,10 @@ ghost use Rattle.std.specs.Prelude.{◌≡◌, true};
 ghost use Rattle.group_commit.specs.Marks.{with_flag};
 ghost use Rattle.store.specs.Turns.{TurnTells};
 
-use crate::desk::Desk;
-use crate::naming::Naming;
-use crate::shared::Shared;
 use crate::vault::Vault;
 use calls::Refusal;
 use checkpoint::Turn;
+use clients::{Desk, Naming, Shared};
 use disk_model::Disk;
 use group_commit::Watcher;
 use std::marker::Model;

@@ -1,8 +1,6 @@
 // What may cross threads: each function is accepted only where its argument may.
-use crate::client::Client;
-use crate::naming::Naming;
-use crate::seen::Seen;
 use crate::store::Store;
+use clients::{Client, Naming, Seen};
 use disk_model::Disk;
 
 fn sent<T: Send>(x: T) -> T {

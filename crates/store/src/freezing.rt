@@ -5,13 +5,11 @@ ghost use Rattle.blocks.specs.declared.block.Image.{Image};
 ghost use Rattle.group_commit.specs.Orders.{noting, noting_too};
 ghost use Rattle.store.specs.Freezes.{Begins, Froze};
 
-use crate::desk::{Desk, note_alone};
-use crate::naming::Naming;
-use crate::shared::Shared;
 use crate::vault::Vault;
 use calls::Refusal;
 use catalog::Catalog;
 use checkpoint::Keeper;
+use clients::{Desk, Naming, Shared, note_alone};
 use disk_model::Disk;
 use group_commit::{Handoff, OneImage, Receiver, Sender};
 use std::marker::Brand;

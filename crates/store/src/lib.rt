@@ -27,8 +27,8 @@
 //! ```
 //!
 //! `serve` requires `IsNamed ⟦<J as Naming>⟧ ⟦<D as Disk>⟧ opened`, and the caller's
-//! `Invariants.antt` picks the name from the argument (the caller, here `serve_any` of a crate NAME, is
-//! generic in the disk alone):
+//! `Invariants.antt` picks the name from the argument (the caller, here `serve_any` of a crate
+//! NAME, is generic in the disk alone):
 //!
 //! ```text
 //! use Rattle.store.specs.Openings.{naming_of}
@@ -40,27 +40,16 @@
 #![tactic(auto)]
 
 mod checkpointing;
-mod client;
 mod closing;
 mod committing;
 mod crossing;
-mod desk;
 mod freezing;
-mod naming;
 mod opened;
-mod phase;
-mod seen;
-mod shared;
 mod store;
-mod ticket;
 mod vault;
 
 pub use checkpointing::{Checkpoint, Checkpointer};
-pub use client::Client;
+pub use clients::{Client, Naming, Phase, Seen, Ticket};
 pub use committing::Committer;
-pub use naming::Naming;
 pub use opened::Opened;
-pub use phase::Phase;
-pub use seen::Seen;
 pub use store::Store;
-pub use ticket::Ticket;

@@ -9,14 +9,12 @@ ghost use Rattle.recovery.specs.Openings.{IsOpened, IsDamagedAt, HasNoRoom, IsRe
 ghost use Rattle.recovery.specs.Openings.{IsOpenRefusal, KeepsContent};
 ghost use Rattle.store.specs.Openings.{IsNamed};
 
-use crate::desk::Desk;
-use crate::naming::Naming;
-use crate::shared::Shared;
 use crate::store::Store;
 use crate::vault::Vault;
 use calls::Refusal;
 use catalog::Catalog;
 use checkpoint::Keeper;
+use clients::{Desk, Naming, Shared};
 use disk_model::Disk;
 use group_commit::{
     BookSeat, DrawerMaker, Handoff, KeeperSeat, Line, Mark, Numbers, Receiver, Sender, Watcher,

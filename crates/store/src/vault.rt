@@ -5,10 +5,9 @@ ghost use Rattle.store.specs.Turns.{Reaches};
 ghost use Rattle.store.specs.Vaults.{ReceivesAny};
 
 use crate::checkpointing::Checkpoint;
-use crate::naming::Naming;
-use crate::shared::Shared;
 use calls::Refusal;
 use checkpoint::{Keeper, Turn};
+use clients::{Naming, Shared};
 use disk_model::Disk;
 use group_commit::{Handoff, Incoming, KeeperSeat, Mark, Receiver, Watcher};
 use std::marker::{Model, PhantomData};

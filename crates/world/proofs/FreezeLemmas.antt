@@ -33,7 +33,8 @@ use Rattle.txn.proofs.Handings.{records_by-push, freezes_on, freezes_image}
 use Rattle.checkpoint.specs.ImageAnswers.{BeginAnswers}
 use Rattle.checkpoint.specs.Keepers.{KeeperState}
 use Rattle.checkpoint.specs.Stored.{StandIn}
-use Rattle.checkpoint.specs.Keeping.{BegunImage, IsImageFor, HasReceived, BeginKeeps, LeavesKept}
+use Rattle.checkpoint.specs.Keeping.{BegunImage, IsImageFor, AreImagesFor, HasReceived, BeginKeeps}
+use Rattle.checkpoint.specs.Keeping.{LeavesKept}
 use Rattle.checkpoint.specs.Keeping.{begun_with}
 use Rattle.checkpoint.proofs.StandLemmas.{stands_whole}
 use Rattle.checkpoint.proofs.YieldLemmas.{all_lead}
@@ -45,7 +46,7 @@ use Rattle.repetition.specs.Lagging.{Lags}
 use Rattle.world.specs.declared.steps.Step.{Step}
 use Rattle.world.specs.declared.steps.Answer.{Answer}
 use Rattle.world.specs.Pasts.{BookState, Past, action_of, of_no_client, outcome, alone, told}
-use Rattle.world.specs.Worlds.{AreImagesFor, Parts, HasPast}
+use Rattle.world.specs.Worlds.{Parts, HasPast}
 use Rattle.world.proofs.PastLemmas.{are_push, greatest_told-push}
 use Rattle.world.proofs.StepLemmas.{alone_step, moments_then}
 use Rattle.world.proofs.KeeperSteps.{Yielded}

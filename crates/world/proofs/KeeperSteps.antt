@@ -22,7 +22,8 @@ use Rattle.checkpoint.specs.declared.turn.Turn.{Turn}
 use Rattle.checkpoint.specs.Crash.{Yields}
 use Rattle.checkpoint.specs.ImageAnswers.{PieceAnswers, FlipAnswers}
 use Rattle.checkpoint.specs.Keepers.{KeeperState, IsBrought, TurnAnswers}
-use Rattle.checkpoint.specs.Keeping.{BegunImage, IsApart, Uncrossed, TurnKeeps, ImageKeeps}
+use Rattle.checkpoint.specs.Keeping.{BegunImage, AreImagesFor, IsApart, Uncrossed, TurnKeeps}
+use Rattle.checkpoint.specs.Keeping.{ImageKeeps}
 use Rattle.blocks.proofs.Carrying.{joined-append, carries_parts}
 use Rattle.checkpoint.proofs.GroupLemmas.{apart_append, apart_before, apart_behind}
 use Rattle.checkpoint.proofs.GroupLemmas.{uncrossed_front}
@@ -30,7 +31,7 @@ use Rattle.world.specs.declared.steps.Step.{Step}
 use Rattle.world.specs.declared.steps.Answer.{Answer}
 use Rattle.world.specs.Pasts.{Past, BookState, action_of, committed_in, told, outcome, mark_behind}
 use Rattle.world.specs.Pasts.{mark_flipped}
-use Rattle.world.specs.Worlds.{AreImagesFor, Parts, HasPast}
+use Rattle.world.specs.Worlds.{Parts, HasPast}
 use Rattle.world.proofs.PastLemmas.{are_still, greatest_told-push}
 use Rattle.world.proofs.StepLemmas.{moments_then}
 use Rattle.catalog.specs.Meaning.{catalog_meaning, catalog_making}

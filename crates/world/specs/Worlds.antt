@@ -10,7 +10,7 @@ use Rattle.txn.specs.declared.steps.BookStep.{BookStep}
 use Rattle.txn.specs.Histories.{records_by}
 use Rattle.txn.specs.Handing.{HasHanded}
 use Rattle.checkpoint.specs.Keepers.{KeeperState}
-use Rattle.checkpoint.specs.Keeping.{BegunImage, IsImageFor, HasReceived}
+use Rattle.checkpoint.specs.Keeping.{BegunImage, AreImagesFor, HasReceived}
 use Rattle.world.specs.Pasts.{Past, BookState, AreBookSteps, greatest_told}
 use Rattle.catalog.specs.Meaning.{catalog_meaning, catalog_making}
 
@@ -26,12 +26,6 @@ pub record Parts (D : Type 0) : Type 0 where
 abbrev pub parts_of : {D : Type 0} → BookState → KeeperState D → List Block → ℕ → Parts D
 parts_of book keeper transit mark =
     record { book = book; keeper = keeper; transit = transit; mark = mark }
-
--- These are the images that were begun, each with what it covers.
-abbrev pub AreImagesFor : List Image → List BegunImage → Type 0
-AreImagesFor [] [] = Unit {0}
-AreImagesFor (image ∷ images) (b ∷ begun) = IsImageFor image b × AreImagesFor images begun
-AreImagesFor images begun = ⊥
 
 -- The world is one to which the steps of the past, with their answers, led from the start.
 pub record HasPast {D : Type 0} (seen : D → List ℕ) (may_leave : D → List ℕ → Type 0)

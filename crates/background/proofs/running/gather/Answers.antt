@@ -1,7 +1,7 @@
 use Rattle.std.proofs.Common.{[], ap, ◌∙◌, sym, subst, length, ◌<◌, rules}
 use Rattle.std.proofs.lemmas.Iterator.Adapters.{YieldsList-from_vec}
 use Rattle.std.proofs.lemmas.Iterator.Consumers.{YieldsList-turn, YieldsList-end}
-use Rattle.store.specs.Closing.{seen_of, counts_of}
+use Rattle.clients.specs.Known.{seen_of, counts_of}
 use Rattle.background.specs.Works.{AreParts, IsSaid}
 use Rattle.background.proofs.WorkLemmas.{snocs_same, parts_none, parts_more, said_at}
 use Rattle.background.proofs.running.gather.Goals as goal

@@ -1,5 +1,5 @@
 use Rattle.std.proofs.Common.{◌≡◌, length}
-use Rattle.store.specs.Closing.{seen_of, counts_of}
+use Rattle.clients.specs.Known.{seen_of, counts_of}
 use Rattle.background.specs.Works.{AreParts}
 use Rattle.background.proofs.running.gather.Given as goal
 

@@ -1,5 +1,5 @@
 use Rattle.std.proofs.Common.{◌++◌, ap}
-use Rattle.store.specs.Closing.{seen_of}
+use Rattle.clients.specs.Known.{seen_of}
 use Rattle.background.proofs.running.put_together.Goals as goal
 
 pub returns-in-None-clause-others : goal.returns-in-None-clause-others

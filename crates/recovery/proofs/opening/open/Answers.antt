@@ -1,7 +1,8 @@
 use Rattle.std.proofs.Common.{◌≡◌, [], sym, ap, subst}
 use Rattle.disk_model.specs.Disk.{ReadsOnly}
 use Rattle.checkpoint.specs.Keepers.{KeeperState}
-use Rattle.recovery.specs.Openings.{IsOpened, KeepsContent}
+use Rattle.gate_block.specs.Area.{bytes_of}
+use Rattle.recovery.specs.Openings.{IsOpened, IsReadyStore, KeepsContent}
 use Rattle.recovery.proofs.opening.open.Goals as goal
 
 pub returns-in-Ok-clause-content : goal.returns-in-Ok-clause-content
@@ -33,3 +34,19 @@ returns-in-Ok-clause-opened g c =
     (λ (k : KeeperState g.row.D.Denot). g.D.Disk.is_honest k.disk →
     IsOpened (g.D.Disk.seen c.args.disk) c.in-Ok.book k.area (g.D.Disk.seen k.disk))
     (sym c.new.ensures) c.in-Ok.ensures.opened
+
+pub returns-in-Ok-clause-ready : goal.returns-in-Ok-clause-ready
+returns-in-Ok-clause-ready g c = λ true_read before.
+    let disk = ap (λ (k : KeeperState g.row.D.Denot). k.disk) c.new.ensures in
+    let rests = c.in-Ok.ensures.durable (subst g.D.Disk.is_honest disk true_read) before in
+    subst
+    (λ (k : KeeperState g.row.D.Denot). IsReadyStore g.D.Disk.seen g.D.Disk.may_leave
+    (g.D.Disk.seen c.args.disk) c.in-Ok.book k.area k.disk)
+    (sym c.new.ensures) (record {
+      at_rest = rests;
+      ready = λ o. record {
+        holds = o.row_is;
+        position = o.position;
+        at_rest = λ bytes left. ap (bytes_of c.in-Ok.area) (rests bytes left);
+      };
+    })

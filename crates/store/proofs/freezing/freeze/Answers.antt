@@ -1,5 +1,5 @@
 use Rattle.std.proofs.Common.{subst}
-use Rattle.store.specs.Desks.{IsDesk}
+use Rattle.clients.specs.Desks.{IsDesk}
 use Rattle.store.specs.Freezes.{Froze}
 use Rattle.store.specs.Vaults.{IsVault}
 use Rattle.store.proofs.VaultSteps.{both_freeze}

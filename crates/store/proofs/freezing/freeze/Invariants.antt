@@ -1,5 +1,5 @@
 use Rattle.txn.specs.declared.steps.Action.{Action}
-use Rattle.store.specs.Notes.{alone}
+use Rattle.clients.specs.Notes.{alone}
 use Rattle.store.proofs.freezing.freeze.Given as goal
 
 -- the step that was taken

@@ -1,4 +1,4 @@
-use Rattle.store.specs.Calls.{IsOpen}
+use Rattle.clients.specs.Calls.{IsOpen}
 use Rattle.bench.proofs.committing.SameCallTransaction.make_calls.Given as goal
 
 -- the transaction is open

@@ -1,4 +1,4 @@
-use Rattle.store.proofs.Seeing.{longer_legal}
+use Rattle.clients.proofs.Seeing.{longer_legal}
 use Rattle.store.proofs.store.Store.together.Goals as goal
 
 pub new-requires-clause-legal : goal.new-requires-clause-legal

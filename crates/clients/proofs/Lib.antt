@@ -1,0 +1,5 @@
+pub mod Ends
+pub mod Recording
+pub mod DeskSteps
+pub mod Seeing
+pub mod Phases

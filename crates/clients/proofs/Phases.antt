@@ -1,0 +1,29 @@
+-- Whether a client has a transaction behind its calls.
+use Rattle.std.proofs.Common.{◌≡◌, ℕ, inl, inr, Result, Ok, Err, sym, subst}
+use Rattle.calls.specs.declared.refusal.Refusal.{Refusal}
+use Rattle.txn.specs.declared.steps.Action.{Action}
+use Rattle.clients.specs.declared.naming.Naming.{Ghosts}
+use Rattle.clients.specs.declared.phase.Phase.{Phase}
+use Rattle.clients.specs.Calls.{IsOpen, Does, Enters}
+use Rattle.clients.specs.Known.{Known}
+
+ok_no_err : (n : ℕ) (e : Refusal) → ◌≡◌ {A = Result ℕ Refusal} (Ok n) (Err e) → ⊥
+ok_no_err n e same = cc
+
+module _ {J : Type 0} (j : Ghosts J) where
+  -- behind a call the transaction is open
+  pub does_open : (p : Phase) (old : Known) (own : ℕ → Action → Type 0)
+      (refused : Refusal → Type 0) (new : Known) →
+      Does j p old own refused Phase.Entered new → IsOpen new.phase
+  does_open Phase.Closed old own refused new does = absurd does
+  does_open (Phase.Entered n) old own refused new does = subst IsOpen (sym does.3) tt
+  does_open (Phase.Drawn n) old own refused new does = elim does [
+    | inl done ↦ subst IsOpen (sym done.3) tt
+    | inr none ↦ subst IsOpen (sym none.3) tt
+  ]
+
+  pub enters_open : (p : Phase) (old : Known) (e : Refusal) (new : Known) →
+      Enters j p old (Err e) new → IsOpen new.phase
+  enters_open Phase.Closed old e new enters = absurd enters
+  enters_open (Phase.Entered n) old e new enters = absurd (ok_no_err n e (sym enters.0))
+  enters_open (Phase.Drawn n) old e new enters = subst IsOpen (sym enters.1) tt

@@ -1,0 +1,110 @@
+-- Records that a book has made, and what images stand for, go on with each of its steps.
+use Rattle.std.proofs.Common.{◌≡◌, ℕ, List, [], ◌∷◌, ◌++◌, None, refl, sym, subst}
+use Rattle.std.proofs.Common.{append_assoc}
+use Rattle.std.specs.List.{AllByRecursion}
+use Rattle.std.proofs.lemmas.List.{append-nil}
+use Rattle.boosted.proofs.Each.{weaker, each_append}
+use Rattle.calls.specs.Contents.{Collection}
+use Rattle.record_format.specs.declared.record.Record.{Record}
+use Rattle.record_format.specs.Records.{IsRecord}
+use Rattle.blocks.specs.declared.block.Image.{Image}
+use Rattle.machine.specs.Machines.{resting}
+use Rattle.machine.proofs.Journalled.{GoesUnheard}
+use Rattle.repetition.specs.Steps.{State, Steps, Repeats}
+use Rattle.repetition.proofs.LagLemmas.{lags_self, lags_step, lags_unheard}
+use Rattle.repetition.proofs.Lists.{leads_push, leads_split}
+use Rattle.checkpoint.specs.Keeping.{BegunImage}
+use Rattle.checkpoint.specs.Stored.{StandIn, AreReadTo, GoAlong}
+use Rattle.checkpoint.proofs.StandLemmas.{stands_push, stands_unheard}
+use Rattle.clients.specs.Desks.{AreRecorded}
+
+module _ (start : List Collection) (wear : ℕ) where
+  abbrev Standing : List Record → State → BegunImage → Type 0
+  Standing records now b = StandIn start wear records now b.blocks b.covered
+
+  -- an opened book has made none
+  pub recorded_none : AreRecorded start wear [] (resting start wear) [] []
+  recorded_none = record {
+    good = tt;
+    trail = resting start wear;
+    leads = refl;
+    trails = lags_self (resting start wear);
+    are_begun = tt;
+    stand = tt;
+  }
+
+  module _ (images : List Image) (begun : List BegunImage) where
+    -- one record more
+    recorded_push : (records : List Record) (now : State) (r : Record) (next : State) →
+        IsRecord None r → Steps now r next →
+        AreRecorded start wear records now images begun →
+        AreRecorded start wear (records ++ r ∷ []) next images begun
+    recorded_push records now r next good row is =
+        let trail = lags_step is.trail now is.trails r next row in
+        record {
+          good = each_append (IsRecord None) records (r ∷ []) is.good (good, tt);
+          trail = trail.0;
+          leads = leads_push Steps records r (resting start wear) is.trail trail.0 is.leads trail.1;
+          trails = trail.2;
+          are_begun = is.are_begun;
+          stand = weaker (Standing records now) (Standing (records ++ r ∷ []) next)
+              (λ b old. (stands_push start wear records now b.blocks b.covered r next row old).0)
+              begun is.stand;
+        }
+
+    pub recorded_leads : (records : List Record) (now : State) (rs : List Record) (next : State) →
+        AllByRecursion (IsRecord None) rs → Repeats rs now next →
+        AreRecorded start wear records now images begun →
+        AreRecorded start wear (records ++ rs) next images begun
+    recorded_leads records now [] next good leads is =
+        subst (λ l. AreRecorded start wear l next images begun) (sym (append-nil records))
+        (subst (λ s. AreRecorded start wear records s images begun) leads is)
+    recorded_leads records now (r ∷ rs) next good leads is =
+        subst (λ l. AreRecorded start wear l next images begun) (append_assoc records (r ∷ []) rs)
+        (recorded_leads (records ++ r ∷ []) leads.0 rs next good.1 leads.2
+        (recorded_push records now r leads.0 good.0 leads.1 is))
+
+    -- a step of which no record tells
+    pub recorded_unheard : (records : List Record) (now next : State) → GoesUnheard now next →
+        AreRecorded start wear records now images begun →
+        AreRecorded start wear records next images begun
+    recorded_unheard records now next step is = record {
+      good = is.good;
+      trail = is.trail;
+      leads = is.leads;
+      trails = lags_unheard is.trail now is.trails next step;
+      are_begun = is.are_begun;
+      stand = weaker (Standing records now) (Standing records next)
+          (λ b old. (stands_unheard start wear records now b.blocks b.covered next step old).0)
+          begun is.stand;
+    }
+
+    -- what a store held that was opened stands for the beginning of all records
+    pub opened_stands : (blocks : List (List Record)) (records : List Record) (now : State) →
+        AreReadTo blocks (resting start wear) →
+        AreRecorded start wear records now images begun →
+        (stands : StandIn start wear records now blocks []) × (stands.since ≡ records)
+    opened_stands blocks records now are_read is = (
+      record {
+        since = records;
+        split = refl;
+        there = resting start wear;
+        led = refl;
+        trail = is.trail;
+        leads = is.leads;
+        trails = is.trails;
+        base = resting start wear;
+        are_read = are_read;
+        state = is.trail;
+        repeats = is.leads;
+        lags = is.trails;
+        along = along;
+      },
+      refl,
+    )
+      where
+        along : GoAlong records (resting start wear) (resting start wear)
+        along first rest split =
+            let parts = leads_split Steps first rest (resting start wear) is.trail
+            (subst (λ l. Repeats l (resting start wear) is.trail) split is.leads) in
+            (parts.0, parts.0, parts.1, parts.1, record { now = refl; calls = refl })

@@ -1,0 +1,227 @@
+-- What a client has seen goes on with its steps.
+use Rattle.std.proofs.Common.{◌≡◌, ℕ, ◌+◌, List, [], ◌∷◌, ◌++◌, map, sym, ap, ◌∙◌, subst}
+use Rattle.std.proofs.Common.{append_assoc, ⊎_elim, inl, Bool, true}
+use Rattle.std.proofs.Common.{Result, Ok, Err}
+use Rattle.calls.specs.declared.refusal.Refusal.{Refusal}
+use mathlib.Core.List.{IsPrefix}
+use Rattle.std.proofs.lemmas.List.{append-nil, map-append, replicate-append-replicate}
+use Rattle.std.proofs.lemmas.List.Elements.{Contains-append_right}
+use Rattle.calls.specs.Contents.{Collection}
+use Rattle.txn.specs.declared.steps.Action.{Action}
+use Rattle.txn.specs.declared.steps.BookStep.{BookStep}
+use Rattle.txn.specs.Books.{BookState, standing}
+use Rattle.group_commit.specs.Lines as lines
+use Rattle.group_commit.specs.Lines.{IsLonger, ClientState, mine_of, stepped, seeing, steps_of}
+use Rattle.group_commit.specs.Marks.{WatcherState}
+use Rattle.group_commit.specs.Numbers.{DrawerState}
+use Rattle.group_commit.specs.Orders.{SenderState}
+use Rattle.clients.specs.declared.naming.Naming.{Ghosts}
+use Rattle.clients.specs.Desks.{IsDesk}
+use Rattle.clients.specs.declared.phase.Phase.{Phase}
+use Rattle.clients.specs.Calls.{IsClient, Moves, Acts, Does, Enters, back, backs, Hears, Decides}
+use Rattle.clients.specs.Calls.{Waits}
+use Rattle.clients.specs.Known.{Known, known_of, step_of, IsHistory, IsSeen, Grows, Took, Steps}
+
+ok_same : (m n : ℕ) → ◌≡◌ {A = Result ℕ Refusal} (Ok m) (Ok n) → m ≡ n
+ok_same m n e = cc
+
+module _ {J : Type 0} (j : Ghosts J) where
+  -- a step that stands on the line
+  pub steps_one : (book : BookState (List Collection)) (seat now : lines.BookState)
+      (sender : SenderState) (old new : ClientState) (action : Action) →
+      IsDesk j book now sender → now ≡ stepped seat (step_of old.number action) →
+      new ≡ seeing old now.all → IsPrefix old.seen seat.all →
+      mine_of new ≡ mine_of old ++ step_of old.number action ∷ [] → Steps j old action new
+  steps_one book seat now sender old new action is now_is new_is begins mine =
+      let step = step_of old.number action in
+      let all : new.seen ≡ seat.all ++ step ∷ [] =
+      ap (λ (c : ClientState). c.seen) new_is ∙ ap (λ (b : lines.BookState). b.all) now_is in (
+        new_is ∙ ap (seeing old) (sym (ap (λ (c : ClientState). c.seen) new_is)),
+        record {
+          grows = record {
+            begins = (
+              begins.0 ++ step ∷ [],
+              sym (append_assoc old.seen begins.0 (step ∷ [])) ∙
+                  ap (λ l. l ++ step ∷ []) begins.1 ∙ sym all,
+            );
+            mine =
+                ap (λ n. steps_of n new.seen)
+                (sym (ap (λ (c : ClientState). c.number) new_is)) ∙ mine;
+            legal = (
+              standing book,
+              subst (λ l. IsHistory j l (standing book))
+                  (sym (ap (λ (c : ClientState). c.seen) new_is)) is.handed.legal,
+            );
+          };
+          before = seat.all;
+          ends = all;
+        },
+      )
+
+  -- nothing was seen since
+  pub grows_none : (n : ℕ) (seen : List BookStep) → IsSeen j seen → Grows j n seen [] seen
+  grows_none n seen legal = record {
+    begins = ([], append-nil seen);
+    mine = sym (append-nil (steps_of n seen));
+    legal = legal;
+  }
+
+  grows_then : (n : ℕ) (xs ys zs : List BookStep) (us vs : List Action) →
+      Grows j n xs us ys → Grows j n ys vs zs → Grows j n xs (us ++ vs) zs
+  grows_then n xs ys zs us vs one two = record {
+    begins = (
+      one.begins.0 ++ two.begins.0,
+      sym (append_assoc xs one.begins.0 two.begins.0) ∙ ap (λ l. l ++ two.begins.0) one.begins.1 ∙
+          two.begins.1,
+    );
+    mine = two.mine ∙ ap (λ l. l ++ map (step_of n) vs) one.mine ∙
+        append_assoc (steps_of n xs) (map (step_of n) us) (map (step_of n) vs) ∙
+        ap (λ l. steps_of n xs ++ l) (sym (map-append (step_of n) us vs));
+    legal = two.legal;
+  }
+
+  -- one step more
+  pub took_next : (n : ℕ) (xs ys zs : List BookStep) (firsts : List Action) (last : Action) →
+      Grows j n xs firsts ys → Took j n ys [] last zs → Took j n xs firsts last zs
+  took_next n xs ys zs firsts last grows took = record {
+    grows = grows_then n xs ys zs firsts (last ∷ []) grows took.grows;
+    before = took.before;
+    ends = took.ends;
+  }
+
+  -- ---- what a client knows
+
+  pub moves_then : (a b c : Known) → Moves a b → Moves b c → Moves a c
+  moves_then a b c one two =
+      two ∙ ap (λ (x : Known). record x { seen = c.seen; phase = c.phase }) one
+
+  -- a step of the line is one of the client
+  pub acts_one : (old new : ClientState) (w : WatcherState) (d : DrawerState) (p q : Phase)
+      (action : Action) → Steps j old action new →
+      Acts j (known_of old w d p) [] action (known_of new w d q)
+  acts_one old new w d p q action steps = (
+    ap (λ (c : ClientState). known_of c w d q) steps.0,
+    steps.1,
+  )
+
+  -- and one more
+  pub acts_next : (a b c : Known) (firsts : List Action) (mid last : Action) →
+      Acts j a firsts mid b → Acts j b [] last c → Acts j a (firsts ++ mid ∷ []) last c
+  acts_next a b c firsts mid last one two =
+      let same : b.number ≡ a.number = ap (λ (x : Known). x.number) one.0 in (
+        moves_then a b c one.0 two.0,
+        took_next a.number a.seen b.seen c.seen (firsts ++ mid ∷ []) last one.1.grows
+            (subst (λ n. Took j n b.seen [] last c.seen) same two.1),
+      )
+
+  -- ---- clients that meet
+
+  pub longer_legal : (one other longer : List BookStep) → IsLonger one other longer →
+      IsSeen j one → IsSeen j other → IsSeen j longer
+  longer_legal one other longer is a b =
+      ⊎_elim (λ e. subst (IsSeen j) (sym e) a) (λ e. subst (IsSeen j) (sym e) b) is.either
+
+  pub client_meets : (old new : ClientState) (w : WatcherState) (d e : DrawerState)
+      (seen : List BookStep) → IsClient j old w d → IsSeen j seen → new ≡ seeing old seen →
+      e ≡ d → IsClient j new w e
+  client_meets old new w d e seen is legal new_is same = rw (new_is, same) (record {
+    line_is = is.line_is;
+    mark_is = is.mark_is;
+    numbers_is = is.numbers_is;
+    from = is.from;
+    legal = legal;
+  })
+
+  -- ---- the calls of a client
+
+  -- the number is entered then
+  enters_phase : (p : Phase) (old mid : Known) (n : ℕ) → old.phase ≡ p →
+      Enters j p old (Ok n) mid → mid.phase ≡ Phase.Entered n
+  enters_phase Phase.Closed old mid n at enters = absurd enters
+  enters_phase (Phase.Entered m) old mid n at enters =
+      ap (λ (k : Known). k.phase) enters.1 ∙ at ∙ ap Phase.Entered (sym (ok_same n m enters.0))
+  enters_phase (Phase.Drawn m) old mid n at enters = enters.2 ∙ ap Phase.Entered (sym enters.0)
+
+  does_at : (p : Phase) (old mid new : Known) (n : ℕ) (own : ℕ → Action → Type 0)
+      (refused : Refusal → Type 0) (after : ℕ → Phase) (action : Action) →
+      Enters j p old (Ok n) mid → own n action → Acts j mid [] action new → new.phase ≡ after n →
+      Does j p old own refused after new
+  does_at Phase.Closed old mid new n own refused after action enters its acts behind =
+      absurd enters
+  does_at (Phase.Entered m) old mid new n own refused after action enters its acts behind =
+      let same = ok_same n m enters.0 in (
+        action,
+        subst (λ k. own k action) same its,
+        subst (λ k. Acts j k [] action new) enters.1 acts,
+        behind ∙ ap after same,
+      )
+  does_at (Phase.Drawn m) old mid new n own refused after action enters its acts behind = inl (
+    action,
+    subst (λ k. own k action) enters.0 its,
+    acts_next old mid new [] (Action.Enter m (Ok tt)) action enters.1 acts,
+    behind ∙ ap after enters.0,
+  )
+
+  -- a step behind the entering
+  pub does_next : (p : Phase) (old mid new : Known) (n : ℕ) (own : ℕ → Action → Type 0)
+      (refused : Refusal → Type 0) (after : ℕ → Phase) (action : Action) → old.phase ≡ p →
+      Enters j p old (Ok n) mid → own n action → Acts j mid [] action new →
+      (mid.phase ≡ Phase.Entered n → new.phase ≡ after n) → Does j p old own refused after new
+  does_next p old mid new n own refused after action at enters its acts behind =
+      does_at p old mid new n own refused after action enters its acts
+      (behind (enters_phase p old mid n at enters))
+
+  -- one call more is undone
+  pub undoes_next : (n : ℕ) (a b c : Known) (count : ℕ) → Moves a b →
+      Grows j a.number a.seen (backs n count) b.seen → Acts j b [] (back n (Ok true)) c →
+      Moves a c × Grows j a.number a.seen (backs n (count + 1)) c.seen
+  undoes_next n a b c count moves grows acts =
+      let same : b.number ≡ a.number = ap (λ (x : Known). x.number) moves in
+      let more = took_next a.number a.seen b.seen c.seen (backs n count) (back n (Ok true)) grows
+      (subst (λ m. Took j m b.seen [] (back n (Ok true)) c.seen) same acts.1) in (
+        moves_then a b c moves acts.0,
+        subst (λ l. Grows j a.number a.seen l c.seen)
+            (replicate-append-replicate count 1 (back n (Ok true))) more.grows,
+      )
+
+  pub undoes_last : (n : ℕ) (a b c : Known) (count : ℕ) (last : Action) → Moves a b →
+      Grows j a.number a.seen (backs n count) b.seen → Acts j b [] last c →
+      Acts j a (backs n count) last c
+  undoes_last n a b c count last moves grows acts =
+      let same : b.number ≡ a.number = ap (λ (x : Known). x.number) moves in (
+        moves_then a b c moves acts.0,
+        took_next a.number a.seen b.seen c.seen (backs n count) last grows
+            (subst (λ m. Took j m b.seen [] last c.seen) same acts.1),
+      )
+
+-- ---- waiting
+
+pub hears_none : (a : Known) → Hears a [] [] a
+hears_none a = sym ((λ i. record a {
+  counts = append-nil a.counts i;
+  flags = append-nil a.flags i;
+}))
+
+pub hears_then : (a b c : Known) (xs ys : List ℕ) (us vs : List Bool) → Hears a xs us b →
+    Hears b ys vs c → Hears a (xs ++ ys) (us ++ vs) c
+hears_then a b c xs ys us vs one two =
+    two ∙ ap (λ (k : Known). record k { counts = k.counts ++ ys; flags = k.flags ++ vs }) one ∙
+    (λ i. record a {
+      counts = append_assoc a.counts xs ys i;
+      flags = append_assoc a.flags us vs i;
+    })
+
+decides_more : (place : ℕ) (xs ys : List ℕ) (us vs : List Bool) (r : Result (Unit {0}) Refusal) →
+    Decides place ys vs r → Decides place (xs ++ ys) (us ++ vs) r
+decides_more place xs ys us vs (Ok done) d = (d.0, Contains-append_right xs ys d.0 d.1, d.2)
+decides_more place xs ys us vs (Err Refusal.Lost) d = Contains-append_right us vs true d
+decides_more place xs ys us vs (Err e) d = absurd d
+
+pub waits_then : (a b c : Known) (place : ℕ) (r : Result (Unit {0}) Refusal) (xs : List ℕ)
+    (us : List Bool) → Hears a xs us b → Waits b place r c → Waits a place r c
+waits_then a b c place r xs us hears waits = record {
+  counts = xs ++ waits.counts;
+  flags = us ++ waits.flags;
+  hears = hears_then a b c xs waits.counts us waits.flags hears waits.hears;
+  decides = decides_more place xs waits.counts us waits.flags r waits.decides;
+}

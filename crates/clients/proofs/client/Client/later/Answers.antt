@@ -1,0 +1,32 @@
+use Rattle.std.proofs.Common.{[], refl, ap, ◌∙◌, subst}
+use Rattle.txn.specs.declared.steps.Action.{Action}
+use Rattle.txn.specs.declared.steps.Target.{Target}
+use Rattle.clients.specs.declared.phase.Phase.{Phase}
+use Rattle.clients.specs.Known.{Known, known_of}
+use Rattle.clients.specs.Calls.{Acts}
+use Rattle.clients.proofs.Phases.{does_open, enters_open}
+use Rattle.clients.proofs.Seeing.{acts_one, does_next}
+use Rattle.clients.proofs.client.Client.later.Goals as goal
+
+pub returns-clause-step : goal.returns-clause-step
+returns-clause-step g c =
+    let i = c.self-2.inside in
+    let n = c.in_ok-number.number in
+    let after = known_of c.later.new.me i.watcher i.drawer i.phase in
+    let action = Action.Later n (Target.Named c.args.name.now c.later.ensures.0) c.args.call.now
+    c.later.result in
+    does_next g.J.Naming c.args.self.now.phase c.args.self.now c.enter.new.self after n _ _
+    (λ m. Phase.Entered m) action refl c.in_ok-number.ensures (c.later.ensures.0, refl)
+    (subst (λ m. Acts g.J.Naming m [] action after) c.self-2.view_is
+    (acts_one g.J.Naming i.line c.later.new.me i.watcher i.drawer i.phase i.phase action
+    c.later.ensures.1))
+    (λ entered. ap (λ (k : Known). k.phase) c.self-2.view_is ∙ entered)
+
+pub returns-clause-open : goal.returns-clause-open
+returns-clause-open g c =
+    does_open g.J.Naming c.args.self.now.phase c.args.self.now _ _ _ (returns-clause-step g c)
+
+pub returns-in_err-number-clause-open : goal.returns-in_err-number-clause-open
+returns-in_err-number-clause-open g c =
+    enters_open g.J.Naming c.args.self.now.phase c.args.self.now c.in_err-number.field-0.0
+    c.enter.new.self c.in_err-number.ensures

@@ -1,0 +1,14 @@
+use Rattle.std.proofs.Common.{sym, subst, refl}
+use Rattle.txn.specs.Rows.{opening}
+use Rattle.clients.specs.Known.{IsSeen}
+use Rattle.clients.proofs.client.Client.new.Goals as goal
+
+pub invariant_of-result : goal.invariant_of-result
+invariant_of-result g c = record {
+  line_is = c.requires.line.0;
+  mark_is = c.requires.watcher.0;
+  numbers_is = c.requires.drawer.0;
+  from = c.requires.drawer.1;
+  legal = subst (IsSeen g.J.Naming) (sym c.requires.line.1)
+      (opening g.J.Naming.start g.J.Naming.wear, refl);
+}

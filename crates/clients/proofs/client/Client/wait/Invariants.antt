@@ -1,0 +1,7 @@
+use Rattle.std.proofs.Common.{List, ℕ, Bool}
+use Rattle.clients.specs.Calls.{Hears}
+use Rattle.clients.proofs.client.Client.wait.Given as goal
+
+-- counts and flags were loaded
+abbrev pub invariant-loop : goal.invariant-loop
+invariant-loop g l = (counts : List ℕ) × (flags : List Bool) × Hears l.fn.self counts flags l.self

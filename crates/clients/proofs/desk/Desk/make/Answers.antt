@@ -1,0 +1,28 @@
+use Rattle.std.proofs.Common.{Some}
+use Rattle.txn.specs.declared.steps.Action.{Action}
+use Rattle.clients.specs.Desks.{IsDesk}
+use Rattle.clients.proofs.DeskSteps.{desk_takes}
+use Rattle.clients.proofs.Seeing.{steps_one}
+use Rattle.clients.proofs.desk.Desk.make.Given.{Over}
+use Rattle.clients.proofs.desk.Desk.make.Goals as goal
+
+abbrev action : (g : Over) → goal.After-note g → Action
+action g c = Action.Make c.args.name.now c.args.kind c.make-made.result
+
+keeps : (g : Over) (c : goal.After-note g) →
+    IsDesk g.J.Naming c.make-made.new.self c.note.new.seat c.self.inside.sender
+keeps g c =
+    desk_takes g.J.Naming c.self.inside.book c.self.inside.seat c.self.inside.sender
+    c.self.invariant.0 (Some c.args.me.now.number) (action g c) c.make-made.new.self
+    c.note.new.seat c.make-made.ensures.answer c.upheld.ensures.records
+    c.note.ensures.book
+
+pub invariant_of-self : goal.invariant_of-self
+invariant_of-self g c =
+    (keeps g c, c.self.invariant.1, c.self.invariant.2, c.self.invariant.3)
+
+pub returns : goal.returns
+returns g c =
+    steps_one g.J.Naming c.make-made.new.self c.self.inside.seat c.note.new.seat
+    c.self.inside.sender c.args.me.now c.note.new.me (action g c) (keeps g c) c.note.ensures.book
+    c.note.ensures.client c.note.ensures.seen c.note.ensures.mine

@@ -1,0 +1,144 @@
+-- What each call of a client does to what the client knows.
+use Rattle.std.specs.Prelude.{◌≡◌, ℕ, ◌<◌, ◌≤◌, ◌^◌, ◌⊎◌, Bool, true, false, List, [], ◌∷◌}
+use Rattle.std.specs.Prelude.{◌++◌}
+use Rattle.std.specs.Prelude.{length, replicate, Contains, All, Result, Ok, Err}
+use Rattle.calls.specs.declared.refusal.Refusal.{Refusal}
+use Rattle.txn.specs.declared.steps.Action.{Action}
+use Rattle.group_commit.specs.Lines.{ClientState}
+use Rattle.group_commit.specs.Marks.{WatcherState}
+use Rattle.group_commit.specs.Numbers.{DrawerState}
+use Rattle.clients.specs.declared.naming.Naming.{Ghosts}
+use Rattle.clients.specs.declared.phase.Phase.{Phase}
+use Rattle.clients.specs.declared.ticket.Ticket.{Ticket}
+use Rattle.clients.specs.Known.{Known, IsSeen, Took}
+
+-- the client has a transaction
+abbrev pub IsOpen : Phase → Type 0
+IsOpen Phase.Closed = ⊥
+IsOpen phase = Unit {0}
+
+-- it has none where the end of the one that it had was accepted, and else it still has it
+abbrev pub IsEnded : {T : Type 0} → Result T Refusal → Phase → Type 0
+IsEnded (Ok done) phase = phase ≡ Phase.Closed
+IsEnded (Err e) phase = IsOpen phase
+
+-- its seats are of the store, and what it has seen is legal
+pub record IsClient {J : Type 0} (j : Ghosts J) (line : ClientState) (watcher : WatcherState)
+    (drawer : DrawerState) : Type 0 where
+  pub line_is : line.table ≡ j.line
+  pub mark_is : watcher.table ≡ j.mark
+  pub numbers_is : drawer.table ≡ j.numbers
+  pub from : drawer.from ≡ j.next
+  pub legal : IsSeen j line.seen
+
+-- ---- numbers
+
+-- A number was drawn, which is not below the opened book's next one, and which the client did not
+-- draw before.
+pub record Draws (next : ℕ) (old : Known) (n : ℕ) (new : Known) : Type 0 where
+  pub from : next ≤ n
+  pub few : length old.drawn < 2 ^ 40
+  pub fresh : Contains old.drawn n → ⊥
+  pub new_is : new ≡ record old { drawn = old.drawn ++ n ∷ []; phase = new.phase }
+
+-- The client had drawn 2 to the 40 numbers, or it drew one of 2 to the 61 and more.
+abbrev pub IsWorn : ℕ → Known → Known → Type 0
+IsWorn next old new =
+    ((length old.drawn ≡ 2 ^ 40) × (new ≡ old))
+    ⊎ ((n : ℕ) × (2 ^ 61 ≤ n) × Draws next old n new × (new.phase ≡ old.phase))
+
+-- ---- steps
+
+-- what the client has seen, and its transaction, changed alone
+abbrev pub Moves : Known → Known → Type 0
+Moves old new = new ≡ record old { seen = new.seen; phase = new.phase }
+
+module _ {J : Type 0} (j : Ghosts J) where
+  -- The client took these steps of its own, the last one last.
+  abbrev pub Acts : Known → List Action → Action → Known → Type 0
+  Acts old firsts last new = Moves old new × Took j old.number old.seen firsts last new.seen
+
+  -- The client's open transaction did this. A number that was drawn is entered first, and a refusal
+  -- of that stands in place of the step. own: the step of a number. refused: the call's refusal.
+  -- after: the transaction then.
+  abbrev pub Does : Phase → Known → (own : ℕ → Action → Type 0) → (refused : Refusal → Type 0) →
+      (after : ℕ → Phase) → Known → Type 0
+  Does Phase.Closed old own refused after new = ⊥
+  Does (Phase.Entered n) old own refused after new =
+      (action : Action) × own n action × Acts old [] action new × (new.phase ≡ after n)
+  Does (Phase.Drawn n) old own refused after new =
+      ((action : Action) × own n action × Acts old (Action.Enter n (Ok tt) ∷ []) action new ×
+      (new.phase ≡ after n))
+      ⊎ ((e : Refusal) × refused e × Acts old [] (Action.Enter n (Err e)) new ×
+      (new.phase ≡ Phase.Drawn n))
+
+  -- The number of an open transaction is entered: it was, or it is now, or that is refused.
+  abbrev pub Enters : Phase → Known → Result ℕ Refusal → Known → Type 0
+  Enters Phase.Closed old r new = ⊥
+  Enters (Phase.Entered n) old r new = (r ≡ Ok n) × (new ≡ old)
+  Enters (Phase.Drawn n) old (Ok m) new =
+      (m ≡ n) × Acts old [] (Action.Enter n (Ok tt)) new × (new.phase ≡ Phase.Entered n)
+  Enters (Phase.Drawn n) old (Err e) new =
+      Acts old [] (Action.Enter n (Err e)) new × (new.phase ≡ Phase.Drawn n)
+
+-- where a transaction is after a step that ends it where it is accepted
+abbrev pub ended_by : {T : Type 0} → Result T Refusal → ℕ → Phase
+ended_by (Ok done) n = Phase.Closed
+ended_by (Err e) n = Phase.Entered n
+
+-- what the book answered where a ticket is given
+abbrev pub placed : Result Ticket Refusal → Result ℕ Refusal
+placed (Ok ticket) = Ok ticket.place
+placed (Err e) = Err e
+
+-- ---- aborting
+
+abbrev pub back : ℕ → Result Bool Refusal → Action
+back n r = Action.Back n r
+
+-- so many calls were undone
+abbrev pub backs : ℕ → ℕ → List Action
+backs n count = replicate count (back n (Ok true))
+
+module _ {J : Type 0} (j : Ghosts J) where
+  -- Calls are undone until none is left, or one is refused.
+  abbrev pub Undoes : ℕ → Known → Result (Unit {0}) Refusal → Known → Type 0
+  Undoes n old (Ok done) new = (count : ℕ) × Acts j old (backs n count) (back n (Ok false)) new
+  Undoes n old (Err e) new = (count : ℕ) × Acts j old (backs n count) (back n (Err e)) new
+
+  -- An open transaction is aborted. One that was not entered takes no step.
+  abbrev pub Aborts : Phase → Known → Result (Unit {0}) Refusal → Known → Type 0
+  Aborts Phase.Closed old r new = ⊥
+  Aborts (Phase.Drawn n) old r new = (r ≡ Ok tt) × (new ≡ record old { phase = Phase.Closed })
+  Aborts (Phase.Entered n) old r new =
+      (new.phase ≡ ended_by r n) × ((count : ℕ) ×
+      (Acts j old (backs n count ++ back n (Ok false) ∷ []) (Action.Ended n r) new
+      ⊎ ((e : Refusal) × (r ≡ Err e) × Acts j old (backs n count) (back n (Err e)) new)))
+
+-- ---- the mark
+
+-- these counts and flags were loaded, and nothing else changed
+abbrev pub Hears : Known → List ℕ → List Bool → Known → Type 0
+Hears old counts flags new = new ≡ record old {
+  counts = old.counts ++ counts;
+  flags = old.flags ++ flags;
+}
+
+-- One count was loaded, which is at least each one before.
+pub record Loads (old : Known) (count : ℕ) (new : Known) : Type 0 where
+  pub rises : All (λ (x : ℕ). x ≤ count) old.counts
+  pub hears : Hears old (count ∷ []) [] new
+
+-- why a wait ends: one of the counts reached the place, or one of the flags was set
+abbrev pub Decides : ℕ → List ℕ → List Bool → Result (Unit {0}) Refusal → Type 0
+Decides place counts flags (Ok done) = (count : ℕ) × Contains counts count × (place ≤ count)
+Decides place counts flags (Err Refusal.Lost) = Contains flags true
+Decides place counts flags (Err e) = ⊥
+
+-- Counts and flags were loaded until one decided.
+pub record Waits (old : Known) (place : ℕ) (r : Result (Unit {0}) Refusal) (new : Known) :
+    Type 0 where
+  pub counts : List ℕ
+  pub flags : List Bool
+  pub hears : Hears old counts flags new
+  pub decides : Decides place counts flags r

@@ -1,0 +1,5 @@
+pub mod Calls
+pub mod Desks
+pub mod Known
+pub mod NoStore
+pub mod Notes

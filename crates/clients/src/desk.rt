@@ -1,0 +1,366 @@
+// What lies under the book's lock.
+ghost use Rattle.std.specs.Prelude.{◌≡◌, ℕ, [], ◌∷◌, ◌++◌, Option, Some, None, IfOk, IfErr};
+ghost use Rattle.std.specs.Prelude.{IsOkUnless};
+ghost use Rattle.calls.specs.Names.{IsName};
+ghost use Rattle.calls.specs.declared.refusal.Refusal.{Refusal};
+ghost use Rattle.catalog.specs.Making.{IsPlaceOf, FindRefused, names_of};
+ghost use Rattle.catalog.specs.Meaning.{catalog_meaning, catalog_making};
+ghost use Rattle.txn.specs.declared.steps.Action.{Action};
+ghost use Rattle.txn.specs.declared.steps.Target.{Target};
+ghost use Rattle.txn.specs.Books.{opened, Takes, CutAnswers};
+ghost use Rattle.group_commit.specs.Lines.{mine_of, stepped, seeing};
+ghost use Rattle.group_commit.specs.Marks.{new_watcher};
+ghost use Rattle.group_commit.specs.Orders.{WasFull};
+ghost use mathlib.Core.List.{IsPrefix};
+ghost use Rattle.clients.specs.Desks.{IsDesk};
+ghost use Rattle.clients.specs.Known.{Steps};
+ghost use Rattle.clients.specs.Notes.{found_of, IsSent};
+
+use crate::naming::Naming;
+use crate::shared::Shared;
+use calls::{Call, Kind, Refusal, Reply};
+use catalog::Catalog;
+use group_commit::{
+    BookSeat, ClientSeat, Drawer, DrawerMaker, Handoff, Line, OneStep, Outgoing, Sender, Watcher,
+};
+use std::marker::{Brand, Model, PhantomData};
+use std::snapshot::Snapshot;
+use std::sync::Wait;
+use txn::Book;
+
+/// The book, with the seats of its history, of the hand-off's sending end, and of what makes
+/// clients. What lies under a lock is known by its type: contracts see nothing else of it.
+pub struct Desk<J: Naming> {
+    pub book: Book<Catalog>,
+    pub seat: BookSeat,
+    pub sender: Sender,
+    maker: DrawerMaker,
+    watcher: Watcher,
+    of: PhantomData<J>,
+}
+
+// Written out, so that the crates above call it in place of proving it again.
+impl<J: Naming> Drop for Desk<J> {
+    fn drop(self) {
+        let Self {
+            book,
+            seat,
+            sender,
+            maker,
+            watcher,
+            of: _of,
+        } = self;
+        drop(book);
+        drop(seat);
+        drop(sender);
+        drop(maker);
+        drop(watcher);
+    }
+}
+
+impl<J: Naming> Model for Desk<J> {
+    ghost use Rattle.std.specs.Prelude.{◌≡◌};
+    ghost use Rattle.clients.specs.Desks.{IsDesk};
+
+    ghost Value = { Unit {0} };
+
+    ghost view = { λ d. tt };
+
+    ghost invariant = { λ d. IsDesk ⟦<J as Naming>⟧ d.book d.seat d.sender
+        × (d.maker.table ≡ J.numbers) × (d.maker.from ≡ J.next) × (d.watcher.table ≡ J.mark) };
+}
+
+impl<J: Naming> Desk<J> {
+    /// The desk of a book that was just opened.
+    pub fn new(
+        book: Book<Catalog>,
+        seat: BookSeat,
+        sender: Sender,
+        maker: DrawerMaker,
+        watcher: Watcher,
+    ) -> Self
+        requires book { book ≡ opened J.start J.next J.wear }
+        requires seat { seat ≡ record { table = J.line; all = []; clients = 0 } }
+        requires sender { sender ≡ record { table = J.handoff; sent = []; noted = [] } }
+        requires maker { maker ≡ record { table = J.numbers; from = J.next; made = 0 } }
+        requires watcher { watcher.table ≡ J.mark }
+    {
+        Self {
+            book,
+            seat,
+            sender,
+            maker,
+            watcher,
+            of: PhantomData,
+        }
+    }
+
+    /// Makes a collection.
+    pub(crate) fn make(
+        &mut self,
+        shared: &Shared<J>,
+        me: &mut ClientSeat,
+        name: &str,
+        kind: Kind,
+    ) -> Result<u64, Refusal>
+        requires { me.old.table ≡ J.line }
+        ensures { Steps ⟦<J as Naming>⟧ me.old (Action.Make name.now kind result) me.new }
+    {
+        let made = self.book.make(name, kind);
+        self.book.upheld();
+        note::<Brand, _>(&shared.line, &mut self.seat, me, &(name, kind, &made));
+        made
+    }
+
+    /// Makes a number live.
+    pub(crate) fn enter(
+        &mut self,
+        shared: &Shared<J>,
+        me: &mut ClientSeat,
+        number: u64,
+    ) -> Result<(), Refusal>
+        requires { me.old.table ≡ J.line }
+        ensures { Steps ⟦<J as Naming>⟧ me.old (Action.Enter number result) me.new }
+    {
+        let entered = self.book.enter(number);
+        self.book.upheld();
+        note::<Brand, _>(&shared.line, &mut self.seat, me, &(number, &entered));
+        entered
+    }
+
+    /// A call on the collection of a name.
+    pub(crate) fn call(
+        &mut self,
+        shared: &Shared<J>,
+        me: &mut ClientSeat,
+        number: u64,
+        name: &str,
+        call: &Call,
+    ) -> Result<Reply, Refusal>
+        requires { me.old.table ≡ J.line }
+        ensures { (found : Option ℕ) × Steps ⟦<J as Naming>⟧ me.old
+            (Action.Call number (Target.Named name.now found) call.now result) me.new }
+    {
+        let found = self.book.find(name);
+        let replied = call_found(&mut self.book, number, name, &found, call);
+        self.book.upheld();
+        note::<Brand, _>(
+            &shared.line,
+            &mut self.seat,
+            me,
+            &(number, name, &found, call, &replied),
+        );
+        replied
+    }
+
+    /// A call on the collection of a name, put off to the commit.
+    pub(crate) fn later(
+        &mut self,
+        shared: &Shared<J>,
+        me: &mut ClientSeat,
+        number: u64,
+        name: &str,
+        call: &Call,
+    ) -> Result<(), Refusal>
+        requires { me.old.table ≡ J.line }
+        ensures { (found : Option ℕ) × Steps ⟦<J as Naming>⟧ me.old
+            (Action.Later number (Target.Named name.now found) call.now result) me.new }
+    {
+        let found = self.book.find(name);
+        let put_off = later_found(&mut self.book, number, name, &found, call);
+        self.book.upheld();
+        note::<Brand, _>(
+            &shared.line,
+            &mut self.seat,
+            me,
+            &(number, name, &found, call, &put_off),
+        );
+        put_off
+    }
+
+    /// Commits a transaction.
+    pub(crate) fn commit(
+        &mut self,
+        shared: &Shared<J>,
+        me: &mut ClientSeat,
+        number: u64,
+    ) -> Result<u64, Refusal>
+        requires { me.old.table ≡ J.line }
+        ensures { Steps ⟦<J as Naming>⟧ me.old (Action.Commit number result) me.new }
+    {
+        let committed = self.book.commit(number);
+        self.book.upheld();
+        note::<Brand, _>(&shared.line, &mut self.seat, me, &(number, &committed));
+        committed
+    }
+
+    /// Undoes the newest call of a transaction.
+    pub(crate) fn back(
+        &mut self,
+        shared: &Shared<J>,
+        me: &mut ClientSeat,
+        number: u64,
+    ) -> Result<bool, Refusal>
+        requires { me.old.table ≡ J.line }
+        ensures { Steps ⟦<J as Naming>⟧ me.old (Action.Back number result) me.new }
+    {
+        let undone = self.book.back(number);
+        self.book.upheld();
+        note::<Brand, _>(&shared.line, &mut self.seat, me, &(number, &undone));
+        undone
+    }
+
+    /// Ends a transaction whose calls are all undone.
+    pub(crate) fn ended(
+        &mut self,
+        shared: &Shared<J>,
+        me: &mut ClientSeat,
+        number: u64,
+    ) -> Result<(), Refusal>
+        requires { me.old.table ≡ J.line }
+        ensures { Steps ⟦<J as Naming>⟧ me.old (Action.Ended number result) me.new }
+    {
+        let ended = self.book.ended(number);
+        self.book.upheld();
+        note::<Brand, _>(&shared.line, &mut self.seat, me, &(number, &ended));
+        ended
+    }
+
+    /// Hands a block over, a step of no client. NotNow, only where four were in transit.
+    pub fn cut<R: Wait>(&mut self, rt: &R, shared: &Shared<J>) -> Result<bool, Refusal>
+        ensures { IsOkUnless result Refusal.NotNow }
+    {
+        let before = Snapshot::of(&self.book);
+        let cut = cut_into(rt, &shared.handoff, &mut self.book, &mut self.sender);
+        note_alone::<Brand, _>(&shared.line, &mut self.seat, &(&before, &self.book, &cut));
+        cut
+    }
+
+    /// The seats of a new client.
+    ///
+    /// Worn where 65,536 were made.
+    pub fn client(&mut self, shared: &Shared<J>) -> Result<(ClientSeat, Watcher, Drawer), Refusal>
+        ensures line { IfOk result (λ r. (r.0.table ≡ J.line) × (r.0.seen ≡ [])) }
+        ensures watcher { IfOk result (λ r. r.1 ≡ new_watcher J.mark) }
+        ensures drawer { IfOk result (λ r. (r.2.table ≡ J.numbers) × (r.2.from ≡ J.next) ×
+            (r.2.drawn ≡ [])) }
+        ensures worn { IsOkUnless result Refusal.Worn }
+    {
+        let drawer = shared.numbers.drawer(&mut self.maker)?;
+        let line = shared.line.client(&mut self.seat);
+        let watcher = shared.mark.watcher(&mut self.watcher);
+        Ok((line, watcher, drawer))
+    }
+
+    /// The book, with its seat and the sending end, where no thread shares the desk any more. It
+    /// takes no memory.
+    pub fn into_parts(self) -> (Book<Catalog>, BookSeat, Sender)
+        ensures { IsDesk ⟦<J as Naming>⟧ result.0 result.1 result.2 }
+    {
+        let Self {
+            book,
+            seat,
+            sender,
+            maker,
+            watcher,
+            of: _of,
+        } = self;
+        drop(maker);
+        drop(watcher);
+        (book, seat, sender)
+    }
+
+    /// A new watcher of the mark.
+    pub fn watcher(&mut self, shared: &Shared<J>) -> Watcher
+        ensures { result ≡ new_watcher J.mark }
+    {
+        shared.mark.watcher(&mut self.watcher)
+    }
+}
+
+/// The step that W names stands at the end of the history, a step of no client. Its parts are there
+/// for who picks W.
+pub fn note_alone<W: OneStep, T>(line: &Line, seat: &mut BookSeat, parts: &T)
+    requires book { seat.old.table ≡ line.now }
+    requires step { W.step.client ≡ None }
+    ensures book { seat.new ≡ stepped seat.old W.step }
+{
+    let _ = parts;
+    line.tally_alone::<W>(seat);
+}
+
+// Hands a block of the book over at the sending end.
+fn cut_into<R: Wait>(
+    rt: &R,
+    handoff: &Handoff,
+    book: &mut Book<Catalog>,
+    sender: &mut Sender,
+) -> Result<bool, Refusal>
+    requires { sender.old.table ≡ handoff.now }
+    ensures { CutAnswers book.old (λ bs. IsSent sender.old bs sender.new)
+        (WasFull sender.old.sent) result book.new }
+{
+    let mut out = Outgoing {
+        rt,
+        handoff,
+        sender,
+    };
+    book.cut(&mut out)
+}
+
+// A call that is put off, on the collection that was found under the name, or the refusal that none
+// was.
+fn later_found(
+    book: &mut Book<Catalog>,
+    number: u64,
+    name: &str,
+    found: &Result<u8, Refusal>,
+    call: &Call,
+) -> Result<(), Refusal>
+    requires ok { IfOk found.now (λ at. IsName name.now ×
+        IsPlaceOf (names_of book.old.state.now) name.now at) }
+    requires err { IfErr found.now (FindRefused (names_of book.old.state.now) name.now) }
+    ensures { Takes catalog_meaning catalog_making book.old
+        (Action.Later number (Target.Named name.now (found_of found.now)) call.now result)
+        book.new }
+{
+    match found {
+        Ok(at) => book.later(number, *at, call),
+        Err(refusal) => Err(*refusal),
+    }
+}
+
+// The step that W names stands at the end of the history. Its parts are there for who picks W.
+fn note<W: OneStep, T>(line: &Line, seat: &mut BookSeat, me: &mut ClientSeat, parts: &T)
+    requires book { seat.old.table ≡ line.now }
+    requires client { me.old.table ≡ line.now }
+    requires step { W.step.client ≡ Some me.old.number }
+    ensures book { seat.new ≡ stepped seat.old W.step }
+    ensures client { me.new ≡ seeing me.old seat.new.all }
+    ensures seen { IsPrefix me.old.seen seat.old.all }
+    ensures mine { mine_of me.new ≡ mine_of me.old ++ W.step ∷ [] }
+{
+    let _ = parts;
+    line.tally::<W>(seat, me);
+}
+
+// A call on the collection that was found under the name, or the refusal that none was.
+fn call_found(
+    book: &mut Book<Catalog>,
+    number: u64,
+    name: &str,
+    found: &Result<u8, Refusal>,
+    call: &Call,
+) -> Result<Reply, Refusal>
+    requires ok { IfOk found.now (λ at. IsName name.now ×
+        IsPlaceOf (names_of book.old.state.now) name.now at) }
+    requires err { IfErr found.now (FindRefused (names_of book.old.state.now) name.now) }
+    ensures { Takes catalog_meaning catalog_making book.old
+        (Action.Call number (Target.Named name.now (found_of found.now)) call.now result)
+        book.new }
+{
+    match found {
+        Ok(at) => book.call(number, *at, call),
+        Err(refusal) => Err(*refusal),
+    }
+}

@@ -1,0 +1,52 @@
+// Which store it is.
+use std::marker::Brand;
+
+/// Which store it is. What lies under a lock is known by its type alone, so the type of a store
+/// names it. A program picks the name once, for a store that was just opened: it passes `Brand` to
+/// a function that is generic in it. The crate's page shows how. No value of it is made.
+pub trait Naming {
+    ghost use Rattle.std.specs.Prelude.{ℕ, List};
+    ghost use Rattle.calls.specs.Contents.{Collection};
+    ghost use Rattle.atomic_table.specs.Seated.{TableId};
+
+    /// The tables of the line, of the mark, of the numbers and of the hand-off.
+    ghost line: { TableId };
+
+    ghost mark: { TableId };
+
+    ghost numbers: { TableId };
+
+    ghost handoff: { TableId };
+
+    /// What the opened book held, its wear and its next number.
+    ghost start: { List Collection };
+
+    ghost wear: { ℕ };
+
+    ghost next: { ℕ };
+
+    /// What is taken for granted of the disk at the opening: the clauses on what a stop leaves
+    /// stand under it.
+    ghost sound: { Type 0 };
+}
+
+impl Naming for Brand {
+    ghost use Rattle.std.specs.Prelude.{[]};
+    ghost use Rattle.clients.specs.NoStore.{no_table};
+
+    ghost line = { no_table };
+
+    ghost mark = { no_table };
+
+    ghost numbers = { no_table };
+
+    ghost handoff = { no_table };
+
+    ghost start = { [] };
+
+    ghost wear = { 0 };
+
+    ghost next = { 0 };
+
+    ghost sound = { ⊥ };
+}
