@@ -1,5 +1,5 @@
 #!/usr/bin/env python3
-"""refusals.py [SEED..]: refuses each allocation of a script through the store that threads share, and looks at what that changes.
+"""refusals.py [SCRIPT..]: refuses each allocation of a script through the store that threads share, and looks at what that changes.
 
 The program is `cases`, proved and built (`rt run` in crates/cases builds it), with the question `play_shared`. A small library of
 C, which is compiled here and loaded before the program, counts the allocations from the opening of the store to the end of the
@@ -10,20 +10,47 @@ script. At each of them a child of the program goes on without that memory, in t
 - rest: this allocation and all behind it are refused, up to the end of the script. All answers before the first NoMemory must be
   the ordinary ones. Opened with ample memory, the store must show a beginning that holds what was told as kept.
 
-The scripts are those of the sweeps, and the generated stories of the seeds (5, 6 and 8 where none is given); each is run on an
-empty store, and then the store that it left is opened and a counter made. It prints how many runs there were.
+Six short scripts are played, or those that are named: one for each kind, and one over two checkpoints. Behind each of its lines a
+script reads each collection back, in the same session. So a call that was refused and has changed something all the same shows
+there, also where the call that is run once more answers as ever and nothing of it is on the disk. Each script is run on an empty
+store, and then the store that it left is opened and read. What a run with ample memory answers on the empty store is compared
+with the model of tools/stories.py. Four runs go side by side. It prints how many allocations were refused.
 """
 import os
 import re
 import subprocess
 import sys
 import tempfile
+from concurrent.futures import ThreadPoolExecutor
 
 import stories
 
 TOP = os.path.dirname(os.path.dirname(os.path.realpath(__file__)))
 CASES = os.path.join(TOP, "crates/cases/out/cases")
 REFUSED = re.compile(r"(\d+): refused 4 NoMemory")
+
+# How each collection is read, by its name. A queue tells its least item alone, and a pool what it refuses to release.
+READS = {
+    "s": [f"call s contains {key}" for key in (1, 2, 3)],
+    "m": ["call m get 1", "call m get 2", "call m ceiling 0"],
+    "q": ["call q least"],
+    "n": ["call n read"],
+    "p": [f"call p release {key}" for key in (7, 8)],
+}
+
+# What is done on collections, by their names. What a queue and a pool do not tell is taken out at the end.
+DONE = {
+    "set": ("s", ["call s add 1", "call s add 2", "call s remove 1", "commit", "call s remove 2", "call s add 3", "abort", "turn"]),
+    "map": ("m", ["call m put 1 0a", "call m put 2 -", "call m put 1 0b0c", "call m remove 2", "commit", "call m remove 1",
+                  "call m put 2 0d", "abort", "turn"]),
+    "queue": ("q", ["call q add 5 1", "call q add 3 2", "call q take", "call q add 4 3", "commit", "call q take", "call q add 1 4",
+                    "abort", "turn", "call q take", "call q take", "call q take", "commit"]),
+    "counter": ("n", ["call n bump 5", "later n bump 70", "commit", "call n bump -200", "later n bump 3000", "abort", "turn"]),
+    "pool": ("p", ["call p draw", "call p draw", "call p release 0", "commit", "call p draw", "abort", "turn", "call p draw",
+                   "call p draw", "call p draw", "commit"]),
+    "checkpoints": ("smqnp", ["call s add 1", "call m put 1 0a", "call q add 5 1", "checkpoint", "call n bump 5", "call p draw",
+                              "later n bump 70", "commit", "turn", "checkpoint", "kept", "call s remove 1", "call q take", "abort"]),
+}
 LIBRARY = r"""
 #define _GNU_SOURCE
 #include <fcntl.h>
@@ -45,6 +72,8 @@ static long count;
 static void become_child(void) {
     char name[32];
     is_child = 1;
+    /* one that waits for ever is ended */
+    alarm(60);
     is_refusing = getenv("REFUSE_REST") != NULL;
     snprintf(name, sizeof name, "refused.%ld", count);
     int file = open(name, O_WRONLY | O_CREAT | O_TRUNC, 0600);
@@ -64,8 +93,10 @@ static int is_refused(void) {
         become_child();
         return 1;
     }
-    if (child < 0 || waitpid(child, &status, 0) < 0 || WIFSIGNALED(status))
+    if (child < 0 || waitpid(child, &status, 0) < 0 || WIFSIGNALED(status)) {
+        fprintf(stderr, "the child of allocation %ld was ended\n", count);
         _exit(99);
+    }
     return 0;
 }
 
@@ -96,11 +127,25 @@ def compiled(folder):
     return library
 
 
+def read_back(names):
+    return [f"c1 {read}" for name in names for read in READS[name]]
+
+
+def script_of(names, done):
+    """A script that makes collections and does this, and reads all of them behind each line, in a transaction that is begun again
+    once it has ended."""
+    lines = [f"c1 make {stories.KINDS[name]} {name}" for name in names] + ["c1 begin"]
+    for line in done:
+        lines.append(line if line in ("turn", "checkpoint") else f"c1 {line}")
+        lines += ["c1 begin"] if line in ("commit", "abort") else []
+        lines += read_back(names)
+    return lines + ["turn"]
+
+
 def asked(setup, script):
     """The case: a setup, and a script, allocations of which are refused."""
-    scripted = [line if line.startswith("repeat ") else f"| {line}" for line in script]
-    before = [line if line.startswith("repeat ") else f"| {line}" for line in setup]
-    return ["@ refusals", *before, "play_shared", *scripted, "play_shared", "show", "read 0 520", "read 4096 65536", "read 69632 65536"]
+    before, scripted = ([f"| {line}" for line in lines] for lines in (setup, script))
+    return ["@ refusals", *before, "play_shared", *scripted, "play_shared", "show", "read 0 520", "read 4096 8192", "read 69632 8192"]
 
 
 def run(library, setup, script, is_rest):
@@ -176,43 +221,55 @@ def check_rest(ordinary, contents, child):
         raise Unlike(child)
 
 
-def sweep(library, setup, script, contents):
-    """Refuses each allocation in both ways. The contents are what is shown after each place. Counts the allocations, those of
-    the program itself, and the lines that were refused."""
-    counts = [0, 0, 0]
-    for is_rest in (False, True):
-        ordinary, children = run(library, setup, script, is_rest)
-        for number, child in enumerate(children, 1):
-            counts[0] += 1
-            counts[1] += is_of_the_program(child)
-            counts[2] += len(REFUSED.findall(child))
-            if is_of_the_program(child):
-                continue
+class Sweep:
+    """A script behind a setup, each of whose allocations is refused in one of the two ways. The answers are those of the model, where
+    it tells them, and the contents what is shown after each place."""
+
+    def __init__(self, name, setup, script, answers, contents):
+        self.name, self.setup, self.script, self.answers, self.contents = name, setup, script, answers, contents
+
+    def check(self, ordinary, child, is_rest):
+        if is_rest:
+            check_rest(ordinary, self.contents, child)
+        else:
+            check_one(ordinary, self.contents[0], child)
+
+    def counts(self, library, is_rest):
+        """Counts the allocations that were refused, those of the program itself, and the lines that were refused."""
+        ordinary, children = run(library, self.setup, self.script, is_rest)
+        if self.answers and parts(ordinary)[:2] != ("= 0", self.answers):
+            raise Unlike(f"{self.name}: with ample memory:\n{ordinary}")
+        own = [is_of_the_program(child) for child in children]
+        for number, (child, is_own) in enumerate(zip(children, own), 1):
             try:
-                check_rest(ordinary, contents, child) if is_rest else check_one(ordinary, contents[0], child)
+                None if is_own else self.check(ordinary, child, is_rest)
             except Unlike as unlike:
                 way = "rest" if is_rest else "one"
-                raise SystemExit(f"refusals: allocation {number} of {len(children)}, {way}:\n{unlike}") from None
-    return counts
+                raise Unlike(f"{self.name}: allocation {number} of {len(children)}, {way}:\n{unlike}") from None
+        return len(children), sum(own), sum(len(REFUSED.findall(child)) for child in children)
 
 
-def shown_by(library, setup):
-    """What a store that a setup left shows."""
-    return content(parts(run(library, setup, [], False)[0])[2])
+def sweeps_of(name):
+    """The script of this name on an empty store, and the store that it left, which is opened and read."""
+    names, done = DONE[name]
+    script = script_of(names, done)
+    store, answers = stories.played(stories.EMPTY, script)
+    left = store.shown[-1]
+    again = ["c9 make counter y", "turn", "c1 begin", *read_back(names)]
+    contents = [left, left + "counter y\n  0\n"]
+    return [Sweep(name, [], script, answers, store.shown), Sweep(f"{name}, opened", script, again, None, contents)]
 
 
 def main():
-    seeds = [int(word) for word in sys.argv[1:]] or [5, 6, 8]
-    scripts = {**stories.SWEPT, **{f"story {seed}": stories.story(seed, 40) for seed in seeds}}
-    with tempfile.TemporaryDirectory() as folder:
+    names = sys.argv[1:] or list(DONE)
+    with tempfile.TemporaryDirectory() as folder, ThreadPoolExecutor(4) as pool:
         library = compiled(folder)
-        for name, script in scripts.items():
-            store, _ = stories.played(stories.EMPTY, stories.expanded(script))
-            first = sweep(library, [], script, store.shown)
-            left = shown_by(library, script)
-            second = sweep(library, script, ["c9 make counter y", "turn"], [left, left + "counter y\n  0\n"])
-            met, own, refused = map(sum, zip(first, second))
-            print(f"{name}: {met} allocations refused, {own} of them the program's own, {refused} lines answered NoMemory", flush=True)
+        sweeps = [sweep for name in names for sweep in sweeps_of(name)]
+        runs = [(sweep, [pool.submit(sweep.counts, library, is_rest) for is_rest in (False, True)]) for sweep in sweeps]
+        for sweep, (one, rest) in runs:
+            met, own, refused = map(sum, zip(one.result(), rest.result()))
+            counted = f"{met} allocations refused, {own} of them the program's own, {refused} lines answered NoMemory"
+            print(f"{sweep.name}: {counted}", flush=True)
 
 
 if __name__ == "__main__":

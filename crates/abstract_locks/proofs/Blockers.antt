@@ -13,7 +13,7 @@ use Rattle.std.proofs.lemmas.List.Elements.{Contains-append_left, Contains-appen
 use Rattle.calls.specs.declared.need.Need.{Need}
 use Rattle.calls.specs.Rules.{Conflict}
 use Rattle.abstract_locks.specs.declared.table.Hold.{Hold}
-use Rattle.abstract_locks.specs.declared.table.Holder.{Holder}
+use Rattle.abstract_locks.specs.declared.needs.Holder.{Holder}
 use Rattle.abstract_locks.specs.Holders.{all_holds, HoldTheirOwn}
 use Rattle.abstract_locks.specs.Holds.{Blocks, IsClear, IsBusy}
 

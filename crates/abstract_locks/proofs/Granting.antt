@@ -4,14 +4,14 @@ use Rattle.std.proofs.Common.{◌++◌}
 use Rattle.std.proofs.Common.{Bool, true, false, not, cond, length, get_or, set, refl, sym, ap}
 use Rattle.std.proofs.Common.{subst}
 use Rattle.std.proofs.Common.{⊎_elim, arith}
-use Rattle.std.specs.List.{All, Contains, filter}
+use Rattle.std.specs.List.{All, Contains, filter, flat_map}
 use Rattle.std.proofs.lemmas.List.Concat.{flat_map-append}
 use Rattle.std.proofs.lemmas.List.{append-nil}
 use Rattle.std.proofs.lemmas.List.Elements.{All-contains, All-contains_itself, All-weaker, All-head}
 use Rattle.std.proofs.lemmas.List.Elements.{All-tail, Contains-append_cases, filter-append}
 use Rattle.std.proofs.lemmas.List.Elements.{Contains-append_left, Contains-append_right}
 use Rattle.abstract_locks.specs.declared.table.Hold.{Hold}
-use Rattle.abstract_locks.specs.declared.table.Holder.{Holder}
+use Rattle.abstract_locks.specs.declared.needs.Holder.{Holder}
 use Rattle.abstract_locks.specs.Holders.{all_holds, HoldTheirOwn}
 use Rattle.abstract_locks.specs.Holds.{IsAdded}
 use Rattle.abstract_locks.proofs.Members.{test_says, says_test}
@@ -42,24 +42,28 @@ module _ (old new : List Hold) (h : Hold) (added : IsAdded old new h) where
         (λ same. Contains-append_right front new x ((added x).1 (inr same))) either,
   )
 
+  -- what the others and the new one have all have
+  pub all_still : (P : Hold → Type 0) → P h → All P old → All P new
+  all_still P one all = All-weaker (Contains new) P
+      (λ g inside. ⊎_elim (λ was. All-contains P old g all was)
+      (λ same. subst P (sym same) one) ((added g).0 inside))
+      new (All-contains_itself new)
+
   -- the holds are of one owner still
   pub still_own : (owner : ℕ) → h.owner ≡ owner → All (λ g. g.owner ≡ owner) old →
       All (λ g. g.owner ≡ owner) new
-  still_own owner mine own = All-weaker (Contains new) (λ g. g.owner ≡ owner)
-      (λ g inside. ⊎_elim (λ was. All-contains (λ g. g.owner ≡ owner) old g own was)
-      (λ same. rw same mine) ((added g).0 inside))
-      new (All-contains_itself new)
+  still_own owner mine own = all_still (λ g. g.owner ≡ owner) mine own
 
--- one of the holders gets it
-pub added_at : (xs : List Holder) (i : ℕ) (d new : Holder) (h : Hold) → i < length xs →
-    IsAdded (get_or xs i d).claims.holds new.claims.holds h →
-    IsAdded (all_holds xs) (all_holds (set xs i new)) h
-added_at [] i d new h lt added = absurd (omega arith)
-added_at (x ∷ xs) zero d new h lt added =
-    added_before x.claims.holds new.claims.holds h added (all_holds xs)
-added_at (x ∷ xs) (suc i) d new h lt added =
-    added_behind (all_holds xs) (all_holds (set xs i new)) h
-    (added_at xs i d new h (omega arith) added) x.claims.holds
+-- one of them gets it
+pub added_at : {X : Type 0} (holds : X → List Hold) (xs : List X) (i : ℕ) (d new : X) (h : Hold) →
+    i < length xs → IsAdded (holds (get_or xs i d)) (holds new) h →
+    IsAdded (flat_map holds xs) (flat_map holds (set xs i new)) h
+added_at holds [] i d new h lt added = absurd (omega arith)
+added_at holds (x ∷ xs) zero d new h lt added =
+    added_before (holds x) (holds new) h added (flat_map holds xs)
+added_at holds (x ∷ xs) (suc i) d new h lt added =
+    added_behind (flat_map holds xs) (flat_map holds (set xs i new)) h
+    (added_at holds xs i d new h (omega arith) added) (holds x)
 
 -- a new holder gets it
 pub added_last : (xs : List Holder) (new : Holder) (h : Hold) → IsAdded [] new.claims.holds h →

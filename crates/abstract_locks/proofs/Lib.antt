@@ -1,4 +1,3 @@
-pub mod Rooms
 pub mod Members
 pub mod Blockers
 pub mod Places
@@ -7,3 +6,5 @@ pub mod Halving
 pub mod Putting
 pub mod Roomier
 pub mod Granting
+pub mod Collections
+pub mod Leaving

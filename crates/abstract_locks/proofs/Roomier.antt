@@ -8,7 +8,7 @@ use Rattle.std.proofs.lemmas.Bool.{cases_lt}
 use Rattle.std.specs.Result.{OnErr, IsOk}
 use Rattle.std.specs.List.{All, Any, filter}
 use Rattle.std.proofs.lemmas.List.Elements.{All-nil, All-head, All-tail, All-cons}
-use Rattle.abstract_locks.specs.declared.table.Holder.{Holder}
+use Rattle.abstract_locks.specs.declared.needs.Holder.{Holder}
 use Rattle.abstract_locks.specs.Holders.{all_holds, least_room, HoldTheirOwn, IsRoomier}
 use Rattle.abstract_locks.specs.Holders.{AreRoomier}
 

@@ -1,8 +1,8 @@
--- The owners in a table, and what is held.
+-- The owners on a collection, and what is held.
 use Rattle.std.specs.Prelude.{◌≡◌, ℕ, List, [], ◌∷◌, All, min, ◌≤◌}
 use Rattle.std.specs.List.{flat_map, AllZip}
 use Rattle.abstract_locks.specs.declared.table.Hold.{Hold}
-use Rattle.abstract_locks.specs.declared.table.Holder.{Holder}
+use Rattle.abstract_locks.specs.declared.needs.Holder.{Holder}
 
 -- What all of them hold.
 abbrev pub all_holds : List Holder → List Hold

@@ -1,5 +1,5 @@
 -- What live transactions hold, and what stands in the way of a need.
-use Rattle.std.specs.Prelude.{◌≡◌, ◌≢◌, ℕ, ◌<◌, ◌≤◌, ◌↔◌, ◌⊎◌, List, slice_index, replicate, All}
+use Rattle.std.specs.Prelude.{◌≡◌, ◌≢◌, ℕ, ◌<◌, ◌≤◌, ◌↔◌, ◌⊎◌, List, slice_index, All}
 use Rattle.std.specs.Prelude.{Any, Contains}
 use Rattle.calls.specs.declared.need.Need.{Need}
 use Rattle.calls.specs.declared.refusal.Refusal.{Refusal}
@@ -15,10 +15,6 @@ pub record Holdings : Type 0 where
 -- The owner's hold of the need on the collection.
 abbrev pub hold : (owner at : ℕ) → Need → Hold
 hold owner at need = record { owner = owner; at = at; need = need }
-
--- The same room for each collection.
-unfoldable pub everywhere : ℕ → List ℕ
-everywhere n = replicate 256 n
 
 -- The hold keeps the need on the collection from the owner: another owner has it, and the two
 -- conflict.

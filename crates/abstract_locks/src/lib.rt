@@ -2,6 +2,7 @@
 #![tactic(auto)]
 
 mod claims;
+mod needs;
 mod table;
 
 pub use table::NeedTable;

@@ -1,17 +1,15 @@
-// The table of needs: what each owner holds.
-ghost use Rattle.std.specs.Prelude.{◌≡◌, ◌↔◌, ◌<◌, Some, [], min, IsTrue, IsOk, IsOkUnless, IfErr};
-ghost use Rattle.std.specs.Prelude.{MatchOption, OnOk, OnErr, IfSome, All, Any, HoldsAt, length};
-ghost use Rattle.std.specs.Option.{option_map_or};
+// The table of needs: what each owner holds on each collection.
+ghost use Rattle.std.specs.Prelude.{◌≡◌, ◌<◌, [], length, IsOk, IsOkUnless, IfErr, OnOk, OnErr};
 ghost use Rattle.abstract_locks.specs.Claims.{first, last};
-ghost use Rattle.abstract_locks.specs.Holders.{AreRoomier};
-ghost use Rattle.abstract_locks.specs.Holds.{hold, Blocks, IsClear, IsBusy, IsBusyRefusal};
+ghost use Rattle.abstract_locks.specs.Collections.{AreAlike, AreLeft};
+ghost use Rattle.abstract_locks.specs.Holds.{hold, IsClear, IsBusyRefusal};
 ghost use Rattle.abstract_locks.specs.Holds.{IsAskRefusal, HasRoom, KeepsRoom, IsAdded, IsGivenUp};
 
-use crate::claims::{Claims, place};
+use crate::claims::place;
+use crate::needs::Needs;
 use calls::{Need, Refusal};
 use std::alloc::Global;
 use std::marker::Model;
-use std::mem;
 
 /// A need that a transaction holds on a collection.
 #[derive(Clone, Copy, PartialEq, Eq)]
@@ -22,6 +20,13 @@ pub struct Hold {
 }
 
 impl Hold {
+    /// Who holds it.
+    pub fn owner(&self) -> u64
+        ensures { result ≡ self.now.owner }
+    {
+        self.owner
+    }
+
     /// The place of the lowest key.
     pub fn first(&self) -> u128
         ensures { result ≡ first self.now }
@@ -37,40 +42,31 @@ impl Hold {
     }
 }
 
-/// An owner, and what it holds.
-#[derive(Drop)]
-struct Holder {
-    owner: u64,
-    claims: Claims,
-}
-
 /// The needs that live transactions hold. Contracts see the holds, and for how many more there is
 /// room.
 ///
-/// Each owner has a list of its own holds. So what a call costs depends on how many owners there
-/// are, and on what others hold only by the steps of a halving.
+/// Each collection has a list of its own, and in it each owner has one. So what is held on other
+/// collections costs a call nothing, but for `give_up`. What is held on its own collection costs
+/// it a look at each owner, and the steps of a halving.
 #[derive(Drop)]
 pub struct NeedTable {
-    holders: Vec<Holder>,
-    // what the next owner begins with: nothing, with room
-    spare: Claims,
+    // by the number of the collection, up to the greatest that room was asked for
+    collections: Vec<Needs>,
 }
 
 impl Model for NeedTable {
-    ghost use Rattle.std.specs.Prelude.{◌≡◌, ◌-◌, [], min, vec_len, vec_capacity};
-    ghost use Rattle.abstract_locks.specs.Holds.{Holdings, everywhere};
+    ghost use Rattle.abstract_locks.specs.Holds.{Holdings};
 
     ghost Value = { Holdings };
 
-    ghost use Rattle.abstract_locks.specs.Holders.{all_holds, least_room, HoldTheirOwn};
+    ghost use Rattle.abstract_locks.specs.Collections.{all_held, rooms, AreOnTheirOwn};
 
     ghost view = { λ table. record {
-      holds = all_holds table.holders.items;
-      rooms = everywhere (least_room (min table.spare.room
-          (vec_capacity table.holders - vec_len table.holders)) table.holders.items);
+      holds = all_held table.collections.items;
+      rooms = rooms table.collections.items;
     } };
 
-    ghost invariant = { λ table. HoldTheirOwn table.holders.items × (table.spare.holds ≡ []) };
+    ghost invariant = { λ table. AreOnTheirOwn table.collections.items };
 }
 
 impl NeedTable {
@@ -79,8 +75,7 @@ impl NeedTable {
         ensures { result.holds ≡ [] }
     {
         Self {
-            holders: Vec::new(alloc),
-            spare: Claims::new(alloc),
+            collections: Vec::new(alloc),
         }
     }
 
@@ -101,8 +96,9 @@ impl NeedTable {
     }
 
     /// Lets the owner hold the need on the collection, beside what is held, where the need is free
-    /// and room is reserved. It tests neither, and takes no memory. The owner is looked for, and
-    /// its own holds behind the new one move; a hold that it has already is not kept twice.
+    /// and room is reserved. It tests neither, and takes no memory. The owner is looked for among
+    /// those of the collection, and its own holds there that stand behind the new one move; a hold
+    /// that it has already is not kept twice.
     pub fn grant(&mut self, owner: u64, col: u8, need: Need)
         requires room { HasRoom self.old col }
         requires clear { IsClear self.old.holds owner col need }
@@ -113,32 +109,26 @@ impl NeedTable {
             at: col,
             need,
         };
-        match place_of(&self.holders, owner) {
-            Some(place) => self.holders[place].claims.add(hold),
-            None => {
-                let alloc = *self.holders.allocator();
-                let mut claims = mem::replace(&mut self.spare, Claims::new(alloc));
-                claims.add(hold);
-                self.holders.push_reserved(Holder { owner, claims });
-            }
-        }
+        self.collections[usize::from(col)].add(hold);
     }
 
     /// Whether `ask` would find the need free: Busy as there, and no other refusal. It takes no
-    /// memory. Two or three halvings of the holds of each other owner.
+    /// memory. Two or three halvings of what each other owner holds on the collection.
     pub fn test(&self, owner: u64, col: u8, need: &Need) -> Result<(), Refusal>
         ensures clear { OnOk result (IsClear self.now.holds owner col need.now) }
         ensures busy { IfErr result (IsBusyRefusal self.now.holds owner col need.now) }
     {
-        match self.least_blocker(owner, col, need) {
-            Some(number) => Err(Refusal::Busy(number)),
+        match self.collections.get(usize::from(col)) {
+            Some(needs) => needs.test(owner, col, need),
             None => Ok(()),
         }
     }
 
     /// Makes room for one more hold on the collection. NoMemory, which leaves the table as it was,
-    /// only where no room was reserved for the collection. One look at each owner: each gets room,
-    /// since any may be the next. Where one had none its holds move.
+    /// only where no room was reserved for the collection. One look at each owner on the
+    /// collection: each gets room, since any may be the next. Where one had none its holds there
+    /// move. The first for a collection makes a place for it and for those of lesser numbers, 256
+    /// at most.
     pub fn reserve(&mut self, col: u8) -> Result<(), Refusal>
         ensures room { OnOk result (HasRoom self.new col) }
         ensures rooms { KeepsRoom self.old self.new }
@@ -147,62 +137,40 @@ impl NeedTable {
         ensures succeeds { HasRoom self.old col → IsOk result }
         ensures unchanged { OnErr result (self.new ≡ self.old) }
     {
-        self.holders.reserve(1)?;
-        self.spare.reserve()?;
-        reserve_each(&mut self.holders)
+        let place = usize::from(col);
+        reach(&mut self.collections, place)?;
+        self.collections[place].reserve()
     }
 
     /// Takes all holds of the owner out of the table. Reserved room stays. It takes no memory. One
-    /// look at each owner; the list of this one is let go.
+    /// look at each owner on each collection that has a place; the lists of this one are let go.
     pub fn give_up(&mut self, owner: u64)
         ensures holds { IsGivenUp self.old.holds self.new.holds owner }
         ensures rooms { KeepsRoom self.old self.new }
     {
-        self.holders.retain(|holder| holder.owner != owner);
-    }
-
-    // The least other owner of a hold that keeps the need from the owner.
-    fn least_blocker(&self, owner: u64, col: u8, need: &Need) -> Option<u64>
-        ensures { MatchOption result (IsClear self.now.holds owner col need.now)
-            (IsBusy self.now.holds owner col need.now) }
-    {
-        let mut least = None;
-        for holder in &self.holders {
-            if holder.owner != owner && holder.claims.conflicts(col, need) {
-                least = least_with(least, holder.owner);
-            }
-        }
-        least
+        give_up_each(&mut self.collections, owner);
     }
 }
 
-// Where the holder of the owner stands.
-fn place_of(holders: &[Holder], owner: u64) -> Option<usize>
-    ensures { IfSome result (λ i. (i < length holders.now) × HoldsAt (λ h. h.owner ≡ owner)
-        holders.now i) }
-{
-    holders.iter().position(|holder| holder.owner == owner)
-}
-
-// Makes room for one more hold of each holder.
-fn reserve_each(holders: &mut [Holder]) -> Result<(), Refusal>
-    ensures more { AreRoomier holders.old holders.new }
-    ensures room { OnOk result (All (λ holder. 0 < holder.claims.room) holders.new) }
-    ensures full { OnErr result (Any (λ holder. holder.claims.room ≡ 0) holders.new) }
+// Makes a place for the collection, and for those of lesser numbers.
+fn reach(collections: &mut Vec<Needs>, place: usize) -> Result<(), Refusal>
+    ensures alike { AreAlike collections.old.items collections.new.items }
+    ensures reached { OnOk result (place < length collections.new.items) }
     ensures refusal { IsOkUnless result Refusal.NoMemory }
+    ensures succeeds { place < length collections.old.items → IsOk result }
 {
-    for holder in holders.iter_mut() {
-        holder.claims.reserve()?;
+    let alloc = *collections.allocator();
+    while collections.len() <= place {
+        collections.push(Needs::new(alloc))?;
     }
     Ok(())
 }
 
-// The lesser of the numbers.
-fn least_with(least: Option<u64>, number: u64) -> Option<u64>
-    ensures { result ≡ Some (option_map_or (min number) least number) }
+// Takes all holds of the owner out of each collection.
+fn give_up_each(collections: &mut [Needs], owner: u64)
+    ensures { AreLeft owner collections.old collections.new }
 {
-    match least {
-        Some(other) => Some(number.min(other)),
-        None => Some(number),
+    for needs in collections.iter_mut() {
+        needs.give_up(owner);
     }
 }

@@ -54,6 +54,10 @@ pub record IsCounted (w : Waiting) (count : ℕ) : Type 0 where
   pub counted : count ≡ length (waiting w)
   pub unused : w.spare.records ≡ []
 
+-- There is room for one more full block.
+abbrev pub HasBlockRoom : Waiting → Type 0
+HasBlockRoom w = length w.full < w.most
+
 -- A record of the length fits in the last block.
 abbrev pub Suits : Waiting → ℕ → Type 0
 Suits w len = length (spelling w.last.records) + len ≤ 65535

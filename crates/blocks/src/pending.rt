@@ -1,10 +1,10 @@
 // The records that wait for a block.
 ghost use Rattle.std.specs.Prelude.{◌≡◌, ℕ, ◌+◌, ◌<◌, ◌≤◌, ◌^◌, ◌⊎◌, [], ◌∷◌, ◌++◌, ◌↔◌, IsTrue};
-ghost use Rattle.std.specs.Prelude.{length, Contains, OnOk, OnErr, IfSome, IsOkUnless};
+ghost use Rattle.std.specs.Prelude.{length, Contains, OnOk, OnErr, IfSome, IsOk, IsOkUnless};
 ghost use Rattle.record_format.specs.Acts.{places};
 ghost use Rattle.calls.specs.Rules.{Askable};
 ghost use Rattle.record_format.specs.Records.{record_of_call, spelled, Fits, FitsCall, FitsReply};
-ghost use Rattle.blocks.specs.Waits.{waiting, freezes, Suits, HasRoomFor};
+ghost use Rattle.blocks.specs.Waits.{waiting, freezes, Suits, HasRoomFor, HasBlockRoom};
 ghost use Rattle.blocks.specs.Cuts.{CutsOff};
 
 use crate::block::Outbox;
@@ -195,10 +195,23 @@ impl Pending {
         self.handed.end + self.count as u64
     }
 
+    /// Makes room for a block more, so that `seal` is not refused.
+    ///
+    /// NoMemory, which leaves the records.
+    pub fn reserve_seal(&mut self) -> Result<(), Refusal>
+        ensures room { OnOk result (HasBlockRoom self.new) }
+        ensures records { waiting self.new ≡ waiting self.old }
+        ensures freezes { freezes self.new ≡ freezes self.old }
+        ensures handed { self.new.handed ≡ self.old.handed }
+        ensures refusal { IsOkUnless result Refusal.NoMemory }
+    {
+        Ok(self.full.reserve(1)?)
+    }
+
     /// Seals the block that is filled now, where there is a record in it: no later one goes into
     /// it, so no block crosses the position behind the last record.
     ///
-    /// NoMemory, which changes nothing.
+    /// NoMemory, which changes nothing, and comes only where no room is reserved.
     pub fn seal(&mut self) -> Result<(), Refusal>
         ensures records { waiting self.new ≡ waiting self.old }
         ensures handed { self.new.handed ≡ self.old.handed }
@@ -209,6 +222,7 @@ impl Pending {
             (0 < length (waiting self.old))))) }
         ensures same { OnErr result (freezes self.new ≡ freezes self.old) }
         ensures refusal { IsOkUnless result Refusal.NoMemory }
+        ensures succeeds { HasBlockRoom self.old → IsOk result }
     {
         if self.last.is_empty() {
             return Ok(());

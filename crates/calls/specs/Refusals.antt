@@ -29,3 +29,4 @@ number_of Refusal.Lost = 23
 number_of Refusal.Unfinished = 24
 number_of Refusal.AlreadyLive = 25
 number_of Refusal.Imaging = 26
+number_of Refusal.Outrun = 27

@@ -36,13 +36,15 @@ pub enum Refusal {
     Unfinished,
     AlreadyLive,
     Imaging,
+    /// Only of what is gathered.
+    Outrun,
 }
 
 impl Refusal {
     ghost use Rattle.std.specs.Prelude.{◌≡◌};
     ghost use Rattle.calls.specs.Refusals.{number_of};
 
-    /// The number of the refusal, from 1 to 26.
+    /// The number of the refusal, from 1 to 27.
     pub fn number(&self) -> u8
         ensures { result ≡ number_of self.now }
     {
@@ -73,6 +75,7 @@ impl Refusal {
             Refusal::Unfinished => 24,
             Refusal::AlreadyLive => 25,
             Refusal::Imaging => 26,
+            Refusal::Outrun => 27,
         }
     }
     // The name of the refusal, as it is printed.
@@ -104,6 +107,7 @@ impl Refusal {
             Refusal::Unfinished => "Unfinished",
             Refusal::AlreadyLive => "AlreadyLive",
             Refusal::Imaging => "Imaging",
+            Refusal::Outrun => "Outrun",
         }
     }
 }

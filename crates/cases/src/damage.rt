@@ -1,13 +1,13 @@
 // Stores with bytes that no program wrote: what a check and a show make of them.
-use crate::bench::{Bench, empty_store};
-use crate::brief::write_line;
-use crate::disks::{self, disk_of};
-use crate::runs::{Ran, run_on, text, to_check, to_show};
-use crate::through_store::play;
-use crate::values::{byte, bytes, number, three};
 use disk_model::MemDisk;
+use plays::bench::{Bench, empty_store};
+use plays::disks::{changed, disk_of};
+use plays::runs::{Ran, run_on, text, to_check, to_show};
+use plays::through_store::play;
+use plays::told::Told;
+use plays::values::{byte, bytes, number, three};
 use std::alloc::{AllocError, Global};
-use std::io::{self, Write};
+use std::io;
 use std::sync::Wait;
 
 // Adds the lines of a text to a line.
@@ -41,11 +41,6 @@ fn joined(checked: String, shown: &str, is_shared_alike: bool) -> Result<String,
     Ok(found)
 }
 
-// Whether two runs ended alike.
-pub fn is_alike(one: &Ran, other: &Ran) -> bool {
-    one.status == other.status && one.err == other.err
-}
-
 // What a check answers, and what a show and an opening for threads answer, where that is otherwise.
 fn found_on(rt: &(impl Wait + AllocGlobal), disk: MemDisk) -> Result<String, AllocError> {
     let alloc = rt.alloc();
@@ -55,25 +50,22 @@ fn found_on(rt: &(impl Wait + AllocGlobal), disk: MemDisk) -> Result<String, All
     joined(
         line_of(alloc, &checked)?,
         line_of(alloc, &shown)?.as_str(),
-        is_alike(&shown, &shared.ran),
+        shown.is_alike(&shared.ran),
     )
 }
 
 // An empty store whose first area begins with these bytes.
 fn store_with(alloc: Global, text: &str) -> io::Result<MemDisk> {
     let area = bytes(alloc, text)?;
-    disks::changed(empty_store(alloc)?, 4096, area.as_slice())
+    changed(empty_store(alloc)?, 4096, area.as_slice())
 }
 
-/// An empty store whose first area begins with these bytes: prints what a check and a show make of
+/// An empty store whose first area begins with these bytes: tells what a check and a show make of
 /// it.
-pub fn tell_area(
-    rt: &(impl Wait + AllocGlobal),
-    text: &str,
-    out: &mut impl Write,
-) -> io::Result<()> {
+pub fn tell_area(rt: &(impl Wait + AllocGlobal), text: &str, told: &mut Told) -> io::Result<()> {
     let found = found_on(rt, store_with(rt.alloc(), text)?)?;
-    write_line(found.as_str(), out)
+    told.tell_brief(found.as_str());
+    Ok(())
 }
 
 // What a check and a show make of a disk of these bytes but for one.
@@ -83,23 +75,23 @@ fn found_with(
     at: u64,
     value: u8,
 ) -> io::Result<String> {
-    let disk = disks::changed(disk_of(rt.alloc(), bytes)?, at, &[value])?;
+    let disk = changed(disk_of(rt.alloc(), bytes)?, at, &[value])?;
     Ok(found_on(rt, disk)?)
 }
 
 /// Changes each byte of the disk from the first to the end, which is left out, to a value, one at a
-/// time. Prints what a check and a show make of it, where that is not what they made of the byte
+/// time. Tells what a check and a show make of it, where that is not what they made of the byte
 /// before. The disk of the case stays.
 pub fn change_each(
     rt: &(impl Wait + AllocGlobal),
     bench: &mut Bench,
     text: &str,
-    out: &mut impl Write,
+    told: &mut Told,
 ) -> io::Result<()> {
     let (first, end, value) = three(text)?;
     let (first, end, value) = (number(first)?, number(end)?, byte(value)?);
     let bytes = bench.bytes(rt.alloc())?;
-    change_all(rt, bytes.as_slice(), first, end, value, out)
+    change_all(rt, bytes.as_slice(), first, end, value, told)
 }
 
 fn change_all(
@@ -108,20 +100,16 @@ fn change_all(
     first: u64,
     end: u64,
     value: u8,
-    out: &mut impl Write,
+    told: &mut Told,
 ) -> io::Result<()> {
     let mut last = String::new(rt.alloc());
     for at in first..end {
         let found = found_with(rt, bytes, at, value)?;
         if found.as_str() != last.as_str() {
-            write_found(at, found.as_str(), out)?;
+            told.add_text(format_args!("{at}: "));
+            told.tell_brief(found.as_str());
         }
         last = found;
     }
     Ok(())
-}
-
-fn write_found(at: u64, found: &str, out: &mut impl Write) -> io::Result<()> {
-    write!(out, "{at}: ")?;
-    write_line(found, out)
 }

@@ -1,25 +1,27 @@
 // The program on files.
-use crate::bench::Bench;
-use crate::brief::write_bytes;
-use crate::runs::{Ran, run_on, to_play, words, write_ran};
-use crate::values::{bytes, not_understood, number, numbers, pair, three};
+use crate::runs::words;
 use command_line::obey;
 use disk_model::{FileDisk, Unknown};
+use plays::bench::Bench;
+use plays::runs::{Ran, run_on, to_play};
+use plays::told::Told;
+use plays::values::{bytes, not_understood, number, numbers, pair, three};
 use std::fs::{self, File};
 use std::io::{self, Seek, SeekFrom, Write};
 use std::rt::Files;
 use std::sync::Wait;
 use std::thread::Threads;
 
-/// Prints what the program answers to a command line.
+/// Tells what the program answers to a command line.
 pub fn run_program(
     rt: &(impl Files<File = File> + Threads + Wait + AllocGlobal + Sync),
     line: &str,
-    out: &mut impl Write,
+    told: &mut Told,
 ) -> io::Result<()> {
     let words = words(rt.alloc(), line)?;
     let ran = obeyed(rt, words.as_slice());
-    write_ran(&ran, usize::MAX, out)
+    ran.tell(usize::MAX, told);
+    Ok(())
 }
 
 // What the program answers to the words of a command line.
@@ -64,46 +66,39 @@ fn write_at(rt: &impl Files<File = File>, path: &str, at: u64, added: &[u8]) -> 
     file.write_all(added)
 }
 
-/// Prints bytes of a file: where they begin, and how many.
+/// Tells bytes of a file: where they begin, and how many.
 pub fn read(
     rt: &(impl Files<File = File> + AllocGlobal),
     line: &str,
-    out: &mut impl Write,
+    told: &mut Told,
 ) -> io::Result<()> {
     let (path, rest) = pair(line, " ")?;
     let (at, count) = numbers(rest)?;
     let bytes = fs::read(rt, path)?;
-    write_range(bytes.as_slice(), at as usize, count as usize, out)
+    tell_range(bytes.as_slice(), at as usize, count as usize, told)
 }
 
-// Prints so many of the bytes, from one place on.
-fn write_range(bytes: &[u8], at: usize, count: usize, out: &mut impl Write) -> io::Result<()> {
+// Tells so many of the bytes, from one place on.
+fn tell_range(bytes: &[u8], at: usize, count: usize, told: &mut Told) -> io::Result<()> {
     match bytes.get(at..at.saturating_add(count)) {
-        Some(found) => write_bytes(found, out),
+        Some(found) => {
+            told.tell_bytes(found);
+            Ok(())
+        }
         None => Err(not_understood()),
     }
 }
 
-/// Prints whether there is a file.
-pub fn is_there(rt: &impl Files<File = File>, path: &str, out: &mut impl Write) -> io::Result<()> {
-    let is_there = File::open(rt, path).is_ok();
-    writeln!(out, "{is_there}")
-}
-
-/// Takes a file away.
-pub fn remove(rt: &impl Files<File = File>, path: &str) -> io::Result<()> {
-    fs::remove_file(rt, path)
-}
-
-/// Plays the script on a file that is opened for reading alone, and prints what that answers.
+/// Plays the script on a file that is opened for reading alone, and tells what that answers.
 pub fn play_read_only(
     rt: &(impl Files<File = File> + AllocGlobal),
     bench: &mut Bench,
     path: &str,
-    out: &mut impl Write,
+    told: &mut Told,
 ) -> io::Result<()> {
     let disk: FileDisk<Unknown> = FileDisk::open(File::open(rt, path)?)?;
     let script = bench.take_script(rt.alloc());
     let (ran, _) = run_on(rt.alloc(), to_play(rt.alloc()), disk, script.as_slice());
-    write_ran(&ran, usize::MAX, out)
+    ran.tell(usize::MAX, told);
+    Ok(())
 }

@@ -1,11 +1,12 @@
 // Images that are written to a disk by hand.
-use crate::bench::{Bench, empty_store};
-use crate::disks::put_at;
-use crate::runs::{run_told, to_check, to_show};
-use crate::values::{bytes, not_understood};
 use disk_model::MemDisk;
+use plays::bench::{Bench, empty_store};
+use plays::disks::put_at;
+use plays::runs::{carry_out, to_check, to_show};
+use plays::told::Told;
+use plays::values::{bytes, not_understood};
 use std::alloc::Global;
-use std::io::{self, Write};
+use std::io;
 
 // Where the first area stands.
 const FIRST: u64 = 4096;
@@ -46,17 +47,12 @@ fn write_blocks(alloc: Global, disk: &mut MemDisk, bodies: &str) -> io::Result<u
     Ok(last)
 }
 
-/// An empty store whose image is these blocks: prints where the last one stands, what the store is
+/// An empty store whose image is these blocks: tells where the last one stands, what the store is
 /// checked as, and what it shows, which opens it. That is what the disk of the case is then.
-pub fn open(
-    alloc: Global,
-    bench: &mut Bench,
-    bodies: &str,
-    out: &mut impl Write,
-) -> io::Result<()> {
+pub fn open(alloc: Global, bench: &mut Bench, bodies: &str, told: &mut Told) -> io::Result<()> {
     bench.disk = empty_store(alloc)?;
     let last = write_blocks(alloc, &mut bench.disk, bodies)?;
-    writeln!(out, "last block at {last}")?;
-    run_told(alloc, bench, to_check(alloc), &[], usize::MAX, out)?;
-    run_told(alloc, bench, to_show(alloc), &[], usize::MAX, out)
+    told.tell(format_args!("last block at {last}"));
+    carry_out(alloc, bench, to_check(alloc), told)?;
+    carry_out(alloc, bench, to_show(alloc), told)
 }

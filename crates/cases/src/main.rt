@@ -3,85 +3,80 @@
 //! be. A line that is no question ends the run.
 #![tactic(auto)]
 
-mod any_areas;
-mod bench;
-mod brief;
-mod compared;
 mod damage;
-mod disks;
-mod faults;
 mod files;
 mod image_bytes;
 mod questions;
 mod runs;
-mod scripts;
 mod spellings;
-mod steps;
-mod stops;
-mod sweeps;
 mod texts;
-mod through_store;
-mod values;
 
-use bench::Bench;
+use plays::bench::Bench;
+use plays::told::Told;
 use std::fs::{self, File};
-use std::io::{self, BufWriter, Write};
+use std::io::{self, Write};
 use std::rt::Files;
 use std::sync::Wait;
 use std::thread::Threads;
 
-// Tells an error with the line that it comes from.
-fn tell_error(name: &str, number: u64, error: io::Error, out: &mut impl Write) -> io::Result<()> {
-    writeln!(out, "{name}: line {number}: {error}")?;
-    Err(error)
+// Asks what a line asks. Behind a script that is played through the store alone, what was told so
+// far is printed.
+fn ask(
+    rt: &(impl Files<File = File> + Threads + Wait + AllocGlobal + Sync),
+    bench: &mut Bench,
+    line: &str,
+    told: &mut Told,
+    out: &mut impl Write,
+) -> io::Result<()> {
+    questions::ask(rt, bench, line, told)?;
+    told.check()?;
+    if line == "play_shared" {
+        told.print(out)?;
+    }
+    Ok(())
 }
 
 // Asks what the lines of a text ask, one after another. An error is told with its line.
 fn ask_all(
     rt: &(impl Files<File = File> + Threads + Wait + AllocGlobal + Sync),
-    bench: &mut Bench,
     name: &str,
     text: &str,
-    out: &mut impl Write,
-) -> io::Result<()> {
-    let mut number = 0u64;
-    for line in text.lines() {
-        number = number.saturating_add(1);
-        if let Err(error) = questions::ask(rt, bench, line, out) {
-            return tell_error(name, number, error, out);
-        }
-    }
-    Ok(())
-}
-
-// Plays the cases of a file.
-fn play_file(
-    rt: &(impl Files<File = File> + Threads + Wait + AllocGlobal + Sync),
-    name: &str,
+    told: &mut Told,
     out: &mut impl Write,
 ) -> io::Result<()> {
     let mut bench = Bench::new(rt.alloc())?;
-    let text = fs::read_to_string(rt, name)?;
-    ask_all(rt, &mut bench, name, text.as_str(), out)?;
-    bench.compared.write(out)
+    let mut number = 0u64;
+    for line in text.lines() {
+        number = number.saturating_add(1);
+        if let Err(error) = ask(rt, &mut bench, line, told, out) {
+            told.tell(format_args!("{name}: line {number}: {error}"));
+            return Err(error);
+        }
+    }
+    bench.compared.tell(told);
+    told.check()
 }
 
-// Plays the cases of each file that is named.
+// Plays the cases of each file that is named, and prints what is told behind each.
 fn play_files(
     rt: &(impl Files<File = File> + Threads + Wait + AllocGlobal + Sync),
     names: &str,
+    told: &mut Told,
     out: &mut impl Write,
 ) -> io::Result<()> {
     for name in names.lines() {
-        play_file(rt, name, out)?;
+        let text = fs::read_to_string(rt, name)?;
+        ask_all(rt, name, text.as_str(), told, out)?;
+        told.print(out)?;
     }
     Ok(())
 }
 
 fn main(rt: HostRuntime) -> io::Result<()> {
     let names = fs::read_to_string(&rt, "index")?;
-    let mut out = BufWriter::new(rt.alloc(), rt.stdout())?;
-    let played = play_files(&rt, names.as_str(), &mut out);
-    out.flush()?;
+    let mut told = Told::new(rt.alloc())?;
+    let mut out = rt.stdout();
+    let played = play_files(&rt, names.as_str(), &mut told, &mut out);
+    told.print(&mut out)?;
     played
 }

@@ -1,127 +1,91 @@
 // What the lines of a case ask.
-use crate::bench::Bench;
-use crate::values::not_understood;
-use crate::{
-    any_areas, brief, damage, disks, files, image_bytes, runs, scripts, spellings, steps, stops,
-    sweeps, texts,
-};
-use disk_model::Disk;
-use std::alloc::Global;
-use std::fs::File;
-use std::io::{self, Write};
+use crate::{damage, files, image_bytes, runs, spellings, texts};
+use plays::bench::Bench;
+use plays::questions;
+use plays::told::Told;
+use std::fs::{self, File};
+use std::io;
 use std::rt::Files;
 use std::sync::Wait;
 use std::thread::Threads;
 
-/// Asks what a line asks, and prints what is answered. An empty line and one that begins with `#`
-/// ask nothing; one with a bar in front, and a line that is repeated, are lines of the script.
+/// Asks what a line asks, and tells what is answered.
 pub fn ask(
     rt: &(impl Files<File = File> + Threads + Wait + AllocGlobal + Sync),
     bench: &mut Bench,
     line: &str,
-    out: &mut impl Write,
+    told: &mut Told,
 ) -> io::Result<()> {
-    if line.is_empty() || line.starts_with("#") {
-        return Ok(());
+    match questions::question(bench, line, told)? {
+        Some((word, rest)) => ask_of_threads(rt, bench, word, rest, told),
+        None => Ok(()),
     }
-    if let Some(text) = line.strip_prefix("| ") {
-        return Ok(scripts::add_line(&mut bench.script, text)?);
-    }
-    if let Some(text) = line.strip_prefix("repeat ") {
-        return scripts::repeat(bench, text);
-    }
-    brief::write_line(line, out)?;
-    let (word, rest) = line.split_once(" ").unwrap_or((line, ""));
-    ask_by_word(rt, bench, word, rest, out)
 }
 
-// Asks a question of files or of threads, or else another.
-fn ask_by_word(
+// Asks a question of threads, or else another.
+fn ask_of_threads(
     rt: &(impl Files<File = File> + Threads + Wait + AllocGlobal + Sync),
     bench: &mut Bench,
     word: &str,
     rest: &str,
-    out: &mut impl Write,
+    told: &mut Told,
 ) -> io::Result<()> {
     match word {
-        "boost" => files::run_program(rt, rest, out),
-        "play" => runs::play(rt, bench, out),
-        "line" => runs::play_line(rt, bench, rest, out),
-        "serve" => runs::serve(rt, bench, out),
+        "boost" => files::run_program(rt, rest, told),
+        "serve" => runs::serve(rt, bench, told),
+        _ => ask_of_files(rt, bench, word, rest, told),
+    }
+}
+
+// Asks a question of files, or else another.
+fn ask_of_files(
+    rt: &(impl Files<File = File> + Wait + AllocGlobal),
+    bench: &mut Bench,
+    word: &str,
+    rest: &str,
+    told: &mut Told,
+) -> io::Result<()> {
+    match word {
         "file" => files::write_script(rt, bench, rest),
         "size" => files::set_size(rt, rest),
-        "bytes" => files::read(rt, rest, out),
+        "bytes" => files::read(rt, rest, told),
         "write_file" => files::write(rt, rest),
-        "is_there" => files::is_there(rt, rest, out),
-        "remove" => files::remove(rt, rest),
-        "play_read_only" => files::play_read_only(rt, bench, rest, out),
-        "stops" => stops::stop_story(rt, bench, rest, out),
-        "play_shared" => runs::play_shared(rt, bench, out),
-        "area" => damage::tell_area(rt, rest, out),
-        "change" => damage::change_each(rt, bench, rest, out),
-        "areas" => any_areas::open_all(rt, bench, rest, out),
-        "sweep" => sweeps::sweep(rt, bench, rest, out),
-        _ => ask_of_runs(rt.alloc(), bench, word, rest, out),
+        "is_there" => {
+            told.tell(File::open(rt, rest).is_ok());
+            Ok(())
+        }
+        "remove" => fs::remove_file(rt, rest),
+        "play_read_only" => files::play_read_only(rt, bench, rest, told),
+        _ => ask_of_stores(rt, bench, word, rest, told),
     }
 }
 
-// Asks for a command on the disk of the case, or else another question.
-fn ask_of_runs(
-    alloc: Global,
+// Asks a question of a store, or one that brings all that it needs, or else one that the programs
+// share.
+fn ask_of_stores(
+    rt: &(impl Wait + AllocGlobal),
     bench: &mut Bench,
     word: &str,
     rest: &str,
-    out: &mut impl Write,
+    told: &mut Told,
 ) -> io::Result<()> {
     match word {
-        "show" => runs::show(alloc, bench, out),
-        "check" => runs::check(alloc, bench, out),
-        "format" => runs::format(alloc, bench, rest, out),
-        "demo" => runs::demo(alloc, bench, out),
-        "demo_short" => runs::run_short(alloc, rest, out),
-        "steps" => steps::take(alloc, bench, out),
-        "stop_opening" => stops::stop_opening(alloc, bench, out),
-        "stop_format" => stops::stop_format(alloc, bench, rest, out),
-        _ => ask_of_disk(alloc, bench, word, rest, out),
-    }
-}
-
-// Asks a question of the disk and of the script of the case, or else another.
-fn ask_of_disk(
-    alloc: Global,
-    bench: &mut Bench,
-    word: &str,
-    rest: &str,
-    out: &mut impl Write,
-) -> io::Result<()> {
-    match word {
-        "@" => bench.begin(alloc),
-        "disk" => disks::resize(alloc, bench, rest),
-        "script" => scripts::add_bytes(alloc, bench, rest),
-        "last" => bench.tell_last(rest),
-        "read" => disks::read(alloc, bench, rest, out),
-        "write" => disks::write(alloc, bench, rest),
-        "fail" => disks::fail(bench, rest),
-        "faults" => writeln!(out, "{}", bench.disk.faults()),
-        "stop" => disks::stop(alloc, bench, rest),
-        _ => ask_of_table(alloc, bench, word, rest, out),
-    }
-}
-
-// Asks a question that brings all that it needs.
-fn ask_of_table(
-    alloc: Global,
-    bench: &mut Bench,
-    word: &str,
-    rest: &str,
-    out: &mut impl Write,
-) -> io::Result<()> {
-    match word {
-        "record" => spellings::read(alloc, rest, out),
-        "image" => image_bytes::open(alloc, bench, rest, out),
-        "command" => runs::understand(alloc, rest, out),
-        "texts" => texts::write_all(out),
-        "sizes" => texts::write_sizes(out),
-        _ => Err(not_understood()),
+        "line" => runs::play_line(rt, bench, rest, told),
+        "play_shared" => runs::play_shared(rt, bench, told),
+        "area" => damage::tell_area(rt, rest, told),
+        "change" => damage::change_each(rt, bench, rest, told),
+        "demo_short" => runs::run_short(rt.alloc(), rest, told),
+        "image" => image_bytes::open(rt.alloc(), bench, rest, told),
+        "record" => spellings::read(rt.alloc(), rest, told),
+        "command" => runs::understand(rt.alloc(), rest, told),
+        "texts" => {
+            texts::tell_all(told);
+            Ok(())
+        }
+        "sizes" => {
+            texts::tell_sizes(told);
+            Ok(())
+        }
+        _ => questions::ask(rt, bench, word, rest, told),
     }
 }

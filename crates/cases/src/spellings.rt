@@ -1,12 +1,12 @@
 // Bytes that spell a record.
 ghost use Rattle.record_format.specs.Records.{Fits};
 
-use crate::brief::{write_bytes, write_line};
-use crate::values::{bytes, not_understood};
 use calls::Kind;
+use plays::told::Told;
+use plays::values::{bytes, not_understood};
 use records::{Record, decode, encode};
 use std::alloc::Global;
-use std::io::{self, Write};
+use std::io;
 
 // The kind of this name.
 fn kind(name: &str) -> io::Result<Kind> {
@@ -21,44 +21,40 @@ fn parted(text: &str) -> io::Result<(Option<Kind>, &str)> {
     }
 }
 
-/// Prints the record that bytes begin with, and how it is spelled where that is otherwise; or why
+/// Tells the record that bytes begin with, and how it is spelled where that is otherwise; or why
 /// they begin with none.
-pub fn read(alloc: Global, text: &str, out: &mut impl Write) -> io::Result<()> {
+pub fn read(alloc: Global, text: &str, told: &mut Told) -> io::Result<()> {
     let (last, rest) = parted(text)?;
     let bytes = bytes(alloc, rest)?;
     match decode(alloc, bytes.as_slice(), last, 4096) {
         Ok((record, rest)) => {
-            let told = tell(alloc, &record, rest.len(), bytes.as_slice(), out);
+            tell(alloc, &record, rest.len(), bytes.as_slice(), told);
             drop(record);
-            told
         }
-        Err(refusal) => writeln!(out, "{refusal}"),
+        Err(refusal) => told.tell(refusal),
     }
+    Ok(())
 }
 
-// Prints a record, and how it is spelled where the bytes say otherwise.
-fn tell(
-    alloc: Global,
-    entry: &Record,
-    behind: usize,
-    bytes: &[u8],
-    out: &mut impl Write,
-) -> io::Result<()>
+// Tells a record, and how it is spelled where the bytes say otherwise.
+fn tell(alloc: Global, entry: &Record, behind: usize, bytes: &[u8], told: &mut Told)
     requires { Fits entry.now }
 {
-    write_record(alloc, entry, out)?;
+    tell_record(alloc, entry, told);
     if behind > 0 {
-        writeln!(out, "and {behind} bytes behind it")?;
+        told.tell(format_args!("and {behind} bytes behind it"));
     }
     let mut again = Vec::new(alloc);
     if encode(entry, &mut again).is_ok() && bytes.starts_with(again.as_slice()) {
-        return Ok(());
+        return;
     }
-    out.write_all(b"spelled ")?;
-    write_bytes(again.as_slice(), out)
+    told.add(b"spelled ");
+    told.tell_bytes(again.as_slice());
 }
 
-fn write_record(alloc: Global, entry: &Record, out: &mut impl Write) -> io::Result<()> {
-    let text = format!(in alloc; "{entry:?}")?;
-    write_line(text.as_str(), out)
+fn tell_record(alloc: Global, entry: &Record, told: &mut Told) {
+    match format!(in alloc; "{entry:?}") {
+        Ok(text) => told.tell_brief(text.as_str()),
+        Err(_) => told.is_whole = false,
+    }
 }

@@ -2,12 +2,12 @@
 use boost::Said;
 use calls::Refusal;
 use disk_model::{FileDisk, Past, Unknown};
+use plays::told::Told;
 use std::fs::File;
-use std::io::{self, Write};
 use std::mem::size_of;
 
 /// Each refusal, by rising number.
-const REFUSALS: [Refusal; 26] = [
+const REFUSALS: [Refusal; 27] = [
     Refusal::BadName,
     Refusal::BadArg,
     Refusal::TooLong,
@@ -34,24 +34,19 @@ const REFUSALS: [Refusal; 26] = [
     Refusal::Unfinished,
     Refusal::AlreadyLive,
     Refusal::Imaging,
+    Refusal::Outrun,
 ];
 
-/// Prints how each refusal is told.
-pub fn write_all(out: &mut impl Write) -> io::Result<()> {
+/// Tells how a line of a script is answered that is refused, for each refusal.
+pub fn tell_all(told: &mut Told) {
     for refusal in &REFUSALS {
-        write_said(Said::Refused(*refusal), out)?;
+        told.tell(Said::Refused(*refusal));
     }
-    Ok(())
 }
 
-/// Prints what a line of a script would be answered.
-pub fn write_said(said: Said, out: &mut impl Write) -> io::Result<()> {
-    writeln!(out, "{said}")
-}
-
-/// Prints how many bytes a disk's past takes, a file, and a disk that is a file.
-pub fn write_sizes(out: &mut impl Write) -> io::Result<()> {
+/// Tells how many bytes a disk's past takes, a file, and a disk that is a file.
+pub fn tell_sizes(told: &mut Told) {
     let (past, file) = (size_of::<Past>(), size_of::<File>());
     let file_disk = size_of::<FileDisk<Unknown>>();
-    writeln!(out, "{past} {file} {file_disk}")
+    told.tell(format_args!("{past} {file} {file_disk}"));
 }

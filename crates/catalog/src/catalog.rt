@@ -185,6 +185,10 @@ impl Parts for Catalog {
         Ok(at as u8)
     }
 
+    fn count(&self) -> usize {
+        self.len()
+    }
+
     fn copy(&self, at: u8) -> Result<NamedHolding, Refusal> {
         let place = usize::from(at);
         match self.collections.get_index(place) {

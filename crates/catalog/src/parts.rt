@@ -50,6 +50,10 @@ pub trait Parts: Boosted<At = u8> {
         ensures as_before { OnErr result (self.new ≡ self.old) }
         ensures err { IfErr result (MakeRefused (making.names self.old) name.now) };
 
+    /// How many collections there are.
+    fn count(&self) -> usize
+        ensures { result ≡ length (collections self.now) };
+
     /// A copy of the collection at the place, with its name. It takes time and memory in proportion
     /// to what the collection holds.
     ///

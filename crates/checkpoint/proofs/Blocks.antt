@@ -1,6 +1,6 @@
 -- How long the blocks of an image are, and what is left of one behind its next block.
 use Rattle.std.proofs.Common.{◌≡◌, ℕ, ◌+◌, ◌<◌, ◌≤◌, List, [], ◌∷◌, ◌++◌, length, Bool, false}
-use Rattle.std.proofs.Common.{true≢false, drop, get_or, Vec, Option, Some, None, is_some, IsTrue}
+use Rattle.std.proofs.Common.{true≢false, drop, get_or, Vec, IsTrue}
 use Rattle.std.proofs.Common.{◌↔◌, Result, Ok, Err, IfOk, IfErr, OnErr, refl, sym, ◌∙◌, ap, subst}
 use Rattle.std.proofs.Common.{arith, append_assoc, length-append}
 use Rattle.std.proofs.lemmas.List.Elements.{All-head, All-tail, All-same}
@@ -13,6 +13,7 @@ use Rattle.gate_block.specs.Area.{size_of, position_of, IsLaid}
 use Rattle.gate_block.specs.Answers.{IsAppendAnswer}
 use Rattle.blocks.specs.Wholes.{IsWhole, body_of}
 use Rattle.checkpoint.specs.declared.laying.Laying.{Laying}
+use Rattle.checkpoint.specs.declared.stage.Stage.{Stage}
 use Rattle.checkpoint.specs.Imaging.{IsBeingLaid, IsTooLong, bodies_of, left_of}
 use Rattle.checkpoint.specs.ImageAnswers.{IsOneFewer, IsAsMany, PieceAnswers}
 use Rattle.checkpoint.specs.Keepers.{KeeperState}
@@ -96,10 +97,10 @@ only_fault e failed fails is_full is_risen fine fits a = absurd a
 
 -- what the writing of a piece answers
 pub pieced : {D : Type 0} (k : KeeperState D) (disk : D) (w v : Laying) (failed : Bool)
-    (is_risen : Type 0) (r : Result Bool Refusal) → k.failed ≡ false → k.image ≡ Some w →
+    (is_risen : Type 0) (r : Result Bool Refusal) → k.failed ≡ false → k.stage ≡ Stage.Laid w →
     failed ≡ is_err r → IfOk r (λ more. IsOneFewer w v more) →
     IfErr r (λ e. (e ≡ Refusal.Fault) × is_risen) → OnErr r (IsAsMany w v)
-    → PieceAnswers k is_risen (record k { disk = disk; failed = failed; image = Some v }) r
+    → PieceAnswers k is_risen (record k { disk = disk; failed = failed; stage = Stage.Laid v }) r
 pieced k disk w v failed is_risen (Ok more) fine is told one fault many = (
   fine,
   (
@@ -108,12 +109,12 @@ pieced k disk w v failed is_risen (Ok more) fine is told one fault many = (
     is,
     one,
     λ i. record k
-        { disk = disk; failed = (told ∙ sym fine) i; image = Some v },
+        { disk = disk; failed = (told ∙ sym fine) i; stage = Stage.Laid v },
   ),
 )
 pieced k disk w v failed is_risen (Err e) fine is told one fault many =
     subst (λ (x : Refusal). PieceAnswers k is_risen
-    (record k { disk = disk; failed = failed; image = Some v }) (Err x)) (sym fault.0) (
+    (record k { disk = disk; failed = failed; stage = Stage.Laid v }) (Err x)) (sym fault.0) (
       fine,
       fault.1,
       (
@@ -121,7 +122,7 @@ pieced k disk w v failed is_risen (Err e) fine is told one fault many =
         v,
         is,
         many,
-        λ i. record k { disk = disk; failed = told i; image = Some v },
+        λ i. record k { disk = disk; failed = told i; stage = Stage.Laid v },
       ),
     )
 
@@ -129,7 +130,3 @@ pub not_too_long : (r : Bool) (size asked : ℕ) (blocks : List (Vec ℕ Global)
     IsTrue r ↔ IsTooLong asked blocks → r ≡ false → IsTooLong size blocks → ⊥
 not_too_long r size asked blocks is says told long =
     true≢false (sym (says.1 (subst (λ (n : ℕ). IsTooLong n blocks) (sym is) long)) ∙ told)
-
-pub none_is : (o : Option Laying) (r : Bool) → r ≡ is_some o → r ≡ false → o ≡ None
-none_is None r is told = refl
-none_is (Some w) r is told = absurd (true≢false (sym is ∙ told))

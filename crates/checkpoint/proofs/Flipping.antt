@@ -1,7 +1,7 @@
 -- What a stop leaves while an image becomes the store, and what that is then.
 use Rattle.std.proofs.Common.{◌≡◌, ◌≢◌, ◌⊎◌, inl, inr, ⊎_elim, ℕ, ◌+◌, ◌*◌, ◌%◌, ◌≤◌, List, [], ◌∷◌}
 use Rattle.std.proofs.Common.{◌++◌, false, length, take, drop, get_or, sym, ◌∙◌, ap, subst, arith}
-use Rattle.std.proofs.Common.{Option, Some, Result, Ok, Err, OnOk}
+use Rattle.std.proofs.Common.{Result, Ok, Err, OnOk}
 use Rattle.std.proofs.lemmas.Bool.{cases_eq}
 use Rattle.std.proofs.lemmas.List.{append-nil, get_or-drop, get_or-take}
 use Rattle.calls.specs.declared.refusal.Refusal.{Refusal}
@@ -13,6 +13,7 @@ use Rattle.gate_block.specs.Area.{base_of, size_of, position_of, bytes_of, IsRea
 use Rattle.gate_block.proofs.Facts.{ready}
 use Rattle.gate_block.proofs.Parts.{written_there}
 use Rattle.checkpoint.specs.declared.laying.Laying.{Laying}
+use Rattle.checkpoint.specs.declared.stage.Stage.{Stage}
 use Rattle.checkpoint.specs.Imaging.{IsBeingLaid, IsRooted, LeavesRoot, PicksWhole, bodies_of}
 use Rattle.checkpoint.specs.Imaging.{left_of}
 use Rattle.gate_block.specs.Layout.{base_in_use}
@@ -39,17 +40,17 @@ root_picks base root size s new long written first second place =
     ]
 
 -- what a flip answers, from what it base_in_use
-pub flipped : {D : Type 0} (k l : KeeperState D) (w : Laying) (i : Option Laying)
-    (is_risen : Type 0) (r : Result ℕ Refusal) → k.failed ≡ false → k.image ≡ Some w →
-    left_of w ≡ [] → PickAnswers (record k { image = i }) w is_risen l r →
+pub flipped : {D : Type 0} (k l : KeeperState D) (w : Laying) (i : Stage)
+    (is_risen : Type 0) (r : Result ℕ Refusal) → k.failed ≡ false → k.stage ≡ Stage.Laid w →
+    left_of w ≡ [] → PickAnswers (record k { stage = i }) w is_risen l r →
     FlipAnswers k is_risen l r
 flipped k l w i is_risen (Ok mark) fine is none a = (fine, (w, is, none, a))
 flipped k l w i is_risen (Err Refusal.Failed) fine is none a = absurd a
 flipped k l w i is_risen (Err Refusal.Unfinished) fine is none a = absurd a
 flipped k l w i is_risen (Err e) fine is none a = (fine, (w, is, none, a))
 
-some_is : (w v : Laying) → Some w ≡ Some v → w ≡ v
-some_is w v e = cc
+pub laid_same : (w v : Laying) → Stage.Laid w ≡ Stage.Laid v → w ≡ v
+laid_same w v e = cc
 
 -- all blocks of an image that is written were laid
 pub all_laid : (w : Laying) (s : List ℕ) (bodies : List (List ℕ)) → left_of w ≡ [] → bodies ≢ [] →
@@ -64,7 +65,7 @@ all_laid w s bodies none some was =
     )
 
 module _ {D : Type 0} (seen : D → List ℕ) (may_leave : D → List ℕ → Type 0) (k : KeeperState D)
-    (w : Laying) (bodies : List (List ℕ)) (held : IsKeeper seen k) (is : k.image ≡ Some w)
+    (w : Laying) (bodies : List (List ℕ)) (held : IsKeeper seen k) (is : k.stage ≡ Stage.Laid w)
     (some : bodies ≢ []) (was : IsBeingLaid w (seen k.disk) bodies) where
   bytes : ℕ
   bytes = length (seen k.disk)
@@ -86,7 +87,7 @@ module _ {D : Type 0} (seen : D → List ℕ) (may_leave : D → List ℕ → Ty
       FlipAnswers k is_risen l r → Torn 512 1 (seen k.disk) (seen l.disk) →
       OnOk r (IsAtRest seen may_leave l.disk) → OnOk r (IsReady seen may_leave l.area l.disk bodies)
   flip_ready l is_risen (Ok mark) a torn rest =
-      let same : a.1.0 ≡ w = some_is a.1.0 w (sym a.1.1 ∙ is) in
+      let same : a.1.0 ≡ w = laid_same a.1.0 w (sym a.1.1 ∙ is) in
       let none : left_of w ≡ [] = subst (λ (v : Laying). left_of v ≡ []) same a.1.2 in
       let area_is : w.area ≡ l.area =
       sym (ap (λ (x : KeeperState D). x.area) a.1.3.1 ∙ ap (λ (v : Laying). v.area) same) in

@@ -20,7 +20,7 @@ use Rattle.repetition.specs.Journals.{records_in}
 use Rattle.repetition.proofs.Lists.{flat_map-append}
 use Rattle.checkpoint.specs.Imaging.{bodies_of}
 use Rattle.blocks.specs.Carried.{IsCarried, Carries}
-use Rattle.checkpoint.specs.Keeping.{BegunImage, IsApart, Uncrossed}
+use Rattle.checkpoint.specs.Keeping.{IsApart, Uncrossed}
 use Rattle.checkpoint.proofs.StandLemmas.{same_beginning}
 
 -- the same blocks carry the same groups, where both begin one list
@@ -72,12 +72,11 @@ apart_front front [] hs position all = tt
 apart_front front (g ∷ gs) hs position all =
     (all.0, apart_front (front + length g) gs hs position all.1)
 
-pub uncrossed_front : (images : List BegunImage) (gs hs : List (List Record)) →
-    Uncrossed images (gs ++ hs) → Uncrossed images gs
-uncrossed_front images gs hs all =
-    All-weaker (λ i. IsApart 0 (gs ++ hs) (length i.covered))
-    (λ i. IsApart 0 gs (length i.covered))
-    (λ i apart. apart_front 0 gs hs (length i.covered) apart) images all
+pub uncrossed_front : (freezes : List ℕ) (gs hs : List (List Record)) →
+    Uncrossed freezes (gs ++ hs) → Uncrossed freezes gs
+uncrossed_front freezes gs hs all =
+    All-weaker (λ p. IsApart 0 (gs ++ hs) p) (λ p. IsApart 0 gs p)
+    (λ p apart. apart_front 0 gs hs p apart) freezes all
 
 -- a position that no block reaches, and one behind them
 pub apart_before : (front : ℕ) (gs : List (List Record)) (position : ℕ) → position ≤ front →
@@ -95,12 +94,11 @@ apart_behind front (g ∷ gs) position le =
       apart_behind (front + length g) gs position (omega (arith, le, size)),
     )
 
--- the end of an image that was begun
-pub apart_image : (images : List BegunImage) (groups : List (List Record)) (image : BegunImage) →
-    Uncrossed images groups → Contains images image →
-    IsApart 0 groups (length image.covered)
-apart_image images groups image all one =
-    All-contains (λ i. IsApart 0 groups (length i.covered)) images image all one
+-- a position at which the book was frozen
+pub apart_frozen : (freezes : List ℕ) (groups : List (List Record)) (position : ℕ) →
+    Uncrossed freezes groups → Contains freezes position → IsApart 0 groups position
+apart_frozen freezes groups position all one =
+    All-contains (λ p. IsApart 0 groups p) freezes position all one
 
 -- ---- bodies of whole blocks
 

@@ -1,12 +1,11 @@
--- An image begins, a piece of it is written, and it becomes the store: what was received stays, and
--- at each moment a stop yields what is known.
+-- An end is held, an image begins, a piece of it is written, and it becomes the store: what was
+-- received stays, and at each moment a stop yields what is known.
 use Rattle.std.proofs.Common.{◌≡◌, ◌≢◌, ◌⊎◌, inl, inr, ⊎_elim, ℕ, zero, suc, ◌+◌, ◌*◌, ◌%◌, ◌≤◌}
 use Rattle.std.proofs.Common.{◌<◌, max, Bool, true, false, true≢false, List, [], ◌∷◌, ◌++◌, length}
 use Rattle.std.proofs.Common.{map, take, get_or, refl, sym, ◌∙◌, ap, subst, arith, append_assoc}
-use Rattle.std.proofs.Common.{length-append, eq-or-lt_of_le, Option, Some, None, Result, Ok, Err}
-use Rattle.std.proofs.Common.{OnOk}
+use Rattle.std.proofs.Common.{length-append, eq-or-lt_of_le, Result, Ok, Err, OnOk, Contains}
 use Rattle.std.proofs.lemmas.List.{append-nil}
-use Rattle.std.proofs.lemmas.List.Elements.{All-cons, Contains-append_right}
+use Rattle.std.proofs.lemmas.List.Elements.{All-cons, All-weaker, Contains-append_right}
 use Rattle.calls.specs.Contents.{Collection}
 use Rattle.calls.specs.declared.refusal.Refusal.{Refusal}
 use Rattle.disk_model.specs.Disk.{Torn, IsAtRest, LeavesOnly}
@@ -24,23 +23,30 @@ use Rattle.blocks.specs.declared.block.Block.{Block}
 use Rattle.blocks.specs.declared.block.Image.{Image}
 use Rattle.blocks.proofs.Places.{places_append}
 use Rattle.checkpoint.specs.declared.laying.Laying.{Laying}
+use Rattle.checkpoint.specs.declared.stage.Ending.{Ending}
+use Rattle.checkpoint.specs.declared.stage.Stage.{Stage}
 use Rattle.checkpoint.specs.Imaging.{IsOther, IsBeingLaid, IsRooted, LeavesRoot, PicksWhole}
-use Rattle.checkpoint.specs.Imaging.{IsSameImage, left_of, bodies_of}
-use Rattle.checkpoint.specs.ImageAnswers.{BeginAnswers, PieceAnswers, FlipAnswers}
+use Rattle.checkpoint.specs.Imaging.{IsSameImage, IsAwaited, EndsThere, left_of, bodies_of}
+use Rattle.checkpoint.specs.ImageAnswers.{IsStarted, HoldAnswers, BeginAnswers, StartAnswers}
+use Rattle.checkpoint.specs.ImageAnswers.{PieceAnswers, FlipAnswers}
 use Rattle.checkpoint.specs.Keepers.{KeeperState, IsKeeper, IsOneOfTwo}
 use Rattle.checkpoint.specs.Stored.{StandIn}
 use Rattle.checkpoint.specs.DiskHeads.{IsHeaded, IsInUse}
 use Rattle.checkpoint.specs.Crash.{YieldsUpTo}
-use Rattle.checkpoint.specs.Keeping.{BegunImage, IsImaging, HasReceived, LeavesKept}
-use Rattle.checkpoint.specs.Keeping.{BeginKeeps, ImageKeeps, begun_with, IsApart}
+use Rattle.checkpoint.specs.Keeping.{BegunImage, IsImageFor, IsApart, IsHolding, IsImaging}
+use Rattle.checkpoint.specs.Keeping.{HasReceived, HasReceivedAtOnce, ends_of, LeavesKept}
+use Rattle.checkpoint.specs.Keeping.{HoldKeeps, BeginKeeps, StartKeeps, ImageKeeps}
+use Rattle.checkpoint.specs.Keeping.{held_with, begun_with}
 use Rattle.checkpoint.proofs.Apart.{back, apart, still_ready}
 use Rattle.checkpoint.proofs.Turning.{beside_is}
+use Rattle.checkpoint.proofs.Flipping.{laid_same}
 use Rattle.checkpoint.proofs.StandLemmas.{shorter_beginning}
 use Rattle.checkpoint.proofs.HeadLemmas.{same_front, same_at, head_header, head_headed}
 use Rattle.checkpoint.proofs.YieldLemmas.{row_yields}
 use Rattle.checkpoint.proofs.GroupLemmas.{apart_behind, whole_bodies, some_groups}
 use Rattle.blocks.proofs.Carrying.{joined-append}
-use Rattle.checkpoint.proofs.ReceivedLemmas.{received_once, still_kept, none_some}
+use Rattle.checkpoint.proofs.ReceivedLemmas.{received_once, still_kept}
+use Rattle.checkpoint.proofs.ReceivedLemmas.{idle_laid, idle_awaited}
 use Rattle.repetition.specs.Journals.{IsHeader, records_in}
 use Rattle.repetition.specs.Steps.{State}
 
@@ -79,8 +85,18 @@ empty_map : (blocks : List (List Record)) → map spelling blocks ≡ [] → blo
 empty_map [] e = refl
 empty_map (b ∷ blocks) e = absurd (omega (arith, ap length e))
 
-some_same : (l v : Laying) → Some l ≡ Some v → l ≡ v
-some_same l v e = cc
+awaited_same : (e x : Ending) → Stage.Awaited e ≡ Stage.Awaited x → e ≡ x
+awaited_same e x is = cc
+
+awaited_laid : (e : Ending) (l : Laying) (A : Type 0) → Stage.Awaited e ≡ Stage.Laid l → A
+awaited_laid e l A is = cc
+
+-- the image that is awaited ends at the end that is held
+awaiting : (s : Stage) (image : Image) → IsAwaited s image →
+    (e : Ending) × (s ≡ Stage.Awaited e) × EndsThere e image
+awaiting (Stage.Awaited e) image there = (e, refl, there)
+awaiting Stage.Idle image there = absurd there
+awaiting (Stage.Laid w) image there = absurd there
 
 -- all of an image that begins is left
 none_laid : (v : Laying) (disk : List ℕ) → position_of v.area ≡ 0 →
@@ -95,17 +111,19 @@ none_laid v disk at = record {
 
 module _ {D : Type 0} (seen : D → List ℕ) (may_leave : D → List ℕ → Type 0)
     (start : List Collection) (wear : ℕ) (records : List Record) (now : State)
-    (images : List BegunImage) (received : List Block) (k : KeeperState D)
-    (had : HasReceived seen may_leave start wear records now images received k) where
-  on_disk : (disk : D) (failed : Bool) (image : Option Laying) →
+    (freezes : List ℕ) (images : List BegunImage) (received : List Block) (k : KeeperState D)
+    (had : HasReceived seen may_leave start wear records now freezes images received k) where
+  on_disk : (disk : D) (failed : Bool) (stage : Stage) →
       ((c : List ℕ) → may_leave disk c → YieldsUpTo start records k.mark c) →
       (failed ≡ false → IsInUse seen may_leave k.area disk (had.old ++ had.kept)) →
-      (failed ≡ false → (l : Laying) → image ≡ Some l →
+      (failed ≡ false → (e : Ending) → stage ≡ Stage.Awaited e →
+      IsHolding freezes (length had.covered + length (records_in had.kept)) e) →
+      (failed ≡ false → (l : Laying) → stage ≡ Stage.Laid l →
       IsImaging seen start wear records now images disk k.area
       (length had.covered + length (records_in had.kept)) l) →
-      HasReceived seen may_leave start wear records now images received
-      (record k { disk = disk; failed = failed; image = image })
-  on_disk disk failed image stop in_use imaging = record {
+      HasReceived seen may_leave start wear records now freezes images received
+      (record k { disk = disk; failed = failed; stage = stage })
+  on_disk disk failed stage stop in_use holding imaging = record {
     good = had.good;
     brought = had.brought;
     parts = had.parts;
@@ -116,6 +134,7 @@ module _ {D : Type 0} (seen : D → List ℕ) (may_leave : D → List ℕ → Ty
     rest = had.rest;
     begins = had.begins;
     uncrossed = had.uncrossed;
+    frozen = had.frozen;
     old = had.old;
     covered = had.covered;
     stands = had.stands;
@@ -129,22 +148,18 @@ module _ {D : Type 0} (seen : D → List ℕ) (may_leave : D → List ℕ → Ty
     marked = had.marked;
     stop = stop;
     in_use = in_use;
+    holding = holding;
     imaging = imaging;
   }
 
-  -- ---- an image begins
+  -- ---- an end is held
 
-  module _ (image : BegunImage) (l : Laying) (none : k.image ≡ None) (other : IsOther k.area l.area)
-      (some : image.blocks ≢ [])
-      (stands : StandIn start wear records now image.blocks image.covered)
-      (end : l.image.end ≡ length image.covered) (place : l.image.place ≡ places image.covered)
-      (laid : IsBeingLaid l (seen k.disk) (map spelling image.blocks))
-      (behind : length (records_in (had.groups ++ had.last)) ≤ length image.covered)
-      (over : k.covered ≤ length image.covered) where
-    -- so the image covers all that is kept
-    ahead : length had.covered + length (records_in had.kept) ≤ length image.covered
+  module _ (e : Ending) (behind : length (records_in (had.groups ++ had.last)) ≤ e.end)
+      (over : k.covered ≤ e.end) where
+    -- so nothing that is kept is past it
+    ahead : length had.covered + length (records_in had.kept) ≤ e.end
     ahead =
-        let most : length (records_in had.groups) ≤ length image.covered = omega (
+        let most : length (records_in had.groups) ≤ e.end = omega (
           arith,
           behind,
           ap length (joined-append had.groups had.last),
@@ -158,22 +173,78 @@ module _ {D : Type 0} (seen : D → List ℕ) (may_leave : D → List ℕ → Ty
         omega (arith, over, had.covers, ap (λ g. length (records_in g)) (had.even past)))
         (eq-or-lt_of_le had.reaches)
 
-    imaging : IsImaging seen start wear records now (image ∷ images) k.disk k.area
-        (length had.covered + length (records_in had.kept)) l
-    imaging = record {
-      other = other;
-      image = image;
-      begun = (0, omega arith, refl);
-      some = some;
-      stands = stands;
-      end = end;
-      place = place;
-      laid = laid;
-      ahead = omega (arith, ahead, end);
+    holds : IsHolding (e.end ∷ freezes) (length had.covered + length (records_in had.kept)) e
+    holds = record { frozen = (0, omega arith, refl); ahead = ahead }
+
+    is_held : HasReceived seen may_leave start wear records now (e.end ∷ freezes) images received
+        (record k { stage = Stage.Awaited e })
+    is_held = record {
+      good = had.good;
+      brought = had.brought;
+      parts = had.parts;
+      groups = had.groups;
+      carried = had.carried;
+      last = had.last;
+      held = had.held;
+      rest = had.rest;
+      begins = had.begins;
+      uncrossed = All-cons (λ p. IsApart 0 (had.groups ++ had.last) p) e.end freezes
+          (apart_behind 0 (had.groups ++ had.last) e.end (omega (arith, behind))) had.uncrossed;
+      frozen = All-weaker (λ i. Contains freezes (length i.covered))
+          (λ i. Contains (e.end ∷ freezes) (length i.covered))
+          (λ i one. Contains-append_right (e.end ∷ []) freezes _ one) images had.frozen;
+      old = had.old;
+      covered = had.covered;
+      stands = had.stands;
+      source = had.source;
+      kept = had.kept;
+      later = had.later;
+      split = had.split;
+      reaches = had.reaches;
+      even = had.even;
+      covers = had.covers;
+      marked = had.marked;
+      stop = had.stop;
+      in_use = had.in_use;
+      holding = λ fine x is. subst (λ (y : Ending). IsHolding (e.end ∷ freezes)
+          (length had.covered + length (records_in had.kept)) y) (awaited_same e x is) holds;
+      imaging = λ fine l is. awaited_laid e l _ is;
     }
 
-    is_begun : HasReceived seen may_leave start wear records now (image ∷ images) received
-        (record k { image = Some l })
+  -- ---- the image that is awaited begins
+
+  module _ (e : Ending) (fine : k.failed ≡ false) (awaited : k.stage ≡ Stage.Awaited e)
+      (image : Image) (there : EndsThere e image) (some : image.blocks.items ≢ [])
+      (begun : BegunImage) (is_for : IsImageFor image begun)
+      (stands : StandIn start wear records now begun.blocks begun.covered)
+      (area : Area) (started : IsStarted k.area area) where
+    abbrev laying : Laying
+    laying = record { area = area; image = image }
+
+    held : IsHolding freezes (length had.covered + length (records_in had.kept)) e
+    held = had.holding fine e awaited
+
+    at_end : e.end ≡ length begun.covered
+    at_end = sym there.0 ∙ is_for.end
+
+    imaging : IsImaging seen start wear records now (begun ∷ images) k.disk k.area
+        (length had.covered + length (records_in had.kept)) laying
+    imaging = record {
+      other = started.other;
+      image = begun;
+      begun = (0, omega arith, refl);
+      some = some_groups image.blocks.items begun.blocks is_for.whole some;
+      stands = stands;
+      end = is_for.end;
+      place = is_for.place;
+      laid = subst (λ bs. IsBeingLaid laying (seen k.disk) bs)
+          (whole_bodies image.blocks.items begun.blocks is_for.whole)
+          (none_laid laying (seen k.disk) started.position);
+      ahead = omega (arith, held.ahead, there.0);
+    }
+
+    is_begun : HasReceived seen may_leave start wear records now freezes (begun ∷ images) received
+        (record k { stage = Stage.Laid laying })
     is_begun = record {
       good = had.good;
       brought = had.brought;
@@ -184,14 +255,14 @@ module _ {D : Type 0} (seen : D → List ℕ) (may_leave : D → List ℕ → Ty
       held = had.held;
       rest = had.rest;
       begins = had.begins;
-      uncrossed = All-cons (λ i. IsApart 0 (had.groups ++ had.last) (length i.covered)) image images
-          (apart_behind 0 (had.groups ++ had.last) (length image.covered) (omega (arith, behind)))
-          had.uncrossed;
+      uncrossed = had.uncrossed;
+      frozen = All-cons (λ i. Contains freezes (length i.covered)) begun images
+          (subst (Contains freezes) at_end held.frozen) had.frozen;
       old = had.old;
       covered = had.covered;
       stands = had.stands;
       source = ⊎_elim (λ empty. inl empty)
-          (λ one. inr (Contains-append_right (image ∷ []) images _ one)) had.source;
+          (λ one. inr (Contains-append_right (begun ∷ []) images _ one)) had.source;
       kept = had.kept;
       later = had.later;
       split = had.split;
@@ -201,9 +272,10 @@ module _ {D : Type 0} (seen : D → List ℕ) (may_leave : D → List ℕ → Ty
       marked = had.marked;
       stop = had.stop;
       in_use = had.in_use;
-      imaging = λ fine v is. subst (λ (x : Laying). IsImaging seen start wear records now
-          (image ∷ images) k.disk k.area (length had.covered + length (records_in had.kept)) x)
-          (some_same l v is) imaging;
+      holding = λ f x is. awaited_laid x laying _ (sym is);
+      imaging = λ f v is. subst (λ (x : Laying). IsImaging seen start wear records now
+          (begun ∷ images) k.disk k.area (length had.covered + length (records_in had.kept)) x)
+          (laid_same laying v is) imaging;
     }
 
 -- ---- an image in progress: one that is all written is the store, and one more of its blocks is
@@ -211,9 +283,9 @@ module _ {D : Type 0} (seen : D → List ℕ) (may_leave : D → List ℕ → Ty
 
 module _ {D : Type 0} (seen : D → List ℕ) (may_leave : D → List ℕ → Type 0)
     (start : List Collection) (wear : ℕ) (records : List Record) (now : State)
-    (images : List BegunImage) (received : List Block) (k : KeeperState D)
-    (had : HasReceived seen may_leave start wear records now images received k)
-    (fine : k.failed ≡ false) (l : Laying) (is : k.image ≡ Some l) where
+    (freezes : List ℕ) (images : List BegunImage) (received : List Block) (k : KeeperState D)
+    (had : HasReceived seen may_leave start wear records now freezes images received k)
+    (fine : k.failed ≡ false) (l : Laying) (is : k.stage ≡ Stage.Laid l) where
   abbrev used : IsInUse seen may_leave k.area k.disk (had.old ++ had.kept)
   used = had.in_use fine
 
@@ -334,8 +406,14 @@ module _ {D : Type 0} (seen : D → List ℕ) (may_leave : D → List ℕ → Ty
     few : mark ≤ places covered
     few = omega (arith, mark_is, marked_new, image.place)
 
-    is_flipped : HasReceived seen may_leave start wear records now images received
-        (record k { disk = disk; area = l.area; covered = l.image.end; image = None; mark = mark })
+    is_flipped : HasReceived seen may_leave start wear records now freezes images received
+        (record k {
+          disk = disk;
+          area = l.area;
+          covered = l.image.end;
+          stage = Stage.Idle;
+          mark = mark;
+        })
     is_flipped = record {
       good = had.good;
       brought = had.brought;
@@ -347,6 +425,7 @@ module _ {D : Type 0} (seen : D → List ℕ) (may_leave : D → List ℕ → Ty
       rest = had.rest;
       begins = had.begins;
       uncrossed = had.uncrossed;
+      frozen = had.frozen;
       old = blocks;
       covered = covered;
       stands = image.stands;
@@ -369,7 +448,8 @@ module _ {D : Type 0} (seen : D → List ℕ) (may_leave : D → List ℕ → Ty
           same_size = λ c left. ap length (rest c left);
         };
       };
-      imaging = λ same v one. none_some v _ one;
+      holding = λ same e one. idle_awaited e _ one;
+      imaging = λ same v one. idle_laid v _ one;
     }
 
   -- what changes in the image's area alone leaves the head and the area in use
@@ -445,13 +525,15 @@ module _ {D : Type 0} (seen : D → List ℕ) (may_leave : D → List ℕ → Ty
       ahead = omega (arith, image.ahead, same.end);
     }
 
-    is_laid : HasReceived seen may_leave start wear records now images received
-        (record k { disk = disk; failed = k.failed; image = Some v })
+    is_laid : HasReceived seen may_leave start wear records now freezes images received
+        (record k { disk = disk; failed = k.failed; stage = Stage.Laid v })
     is_laid =
-        on_disk seen may_leave start wear records now images received k had disk k.failed (Some v)
+        on_disk seen may_leave start wear records now freezes images received k had disk k.failed
+        (Stage.Laid v)
         (λ c left. piece_yields c (piecing c left)) (λ f. still_used)
+        (λ f e is. awaited_laid e v _ (sym is))
         (λ f x e. subst (λ (y : Laying). IsImaging seen start wear records now images disk k.area
-        (length had.covered + length (records_in had.kept)) y) (some_same v x e) still_imaging)
+        (length had.covered + length (records_in had.kept)) y) (laid_same v x e) still_imaging)
 
 -- ---- what the calls answer and leave
 
@@ -459,102 +541,172 @@ module _ {D : Type 0} (g : Ghosts D) (k l : KeeperState D)
     (only_now : (c : List ℕ) → g.left_since k.disk (g.moment k.disk) c → g.may_leave k.disk c)
     (counts_now : (t : ℕ) (c : List ℕ) → t ≤ g.moment l.disk → g.may_leave l.disk c →
     g.left_since l.disk t c) where
-  -- an image begins, or is refused
+  -- an end is held, or refused
+  pub hold_keeps : (e : Ending) (r : Result (Unit {0}) Refusal) → HoldAnswers k e l r →
+      HoldKeeps g e.end r k l
+  hold_keeps e r a start wear records now freezes images received groups carried begins behind over
+      had =
+      held_or r a
+    where
+      Both : List ℕ → KeeperState D → Type 0
+      Both ps n = HasReceived g.seen g.may_leave start wear records now ps images received n
+          × LeavesKept g start records k n
+
+      still : LeavesKept g start records k k
+      still = still_kept g.seen g.may_leave start wear records now freezes images received k had
+          g.moment g.left_since only_now
+
+      held_or : (r : Result (Unit {0}) Refusal) → HoldAnswers k e l r →
+          Both (held_with e.end freezes r) l
+      held_or (Ok done) a =
+          let all = received_once g.seen g.may_leave start wear records now freezes images received
+          k had groups carried begins in
+          subst (Both (e.end ∷ freezes)) (sym a.2) (
+            is_held g.seen g.may_leave start wear records now freezes images received k had e
+                (subst (λ gs. length (records_in gs) ≤ e.end) all behind) over,
+            still,
+          )
+      held_or (Err Refusal.Failed) a = subst (Both freezes) (sym a.1) (had, still)
+      held_or (Err Refusal.Imaging) a = subst (Both freezes) (sym a.2) (had, still)
+      held_or (Err e) a = absurd a
+
+  -- the image that is awaited begins, or is refused
   pub begin_keeps : (image : Image) → image.blocks.items ≢ [] → (r : Result (Unit {0}) Refusal) →
       BeginAnswers k image l r → BeginKeeps g image r k l
-  begin_keeps image blocks r a start wear records now images received groups covers carried begins
-      is_image stands behind over had =
+  begin_keeps image some r a start wear records now freezes images received begun is_for stands
+      had =
       begun_or r a
     where
       Both : List BegunImage → KeeperState D → Type 0
-      Both ims n = HasReceived g.seen g.may_leave start wear records now ims received n
+      Both ims n = HasReceived g.seen g.may_leave start wear records now freezes ims received n
           × LeavesKept g start records k n
 
-      unbegun : l ≡ k → Both images l
-      unbegun same = subst (Both images) (sym same) (
-        had,
-        still_kept g.seen g.may_leave start wear records now images received k had g.moment
-            g.left_since only_now,
-      )
+      still : LeavesKept g start records k k
+      still = still_kept g.seen g.may_leave start wear records now freezes images received k had
+          g.moment g.left_since only_now
 
       begun_or : (r : Result (Unit {0}) Refusal) → BeginAnswers k image l r →
-          Both (begun_with covers images r) l
+          Both (begun_with begun images r) l
       begun_or (Ok done) a =
-          let area : Area = a.3.0 in
-          let v : Laying = record { area = area; image = image } in
-          let next : KeeperState D = record k { image = Some v } in
-          let same : l ≡ next = a.3.2 in
-          let laid : IsBeingLaid v (g.seen k.disk) (map spelling covers.blocks) =
-          subst (λ bs. IsBeingLaid v (g.seen k.disk) bs)
-          (whole_bodies image.blocks.items covers.blocks is_image.whole)
-          (none_laid v (g.seen k.disk) a.3.1.position) in
-          let all = received_once g.seen g.may_leave start wear records now images received k had
-          groups carried begins in
-          subst (Both (covers ∷ images)) (sym same) (
-            is_begun g.seen g.may_leave start wear records now images received k had covers v a.1
-                a.3.1.other (some_groups image.blocks.items covers.blocks is_image.whole blocks)
-                stands is_image.end is_image.place laid
-                (subst (λ gs. length (records_in gs) ≤ length covers.covered) all behind) over,
-            still_kept g.seen g.may_leave start wear records now images received k had g.moment
-                g.left_since only_now,
+          let awaited = awaiting k.stage image a.1 in
+          subst (Both (begun ∷ images)) (sym a.2.1.2) (
+            is_begun g.seen g.may_leave start wear records now freezes images received k had
+                awaited.0 a.0 awaited.1 image awaited.2 some begun is_for stands a.2.1.0 a.2.1.1,
+            still,
           )
-      begun_or (Err Refusal.Failed) a = unbegun a.1
-      begun_or (Err Refusal.Imaging) a = unbegun a.2
-      begun_or (Err Refusal.Full) a = unbegun a.3
-      begun_or (Err e) a = absurd a
+      begun_or (Err Refusal.Failed) a = subst (Both images) (sym a.1) (had, still)
+      begun_or (Err Refusal.Full) a = subst (Both images) (sym a.3) (
+        on_disk g.seen g.may_leave start wear records now freezes images received k had k.disk
+            k.failed Stage.Idle had.stop had.in_use (λ fine e is. idle_awaited e _ is)
+            (λ fine v is. idle_laid v _ is),
+        still,
+      )
+      begun_or (Err e) a = subst (Both images) (sym a.2) (had, still)
+
+  -- an image begins at once, or is refused
+  pub start_keeps : (image : Image) → image.blocks.items ≢ [] → (r : Result (Unit {0}) Refusal) →
+      StartAnswers k image l r → StartKeeps g image r k l
+  start_keeps image some r a start wear records now images received groups begun carried begins
+      is_for stands behind over had =
+      started_or r a
+    where
+      Both : List BegunImage → KeeperState D → Type 0
+      Both ims n = HasReceivedAtOnce g.seen g.may_leave start wear records now ims received n
+          × LeavesKept g start records k n
+
+      still : LeavesKept g start records k k
+      still = still_kept g.seen g.may_leave start wear records now (ends_of images) images received
+          k had g.moment g.left_since only_now
+
+      e : Ending
+      e = record { end = length begun.covered; place = image.place }
+
+      -- its end is held first
+      held : HasReceived g.seen g.may_leave start wear records now
+          (length begun.covered ∷ ends_of images) images received
+          (record k { stage = Stage.Awaited e })
+      held =
+          let all = received_once g.seen g.may_leave start wear records now (ends_of images) images
+          received k had groups carried begins in
+          is_held g.seen g.may_leave start wear records now (ends_of images) images received k had e
+          (subst (λ gs. length (records_in gs) ≤ length begun.covered) all behind) over
+
+      started_or : (r : Result (Unit {0}) Refusal) → StartAnswers k image l r →
+          Both (begun_with begun images r) l
+      started_or (Ok done) a = subst (Both (begun ∷ images)) (sym a.2.1.2) (
+        is_begun g.seen g.may_leave start wear records now
+            (length begun.covered ∷ ends_of images) images received
+            (record k { stage = Stage.Awaited e }) held e a.0 refl image (is_for.end, refl) some
+            begun is_for stands a.2.1.0 a.2.1.1,
+        still,
+      )
+      started_or (Err Refusal.Failed) a = subst (Both images) (sym a.1) (had, still)
+      started_or (Err Refusal.Imaging) a = subst (Both images) (sym a.2) (had, still)
+      started_or (Err Refusal.Full) a = subst (Both images) (sym a.3) (had, still)
+      started_or (Err e) a = absurd a
 
   module _ (start : List Collection) (wear : ℕ) (records : List Record) (now : State)
-      (images : List BegunImage) (received : List Block)
-      (had : HasReceived g.seen g.may_leave start wear records now images received k) where
+      (freezes : List ℕ) (images : List BegunImage) (received : List Block)
+      (had : HasReceived g.seen g.may_leave start wear records now freezes images received k) where
     abbrev Keeps : Type 0
-    Keeps = HasReceived g.seen g.may_leave start wear records now images received l
+    Keeps = HasReceived g.seen g.may_leave start wear records now freezes images received l
         × LeavesKept g start records k l
 
     -- the keeper is as it was
     same_keeper : l ≡ k → Keeps
     same_keeper same =
-        subst (λ (n : KeeperState D). HasReceived g.seen g.may_leave start wear records now images
+        subst (λ (n : KeeperState D). HasReceived g.seen g.may_leave start wear records now freezes
+        images
         received n × LeavesKept g start records k n) (sym same) (
           had,
-          still_kept g.seen g.may_leave start wear records now images received k had g.moment
+          still_kept g.seen g.may_leave start wear records now freezes images received k had
+              g.moment
               g.left_since only_now,
         )
 
     -- the keeper failed
-    failed_keeper : (image : Option Laying) →
-        l ≡ record k { disk = l.disk; failed = true; image = image } →
+    failed_keeper : (stage : Stage) →
+        l ≡ record k { disk = l.disk; failed = true; stage = stage } →
         LeavesKept g start records k l → Keeps
-    failed_keeper image same run = (
-      subst (HasReceived g.seen g.may_leave start wear records now images received) (sym same)
-          (on_disk g.seen g.may_leave start wear records now images received k had l.disk true image
+    failed_keeper stage same run = (
+      subst (HasReceived g.seen g.may_leave start wear records now freezes images received)
+          (sym same)
+          (on_disk g.seen g.may_leave start wear records now freezes images received k had l.disk
+          true stage
           (leaves_now g.moment g.left_since k.disk l.disk (YieldsUpTo start records k.mark)
           (g.may_leave l.disk) run counts_now)
-          (λ fine. absurd (true≢false fine)) (λ fine. absurd (true≢false fine))),
+          (λ fine. absurd (true≢false fine)) (λ fine. absurd (true≢false fine))
+          (λ fine. absurd (true≢false fine))),
       run,
     )
 
     -- What a flip answers and leaves.
     module _ (any_moment : LeavesOnly g.moment g.left_since k.disk l.disk
         (LeavesRoot (g.may_leave k.disk) (g.seen k.disk)))
-        (any_moment_whole : (w : Laying) (bodies : List (List ℕ)) → k.image ≡ Some w →
+        (any_moment_whole : (w : Laying) (bodies : List (List ℕ)) → k.stage ≡ Stage.Laid w →
         left_of w ≡ [] → bodies ≢ [] → IsBeingLaid w (g.seen k.disk) bodies →
         IsRooted g.seen g.may_leave k.area k.disk →
         LeavesOnly g.moment g.left_since k.disk l.disk
         (PicksWhole k.area (g.seen k.disk) w.area bodies)) where
-      flip_run : (fine : k.failed ≡ false) (v : Laying) (is : k.image ≡ Some v) → left_of v ≡ [] →
+      flip_run : (fine : k.failed ≡ false) (v : Laying) (is : k.stage ≡ Stage.Laid v) →
+          left_of v ≡ [] →
           LeavesKept g start records k l
       flip_run fine v is none =
-          flip_kept g.seen g.may_leave start wear records now images received k had fine v is
+          flip_kept g.seen g.may_leave start wear records now freezes images received k had fine v
+          is
           g.moment g.left_since l.disk any_moment
           (any_moment_whole v
-          (bodies g.seen g.may_leave start wear records now images received k had fine v is) is none
-          (bodies_some g.seen g.may_leave start wear records now images received k had fine v is)
+          (bodies g.seen g.may_leave start wear records now freezes images received k had fine v is)
+          is none
+          (bodies_some g.seen g.may_leave start wear records now freezes images received k had fine
+          v is)
           (had.imaging fine v is).laid
-          (rooted g.seen g.may_leave start wear records now images received k had fine v is))
+          (rooted g.seen g.may_leave start wear records now freezes images received k had fine v
+          is))
 
       flip_cases : Torn 512 1 (g.seen k.disk) (g.seen l.disk) → (is_risen : Type 0)
           (r : Result ℕ Refusal) → FlipAnswers k is_risen l r →
-          ((w : Laying) (bodies : List (List ℕ)) → k.image ≡ Some w → bodies ≢ [] →
+          ((w : Laying) (bodies : List (List ℕ)) → k.stage ≡ Stage.Laid w → bodies ≢ [] →
           IsBeingLaid w (g.seen k.disk) bodies →
           OnOk r (IsReady g.seen g.may_leave l.area l.disk bodies)) →
           OnOk r (base_in_use (size_of l.area) (g.seen l.disk) ≡ base_of l.area) →
@@ -562,60 +714,67 @@ module _ {D : Type 0} (g : Ghosts D) (k l : KeeperState D)
       flip_cases root is_risen (Ok m) a kept picks rest =
           let fine : k.failed ≡ false = a.0 in
           let v : Laying = a.1.0 in
-          let is : k.image ≡ Some v = a.1.1 in
+          let is : k.stage ≡ Stage.Laid v = a.1.1 in
           let next : KeeperState D = record k
-          { disk = l.disk; area = v.area; mark = m; covered = v.image.end; image = None } in
+          { disk = l.disk; area = v.area; mark = m; covered = v.image.end; stage = Stage.Idle } in
           let same : l ≡ next = a.1.3.1 in
           let area_is : l.area ≡ v.area = ap (λ (x : KeeperState D). x.area) same in
           let bs : List (List ℕ) =
-          bodies g.seen g.may_leave start wear records now images received k had fine v is in
+          bodies g.seen g.may_leave start wear records now freezes images received k had fine v
+          is in
           let ready : IsReady g.seen g.may_leave v.area l.disk bs =
           subst (λ (x : Area). IsReady g.seen g.may_leave x l.disk bs) area_is
           (kept v bs is
-          (bodies_some g.seen g.may_leave start wear records now images received k had fine v is)
+          (bodies_some g.seen g.may_leave start wear records now freezes images received k had fine
+          v is)
           (had.imaging fine v is).laid) in
           let there : base_in_use (size_of v.area) (g.seen l.disk) ≡ base_of v.area =
           subst (λ (x : Area). base_in_use (size_of x) (g.seen l.disk) ≡ base_of x) area_is picks
           in (
-            subst (HasReceived g.seen g.may_leave start wear records now images received) (sym same)
-                (is_flipped g.seen g.may_leave start wear records now images received k had fine v
+            subst (HasReceived g.seen g.may_leave start wear records now freezes images received)
+                (sym same)
+                (is_flipped g.seen g.may_leave start wear records now freezes images received k had
+                fine v
                 is l.disk m a.1.3.0 ready there rest root),
             flip_run fine v is a.1.2,
           )
       flip_cases root is_risen (Err Refusal.Failed) a kept picks rest = same_keeper a.1
       flip_cases root is_risen (Err Refusal.Unfinished) a kept picks rest = same_keeper a.2
       flip_cases root is_risen (Err Refusal.Fault) a kept picks rest =
-          failed_keeper None a.1.3.1 (flip_run a.0 a.1.0 a.1.1 a.1.2)
+          failed_keeper Stage.Idle a.1.3.1 (flip_run a.0 a.1.0 a.1.1 a.1.2)
       flip_cases root is_risen (Err e) a kept picks rest = absurd a.1.3
 
     -- What a piece answers and leaves.
-    module _ (any_moment : (w : Laying) → k.image ≡ Some w →
+    module _ (any_moment : (w : Laying) → k.stage ≡ Stage.Laid w →
         LeavesOnly g.moment g.left_since k.disk l.disk
         (LeavesElsewhere (g.may_leave k.disk) w.area))
-        (elsewhere : (w : Laying) → k.image ≡ Some w →
+        (elsewhere : (w : Laying) → k.stage ≡ Stage.Laid w →
         SameOutside (base_of w.area) (size_of w.area) (g.seen k.disk) (g.seen l.disk))
         (kept : (bodies : List (List ℕ)) → IsReady g.seen g.may_leave k.area k.disk bodies →
         IsReady g.seen g.may_leave l.area l.disk bodies) where
-      piece_run : (fine : k.failed ≡ false) (v : Laying) → k.image ≡ Some v →
+      piece_run : (fine : k.failed ≡ false) (v : Laying) → k.stage ≡ Stage.Laid v →
           LeavesKept g start records k l
       piece_run fine v is =
           weaker g.moment g.left_since k.disk l.disk (LeavesElsewhere (g.may_leave k.disk) v.area)
           (YieldsUpTo start records k.mark) (any_moment v is)
-          (piece_yields g.seen g.may_leave start wear records now images received k had fine v is)
+          (piece_yields g.seen g.may_leave start wear records now freezes images received k had fine
+          v is)
 
       piece_cases : (is_risen : Type 0) (r : Result Bool Refusal) → PieceAnswers k is_risen l r →
-          ((w v : Laying) (bodies : List (List ℕ)) → k.image ≡ Some w → l.image ≡ Some v →
+          ((w v : Laying) (bodies : List (List ℕ)) → k.stage ≡ Stage.Laid w →
+          l.stage ≡ Stage.Laid v →
           IsBeingLaid w (g.seen k.disk) bodies → OnOk r (IsBeingLaid v (g.seen l.disk) bodies)) →
           Keeps
       piece_cases is_risen (Ok more) a laid =
           let fine : k.failed ≡ false = a.0 in
           let u : Laying = a.1.0 in
           let v : Laying = a.1.1 in
-          let is : k.image ≡ Some u = a.1.2 in
-          let next : KeeperState D = record k { disk = l.disk; image = Some v } in
+          let is : k.stage ≡ Stage.Laid u = a.1.2 in
+          let next : KeeperState D = record k { disk = l.disk; stage = Stage.Laid v } in
           let same : l ≡ next = a.1.4 in
           let bs : List (List ℕ) =
-          bodies g.seen g.may_leave start wear records now images received k had fine u is in
+          bodies g.seen g.may_leave start wear records now freezes images received k had fine u
+          is in
           let ready : IsReady g.seen g.may_leave k.area l.disk
           (map spelling (had.old ++ had.kept)) =
           subst (λ (x : Area). IsReady g.seen g.may_leave x l.disk
@@ -626,38 +785,43 @@ module _ {D : Type 0} (g : Ghosts D) (k l : KeeperState D)
           leaves_now g.moment g.left_since k.disk l.disk
           (LeavesElsewhere (g.may_leave k.disk) u.area) (g.may_leave l.disk) (any_moment u is)
           counts_now in (
-            subst (HasReceived g.seen g.may_leave start wear records now images received) (sym same)
-                (is_laid g.seen g.may_leave start wear records now images received k had fine u is
+            subst (HasReceived g.seen g.may_leave start wear records now freezes images received)
+                (sym same)
+                (is_laid g.seen g.may_leave start wear records now freezes images received k had
+                fine u is
                 l.disk v a.1.3.same left (elsewhere u is) ready
-                (laid u v bs is (ap (λ (x : KeeperState D). x.image) same)
+                (laid u v bs is (ap (λ (x : KeeperState D). x.stage) same)
                 (had.imaging fine u is).laid)),
             piece_run fine u is,
           )
       piece_cases is_risen (Err Refusal.Failed) a laid = same_keeper a.1
       piece_cases is_risen (Err Refusal.Fault) a laid =
-          failed_keeper (Some a.2.1) a.2.4 (piece_run a.0 a.2.0 a.2.2)
+          failed_keeper (Stage.Laid a.2.1) a.2.4 (piece_run a.0 a.2.0 a.2.2)
       piece_cases is_risen (Err e) a laid = absurd a
 
   pub flip_keeps : LeavesOnly g.moment g.left_since k.disk l.disk
       (LeavesRoot (g.may_leave k.disk) (g.seen k.disk)) →
-      ((w : Laying) (bodies : List (List ℕ)) → k.image ≡ Some w → left_of w ≡ [] → bodies ≢ [] →
+      ((w : Laying) (bodies : List (List ℕ)) → k.stage ≡ Stage.Laid w → left_of w ≡ [] →
+      bodies ≢ [] →
       IsBeingLaid w (g.seen k.disk) bodies → IsRooted g.seen g.may_leave k.area k.disk →
       LeavesOnly g.moment g.left_since k.disk l.disk
       (PicksWhole k.area (g.seen k.disk) w.area bodies)) →
       Torn 512 1 (g.seen k.disk) (g.seen l.disk) → (is_risen : Type 0) (r : Result ℕ Refusal) →
       FlipAnswers k is_risen l r →
-      ((w : Laying) (bodies : List (List ℕ)) → k.image ≡ Some w → bodies ≢ [] →
+      ((w : Laying) (bodies : List (List ℕ)) → k.stage ≡ Stage.Laid w → bodies ≢ [] →
       IsBeingLaid w (g.seen k.disk) bodies →
       OnOk r (IsReady g.seen g.may_leave l.area l.disk bodies)) →
       OnOk r (base_in_use (size_of l.area) (g.seen l.disk) ≡ base_of l.area) →
       OnOk r (IsAtRest g.seen g.may_leave l.disk) → ImageKeeps g k l
-  flip_keeps any_moment whole root is_risen r a kept picks rest start wear records now images
+  flip_keeps any_moment whole root is_risen r a kept picks rest start wear records now freezes
+      images
       received had =
-      flip_cases start wear records now images received had any_moment whole root is_risen r a kept
+      flip_cases start wear records now freezes images received had any_moment whole root is_risen r
+      a kept
       picks rest
 
   -- u is the image in progress, and v what is left of it then
-  pub piece_keeps : (u v : Laying) → k.image ≡ Some u → l.image ≡ Some v →
+  pub piece_keeps : (u v : Laying) → k.stage ≡ Stage.Laid u → l.stage ≡ Stage.Laid v →
       LeavesOnly g.moment g.left_since k.disk l.disk
       (LeavesElsewhere (g.may_leave k.disk) u.area) →
       SameOutside (base_of u.area) (size_of u.area) (g.seen k.disk) (g.seen l.disk) →
@@ -667,22 +831,22 @@ module _ {D : Type 0} (g : Ghosts D) (k l : KeeperState D)
       ((bodies : List (List ℕ)) → IsBeingLaid u (g.seen k.disk) bodies →
       OnOk r (IsBeingLaid v (g.seen l.disk) bodies)) → ImageKeeps g k l
   piece_keeps u v is_u is_v any_moment elsewhere kept is_risen r a laid start wear records now
-      images received had =
-      piece_cases start wear records now images received had
+      freezes images received had =
+      piece_cases start wear records now freezes images received had
       (λ w is. subst (λ (x : Laying). LeavesOnly g.moment g.left_since k.disk l.disk
-      (LeavesElsewhere (g.may_leave k.disk) x.area)) (some_same u w (sym is_u ∙ is)) any_moment)
+      (LeavesElsewhere (g.may_leave k.disk) x.area)) (laid_same u w (sym is_u ∙ is)) any_moment)
       (λ w is. subst (λ (x : Laying). SameOutside (base_of x.area) (size_of x.area) (g.seen k.disk)
-      (g.seen l.disk)) (some_same u w (sym is_u ∙ is)) elsewhere)
+      (g.seen l.disk)) (laid_same u w (sym is_u ∙ is)) elsewhere)
       kept is_risen r a
       (λ w x bodies was then being.
       subst (λ (y : Laying). OnOk r (IsBeingLaid y (g.seen l.disk) bodies))
-      (some_same v x (sym is_v ∙ then))
+      (laid_same v x (sym is_v ∙ then))
       (laid bodies (subst (λ (y : Laying). IsBeingLaid y (g.seen k.disk) bodies)
-      (sym (some_same u w (sym is_u ∙ was))) being)))
+      (sym (laid_same u w (sym is_u ∙ was))) being)))
 
 -- the area in use stays ready while a piece is written beside it
 pub piece_ready : {D : Type 0} (g : Ghosts D) (k : KeeperState D) (w : Laying) (new : D) →
-    IsKeeper g.seen k → k.image ≡ Some w →
+    IsKeeper g.seen k → k.stage ≡ Stage.Laid w →
     SameOutside (base_of w.area) (size_of w.area) (g.seen k.disk) (g.seen new) →
     LeavesOnly g.moment g.left_since k.disk new (LeavesElsewhere (g.may_leave k.disk) w.area) →
     ((t : ℕ) (c : List ℕ) → t ≤ g.moment new → g.may_leave new c → g.left_since new t c) →
@@ -699,15 +863,9 @@ piece_ready g k w new held is elsewhere run counts_now bodies ready =
 pub image_still : {D : Type 0} (g : Ghosts D) (k : KeeperState D) →
     ((c : List ℕ) → g.left_since k.disk (g.moment k.disk) c → g.may_leave k.disk c) →
     ImageKeeps g k k
-image_still g k only_now start wear records now images received had = (
+image_still g k only_now start wear records now freezes images received had = (
   had,
-  still_kept g.seen g.may_leave start wear records now images received k had g.moment g.left_since
+  still_kept g.seen g.may_leave start wear records now freezes images received k had g.moment
+      g.left_since
       only_now,
 )
-
-pub begin_still : {D : Type 0} (g : Ghosts D) (k : KeeperState D) (image : Image) (e : Refusal) →
-    ((c : List ℕ) → g.left_since k.disk (g.moment k.disk) c → g.may_leave k.disk c) →
-    BeginKeeps g image (Err e) k k
-begin_still g k image e only_now start wear records now images received groups covers carried begins
-    is_image stands behind over had =
-    image_still g k only_now start wear records now images received had

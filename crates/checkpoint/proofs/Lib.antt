@@ -1,4 +1,5 @@
 pub mod Apart
+mod Beginning
 mod Blocks
 mod Flipping
 mod Turning

@@ -1,7 +1,6 @@
 -- What a keeper has received: where it begins, and what stays while the book's records grow.
 use Rattle.std.proofs.Common.{◌≡◌, inl, ℕ, ◌+◌, ◌≤◌, List, [], ◌∷◌, ◌++◌, length, map}
-use Rattle.std.proofs.Common.{refl, sym, ◌∙◌, ap, subst, arith, append_assoc, Some}
-use Rattle.std.proofs.Common.{None}
+use Rattle.std.proofs.Common.{refl, sym, ◌∙◌, ap, subst, arith, append_assoc, None}
 use Rattle.std.specs.List.{AllByRecursion}
 use Rattle.std.proofs.lemmas.List.{append-nil}
 use Rattle.std.proofs.lemmas.List.Elements.{All-nil}
@@ -23,6 +22,8 @@ use Rattle.repetition.specs.Journals.{records_in}
 use Rattle.repetition.specs.Steps.{State, Steps}
 use Rattle.repetition.proofs.LagLemmas.{lags_self}
 use Rattle.checkpoint.specs.declared.laying.Laying.{Laying}
+use Rattle.checkpoint.specs.declared.stage.Ending.{Ending}
+use Rattle.checkpoint.specs.declared.stage.Stage.{Stage}
 use Rattle.std.specs.Option.{option_to_list}
 use Rattle.checkpoint.specs.Keepers.{KeeperState, IsFresh}
 use Rattle.blocks.specs.Carried.{Carries}
@@ -39,8 +40,8 @@ use Rattle.checkpoint.proofs.GroupLemmas.{same_groups}
 
 module _ {D : Type 0} (seen : D → List ℕ) (may_leave : D → List ℕ → Type 0)
     (start : List Collection) (wear : ℕ) (records : List Record) (now : State)
-    (images : List BegunImage) (received : List Block) (k : KeeperState D)
-    (had : HasReceived seen may_leave start wear records now images received k) where
+    (freezes : List ℕ) (images : List BegunImage) (received : List Block) (k : KeeperState D)
+    (had : HasReceived seen may_leave start wear records now freezes images received k) where
   -- ---- what was received
 
   -- the blocks carry these groups
@@ -106,7 +107,7 @@ module _ {D : Type 0} (seen : D → List ℕ) (may_leave : D → List ℕ → Ty
       (old : StandIn start wear records now blocks covered) →
       (new : StandIn start wear (records ++ more) next blocks covered) ×
       (new.since ≡ old.since ++ more)) →
-      HasReceived seen may_leave start wear (records ++ more) next images received k
+      HasReceived seen may_leave start wear (records ++ more) next freezes images received k
   received_more more next good moves =
       let stands = moves had.old had.covered had.stands in
       record {
@@ -122,6 +123,7 @@ module _ {D : Type 0} (seen : D → List ℕ) (may_leave : D → List ℕ → Ty
             append_assoc (records_in had.groups) (records_in had.last ++ had.rest) more ∙
             ap (λ l. records_in had.groups ++ l) (append_assoc (records_in had.last) had.rest more);
         uncrossed = had.uncrossed;
+        frozen = had.frozen;
         old = had.old;
         covered = had.covered;
         stands = stands.0;
@@ -137,6 +139,7 @@ module _ {D : Type 0} (seen : D → List ℕ) (may_leave : D → List ℕ → Ty
         stop = λ c left. yields_more start (committed_of records) (committed_of (records ++ more))
             k.mark c mark_few (committed_more records more) (had.stop c left);
         in_use = had.in_use;
+        holding = had.holding;
         imaging = λ fine l is.
             let i = had.imaging fine l is in record {
               other = i.other;
@@ -153,16 +156,16 @@ module _ {D : Type 0} (seen : D → List ℕ) (may_leave : D → List ℕ → Ty
 
   -- the book has taken a step with a record
   pub received_push : (r : Record) (next : State) → Steps now r next → IsRecord None r →
-      HasReceived seen may_leave start wear (records ++ r ∷ []) next images received k
+      HasReceived seen may_leave start wear (records ++ r ∷ []) next freezes images received k
   received_push r next row good =
       received_more (r ∷ []) next (good, tt)
       (λ blocks covered old. stands_push start wear records now blocks covered r next row old)
 
   -- it has taken one of which no record tells
   pub received_unheard : (next : State) → GoesUnheard now next →
-      HasReceived seen may_leave start wear records next images received k
+      HasReceived seen may_leave start wear records next freezes images received k
   received_unheard next step =
-      subst (λ rs. HasReceived seen may_leave start wear rs next images received k)
+      subst (λ rs. HasReceived seen may_leave start wear rs next freezes images received k)
       (append-nil records)
       (received_more [] next tt
       (λ blocks covered old.
@@ -173,8 +176,11 @@ module _ {D : Type 0} (seen : D → List ℕ) (may_leave : D → List ℕ → Ty
 
 -- ---- it begins with a store that was opened
 
-pub none_some : (l : Laying) (A : Type 0) → None ≡ Some l → A
-none_some l A e = cc
+pub idle_laid : (l : Laying) (A : Type 0) → Stage.Idle ≡ Stage.Laid l → A
+idle_laid l A e = cc
+
+pub idle_awaited : (e : Ending) (A : Type 0) → Stage.Idle ≡ Stage.Awaited e → A
+idle_awaited e A is = cc
 
 module _ {D : Type 0} (seen : D → List ℕ) (may_leave : D → List ℕ → Type 0)
     (start : List Collection) (wear : ℕ) (blocks : List (List Record)) (k : KeeperState D)
@@ -190,7 +196,7 @@ module _ {D : Type 0} (seen : D → List ℕ) (may_leave : D → List ℕ → Ty
   pub received_none : (records : List Record) (now : State) →
       AllByRecursion (IsRecord None) records →
       (stands : StandIn start wear records now blocks []) → stands.since ≡ records →
-      HasReceived seen may_leave start wear records now [] [] k
+      HasReceived seen may_leave start wear records now [] [] [] k
   received_none records now good stands since = record {
     good = good;
     brought = [];
@@ -202,6 +208,7 @@ module _ {D : Type 0} (seen : D → List ℕ) (may_leave : D → List ℕ → Ty
     rest = records;
     begins = refl;
     uncrossed = All-nil _;
+    frozen = All-nil _;
     old = blocks;
     covered = [];
     stands = stands;
@@ -222,10 +229,11 @@ module _ {D : Type 0} (seen : D → List ℕ) (may_leave : D → List ℕ → Ty
         (subst (λ l. IsRow (map spelling blocks) l) (sym (in_use.ready.at_rest c left))
         in_use.ready.holds));
     in_use = λ fine. subst (λ bs. IsInUse seen may_leave k.area k.disk bs) (sym none_more) in_use;
-    imaging = λ fine l is. none_some l _ (sym fresh.no_image ∙ is);
+    holding = λ fine e is. idle_awaited e _ (sym fresh.no_image ∙ is);
+    imaging = λ fine l is. idle_laid l _ (sym fresh.no_image ∙ is);
   }
 
-  pub received_starts : HasReceived seen may_leave start wear [] opened [] [] k
+  pub received_starts : HasReceived seen may_leave start wear [] opened [] [] [] k
   received_starts =
       let whole = stands_whole start wear [] opened blocks opened refl (lags_self opened) opened
       are_read (lags_self opened) in

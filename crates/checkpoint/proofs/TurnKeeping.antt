@@ -4,7 +4,8 @@ use Rattle.std.proofs.Common.{◌≡◌, ⊎_elim, ℕ, ◌+◌, ◌≤◌, ◌<
 use Rattle.std.proofs.Common.{true≢false, List, [], ◌∷◌, ◌++◌, length, map, take, refl, sym, ◌∙◌}
 use Rattle.std.proofs.Common.{ap}
 use Rattle.std.proofs.Common.{subst, arith, append_assoc, length-append, eq-or-lt_of_le, Option}
-use Rattle.std.proofs.Common.{Some, None, Result, Ok, Err}
+use Rattle.std.proofs.Common.{Some, None, Result, Ok, Err, Contains}
+use Rattle.std.proofs.lemmas.List.Elements.{All-contains}
 use Rattle.std.proofs.lemmas.List.{map-append, append-nil}
 use mathlib.Core.List.{IsPrefix}
 use Rattle.calls.specs.declared.refusal.Refusal.{Refusal}
@@ -26,20 +27,23 @@ use Rattle.repetition.specs.Journals.{IsHeader, records_in}
 use Rattle.repetition.specs.Steps.{State}
 use Rattle.checkpoint.specs.declared.turn.Turn.{Turn}
 use Rattle.checkpoint.specs.declared.laying.Laying.{Laying}
+use Rattle.checkpoint.specs.declared.stage.Ending.{Ending}
+use Rattle.checkpoint.specs.declared.stage.Stage.{Stage}
 use Rattle.checkpoint.specs.Imaging.{IsBeingLaid}
 use Rattle.std.specs.Option.{option_to_list}
 use Rattle.checkpoint.specs.Keepers.{KeeperState, IsPast, OnKept, IsBrought, BringAnswers}
 use Rattle.blocks.specs.Carried.{IsCarried, Carries}
 use Rattle.checkpoint.specs.DiskHeads.{IsHeaded, HasHead, IsInUse}
 use Rattle.checkpoint.specs.Crash.{YieldsUpTo}
-use Rattle.checkpoint.specs.Keeping.{BegunImage, IsApart, Uncrossed, IsImaging, HasReceived}
+use Rattle.checkpoint.specs.Keeping.{BegunImage, IsApart, Uncrossed, IsHolding, IsImaging}
+use Rattle.checkpoint.specs.Keeping.{HasReceived}
 use Rattle.checkpoint.specs.Keeping.{LeavesKept, TurnKeeps}
 use Rattle.checkpoint.proofs.StandLemmas.{same_beginning, shorter_beginning}
 use Rattle.checkpoint.proofs.HeadLemmas.{head_headed, lies_behind, outside_head}
 use Rattle.checkpoint.proofs.YieldLemmas.{row_yields}
 use Rattle.blocks.proofs.Carrying.{joined-append, joined-push, some_record}
 use Rattle.blocks.proofs.Carrying.{carries_append, carries_one, one_carried, carries_parts}
-use Rattle.checkpoint.proofs.GroupLemmas.{same_groups, apart_back, apart_image}
+use Rattle.checkpoint.proofs.GroupLemmas.{same_groups, apart_back, apart_frozen}
 use Rattle.checkpoint.proofs.ReceivedLemmas.{all_carried, all_begin, use_yields, still_kept}
 
 -- ---- small things
@@ -64,11 +68,11 @@ all_stored front covered kept reaches even below =
 
 module _ {D : Type 0} (seen : D → List ℕ) (may_leave : D → List ℕ → Type 0)
     (start : List Collection) (wear : ℕ) (records : List Record) (now : State)
-    (images : List BegunImage) (received : List Block) (k : KeeperState D)
-    (had : HasReceived seen may_leave start wear records now images received k)
+    (freezes : List ℕ) (images : List BegunImage) (received : List Block) (k : KeeperState D)
+    (had : HasReceived seen may_leave start wear records now freezes images received k)
     (none : k.held ≡ None) (b : Block) (groups : List (List Record))
     (carried : Carries 0 0 (received ++ b ∷ []) groups)
-    (begins : IsPrefix (records_in groups) records) (uncrossed : Uncrossed images groups) where
+    (begins : IsPrefix (records_in groups) records) (uncrossed : Uncrossed freezes groups) where
   abbrev apart : (first more : List (List Record)) × (groups ≡ first ++ more) ×
       Carries 0 0 received first ×
       Carries (0 + length (records_in first)) (0 + places (records_in first)) (b ∷ []) more
@@ -87,16 +91,17 @@ module _ {D : Type 0} (seen : D → List ℕ) (may_leave : D → List ℕ → Ty
       sym (append_assoc (records_in apart.0) (records_in apart.1) begins.0) ∙
       ap (λ l. l ++ begins.0) (sym (joined-append apart.0 apart.1)) ∙
       ap (λ g. records_in g ++ begins.0) (sym apart.2) ∙ begins.1 ∙
-      all_begin seen may_leave start wear records now images received k had in
+      all_begin seen may_leave start wear records now freezes images received k had in
       (same_groups 0 0 received apart.0 (had.groups ++ had.last) (records_in apart.1 ++ begins.0)
       had.rest apart.3
-      (all_carried seen may_leave start wear records now images received k had) split).0 ∙
+      (all_carried seen may_leave start wear records now freezes images received k had) split).0 ∙
       ap (λ l. had.groups ++ l) last_none ∙ append-nil had.groups
 
   groups_are : groups ≡ had.groups ++ apart.1
   groups_are = apart.2 ∙ ap (λ l. l ++ apart.1) first_is
 
-  pub received_one : HasReceived seen may_leave start wear records now images (received ++ b ∷ [])
+  pub received_one : HasReceived seen may_leave start wear records now freezes images
+      (received ++ b ∷ [])
       (record k { held = Some b })
   received_one = record {
     good = had.good;
@@ -115,7 +120,8 @@ module _ {D : Type 0} (seen : D → List ℕ) (may_leave : D → List ℕ → Ty
     begins = sym begins.1 ∙ ap (λ g. records_in g ++ begins.0) groups_are ∙
         ap (λ l. l ++ begins.0) (joined-append had.groups apart.1) ∙
         append_assoc (records_in had.groups) (records_in apart.1) begins.0;
-    uncrossed = subst (λ g. Uncrossed images g) groups_are uncrossed;
+    uncrossed = subst (λ g. Uncrossed freezes g) groups_are uncrossed;
+    frozen = had.frozen;
     old = had.old;
     covered = had.covered;
     stands = had.stands;
@@ -129,6 +135,7 @@ module _ {D : Type 0} (seen : D → List ℕ) (may_leave : D → List ℕ → Ty
     marked = had.marked;
     stop = had.stop;
     in_use = had.in_use;
+    holding = had.holding;
     imaging = had.imaging;
   }
 
@@ -136,8 +143,9 @@ module _ {D : Type 0} (seen : D → List ℕ) (may_leave : D → List ℕ → Ty
 
 module _ {D : Type 0} (seen : D → List ℕ) (may_leave : D → List ℕ → Type 0)
     (start : List Collection) (wear : ℕ) (records : List Record) (now : State)
-    (images : List BegunImage) (received : List Block) (k : KeeperState D) (b : Block)
-    (had : HasReceived seen may_leave start wear records now images received
+    (freezes : List ℕ) (images : List BegunImage) (received : List Block) (k : KeeperState D)
+    (b : Block)
+    (had : HasReceived seen may_leave start wear records now freezes images received
     (record k { held = Some b })) where
   abbrev front : List Record
   front = records_in had.groups
@@ -179,8 +187,8 @@ module _ {D : Type 0} (seen : D → List ℕ) (may_leave : D → List ℕ → Ty
       (subst (λ n. Carries (length front) n (b ∷ []) (rs ∷ [])) (omega arith)
       (carries_one (length front) (places front) b rs carries)))
 
-  uncrossed_last : Uncrossed images groups_now
-  uncrossed_last = subst (λ l. Uncrossed images (had.groups ++ l)) found.1 had.uncrossed
+  uncrossed_last : Uncrossed freezes groups_now
+  uncrossed_last = subst (λ l. Uncrossed freezes (had.groups ++ l)) found.1 had.uncrossed
 
   -- the blocks that are kept then, the area and the disk
   is_brought : (disk : D) (area : Area) (mark : ℕ) (fails : Bool) (kept : List (List Record))
@@ -191,12 +199,14 @@ module _ {D : Type 0} (seen : D → List ℕ) (may_leave : D → List ℕ → Ty
       ((c : List ℕ) → may_leave disk c →
       YieldsUpTo start records mark c) →
       (fails ≡ false → IsInUse seen may_leave area disk (had.old ++ kept)) →
-      (fails ≡ false → (l : Laying) → k.image ≡ Some l →
+      (fails ≡ false → (e : Ending) → k.stage ≡ Stage.Awaited e →
+      IsHolding freezes (length had.covered + length (records_in kept)) e) →
+      (fails ≡ false → (l : Laying) → k.stage ≡ Stage.Laid l →
       IsImaging seen start wear records now images disk area
       (length had.covered + length (records_in kept)) l) →
-      HasReceived seen may_leave start wear records now images received
+      HasReceived seen may_leave start wear records now freezes images received
       (record k { disk = disk; area = area; mark = mark; held = None; failed = fails })
-  is_brought disk area mark fails kept later split reaches even marked stop in_use imaging =
+  is_brought disk area mark fails kept later split reaches even marked stop in_use holding imaging =
       record {
         good = had.good;
         brought = had.brought ++ b ∷ [];
@@ -207,7 +217,8 @@ module _ {D : Type 0} (seen : D → List ℕ) (may_leave : D → List ℕ → Ty
         held = tt;
         rest = had.rest;
         begins = records_now;
-        uncrossed = subst (λ g. Uncrossed images g) (sym (append-nil groups_now)) uncrossed_last;
+        uncrossed = subst (λ g. Uncrossed freezes g) (sym (append-nil groups_now)) uncrossed_last;
+        frozen = had.frozen;
         old = had.old;
         covered = had.covered;
         stands = had.stands;
@@ -221,12 +232,13 @@ module _ {D : Type 0} (seen : D → List ℕ) (may_leave : D → List ℕ → Ty
         marked = marked;
         stop = stop;
         in_use = in_use;
+        holding = holding;
         imaging = imaging;
       }
 
   -- a block that the image covers is let go
   let_go : k.failed ≡ false → b.end ≤ k.covered → (mark : ℕ) → mark ≡ max k.mark b.place →
-      HasReceived seen may_leave start wear records now images received
+      HasReceived seen may_leave start wear records now freezes images received
       (record k { held = None; mark = mark })
   let_go fine ends mark mark_is =
       let below : length (records_in groups_now) ≤ length had.covered =
@@ -247,8 +259,9 @@ module _ {D : Type 0} (seen : D → List ℕ) (may_leave : D → List ℕ → Ty
       ) in
       is_brought k.disk k.area mark k.failed had.kept had.later had.split
       (omega (arith, below)) (λ less. none) few
-      (use_yields seen may_leave start wear records now images received
-      (record k { held = Some b }) had (had.in_use fine) mark few) had.in_use had.imaging
+      (use_yields seen may_leave start wear records now freezes images received
+      (record k { held = Some b }) had (had.in_use fine) mark few) had.in_use had.holding
+      had.imaging
 
   -- a block that is not covered begins behind all that is stored
   module _ (late : k.covered < b.end) where
@@ -259,8 +272,9 @@ module _ {D : Type 0} (seen : D → List ℕ) (may_leave : D → List ℕ → Ty
         (λ one.
         let apart : IsApart (0 + length front) (rs ∷ []) (length had.covered) =
         apart_back 0 had.groups (rs ∷ []) (length had.covered)
-        (apart_image images groups_now (record { covered = had.covered; blocks = had.old })
-        uncrossed_last one) in
+        (apart_frozen freezes groups_now (length had.covered) uncrossed_last
+        (All-contains (λ i. Contains freezes (length i.covered)) images
+        (record { covered = had.covered; blocks = had.old }) had.frozen one)) in
         ⊎_elim
         (λ (first : length had.covered ≤ 0 + length front). omega (arith, first))
         (λ (behind : 0 + length front + length rs ≤ length had.covered).
@@ -363,10 +377,10 @@ module _ {D : Type 0} (seen : D → List ℕ) (may_leave : D → List ℕ → Ty
           (size_same : size_of area ≡ size_of k.area)
           (size_kept : length (seen disk) ≡ length (seen k.disk))
           (elsewhere : SameOutside (base_of k.area) (size_of k.area) (seen k.disk) (seen disk))
-          (laid : (l : Laying) (bodies : List (List ℕ)) → k.image ≡ Some l →
+          (laid : (l : Laying) (bodies : List (List ℕ)) → k.stage ≡ Stage.Laid l →
           IsBeingLaid l (seen k.disk) bodies → IsBeingLaid l (seen disk) bodies)
           (left : (c : List ℕ) → may_leave disk c → Moment c)
-          (not_past : ¬ IsPast k.image b.end) (fine : k.failed ≡ false) where
+          (not_past : ¬ IsPast k.stage b.end) (fine : k.failed ≡ false) where
         head_now : take 4096 (seen disk) ≡ take 4096 (seen k.disk)
         head_now = outside_head k.area (seen k.disk) (seen disk)
             (lies_behind k.area (seen k.disk) in_use.head.headed) elsewhere
@@ -389,12 +403,24 @@ module _ {D : Type 0} (seen : D → List ℕ) (may_leave : D → List ℕ → Ty
           same_size = λ c now. moment_size c (left c now) ∙ sym size_kept;
         }
 
-        -- no block behind the image in progress is appended
-        still_ahead : (l : Laying) → k.image ≡ Some l → b.end ≤ l.image.end
+        -- no block past an end that is held is appended
+        still_before : (e : Ending) → k.stage ≡ Stage.Awaited e → b.end ≤ e.end
+        still_before e is = let within : e.end < b.end →
+            ⊥ = subst (λ i. IsPast i b.end → ⊥) is not_past in omega (arith, within)
+
+        holding : (e : Ending) → k.stage ≡ Stage.Awaited e →
+            IsHolding freezes (length had.covered + length (records_in (had.kept ++ rs ∷ []))) e
+        holding e is = record {
+          frozen = (had.holding fine e is).frozen;
+          ahead = omega (arith, stored_now, size, carries.end_is, still_before e is);
+        }
+
+        -- nor one past an image
+        still_ahead : (l : Laying) → k.stage ≡ Stage.Laid l → b.end ≤ l.image.end
         still_ahead l is = let within : l.image.end < b.end →
             ⊥ = subst (λ i. IsPast i b.end → ⊥) is not_past in omega (arith, within)
 
-        imaging : (l : Laying) → k.image ≡ Some l →
+        imaging : (l : Laying) → k.stage ≡ Stage.Laid l →
             IsImaging seen start wear records now images disk area
             (length had.covered + length (records_in (had.kept ++ rs ∷ []))) l
         imaging l is =
@@ -424,17 +450,17 @@ module _ {D : Type 0} (seen : D → List ℕ) (may_leave : D → List ℕ → Ty
             YieldsUpTo start records mark c) →
             (fails ≡ false → IsInUse seen may_leave area disk
             (had.old ++ (had.kept ++ rs ∷ []))) →
-            HasReceived seen may_leave start wear records now images received
+            HasReceived seen may_leave start wear records now freezes images received
             (record k { disk = disk; area = area; mark = mark; held = None; failed = fails })
         appended fails mark few stop used =
             is_brought disk area mark fails (had.kept ++ rs ∷ []) had.rest split_now
             (omega (arith, stored_now)) (λ less. absurd (omega (arith, stored_now, less)))
-            (omega (arith, few, places_now)) stop used (λ f. imaging)
+            (omega (arith, few, places_now)) stop used (λ f. holding) (λ f. imaging)
 
         is_kept : (mark : ℕ) → mark ≡ max k.mark b.place →
             IsReady seen may_leave area disk
             (map spelling (had.old ++ had.kept) ++ spelling rs ∷ []) →
-            HasReceived seen may_leave start wear records now images received
+            HasReceived seen may_leave start wear records now freezes images received
             (record k { disk = disk; area = area; mark = mark; held = None; failed = false })
         is_kept mark mark_is ready =
             let few : mark ≤ b.place = omega (arith, mark_is, mark_below) in
@@ -450,7 +476,7 @@ module _ {D : Type 0} (seen : D → List ℕ) (may_leave : D → List ℕ → Ty
             })
 
         -- the disk failed
-        is_faulted : HasReceived seen may_leave start wear records now images received
+        is_faulted : HasReceived seen may_leave start wear records now freezes images received
             (record k { disk = disk; area = area; held = None; failed = true })
         is_faulted = appended true k.mark mark_below (λ c now. moment_yields c (left c now))
             (λ f. absurd (true≢false f))
@@ -469,67 +495,69 @@ pub record Brings {D : Type 0} (g : Ghosts D) (k : KeeperState D) (b : Block)
       LeavesOnly g.moment g.left_since k.disk l.disk
       (LeavesBlocks (g.may_leave k.disk) k.area bodies body)
   pub elsewhere : SameOutside (base_of k.area) (size_of k.area) (g.seen k.disk) (g.seen l.disk)
-  pub laid : (w : Laying) (bodies : List (List ℕ)) → k.image ≡ Some w →
+  pub laid : (w : Laying) (bodies : List (List ℕ)) → k.stage ≡ Stage.Laid w →
       IsBeingLaid w (g.seen k.disk) bodies → IsBeingLaid w (g.seen l.disk) bodies
   pub base : base_of l.area ≡ base_of k.area
   pub size : size_of l.area ≡ size_of k.area
   pub covered : l.covered ≡ k.covered
-  pub image : l.image ≡ k.image
+  pub stage : l.stage ≡ k.stage
   pub only_now : (c : List ℕ) → g.left_since k.disk (g.moment k.disk) c → g.may_leave k.disk c
   pub counts_now : (t : ℕ) (c : List ℕ) → t ≤ g.moment l.disk → g.may_leave l.disk c →
       g.left_since l.disk t c
 
 module _ {D : Type 0} (g : Ghosts D) (start : List Collection) (wear : ℕ) (records : List Record)
-    (now : State) (images : List BegunImage) (received : List Block) (k l : KeeperState D)
+    (now : State) (freezes : List ℕ) (images : List BegunImage) (received : List Block)
+    (k l : KeeperState D)
     (b : Block)
-    (had : HasReceived g.seen g.may_leave start wear records now images received
+    (had : HasReceived g.seen g.may_leave start wear records now freezes images received
     (record k { held = Some b })) where
   abbrev Both : KeeperState D → Type 0
-  Both n = HasReceived g.seen g.may_leave start wear records now images received n
+  Both n = HasReceived g.seen g.may_leave start wear records now freezes images received n
       × LeavesKept g start records k n
 
   -- the keeper is this one
   keeper_is : (n : KeeperState D) → l.disk ≡ n.disk → l.area ≡ n.area → l.mark ≡ n.mark →
-      l.held ≡ n.held → l.failed ≡ n.failed → l.covered ≡ n.covered → l.image ≡ n.image →
+      l.held ≡ n.held → l.failed ≡ n.failed → l.covered ≡ n.covered → l.stage ≡ n.stage →
       l ≡ n
-  keeper_is n disk area mark held failed covered image = λ i. record {
+  keeper_is n disk area mark held failed covered stage = λ i. record {
     disk = disk i;
     area = area i;
     mark = mark i;
     held = held i;
     failed = failed i;
     covered = covered i;
-    image = image i;
+    stage = stage i;
   }
 
   module _ (fine : k.failed ≡ false) (r : Result Turn Refusal) (brings : Brings g k b r l) where
     -- no device was called
     settled : (held : Option Block) (mark : ℕ) → (l.area ≡ k.area) × (l.disk ≡ k.disk) →
         l.held ≡ held → l.mark ≡ mark → l.failed ≡ false →
-        HasReceived g.seen g.may_leave start wear records now images received
+        HasReceived g.seen g.may_leave start wear records now freezes images received
         (record k { held = held; mark = mark }) → Both l
     settled held mark same held_is mark_is fails has =
         let n : KeeperState D = record k { held = held; mark = mark } in
         let is : l ≡ n = keeper_is n same.1 same.0 mark_is held_is (fails ∙ sym fine)
-        brings.covered brings.image in
+        brings.covered brings.stage in
         subst Both (sym is) (
           has,
-          still_kept g.seen g.may_leave start wear records now images received
+          still_kept g.seen g.may_leave start wear records now freezes images received
               (record k { held = Some b }) had g.moment g.left_since brings.only_now,
         )
 
-    module _ (not_covered : ¬ (b.end ≤ k.covered)) (not_past : ¬ IsPast k.image b.end) where
+    module _ (not_covered : ¬ (b.end ≤ k.covered)) (not_past : ¬ IsPast k.stage b.end) where
       late : k.covered < b.end
       late = omega (arith, not_covered)
 
       abbrev group : List Record
-      group = rs g.seen g.may_leave start wear records now images received k b had
+      group = rs g.seen g.may_leave start wear records now freezes images received k b had
 
       in_use : IsInUse g.seen g.may_leave k.area k.disk (had.old ++ had.kept)
       in_use = had.in_use fine
 
       block_is : IsBlockOf (spelling group) b.bytes.items
-      block_is = (carries g.seen g.may_leave start wear records now images received k b had).block
+      block_is = (carries g.seen g.may_leave start wear records now freezes images received k b
+          had).block
 
       run : LeavesOnly g.moment g.left_since k.disk l.disk
           (LeavesBlocks (g.may_leave k.disk) k.area (map spelling (had.old ++ had.kept))
@@ -546,7 +574,8 @@ module _ {D : Type 0} (g : Ghosts D) (start : List Collection) (wear : ℕ) (rec
 
       each_moment : LeavesKept g start records k l
       each_moment = weaker g.moment g.left_since k.disk l.disk _ _ run
-          (moment_yields g.seen g.may_leave start wear records now images received k b had late
+          (moment_yields g.seen g.may_leave start wear records now freezes images received k b had
+          late
           in_use)
 
       ready : OnKept r (IsReady g.seen g.may_leave l.area l.disk
@@ -561,10 +590,12 @@ module _ {D : Type 0} (g : Ghosts D) (start : List Collection) (wear : ℕ) (rec
       kept_turn mark mark_is marked none fails ready =
           let n : KeeperState D = record k
           { disk = l.disk; area = l.area; mark = mark; held = None; failed = false } in
-          let is : l ≡ n = keeper_is n refl refl marked none fails brings.covered brings.image
+          let is : l ≡ n = keeper_is n refl refl marked none fails brings.covered brings.stage
           in (
-            subst (HasReceived g.seen g.may_leave start wear records now images received) (sym is)
-                (is_kept g.seen g.may_leave start wear records now images received k b had late
+            subst (HasReceived g.seen g.may_leave start wear records now freezes images received)
+                (sym is)
+                (is_kept g.seen g.may_leave start wear records now freezes images received k b had
+                late
                 in_use l.disk l.area brings.base brings.size brings.elsewhere.same_size
                 brings.elsewhere brings.laid left not_past fine mark mark_is ready),
             each_moment,
@@ -574,10 +605,12 @@ module _ {D : Type 0} (g : Ghosts D) (start : List Collection) (wear : ℕ) (rec
       fault_turn marked none fails =
           let n : KeeperState D = record k
           { disk = l.disk; area = l.area; held = None; failed = true } in
-          let is : l ≡ n = keeper_is n refl refl marked none fails brings.covered brings.image
+          let is : l ≡ n = keeper_is n refl refl marked none fails brings.covered brings.stage
           in (
-            subst (HasReceived g.seen g.may_leave start wear records now images received) (sym is)
-                (is_faulted g.seen g.may_leave start wear records now images received k b had
+            subst (HasReceived g.seen g.may_leave start wear records now freezes images received)
+                (sym is)
+                (is_faulted g.seen g.may_leave start wear records now freezes images received k b
+                had
                 late in_use l.disk l.area brings.base brings.size brings.elsewhere.same_size
                 brings.elsewhere brings.laid left not_past fine),
             each_moment,
@@ -585,7 +618,7 @@ module _ {D : Type 0} (g : Ghosts D) (start : List Collection) (wear : ℕ) (rec
 
   pub brings_on : (is_full is_risen : Type 0) → k.failed ≡ false → (r : Result Turn Refusal) →
       Brings g k b r l →
-      BringAnswers b k.mark (b.end ≤ k.covered) (IsPast k.image b.end) is_full
+      BringAnswers b k.mark (b.end ≤ k.covered) (IsPast k.stage b.end) is_full
       ((l.area ≡ k.area) × (l.disk ≡ k.disk)) is_risen r l.held l.mark l.failed → Both l
   brings_on is_full is_risen fine (Ok Turn.Idle) brings a = absurd a.2
   brings_on is_full is_risen fine (Ok Turn.Held) brings a =
@@ -594,7 +627,8 @@ module _ {D : Type 0} (g : Ghosts D) (start : List Collection) (wear : ℕ) (rec
       ⊎_elim
       (λ covered.
       settled fine (Ok (Turn.Kept place)) brings None place covered.1 covered.4 covered.3 covered.5
-      (let_go g.seen g.may_leave start wear records now images received k b had fine covered.0
+      (let_go g.seen g.may_leave start wear records now freezes images received k b had fine
+      covered.0
       place covered.2))
       (λ brought.
       let kept = brought.2 in
@@ -618,50 +652,60 @@ module _ {D : Type 0} (g : Ghosts D) (receives : List Block → Type 0)
   pub turn_still : receives [] →
       ((c : List ℕ) → g.left_since k.disk (g.moment k.disk) c → g.may_leave k.disk c) →
       TurnKeeps g receives k k
-  turn_still none only_now start wear records now images received more groups these carried begins
+  turn_still none only_now start wear records now freezes images received more groups these carried
+      begins
       uncrossed had =
       let is : received ++ more ≡ received =
       ap (λ l. received ++ l) (one_list more [] these none) ∙ append-nil received in (
-        subst (λ bs. HasReceived g.seen g.may_leave start wear records now images bs k) (sym is)
+        subst (λ bs. HasReceived g.seen g.may_leave start wear records now freezes images bs k)
+            (sym is)
             had,
-        still_kept g.seen g.may_leave start wear records now images received k had g.moment
+        still_kept g.seen g.may_leave start wear records now freezes images received k had g.moment
             g.left_since only_now,
       )
 
   -- the held block, or the one that was received, with all that was received
   taken : (start : List Collection) (wear : ℕ) (records : List Record) (now : State)
-      (images : List BegunImage) (received more : List Block) (groups : List (List Record))
+      (freezes : List ℕ) (images : List BegunImage) (received more : List Block)
+      (groups : List (List Record))
       (b : Block) (held : Option Block) → k.held ≡ held → IsBrought held receives b →
       receives more → Carries 0 0 (received ++ more) groups →
-      IsPrefix (records_in groups) records → Uncrossed images groups →
-      HasReceived g.seen g.may_leave start wear records now images received k →
-      HasReceived g.seen g.may_leave start wear records now images (received ++ more)
+      IsPrefix (records_in groups) records → Uncrossed freezes groups →
+      HasReceived g.seen g.may_leave start wear records now freezes images received k →
+      HasReceived g.seen g.may_leave start wear records now freezes images (received ++ more)
       (record k { held = Some b })
-  taken start wear records now images received more groups b None held_is brought these carried
+  taken start wear records now freezes images received more groups b None held_is brought these
+      carried
       begins uncrossed had =
       let is : more ≡ b ∷ [] = one_list more (b ∷ []) these brought in
-      subst (λ l. HasReceived g.seen g.may_leave start wear records now images (received ++ l)
+      subst (λ l. HasReceived g.seen g.may_leave start wear records now freezes images
+      (received ++ l)
       (record k { held = Some b })) (sym is)
-      (received_one g.seen g.may_leave start wear records now images received k had held_is b
+      (received_one g.seen g.may_leave start wear records now freezes images received k had held_is
+      b
       groups (subst (λ l. Carries 0 0 (received ++ l) groups) is carried) begins uncrossed)
-  taken start wear records now images received more groups b (Some h) held_is brought these carried
+  taken start wear records now freezes images received more groups b (Some h) held_is brought these
+      carried
       begins uncrossed had =
       let is : received ≡ received ++ more =
       sym (ap (λ l. received ++ l) (one_list more [] these brought.1) ∙ append-nil received) in
       let same : k ≡ record k { held = Some b } =
       λ i. record k { held = (held_is ∙ ap Some (sym brought.0)) i } in
-      subst (λ bs. HasReceived g.seen g.may_leave start wear records now images bs
+      subst (λ bs. HasReceived g.seen g.may_leave start wear records now freezes images bs
       (record k { held = Some b })) is
-      (subst (HasReceived g.seen g.may_leave start wear records now images received) same had)
+      (subst (HasReceived g.seen g.may_leave start wear records now freezes images received) same
+      had)
 
   pub turn_brings : (b : Block) (l : KeeperState D) (is_full is_risen : Type 0) →
       k.failed ≡ false → IsBrought k.held receives b → (r : Result Turn Refusal) →
       Brings g k b r l →
-      BringAnswers b k.mark (b.end ≤ k.covered) (IsPast k.image b.end) is_full
+      BringAnswers b k.mark (b.end ≤ k.covered) (IsPast k.stage b.end) is_full
       ((l.area ≡ k.area) × (l.disk ≡ k.disk)) is_risen r l.held l.mark l.failed →
       TurnKeeps g receives k l
-  turn_brings b l is_full is_risen fine brought r brings answer start wear records now images
+  turn_brings b l is_full is_risen fine brought r brings answer start wear records now freezes
+      images
       received more groups these carried begins uncrossed had =
-      brings_on g start wear records now images (received ++ more) k l b
-      (taken start wear records now images received more groups b k.held refl brought these carried
+      brings_on g start wear records now freezes images (received ++ more) k l b
+      (taken start wear records now freezes images received more groups b k.held refl brought these
+      carried
       begins uncrossed had) is_full is_risen fine r brings answer

@@ -1,6 +1,6 @@
 -- What a turn answers.
 use Rattle.std.proofs.Common.{◌≡◌, ◌∙◌, sym, [], ◌∷◌, None, List, ℕ, Bool, false, length, subst}
-use Rattle.std.proofs.Common.{Option, Some, IfSome}
+use Rattle.std.proofs.Common.{Option, Some}
 use Rattle.std.proofs.Common.{OnOk, Result, Ok, Err, inr}
 use Rattle.calls.specs.declared.refusal.Refusal.{Refusal}
 use Rattle.gate_block.specs.Row.{SameOutside}
@@ -8,7 +8,8 @@ use Rattle.gate_block.specs.Area.{base_of, size_of}
 use Rattle.blocks.specs.declared.block.Block.{Block}
 use Rattle.checkpoint.specs.declared.turn.Turn.{Turn}
 use Rattle.checkpoint.specs.declared.laying.Laying.{Laying}
-use Rattle.checkpoint.specs.Imaging.{IsLaidBeside, IsBeingLaid}
+use Rattle.checkpoint.specs.declared.stage.Stage.{Stage}
+use Rattle.checkpoint.specs.Imaging.{IsLaidBeside, IsBeside, IsBeingLaid}
 use Rattle.checkpoint.specs.Keepers.{KeeperState, IsKeeper, OnKept, AppendAnswers, BringAnswers}
 use Rattle.checkpoint.specs.Keepers.{TurnAnswers, IsBrought}
 use Rattle.checkpoint.proofs.Apart.{still_laid}
@@ -64,15 +65,14 @@ brought_once None receives one_list b d first second =
     same_head b d (one_list (b ∷ []) (d ∷ []) first second)
 brought_once (Some h) receives one_list b d first second = first.0 ∙ sym second.0
 
--- an image in progress is laid into the other area
+-- an image that is here is laid into the other area
 pub beside_is : {D : Type 0} (seen : D → List ℕ) (k : KeeperState D) (w : Laying) →
-    IsKeeper seen k → k.image ≡ Some w → IsLaidBeside k.area k.failed w
-beside_is seen k w held is = subst
-    (λ (i : Option Laying). IfSome i (λ v. IsLaidBeside k.area k.failed v)) is held.beside
+    IsKeeper seen k → k.stage ≡ Stage.Laid w → IsLaidBeside k.area k.failed w
+beside_is seen k w held is = subst (λ (s : Stage). IsBeside k.area k.failed s) is held.beside
 
 -- what was laid of it stays where the area in use alone changes
 pub laid_on : {D : Type 0} (seen : D → List ℕ) (k : KeeperState D) (w : Laying) (s : List ℕ)
-    (bodies : List (List ℕ)) → IsKeeper seen k → k.image ≡ Some w →
+    (bodies : List (List ℕ)) → IsKeeper seen k → k.stage ≡ Stage.Laid w →
     SameOutside (base_of k.area) (size_of k.area) (seen k.disk) s →
     IsBeingLaid w (seen k.disk) bodies → IsBeingLaid w s bodies
 laid_on seen k w s bodies held is same was =

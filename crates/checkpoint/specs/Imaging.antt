@@ -9,7 +9,10 @@ use Rattle.gate_block.specs.Row.{row, IsRow}
 use Rattle.gate_block.specs.Layout.{base_in_use}
 use Rattle.gate_block.specs.Area.{has_failed, base_of, size_of, position_of, bytes_of, IsLaid}
 use Rattle.blocks.specs.Wholes.{body_of}
+use Rattle.blocks.specs.declared.block.Image.{Image}
 use Rattle.checkpoint.specs.declared.laying.Laying.{Laying}
+use Rattle.checkpoint.specs.declared.stage.Ending.{Ending}
+use Rattle.checkpoint.specs.declared.stage.Stage.{Stage}
 
 -- The other one of the two areas of a disk, which has the same size. They begin at 4096 and behind
 -- the first one, so the sum tells which is which.
@@ -49,19 +52,45 @@ pub record IsSameImage (w v : Laying) : Type 0 where
   pub end : v.image.end ≡ w.image.end
   pub place : v.image.place ≡ w.image.place
 
--- how many pieces are left, where an image is in progress
-abbrev pub pieces_left : Option Laying → Option ℕ
-pieces_left None = None
-pieces_left (Some w) = Some (length (left_of w))
+-- ---- how far a keeper is with an image
 
--- an image is in progress, and a piece of it is left
-abbrev pub HasPiece : Option Laying → Type 0
-HasPiece image = IsSomeAnd (pieces_left image) (λ n. 1 ≤ n)
+-- the image ends there
+abbrev pub EndsThere : Ending → Image → Type 0
+EndsThere e image = (image.end ≡ e.end) × (image.place ≡ e.place)
 
--- all pieces of the image in progress are written
-abbrev pub IsWritten : Option Laying → Type 0
-IsWritten None = ⊥
-IsWritten (Some w) = left_of w ≡ []
+-- the image is the one that is awaited
+abbrev pub IsAwaited : Stage → Image → Type 0
+IsAwaited (Stage.Awaited e) image = EndsThere e image
+IsAwaited stage image = ⊥
+
+-- one is awaited that ends elsewhere
+abbrev pub IsAwaitedElse : Stage → Image → Type 0
+IsAwaitedElse (Stage.Awaited e) image = ¬ EndsThere e image
+IsAwaitedElse stage image = ⊥
+
+-- an image is here
+abbrev pub IsHere : Stage → Type 0
+IsHere (Stage.Laid w) = Unit {0}
+IsHere stage = ⊥
+
+-- how many pieces are left, where an image is here
+abbrev pub pieces_left : Stage → Option ℕ
+pieces_left (Stage.Laid w) = Some (length (left_of w))
+pieces_left stage = None
+
+-- an image is here, and a piece of it is left
+abbrev pub HasPiece : Stage → Type 0
+HasPiece stage = IsSomeAnd (pieces_left stage) (λ n. 1 ≤ n)
+
+-- an image is here, all pieces of which are written
+abbrev pub IsWritten : Stage → Type 0
+IsWritten (Stage.Laid w) = left_of w ≡ []
+IsWritten stage = ⊥
+
+-- an image that is here is laid beside the area
+abbrev pub IsBeside : Area → Bool → Stage → Type 0
+IsBeside area failed (Stage.Laid w) = IsLaidBeside area failed w
+IsBeside area failed stage = Unit {0}
 
 -- The root byte picks the area, and a stop now leaves of both what a read gives.
 pub record IsRooted {D : Type 0} (seen : D → List ℕ) (may_leave : D → List ℕ → Type 0) (area : Area)

@@ -1,17 +1,17 @@
 -- A keeper as contracts see it: what it answers, and what it leaves.
 use Rattle.std.specs.Prelude.{◌≡◌, ◌⊎◌, ℕ, ◌+◌, ◌*◌, ◌<◌, max, Bool, true, false, List, [], ◌∷◌}
-use Rattle.std.specs.Prelude.{length, Option, Some, None, IfSome, Result, Ok, Err}
+use Rattle.std.specs.Prelude.{length, Option, Some, None, Result, Ok, Err}
 use Rattle.calls.specs.declared.refusal.Refusal.{Refusal}
 use Rattle.gate_block.specs.declared.area.Area.{Area}
 use Rattle.gate_block.specs.Area.{has_failed, base_of, size_of}
 use Rattle.blocks.specs.declared.block.Block.{Block}
 use Rattle.checkpoint.specs.declared.turn.Turn.{Turn}
-use Rattle.checkpoint.specs.declared.laying.Laying.{Laying}
-use Rattle.checkpoint.specs.Imaging.{IsLaidBeside}
+use Rattle.checkpoint.specs.declared.stage.Stage.{Stage}
+use Rattle.checkpoint.specs.Imaging.{IsBeside}
 
 -- A disk with its area in use, the place up to which commits are kept, a block that was held back,
 -- whether the disk has failed, the position up to which the image of the area in use covers the
--- records, and the image in progress.
+-- records, and how far it is with an image.
 pub record KeeperState (D : Type 0) : Type 0 where
   pub disk : D
   pub area : Area
@@ -19,7 +19,7 @@ pub record KeeperState (D : Type 0) : Type 0 where
   pub held : Option Block
   pub failed : Bool
   pub covered : ℕ
-  pub image : Option Laying
+  pub stage : Stage
 
 -- The area is one of the two of a disk of so many bytes, which stand behind its head, one behind
 -- the other.
@@ -31,7 +31,7 @@ pub record IsOneOfTwo (area : Area) (bytes : ℕ) : Type 0 where
 pub record IsKeeper {D : Type 0} (seen : D → List ℕ) (k : KeeperState D) : Type 0 where
   pub fine : k.failed ≡ false → has_failed k.area ≡ false
   pub one : IsOneOfTwo k.area (length (seen k.disk))
-  pub beside : IfSome k.image (λ w. IsLaidBeside k.area k.failed w)
+  pub beside : IsBeside k.area k.failed k.stage
 
 -- Nothing was brought to the disk yet.
 pub record IsFresh {D : Type 0} (k : KeeperState D) : Type 0 where
@@ -39,12 +39,13 @@ pub record IsFresh {D : Type 0} (k : KeeperState D) : Type 0 where
   pub holds_none : k.held ≡ None
   pub fine : k.failed ≡ false
   pub covers_none : k.covered ≡ 0
-  pub no_image : k.image ≡ None
+  pub no_image : k.stage ≡ Stage.Idle
 
--- the block ends past the image in progress
-abbrev pub IsPast : Option Laying → ℕ → Type 0
-IsPast None end = ⊥
-IsPast (Some w) end = w.image.end < end
+-- The position is past the image that is being written: past the end that is held, or the image's.
+abbrev pub IsPast : Stage → ℕ → Type 0
+IsPast Stage.Idle position = ⊥
+IsPast (Stage.Awaited e) position = e.end < position
+IsPast (Stage.Laid w) position = w.image.end < position
 
 -- When a block is appended, and when not: it is kept; it does not fit, is held, and nothing else
 -- changed; or the disk fails.
@@ -59,7 +60,8 @@ AppendAnswers block mark is_full is_same is_risen (Err Refusal.Fault) held next 
 AppendAnswers block mark is_full is_same is_risen r held next failed = ⊥
 
 -- A block that the image of the area in use covers is let go, with nothing else changed; one that
--- is past the image in progress is held, with nothing else changed; each other one is appended.
+-- is past the image that is being written is held, with nothing else changed; each other one is
+-- appended.
 abbrev pub BringAnswers : Block → ℕ → Type 0 → Type 0 → Type 0 → Type 0 → Type 0 →
     Result Turn Refusal → Option Block → ℕ → Bool → Type 0
 BringAnswers block mark is_covered is_past is_full is_same is_risen (Ok Turn.Held) held next

@@ -18,6 +18,8 @@ use Rattle.blocks.specs.Packings.{AreWhole}
 use Rattle.repetition.specs.Journals.{records_in}
 use Rattle.repetition.specs.Steps.{State}
 use Rattle.checkpoint.specs.declared.laying.Laying.{Laying}
+use Rattle.checkpoint.specs.declared.stage.Ending.{Ending}
+use Rattle.checkpoint.specs.declared.stage.Stage.{Stage}
 use Rattle.checkpoint.specs.Imaging.{IsOther, IsBeingLaid}
 use Rattle.std.specs.Option.{option_to_list}
 use Rattle.checkpoint.specs.Keepers.{KeeperState}
@@ -52,9 +54,15 @@ IsApart front (rs ∷ groups) position =
     ((position ≤ front) ⊎ (front + length rs ≤ position))
     × IsApart (front + length rs) groups position
 
--- No block has records from both sides of the end of an image.
-abbrev pub Uncrossed : List BegunImage → List (List Record) → Type 0
-Uncrossed images groups = All (λ i. IsApart 0 groups (length i.covered)) images
+-- No block has records from both sides of one of the positions.
+abbrev pub Uncrossed : (freezes : List ℕ) → List (List Record) → Type 0
+Uncrossed freezes groups = All (λ p. IsApart 0 groups p) freezes
+
+-- An end is held. It is a position at which the book was frozen, and no record that is kept is past
+-- it: so many are kept by the area in use.
+pub record IsHolding (freezes : List ℕ) (stored : ℕ) (ending : Ending) : Type 0 where
+  pub frozen : Contains freezes ending.end
+  pub ahead : stored ≤ ending.end
 
 -- The image in progress is one of those that were begun. So many records are kept by the area in
 -- use.
@@ -77,11 +85,13 @@ pub record IsImaging {D : Type 0} (seen : D → List ℕ) (start : List Collecti
 
 -- The keeper was opened over a content with no live transaction, with this wear, and has received
 -- these blocks since, the held one last. Their records begin all records of the book's history so
--- far, which lead to the state now; and these images were begun. A stop now leaves what `Yields`
--- says of the transactions that the mark tells.
+-- far, which lead to the state now. The book was frozen at these positions, where no block crosses,
+-- and these images were begun, each at one of them. A stop now leaves what `Yields` says of the
+-- transactions that the mark tells.
 pub record HasReceived {D : Type 0} (seen : D → List ℕ) (may_leave : D → List ℕ → Type 0)
     (start : List Collection) (wear : ℕ) (records : List Record) (now : State)
-    (images : List BegunImage) (received : List Block) (keeper : KeeperState D) : Type 0 where
+    (freezes : List ℕ) (images : List BegunImage) (received : List Block)
+    (keeper : KeeperState D) : Type 0 where
   pub good : AllByRecursion (IsRecord None) records
   -- the blocks that were brought, and the held one, with their records, and those that are not
   -- received
@@ -94,7 +104,8 @@ pub record HasReceived {D : Type 0} (seen : D → List ℕ) (may_leave : D → L
       (option_to_list keeper.held) last
   pub rest : List Record
   pub begins : records ≡ records_in groups ++ (records_in last ++ rest)
-  pub uncrossed : Uncrossed images (groups ++ last)
+  pub uncrossed : Uncrossed freezes (groups ++ last)
+  pub frozen : All (λ i. Contains freezes (length i.covered)) images
   -- what the area in use held when it was picked, and the records that this covers: none where it
   -- was opened, and else it is an image
   pub old : List (List Record)
@@ -115,12 +126,26 @@ pub record HasReceived {D : Type 0} (seen : D → List ℕ) (may_leave : D → L
   -- what a stop now may leave
   pub stop : (c : List ℕ) → may_leave keeper.disk c →
       YieldsUpTo start records keeper.mark c
-  -- until a fault, the area holds these blocks, and an image is being laid beside it
+  -- until a fault, the area holds these blocks, and an end is held, or an image being laid beside
+  -- it
   pub in_use : keeper.failed ≡ false →
       IsInUse seen may_leave keeper.area keeper.disk (old ++ kept)
-  pub imaging : keeper.failed ≡ false → (l : Laying) → keeper.image ≡ Some l →
+  pub holding : keeper.failed ≡ false → (e : Ending) → keeper.stage ≡ Stage.Awaited e →
+      IsHolding freezes (length covered + length (records_in kept)) e
+  pub imaging : keeper.failed ≡ false → (l : Laying) → keeper.stage ≡ Stage.Laid l →
       IsImaging seen start wear records now images keeper.disk keeper.area
       (length covered + length (records_in kept)) l
+
+-- the ends of the images that were begun
+abbrev pub ends_of : List BegunImage → List ℕ
+ends_of images = map (λ i. length i.covered) images
+
+-- The same, where each image was begun at once, when its end was held.
+abbrev pub HasReceivedAtOnce : {D : Type 0} → (D → List ℕ) → (D → List ℕ → Type 0) →
+    List Collection → ℕ → List Record → State → List BegunImage → List Block → KeeperState D →
+    Type 0
+HasReceivedAtOnce seen may_leave start wear records now images received keeper =
+    HasReceived seen may_leave start wear records now (ends_of images) images received keeper
 
 -- ---- what each call of a keeper keeps
 
@@ -132,16 +157,35 @@ LeavesKept g start records k l = LeavesOnly g.moment g.left_since k.disk l.disk
     (YieldsUpTo start records k.mark)
 
 -- The keeper has received the blocks that it took from its inbox too. They carry records that go on
--- with those before, and no block crosses the end of an image.
+-- with those before, and no block crosses a position at which the book was frozen.
 abbrev pub TurnKeeps : {D : Type 0} → Ghosts D → (receives : List Block → Type 0) →
     KeeperState D → KeeperState D → Type 0
 TurnKeeps g receives k l =
-    (start : List Collection) (wear : ℕ) (records : List Record) (now : State)
+    (start : List Collection) (wear : ℕ) (records : List Record) (now : State) (freezes : List ℕ)
     (images : List BegunImage) (received more : List Block) (groups : List (List Record)) →
     receives more → Carries 0 0 (received ++ more) groups → IsPrefix (records_in groups) records →
-    Uncrossed images groups →
-    HasReceived g.seen g.may_leave start wear records now images received k →
-    HasReceived g.seen g.may_leave start wear records now images (received ++ more) l
+    Uncrossed freezes groups →
+    HasReceived g.seen g.may_leave start wear records now freezes images received k →
+    HasReceived g.seen g.may_leave start wear records now freezes images (received ++ more) l
+    × LeavesKept g start records k l
+
+-- the positions, where this one was held, or refused
+abbrev pub held_with : ℕ → List ℕ → Result (Unit {0}) Refusal → List ℕ
+held_with end freezes (Ok done) = end ∷ freezes
+held_with end freezes (Err e) = freezes
+
+-- An end may be held that nothing that was received, and nothing that the area in use covers, is
+-- past.
+abbrev pub HoldKeeps : {D : Type 0} → Ghosts D → (end : ℕ) → Result (Unit {0}) Refusal →
+    KeeperState D → KeeperState D → Type 0
+HoldKeeps g end r k l =
+    (start : List Collection) (wear : ℕ) (records : List Record) (now : State) (freezes : List ℕ)
+    (images : List BegunImage) (received : List Block) (groups : List (List Record)) →
+    Carries 0 0 received groups → IsPrefix (records_in groups) records →
+    length (records_in groups) ≤ end → k.covered ≤ end →
+    HasReceived g.seen g.may_leave start wear records now freezes images received k →
+    HasReceived g.seen g.may_leave start wear records now (held_with end freezes r) images
+    received l
     × LeavesKept g start records k l
 
 -- the images that were begun, where this one was, or was refused
@@ -149,26 +193,39 @@ abbrev pub begun_with : BegunImage → List BegunImage → Result (Unit {0}) Ref
 begun_with image images (Ok done) = image ∷ images
 begun_with image images (Err e) = images
 
--- An image may be begun that stands for a beginning of the records, and covers all that was
--- received and all that the area in use covers.
+-- An image may be begun that stands for a beginning of the records.
 abbrev pub BeginKeeps : {D : Type 0} → Ghosts D → Image → Result (Unit {0}) Refusal →
     KeeperState D → KeeperState D → Type 0
 BeginKeeps g image r k l =
+    (start : List Collection) (wear : ℕ) (records : List Record) (now : State) (freezes : List ℕ)
+    (images : List BegunImage) (received : List Block) (begun : BegunImage) →
+    IsImageFor image begun → StandIn start wear records now begun.blocks begun.covered →
+    HasReceived g.seen g.may_leave start wear records now freezes images received k →
+    HasReceived g.seen g.may_leave start wear records now freezes (begun_with begun images r)
+    received l
+    × LeavesKept g start records k l
+
+-- An image may be begun at once that stands for a beginning of the records, and covers all that was
+-- received and all that the area in use covers.
+abbrev pub StartKeeps : {D : Type 0} → Ghosts D → Image → Result (Unit {0}) Refusal →
+    KeeperState D → KeeperState D → Type 0
+StartKeeps g image r k l =
     (start : List Collection) (wear : ℕ) (records : List Record) (now : State)
     (images : List BegunImage) (received : List Block) (groups : List (List Record))
     (begun : BegunImage) →
     Carries 0 0 received groups → IsPrefix (records_in groups) records →
     IsImageFor image begun → StandIn start wear records now begun.blocks begun.covered →
     length (records_in groups) ≤ length begun.covered → k.covered ≤ length begun.covered →
-    HasReceived g.seen g.may_leave start wear records now images received k →
-    HasReceived g.seen g.may_leave start wear records now (begun_with begun images r) received l
+    HasReceivedAtOnce g.seen g.may_leave start wear records now images received k →
+    HasReceivedAtOnce g.seen g.may_leave start wear records now (begun_with begun images r)
+    received l
     × LeavesKept g start records k l
 
 -- A piece of an image is written, or the image becomes the store: nothing is received.
 abbrev pub ImageKeeps : {D : Type 0} → Ghosts D → KeeperState D → KeeperState D → Type 0
 ImageKeeps g k l =
-    (start : List Collection) (wear : ℕ) (records : List Record) (now : State)
+    (start : List Collection) (wear : ℕ) (records : List Record) (now : State) (freezes : List ℕ)
     (images : List BegunImage) (received : List Block) →
-    HasReceived g.seen g.may_leave start wear records now images received k →
-    HasReceived g.seen g.may_leave start wear records now images received l
+    HasReceived g.seen g.may_leave start wear records now freezes images received k →
+    HasReceived g.seen g.may_leave start wear records now freezes images received l
     × LeavesKept g start records k l

@@ -1,25 +1,28 @@
 // The keeper: brings blocks to the disk, in their order, and writes images.
-ghost use Rattle.std.specs.Prelude.{◌≡◌, ◌≢◌, ◌↔◌, ◌<◌, ◌≤◌, ◌+◌, max, ℕ, List, ◌++◌, ◌∷◌, []};
-ghost use Rattle.std.specs.Prelude.{length, OnOk, IfSome, IfNone, IsTrue, Some, None, false};
+ghost use Rattle.std.specs.Prelude.{◌≡◌, ◌≢◌, ◌<◌, ◌≤◌, ◌+◌, max, ℕ, List, ◌++◌, ◌∷◌, []};
+ghost use Rattle.std.specs.Prelude.{length, OnOk, IfSome, IfNone, None, false};
 ghost use Rattle.disk_model.specs.Disk.{Torn, IsAtRest, LeavesOnly, Rises};
 ghost use Rattle.gate_block.specs.Row.{IsBlockOf, SameOutside};
 ghost use Rattle.gate_block.specs.Area.{has_failed, base_of, size_of, position_of, IsReady};
 ghost use Rattle.gate_block.specs.Area.{LeavesBlocks, LeavesElsewhere};
 ghost use Rattle.blocks.specs.declared.block.Block.{Block};
 ghost use Rattle.checkpoint.specs.declared.laying.Laying.{Laying};
-ghost use Rattle.checkpoint.specs.Imaging.{IsLaidBeside, HasPiece, IsWritten, IsBeingLaid};
+ghost use Rattle.checkpoint.specs.declared.stage.Stage.{Stage};
+ghost use Rattle.checkpoint.specs.Imaging.{IsLaidBeside, HasPiece, IsBeingLaid};
 ghost use Rattle.checkpoint.specs.Imaging.{IsRooted, LeavesRoot, PicksWhole, bodies_of, left_of};
 ghost use Rattle.checkpoint.specs.Imaging.{pieces_left};
 ghost use Rattle.gate_block.specs.Layout.{base_in_use};
 ghost use Rattle.checkpoint.specs.Keepers.{KeeperState, IsOneOfTwo, IsPast, OnKept, IsBrought};
 ghost use Rattle.checkpoint.specs.Keepers.{AppendAnswers, BringAnswers, TurnAnswers};
-ghost use Rattle.checkpoint.specs.Keeping.{TurnKeeps, BeginKeeps, ImageKeeps};
-ghost use Rattle.checkpoint.specs.ImageAnswers.{BeginAnswers, PieceAnswers, PickAnswers};
-ghost use Rattle.checkpoint.specs.ImageAnswers.{FlipAnswers};
+ghost use Rattle.checkpoint.specs.Keeping.{TurnKeeps, HoldKeeps, BeginKeeps, StartKeeps};
+ghost use Rattle.checkpoint.specs.Keeping.{ImageKeeps};
+ghost use Rattle.checkpoint.specs.ImageAnswers.{HoldAnswers, BeginAnswers, StartAnswers};
+ghost use Rattle.checkpoint.specs.ImageAnswers.{PieceAnswers, PickAnswers, FlipAnswers};
 
 use crate::inbox::Inbox;
 use crate::laying::{Laying, is_too_long, other_area};
 use crate::root::pick_area;
+use crate::stage::{Ending, Stage};
 use crate::turn::Turn;
 use blocks::{Block, Image};
 use calls::Refusal;
@@ -28,7 +31,7 @@ use gate_block::Area;
 use std::marker::Model;
 
 /// A disk with its area in use, the mark, a block that was held back, the position up to which the
-/// image of the area covers the records, and the image in progress.
+/// image of the area covers the records, and how far it is with an image.
 ///
 /// The area is one of the two of the disk, and the image goes into the other one. Contracts see the
 /// keeper as a `KeeperState`.
@@ -39,7 +42,7 @@ pub struct Keeper<D: Disk> {
     held: Option<Block>,
     failed: bool,
     covered: u64,
-    image: Option<Laying>,
+    stage: Stage,
 }
 
 // Written out, so that the crates above call it in place of proving it again.
@@ -52,11 +55,11 @@ impl<D: Disk + Drop> Drop for Keeper<D> {
             held,
             failed: _failed,
             covered: _covered,
-            image,
+            stage,
         } = self;
         drop(disk);
         drop(held);
-        drop(image);
+        drop(stage);
     }
 }
 
@@ -72,7 +75,7 @@ impl<D: Disk> Model for Keeper<D> {
       held = k.held;
       failed = k.failed;
       covered = k.covered;
-      image = k.image;
+      stage = k.stage;
     } };
 
     ghost invariant = { λ k. IsKeeper D.seen
@@ -83,7 +86,7 @@ impl<D: Disk> Model for Keeper<D> {
           held = k.held;
           failed = k.failed;
           covered = k.covered;
-          image = k.image;
+          stage = k.stage;
         }) };
 }
 
@@ -102,7 +105,7 @@ impl<D: Disk> Keeper<D> {
           held = None;
           failed = false;
           covered = 0;
-          image = None;
+          stage = Stage.Idle;
         } }
     {
         Self {
@@ -112,7 +115,7 @@ impl<D: Disk> Keeper<D> {
             held: None,
             failed: false,
             covered: 0,
-            image: None,
+            stage: Stage::Idle,
         }
     }
 
@@ -123,13 +126,13 @@ impl<D: Disk> Keeper<D> {
         self.mark
     }
 
-    /// How many pieces of the image are not yet written: none, where no image is in progress.
+    /// How many pieces of the image are not yet written: none, where no image is here.
     pub fn left(&self) -> Option<u64>
-        ensures { result ≡ pieces_left self.now.image }
+        ensures { result ≡ pieces_left self.now.stage }
     {
-        match &self.image {
-            Some(laying) => Some(laying.image.blocks.len() as u64),
-            None => None,
+        match &self.stage {
+            Stage::Laid(laying) => Some(laying.image.blocks.len() as u64),
+            Stage::Idle | Stage::Awaited(_) => None,
         }
     }
 
@@ -156,7 +159,7 @@ impl<D: Disk> Keeper<D> {
         ensures base { base_of self.new.area ≡ base_of self.old.area }
         ensures size { size_of self.new.area ≡ size_of self.old.area }
         ensures covered { self.new.covered ≡ self.old.covered }
-        ensures image { self.new.image ≡ self.old.image }
+        ensures stage { self.new.stage ≡ self.old.stage }
         ensures honest { D.is_honest self.new.disk → D.is_honest self.old.disk }
     {
         match self.area.append(&mut self.disk, block.bytes.as_slice()) {
@@ -177,13 +180,13 @@ impl<D: Disk> Keeper<D> {
         }
     }
 
-    // Lets a block go that the image of the area in use covers, holds one that is past the image in
-    // progress, and appends each other one.
+    // Lets a block go that the image of the area in use covers, holds one that is past the image
+    // that is being written, and appends each other one.
     fn bring(&mut self, block: Block) -> Result<Turn, Refusal>
         requires held { self.old.held ≡ None }
         requires failed { self.old.failed ≡ false }
         ensures answer { BringAnswers block self.old.mark
-            (block.end ≤ self.old.covered) (IsPast self.old.image block.end)
+            (block.end ≤ self.old.covered) (IsPast self.old.stage block.end)
             (size_of self.old.area < position_of self.old.area + length block.bytes.items)
             ((self.new.area ≡ self.old.area) × (self.new.disk ≡ self.old.disk))
             (Rises (D.fault_count self.old.disk) (D.fault_count self.new.disk))
@@ -203,14 +206,14 @@ impl<D: Disk> Keeper<D> {
         ensures base { base_of self.new.area ≡ base_of self.old.area }
         ensures size { size_of self.new.area ≡ size_of self.old.area }
         ensures covered { self.new.covered ≡ self.old.covered }
-        ensures image { self.new.image ≡ self.old.image }
+        ensures stage { self.new.stage ≡ self.old.stage }
         ensures honest { D.is_honest self.new.disk → D.is_honest self.old.disk }
     {
         if block.end <= self.covered {
             self.mark = self.mark.max(block.place);
             return Ok(Turn::Kept(self.mark));
         }
-        if is_past(&self.image, block.end) {
+        if self.stage.is_past(block.end) {
             self.held = Some(block);
             return Ok(Turn::Held);
         }
@@ -220,9 +223,9 @@ impl<D: Disk> Keeper<D> {
     /// Brings the held block, or else the next one that it receives, to the disk. Answers Idle
     /// where none is held and none was there to receive, or that all commits up to a place are
     /// kept, which is the mark then. A block that the image of the area in use covers is let go, as
-    /// it is kept by that, and no device is called. While an image is in progress, a block that
-    /// ends past it is held, which is answered, and each other one goes into the area in use. It
-    /// takes no memory and copies no block.
+    /// it is kept by that, and no device is called. While an image is being written, from the hold
+    /// of its end on, a block that ends past it is held, which is answered, and each other one goes
+    /// into the area in use. It takes no memory and copies no block.
     ///
     /// Of a keeper that has received a book's blocks since it was opened: whatever a stop at any
     /// moment of the call might have left is sound, and stands for a content that some beginning of
@@ -235,7 +238,7 @@ impl<D: Disk> Keeper<D> {
         // What it answers, and what it leaves.
         ensures answer { TurnAnswers self.old.held (λ bs. I.receives inbox.old bs inbox.new)
             (I.was_empty inbox.old inbox.new) self.old.failed self.old.mark
-            (λ b. b.end ≤ self.old.covered) (λ b. IsPast self.old.image b.end)
+            (λ b. b.end ≤ self.old.covered) (λ b. IsPast self.old.stage b.end)
             (λ b. size_of self.old.area < position_of self.old.area + length b.bytes.items)
             ((self.new.area ≡ self.old.area) × (self.new.disk ≡ self.old.disk))
             (Rises (D.fault_count self.old.disk) (D.fault_count self.new.disk))
@@ -265,14 +268,14 @@ impl<D: Disk> Keeper<D> {
         // What of the disk stays: all outside the area, and what was laid of an image.
         ensures elsewhere { SameOutside (base_of self.old.area) (size_of self.old.area)
             (D.seen self.old.disk) (D.seen self.new.disk) }
-        ensures laid { (w : Laying) (bodies : List (List ℕ)) → self.old.image ≡ Some w →
+        ensures laid { (w : Laying) (bodies : List (List ℕ)) → self.old.stage ≡ Stage.Laid w →
             IsBeingLaid w (D.seen self.old.disk) bodies →
             IsBeingLaid w (D.seen self.new.disk) bodies }
         // What of the keeper stays.
         ensures base { base_of self.new.area ≡ base_of self.old.area }
         ensures size { size_of self.new.area ≡ size_of self.old.area }
         ensures covered { self.new.covered ≡ self.old.covered }
-        ensures image { self.new.image ≡ self.old.image }
+        ensures stage { self.new.stage ≡ self.old.stage }
         // What of the device stays: its length, and that it reads true only if it did before.
         ensures length { length (D.seen self.new.disk) ≡ length (D.seen self.old.disk) }
         ensures honest { D.is_honest self.new.disk → D.is_honest self.old.disk }
@@ -286,16 +289,41 @@ impl<D: Disk> Keeper<D> {
         }
     }
 
-    /// Begins to write an image, which has a block, into the area that is not in use. No device is
-    /// called, no memory is taken and no block copied.
+    /// Holds an end for an image that comes later: how many records it covers, and how many commits
+    /// and makings they hold. From here on an image is being written, and a block that ends past it
+    /// is held. No device is called.
     ///
-    /// An image that stands for a beginning of the book's records, and covers all that was received
-    /// and all that the area in use covers, may be begun at any time: a stop leaves what it left
-    /// before, and later calls go on from there.
+    /// An end may be held that no received block and no record of the area in use is past. No later
+    /// block may have records from both sides of it.
     ///
     /// Refusals, in this order, each with everything as before: Failed after a Fault; Imaging where
-    /// an image is in progress; Full where the blocks, with a closed gate behind the last, need
-    /// more bytes than an area has.
+    /// an image is being written.
+    pub fn hold(&mut self, end: u64, place: u64) -> Result<(), Refusal>
+        ensures answer { HoldAnswers self.old (record { end = end; place = place }) self.new
+            result }
+        // What was received stays received, and the end is one of those that no block crosses.
+        ensures crash { HoldKeeps ⟦<D as Disk>⟧ end result self.old self.new }
+    {
+        if self.failed {
+            return Err(Refusal::Failed);
+        }
+        if !self.stage.is_idle() {
+            return Err(Refusal::Imaging);
+        }
+        self.stage = Stage::Awaited(Ending { end, place });
+        Ok(())
+    }
+
+    /// Begins to write the image that is awaited, which has a block, into the area that is not in
+    /// use. No device is called, no memory is taken and no block copied.
+    ///
+    /// An image that stands for a beginning of the book's records may be begun where its end is
+    /// held: a stop leaves what it left before, and later calls go on from there.
+    ///
+    /// Refusals, in this order, each but the last with everything as before: Failed after a Fault;
+    /// Unfinished where no end is held; Imaging where an image is here already; BadArg where the
+    /// image has another end or place than the one held; Full where the blocks, with a closed gate
+    /// behind the last, need more bytes than an area has, and then no image is being written.
     pub fn begin_image(&mut self, image: Image) -> Result<(), Refusal>
         requires some { image.blocks.items ≢ [] }
         ensures answer { BeginAnswers self.old image self.new result }
@@ -303,21 +331,44 @@ impl<D: Disk> Keeper<D> {
         // stands for a beginning of the book's records.
         ensures crash { BeginKeeps ⟦<D as Disk>⟧ image result self.old self.new }
         // All of it is left.
-        ensures begun { (w : Laying) → self.new.image ≡ Some w →
+        ensures begun { (w : Laying) → self.new.stage ≡ Stage.Laid w →
             OnOk result (IsBeingLaid w (D.seen self.new.disk) (bodies_of image.blocks.items)) }
     {
         if self.failed {
             return Err(Refusal::Failed);
         }
-        if self.image.is_some() {
-            return Err(Refusal::Imaging);
-        }
+        self.stage.ask_for(&image)?;
         if is_too_long(&image, self.area.size()) {
+            self.stage = Stage::Idle;
             return Err(Refusal::Full);
         }
         let area = other_area(&self.area, self.disk.size());
-        self.image = Some(Laying { area, image });
+        self.stage = Stage::Laid(Laying { area, image });
         Ok(())
+    }
+
+    /// Holds the end of an image, and begins to write the image, which has a block. No device is
+    /// called, no memory is taken and no block copied.
+    ///
+    /// An image that stands for a beginning of the book's records, and covers all that was received
+    /// and all that the area in use covers, may be begun at any time: a stop leaves what it left
+    /// before, and later calls go on from there.
+    ///
+    /// Refusals, in this order, each with everything as before: Failed after a Fault; Imaging where
+    /// an image is being written; Full where the blocks, with a closed gate behind the last, need
+    /// more bytes than an area has.
+    pub fn start_image(&mut self, image: Image) -> Result<(), Refusal>
+        requires some { image.blocks.items ≢ [] }
+        ensures answer { StartAnswers self.old image self.new result }
+        // What was received stays received, and the image is one of those that were begun, where it
+        // stands for a beginning of the book's records.
+        ensures crash { StartKeeps ⟦<D as Disk>⟧ image result self.old self.new }
+        // All of it is left.
+        ensures begun { (w : Laying) → self.new.stage ≡ Stage.Laid w →
+            OnOk result (IsBeingLaid w (D.seen self.new.disk) (bodies_of image.blocks.items)) }
+    {
+        self.hold(image.end, image.place)?;
+        self.begin_image(image)
     }
 
     /// Writes the next block of the image, in one write and without a sync, and answers whether
@@ -330,11 +381,11 @@ impl<D: Disk> Keeper<D> {
     /// Refused Failed after a Fault, with everything as before; Fault where the disk failed, and
     /// then the keeper has failed, and the block is not written.
     pub fn image_piece(&mut self) -> Result<bool, Refusal>
-        requires piece { HasPiece self.old.image }
+        requires piece { HasPiece self.old.stage }
         ensures answer { PieceAnswers self.old
             (Rises (D.fault_count self.old.disk) (D.fault_count self.new.disk)) self.new result }
-        ensures laid { (w v : Laying) (bodies : List (List ℕ)) → self.old.image ≡ Some w →
-            self.new.image ≡ Some v →
+        ensures laid { (w v : Laying) (bodies : List (List ℕ)) → self.old.stage ≡ Stage.Laid w →
+            self.new.stage ≡ Stage.Laid v →
             IsBeingLaid w (D.seen self.old.disk) bodies →
             OnOk result (IsBeingLaid v (D.seen self.new.disk) bodies) }
         // What was received stays received, and at each moment a stop leaves what the mark told.
@@ -343,10 +394,10 @@ impl<D: Disk> Keeper<D> {
         ensures kept { (bodies : List (List ℕ)) →
             IsReady D.seen D.may_leave self.old.area self.old.disk bodies →
             IsReady D.seen D.may_leave self.new.area self.new.disk bodies }
-        ensures any_moment { (w : Laying) → self.old.image ≡ Some w →
+        ensures any_moment { (w : Laying) → self.old.stage ≡ Stage.Laid w →
             LeavesOnly D.moment D.left_since self.old.disk self.new.disk
             (LeavesElsewhere (D.may_leave self.old.disk) w.area) }
-        ensures elsewhere { (w : Laying) → self.old.image ≡ Some w →
+        ensures elsewhere { (w : Laying) → self.old.stage ≡ Stage.Laid w →
             SameOutside (base_of w.area) (size_of w.area) (D.seen self.old.disk)
             (D.seen self.new.disk) }
         ensures honest { D.is_honest self.new.disk → D.is_honest self.old.disk }
@@ -354,13 +405,13 @@ impl<D: Disk> Keeper<D> {
         if self.failed {
             return Err(Refusal::Failed);
         }
-        match &mut self.image {
-            Some(laying) => {
+        match &mut self.stage {
+            Stage::Laid(laying) => {
                 let written = laying.lay_next(&mut self.disk);
                 self.failed = written.is_err();
                 written
             }
-            None => unreachable!(),
+            Stage::Idle | Stage::Awaited(_) => unreachable!(),
         }
     }
 
@@ -372,16 +423,16 @@ impl<D: Disk> Keeper<D> {
     /// before, with any root byte.
     /// In both cases all that the mark told is there, as with a stop in a turn.
     ///
-    /// Refused Failed after a Fault, and then Unfinished where no image is in progress or pieces of
-    /// it remain, both with everything as before; Fault where the disk failed, and then the keeper
-    /// has failed, and no image is in progress.
+    /// Refused Failed after a Fault, and then Unfinished where no image is here or pieces of it
+    /// remain, both with everything as before; Fault where the disk failed, and then the keeper has
+    /// failed, and no image is being written.
     pub fn flip(&mut self) -> Result<u64, Refusal>
         ensures answer { FlipAnswers self.old
             (Rises (D.fault_count self.old.disk) (D.fault_count self.new.disk)) self.new result }
         // What was received stays received, and at each moment a stop leaves what the mark told.
         ensures crash { ImageKeeps ⟦<D as Disk>⟧ self.old self.new }
         // The area in use holds the blocks of the image, and the root byte picks it.
-        ensures kept { (w : Laying) (bodies : List (List ℕ)) → self.old.image ≡ Some w →
+        ensures kept { (w : Laying) (bodies : List (List ℕ)) → self.old.stage ≡ Stage.Laid w →
             bodies ≢ [] →
             IsBeingLaid w (D.seen self.old.disk) bodies →
             OnOk result (IsReady D.seen D.may_leave self.new.area self.new.disk bodies) }
@@ -394,7 +445,8 @@ impl<D: Disk> Keeper<D> {
             (LeavesRoot (D.may_leave self.old.disk) (D.seen self.old.disk)) }
         // So a stop leaves a root byte that picks one of two whole areas: the old one as it was, or
         // the image's.
-        ensures any_moment_whole { (w : Laying) (bodies : List (List ℕ)) → self.old.image ≡ Some w →
+        ensures any_moment_whole { (w : Laying) (bodies : List (List ℕ)) →
+            self.old.stage ≡ Stage.Laid w →
             left_of w ≡ [] → bodies ≢ [] →
             IsBeingLaid w (D.seen self.old.disk) bodies →
             IsRooted D.seen D.may_leave self.old.area self.old.disk →
@@ -405,7 +457,7 @@ impl<D: Disk> Keeper<D> {
         if self.failed {
             return Err(Refusal::Failed);
         }
-        match take_written(&mut self.image) {
+        match self.stage.take_written() {
             Some(laying) => self.pick(laying),
             None => Err(Refusal::Unfinished),
         }
@@ -414,7 +466,7 @@ impl<D: Disk> Keeper<D> {
     // Makes the area of an image that is all written the one in use.
     fn pick(&mut self, laying: Laying) -> Result<u64, Refusal>
         requires fine { self.old.failed ≡ false }
-        requires none { self.old.image ≡ None }
+        requires none { self.old.stage ≡ Stage.Idle }
         requires beside { IsLaidBeside self.old.area false laying }
         ensures answer { PickAnswers self.old laying
             (Rises (D.fault_count self.old.disk) (D.fault_count self.new.disk)) self.new result }
@@ -447,37 +499,11 @@ impl<D: Disk> Keeper<D> {
             held,
             failed: _failed,
             covered: _covered,
-            image,
+            stage,
         } = self;
         drop(held);
-        drop(image);
+        drop(stage);
         disk
-    }
-}
-
-// Whether a block that ends there is past the image in progress.
-fn is_past(image: &Option<Laying>, end: u64) -> bool
-    ensures { IsTrue result ↔ IsPast image.now end }
-{
-    match image {
-        Some(laying) => end > laying.image.end,
-        None => false,
-    }
-}
-
-// Takes the image out, where none of its pieces is left.
-fn take_written(image: &mut Option<Laying>) -> Option<Laying>
-    ensures some { IfSome result (λ w. (image.old ≡ Some w) × (left_of w ≡ []) ×
-        (image.new ≡ None)) }
-    ensures none { IfNone result (IsWritten image.old → ⊥) }
-    ensures stays { IfNone result (image.new ≡ image.old) }
-{
-    match image.take() {
-        Some(laying) if laying.has_more() => {
-            *image = Some(laying);
-            None
-        }
-        taken => taken,
     }
 }
 

@@ -18,7 +18,7 @@ use Rattle.txn.specs.declared.steps.BookStep.{BookStep}
 use Rattle.txn.specs.Books.{BookState, standing, opened, Takes, CutAnswers}
 use Rattle.txn.specs.Rows.{Standing}
 use Rattle.txn.specs.Histories.{records_by, CutRow}
-use Rattle.txn.specs.Handing.{HasHanded}
+use Rattle.txn.specs.Handing.{HasHandedAtOnce, image_ends}
 use Rattle.txn.proofs.Handings.{records_by-push, records_then, opens, taken_left, takes_on}
 use Rattle.txn.proofs.Handings.{cuts_on}
 use Rattle.catalog.specs.Meaning.{catalog_meaning, catalog_making}
@@ -62,7 +62,8 @@ module _ {J : Type 0} (j : Ghosts J) where
     desk_takes action after now took good now_is =
         let rs = records_then seat.all action in
         let left = taken_left catalog_meaning catalog_making (λ v. v) j.start j.wear seat.all book
-        after sender.sent is.groups sender.noted is.handed client action took in
+        after sender.sent is.groups (image_ends sender.noted) sender.noted is.handed client action
+        took in
         let more : AllByRecursion (IsRecord None) rs = each_back (IsRecord None) book.pending rs
         (subst (AllByRecursion (IsRecord None)) left.pending good) in
         rw now_is (record {
@@ -70,7 +71,8 @@ module _ {J : Type 0} (j : Ghosts J) where
           handoff = is.handoff;
           groups = is.groups;
           handed = takes_on catalog_meaning catalog_making (λ v. v) j.start j.wear seat.all book
-              after sender.sent is.groups sender.noted is.handed client action took good;
+              after sender.sent is.groups (image_ends sender.noted) sender.noted is.handed client
+              action took good;
           recorded = λ s.
               let old = is.recorded s in (
                 old.0,
@@ -92,7 +94,8 @@ module _ {J : Type 0} (j : Ghosts J) where
 
   abbrev Handed : List BookStep → Book → List Block → List (List Record) → List Image → Type 0
   Handed steps book sent groups noted =
-      HasHanded catalog_meaning catalog_making (λ v. v) j.start j.wear steps book sent groups noted
+      HasHandedAtOnce catalog_meaning catalog_making (λ v. v) j.start j.wear steps book sent groups
+      noted
 
   -- how many records a cut has handed over
   pub cut_count : (s t : Book) (count : ℕ) (a : Result Bool Refusal) →
@@ -114,7 +117,8 @@ module _ {J : Type 0} (j : Ghosts J) where
       }) → IsDesk j after now ends
   desk_cuts book seat sender is after now ends full a cut now_is =
       let on = cuts_on catalog_meaning catalog_making (λ v. v) j.start j.wear seat.all book after
-      sender.sent is.groups sender.noted is.handed None (λ bs. IsSent sender bs ends) full a cut in
+      sender.sent is.groups (image_ends sender.noted) sender.noted is.handed None
+      (λ bs. IsSent sender bs ends) full a cut in
       let count = cut_count book after on.0 a on.5 in
       let step : BookStep = record {
         client = None;

@@ -11,7 +11,7 @@ use Rattle.repetition.specs.Steps.{State, Repeats}
 use Rattle.repetition.specs.Lagging.{Lags}
 use Rattle.txn.specs.Books.{BookState}
 use Rattle.txn.specs.Histories.{records_by}
-use Rattle.txn.specs.Handing.{HasHanded}
+use Rattle.txn.specs.Handing.{HasHandedAtOnce}
 use Rattle.catalog.specs.Meaning.{catalog_meaning, catalog_making}
 use Rattle.checkpoint.specs.Stored.{StandIn}
 use Rattle.checkpoint.specs.Keeping.{BegunImage, AreImagesFor}
@@ -37,7 +37,7 @@ pub record IsDesk {J : Type 0} (j : Ghosts J) (book : BookState (List Collection
   pub line : seat.table ≡ j.line
   pub handoff : sender.table ≡ j.handoff
   pub groups : List (List Record)
-  pub handed : HasHanded catalog_meaning catalog_making (λ v. v) j.start j.wear seat.all book
+  pub handed : HasHandedAtOnce catalog_meaning catalog_making (λ v. v) j.start j.wear seat.all book
       sender.sent groups sender.noted
   pub recorded : j.sound → (begun : List BegunImage) ×
       AreRecorded j.start j.wear (records_by seat.all) (journalled book.state) sender.noted begun

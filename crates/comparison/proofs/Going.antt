@@ -2,7 +2,8 @@
 use Rattle.std.proofs.Common.{◌≡◌, ℕ, ◌+◌, ◌<◌, ◌≤◌, ◌^◌, None, Some, List, [], ◌∷◌, ◌++◌}
 use Rattle.std.proofs.Common.{Result, Ok, Err, length, slice_get, refl, sym, ap, subst, arith}
 use Rattle.std.proofs.Common.{length-append}
-use Rattle.std.specs.Prelude.{OnOk, OnErr}
+use Rattle.std.specs.Prelude.{Option, IfSome, OnOk, OnErr}
+use Rattle.std.specs.Option.{option_map}
 use Rattle.calls.specs.declared.kind.Kind.{Kind}
 use Rattle.calls.specs.Rules.{IsShort}
 use Rattle.calls.specs.Contents.{Collection, AnswersAt, after_at, empty}
@@ -14,9 +15,9 @@ use Rattle.records.specs.Told.{tells_itself}
 use Rattle.records.proofs.Items.{short_after}
 use Rattle.machine.proofs.BookLaws.{book_laws}
 use Rattle.images.specs.declared.effect.Effect.{Effect}
-use Rattle.images.specs.Gathers.{GatherState, Repeats}
-use Rattle.images.proofs.Following.{follows_run, follows_copied, follows_taken, follows_repeated}
-use Rattle.images.proofs.Following.{came_run, came_copied, came_taken, came_repeated}
+use Rattle.images.specs.Gathers.{GatherState, Repeats, with_gathered}
+use Rattle.images.proofs.Following.{follows_run, follows_gathered, follows_repeated}
+use Rattle.images.proofs.Following.{came_run, came_gathered, came_repeated}
 use Rattle.images.proofs.Following.{length-after_at}
 use Rattle.comparison.specs.Gatherings.{HasRun, Goes}
 
@@ -40,7 +41,7 @@ made_run most s t name kind run makes =
 
 -- nothing is gathered yet
 pub goes_new : (xs : List Collection) → HasRun xs 5 0 →
-    Goes xs (record { parts = []; effects = []; frozen = None }) [] 0
+    Goes xs (record { mark = 0; parts = []; effects = []; frozen = None }) [] 0
 goes_new xs run = record {
   has_run = run;
   unworn = omega arith;
@@ -72,23 +73,15 @@ module _ (xs : List Collection) (g : GatherState) (later : List Effect) (positio
     short_calls = each_append (λ x. IsShort x.call) later (e ∷ []) goes.short_calls (short, tt);
   }
 
-  pub goes_copied : (x : Collection) → slice_get xs (length g.parts) ≡ Some x →
-      Goes xs (record g { parts = g.parts ++ record { collection = x; stamp = position } ∷ [] })
-      later position
-  goes_copied x there = record {
+  pub goes_gathered : (mark : ℕ) (next : Option Collection) →
+      IfSome next (λ x. slice_get xs (length g.parts) ≡ Some x) →
+      Goes xs (with_gathered g mark next position later) [] position
+  goes_gathered mark next there = record {
     has_run = goes.has_run;
     unworn = goes.unworn;
-    follows = follows_copied g later xs x position goes.follows there goes.came.positions;
-    came = came_copied g later x position goes.came;
-    short_calls = goes.short_calls;
-  }
-
-  pub goes_taken : Goes xs (record g { effects = g.effects ++ later }) [] position
-  goes_taken = record {
-    has_run = goes.has_run;
-    unworn = goes.unworn;
-    follows = follows_taken g later xs goes.follows;
-    came = came_taken g later position goes.came;
+    follows = follows_gathered g later xs mark next position goes.follows there
+        goes.came.positions;
+    came = came_gathered g later mark next position goes.came;
     short_calls = tt;
   }
 
@@ -102,7 +95,13 @@ module _ (xs : List Collection) (g : GatherState) (later : List Effect) (positio
   }
 
 -- What holds either way.
-pub either_way : {T E : Type 0} (r : Result T E) (A B G : Type 0) → OnOk r A → OnErr r B → (A → G) →
-    (B → G) → G
-either_way (Ok x) A B G a b f h = f a
-either_way (Err e) A B G a b f h = h b
+pub either_way : {T E : Type 0} (r : Result T E) (A B C D G : Type 0) → OnOk r A → OnOk r B →
+    OnErr r C → OnErr r D → (A → B → G) → (C → D → G) → G
+either_way (Ok x) A B C D G a b c d f h = f a b
+either_way (Err e) A B C D G a b c d f h = h c d
+
+-- a copy of a collection shows what it holds
+pub shown : (P : Collection → Type 0) (next : Option Collection) → IfSome next P →
+    IfSome (option_map (λ (x : Collection). x) next) P
+shown P None is = tt
+shown P (Some x) is = is

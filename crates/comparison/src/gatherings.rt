@@ -1,5 +1,5 @@
 // Images of what was gathered beside images taken at once.
-ghost use Rattle.std.specs.Prelude.{◌≡◌, ◌+◌, ◌<◌, ◌^◌, IfOk};
+ghost use Rattle.std.specs.Prelude.{◌≡◌, ◌+◌, ◌<◌, ◌^◌, Some, IfOk, IfSome, length, slice_get};
 ghost use Rattle.calls.specs.Contents.{AnswersAt};
 ghost use Rattle.calls.specs.Rules.{IsShort};
 ghost use Rattle.comparison.specs.Gatherings.{IsGoing, HasRun};
@@ -17,6 +17,9 @@ use std::fmt;
 
 // How many images are gathered.
 const GATHERINGS: u64 = 60;
+
+// Which gathering of its collections each one is.
+const MARK: u64 = 1;
 
 // How many calls run before each copy, at most.
 const CALLS: u32 = 40;
@@ -94,24 +97,27 @@ impl Gathering {
         Ok(())
     }
 
-    // Copies the next collection, if there is one.
+    // Copies the next collection, if there is one, and hands the calls over.
     fn copy_next(&mut self) -> Result<(), Refusal>
         requires { IsGoing self.old }
         ensures { IsGoing self.new }
     {
         match self.catalog.copy(self.gather.copied() as u8) {
-            Ok(part) => self.gather.add(part, self.position),
+            Ok(part) => self.gather(Some(part)),
             Err(Refusal::NoSuchCollection) => Ok(()),
             Err(refusal) => Err(refusal),
         }
     }
 
-    // Hands the calls over.
-    fn hand_over(&mut self) -> Result<(), Refusal>
-        requires { IsGoing self.old }
+    // Gathers the copy of the next collection, if one was taken, and hands the calls over.
+    fn gather(&mut self, part: Option<NamedHolding>) -> Result<(), Refusal>
+        requires going { IsGoing self.old }
+        requires next { IfSome part (λ p. slice_get self.old.catalog (length self.old.gather.parts)
+            ≡ Some p) }
         ensures { IsGoing self.new }
     {
-        self.gather.take(&mut self.effects)
+        self.gather
+            .gather(MARK, part, self.position, &mut self.effects)
     }
 
     // Repeats what was handed over.
@@ -129,8 +135,8 @@ impl Gathering {
         let Self {
             catalog,
             mut gather,
+            mut effects,
             position,
-            ..
         } = self;
         let machine = Machine::new(alloc, catalog, position);
         let marks = Marks {
@@ -139,7 +145,7 @@ impl Gathering {
             end: position,
             place: 5,
         };
-        gather.freeze(marks, machine.live())?;
+        gather.freeze(marks, machine.live(), &mut effects)?;
         match gather.pack() {
             Ok(image) => Ok(image.blocks == image_blocks(alloc, &machine, 1)?),
             Err((refusal, _)) => Err(refusal),
@@ -185,7 +191,7 @@ fn run_some(
 }
 
 // Gathers the collections while calls of the sequence run on them: before each copy, and behind the
-// last.
+// last. Those are handed over, or left to the freeze.
 fn gather_once(sequence: &mut Sequence, alloc: Global) -> Result<Gathering, Refusal>
     ensures { IfOk result IsGoing }
 {
@@ -194,13 +200,12 @@ fn gather_once(sequence: &mut Sequence, alloc: Global) -> Result<Gathering, Refu
         run_some(&mut gathering, sequence, alloc)?;
         gathering.copy_next()?;
         if sequence.below(2) == 0 {
-            gathering.hand_over()?;
+            gathering.gather(None)?;
         }
         if sequence.below(2) == 0 {
             gathering.catch_up()?;
         }
     }
-    gathering.hand_over()?;
     Ok(gathering)
 }
 

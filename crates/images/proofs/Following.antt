@@ -3,7 +3,9 @@ use Rattle.std.proofs.Common.{◌≡◌, ℕ, zero, suc, ◌+◌, ◌<◌, ◌�
 use Rattle.std.proofs.Common.{[]}
 use Rattle.std.proofs.Common.{false, ◌∷◌, ◌++◌, length, take, slice_get, Some, refl, sym, ◌∙◌}
 use Rattle.std.proofs.Common.{ap, subst}
-use Rattle.std.proofs.Common.{arith, append_assoc, length-append}
+use Rattle.std.proofs.Common.{arith, append_assoc, length-append, map, Option, None}
+use Rattle.std.specs.Prelude.{IfSome}
+use Rattle.std.specs.Option.{option_to_list}
 use Rattle.std.proofs.lemmas.List.{append-nil, map-append, take-append-le, take_all}
 use Rattle.std.proofs.lemmas.Bool.{lt-ltb}
 use Rattle.std.specs.List.{AllByRecursion}
@@ -15,7 +17,7 @@ use Rattle.boosted.specs.Meaning.{IsRoomy}
 use Rattle.catalog.specs.Places.{Reaches, IsWithin}
 use Rattle.images.specs.declared.effect.Effect.{Effect}
 use Rattle.images.specs.Gathers.{CopyState, GatherState, gathered, with_effect, with_effect_at}
-use Rattle.images.specs.Gathers.{caught_up, CanRepeatAt, CanCatchUp, Repeats}
+use Rattle.images.specs.Gathers.{caught_up, CanRepeatAt, CanCatchUp, Repeats, with_gathered}
 use Rattle.images.specs.Following.{Follows, CameBy}
 use Rattle.images.proofs.Repeats.{caught_up-append, can_rest, can_both, can_more, past_at}
 
@@ -181,6 +183,15 @@ follows_copied g later xs x stamp follows there low =
 
 -- ---- handing over, and repeating
 
+-- the mark says nothing of what is gathered
+follows_marked : (g : GatherState) (later : List Effect) (xs : List Collection) (mark : ℕ) →
+    Follows g later xs → Follows (record g { mark = mark }) later xs
+follows_marked g later xs mark follows = record {
+  few = follows.few;
+  can = follows.can;
+  leads = follows.leads;
+}
+
 pub follows_taken : (g : GatherState) (later : List Effect) (xs : List Collection) →
     Follows g later xs → Follows (record g { effects = g.effects ++ later }) [] xs
 follows_taken g later xs follows =
@@ -210,6 +221,22 @@ follows_repeated g h later xs repeats follows =
           ap (λ l. gathered (caught_up g.parts l)) (sym all) ∙ follows.leads ∙
           ap (λ k. take k xs) (sym same_length);
     }
+
+-- A gather that copies the next collection, or none where none is left.
+pub follows_gathered : (g : GatherState) (later : List Effect) (xs : List Collection) (mark : ℕ)
+    (next : Option Collection) (stamp : ℕ) → Follows g later xs →
+    IfSome next (λ x. slice_get xs (length g.parts) ≡ Some x) →
+    AllByRecursion (λ e. e.position ≤ stamp) (g.effects ++ later) →
+    Follows (with_gathered g mark next stamp later) [] xs
+follows_gathered g later xs mark (Some x) stamp follows there low =
+    let p : CopyState = record { collection = x; stamp = stamp } in
+    follows_marked (record g { parts = g.parts ++ p ∷ []; effects = g.effects ++ later }) [] xs mark
+    (follows_taken (record g { parts = g.parts ++ p ∷ [] }) later xs
+    (follows_copied g later xs x stamp follows there low))
+follows_gathered g later xs mark None stamp follows there low =
+    follows_marked (record g { parts = g.parts ++ []; effects = g.effects ++ later }) [] xs mark
+    (subst (λ ps. Follows (record g { parts = ps; effects = g.effects ++ later }) [] xs)
+    (sym (append-nil g.parts)) (follows_taken g later xs follows))
 
 -- Where all are copied, the copies come to what all the collections hold.
 pub follows_all : (g : GatherState) (xs : List Collection) → Follows g [] xs →
@@ -250,6 +277,21 @@ came_taken g later position came = record {
   positions = subst (AllByRecursion (λ e. e.position ≤ position))
       (sym (append-nil (g.effects ++ later))) came.positions;
 }
+
+pub came_gathered : (g : GatherState) (later : List Effect) (mark : ℕ) (next : Option Collection)
+    (position : ℕ) → CameBy g later position →
+    CameBy (with_gathered g mark next position later) [] position
+came_gathered g later mark next position came = record {
+  stamps = each_append (λ (p : CopyState). p.stamp ≤ position) g.parts
+      (map (λ x. record { collection = x; stamp = position }) (option_to_list next)) came.stamps
+      (stamped next);
+  positions = (came_taken g later position came).positions;
+}
+  where
+    stamped : (next : Option Collection) → AllByRecursion (λ (p : CopyState). p.stamp ≤ position)
+        (map (λ x. record { collection = x; stamp = position }) (option_to_list next))
+    stamped None = tt
+    stamped (Some x) = (omega arith, tt)
 
 pub came_repeated : (g h : GatherState) (later : List Effect) (position : ℕ) → Repeats g h →
     CameBy g later position → CameBy h later position

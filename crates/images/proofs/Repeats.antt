@@ -3,7 +3,7 @@ use Rattle.std.proofs.Common.{◌≡◌, ℕ, zero, suc, ◌<◌, ◌≤◌, Boo
 use Rattle.std.proofs.Common.{[]}
 use Rattle.std.proofs.Common.{◌∷◌, ◌++◌, length, map, refl, sym, ◌∙◌, ap, subst, arith}
 use Rattle.std.proofs.Common.{append_assoc}
-use Rattle.std.proofs.Common.{slice_set, get_or, Option}
+use Rattle.std.proofs.Common.{slice_set, get_or, Option, Some}
 use Rattle.std.proofs.lemmas.Bool.{le-ltb}
 use Rattle.std.specs.List.{AllByRecursion}
 use Rattle.calls.specs.Contents.{after}
@@ -13,7 +13,9 @@ use Rattle.records.proofs.Items.{content_after}
 use Rattle.images.specs.declared.effect.Effect.{Effect}
 use Rattle.images.specs.Gathers.{CopyState, gathered, with_effect, with_effect_at, caught_up}
 use Rattle.images.specs.Gathers.{CanRepeat, CanRepeatAt, CanCatchUp, HaveRepeated, FrozenState}
-use Rattle.images.specs.Gathers.{GatherState, IsGathered}
+use Rattle.boosted.proofs.Each.{each_append}
+use Rattle.images.specs.Gathers.{IsGathered}
+use Rattle.images.specs.Images.{CanStand}
 
 -- ---- one call
 
@@ -183,24 +185,68 @@ short_more (q ∷ ps) p one short = (short.0, short_more ps p one short.1)
 
 -- ---- all that is gathered
 
-module _ (parts : List CopyState) (effects : List Effect) (frozen : Option FrozenState) where
-  abbrev all : GatherState
-  all = record { parts = parts; effects = effects; frozen = frozen }
-
-  pub gathered_more : (p : CopyState) → IsGathered all → HoldsShort p.collection.content →
-      AllByRecursion (λ e. e.position ≤ p.stamp) effects →
-      IsGathered (record all { parts = parts ++ p ∷ [] })
-  gathered_more p is short low = record {
-    can = can_more parts p effects low is.can;
-    short = short_more parts p short is.short;
-    short_calls = is.short_calls;
+module _ (mark : ℕ) (parts : List CopyState) (effects : List Effect) (frozen : Option FrozenState)
+    (is : IsGathered (record {
+      mark = mark;
+      parts = parts;
+      effects = effects;
+      frozen = frozen;
+    })) where
+  -- calls more
+  pub gathered_taken : (now : ℕ) (more : List Effect) → CanCatchUp parts (effects ++ more) →
+      AllByRecursion (λ e. IsShort e.call) more →
+      IsGathered (record {
+        mark = now;
+        parts = parts;
+        effects = effects ++ more;
+        frozen = frozen;
+      })
+  gathered_taken now more can short = record {
+    can = can;
+    short = is.short;
+    short_calls = each_append (λ e. IsShort e.call) effects more is.short_calls short;
     frozen = is.frozen;
   }
 
-  pub gathered_repeated : (now : List CopyState) (left : List Effect) → IsGathered all →
+  -- and a copy more
+  pub gathered_more : (now : ℕ) (more : List Effect) (p : CopyState) →
+      CanCatchUp parts (effects ++ more) → AllByRecursion (λ e. IsShort e.call) more →
+      HoldsShort p.collection.content →
+      AllByRecursion (λ e. e.position ≤ p.stamp) (effects ++ more) →
+      IsGathered (record {
+        mark = now;
+        parts = parts ++ p ∷ [];
+        effects = effects ++ more;
+        frozen = frozen;
+      })
+  gathered_more now more p can calls short low = record {
+    can = can_more parts p (effects ++ more) low can;
+    short = short_more parts p short is.short;
+    short_calls = each_append (λ e. IsShort e.call) effects more is.short_calls calls;
+    frozen = is.frozen;
+  }
+
+  -- calls more, and a freeze
+  pub gathered_frozen : (more : List Effect) (f : FrozenState) →
+      CanCatchUp parts (effects ++ more) → AllByRecursion (λ e. IsShort e.call) more →
+      CanStand f.marks.next f.marks.wear f.live →
+      IsGathered (record {
+        mark = mark;
+        parts = parts;
+        effects = effects ++ more;
+        frozen = Some f;
+      })
+  gathered_frozen more f can calls stand = record {
+    can = can;
+    short = is.short;
+    short_calls = each_append (λ e. IsShort e.call) effects more is.short_calls calls;
+    frozen = stand;
+  }
+
+  pub gathered_repeated : (now : List CopyState) (left : List Effect) →
       HaveRepeated parts effects now left →
-      IsGathered (record { parts = now; effects = left; frozen = frozen })
-  gathered_repeated now left is repeated = record {
+      IsGathered (record { mark = mark; parts = now; effects = left; frozen = frozen })
+  gathered_repeated now left repeated = record {
     can = repeated_can parts now effects left repeated is.can;
     short = repeated_short parts now effects left repeated is.short is.short_calls;
     short_calls = short_calls-left parts now effects left repeated is.short_calls;

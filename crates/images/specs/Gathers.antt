@@ -3,6 +3,7 @@
 use Rattle.std.specs.Prelude.{◌≡◌, ℕ, zero, suc, ◌<◌, cond, nat_lt, List, [], ◌∷◌, ◌++◌, map}
 use Rattle.std.specs.Prelude.{Option, Some, None}
 use Rattle.std.specs.List.{AllByRecursion}
+use Rattle.std.specs.Option.{option_to_list}
 use Rattle.calls.specs.Contents.{Collection, Answers, after}
 use Rattle.calls.specs.Rules.{IsShort}
 use Rattle.boosted.specs.Meaning.{IsRoomy}
@@ -26,6 +27,8 @@ pub record FrozenState : Type 0 where
   pub live : List Record
 
 pub record GatherState : Type 0 where
+  -- which gathering of a book it is, or 0
+  pub mark : ℕ
   -- copies of the first collections, in the order of making
   pub parts : List CopyState
   -- the calls that are not repeated yet, in the order run
@@ -35,6 +38,18 @@ pub record GatherState : Type 0 where
 -- the collections of the copies
 abbrev pub gathered : List CopyState → List Collection
 gathered parts = map (λ p. p.collection) parts
+
+-- ---- gathering
+
+-- with a copy of the next collection, if one is left, that was taken when so many records had come
+-- before, with the calls that were run since the last gather, and with the mark of this one
+abbrev pub with_gathered : GatherState → (mark : ℕ) → Option Collection → (stamp : ℕ) →
+    List Effect → GatherState
+with_gathered g mark next stamp effects = record g {
+  mark = mark;
+  parts = g.parts ++ map (λ x. record { collection = x; stamp = stamp }) (option_to_list next);
+  effects = g.effects ++ effects;
+}
 
 -- ---- repeating what was run behind the copies
 
@@ -81,16 +96,21 @@ pub record HaveRepeated (parts : List CopyState) (effects : List Effect)
 -- The first of the calls that were left are repeated, and nothing else changed.
 pub record Repeats (old new : GatherState) : Type 0 where
   pub repeated : HaveRepeated old.parts old.effects new.parts new.effects
+  pub mark : new.mark ≡ old.mark
   pub frozen : new.frozen ≡ old.frozen
 
 -- ---- freezing and packing
 
--- Nothing changed but that the marks were noted, and records that tell of the live transactions.
-pub record Freezes (old : GatherState) (marks : Marks) (live : Log) (new : GatherState) :
-    Type 0 where
+-- Nothing changed but that the rest of the calls were taken, the marks were noted, and records that
+-- tell of the live transactions.
+pub record Freezes (old : GatherState) (marks : Marks) (live : Log) (effects : List Effect)
+    (new : GatherState) : Type 0 where
   pub records : List Record
   pub tells : TellsTransactions live.live live.entries records
-  pub is : new ≡ record old { frozen = Some (record { marks = marks; live = records }) }
+  pub is : new ≡ record old {
+    effects = old.effects ++ effects;
+    frozen = Some (record { marks = marks; live = records });
+  }
 
 -- The image is that of what was gathered, which is frozen: of what the copies come to.
 pub record Packs (g : GatherState) (image : Image) : Type 0 where

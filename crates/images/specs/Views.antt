@@ -1,5 +1,5 @@
 -- What is gathered as contracts see it, from its parts.
-use Rattle.std.specs.Prelude.{List, map, Option}
+use Rattle.std.specs.Prelude.{ℕ, List, map, Option}
 use Rattle.std.specs.Option.{option_map}
 use Rattle.calls.specs.Contents.{Collection}
 use Rattle.images.specs.declared.effect.Effect.{Effect}
@@ -20,9 +20,10 @@ abbrev pub frozen_of : Frozen → FrozenState
 frozen_of f = record { marks = f.marks; live = f.live.items }
 
 -- all that is gathered
-abbrev pub gather_of : {P : Type 0} → (P → Collection) → List (Stamped P) → List Effect →
+abbrev pub gather_of : {P : Type 0} → (P → Collection) → ℕ → List (Stamped P) → List Effect →
     Option Frozen → GatherState
-gather_of collection parts effects frozen = record {
+gather_of collection mark parts effects frozen = record {
+  mark = mark;
   parts = copies_of collection parts;
   effects = effects;
   frozen = option_map frozen_of frozen;

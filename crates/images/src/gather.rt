@@ -1,6 +1,8 @@
 // What is gathered of a book.
-ghost use Rattle.std.specs.Prelude.{◌≡◌, ℕ, ◌≤◌, ◌^◌, ◌++◌, ◌∷◌, [], None, OnOk, OnErr, IfOk};
-ghost use Rattle.std.specs.Prelude.{IfErr, IsSome, IsOkUnless, length};
+ghost use Rattle.std.specs.Prelude.{◌≡◌, ℕ, ◌≤◌, ◌^◌, ◌++◌, [], None, OnOk, OnErr, IfOk};
+ghost use Rattle.std.specs.Prelude.{IfErr, IfSome, IsSome, IsOkUnless, length};
+ghost use Rattle.std.specs.Option.{option_map};
+ghost use Rattle.std.specs.VecDeque.{deque_capacity};
 ghost use Rattle.std.specs.List.{AllByRecursion};
 ghost use Rattle.calls.specs.declared.refusal.Refusal.{Refusal};
 ghost use Rattle.undo_log.specs.Logs.{Lives};
@@ -8,6 +10,7 @@ ghost use Rattle.record_format.specs.Records.{IsNumber};
 ghost use Rattle.record_format.specs.Short.{HoldsShort};
 ghost use Rattle.machine.specs.Machines.{IsAskedEntry};
 ghost use Rattle.images.specs.Gathers.{CanCatchUp, HaveRepeated, Repeats, Freezes, Packs};
+ghost use Rattle.images.specs.Gathers.{with_gathered};
 ghost use Rattle.images.specs.Views.{copies_of};
 ghost use Rattle.calls.specs.Rules.{IsShort};
 
@@ -46,9 +49,11 @@ pub(crate) struct Frozen {
 /// the calls that were run behind them, and what stood beside the collections at the end. It is
 /// filled while the book is held, and works by itself. Contracts see what the copies hold, with the
 /// positions at which they were taken, the calls that are not repeated on them yet, and what was
-/// noted at the freeze.
+/// noted at the freeze; and which gathering of the book it is, by a number, 0 where nothing was
+/// gathered yet.
 pub struct Gather<P: Part> {
     alloc: Global,
+    mark: u64,
     copies: Vec<Stamped<P>>,
     effects: VecDeque<Effect>,
     frozen: Option<Frozen>,
@@ -59,6 +64,7 @@ impl<P: Part> Drop for Gather<P> {
     fn drop(self) {
         let Self {
             alloc: _alloc,
+            mark: _mark,
             copies,
             effects,
             frozen,
@@ -79,19 +85,20 @@ impl<P: Part> Model for Gather<P> {
 
     ghost coded = { Prim.hlevel (codes, collection_code) };
 
-    ghost view = { λ g. gather_of P.collection g.copies.items g.effects.items g.frozen };
+    ghost view = { λ g. gather_of P.collection g.mark g.copies.items g.effects.items g.frozen };
 
     ghost invariant = { λ g. IsGathered
-        (gather_of P.collection g.copies.items g.effects.items g.frozen) };
+        (gather_of P.collection g.mark g.copies.items g.effects.items g.frozen) };
 }
 
 impl<P: Part> Gather<P> {
     /// Nothing is gathered. It takes no memory.
     pub fn new(alloc: Global) -> Self
-        ensures { result ≡ record { parts = []; effects = []; frozen = None } }
+        ensures { result ≡ record { mark = 0; parts = []; effects = []; frozen = None } }
     {
         Self {
             alloc,
+            mark: 0,
             copies: Vec::new(alloc),
             effects: VecDeque::new(alloc),
             frozen: None,
@@ -105,44 +112,61 @@ impl<P: Part> Gather<P> {
         self.copies.len()
     }
 
-    /// Adds a copy of the next collection. `stamp` is how many records came before it was taken.
-    ///
-    /// NoMemory, which leaves all as before.
-    pub fn add(&mut self, part: P, stamp: u64) -> Result<(), Refusal>
-        requires short { HoldsShort (P.collection part).content }
-        requires behind { AllByRecursion (λ e. e.position ≤ stamp) self.old.effects }
-        ensures ok { OnOk result (self.new ≡ record self.old {
-          parts = self.old.parts ++ record { collection = P.collection part; stamp = stamp } ∷ [];
-        }) }
-        ensures err { OnErr result (self.new ≡ self.old) }
-        ensures refusal { IsOkUnless result Refusal.NoMemory }
+    /// Which gathering of the book it is: the mark of the last gather, or 0.
+    pub fn mark(&self) -> u64
+        ensures { result ≡ self.now.mark }
     {
-        self.copies.push(Stamped { part, stamp })?;
-        Ok(())
+        self.mark
     }
 
-    /// Takes calls that were run on the collections, behind those that were taken before: all of
-    /// them, in the order run.
+    /// Where the book stood when it was frozen, if it was.
+    pub fn marks(&self) -> Option<Marks>
+        ensures { result ≡ option_map (λ f. f.marks) self.now.frozen }
+    {
+        match &self.frozen {
+            Some(frozen) => Some(frozen.marks),
+            None => None,
+        }
+    }
+
+    /// Takes a copy of the next collection, if one is left, and the calls that were run on the
+    /// collections behind those that were taken before: all of them, in the order run. `stamp` is
+    /// how many records came before the copy was taken, and no call was run behind it. `mark` tells
+    /// which gathering of the book it is.
     ///
-    /// NoMemory, which leaves them where they are, and all as before.
-    pub fn take(&mut self, effects: &mut VecDeque<Effect>) -> Result<(), Refusal>
+    /// NoMemory, which leaves the calls where they are, and all as before.
+    pub fn gather(
+        &mut self,
+        mark: u64,
+        part: Option<P>,
+        stamp: u64,
+        effects: &mut VecDeque<Effect>,
+    ) -> Result<(), Refusal>
+        requires short { IfSome part (λ p. HoldsShort (P.collection p).content) }
         requires can { CanCatchUp self.old.parts (self.old.effects ++ effects.old.items) }
-        requires short { AllByRecursion (λ e. IsShort e.call) effects.old.items }
-        ensures ok { OnOk result (self.new ≡ record self.old {
-          effects = self.old.effects ++ effects.old.items;
-        }) }
+        requires short_calls { AllByRecursion (λ e. IsShort e.call) effects.old.items }
+        requires behind { AllByRecursion (λ e. e.position ≤ stamp)
+            (self.old.effects ++ effects.old.items) }
+        ensures ok { OnOk result (self.new ≡ with_gathered self.old mark
+            (option_map P.collection part) stamp effects.old.items) }
         ensures taken { OnOk result (effects.new.items ≡ []) }
         ensures err { OnErr result (self.new ≡ self.old) }
         ensures kept { OnErr result (effects.new.items ≡ effects.old.items) }
+        ensures capacity { deque_capacity effects.new ≡ deque_capacity effects.old }
         ensures refusal { IsOkUnless result Refusal.NoMemory }
     {
+        self.copies.reserve(1)?;
         self.effects.append(effects)?;
+        if let Some(part) = part {
+            self.copies.push_reserved(Stamped { part, stamp });
+        }
+        self.mark = mark;
         Ok(())
     }
 
     /// Repeats the calls that are left, each on the copy of its collection where it came behind
-    /// that, so that the copies come to what the collections held when the last of them was run. Its
-    /// cost is that of these calls.
+    /// that, so that the copies come to what the collections held when the last of them was run.
+    /// Its cost is that of these calls.
     ///
     /// NoMemory, which leaves what is repeated. It may be called again.
     pub fn catch_up(&mut self) -> Result<(), Refusal>
@@ -156,20 +180,32 @@ impl<P: Part> Gather<P> {
         done
     }
 
-    /// Notes where the book stands, and the records that tell of its live transactions: that each
-    /// began, by rising number, and then what they asked for in its order, but for calls that only
-    /// read and what a falling one put off. It takes time and memory in proportion to these.
+    /// Takes the rest of the calls that were run on the collections, and notes where the book
+    /// stands, and the records that tell of its live transactions: that each began, by rising
+    /// number, and then what they asked for in its order, but for calls that only read and what a
+    /// falling one put off. It takes time and memory in proportion to these.
     ///
-    /// NoMemory, which leaves all as before.
-    pub fn freeze(&mut self, marks: Marks, live: &Live) -> Result<(), Refusal>
+    /// NoMemory, which leaves the calls where they are, and all as before.
+    pub fn freeze(
+        &mut self,
+        marks: Marks,
+        live: &Live,
+        effects: &mut VecDeque<Effect>,
+    ) -> Result<(), Refusal>
         requires next { (1 ≤ marks.next) × (marks.next ≤ 2 ^ 61) }
         requires numbers { (n : ℕ) → Lives live.now.live n → IsNumber n }
         requires asked { AllByRecursion (λ e. IsNumber e.0 × IsAskedEntry e.1) live.now.entries }
-        ensures ok { OnOk result (Freezes self.old marks live.now self.new) }
+        requires can { CanCatchUp self.old.parts (self.old.effects ++ effects.old.items) }
+        requires short_calls { AllByRecursion (λ e. IsShort e.call) effects.old.items }
+        ensures ok { OnOk result (Freezes self.old marks live.now effects.old.items self.new) }
+        ensures taken { OnOk result (effects.new.items ≡ []) }
         ensures err { OnErr result (self.new ≡ self.old) }
+        ensures kept { OnErr result (effects.new.items ≡ effects.old.items) }
+        ensures capacity { deque_capacity effects.new ≡ deque_capacity effects.old }
         ensures refusal { IsOkUnless result Refusal.NoMemory }
     {
         let live = live_records(self.alloc, live)?;
+        self.effects.append(effects)?;
         self.frozen = Some(Frozen { marks, live });
         Ok(())
     }

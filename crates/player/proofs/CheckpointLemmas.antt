@@ -1,6 +1,7 @@
 -- A checkpoint, by the ends of its parts.
-use Rattle.std.proofs.Common.{◌≡◌, ℕ, ◌+◌, ◌<◌, Bool, [], ◌∷◌, ◌++◌, length, None, Some, Result, Ok}
-use Rattle.std.proofs.Common.{Err, refl, sym, subst, length-append}
+use Rattle.std.proofs.Common.{◌≡◌, ◌⊎◌, inl, inr, ℕ, zero, suc, ◌+◌, ◌<◌, Bool, true, false, []}
+use Rattle.std.proofs.Common.{◌∷◌, ◌++◌, length, None, Some, Result, Ok, Err, refl, sym, ap, subst}
+use Rattle.std.proofs.Common.{length-append}
 use Rattle.std.specs.Prelude.{unwrap_or}
 use Rattle.std.specs.List.{AllByRecursion}
 use Rattle.std.proofs.lemmas.List.{append-nil}
@@ -13,22 +14,109 @@ use Rattle.world.specs.Moves.{Whole}
 use Rattle.world.specs.Pasts.{Past, alone, outcome}
 use Rattle.world.specs.OneStep.{TakesStep}
 use Rattle.player.specs.Plays.{Plays, Runs}
-use Rattle.player.specs.Checkpoints.{left_in, Freezes, IsPieceLaid, Lays, Finishes, Checkpoints}
+use Rattle.player.specs.Checkpoints.{left_in, is_frozen, copied, Gathers, Freezes, BeginsNow}
+use Rattle.player.specs.Checkpoints.{Begins, IsPieceLaid, Lays, Finishes, Checkpoints}
 use Rattle.player.proofs.Stepping.{asked, plays_append}
 
 module _ {D : Type 0} (g : Ghosts D) where
-  -- ---- a freeze, where no image is in progress
+  -- ---- copies of the collections
+
+  copied-push : (k : ℕ) →
+      copied k ++ (Step.Gather, Answer.Gathered true) ∷ [] ≡ copied (suc k)
+  copied-push zero = refl
+  copied-push (suc k) = ap (λ l. (Step.Gather, Answer.Gathered true) ∷ l) (copied-push k)
+
+  module _ (old mid : Whole D) (k : ℕ) (so_far : Plays g old (copied k) mid) where
+    one_more : (r : Result Bool Refusal) (new : Whole D) →
+        TakesStep g mid (Step.Gather, outcome Answer.Gathered r) new →
+        Plays g old (copied k ++ (Step.Gather, outcome Answer.Gathered r) ∷ []) new
+    one_more r new taken = let ran = asked g mid new Step.Gather Answer.Gathered r taken in
+        plays_append g old mid new (copied k) ran.0 so_far ran.2
+
+    pub gathers_more : (new : Whole D) →
+        TakesStep g mid (Step.Gather, outcome Answer.Gathered (Ok true)) new →
+        Plays g old (copied (suc k)) new
+    gathers_more new taken =
+        subst (λ s. Plays g old s new) (copied-push k) (one_more (Ok true) new taken)
+
+    pub gathers_end : (new : Whole D) → k < 256 →
+        TakesStep g mid (Step.Gather, outcome Answer.Gathered (Ok false)) new →
+        Runs g old (Gathers (Ok tt)) new
+    gathers_end new few taken = (
+      _,
+      (k, (Step.Gather, Answer.Gathered false) ∷ [], inl (few, refl), refl),
+      one_more (Ok false) new taken,
+    )
+
+    pub gathers_refused : (new : Whole D) (e : Refusal) → k < 256 →
+        TakesStep g mid (Step.Gather, outcome Answer.Gathered (Err e)) new →
+        Runs g old (Gathers (Err e)) new
+    gathers_refused new e few taken = (
+      _,
+      (k, (Step.Gather, Answer.Refused e) ∷ [], few, refl, refl),
+      one_more (Err e) new taken,
+    )
+
+    pub gathers_most : k ≡ 256 → Runs g old (Gathers (Ok tt)) mid
+    gathers_most all = (
+      copied k,
+      (k, [], inr (all, refl), sym (append-nil (copied k))),
+      so_far,
+    )
+
+  module _ (old mid : Whole D) where
+    -- ---- a freeze, where nothing is frozen
+
+    pub freeze_not_gathered : (e : Refusal) → Runs g old (Gathers (Err e)) mid →
+        Runs g old (Freezes false (Err e)) mid
+    freeze_not_gathered e run = (
+      run.0,
+      (Err e, run.0, [], run.1, (refl, refl), sym (append-nil run.0)),
+      run.2,
+    )
+
+    pub freezes_now : (r : Result (Unit {0}) Refusal) (new : Whole D) →
+        Runs g old (Gathers (Ok tt)) mid →
+        TakesStep g mid (Step.Freeze, outcome (alone Answer.Frozen) r) new →
+        Runs g old (Freezes false r) new
+    freezes_now r new run taken =
+        let ran = asked g mid new Step.Freeze (alone Answer.Frozen) r taken in (
+          run.0 ++ ran.0,
+          (Ok tt, run.0, ran.0, run.1, ran.1, refl),
+          plays_append g old mid new run.0 ran.0 run.2 ran.2,
+        )
+
+    -- ---- the image is begun
+
+    pub begin_not_frozen : (f : Bool) (e : Refusal) → Runs g old (Freezes f (Err e)) mid →
+        Runs g old (BeginsNow f (Err e)) mid
+    begin_not_frozen f e run = (
+      run.0,
+      (Err e, run.0, [], run.1, (refl, refl), sym (append-nil run.0)),
+      run.2,
+    )
+
+    pub begins_now : (f : Bool) (r : Result (Unit {0}) Refusal) (new : Whole D) →
+        Runs g old (Freezes f (Ok tt)) mid →
+        TakesStep g mid (Step.Pack, outcome (alone Answer.Packed) r) new →
+        Runs g old (BeginsNow f r) new
+    begins_now f r new run taken =
+        let ran = asked g mid new Step.Pack (alone Answer.Packed) r taken in (
+          run.0 ++ ran.0,
+          (Ok tt, run.0, ran.0, run.1, ran.1, refl),
+          plays_append g old mid new run.0 ran.0 run.2 ran.2,
+        )
 
   pub begun_before : (w : Whole D) (n : ℕ) → left_in w ≡ Some n →
-      Runs g w (Freezes (left_in w) (Ok tt)) w
-  begun_before w n is = ([], subst (λ o. Freezes o (Ok tt) []) (sym is) (refl, refl), refl)
+      Runs g w (Begins (left_in w) (is_frozen w) (Ok tt)) w
+  begun_before w n is =
+      ([], subst (λ o. Begins o (is_frozen w) (Ok tt) []) (sym is) (refl, refl), refl)
 
   pub begun_now : (old new : Whole D) (r : Result (Unit {0}) Refusal) → left_in old ≡ None →
-      TakesStep g old (Step.Freeze, outcome (alone Answer.Frozen) r) new →
-      Runs g old (Freezes (left_in old) r) new
-  begun_now old new r none taken =
-      let ran = asked g old new Step.Freeze (alone Answer.Frozen) r taken in
-      (ran.0, subst (λ o. Freezes o r ran.0) (sym none) ran.1, ran.2)
+      Runs g old (BeginsNow (is_frozen old) r) new →
+      Runs g old (Begins (left_in old) (is_frozen old) r) new
+  begun_now old new r none ran =
+      (ran.0, subst (λ o. Begins o (is_frozen old) r ran.0) (sym none) ran.1, ran.2)
 
   -- ---- the pieces
 
@@ -91,7 +179,8 @@ module _ {D : Type 0} (g : Ghosts D) where
 
     -- ---- the whole
 
-    pub checkpoint_not_begun : (e : Refusal) → Runs g old (Freezes (left_in old) (Err e)) mid →
+    pub checkpoint_not_begun : (e : Refusal) →
+        Runs g old (Begins (left_in old) (is_frozen old) (Err e)) mid →
         Checkpoints g old (Err e) mid
     checkpoint_not_begun e run = record {
       begun = Err e;
@@ -106,7 +195,7 @@ module _ {D : Type 0} (g : Ghosts D) where
     }
 
     pub checkpoint_finishes : (r : Result ℕ Refusal) (new : Whole D) →
-        Runs g old (Freezes (left_in old) (Ok tt)) mid →
+        Runs g old (Begins (left_in old) (is_frozen old) (Ok tt)) mid →
         Runs g mid (Finishes (unwrap_or (left_in mid) 0) r) new → Checkpoints g old r new
     checkpoint_finishes r new run ran = record {
       begun = Ok tt;

@@ -1,6 +1,7 @@
--- A checkpoint: the book is frozen, its image written piece by piece, and made the store.
-use Rattle.std.specs.Prelude.{◌≡◌, ℕ, ◌<◌, Bool, [], ◌++◌, length, Option, None, Some, unwrap_or}
-use Rattle.std.specs.Prelude.{Result, Ok, Err}
+-- A checkpoint: the collections are copied one by one, the book is frozen, its image packed,
+-- written piece by piece, and made the store.
+use Rattle.std.specs.Prelude.{◌≡◌, ◌⊎◌, ℕ, zero, suc, ◌<◌, Bool, true, false, [], ◌∷◌, ◌++◌}
+use Rattle.std.specs.Prelude.{length, Option, None, Some, unwrap_or, is_some, Result, Ok, Err}
 use Rattle.std.specs.List.{AllByRecursion}
 use Rattle.calls.specs.declared.refusal.Refusal.{Refusal}
 use Rattle.disk_model.specs.declared.disk.Disk.{Ghosts}
@@ -13,12 +14,54 @@ use Rattle.player.specs.Plays.{Plays, Tries}
 
 -- how many pieces of the image in progress are not yet written, if one is in progress
 abbrev pub left_in : {D : Type 0} → Whole D → Option ℕ
-left_in w = pieces_left w.keeper.image
+left_in w = pieces_left w.keeper.stage
 
--- The book is frozen, unless an image is in progress.
-abbrev pub Freezes : Option ℕ → Result (Unit {0}) Refusal → Past → Type 0
-Freezes None r steps = Tries Step.Freeze (alone Answer.Frozen) r steps
-Freezes (Some n) r steps = (r ≡ Ok tt) × (steps ≡ [])
+-- so many collections were copied, each with another one left
+abbrev pub copied : ℕ → Past
+copied zero = []
+copied (suc k) = (Step.Gather, Answer.Gathered true) ∷ copied k
+
+-- With this one all are copied; or so many were as a book has.
+abbrev pub CopiesLast : ℕ → Past → Type 0
+CopiesLast k steps = ((k < 256) × (steps ≡ (Step.Gather, Answer.Gathered false) ∷ [])) ⊎
+    ((k ≡ 256) × (steps ≡ []))
+
+-- Collections are copied until none is left, 256 at most; or that is refused.
+abbrev pub Gathers : Result (Unit {0}) Refusal → Past → Type 0
+Gathers (Ok done) steps =
+    (k : ℕ) × (last : Past) × CopiesLast k last × (steps ≡ copied k ++ last)
+Gathers (Err e) steps = (k : ℕ) × (last : Past) × (k < 256) ×
+    Tries {T = Bool} Step.Gather Answer.Gathered (Err e) last × (steps ≡ copied k ++ last)
+
+-- once all collections are copied, the book is frozen
+abbrev pub FreezesAs : Result (Unit {0}) Refusal → Result (Unit {0}) Refusal → Past → Type 0
+FreezesAs (Ok done) r steps = Tries Step.Freeze (alone Answer.Frozen) r steps
+FreezesAs (Err e) r steps = (r ≡ Err e) × (steps ≡ [])
+
+-- All collections are copied, and then the book is frozen; unless it is frozen.
+abbrev pub Freezes : Bool → Result (Unit {0}) Refusal → Past → Type 0
+Freezes true r steps = (r ≡ Ok tt) × (steps ≡ [])
+Freezes false r steps = (gathered : Result (Unit {0}) Refusal) × (first last : Past) ×
+    Gathers gathered first × FreezesAs gathered r last × (steps ≡ first ++ last)
+
+-- once the book is frozen, its image is packed and begun
+abbrev pub PacksAs : Result (Unit {0}) Refusal → Result (Unit {0}) Refusal → Past → Type 0
+PacksAs (Ok done) r steps = Tries Step.Pack (alone Answer.Packed) r steps
+PacksAs (Err e) r steps = (r ≡ Err e) × (steps ≡ [])
+
+-- The book is frozen, unless it is, and its image begun.
+abbrev pub BeginsNow : Bool → Result (Unit {0}) Refusal → Past → Type 0
+BeginsNow is_frozen r steps = (frozen : Result (Unit {0}) Refusal) × (first last : Past) ×
+    Freezes is_frozen frozen first × PacksAs frozen r last × (steps ≡ first ++ last)
+
+-- The same, unless an image is in progress.
+abbrev pub Begins : Option ℕ → Bool → Result (Unit {0}) Refusal → Past → Type 0
+Begins None is_frozen r steps = BeginsNow is_frozen r steps
+Begins (Some n) is_frozen r steps = (r ≡ Ok tt) × (steps ≡ [])
+
+-- what is gathered is frozen
+abbrev pub is_frozen : {D : Type 0} → Whole D → Bool
+is_frozen w = is_some w.gather.frozen
 
 -- a piece was written
 abbrev pub IsPieceLaid : Step × Answer → Type 0
@@ -45,16 +88,16 @@ abbrev pub FinishesAs : ℕ → Result (Unit {0}) Refusal → Result ℕ Refusal
 FinishesAs n (Ok done) r steps = Finishes n r steps
 FinishesAs n (Err e) r steps = (r ≡ Err e) × (steps ≡ [])
 
--- The book is frozen, unless an image is in progress. Behind that, in the world that is left by it,
--- the pieces that are left are written, and the image is made the store, of which this is the
--- result; or the first refusal is.
+-- An image is begun, unless one is in progress. Behind that, in the world that is left by it, the
+-- pieces that are left are written, and the image is made the store, of which this is the result;
+-- or the first refusal is.
 pub record Checkpoints {D : Type 0} (g : Ghosts D) (old : Whole D) (r : Result ℕ Refusal)
     (new : Whole D) : Type 0 where
   pub begun : Result (Unit {0}) Refusal
   pub first : Past
   pub last : Past
   pub mid : Whole D
-  pub begins : Freezes (left_in old) begun first
+  pub begins : Begins (left_in old) (is_frozen old) begun first
   pub before : Plays g old first mid
   pub finishes : FinishesAs (unwrap_or (left_in mid) 0) begun r last
   pub behind : Plays g mid last new

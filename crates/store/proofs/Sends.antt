@@ -8,6 +8,7 @@ use Rattle.disk_model.specs.declared.disk.Disk as disks
 use Rattle.blocks.specs.contracts.pending.Pending.{the_row}
 use Rattle.catalog.proofs.catalog.Catalog.TheSendSync as catalogs
 use Rattle.machine.proofs.machine.Machine.TheSendSync as machines
+use Rattle.gathering.proofs.gathering.Gathering.TheSendSync as gatherings
 use Rattle.checkpoint.proofs.keeper.Keeper.TheSendSync as keepers
 use Rattle.group_commit.proofs.handoff.Handoff.TheSendSync as handoffs
 use Rattle.group_commit.proofs.handoff.Sender.TheSendSync as senders
@@ -37,6 +38,7 @@ pub ruleset parts = (
   pending_sends,
   catalogs.the_send,
   machines.the_send,
+  gatherings.the_send,
   keepers.the_send,
   handoffs.the_sync,
   senders.the_send,

@@ -27,16 +27,16 @@ use Rattle.repetition.specs.Journals.{records_in}
 use Rattle.txn.specs.declared.steps.Action.{Action}
 use Rattle.txn.specs.declared.steps.BookStep.{BookStep}
 use Rattle.txn.specs.Books.{BookState, standing, IsKept}
-use Rattle.txn.specs.Freezing.{FreezeAnswers}
-use Rattle.txn.specs.Handing.{HasHanded}
+use Rattle.txn.specs.Freezing.{ImageAnswers}
+use Rattle.txn.specs.Handing.{HasHandedAtOnce, image_ends}
 use Rattle.txn.specs.Histories.{records_by}
 use Rattle.txn.proofs.Handings.{records_by-push, freezes_on, freezes_image}
 use Rattle.catalog.specs.Meaning.{catalog_meaning, catalog_making}
 use Rattle.checkpoint.specs.Crash.{Yields}
-use Rattle.checkpoint.specs.ImageAnswers.{BeginAnswers}
+use Rattle.checkpoint.specs.ImageAnswers.{StartAnswers}
 use Rattle.checkpoint.specs.Keepers.{KeeperState, IsFresh, IsPast, TurnAnswers}
-use Rattle.checkpoint.specs.Keeping.{BegunImage, IsApart, IsImageFor, Uncrossed, HasReceived}
-use Rattle.checkpoint.specs.Keeping.{TurnKeeps, ImageKeeps}
+use Rattle.checkpoint.specs.Keeping.{BegunImage, IsApart, IsImageFor, Uncrossed, HasReceivedAtOnce}
+use Rattle.checkpoint.specs.Keeping.{TurnKeeps, ImageKeeps, ends_of}
 use Rattle.checkpoint.specs.DiskHeads.{IsInUse}
 use Rattle.checkpoint.specs.Stored.{StandIn, AreReadTo}
 use Rattle.checkpoint.proofs.GroupLemmas.{uncrossed_front}
@@ -145,10 +145,12 @@ module _ {D : Type 0} (g : disks.Ghosts D) where
           subst (λ is. AreRecorded j.start j.wear records state is begun) brings.receives.noted
           recorded in
           let had = is.received s records state begun parts.0 recorded' parts.3 begin'
-          (uncrossed_front begun parts.0 parts.1 (subst (Uncrossed begun) parts.2 apart)) in
-          subst (λ bs. HasReceived g.seen g.may_leave j.start j.wear records state begun bs l)
+          (uncrossed_front (ends_of begun) parts.0 parts.1
+          (subst (Uncrossed (ends_of begun)) parts.2 apart)) in
+          subst (λ bs. HasReceivedAtOnce g.seen g.may_leave j.start j.wear records state begun bs l)
           (sym all)
-          (brings.keeps j.start j.wear records state begun receiver.received brings.more groups
+          (brings.keeps j.start j.wear records state (ends_of begun) begun receiver.received
+          brings.more groups
           brings.receives carried' begin apart had).0;
     }
 
@@ -162,7 +164,7 @@ module _ {D : Type 0} (g : disks.Ghosts D) where
       mark = table ∙ is.mark;
       marked = marked;
       received = λ s records state begun groups recorded carried begin apart.
-          (keeps j.start j.wear records state begun receiver.received
+          (keeps j.start j.wear records state (ends_of begun) begun receiver.received
           (is.received s records state begun groups recorded carried begin apart)).0;
     }
 
@@ -174,9 +176,9 @@ module _ {D : Type 0} (g : disks.Ghosts D) where
         (order : AreInTransit sender.sent receiver.received transit)
         (same : sender.noted ≡ receiver.noted) where
       -- what was sent
-      handed : HasHanded catalog_meaning catalog_making (λ v. v) j.start j.wear seat.all book
+      handed : HasHandedAtOnce catalog_meaning catalog_making (λ v. v) j.start j.wear seat.all book
           (receiver.received ++ transit) desk.groups sender.noted
-      handed = subst (λ bs. HasHanded catalog_meaning catalog_making (λ v. v) j.start j.wear
+      handed = subst (λ bs. HasHandedAtOnce catalog_meaning catalog_making (λ v. v) j.start j.wear
           seat.all book bs desk.groups sender.noted) order.order desk.handed
 
       -- what was received of that carries the first records
@@ -199,14 +201,15 @@ module _ {D : Type 0} (g : disks.Ghosts D) where
         abbrev begun : List BegunImage
         begun = (desk.recorded s).0
 
-        keeps : HasReceived g.seen g.may_leave j.start j.wear (records_by seat.all)
+        keeps : HasReceivedAtOnce g.seen g.may_leave j.start j.wear (records_by seat.all)
             (journalled book.state) begun receiver.received k
         keeps =
             let recorded = (desk.recorded s).1 in
             vault.received s (records_by seat.all) (journalled book.state) begun parts.0
             (subst (λ is. AreRecorded j.start j.wear (records_by seat.all) (journalled book.state)
             is begun) same recorded) parts.3 begins_all
-            (uncrossed_front begun parts.0 parts.1 (subst (Uncrossed begun) parts.2
+            (uncrossed_front (ends_of begun) parts.0 parts.1
+            (subst (Uncrossed (ends_of begun)) parts.2
             (uncrossed desk.groups book handed.end sender.noted begun recorded.are_begun
             handed.between)))
 
@@ -220,7 +223,8 @@ module _ {D : Type 0} (g : disks.Ghosts D) where
         stop = λ s bytes left.
             history_yields j.start j.wear seat.all (standing book) handed.legal k.mark
             (mark_few g.seen g.may_leave j.start j.wear (records_by seat.all)
-            (journalled book.state) (begun s) receiver.received k (keeps s)) bytes
+            (journalled book.state) (ends_of (begun s)) (begun s) receiver.received k (keeps s))
+            bytes
             ((keeps s).stop bytes left);
       }
 
@@ -229,7 +233,7 @@ module _ {D : Type 0} (g : disks.Ghosts D) where
         -- the book with a freeze more, and these images
         desk_frozen : (a : Result (Unit {0}) Refusal) (c : Book) (images : List Image)
             (now : lines.BookState) → now ≡ stepped seat (alone (Action.Freeze a)) →
-            HasHanded catalog_meaning catalog_making (λ v. v) j.start j.wear
+            HasHandedAtOnce catalog_meaning catalog_making (λ v. v) j.start j.wear
             (seat.all ++ alone (Action.Freeze a) ∷ []) c sender.sent desk.groups images →
             c.state ≡ book.state →
             (j.sound → (b : List BegunImage) ×
@@ -250,15 +254,16 @@ module _ {D : Type 0} (g : disks.Ghosts D) where
         -- without a new image
         desk_refrozen : (a : Result (Unit {0}) Refusal) (c : Book) (frozen : Result Image Refusal)
             (now : lines.BookState) → now ≡ stepped seat (alone (Action.Freeze a)) →
-            FreezeAnswers (λ v. v) book frozen c → IsDesk j c now sender
+            ImageAnswers (λ v. v) book frozen c → IsDesk j c now sender
         desk_refrozen a c frozen now now_is froze =
             desk_frozen a c sender.noted now now_is
             (freezes_on catalog_meaning catalog_making (λ v. v) j.start j.wear seat.all book c
-            sender.sent desk.groups sender.noted desk.handed None a frozen froze)
+            sender.sent desk.groups (image_ends sender.noted) sender.noted desk.handed None a frozen
+            froze)
             (freezes.freeze_stays book c frozen froze) desk.recorded
 
         -- with one
-        module _ (image : Image) (c : Book) (froze : FreezeAnswers (λ v. v) book (Ok image) c)
+        module _ (image : Image) (c : Book) (froze : ImageAnswers (λ v. v) book (Ok image) c)
             (l : KeeperState D) (t : SenderState) (u : ReceiverState)
             (began : Begins g image k sender receiver (Ok tt) l t u) where
           abbrev begin : BegunImage
@@ -266,12 +271,14 @@ module _ {D : Type 0} (g : disks.Ghosts D) where
 
           is_for : j.sound → IsImageFor image begin
           is_for s = freezes.is_for g j.start j.wear seat.all book receiver.received transit
-              desk.groups sender.noted (begun s) k handed (keeps s) c image froze kept
+              desk.groups (image_ends sender.noted) (ends_of (begun s)) sender.noted (begun s) k
+              handed (keeps s) kept image froze.0
 
           stands : j.sound → StandIn j.start j.wear (records_by seat.all)
               (journalled book.state) begin.blocks begin.covered
           stands s = freezes.stands g j.start j.wear seat.all book receiver.received transit
-              desk.groups sender.noted (begun s) k handed (keeps s) c image froze kept
+              desk.groups (image_ends sender.noted) (ends_of (begun s)) sender.noted (begun s) k
+              handed (keeps s) kept image froze.0
 
           desk_notes : (now : lines.BookState) → now ≡ stepped seat (alone (Action.Freeze (Ok tt)))
               → IsDesk j c now t
@@ -279,7 +286,9 @@ module _ {D : Type 0} (g : disks.Ghosts D) where
               subst (IsDesk j c now) (sym began.noted.0)
               (desk_frozen (Ok tt) c (image ∷ sender.noted) now now_is
               (freezes_image catalog_meaning catalog_making (λ v. v) j.start j.wear seat.all book c
-              sender.sent desk.groups sender.noted desk.handed None (Ok tt) image froze)
+              sender.sent desk.groups (image_ends sender.noted) sender.noted desk.handed None
+              (Ok tt)
+              image froze)
               (freezes.freeze_stays book c (Ok image) froze)
               (λ s.
               let old = desk.recorded s in (
@@ -300,7 +309,11 @@ module _ {D : Type 0} (g : disks.Ghosts D) where
           covers s groups carried =
               let size = carried_length 0 0 receiver.received groups parts.0 carried parts.3 in
               let within = freezes.covers_use g j.start j.wear seat.all book receiver.received
-              transit desk.groups sender.noted (begun s) k handed (keeps s) c image froze kept in
+              transit desk.groups (image_ends sender.noted) (ends_of (begun s)) sender.noted
+              (begun s) k handed (keeps s) kept in
+              let counted = freezes.counted g j.start j.wear seat.all book receiver.received transit
+              desk.groups (image_ends sender.noted) (ends_of (begun s)) sender.noted (begun s) k
+              handed (keeps s) kept in
               let end = (is_for s).end in (
                 omega (
                   arith,
@@ -309,7 +322,7 @@ module _ {D : Type 0} (g : disks.Ghosts D) where
                   ap length begins_all.1,
                   length-append (records_in parts.0) begins_all.0,
                 ),
-                omega (arith, within, end),
+                omega (arith, within, counted, end),
               )
 
           any_image : j.sound → ReceivesAny g j.start j.wear (image ∷ receiver.noted)
@@ -328,7 +341,7 @@ module _ {D : Type 0} (g : disks.Ghosts D) where
                 stand = recorded.stand.1;
               } in
               let had = vault.received s records now rest groups others carried begins
-              (All-tail (λ (i : BegunImage). IsApart 0 groups (length i.covered)) b rest apart) in
+              (All-tail (λ p. IsApart 0 groups p) (length b.covered) (ends_of rest) apart) in
               (began.keeps j.start j.wear records now rest receiver.received groups b carried begins
               its recorded.stand.0 (omega (arith, room.0, its.end))
               (omega (arith, room.1, its.end)) had).0
@@ -347,7 +360,7 @@ module _ {D : Type 0} (g : disks.Ghosts D) where
 
         -- where an image is refused, the keeper stays
         refused : (image : Image) (l : KeeperState D) (e : Refusal) →
-            BeginAnswers k image l (Err e) → l ≡ k
+            StartAnswers k image l (Err e) → l ≡ k
         refused image l Refusal.Failed a = a.1
         refused image l Refusal.Imaging a = a.2
         refused image l Refusal.Full a = a.3
@@ -381,7 +394,7 @@ abbrev Answered : {D : Type 0} → disks.Ghosts D → KeeperState D → KeeperSt
     MutBor ReceiverState → MutBor ReceiverState → Result Turn Refusal → Type 0
 Answered g k l before after r =
     TurnAnswers k.held (λ bs. Receives before bs after) (WasEmptyAt before) k.failed k.mark
-    (λ b. b.end ≤ k.covered) (λ b. IsPast k.image b.end)
+    (λ b. b.end ≤ k.covered) (λ b. IsPast k.stage b.end)
     (λ b. size_of k.area < position_of k.area + length b.bytes.items)
     ((l.area ≡ k.area) × (l.disk ≡ k.disk)) (Rises (g.fault_count k.disk) (g.fault_count l.disk))
     r l.held l.mark l.failed
@@ -412,17 +425,17 @@ pub turn_brings : {D : Type 0} (g : disks.Ghosts D) (k l : KeeperState D)
     Brings g k before.now r l left
 turn_brings g k l before after left back r answers keeps =
     let got = some_received k.held (λ bs. Receives before bs after) (WasEmptyAt before) k.failed
-    l.failed k.mark l.mark (λ b. b.end ≤ k.covered) (λ b. IsPast k.image b.end)
+    l.failed k.mark l.mark (λ b. b.end ≤ k.covered) (λ b. IsPast k.stage b.end)
     (λ b. size_of k.area < position_of k.area + length b.bytes.items)
     ((l.area ≡ k.area) × (l.disk ≡ k.disk)) (Rises (g.fault_count k.disk) (g.fault_count l.disk))
     r l.held answers in
     let rises = mark_rises k.held (λ bs. Receives before bs after) (WasEmptyAt before) k.failed
-    l.failed k.mark l.mark (λ b. b.end ≤ k.covered) (λ b. IsPast k.image b.end)
+    l.failed k.mark l.mark (λ b. b.end ≤ k.covered) (λ b. IsPast k.stage b.end)
     (λ b. size_of k.area < position_of k.area + length b.bytes.items)
     ((l.area ≡ k.area) × (l.disk ≡ k.disk)) (Rises (g.fault_count k.disk) (g.fault_count l.disk))
     r l.held answers in
     let is = mark_is k.held (λ bs. Receives before bs after) (WasEmptyAt before) k.failed
-    l.failed k.mark l.mark (λ b. b.end ≤ k.covered) (λ b. IsPast k.image b.end)
+    l.failed k.mark l.mark (λ b. b.end ≤ k.covered) (λ b. IsPast k.stage b.end)
     (λ b. size_of k.area < position_of k.area + length b.bytes.items)
     ((l.area ≡ k.area) × (l.disk ≡ k.disk)) (Rises (g.fault_count k.disk) (g.fault_count l.disk))
     r l.held answers in
@@ -431,8 +444,8 @@ turn_brings g k l before after left back r answers keeps =
     record {
       more = got.0;
       receives = received_back before after got.0 left back got.1;
-      keeps = λ start wear records now images received more groups takes carried begin apart had.
-          keeps start wear records now images received more groups
+      keeps = λ start wear records now freezes images received more groups takes carried begin apart
+          had. keeps start wear records now freezes images received more groups
           (received_there before after more left same given takes) carried begin apart had;
       rises = rises;
       told = brought_mark k.mark l.mark r is rises;

@@ -5,10 +5,10 @@ use Rattle.calls.specs.declared.refusal.Refusal.{Refusal}
 use Rattle.disk_model.specs.declared.disk.Disk as disks
 use Rattle.blocks.specs.declared.block.Image.{Image}
 use Rattle.txn.specs.Books.{BookState}
-use Rattle.txn.specs.Freezing.{FreezeAnswers}
-use Rattle.checkpoint.specs.ImageAnswers.{BeginAnswers}
+use Rattle.txn.specs.Freezing.{ImageAnswers}
+use Rattle.checkpoint.specs.ImageAnswers.{StartAnswers}
 use Rattle.checkpoint.specs.Keepers.{KeeperState}
-use Rattle.checkpoint.specs.Keeping.{BeginKeeps}
+use Rattle.checkpoint.specs.Keeping.{StartKeeps}
 use Rattle.group_commit.specs.Orders.{SenderState, ReceiverState, noting, noting_too}
 
 -- where it was begun, both ends of the hand-off note the image
@@ -21,8 +21,8 @@ Noted image s r (Err e) t u = (t ≡ s) × (u ≡ r)
 pub record Begins {D : Type 0} (g : disks.Ghosts D) (image : Image) (k : KeeperState D)
     (s : SenderState) (r : ReceiverState) (a : Result (Unit {0}) Refusal) (l : KeeperState D)
     (t : SenderState) (u : ReceiverState) : Type 0 where
-  pub answers : BeginAnswers k image l a
-  pub keeps : BeginKeeps g image a k l
+  pub answers : StartAnswers k image l a
+  pub keeps : StartKeeps g image a k l
   pub noted : Noted image s r a t u
 
 -- The book froze, and the keeper was asked to begin the image, if there is one.
@@ -30,6 +30,6 @@ abbrev pub Froze : {D : Type 0} → disks.Ghosts D → BookState (List Collectio
     SenderState → ReceiverState → Result Image Refusal → Result (Unit {0}) Refusal →
     BookState (List Collection) → KeeperState D → SenderState → ReceiverState → Type 0
 Froze g b k s r (Ok image) a c l t u =
-    FreezeAnswers (λ v. v) b (Ok image) c × Begins g image k s r a l t u
+    ImageAnswers (λ v. v) b (Ok image) c × Begins g image k s r a l t u
 Froze g b k s r (Err e) a c l t u =
-    FreezeAnswers (λ v. v) b (Err e) c × (a ≡ Err e) × (l ≡ k) × (t ≡ s) × (u ≡ r)
+    ImageAnswers (λ v. v) b (Err e) c × (a ≡ Err e) × (l ≡ k) × (t ≡ s) × (u ≡ r)

@@ -10,7 +10,7 @@ use Rattle.blocks.specs.Carried.{Carries}
 use Rattle.repetition.specs.Journals.{records_in}
 use Rattle.repetition.specs.Steps.{State}
 use Rattle.checkpoint.specs.Keepers.{KeeperState}
-use Rattle.checkpoint.specs.Keeping.{BegunImage, Uncrossed, HasReceived}
+use Rattle.checkpoint.specs.Keeping.{BegunImage, Uncrossed, HasReceivedAtOnce, ends_of}
 use Rattle.group_commit.specs.Orders.{ReceiverState}
 use Rattle.group_commit.specs.Marks.{KeeperMark}
 use Rattle.clients.specs.declared.naming.Naming.{Ghosts}
@@ -23,8 +23,8 @@ abbrev pub ReceivesAny : {D : Type 0} → disks.Ghosts D → List Collection →
 ReceivesAny g start wear images received keeper =
     (records : List Record) (now : State) (begun : List BegunImage) (groups : List (List Record)) →
     AreRecorded start wear records now images begun → Carries 0 0 received groups →
-    IsPrefix (records_in groups) records → Uncrossed begun groups →
-    HasReceived g.seen g.may_leave start wear records now begun received keeper
+    IsPrefix (records_in groups) records → Uncrossed (ends_of begun) groups →
+    HasReceivedAtOnce g.seen g.may_leave start wear records now begun received keeper
 
 -- The mark is not past what the keeper has kept.
 pub record IsVault {J D : Type 0} (j : Ghosts J) (g : disks.Ghosts D) (keeper : KeeperState D)

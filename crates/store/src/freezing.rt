@@ -1,6 +1,6 @@
 // The one step that holds both locks.
 ghost use Rattle.std.specs.Prelude.{◌≡◌, ◌≢◌, [], None, Ok, Err, IfOk, Result};
-ghost use Rattle.txn.specs.Freezing.{FreezeAnswers};
+ghost use Rattle.txn.specs.Freezing.{ImageAnswers};
 ghost use Rattle.blocks.specs.declared.block.Image.{Image};
 ghost use Rattle.group_commit.specs.Orders.{noting, noting_too};
 ghost use Rattle.store.specs.Freezes.{Begins, Froze};
@@ -16,8 +16,8 @@ use std::marker::Brand;
 use std::snapshot::Snapshot;
 use txn::{Book, Image};
 
-/// Freezes the book and begins its image: the refusals of `Book::freeze`, then those of
-/// `Keeper::begin_image`. No block behind the freeze is kept before the image is begun, as both
+/// Freezes the book and begins its image: the refusals of `Book::image`, then those of
+/// `Keeper::start_image`. No block behind the freeze is kept before the image is begun, as both
 /// locks are held. No device is called.
 pub(crate) fn freeze<D: Disk, J: Naming>(
     shared: &Shared<J>,
@@ -52,7 +52,7 @@ fn freeze_book<D: Disk>(
     ensures { (frozen : Result Image Refusal) × Froze ⟦<D as Disk>⟧ book.old keeper.old sender.old
         receiver.old frozen result book.new keeper.new sender.new receiver.new }
 {
-    let image = book.freeze()?;
+    let image = book.image()?;
     begin(handoff, keeper, sender, receiver, image)
 }
 
@@ -71,7 +71,7 @@ fn begin<D: Disk>(
         sender.new receiver.new }
 {
     let shown = Snapshot::of(&image);
-    keeper.begin_image(image)?;
+    keeper.start_image(image)?;
     note_image::<Brand>(handoff, sender, receiver, &shown);
     Ok(())
 }

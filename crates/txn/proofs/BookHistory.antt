@@ -149,6 +149,7 @@ module _ {S : Type 0} (meaning : Meaning S ℕ) (making : Making S)
           (ap (λ v. v.places) is)
       one (Action.Cut count (Ok false)) c acts = refused c acts.2
       one (Action.Cut count (Err e)) c acts = refused c acts.1
+      one (Action.Gather a) c acts = refused c acts
       one (Action.Freeze a) c acts = refused c acts
 
     -- A history leads the settled content on by the transactions that it commits, each run whole,

@@ -324,8 +324,9 @@ module _ {S : Type 0} (meaning : Meaning S ℕ) (making : Making S)
         cut.0.3 cut.0.4)) kept
     cut_keeps sends full (Err other) c cut = absurd cut.0
 
-    -- A freeze leaves all but that one may stand behind the records that wait.
-    pub freeze_keeps : (c : BookState S) → c ≡ record b { freezes = c.freezes } →
+    -- A freeze leaves all but that one may stand behind the records that wait, and what is noted.
+    pub freeze_keeps : (c : BookState S) →
+        c ≡ record b { freezes = c.freezes; gathering = c.gathering } →
         ((f : ℕ) → Contains c.freezes f ↔
         (Contains b.freezes f ⊎ ((f ≡ b.end + length b.pending) × (0 < length b.pending)))) → Kept c
     freeze_keeps c is stands =

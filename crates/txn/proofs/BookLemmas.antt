@@ -1,6 +1,6 @@
 -- A book from its parts, before and after a step.
-use Rattle.std.proofs.Common.{◌≡◌, ℕ, suc, ◌+◌, ◌<◌, List, [], ◌∷◌, ◌++◌, length, refl, sym}
-use Rattle.std.proofs.Common.{◌∙◌, ap, arith, inr}
+use Rattle.std.proofs.Common.{◌≡◌, ℕ, suc, ◌+◌, ◌<◌, List, [], ◌∷◌, ◌++◌, length, sym}
+use Rattle.std.proofs.Common.{◌∙◌, ap, arith, inr, subst, ◌⊎◌, ◌↔◌, Contains}
 use Rattle.std.specs.Prelude.{Result, Ok, Err, OnErr, IfErr, IsOkUnless}
 use Rattle.calls.specs.declared.call.Call.{Call}
 use Rattle.boosted.specs.Meaning.{Meaning, CanAsk}
@@ -18,6 +18,7 @@ use Rattle.txn.specs.Rows.{Standing, MakeRefused, IsOpen, IsUnhindered}
 use Rattle.txn.specs.Books.{BookState, opened, standing, next_behind, Appends, Takes}
 use Rattle.blocks.specs.Waits.{Waiting, waiting, freezes}
 use Rattle.machine.specs.Machines.{resting}
+use Rattle.gathering.specs.Gatherings.{GatheringState, none_begun, given_up}
 use Rattle.txn.specs.Views.{book_of}
 use Rattle.blocks.specs.declared.draft.Handed.{Handed}
 
@@ -28,25 +29,27 @@ mark_length n = ap suc (sym (length-number 8 n))
 module _ {S : Type 0} (s : State S) (w : Waiting) (places next : ℕ) where
   -- The book's fields once a record waits behind the others: room was made first, and it was then
   -- written.
-  pub recorded : (r : Record) (t : State S) (reserved w' : Waiting) (places' next' : ℕ) →
+  pub recorded : (m n : GatheringState) (r : Record) (t : State S) (reserved w' : Waiting)
+      (places' next' : ℕ) →
       length (waiting w) < 16384 → waiting reserved ≡ waiting w → freezes reserved ≡ freezes w →
       reserved.handed ≡ w.handed →
       waiting w' ≡ waiting reserved ++ r ∷ [] → freezes w' ≡ freezes reserved →
       w'.handed ≡ reserved.handed → places' ≡ places + acts.places (r ∷ []) →
       next' ≡ next_behind next r →
-      Appends (book_of s w places next) r (book_of t w' places' next')
-  recorded r t reserved w' places' next' room waits marks handed written marked also counted
+      Appends (book_of s w places next m) r (book_of t w' places' next' n)
+  recorded m n r t reserved w' places' next' room waits marks handed written marked also counted
       above =
       let with : List Record → List ℕ → Handed → ℕ → ℕ → BookState S =
-      λ pending marks h n k. record {
+      λ pending marks h count k. record {
         state =
             t;
         pending = pending;
         freezes = marks;
         end = h.end;
         place = h.place;
-        places = n;
+        places = count;
         next = k;
+        gathering = n;
       } in
       let records : waiting w' ≡ waiting w ++ r ∷ [] = written ∙ ap (λ l. l ++ r ∷ []) waits in
       record {
@@ -61,12 +64,13 @@ module _ {S : Type 0} (s : State S) (w : Waiting) (places next : ℕ) where
       }
 
 -- a book with no live transaction and nothing pending
-pub opened_is : {S : Type 0} (now : S) (s : State S) (w : Waiting) (wear next : ℕ) →
-    s ≡ resting now wear → waiting w ≡ [] → freezes w ≡ [] →
-    w.handed ≡ record { end = 0; place = 0 } → book_of s w 0 next ≡ opened now next wear
-opened_is {S} now s w wear next state records marks handed =
-    let with : State S → List Record → List ℕ → Handed → BookState S =
-    λ v pending marks h. record {
+pub opened_is : {S : Type 0} (now : S) (s : State S) (w : Waiting) (wear next : ℕ)
+    (n : GatheringState) → s ≡ resting now wear → waiting w ≡ [] → freezes w ≡ [] →
+    w.handed ≡ record { end = 0; place = 0 } → n ≡ none_begun →
+    book_of s w 0 next n ≡ opened now next wear
+opened_is {S} now s w wear next n state records marks handed none =
+    let with : State S → List Record → List ℕ → Handed → GatheringState → BookState S =
+    λ v pending marks h m. record {
       state =
           v;
       pending = pending;
@@ -75,11 +79,13 @@ opened_is {S} now s w wear next state records marks handed =
       place = h.place;
       places = 0;
       next = next;
+      gathering = m;
     } in
-    ap (λ v. with v (waiting w) (freezes w) w.handed) state
-    ∙ ap (λ v. with (resting now wear) v (freezes w) w.handed) records
-    ∙ ap (λ v. with (resting now wear) [] v w.handed) marks
-    ∙ ap (λ v. with (resting now wear) [] [] v) handed
+    ap (λ v. with v (waiting w) (freezes w) w.handed n) state
+    ∙ ap (λ v. with (resting now wear) v (freezes w) w.handed n) records
+    ∙ ap (λ v. with (resting now wear) [] v w.handed n) marks
+    ∙ ap (λ v. with (resting now wear) [] [] v n) handed
+    ∙ ap (λ v. with (resting now wear) [] [] (record { end = 0; place = 0 }) v) none
 
 -- What refuses a making in the collections refuses it in the book.
 pub make_refused : {S : Type 0} (names : List (List ℕ)) (b : Standing S) (name : List ℕ)
@@ -110,12 +116,12 @@ ask_refused meaning making b c n at call (Err e) can free same why =
     rw (why) (same, inr (inr (can, inr free)))
 
 -- Nothing of the book changes where only room was made.
-pub reserved_same : {S : Type 0} (s t : State S) (w w' : Waiting) (places next : ℕ) → t ≡ s →
-    waiting w' ≡ waiting w → freezes w' ≡ freezes w → w'.handed ≡ w.handed →
-    book_of t w' places next ≡ book_of s w places next
-reserved_same {S} s t w w' places next same waits marks handed =
-    let with : State S → List Record → List ℕ → Handed → BookState S =
-    λ v pending marks h. record {
+pub reserved_same : {S : Type 0} (s t : State S) (w w' : Waiting) (places next : ℕ)
+    (m n : GatheringState) → t ≡ s → n ≡ m → waiting w' ≡ waiting w → freezes w' ≡ freezes w →
+    w'.handed ≡ w.handed → book_of t w' places next n ≡ book_of s w places next m
+reserved_same {S} s t w w' places next m n same noted waits marks handed =
+    let with : State S → GatheringState → List Record → List ℕ → Handed → BookState S =
+    λ v u pending marks h. record {
       state =
           v;
       pending = pending;
@@ -124,17 +130,19 @@ reserved_same {S} s t w w' places next same waits marks handed =
       place = h.place;
       places = places;
       next = next;
+      gathering = u;
     } in
-    ap (λ v. with v (waiting w') (freezes w') w'.handed) same ∙
-    ap (λ v. with s v (freezes w') w'.handed) waits ∙
-    ap (λ v. with s (waiting w) v w'.handed) marks ∙
-    ap (λ v. with s (waiting w) (freezes w) v) handed
+    ap (λ v. with v n (waiting w') (freezes w') w'.handed) same ∙
+    ap (λ v. with s v (waiting w') (freezes w') w'.handed) noted ∙
+    ap (λ v. with s m v (freezes w') w'.handed) waits ∙
+    ap (λ v. with s m (waiting w) v w'.handed) marks ∙
+    ap (λ v. with s m (waiting w) (freezes w) v) handed
 
 -- Nothing but the freezes changes where the last block was sealed.
-pub only_sealed : {S : Type 0} (s : State S) (w w' : Waiting) (places next : ℕ) →
-    waiting w' ≡ waiting w → w'.handed ≡ w.handed →
-    book_of s w' places next ≡ record (book_of s w places next) { freezes = freezes w' }
-only_sealed {S} s w w' places next waits handed =
+pub only_sealed : {S : Type 0} (s : State S) (w w' : Waiting) (places next : ℕ)
+    (n : GatheringState) → waiting w' ≡ waiting w → w'.handed ≡ w.handed →
+    book_of s w' places next n ≡ record (book_of s w places next n) { freezes = freezes w' }
+only_sealed {S} s w w' places next n waits handed =
     let with : List Record → Handed → BookState S =
     λ pending h. record {
       state = s;
@@ -144,5 +152,30 @@ only_sealed {S} s w w' places next waits handed =
       place = h.place;
       places = places;
       next = next;
+      gathering = n;
     } in
     ap (λ v. with v w'.handed) waits ∙ ap (λ v. with (waiting w) v) handed
+
+-- Nor does anything else where a gathering ended too.
+pub ended_sealed : {S : Type 0} (s : State S) (w w' : Waiting) (places next : ℕ)
+    (m n : GatheringState) → waiting w' ≡ waiting w → w'.handed ≡ w.handed → n ≡ given_up m →
+    book_of s w' places next n ≡
+    record (book_of s w places next m) { freezes = freezes w'; gathering = given_up m }
+ended_sealed s w w' places next m n waits handed ended =
+    ap (book_of s w' places next) ended ∙
+    only_sealed s w w' places next (given_up m) waits handed
+
+-- Where room was made first, the same is sealed.
+pub seals_reserved : (w v u : Waiting) → waiting v ≡ waiting w → freezes v ≡ freezes w →
+    v.handed ≡ w.handed →
+    ((f : ℕ) → Contains (freezes u) f ↔ (Contains (freezes v) f ⊎
+    ((f ≡ v.handed.end + length (waiting v)) × (0 < length (waiting v))))) →
+    (f : ℕ) → Contains (freezes u) f ↔ (Contains (freezes w) f ⊎
+    ((f ≡ w.handed.end + length (waiting w)) × (0 < length (waiting w))))
+seals_reserved w v u waits marks handed seals f =
+    subst (λ (h : Handed). Contains (freezes u) f ↔ (Contains (freezes w) f ⊎
+    ((f ≡ h.end + length (waiting w)) × (0 < length (waiting w))))) handed
+    (subst (λ l. Contains (freezes u) f ↔ (Contains l f ⊎
+    ((f ≡ v.handed.end + length (waiting w)) × (0 < length (waiting w))))) marks
+    (subst (λ (l : List Record). Contains (freezes u) f ↔ (Contains (freezes v) f ⊎
+    ((f ≡ v.handed.end + length l) × (0 < length l)))) waits (seals f)))

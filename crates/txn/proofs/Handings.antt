@@ -1,6 +1,6 @@
 -- What a book has handed over goes on with each of its steps.
-use Rattle.std.proofs.Common.{◌≡◌, ◌⊎◌, inl, inr, ⊎_elim, ℕ, ◌+◌, ◌<◌, Bool, true, false, Option}
-use Rattle.std.proofs.Common.{None, Some, Result, Ok, Err, List, [], ◌∷◌, ◌++◌, length, refl, sym}
+use Rattle.std.proofs.Common.{◌≡◌, inl, inr, ⊎_elim, ℕ, ◌<◌, Bool, true, false, Option}
+use Rattle.std.proofs.Common.{None, Result, Ok, Err, List, [], ◌∷◌, ◌++◌, length, refl, sym}
 use Rattle.std.proofs.Common.{◌∙◌, ap}
 use Rattle.std.proofs.Common.{subst, arith, append_assoc, length-append}
 use Rattle.std.specs.Prelude.{Contains}
@@ -18,7 +18,6 @@ use Rattle.record_format.specs.Records.{IsRecord}
 use Rattle.record_format.specs.Acts.{places}
 use Rattle.blocks.specs.declared.block.Block.{Block}
 use Rattle.blocks.specs.declared.block.Image.{Image}
-use Rattle.blocks.specs.Carried.{Carries}
 use Rattle.blocks.specs.Cuts.{HandsOver}
 use Rattle.blocks.specs.Packings.{joined}
 use Rattle.blocks.proofs.Places.{places_append}
@@ -26,8 +25,9 @@ use Rattle.blocks.proofs.Carrying.{joined-push, carries_append}
 use Rattle.txn.specs.declared.steps.Action.{Action}
 use Rattle.txn.specs.declared.steps.BookStep.{BookStep}
 use Rattle.txn.specs.Rows.{Standing, opening}
-use Rattle.txn.specs.Books.{BookState, opened, standing, Takes, CutAnswers}
-use Rattle.txn.specs.Freezing.{FreezeAnswers}
+use Rattle.txn.specs.Books.{BookState, opened, position, standing, Takes, CutAnswers}
+use Rattle.images.specs.Gathers.{GatherState}
+use Rattle.txn.specs.Freezing.{ImageAnswers, IsImageOf, Seals, FreezeAnswers}
 use Rattle.txn.specs.Histories.{LiveCalls, shows, shown_by, no_calls, records_of_action}
 use Rattle.txn.specs.Histories.{records_after, records_by, CutRow, Row, IsLegal}
 use Rattle.txn.specs.Handing.{IsBetween, IsImageIn, HasHanded}
@@ -103,18 +103,26 @@ module _ {S : Type 0} where
       inr (omega (arith, end_is, less), left position pending.1 less))
       (cases_eq block.end position)
 
+-- A freeze that is refused leaves the book.
+pub frozen_not : {S : Type 0} (collections : S → List Collection) (b c : BookState S)
+    (g h : GatherState) (e : Refusal) → FreezeAnswers collections b g (Err e) c h → c ≡ b
+frozen_not collections b c g h Refusal.NoMemory froze = froze.1
+frozen_not collections b c g h Refusal.Unfinished froze = froze.1
+frozen_not collections b c g h Refusal.Outrun froze = froze.1
+frozen_not collections b c g h e froze = absurd froze.0
+
 module _ {S : Type 0} (meaning : Meaning S ℕ) (making : Making S)
     (collections : S → List Collection) (start : S) (wear : ℕ) where
-  abbrev Handed : List BookStep → BookState S → List Block → List (List Record) → List Image →
-      Type 0
-  Handed steps book handed groups images =
-      HasHanded meaning making collections start wear steps book handed groups images
+  abbrev Handed : List BookStep → BookState S → List Block → List (List Record) → List ℕ →
+      List Image → Type 0
+  Handed steps book handed groups freezes images =
+      HasHanded meaning making collections start wear steps book handed groups freezes images
 
   abbrev Imaged : List BookStep → Image → Type 0
   Imaged steps image = IsImageIn meaning making collections start wear steps image
 
   -- A book that was opened has handed nothing over.
-  pub opens : (next : ℕ) → Handed [] (opened start next wear) [] [] []
+  pub opens : (next : ℕ) → Handed [] (opened start next wear) [] [] [] []
   opens next = record {
     legal = refl;
     good = tt;
@@ -127,7 +135,7 @@ module _ {S : Type 0} (meaning : Meaning S ℕ) (making : Making S)
   }
 
   -- an image stays one of a book whose steps go on
-  images_more : (steps : List BookStep) (x : BookStep) (image : Image) → Imaged steps image →
+  pub images_more : (steps : List BookStep) (x : BookStep) (image : Image) → Imaged steps image →
       Imaged (steps ++ x ∷ []) image
   images_more steps x image is = record {
     first = is.first;
@@ -142,8 +150,8 @@ module _ {S : Type 0} (meaning : Meaning S ℕ) (making : Making S)
   }
 
   module _ (steps : List BookStep) (b c : BookState S) (handed : List Block)
-      (groups : List (List Record)) (images : List Image)
-      (had : Handed steps b handed groups images) (client : Option ℕ) where
+      (groups : List (List Record)) (freezes : List ℕ) (images : List Image)
+      (had : Handed steps b handed groups freezes images) (client : Option ℕ) where
     abbrev step : Action → BookStep
     step action = record { client = client; action = action }
 
@@ -166,7 +174,7 @@ module _ {S : Type 0} (meaning : Meaning S ℕ) (making : Making S)
     -- One step more that hands nothing over.
     pub takes_on : (action : Action) → Takes meaning making b action c →
         AllByRecursion (IsRecord None) c.pending →
-        Handed (steps ++ step action ∷ []) c handed groups images
+        Handed (steps ++ step action ∷ []) c handed groups freezes images
     takes_on action takes good =
         let rs = records_then steps action in
         let left = taken_left action takes in
@@ -184,10 +192,9 @@ module _ {S : Type 0} (meaning : Meaning S ℕ) (making : Making S)
           end = left.end ∙ had.end;
           place = left.place ∙ had.place;
           are_images = still_imaged action;
-          between = weaker (λ image. IsBetween groups b image.end)
-              (λ image. IsBetween groups c image.end)
-              (λ image at. between_more groups b c image.end left.end
-              (λ f there. subst (λ l. Contains l f) (sym left.freezes) there) at) images
+          between = weaker (IsBetween groups b) (IsBetween groups c)
+              (λ p at. between_more groups b c p left.end
+              (λ f there. subst (λ l. Contains l f) (sym left.freezes) there) at) freezes
               had.between;
         }
 
@@ -195,7 +202,7 @@ module _ {S : Type 0} (meaning : Meaning S ℕ) (making : Making S)
     stays_on : (action : Action) → Row meaning making (standing b) action (standing c) →
         records_then steps action ≡ [] → c.pending ≡ b.pending → c.end ≡ b.end →
         c.place ≡ b.place → ((f : ℕ) → Contains b.freezes f → Contains c.freezes f) →
-        Handed (steps ++ step action ∷ []) c handed groups images
+        Handed (steps ++ step action ∷ []) c handed groups freezes images
     stays_on action row none pending end place keeps =
         let all : records_by (steps ++ step action ∷ []) ≡ records_by steps =
         records_by-push steps (step action) ∙ ap (λ l. records_by steps ++ l) none ∙
@@ -208,25 +215,26 @@ module _ {S : Type 0} (meaning : Meaning S ℕ) (making : Making S)
           end = end ∙ had.end;
           place = place ∙ had.place;
           are_images = still_imaged action;
-          between = weaker (λ image. IsBetween groups b image.end)
-              (λ image. IsBetween groups c image.end)
-              (λ image at. between_more groups b c image.end end keeps at) images had.between;
+          between = weaker (IsBetween groups b) (IsBetween groups c)
+              (λ p at. between_more groups b c p end keeps at) freezes had.between;
         }
 
     -- nothing more is handed over
-    none_more : (action : Action) → Handed (steps ++ step action ∷ []) c handed groups images →
-        Handed (steps ++ step action ∷ []) c (handed ++ []) (groups ++ []) images
+    none_more : (action : Action) →
+        Handed (steps ++ step action ∷ []) c handed groups freezes images →
+        Handed (steps ++ step action ∷ []) c (handed ++ []) (groups ++ []) freezes images
     none_more action on =
-        subst (λ l. Handed (steps ++ step action ∷ []) c l (groups ++ []) images)
+        subst (λ l. Handed (steps ++ step action ∷ []) c l (groups ++ []) freezes images)
         (sym (append-nil handed))
-        (subst (λ l. Handed (steps ++ step action ∷ []) c handed l images)
+        (subst (λ l. Handed (steps ++ step action ∷ []) c handed l freezes images)
         (sym (append-nil groups)) on)
 
     -- A block is cut off.
     pub cuts_on : (sends : List Block → Type 0) (full : Type 0) (a : Result Bool Refusal) →
         CutAnswers b sends full a c →
         (count : ℕ) × (bs : List Block) × (gs : List (List Record)) × sends bs ×
-        Handed (steps ++ step (Action.Cut count a) ∷ []) c (handed ++ bs) (groups ++ gs) images ×
+        Handed (steps ++ step (Action.Cut count a) ∷ []) c (handed ++ bs) (groups ++ gs) freezes
+        images ×
         CutRow (standing b) count a (standing c)
     cuts_on sends full (Ok true) cut =
         let row = cut_taken meaning making b c sends full (Ok true) cut in
@@ -270,10 +278,9 @@ module _ {S : Type 0} (meaning : Meaning S ℕ) (making : Making S)
               places_append (joined groups) more,
             );
             are_images = still_imaged (Action.Cut row.0 (Ok true));
-            between = weaker (λ image. IsBetween groups b image.end)
-                (λ image. IsBetween (groups ++ more ∷ []) c image.end)
-                (λ image at. between_cut groups b c cut.0.0 image.end had.end hands cut.0.3
-                (λ f there behind. (cut.0.5 f).1 (there, behind)) at) images had.between;
+            between = weaker (IsBetween groups b) (IsBetween (groups ++ more ∷ []) c)
+                (λ p at. between_cut groups b c cut.0.0 p had.end hands cut.0.3
+                (λ f there behind. (cut.0.5 f).1 (there, behind)) at) freezes had.between;
           },
           row.1,
         )
@@ -291,8 +298,8 @@ module _ {S : Type 0} (meaning : Meaning S ℕ) (making : Making S)
 
     -- A freeze: where it answers an image, that is one of the book now.
     pub freezes_on : (a : Result (Unit {0}) Refusal) (frozen : Result Image Refusal) →
-        FreezeAnswers collections b frozen c →
-        Handed (steps ++ step (Action.Freeze a) ∷ []) c handed groups images
+        ImageAnswers collections b frozen c →
+        Handed (steps ++ step (Action.Freeze a) ∷ []) c handed groups freezes images
     freezes_on a (Ok image) froze =
         stays_on (Action.Freeze a) (freeze_taken meaning making b c collections (Ok image) froze)
         refl (ap (λ v. v.pending) froze.1) (ap (λ v. v.end) froze.1) (ap (λ v. v.place) froze.1)
@@ -304,19 +311,51 @@ module _ {S : Type 0} (meaning : Meaning S ℕ) (making : Making S)
         (λ f there. subst (λ l. Contains l f) (sym (ap (λ v. v.freezes) froze)) there)
     freezes_on a (Err e) froze = absurd froze
 
+    -- so many records came before
+    counted : position b ≡ length (records_by steps)
+    counted = omega (
+      arith,
+      had.end,
+      ap length had.records,
+      length-append (joined groups) b.pending,
+    )
+
+    -- No block crosses the position behind the last record, once it is marked.
+    sealed_between : c.end ≡ b.end → Seals b c → IsBetween groups c (position b)
+    sealed_between same seals = ⊎_elim
+        (λ (none : length b.pending ≡ 0). inl (
+          groups,
+          [],
+          sym (append-nil groups),
+          omega (arith, had.end, none),
+        ))
+        (λ (some : length b.pending ≡ 0 → ⊥). inr (
+          omega (arith, same, some),
+          (seals (position b)).1 (inr (refl, omega (arith, some))),
+        ))
+        (cases_eq (length b.pending) 0)
+
+    -- What shows the book now is an image of it.
+    pub imaged_now : (action : Action) (image : Image) → IsImageOf collections b image →
+        Imaged (steps ++ step action ∷ []) image
+    imaged_now action image is = record {
+      first = steps;
+      rest = step action ∷ [];
+      begins = refl;
+      there = standing b;
+      legal = had.legal;
+      next = b.next;
+      packed = is.packed;
+      end = is.end ∙ counted;
+      place = is.place;
+    }
+
     pub freezes_image : (a : Result (Unit {0}) Refusal) (image : Image) →
-        FreezeAnswers collections b (Ok image) c →
-        Handed (steps ++ step (Action.Freeze a) ∷ []) c handed groups (image ∷ images)
+        ImageAnswers collections b (Ok image) c →
+        Handed (steps ++ step (Action.Freeze a) ∷ []) c handed groups (image.end ∷ freezes)
+        (image ∷ images)
     freezes_image a image froze =
         let on = freezes_on a (Ok image) froze in
-        let count : image.end ≡ length (records_by steps) =
-        omega (
-          arith,
-          froze.0.end,
-          had.end,
-          ap length had.records,
-          length-append (joined groups) b.pending,
-        ) in
         record {
           legal = on.legal;
           good = on.good;
@@ -324,33 +363,61 @@ module _ {S : Type 0} (meaning : Meaning S ℕ) (making : Making S)
           records = on.records;
           end = on.end;
           place = on.place;
-          are_images = (
-            record {
-              first = steps;
-              rest = step (Action.Freeze a) ∷ [];
-              begins = refl;
-              there = standing b;
-              legal = had.legal;
-              next = b.next;
-              packed = froze.0.packed;
-              end = count;
-              place = froze.0.place;
-            },
-            on.are_images,
-          );
+          are_images = (imaged_now (Action.Freeze a) image froze.0, on.are_images);
           between = (
-            ⊎_elim
-                (λ (none : length b.pending ≡ 0). inl (
-                  groups,
-                  [],
-                  sym (append-nil groups),
-                  omega (arith, froze.0.end, had.end, none),
-                ))
-                (λ (some : length b.pending ≡ 0 → ⊥). inr (
-                  omega (arith, froze.0.end, ap (λ v. v.end) froze.1, some),
-                  (froze.2 image.end).1 (inr (froze.0.end, omega (arith, some))),
-                ))
-                (cases_eq (length b.pending) 0),
+            subst (IsBetween groups c) (sym froze.0.end)
+                (sealed_between (ap (λ v. v.end) froze.1) froze.2),
             on.between,
           );
         }
+
+    -- The next collection is copied, or that is refused: nothing changes but what is noted.
+    pub gathers_on : (a : Result Bool Refusal) → c ≡ record b { gathering = c.gathering } →
+        Handed (steps ++ step (Action.Gather a) ∷ []) c handed groups freezes images
+    gathers_on a is =
+        stays_on (Action.Gather a) (ap standing is) refl (ap (λ v. v.pending) is)
+        (ap (λ v. v.end) is) (ap (λ v. v.place) is)
+        (λ f there. subst (λ l. Contains l f) (sym (ap (λ v. v.freezes) is)) there)
+
+    -- A gathering ends: no block crosses the position behind the last record,
+    pub freezes_gathered : (g h : GatherState) (a : Result (Unit {0}) Refusal) →
+        FreezeAnswers collections b g (Ok tt) c h →
+        Handed (steps ++ step (Action.Freeze a) ∷ []) c handed groups (position b ∷ freezes) images
+    freezes_gathered g h a froze =
+        let is = froze.2 in
+        let on = stays_on (Action.Freeze a) (ap standing is) refl (ap (λ v. v.pending) is)
+        (ap (λ v. v.end) is) (ap (λ v. v.place) is) (λ f there. (froze.3 f).1 (inl there)) in
+        record {
+          legal = on.legal;
+          good = on.good;
+          carried = on.carried;
+          records = on.records;
+          end = on.end;
+          place = on.place;
+          are_images = on.are_images;
+          between = (sealed_between (ap (λ v. v.end) is) froze.3, on.between);
+        }
+
+    -- or it is refused.
+    pub freezes_nothing : (g h : GatherState) (e : Refusal) →
+        FreezeAnswers collections b g (Err e) c h → (a : Result (Unit {0}) Refusal) →
+        Handed (steps ++ step (Action.Freeze a) ∷ []) c handed groups freezes images
+    freezes_nothing g h e froze a =
+        let is = frozen_not collections b c g h e froze in
+        stays_on (Action.Freeze a) (ap standing is) refl (ap (λ v. v.pending) is)
+        (ap (λ v. v.end) is) (ap (λ v. v.place) is)
+        (λ f there. subst (λ l. Contains l f) (sym (ap (λ v. v.freezes) is)) there)
+
+    -- An image that is packed later stands beside the others.
+    pub packs_image : (image : Image) → Imaged steps image →
+        Handed steps b handed groups freezes (image ∷ images)
+    packs_image image is = record {
+      legal = had.legal;
+      good = had.good;
+      carried = had.carried;
+      records = had.records;
+      end = had.end;
+      place = had.place;
+      are_images = (is, had.are_images);
+      between = had.between;
+    }

@@ -5,4 +5,5 @@ pub mod BookLemmas
 pub mod LiveCalls
 pub mod Takings
 pub mod Readings
+pub mod Goings
 pub mod Handings

@@ -1,5 +1,5 @@
 -- The calls that steps show are those of the state to which they lead.
-use Rattle.std.proofs.Common.{◌≡◌, ℕ, ◌==◌, ⊎_elim, Bool, true, false, Option, Some, None, Result}
+use Rattle.std.proofs.Common.{◌≡◌, ℕ, ◌==◌, ⊎_elim, Bool, true, false, Some, None, Result}
 use Rattle.std.proofs.Common.{Ok, Err, List, [], ◌∷◌, ◌++◌, map, drop, cond, reverse, refl, sym}
 use Rattle.std.proofs.Common.{◌∙◌}
 use Rattle.std.proofs.Common.{ap, subst, inl, inr}
@@ -209,6 +209,7 @@ module _ {S : Type 0} (meaning : Meaning S ℕ) (making : Making S) (live : Live
       unchanged (ap (λ (v : Standing S). v.state.entries) row.2)
   one_shown (Action.Cut count (Ok false)) row = stays row.2
   one_shown (Action.Cut count (Err e)) row = stays row.1
+  one_shown (Action.Gather a) row = stays row
   one_shown (Action.Freeze a) row = stays row
 
 -- The calls that a history shows are those of the state to which it leads.

@@ -1,11 +1,11 @@
 -- The records of steps commit the transactions of the steps without their calls that only read.
-use Rattle.std.proofs.Common.{◌≡◌, ℕ, Bool, true, false, not, cond, Some, None, Ok, Err, List, []}
-use Rattle.std.proofs.Common.{◌∷◌, ◌++◌, map, refl, sym, ◌∙◌, ap, subst}
+use Rattle.std.proofs.Common.{◌≡◌, ℕ, Bool, true, false, not, cond, Some, None, Ok, List, []}
+use Rattle.std.proofs.Common.{◌∷◌, ◌++◌, map, refl, sym, ◌∙◌, ap}
 use Rattle.std.specs.List.{filter, flat_map}
 use Rattle.std.proofs.lemmas.Grind.{flat_map-append}
 use Rattle.std.proofs.lemmas.List.Elements.{filter-append}
 use Rattle.calls.specs.Reads.{reads, is_journalled, without_reads}
-use Rattle.calls.specs.Transactions.{Event, Entry, Asked, PutOff, Transaction, Whole, Made, Act}
+use Rattle.calls.specs.Transactions.{Event, Entry, Asked, Whole, Made, Act}
 use Rattle.calls.specs.Transactions.{Begins, Asks, Commits, Creates, committed_after, committed}
 use Rattle.record_format.specs.declared.record.Record.{Record}
 use Rattle.record_format.specs.Acts.{acts_of_record, acts_of}
@@ -16,7 +16,6 @@ use Rattle.txn.specs.declared.steps.BookStep.{BookStep}
 use Rattle.txn.specs.declared.steps.Target.{Target}
 use Rattle.txn.specs.Rows.{record_of}
 use Rattle.txn.specs.Histories.{acts_of_action, committed_by, LiveCalls, shows, no_calls}
-use Rattle.txn.specs.Histories.{unless_read}
 use Rattle.txn.specs.Histories.{back_records, records_of_action, records_after, records_by}
 
 -- ---- what steps say, and what their records say

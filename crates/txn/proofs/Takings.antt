@@ -1,6 +1,6 @@
 -- What a book does is a row of its histories.
 use Rattle.std.proofs.Common.{◌≡◌, ℕ, ◌+◌, true, false, Bool, Some, None, Result, Ok, Err, List}
-use Rattle.std.proofs.Common.{[], ◌∷◌, ◌++◌, length, refl, sym, ◌∙◌, ap, arith, ◌⊎◌, inl, inr}
+use Rattle.std.proofs.Common.{[], ◌∷◌, ◌++◌, length, refl, sym, ◌∙◌, ap, ◌⊎◌, inl, inr}
 use Rattle.std.proofs.Common.{subst, cond}
 use Rattle.std.proofs.lemmas.List.{append-nil}
 use Rattle.calls.specs.declared.call.Call.{Call}
@@ -14,7 +14,7 @@ use Rattle.boosted.specs.Meaning.{Meaning}
 use Rattle.catalog.specs.Making.{Making}
 use Rattle.record_format.specs.declared.record.Record.{Record}
 use Rattle.record_format.specs.Acts.{places}
-use Rattle.machine.specs.Machine.{State, Steps, journalled}
+use Rattle.machine.specs.Machine.{Steps, journalled}
 use Rattle.machine.proofs.Journalled.{GoesUnheard, fall_unheard, read_unheard, unread_unheard}
 use Rattle.machine.proofs.Journalled.{make_told, begin_told, call_told, later_told, commit_told}
 use Rattle.machine.proofs.Journalled.{back_told, ended_told}
@@ -23,10 +23,10 @@ use Rattle.blocks.specs.declared.block.Block.{Block}
 use Rattle.blocks.specs.declared.block.Image.{Image}
 use Rattle.txn.specs.declared.steps.Action.{Action}
 use Rattle.txn.specs.declared.steps.Target.{Target}
-use Rattle.txn.specs.Rows.{Standing, IsMade, IsUndone, CallAnswers, LaterAnswers, NotFound}
+use Rattle.txn.specs.Rows.{IsMade, IsUndone, CallAnswers, LaterAnswers, NotFound}
 use Rattle.txn.specs.Rows.{record_of, later_record}
 use Rattle.txn.specs.Books.{BookState, standing, Appends, Moves, Takes, CutAnswers}
-use Rattle.txn.specs.Freezing.{FreezeAnswers}
+use Rattle.txn.specs.Freezing.{ImageAnswers}
 use Rattle.txn.specs.Histories.{Adds, Shifts, CutRow, Row, LiveCalls, unless_read, back_records}
 use Rattle.txn.specs.Histories.{records_of_action}
 use Rattle.txn.proofs.LiveCalls.{AreShown, newest_shown}
@@ -95,6 +95,7 @@ module _ {S : Type 0} (meaning : Meaning S ℕ) (making : Making S) (b c : BookS
   taken (Action.Ended n (Ok done)) takes = (takes.0, adds _ takes.1)
   taken (Action.Ended n (Err e)) takes = (ap standing takes.0, takes.1)
   taken (Action.Cut count a) takes = absurd takes
+  taken (Action.Gather a) takes = absurd takes
   taken (Action.Freeze a) takes = absurd takes
 
   -- A block that is cut off is a row of them, with the number of its records.
@@ -125,7 +126,7 @@ module _ {S : Type 0} (meaning : Meaning S ℕ) (making : Making S) (b c : BookS
 
   -- A freeze leaves all that histories speak of.
   pub freeze_taken : (collections : S → List Collection) (a : Result Image Refusal) →
-      FreezeAnswers collections b a c → standing c ≡ standing b
+      ImageAnswers collections b a c → standing c ≡ standing b
   freeze_taken collections (Ok image) froze = ap standing froze.1
   freeze_taken collections (Err Refusal.NoMemory) froze = ap standing froze
   freeze_taken collections (Err e) froze = absurd froze
@@ -258,4 +259,5 @@ module _ {S : Type 0} (meaning : Meaning S ℕ) (making : Making S) (b c : BookS
       (ended_told meaning making b.state c.state n takes.0) takes.1
   leaves live shown (Action.Ended n (Err e)) takes = same takes.0
   leaves live shown (Action.Cut count a) takes = absurd takes
+  leaves live shown (Action.Gather a) takes = absurd takes
   leaves live shown (Action.Freeze a) takes = absurd takes

@@ -1,9 +1,11 @@
 -- A book: the state that its records lead to, and the records that wait for a block.
-use Rattle.std.specs.Prelude.{◌≡◌, ℕ, ◌+◌, ◌*◌, ◌<◌, ◌≤◌, ◌^◌, max, Bool, List, [], ◌∷◌, ◌++◌}
+use Rattle.std.specs.Prelude.{◌≡◌, ◌⊎◌, ℕ, ◌+◌, ◌*◌, ◌<◌, ◌≤◌, ◌^◌, max, Bool, List, [], ◌∷◌, ◌++◌}
 use Rattle.std.specs.Prelude.{length, Contains, None, Result}
 use Rattle.std.specs.FinMap as maps
 use Rattle.std.specs.List.{AllByRecursion}
+use Rattle.calls.specs.declared.kind.Kind.{Kind}
 use Rattle.calls.specs.declared.refusal.Refusal.{Refusal}
+use Rattle.calls.specs.Contents.{Collection}
 use Rattle.undo_log.specs.Logs.{Lives}
 use Rattle.boosted.specs.Meaning.{Meaning}
 use Rattle.catalog.specs.Making.{Making}
@@ -14,6 +16,8 @@ use Rattle.machine.specs.Machine.{State}
 use Rattle.machine.specs.Machines.{resting, IsUpheld}
 use Rattle.blocks.specs.Cuts.{CutsOff}
 use Rattle.blocks.specs.declared.block.Block.{Block}
+use Rattle.images.specs.declared.effect.Effect.{Effect}
+use Rattle.gathering.specs.Gatherings.{GatheringState, none_begun, noted, AreRun, KeepsGoing}
 use Rattle.txn.specs.declared.steps.Action.{Action}
 use Rattle.txn.specs.Rows.{Standing, Answers}
 
@@ -31,6 +35,8 @@ pub record BookState (S : Type 0) : Type 0 where
   pub places : ℕ
   -- above every number that was entered
   pub next : ℕ
+  -- what is kept while it is gathered
+  pub gathering : GatheringState
 
 -- a book that was opened
 abbrev pub opened : {S : Type 0} → S → (next wear : ℕ) → BookState S
@@ -42,6 +48,7 @@ opened now next wear = record {
   place = 0;
   places = 0;
   next = next;
+  gathering = none_begun;
 }
 
 -- what its histories speak of
@@ -53,7 +60,16 @@ abbrev pub next_behind : ℕ → Record → ℕ
 next_behind next (Record.Begin n) = max next (n + 1)
 next_behind next r = next
 
--- The state is c's now, and the step's record waits behind the others.
+-- one collection is made
+abbrev pub MakesOne : {S : Type 0} → Making S → S → S → Type 0
+MakesOne making s t = (name : List ℕ) × (kind : Kind) × making.makes s name kind t
+
+-- how many records came before what the book does next
+abbrev pub position : {S : Type 0} → BookState S → ℕ
+position b = b.end + length b.pending
+
+-- The state is c's now, and the step's record waits behind the others. What is noted of the step
+-- while the book is gathered stands apart.
 pub record Appends {S : Type 0} (b : BookState S) (r : Record) (c : BookState S) : Type 0 where
   pub room : length b.pending < 16384
   pub is : c ≡ record b {
@@ -62,16 +78,35 @@ pub record Appends {S : Type 0} (b : BookState S) (r : Record) (c : BookState S)
     pending = b.pending ++ r ∷ [];
     places = b.places + places (r ∷ []);
     next = next_behind b.next r;
+    gathering = c.gathering;
   }
 
--- The state is c's now, and nothing else changed.
+-- The state is c's now, and nothing else changed. What is noted stands apart.
 abbrev pub Moves : {S : Type 0} → BookState S → BookState S → Type 0
-Moves b c = c ≡ record b { state = c.state }
+Moves b c = c ≡ record b { state = c.state; gathering = c.gathering }
 
 -- The step, with its answer, leads from one book to another.
 abbrev pub Takes : {S : Type 0} → Meaning S ℕ → Making S → BookState S → Action → BookState S →
     Type 0
 Takes meaning making b action c = Answers meaning making standing Appends Moves b action c
+
+-- ---- gathering
+
+-- What the step ran on the collections is noted. Where it ran nothing there, and may have made one,
+-- nothing is noted.
+abbrev pub NotesRuns : {S : Type 0} → Meaning S ℕ → Making S → BookState S → BookState S → Type 0
+NotesRuns meaning making b c =
+    ((es : List Effect) × AreRun meaning (position c) es b.state.now c.state.now ×
+    (c.gathering ≡ noted b.gathering es))
+    ⊎ ((c.gathering ≡ b.gathering) ×
+    ((c.state.now ≡ b.state.now) ⊎ MakesOne making b.state.now c.state.now))
+
+-- What the step ran is noted, and what is gathered of the book goes along.
+pub record GoesOn {S : Type 0} (meaning : Meaning S ℕ) (making : Making S)
+    (collections : S → List Collection) (b c : BookState S) : Type 0 where
+  pub notes : NotesRuns meaning making b c
+  pub keeps : KeepsGoing collections b.gathering b.state.now (position b) c.gathering c.state.now
+      (position c)
 
 -- ---- handing records over
 

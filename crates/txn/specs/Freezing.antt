@@ -1,12 +1,15 @@
 -- What a freeze answers: an image of the book in whole blocks, and where it stands among the
 -- records.
 use Rattle.std.specs.Prelude.{◌≡◌, ℕ, ◌+◌, ◌<◌, ◌⊎◌, ◌↔◌, List, length, Contains}
-use Rattle.std.specs.Prelude.{Result, Ok, Err}
+use Rattle.std.specs.Prelude.{Bool, Result, Ok, Err}
 use Rattle.calls.specs.declared.refusal.Refusal.{Refusal}
 use Rattle.calls.specs.Contents.{Collection}
 use Rattle.blocks.specs.declared.block.Image.{Image}
 use Rattle.images.specs.Images.{IsPackedImage}
-use Rattle.txn.specs.Books.{BookState}
+use Rattle.images.specs.Gathers.{GatherState}
+use Rattle.gathering.specs.Gatherings.{given_up, GatherAnswers, IsWhole, FreezeRefused, IsOfThis}
+use Rattle.gathering.specs.Gatherings.{HoldsAll}
+use Rattle.txn.specs.Books.{BookState, position}
 
 -- The image is one of the book: its records tell of what the collections hold, of the live
 -- transactions and of what these asked for, and stand in blocks that are each as full as they can
@@ -18,13 +21,45 @@ pub record IsImageOf {S : Type 0} (collections : S → List Collection) (b : Boo
   pub end : image.end ≡ b.end + length b.pending
   pub place : image.place ≡ b.places
 
--- When each answer of a freeze comes. It leaves all but that no block may cross the position behind
--- the last record, where one waits.
-abbrev pub FreezeAnswers : {S : Type 0} → (S → List Collection) → BookState S →
+-- No block may cross the position behind the last record, where one waits.
+abbrev pub Seals : {S : Type 0} → BookState S → BookState S → Type 0
+Seals b c = (f : ℕ) → Contains c.freezes f ↔
+    (Contains b.freezes f ⊎ ((f ≡ position b) × (0 < length b.pending)))
+
+-- When each answer comes where an image is taken at once. It leaves all but that no block may cross
+-- the position behind the last record.
+abbrev pub ImageAnswers : {S : Type 0} → (S → List Collection) → BookState S →
     Result Image Refusal → BookState S → Type 0
-FreezeAnswers collections b (Ok image) c =
-    IsImageOf collections b image × (c ≡ record b { freezes = c.freezes }) ×
-    ((f : ℕ) → Contains c.freezes f ↔
-    (Contains b.freezes f ⊎ ((f ≡ b.end + length b.pending) × (0 < length b.pending))))
-FreezeAnswers collections b (Err Refusal.NoMemory) c = c ≡ b
-FreezeAnswers collections b (Err e) c = ⊥
+ImageAnswers collections b (Ok image) c =
+    IsImageOf collections b image × (c ≡ record b { freezes = c.freezes }) × Seals b c
+ImageAnswers collections b (Err Refusal.NoMemory) c = c ≡ b
+ImageAnswers collections b (Err e) c = ⊥
+
+-- ---- gathering
+
+module _ {S : Type 0} (collections : S → List Collection) where
+  -- What is gathered is new, or of another gathering than the one that is under way, or goes along.
+  abbrev pub IsGatheredOf : BookState S → GatherState → Type 0
+  IsGatheredOf b g = IsOfThis collections b.gathering b.state.now (position b) g
+
+  -- When each answer comes where the next collection is copied. It leaves all but what is noted.
+  abbrev pub BookGathers : (b : BookState S) → (g : GatherState) → Result Bool Refusal →
+      (c : BookState S) → (h : GatherState) → Type 0
+  BookGathers b g result c h =
+      GatherAnswers (collections b.state.now) (position b) b.gathering g result c.gathering h ×
+      (c ≡ record b { gathering = c.gathering })
+
+  -- When each answer of a freeze comes. It ends the gathering, which holds all of the book then,
+  -- and leaves all else but that no block may cross the position behind the last record. What was
+  -- gathered stays of the gathering that it is of.
+  abbrev pub FreezeAnswers : (b : BookState S) → (g : GatherState) → Result (Unit {0}) Refusal →
+      (c : BookState S) → (h : GatherState) → Type 0
+  FreezeAnswers b g (Ok done) c h =
+      IsWhole (collections b.state.now) b.gathering g ×
+      HoldsAll collections b.next b.places (position b) b.state h ×
+      (c ≡ record b { freezes = c.freezes; gathering = given_up b.gathering }) × Seals b c ×
+      (h.mark ≡ g.mark)
+  FreezeAnswers b g (Err Refusal.NoMemory) c h =
+      IsWhole (collections b.state.now) b.gathering g × (c ≡ b) × (h ≡ g)
+  FreezeAnswers b g (Err e) c h =
+      FreezeRefused (collections b.state.now) b.gathering g e × (c ≡ b) × (h ≡ g)

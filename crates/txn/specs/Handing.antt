@@ -1,5 +1,5 @@
 -- What a book has handed over since it was opened, and the images of it.
-use Rattle.std.specs.Prelude.{◌≡◌, ◌⊎◌, ℕ, ◌<◌, List, ◌++◌, length, Contains, None}
+use Rattle.std.specs.Prelude.{◌≡◌, ◌⊎◌, ℕ, ◌<◌, List, ◌++◌, length, map, Contains, None}
 use Rattle.std.specs.List.{AllByRecursion}
 use Rattle.calls.specs.Contents.{Collection}
 use Rattle.record_format.specs.declared.record.Record.{Record}
@@ -25,6 +25,10 @@ IsBetween groups book position =
     (position ≡ length (joined first)))
     ⊎ ((book.end < position) × Contains book.freezes position)
 
+-- where the images end
+abbrev pub image_ends : List Image → List ℕ
+image_ends images = map (λ image. image.end) images
+
 -- start, wear: of the book that was opened.
 module _ {S : Type 0} (meaning : Meaning S ℕ) (making : Making S)
     (collections : S → List Collection) (start : S) (wear : ℕ) where
@@ -42,10 +46,10 @@ module _ {S : Type 0} (meaning : Meaning S ℕ) (making : Making S)
     pub place : image.place ≡ there.places
 
   -- The book stands where its steps since it was opened led, and has handed these blocks over: they
-  -- carry the first records of its steps, and the others are pending. No block crosses the end of
-  -- an image.
+  -- carry the first records of its steps, and the others are pending. It was frozen at these
+  -- positions, which no block crosses, and the images are of it.
   pub record HasHanded (steps : List BookStep) (book : BookState S) (handed : List Block)
-      (groups : List (List Record)) (images : List Image) : Type 0 where
+      (groups : List (List Record)) (freezes : List ℕ) (images : List Image) : Type 0 where
     pub legal : IsLegal meaning making (opening start wear) steps (standing book)
     pub good : AllByRecursion (IsRecord None) (records_by steps)
     pub carried : Carries 0 0 handed groups
@@ -53,4 +57,10 @@ module _ {S : Type 0} (meaning : Meaning S ℕ) (making : Making S)
     pub end : book.end ≡ length (joined groups)
     pub place : book.place ≡ places (joined groups)
     pub are_images : AllByRecursion (IsImageIn steps) images
-    pub between : AllByRecursion (λ image. IsBetween groups book image.end) images
+    pub between : AllByRecursion (λ position. IsBetween groups book position) freezes
+
+  -- The same, where each image was taken at once when the book was frozen.
+  abbrev pub HasHandedAtOnce : List BookStep → BookState S → List Block → List (List Record) →
+      List Image → Type 0
+  HasHandedAtOnce steps book handed groups images =
+      HasHanded steps book handed groups (image_ends images) images

@@ -1,7 +1,7 @@
 -- Histories of a book: its steps with their answers, and what they commit.
 use Rattle.std.specs.Prelude.{◌≡◌, ℕ, ◌==◌, ◌+◌, ◌<◌, ◌≤◌, List, [], ◌∷◌, ◌++◌, length, drop}
 use Rattle.std.specs.Prelude.{cond, Bool, true, false}
-use Rattle.std.specs.Prelude.{Option, Some, None, Result, Ok, Err}
+use Rattle.std.specs.Prelude.{Some, None, Result, Ok, Err}
 use Rattle.std.specs.List.{flat_map}
 use Rattle.calls.specs.declared.refusal.Refusal.{Refusal}
 use Rattle.calls.specs.Contents.{Collection}
@@ -140,6 +140,7 @@ module _ {S : Type 0} (meaning : Meaning S ℕ) (making : Making S) where
   -- thread.
   abbrev pub Row : Standing S → Action → Standing S → Type 0
   Row s (Action.Cut count a) t = CutRow s count a t
+  Row s (Action.Gather a) t = t ≡ s
   Row s (Action.Freeze a) t = t ≡ s
   Row s action t = Answers meaning making (λ v. v) Adds Shifts s action t
 

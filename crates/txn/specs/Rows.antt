@@ -1,8 +1,7 @@
 -- The rows of a book's histories: when each step gets which answer, and what it leaves.
-use Rattle.std.specs.Prelude.{◌≡◌, ℕ, ◌+◌, ◌<◌, ◌≤◌, ◌^◌, ◌⊎◌, Bool, true, false, List, [], ◌∷◌}
-use Rattle.std.specs.Prelude.{length, Option, Some, None, Result, Ok, Err}
+use Rattle.std.specs.Prelude.{◌≡◌, ℕ, ◌<◌, ◌≤◌, ◌^◌, ◌⊎◌, Bool, true, false, List}
+use Rattle.std.specs.Prelude.{length, Some, None, Result, Ok, Err}
 use Rattle.std.specs.FinMap as maps
-use Rattle.calls.specs.declared.kind.Kind.{Kind}
 use Rattle.calls.specs.declared.call.Call.{Call}
 use Rattle.calls.specs.declared.reply.Reply.{Reply}
 use Rattle.calls.specs.declared.refusal.Refusal.{Refusal}
@@ -18,7 +17,6 @@ use Rattle.catalog.specs.Making as naming
 use Rattle.catalog.specs.Making.{Making, IsPlaceOf, FindRefused}
 use Rattle.calls.specs.Names.{IsName}
 use Rattle.record_format.specs.declared.record.Record.{Record}
-use Rattle.record_format.specs.Acts.{places}
 use Rattle.record_format.specs.Records.{record_of_call, IsNumber}
 use Rattle.machine.specs.Machine.{State, IsRunning, CanBegin, BeginRow, CommitRow}
 use Rattle.machine.specs.Machine.{EndedRow, FallRow, MakeRow, CallRow, LaterRow, ReadRow, UnreadRow}
@@ -236,4 +234,5 @@ module _ {S X : Type 0} (meaning : Meaning S ℕ) (making : Making S) (at : X �
       EndedRow (at x).state n (at y).state × Appends x (Record.Ended n) y
   Answers x (Action.Ended n (Err e)) y = (y ≡ x) × EndedRefused (at x) n e
   Answers x (Action.Cut count a) y = ⊥
+  Answers x (Action.Gather a) y = ⊥
   Answers x (Action.Freeze a) y = ⊥

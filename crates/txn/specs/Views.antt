@@ -2,11 +2,13 @@
 use Rattle.std.specs.Prelude.{ℕ}
 use Rattle.machine.specs.Machine.{State}
 use Rattle.blocks.specs.Waits.{Waiting, waiting, freezes}
+use Rattle.gathering.specs.Gatherings.{GatheringState}
 use Rattle.txn.specs.Books.{BookState}
 
 -- a book
-abbrev pub book_of : {S : Type 0} → State S → Waiting → (places next : ℕ) → BookState S
-book_of state w places next = record {
+abbrev pub book_of : {S : Type 0} → State S → Waiting → (places next : ℕ) → GatheringState →
+    BookState S
+book_of state w places next gathering = record {
   state = state;
   pending = waiting w;
   freezes = freezes w;
@@ -14,4 +16,5 @@ book_of state w places next = record {
   place = w.handed.place;
   places = places;
   next = next;
+  gathering = gathering;
 }

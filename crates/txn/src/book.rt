@@ -15,8 +15,9 @@ ghost use Rattle.txn.specs.declared.steps.Action.{Action};
 ghost use Rattle.txn.specs.declared.steps.Target.{Target};
 ghost use Rattle.txn.specs.Rows.{later_record, IsOpen, IsFull, RunRefused, OpenRefused, CanEnter};
 ghost use Rattle.txn.specs.Rows.{EnterRefused, CallRefused, LaterRefused};
-ghost use Rattle.txn.specs.Books.{opened, standing, IsKept, Takes, CutAnswers};
-ghost use Rattle.txn.specs.Freezing.{FreezeAnswers};
+ghost use Rattle.txn.specs.Books.{opened, position, standing, IsKept, Takes, GoesOn, CutAnswers};
+ghost use Rattle.txn.specs.Freezing.{ImageAnswers, IsGatheredOf, BookGathers, FreezeAnswers};
+ghost use Rattle.gathering.specs.Gatherings.{GoesAlong};
 ghost use Rattle.machine.specs.Transactions.{RunsWhole};
 ghost use Rattle.machine.specs.Sound.{IsSound};
 ghost use Rattle.calls.specs.Rules.{need_of};
@@ -26,7 +27,8 @@ use blocks::{Image, Outbox, Pending};
 use calls::limits::{MAX_CALLS, MAX_LIVE, MAX_PENDING, NUMBER_END};
 use calls::{Call, Kind, Name, Refusal, Reply};
 use catalog::Parts;
-use images::image_blocks;
+use gathering::Gathering;
+use images::{Gather, image_blocks};
 use machine::Machine;
 use records::{Coded, LaterRecord, Record, call_len, encoded_len, fits_call, fits_reply};
 use std::alloc::Global;
@@ -52,6 +54,7 @@ pub struct Book<B: Parts + Coded> {
     places: u64,
     // above every number that was entered
     next: u64,
+    gathering: Gathering,
 }
 
 // Written out, so that the crates above call it in place of proving it again.
@@ -63,9 +66,11 @@ impl<B: Parts + Coded + Drop> Drop for Book<B> {
             pending,
             places: _places,
             next: _next,
+            gathering,
         } = self;
         drop(machine);
         drop(pending);
+        drop(gathering);
     }
 }
 
@@ -82,11 +87,11 @@ impl<B: Parts + Coded> Model for Book<B> {
 
     ghost coded = { Prim.hlevel (codes, maps.code {R = nat_cmp} coded_ℕ coded_bool) };
 
-    ghost view = { λ b. book_of b.machine b.pending b.places b.next };
+    ghost view = { λ b. book_of b.machine b.pending b.places b.next b.gathering };
 
     ghost invariant = { λ b. IsKept B.meaning B.making (λ s. AreShort (B.collections s))
         (IsSound B.meaning B.making)
-        (book_of b.machine b.pending b.places b.next) };
+        (book_of b.machine b.pending b.places b.next b.gathering) };
 }
 
 impl<B: Parts + Coded> Book<B> {
@@ -107,6 +112,7 @@ impl<B: Parts + Coded> Book<B> {
             pending: Pending::new(alloc),
             places: 0,
             next,
+            gathering: Gathering::new(alloc),
         }
     }
 
@@ -153,6 +159,7 @@ impl<B: Parts + Coded> Book<B> {
             self.new }
         ensures settled { OnOk result ((c : B) → IsSettled B.meaning self.old.state c →
             (d : B) × B.making.makes c name.now kind d × IsSettled B.meaning self.new.state d) }
+        ensures goes { OnOk result (GoesOn B.meaning B.making B.collections self.old self.new) }
     {
         self.check_backlog()?;
         self.machine.parts().check_new(name)?;
@@ -172,6 +179,7 @@ impl<B: Parts + Coded> Book<B> {
         ensures answer { Takes B.meaning B.making self.old (Action.Enter number result) self.new }
         ensures settled { (c : B) → IsSettled B.meaning self.old.state c →
             IsSettled B.meaning self.new.state c }
+        ensures goes { OnOk result (GoesOn B.meaning B.making B.collections self.old self.new) }
     {
         self.check_enter(number)?;
         self.pending.reserve(MARK_LEN)?;
@@ -194,6 +202,7 @@ impl<B: Parts + Coded> Book<B> {
             (Action.Call number (Target.Number col) call.now result) self.new }
         ensures settled { (c : B) → IsSettled B.meaning self.old.state c →
             IsSettled B.meaning self.new.state c }
+        ensures goes { OnOk result (GoesOn B.meaning B.making B.collections self.old self.new) }
     {
         self.check_call(number, col, call)?;
         let reply = self.machine.parts().look(col, call)?;
@@ -217,6 +226,7 @@ impl<B: Parts + Coded> Book<B> {
             (Action.Later number (Target.Number col) call.now result) self.new }
         ensures settled { (c : B) → IsSettled B.meaning self.old.state c →
             IsSettled B.meaning self.new.state c }
+        ensures goes { OnOk result (GoesOn B.meaning B.making B.collections self.old self.new) }
     {
         self.check_later(number, col, call)?;
         let need = call.need(&Reply::Done);
@@ -239,11 +249,13 @@ impl<B: Parts + Coded> Book<B> {
         ensures settled { OnOk result ((c : B) → IsSettled B.meaning self.old.state c →
             (d : B) × RunsWhole B.meaning B.making c (Whole (own number self.old.state.entries)) d ×
             IsSettled B.meaning self.new.state d) }
+        ensures goes { OnOk result (GoesOn B.meaning B.making B.collections self.old self.new) }
     {
         self.check_running(number)?;
         self.check_backlog()?;
+        let position = self.next_position();
         self.pending.reserve(MARK_LEN)?;
-        self.machine.commit(number);
+        self.gathering.commit(&mut self.machine, number, position)?;
         self.pending.push(Record::Commit(number));
         self.places += 1;
         Ok(self.places)
@@ -258,6 +270,7 @@ impl<B: Parts + Coded> Book<B> {
         ensures answer { Takes B.meaning B.making self.old (Action.Back number result) self.new }
         ensures settled { (c : B) → IsSettled B.meaning self.old.state c →
             IsSettled B.meaning self.new.state c }
+        ensures goes { OnOk result (GoesOn B.meaning B.making B.collections self.old self.new) }
     {
         self.check_live(number)?;
         self.check_backlog()?;
@@ -269,8 +282,9 @@ impl<B: Parts + Coded> Book<B> {
             self.machine.unread(number);
             return Ok(true);
         }
+        let position = self.next_position();
         self.pending.reserve(MARK_LEN)?;
-        self.machine.back(number)?;
+        self.gathering.back(&mut self.machine, number, position)?;
         self.pending.push(Record::Back(number));
         Ok(true)
     }
@@ -283,6 +297,7 @@ impl<B: Parts + Coded> Book<B> {
         ensures answer { Takes B.meaning B.making self.old (Action.Ended number result) self.new }
         ensures settled { (c : B) → IsSettled B.meaning self.old.state c →
             IsSettled B.meaning self.new.state c }
+        ensures goes { OnOk result (GoesOn B.meaning B.making B.collections self.old self.new) }
     {
         self.check_live(number)?;
         if self.machine.has_call(number) {
@@ -319,8 +334,8 @@ impl<B: Parts + Coded> Book<B> {
     /// collection at a time are copied.
     ///
     /// NoMemory, which changes nothing.
-    pub fn freeze(&mut self) -> Result<Image, Refusal>
-        ensures answer { FreezeAnswers B.collections self.old result self.new }
+    pub fn image(&mut self) -> Result<Image, Refusal>
+        ensures answer { ImageAnswers B.collections self.old result self.new }
         ensures settled { (c : B) → IsSettled B.meaning self.old.state c →
             IsSettled B.meaning self.new.state c }
     {
@@ -331,6 +346,57 @@ impl<B: Parts + Coded> Book<B> {
             end: self.pending.position(),
             place: self.places,
         })
+    }
+
+    /// Goes on with a gathering of the book, one collection at a time: copies the next one by
+    /// rising number, if one is left, and hands over the calls that were run on the collections
+    /// since the last copy. Answers whether a collection is not copied yet. What is new begins a
+    /// gathering, which replaces one that is under way. The book is as before but for what it
+    /// notes.
+    ///
+    /// From the first copy on the calls of each step are noted: a call's, the one that takes
+    /// another back, and each that a commit runs. A step with which there are more than 16,384
+    /// gives the gathering up, and goes on.
+    ///
+    /// It takes time and memory in proportion to what the one collection holds.
+    ///
+    /// Outrun where the gathering is not under way: it was given up, replaced or frozen. Worn where
+    /// 2^61 were begun, and another would be. NoMemory. Each changes nothing.
+    pub fn gather(&mut self, gather: &mut Gather<B::Part>) -> Result<bool, Refusal>
+        requires { IsGatheredOf B.collections self.old gather.old }
+        ensures answer { BookGathers B.collections self.old gather.old result self.new gather.new }
+        ensures along { OnOk result (GoesAlong B.collections self.new.gathering self.new.state.now
+            (position self.new) gather.new) }
+    {
+        let position = self.pending.position();
+        self.gathering.gather(&self.machine, position, gather)
+    }
+
+    /// Ends the gathering of the book, all collections of which are copied: hands over the rest of
+    /// the calls, and notes beside them the live transactions with what they asked for, but for
+    /// what a falling one put off. What is gathered holds all of the book then, and is packed by
+    /// itself. It marks the position behind the last record, which the image covers too: no block
+    /// that `cut` hands over from now on holds records from both sides of it. Nothing else is
+    /// changed.
+    ///
+    /// It takes time and memory in proportion to what the live transactions asked for.
+    ///
+    /// Unfinished for what is new. Outrun as `gather` says. Unfinished where a collection is not
+    /// copied. NoMemory. Each changes nothing.
+    pub fn freeze(&mut self, gather: &mut Gather<B::Part>) -> Result<(), Refusal>
+        requires { IsGatheredOf B.collections self.old gather.old }
+        ensures answer { FreezeAnswers B.collections self.old gather.old result self.new
+            gather.new }
+    {
+        self.gathering.check_freeze(&self.machine, gather)?;
+        self.pending.reserve_seal()?;
+        let position = self.pending.position();
+        self.gathering
+            .freeze(&self.machine, self.next, self.places, position, gather)?;
+        let Ok(()) = self.pending.seal() else {
+            unreachable!();
+        };
+        Ok(())
     }
 
     // Makes the call that gets the reply.
@@ -344,6 +410,7 @@ impl<B: Parts + Coded> Book<B> {
             (Action.Call number (Target.Number col) call.now (Err e)) self.new) }
         ensures settled { (c : B) → IsSettled B.meaning self.old.state c →
             IsSettled B.meaning self.new.state c }
+        ensures goes { OnOk result (GoesOn B.meaning B.making B.collections self.old self.new) }
     {
         if self.machine.goes_twice(number, col, call, reply) {
             return Err(Refusal::AlreadyGoing);
@@ -366,6 +433,7 @@ impl<B: Parts + Coded> Book<B> {
         ensures refusal { IsOkUnless result Refusal.NoMemory }
         ensures settled { (c : B) → IsSettled B.meaning self.old.state c →
             IsSettled B.meaning self.new.state c }
+        ensures goes { OnOk result (GoesOn B.meaning B.making B.collections self.old self.new) }
     {
         if call.reads(reply) {
             self.note_read(number, col, call, reply)
@@ -387,6 +455,7 @@ impl<B: Parts + Coded> Book<B> {
         ensures refusal { IsOkUnless result Refusal.NoMemory }
         ensures settled { (c : B) → IsSettled B.meaning self.old.state c →
             IsSettled B.meaning self.new.state c }
+        ensures goes { OnOk result (GoesOn B.meaning B.making B.collections self.old self.new) }
     {
         let asked = logged(at, call, reply)?;
         self.machine.read(number, asked)?;
@@ -407,12 +476,15 @@ impl<B: Parts + Coded> Book<B> {
         ensures refusal { IsOkUnless result Refusal.NoMemory }
         ensures settled { (c : B) → IsSettled B.meaning self.old.state c →
             IsSettled B.meaning self.new.state c }
+        ensures goes { OnOk result (GoesOn B.meaning B.making B.collections self.old self.new) }
     {
         prove!(fits_call(call));
         prove!(fits_reply(reply));
+        let position = self.next_position();
         self.pending.reserve(call_len(call, reply))?;
         let asked = logged(col, call, reply)?;
-        self.machine.call(number, asked)?;
+        self.gathering
+            .call(&mut self.machine, number, asked, position)?;
         self.pending.push_call(number, col, call, reply);
         Ok(())
     }
@@ -427,6 +499,7 @@ impl<B: Parts + Coded> Book<B> {
             (Action.Later number (Target.Number put.at) put.call result) self.new }
         ensures settled { (c : B) → IsSettled B.meaning self.old.state c →
             IsSettled B.meaning self.new.state c }
+        ensures goes { OnOk result (GoesOn B.meaning B.making B.collections self.old self.new) }
     {
         prove!(put.at <= u8::MAX);
         if let Err(refusal) = self.pending.reserve(encoded_len(&entry)) {
@@ -440,6 +513,13 @@ impl<B: Parts + Coded> Book<B> {
         }
         self.pending.push(entry);
         Ok(())
+    }
+
+    // The position behind the next record.
+    fn next_position(&self) -> u64
+        ensures { result ≡ position self.now + 1 }
+    {
+        self.pending.position() + 1
     }
 
     // Whether a record more may wait.

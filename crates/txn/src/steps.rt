@@ -28,7 +28,9 @@ pub enum Action {
     Ended(u64, Result<(), Refusal>),
     /// Hands so many records over. It answers whether there was one.
     Cut(u64, Result<bool, Refusal>),
-    /// Takes an image.
+    /// Copies the next collection for an image. It answers whether one is not copied yet.
+    Gather(Result<bool, Refusal>),
+    /// Marks where an image stands: one that is taken at once, or what was gathered.
     Freeze(Result<(), Refusal>),
 }
 

@@ -346,14 +346,18 @@ fn push_all<'a>(all: &mut Vec<Owned<'a>>, transaction: &'a Transaction) -> Resul
     Ok(())
 }
 
-// Where the number stands in the index, or would stand. Halving.
+// Where the number stands in the index, or would stand. The greatest is looked at first, since the
+// newest transaction makes most calls; then halving.
 fn place_of(index: &[Seat], number: u64) -> Result<usize, usize>
     requires { AreRising index.now }
     ensures found { IfOk result (λ i. (i < length index.now) ×
         HoldsAt (λ seat. seat.number ≡ number) index.now i) }
     ensures absent { IfErr result (IsGapFor number index.now) }
 {
-    index.binary_search_by_key(&number, |seat| seat.number)
+    match index.last() {
+        Some(greatest) if greatest.number == number => Ok(index.len() - 1),
+        _ => index.binary_search_by_key(&number, |seat| seat.number),
+    }
 }
 
 // Puts a number that is not in the index into it. It takes no memory.

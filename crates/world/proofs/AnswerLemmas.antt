@@ -27,7 +27,9 @@ core_answered s waiting mark (Step.Cut, a) t waits step = absurd step
 core_answered s waiting mark (Step.Look, Answer.Marked m) t waits step = tt
 core_answered s waiting mark (Step.Look, a) t waits step = step.0
 core_answered s waiting mark (Step.Turn, a) t waits step = absurd step
+core_answered s waiting mark (Step.Gather, a) t waits step = absurd step
 core_answered s waiting mark (Step.Freeze, a) t waits step = absurd step
+core_answered s waiting mark (Step.Pack, a) t waits step = absurd step
 core_answered s waiting mark (Step.Piece, a) t waits step = absurd step
 core_answered s waiting mark (Step.Flip, a) t waits step = absurd step
 
@@ -35,10 +37,20 @@ pub turn_answered : (r : Result Turn Refusal) → IsAnswerOf Step.Turn (outcome 
 turn_answered (Ok turn) = tt
 turn_answered (Err e) = tt
 
+pub gather_answered : (r : Result Bool Refusal) →
+    IsAnswerOf Step.Gather (outcome Answer.Gathered r)
+gather_answered (Ok more) = tt
+gather_answered (Err e) = tt
+
 pub freeze_answered : (r : Result (Unit {0}) Refusal) →
     IsAnswerOf Step.Freeze (outcome (alone Answer.Frozen) r)
 freeze_answered (Ok done) = tt
 freeze_answered (Err e) = tt
+
+pub pack_answered : (r : Result (Unit {0}) Refusal) →
+    IsAnswerOf Step.Pack (outcome (alone Answer.Packed) r)
+pack_answered (Ok done) = tt
+pack_answered (Err e) = tt
 
 pub piece_answered : (r : Result Bool Refusal) → IsAnswerOf Step.Piece (outcome Answer.Laid r)
 piece_answered (Ok more) = tt

@@ -1,5 +1,5 @@
 -- The past of a world begins with the store that was opened.
-use Rattle.std.proofs.Common.{◌≡◌, ℕ, List, [], ◌∷◌, ◌++◌, None, length}
+use Rattle.std.proofs.Common.{◌≡◌, ℕ, List, [], ◌∷◌, ◌++◌, None, Some, length}
 use Rattle.std.proofs.Common.{take, refl, sym, ◌∙◌, ap, subst, arith}
 use Rattle.std.specs.Prelude.{Contains}
 use Rattle.std.specs.List.{AllByRecursion}
@@ -11,6 +11,8 @@ use Rattle.gate_block.specs.declared.area.Area.{Area}
 use Rattle.record_format.specs.declared.record.Record.{Record}
 use Rattle.record_format.specs.Records.{IsRecord, AreRecords}
 use Rattle.blocks.specs.declared.block.Block.{Block}
+use Rattle.blocks.specs.declared.block.Image.{Image}
+use Rattle.images.specs.Gathers.{GatherState, Packs}
 use Rattle.machine.specs.Machines.{resting}
 use Rattle.txn.specs.Books.{opened}
 use Rattle.machine.specs.Sound.{IsSound}
@@ -35,7 +37,7 @@ use Rattle.repetition.proofs.RepeatLemmas.{records_append, read_records}
 use Rattle.repetition.proofs.Parts.{journal_reads}
 use Rattle.repetition.proofs.Contents.{sound_behind}
 use Rattle.world.specs.Pasts.{BookState}
-use Rattle.world.specs.Worlds.{HasPast, parts_of}
+use Rattle.world.specs.Worlds.{HasPast, none_gathered, parts_of}
 use Rattle.txn.proofs.Handings.{opens}
 use Rattle.catalog.specs.Meaning.{catalog_meaning, catalog_making}
 
@@ -139,24 +141,32 @@ module _ {D : Type 0} (seen : D → List ℕ) (may_leave : D → List ℕ → Ty
     };
   }
 
+-- nothing is packed of what is not frozen
+pub none_packed : (g : GatherState) (image : Image) (A : Type 0) → g.frozen ≡ None →
+    Packs g image → A
+none_packed g image A none packs =
+    let frozen : None ≡ Some packs.frozen = sym none ∙ packs.is_frozen in absurd cc
+
 pub past_begins : {D : Type 0} (seen : D → List ℕ) (may_leave : D → List ℕ → Type 0)
     (bytes : List ℕ) (book : BookState) (keeper : KeeperState D) (transit : List Block) →
     IsFresh keeper → transit ≡ [] →
     IsOpened bytes book keeper.area (seen keeper.disk) →
     IsReadyStore seen may_leave bytes book keeper.area keeper.disk →
-    HasPast seen may_leave book.state.now [] (parts_of book keeper transit 0)
+    HasPast seen may_leave book.state.now [] (parts_of book none_gathered keeper transit 0)
 past_begins seen may_leave bytes book keeper transit fresh none told ready =
     let now = told.undone.now in
     let wear = told.undone.wear in
     let first : BookState = opened now told.next wear in
     subst (λ (b : BookState). HasPast seen may_leave b.state.now []
-    (parts_of b keeper transit 0)) (sym told.book_is)
-    (subst (λ q. HasPast seen may_leave now [] (parts_of first keeper q 0)) (sym none) (record {
+    (parts_of b none_gathered keeper transit 0)) (sym told.book_is)
+    (subst (λ q. HasPast seen may_leave now [] (parts_of first none_gathered keeper q 0)) (sym none)
+    (record {
       wear = wear;
       steps = [];
       are = refl;
       received = [];
       groups = [];
+      freezes = [];
       images = [];
       handed = opens catalog_meaning catalog_making (λ v. v) now wear told.next;
       begun = [];
@@ -164,6 +174,7 @@ past_begins seen may_leave bytes book keeper transit fresh none told ready =
       keeps = received_starts seen may_leave now wear (told.blocks ++ told.written) keeper
           (are_read seen may_leave bytes book keeper.disk keeper.area told ready) fresh
           (in_use seen may_leave bytes book keeper.disk keeper.area told ready);
+      packs = λ image packs. none_packed none_gathered image _ refl packs;
       marked = sym fresh.unmarked;
       told = omega arith;
     }))

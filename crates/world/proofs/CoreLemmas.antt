@@ -108,11 +108,11 @@ module _ {D : Type 0} (g : Ghosts D) (w : Whole D)
   draw_taken r next drawn =
       let own = draw_row w.book r in
       core_taken (Step.Draw, outcome Answer.Drawn r) w.book w.transit next tt (own, refl, refl)
-      drawn ((own, refl, refl), drawn, refl, refl)
+      drawn ((own, refl, refl), drawn, refl, refl, refl)
 
   pub look_taken : TakesStep g w (Step.Look, Answer.Marked w.mark) w
   look_taken = core_taken (Step.Look, Answer.Marked w.mark) w.book w.transit w.next tt
-      (refl, refl, refl) refl ((refl, refl, refl), refl, refl, refl)
+      (refl, refl, refl) refl ((refl, refl, refl), refl, refl, refl, refl)
 
   pub cut_taken : (r : Result Bool Refusal) (t : BookState) (waits : List Block) →
       books.CutAnswers w.book (λ bs. waits ≡ w.transit ++ bs) (4 ≤ length w.transit) r t →
@@ -120,7 +120,7 @@ module _ {D : Type 0} (g : Ghosts D) (w : Whole D)
   cut_taken r t waits row =
       let core = cut_row w.book w.transit w.mark r t waits row in
       core_taken (Step.Cut, outcome Answer.Cut r) t waits w.next tt core refl
-      (core, refl, refl, refl)
+      (core, refl, refl, refl, refl)
 
   module _ (t : BookState) (good : AllByRecursion (IsRecord None) t.pending) where
     pub make_taken : (name : List ℕ) (kind : Kind) (r : Result ℕ Refusal) →
@@ -129,14 +129,14 @@ module _ {D : Type 0} (g : Ghosts D) (w : Whole D)
     make_taken name kind r made =
         let row = make_row w.book t name kind r made in
         core_taken (Step.Make name kind, outcome Answer.Placed r) t w.transit w.next good
-        (row.0, row.1, refl) refl ((row.0, row.1, refl), refl, refl, refl)
+        (row.0, row.1, refl) refl ((row.0, row.1, refl), refl, refl, refl, refl)
 
     pub enter_taken : (n : ℕ) (r : Result (Unit {0}) Refusal) → Takes w.book (Action.Enter n r) t →
         TakesStep g w (Step.Enter n, outcome (alone Answer.Entered) r) (record w { book = t })
     enter_taken n r entered =
         let row = enter_row w.book t n r entered in
         core_taken (Step.Enter n, outcome (alone Answer.Entered) r) t w.transit w.next good
-        (row.0, row.1, refl) refl ((row.0, row.1, refl), refl, refl, refl)
+        (row.0, row.1, refl) refl ((row.0, row.1, refl), refl, refl, refl, refl)
 
     pub call_taken : (n at : ℕ) (call : Call) (r : Result Reply Refusal) →
         Takes w.book (Action.Call n (Target.Number at) call r) t →
@@ -144,7 +144,7 @@ module _ {D : Type 0} (g : Ghosts D) (w : Whole D)
     call_taken n at call r called =
         let row = call_row w.book t n at call r called in
         core_taken (Step.Call n at call, outcome Answer.Replied r) t w.transit w.next good
-        (row.0, row.1, refl) refl ((row.0, row.1, refl), refl, refl, refl)
+        (row.0, row.1, refl) refl ((row.0, row.1, refl), refl, refl, refl, refl)
 
     pub later_taken : (n at : ℕ) (call : Call) (r : Result (Unit {0}) Refusal) →
         Takes w.book (Action.Later n (Target.Number at) call r) t →
@@ -153,7 +153,7 @@ module _ {D : Type 0} (g : Ghosts D) (w : Whole D)
     later_taken n at call r put_off =
         let row = later_row w.book t n at call r put_off in
         core_taken (Step.Later n at call, outcome (alone Answer.PutOff) r) t w.transit w.next good
-        (row.0, row.1, refl) refl ((row.0, row.1, refl), refl, refl, refl)
+        (row.0, row.1, refl) refl ((row.0, row.1, refl), refl, refl, refl, refl)
 
     pub commit_taken : (n : ℕ) (r : Result ℕ Refusal) →
         Takes w.book (Action.Commit n r) t →
@@ -162,7 +162,7 @@ module _ {D : Type 0} (g : Ghosts D) (w : Whole D)
         let row = commit_row w.book t n r committed in
         core_taken (Step.Commit n, outcome Answer.Placed r) t w.transit w.next good
         (row.0, row.1, refl) refl
-        ((row.0, row.1, refl), refl, refl, refl)
+        ((row.0, row.1, refl), refl, refl, refl, refl)
 
     pub back_taken : (n : ℕ) (r : Result Bool Refusal) →
         Takes w.book (Action.Back n r) t →
@@ -171,11 +171,11 @@ module _ {D : Type 0} (g : Ghosts D) (w : Whole D)
         let row = back_row w.book t n r undone in
         core_taken (Step.Back n, outcome Answer.Backed r) t w.transit w.next good
         (row.0, row.1, refl) refl
-        ((row.0, row.1, refl), refl, refl, refl)
+        ((row.0, row.1, refl), refl, refl, refl, refl)
 
     pub ended_taken : (n : ℕ) (r : Result (Unit {0}) Refusal) → Takes w.book (Action.Ended n r) t →
         TakesStep g w (Step.Ended n, outcome (alone Answer.Ended) r) (record w { book = t })
     ended_taken n r ended =
         let row = ended_row w.book t n r ended in
         core_taken (Step.Ended n, outcome (alone Answer.Ended) r) t w.transit w.next good
-        (row.0, row.1, refl) refl ((row.0, row.1, refl), refl, refl, refl)
+        (row.0, row.1, refl) refl ((row.0, row.1, refl), refl, refl, refl, refl)

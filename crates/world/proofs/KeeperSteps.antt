@@ -16,14 +16,14 @@ use Rattle.blocks.specs.declared.block.Image.{Image}
 use Rattle.blocks.specs.Carried.{Carries}
 use Rattle.machine.specs.Machine.{journalled}
 use Rattle.repetition.specs.Journals.{records_in}
-use Rattle.txn.specs.Handing.{IsBetween, HasHanded}
+use Rattle.txn.specs.Handing.{IsBetween, HasHanded, image_ends}
 use Rattle.txn.specs.Histories.{records_by}
 use Rattle.checkpoint.specs.declared.turn.Turn.{Turn}
 use Rattle.checkpoint.specs.Crash.{Yields}
 use Rattle.checkpoint.specs.ImageAnswers.{PieceAnswers, FlipAnswers}
 use Rattle.checkpoint.specs.Keepers.{KeeperState, IsBrought, TurnAnswers}
 use Rattle.checkpoint.specs.Keeping.{BegunImage, AreImagesFor, IsApart, Uncrossed, TurnKeeps}
-use Rattle.checkpoint.specs.Keeping.{ImageKeeps}
+use Rattle.checkpoint.specs.Keeping.{ImageKeeps, ends_of}
 use Rattle.blocks.proofs.Carrying.{joined-append, carries_parts}
 use Rattle.checkpoint.proofs.GroupLemmas.{apart_append, apart_before, apart_behind}
 use Rattle.checkpoint.proofs.GroupLemmas.{uncrossed_front}
@@ -141,16 +141,25 @@ apart_between groups book position end (inr behind) =
 -- where the ends of images stand between blocks, no block of these crosses one
 pub uncrossed : (groups : List (List Record)) (book : BookState) →
     book.end ≡ length (records_in groups) → (images : List Image) (begun : List BegunImage) →
-    AreImagesFor images begun → AllByRecursion (λ image. IsBetween groups book image.end) images →
-    Uncrossed begun groups
-uncrossed groups book end [] [] for between =
-    All-nil (λ (i : BegunImage). IsApart 0 groups (length i.covered))
+    AreImagesFor images begun → AllByRecursion (IsBetween groups book) (image_ends images) →
+    Uncrossed (ends_of begun) groups
+uncrossed groups book end [] [] for between = All-nil (λ p. IsApart 0 groups p)
 uncrossed groups book end [] (b ∷ begun) for between = absurd for
 uncrossed groups book end (image ∷ images) [] for between = absurd for
 uncrossed groups book end (image ∷ images) (b ∷ begun) for between =
-    All-cons (λ (i : BegunImage). IsApart 0 groups (length i.covered)) b begun
+    All-cons (λ p. IsApart 0 groups p) (length b.covered) (ends_of begun)
     (subst (IsApart 0 groups) for.0.end (apart_between groups book image.end end between.0))
     (uncrossed groups book end images begun for.1 between.1)
+
+-- where these positions stand between blocks, no block of these crosses one
+pub none_crossed : (groups : List (List Record)) (book : BookState) →
+    book.end ≡ length (records_in groups) → (freezes : List ℕ) →
+    AllByRecursion (λ position. IsBetween groups book position) freezes → Uncrossed freezes groups
+none_crossed groups book end [] between = All-nil (λ p. IsApart 0 groups p)
+none_crossed groups book end (position ∷ freezes) between =
+    All-cons (λ p. IsApart 0 groups p) position freezes
+    (apart_between groups book position end between.0)
+    (none_crossed groups book end freezes between.1)
 
 -- ---- and so the past goes on
 
@@ -182,11 +191,11 @@ module _ {D : Type 0} (g : Ghosts D) (start : List Collection) (past : Past) (w 
             ap (λ l. l ++ w.book.pending)
             (sym (ap records_in parts.2 ∙ joined-append first more)) ∙ sym had.handed.records,
       ) in
-      let on = turns start had.wear (records_by had.steps) (journalled w.book.state) had.begun
-      had.received bs first received parts.3 begins
-      (uncrossed_front had.begun first more (subst (Uncrossed had.begun) parts.2
-      (uncrossed had.groups w.book had.handed.end had.images had.begun had.are_begun
-      had.handed.between))) had.keeps in
+      let on = turns start had.wear (records_by had.steps) (journalled w.book.state)
+      had.freezes had.begun had.received bs first received parts.3 begins
+      (uncrossed_front had.freezes first more
+      (subst (Uncrossed had.freezes) parts.2
+      (none_crossed had.groups w.book had.handed.end had.freezes had.handed.between))) had.keeps in
       let told = turn_told w.mark r in (
         record {
           wear = had.wear;
@@ -194,12 +203,14 @@ module _ {D : Type 0} (g : Ghosts D) (start : List Collection) (past : Past) (w 
           are = are_still past x had.steps had.are refl;
           received = had.received ++ bs;
           groups = had.groups;
+          freezes = had.freezes;
           images = had.images;
           handed = subst (λ l. HasHanded catalog_meaning catalog_making (λ v. v) start had.wear
-              had.steps w.book l had.groups had.images) all had.handed;
+              had.steps w.book l had.groups had.freezes had.images) all had.handed;
           begun = had.begun;
           are_begun = had.are_begun;
           keeps = on.0;
+          packs = had.packs;
           marked = same;
           told = greatest_told-push past Step.Turn (outcome Answer.Turned r) mark
               (omega (arith, had.told, rises)) (omega (arith, told, behind));
@@ -213,19 +224,21 @@ module _ {D : Type 0} (g : Ghosts D) (start : List Collection) (past : Past) (w 
       HasPast g.seen g.may_leave start (past ++ x ∷ []) (record w { keeper = l; mark = mark })
       × Yielded x l
   imaged x l mark none images same rises tells =
-      let on = images start had.wear (records_by had.steps) (journalled w.book.state) had.begun
-      had.received had.keeps in (
+      let on = images start had.wear (records_by had.steps) (journalled w.book.state)
+      had.freezes had.begun had.received had.keeps in (
         record {
           wear = had.wear;
           steps = had.steps;
           are = are_still past x had.steps had.are none;
           received = had.received;
           groups = had.groups;
+          freezes = had.freezes;
           images = had.images;
           handed = had.handed;
           begun = had.begun;
           are_begun = had.are_begun;
           keeps = on.0;
+          packs = had.packs;
           marked = same;
           told = greatest_told-push past x.0 x.1 mark (omega (arith, had.told, rises)) tells;
         },

@@ -12,4 +12,7 @@ mod ImageCalls
 mod ImageNames
 mod ImageReading
 pub mod FreezeLemmas
+mod GatherLemmas
+mod GatherSteps
+mod OfBook
 pub mod Begins

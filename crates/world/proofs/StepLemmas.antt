@@ -13,6 +13,7 @@ use Rattle.disk_model.proofs.Walk.{weaker}
 use Rattle.record_format.specs.declared.record.Record.{Record}
 use Rattle.record_format.specs.Records.{IsRecord}
 use Rattle.blocks.specs.declared.block.Block.{Block}
+use Rattle.blocks.specs.declared.block.Image.{Image}
 use Rattle.machine.specs.Machine.{journalled}
 use Rattle.repetition.specs.Steps.{State, Repeats}
 use Rattle.txn.specs.declared.steps.Action.{Action}
@@ -21,39 +22,83 @@ use Rattle.txn.specs.Books as books
 use Rattle.txn.specs.Histories.{records_by, without_count}
 use Rattle.txn.specs.Handing.{HasHanded}
 use Rattle.txn.proofs.Handings.{records_by-push, records_then, taken_left, takes_on, cuts_on}
+use Rattle.txn.proofs.Handings.{images_more}
 use Rattle.checkpoint.specs.Crash.{Yields, committed_of}
 use Rattle.checkpoint.specs.Keepers.{KeeperState}
 use Rattle.checkpoint.specs.Keeping.{BegunImage, HasReceived}
+use Rattle.checkpoint.specs.Stored.{StandIn}
+use Rattle.checkpoint.proofs.StandLemmas.{stands_push, stands_unheard}
 use Rattle.checkpoint.proofs.ReceivedLemmas.{received_push, received_unheard, still_kept, mark_few}
 use Rattle.world.specs.declared.steps.Step.{Step}
 use Rattle.world.specs.declared.steps.Answer.{Answer}
 use Rattle.world.specs.Pasts.{Past, BookState, action_of, of_no_client, committed_in, told, outcome}
 use Rattle.world.specs.Pasts.{BookTakes, CoreStep}
-use Rattle.world.specs.Worlds.{Parts, HasPast}
+use Rattle.world.specs.Worlds.{Parts, HasPast, StandsForBook}
 use Rattle.world.proofs.PastLemmas.{are_push, are_still, committed_are}
 use Rattle.world.proofs.PastLemmas.{greatest_told-push, yields_on}
 use Rattle.world.proofs.Readings.{as_many_committed, history_yields}
 use Rattle.catalog.specs.Meaning.{catalog_meaning, catalog_making}
 
--- The records of a book grow.
+-- ---- the records of a book grow
+
 received_leads : {D : Type 0} (seen : D → List ℕ) (may_leave : D → List ℕ → Type 0)
-    (start : List Collection) (wear : ℕ) (records : List Record) (now : State)
+    (start : List Collection) (wear : ℕ) (records : List Record) (now : State) (freezes : List ℕ)
     (images : List BegunImage) (received : List Block) (k : KeeperState D) →
-    HasReceived seen may_leave start wear records now images received k → (rs : List Record)
-    (next : State) → AllByRecursion (IsRecord None) rs → Repeats rs now next →
-    HasReceived seen may_leave start wear (records ++ rs) next images received k
-received_leads seen may_leave start wear records now images received k had [] next good leads =
-    subst (λ l. HasReceived seen may_leave start wear l next images received k)
-    (sym (append-nil records))
-    (subst (λ s. HasReceived seen may_leave start wear records s images received k) leads had)
-received_leads seen may_leave start wear records now images received k had (r ∷ rs) next good
+    HasReceived seen may_leave start wear records now freezes images received k →
+    (rs : List Record) (next : State) → AllByRecursion (IsRecord None) rs → Repeats rs now next →
+    HasReceived seen may_leave start wear (records ++ rs) next freezes images received k
+received_leads seen may_leave start wear records now freezes images received k had [] next good
     leads =
-    let one = received_push seen may_leave start wear records now images received k had r leads.0
-    leads.1 good.0 in
-    subst (λ l. HasReceived seen may_leave start wear l next images received k)
+    subst (λ l. HasReceived seen may_leave start wear l next freezes images received k)
+    (sym (append-nil records))
+    (subst (λ s. HasReceived seen may_leave start wear records s freezes images received k) leads
+    had)
+received_leads seen may_leave start wear records now freezes images received k had (r ∷ rs) next
+    good leads =
+    let one = received_push seen may_leave start wear records now freezes images received k had r
+    leads.0 leads.1 good.0 in
+    subst (λ l. HasReceived seen may_leave start wear l next freezes images received k)
     (append_assoc records (r ∷ []) rs)
-    (received_leads seen may_leave start wear (records ++ r ∷ []) leads.0 images received k one rs
-    next good.1 leads.2)
+    (received_leads seen may_leave start wear (records ++ r ∷ []) leads.0 freezes images received k
+    one rs next good.1 leads.2)
+
+-- What stands for a beginning of them still does.
+stands_leads : (start : List Collection) (wear : ℕ) (records : List Record) (now : State)
+    (blocks : List (List Record)) (covered : List Record) →
+    StandIn start wear records now blocks covered → (rs : List Record) (next : State) →
+    Repeats rs now next → StandIn start wear (records ++ rs) next blocks covered
+stands_leads start wear records now blocks covered stands [] next leads =
+    subst (λ l. StandIn start wear l next blocks covered) (sym (append-nil records))
+    (subst (λ s. StandIn start wear records s blocks covered) leads stands)
+stands_leads start wear records now blocks covered stands (r ∷ rs) next leads =
+    let one = stands_push start wear records now blocks covered r leads.0 leads.1 stands in
+    subst (λ l. StandIn start wear l next blocks covered) (append_assoc records (r ∷ []) rs)
+    (stands_leads start wear (records ++ r ∷ []) leads.0 blocks covered one.0 rs next leads.2)
+
+-- An image stands for a book with a step more, where its blocks do.
+pub stands_on : (start : List Collection) (wear : ℕ) (steps : List BookStep) (x : BookStep)
+    (now next : State) (image : Image) → StandsForBook start wear steps now image →
+    ((blocks : List (List Record)) (covered : List Record) →
+    StandIn start wear (records_by steps) now blocks covered →
+    StandIn start wear (records_by (steps ++ x ∷ [])) next blocks covered) →
+    StandsForBook start wear (steps ++ x ∷ []) next image
+stands_on start wear steps x now next image stands goes = record {
+  is_in =
+      images_more catalog_meaning catalog_making (λ v. v) start wear steps x image stands.is_in;
+  begun = stands.begun;
+  is_for = stands.is_for;
+  stands = goes stands.begun.blocks stands.begun.covered stands.stands;
+}
+
+-- It stands for it where the step adds no record, and leaves the state.
+pub stands_still : (start : List Collection) (wear : ℕ) (steps : List BookStep) (x : BookStep)
+    (now next : State) (image : Image) → records_by (steps ++ x ∷ []) ≡ records_by steps →
+    next ≡ now → StandsForBook start wear steps now image →
+    StandsForBook start wear (steps ++ x ∷ []) next image
+stands_still start wear steps x now next image all same stands =
+    stands_on start wear steps x now next image stands
+    (λ blocks covered stood. subst (λ l. StandIn start wear l next blocks covered) (sym all)
+    (subst (λ s. StandIn start wear (records_by steps) s blocks covered) (sym same) stood))
 
 -- The pending records behind a step are good; nothing is asked of them behind one that adds none.
 abbrev pub AreGoodBehind : Step → BookState → Type 0
@@ -77,6 +122,7 @@ uncut b (Action.Later n target call a) t took = refl
 uncut b (Action.Commit n a) t took = refl
 uncut b (Action.Back n a) t took = refl
 uncut b (Action.Ended n a) t took = refl
+uncut b (Action.Gather a) t took = absurd took
 uncut b (Action.Freeze a) t took = absurd took
 
 cut_action : (a : Result Bool Refusal) →
@@ -90,7 +136,7 @@ module _ {D : Type 0} (seen : D → List ℕ) (may_leave : D → List ℕ → Ty
   -- the mark counts transactions that the records commit
   few_kept : w.keeper.mark ≤ length (committed_of (records_by had.steps))
   few_kept = mark_few seen may_leave start had.wear (records_by had.steps) (journalled w.book.state)
-      had.begun had.received w.keeper had.keeps
+      had.freezes had.begun had.received w.keeper had.keeps
 
   -- What is yielded of what the records commit is yielded of what the past did.
   yields_now : (c : List ℕ) → Yields start (committed_of (records_by had.steps))
@@ -137,7 +183,7 @@ module _ {D : Type 0} (seen : D → List ℕ) (may_leave : D → List ℕ → Ty
       (take w.keeper.mark (committed_of (records_by had.steps))))
       (Yields start (committed_in past) (take w.mark (committed_in past)))
       (still_kept seen may_leave start had.wear (records_by had.steps) (journalled w.book.state)
-      had.begun had.received w.keeper had.keeps moment left_since only_now) yields_now
+      had.freezes had.begun had.received w.keeper had.keeps moment left_since only_now) yields_now
 
   -- and what it yields that goes on
   pub quiet : (moment : D → ℕ) (left_since : D → ℕ → List ℕ → Type 0) →
@@ -148,7 +194,7 @@ module _ {D : Type 0} (seen : D → List ℕ) (may_leave : D → List ℕ → Ty
   quiet moment left_since only_now x =
       moments_then moment left_since w.keeper.disk x
       (still_kept seen may_leave start had.wear (records_by had.steps) (journalled w.book.state)
-      had.begun had.received w.keeper had.keeps moment left_since only_now)
+      had.freezes had.begun had.received w.keeper had.keeps moment left_since only_now)
 
   -- the mark counts transactions that are committed
   pub few_marked : w.mark ≤ length (committed_in past)
@@ -169,11 +215,13 @@ module _ {D : Type 0} (seen : D → List ℕ) (may_leave : D → List ℕ → Ty
     are = are_still past x had.steps had.are none;
     received = had.received;
     groups = had.groups;
+    freezes = had.freezes;
     images = had.images;
     handed = had.handed;
     begun = had.begun;
     are_begun = had.are_begun;
     keeps = had.keeps;
+    packs = had.packs;
     marked = had.marked;
     told = greatest_told-push past x.0 x.1 w.mark had.told tells;
   }
@@ -189,24 +237,42 @@ module _ {D : Type 0} (seen : D → List ℕ) (may_leave : D → List ℕ → Ty
       let rs = records_then had.steps action in
       let left = taken_left catalog_meaning catalog_making (λ v. v) start had.wear had.steps w.book
       t
-      (had.received ++ w.transit) had.groups had.images had.handed None action took in
+      (had.received ++ w.transit) had.groups had.freezes had.images had.handed None action took in
       let more : AllByRecursion (IsRecord None) rs = each_back (IsRecord None) w.book.pending rs
       (subst (AllByRecursion (IsRecord None)) left.pending good) in
       let keeps : HasReceived seen may_leave start had.wear (records_by had.steps ++ rs)
-      (journalled t.state) had.begun had.received w.keeper =
+      (journalled t.state) had.freezes had.begun had.received w.keeper =
       ⊎_elim
       (λ (leads : Repeats rs (journalled w.book.state) (journalled t.state)).
       received_leads seen may_leave start had.wear (records_by had.steps)
-      (journalled w.book.state) had.begun had.received w.keeper had.keeps rs
+      (journalled w.book.state) had.freezes had.begun had.received w.keeper had.keeps rs
       (journalled t.state) more leads)
       (λ unheard. subst (λ l. HasReceived seen may_leave start had.wear l (journalled t.state)
-      had.begun had.received w.keeper)
+      had.freezes had.begun had.received w.keeper)
       (sym (append-nil (records_by had.steps)) ∙
       ap (λ l. records_by had.steps ++ l) (sym unheard.0))
       (received_unheard seen may_leave start had.wear (records_by had.steps)
-      (journalled w.book.state) had.begun had.received w.keeper had.keeps (journalled t.state)
-      unheard.1))
+      (journalled w.book.state) had.freezes had.begun had.received w.keeper had.keeps
+      (journalled t.state) unheard.1))
       left.leads in
+      let all : records_by had.steps ++ rs ≡ records_by (had.steps ++ step ∷ []) =
+      sym (records_by-push had.steps step) in
+      let goes : (blocks : List (List Record)) (covered : List Record) →
+      StandIn start had.wear (records_by had.steps) (journalled w.book.state) blocks covered →
+      StandIn start had.wear (records_by (had.steps ++ step ∷ [])) (journalled t.state) blocks
+      covered =
+      λ blocks covered stands. subst (λ l. StandIn start had.wear l (journalled t.state) blocks
+      covered) all
+      (⊎_elim
+      (λ (leads : Repeats rs (journalled w.book.state) (journalled t.state)).
+      stands_leads start had.wear (records_by had.steps) (journalled w.book.state) blocks covered
+      stands rs (journalled t.state) leads)
+      (λ unheard. subst (λ l. StandIn start had.wear l (journalled t.state) blocks covered)
+      (sym (append-nil (records_by had.steps)) ∙
+      ap (λ l. records_by had.steps ++ l) (sym unheard.0))
+      (stands_unheard start had.wear (records_by had.steps) (journalled w.book.state) blocks covered
+      (journalled t.state) unheard.1 stands).0)
+      left.leads) in
       record {
         wear = had.wear;
         steps = had.steps ++ step ∷ [];
@@ -214,13 +280,17 @@ module _ {D : Type 0} (seen : D → List ℕ) (may_leave : D → List ℕ → Ty
             (ap (λ v. alone_step v ∷ []) (uncut w.book action t took) ∙ ap of_no_client (sym is));
         received = had.received;
         groups = had.groups;
+        freezes = had.freezes;
         images = had.images;
         handed = takes_on catalog_meaning catalog_making (λ v. v) start had.wear had.steps w.book t
-            (had.received ++ w.transit) had.groups had.images had.handed None action took good;
+            (had.received ++ w.transit) had.groups had.freezes had.images had.handed None action
+            took good;
         begun = had.begun;
         are_begun = had.are_begun;
         keeps = subst (λ l. HasReceived seen may_leave start had.wear l (journalled t.state)
-            had.begun had.received w.keeper) (sym (records_by-push had.steps step)) keeps;
+            had.freezes had.begun had.received w.keeper) all keeps;
+        packs = λ image packed. stands_on start had.wear had.steps step (journalled w.book.state)
+            (journalled t.state) image (had.packs image packed) goes;
         marked = had.marked;
         told = greatest_told-push past x.0 x.1 w.mark had.told tells;
       }
@@ -232,11 +302,13 @@ module _ {D : Type 0} (seen : D → List ℕ) (may_leave : D → List ℕ → Ty
       (record w { book = t; transit = waits })
   cuts a t waits cut =
       let on = cuts_on catalog_meaning catalog_making (λ v. v) start had.wear had.steps w.book t
-      (had.received ++ w.transit) had.groups had.images had.handed None
+      (had.received ++ w.transit) had.groups had.freezes had.images had.handed None
       (λ bs. waits ≡ w.transit ++ bs) (4 ≤ length w.transit) a cut in
       let step = alone_step (Action.Cut on.0 a) in
       let all : records_by (had.steps ++ step ∷ []) ≡ records_by had.steps =
       records_by-push had.steps step ∙ append-nil (records_by had.steps) in
+      let same : journalled t.state ≡ journalled w.book.state =
+      ap (λ (x : BookState). journalled x.state) cut.1 in
       record {
         wear = had.wear;
         steps = had.steps ++ step ∷ [];
@@ -244,18 +316,20 @@ module _ {D : Type 0} (seen : D → List ℕ) (may_leave : D → List ℕ → Ty
             (ap of_no_client (sym (cut_action a)));
         received = had.received;
         groups = had.groups ++ on.2;
+        freezes = had.freezes;
         images = had.images;
         handed = subst (λ l. HasHanded catalog_meaning catalog_making (λ v. v) start had.wear
-            (had.steps ++ step ∷ []) t l (had.groups ++ on.2) had.images)
+            (had.steps ++ step ∷ []) t l (had.groups ++ on.2) had.freezes had.images)
             (append_assoc had.received w.transit on.1 ∙ ap (λ l. had.received ++ l) (sym on.3))
             on.4;
         begun = had.begun;
         are_begun = had.are_begun;
         keeps = subst (λ l. HasReceived seen may_leave start had.wear l (journalled t.state)
-            had.begun had.received w.keeper) (sym all)
+            had.freezes had.begun had.received w.keeper) (sym all)
             (subst (λ s. HasReceived seen may_leave start had.wear (records_by had.steps) s
-            had.begun had.received w.keeper)
-            (sym (ap (λ (x : BookState). journalled x.state) cut.1)) had.keeps);
+            had.freezes had.begun had.received w.keeper) (sym same) had.keeps);
+        packs = λ image packed. stands_still start had.wear had.steps step
+            (journalled w.book.state) (journalled t.state) image all same (had.packs image packed);
         marked = had.marked;
         told = greatest_told-push past Step.Cut (outcome Answer.Cut a) w.mark had.told
             (omega arith);
@@ -306,6 +380,8 @@ module _ {D : Type 0} (seen : D → List ℕ) (may_leave : D → List ℕ → Ty
   core_past (Step.Look, a) t waits good step =
       rw (step.1, step.2) (passes (Step.Look, a) refl (omega arith))
   core_past (Step.Turn, a) t waits good step = absurd step
+  core_past (Step.Gather, a) t waits good step = absurd step
   core_past (Step.Freeze, a) t waits good step = absurd step
+  core_past (Step.Pack, a) t waits good step = absurd step
   core_past (Step.Piece, a) t waits good step = absurd step
   core_past (Step.Flip, a) t waits good step = absurd step

@@ -1,36 +1,48 @@
 -- One step of a world, with its answer: what the book, the keeper and the mark answer, and what
 -- they leave.
-use Rattle.std.specs.Prelude.{◌≡◌, ◌⊎◌, ℕ, ◌+◌, ◌<◌, ◌≤◌, Bool, List, [], ◌++◌, length, Result}
-use Rattle.std.specs.Prelude.{Ok, Err}
+use Rattle.std.specs.Prelude.{◌≡◌, ◌≢◌, ◌⊎◌, ℕ, ◌+◌, ◌<◌, ◌≤◌, Bool, List, [], ◌++◌, length}
+use Rattle.std.specs.Prelude.{Result, Ok, Err, Option, Some, None}
 use Rattle.calls.specs.declared.refusal.Refusal.{Refusal}
 use Rattle.disk_model.specs.Disk.{Rises}
 use Rattle.gate_block.specs.Area.{size_of, position_of}
 use Rattle.blocks.specs.declared.block.Block.{Block}
 use Rattle.blocks.specs.declared.block.Image.{Image}
-use Rattle.txn.specs.Freezing.{FreezeAnswers}
+use Rattle.images.specs.Gathers.{FrozenState, GatherState, Repeats, Packs}
+use Rattle.txn.specs.Freezing.{BookGathers, FreezeAnswers}
 use Rattle.checkpoint.specs.Imaging.{HasPiece}
-use Rattle.checkpoint.specs.ImageAnswers.{BeginAnswers, PieceAnswers, FlipAnswers}
+use Rattle.checkpoint.specs.ImageAnswers.{HoldAnswers, BeginAnswers, PieceAnswers}
+use Rattle.checkpoint.specs.ImageAnswers.{FlipAnswers}
 use Rattle.checkpoint.specs.declared.turn.Turn.{Turn}
 use Rattle.checkpoint.specs.Keepers.{KeeperState, IsPast, TurnAnswers}
 use Rattle.world.specs.declared.steps.Step.{Step}
 use Rattle.world.specs.declared.steps.Answer.{Answer}
 use Rattle.world.specs.Pasts.{BookState, CoreStep, Draws, outcome, mark_behind, alone, mark_flipped}
+use Rattle.world.specs.Worlds.{none_gathered}
 
--- All that a world is: its book, its keeper, the blocks in transit, the mark and the next number.
+-- All that a world is: its book, what is gathered of it, its keeper, the blocks in transit, the
+-- mark and the next number.
 pub record Whole (D : Type 0) : Type 0 where
   pub book : BookState
+  pub gather : GatherState
   pub keeper : KeeperState D
   pub transit : List Block
   pub mark : ℕ
   pub next : ℕ
 
 -- a world from its fields
-abbrev pub whole_of : {D : Type 0} → BookState → KeeperState D → List Block → (mark next : ℕ) →
-    Whole D
-whole_of book keeper transit mark next =
-    record { book = book; keeper = keeper; transit = transit; mark = mark; next = next }
+abbrev pub whole_of : {D : Type 0} → BookState → GatherState → KeeperState D → List Block →
+    (mark next : ℕ) → Whole D
+whole_of book gather keeper transit mark next = record {
+  book = book;
+  gather = gather;
+  keeper = keeper;
+  transit = transit;
+  mark = mark;
+  next = next;
+}
 
--- A turn is the keeper's, of the blocks in transit. The book and the next number stay.
+-- A turn is the keeper's, of the blocks in transit. The book, what is gathered and the next number
+-- stay.
 pub record IsTurn {D : Type 0} (fault_count : D → ℕ) (old : Whole D) (a : Answer)
     (new : Whole D) : Type 0 where
   pub turned : Result Turn Refusal
@@ -38,28 +50,81 @@ pub record IsTurn {D : Type 0} (fault_count : D → ℕ) (old : Whole D) (a : An
   pub answers :
       TurnAnswers old.keeper.held (λ bs. old.transit ≡ bs ++ new.transit) (old.transit ≡ [])
       old.keeper.failed old.keeper.mark
-      (λ b. b.end ≤ old.keeper.covered) (λ b. IsPast old.keeper.image b.end)
+      (λ b. b.end ≤ old.keeper.covered) (λ b. IsPast old.keeper.stage b.end)
       (λ b. size_of old.keeper.area < position_of old.keeper.area + length b.bytes.items)
       ((new.keeper.area ≡ old.keeper.area) × (new.keeper.disk ≡ old.keeper.disk))
       (Rises (fault_count old.keeper.disk) (fault_count new.keeper.disk))
       turned new.keeper.held new.keeper.mark new.keeper.failed
   pub book : new.book ≡ old.book
+  pub gather : new.gather ≡ old.gather
   pub mark : new.mark ≡ mark_behind old.mark turned
   pub next : new.next ≡ old.next
 
--- the image that a freeze answered is begun; or there is none
-abbrev pub IsBegun : {D : Type 0} → KeeperState D → Result Image Refusal → Answer → KeeperState D →
-    Type 0
-IsBegun k (Ok image) a l = (begun : Result (Unit {0}) Refusal) × BeginAnswers k image l begun ×
-    (a ≡ outcome (alone Answer.Frozen) begun)
-IsBegun k (Err e) a l = (l ≡ k) × (a ≡ Answer.Refused e)
+-- ---- what is gathered for an image
 
--- A freeze is the book's, and then its image is begun by the keeper. Where the book refuses, the
--- keeper is not asked.
+-- What is gathered of a gathering that is not under way is given up, unless it is frozen.
+abbrev pub unless_outrun : Option FrozenState → Refusal → GatherState → GatherState
+unless_outrun None Refusal.Outrun g = none_gathered
+unless_outrun frozen e g = g
+
+-- What the book handed over is repeated on the copies, as far as there is memory; where the book
+-- refused, there is nothing to repeat.
+abbrev pub IsRepeated : Result Bool Refusal → GatherState → Answer → GatherState → Type 0
+IsRepeated (Ok more) g a h = Repeats g h ×
+    (((a ≡ Answer.Gathered more) × (h.effects ≡ [])) ⊎ (a ≡ Answer.Refused Refusal.NoMemory))
+IsRepeated (Err e) g a h = (a ≡ Answer.Refused e) × (h ≡ unless_outrun g.frozen e g)
+
+-- A gather is the book's, and then what was handed over is repeated.
+pub record IsGather {D : Type 0} (old : Whole D) (a : Answer) (new : Whole D) : Type 0 where
+  pub gathered : Result Bool Refusal
+  pub taken : GatherState
+  pub gathers : BookGathers (λ v. v) old.book old.gather gathered new.book taken
+  pub repeats : IsRepeated gathered taken a new.gather
+  pub keeper : new.keeper ≡ old.keeper
+  pub transit : new.transit ≡ old.transit
+  pub mark : new.mark ≡ old.mark
+  pub next : new.next ≡ old.next
+
+-- what was gathered, where its end is held; it is given up where the keeper refused
+abbrev pub if_held : Result (Unit {0}) Refusal → GatherState → GatherState
+if_held (Ok done) g = g
+if_held (Err e) g = none_gathered
+
+-- The end of what was frozen is held by the keeper. Where the book refused, the keeper is not
+-- asked.
+abbrev pub IsHeld : {D : Type 0} → Result (Unit {0}) Refusal → KeeperState D → GatherState →
+    Answer → KeeperState D → GatherState → Type 0
+IsHeld (Ok done) k g a l h =
+    (held : Result (Unit {0}) Refusal) × ((frozen : FrozenState) × (g.frozen ≡ Some frozen) ×
+    HoldAnswers k (record { end = frozen.marks.end; place = frozen.marks.place }) l held) ×
+    (a ≡ outcome (alone Answer.Frozen) held) × (h ≡ if_held held g)
+IsHeld (Err e) k g a l h =
+    (l ≡ k) × (a ≡ Answer.Refused e) × (h ≡ unless_outrun g.frozen e g)
+
+-- A freeze is the book's, and then the end of the image is held.
 pub record IsFreeze {D : Type 0} (old : Whole D) (a : Answer) (new : Whole D) : Type 0 where
-  pub frozen : Result Image Refusal
-  pub froze : FreezeAnswers (λ v. v) old.book frozen new.book
-  pub begun : IsBegun old.keeper frozen a new.keeper
+  pub frozen : Result (Unit {0}) Refusal
+  pub taken : GatherState
+  pub froze : FreezeAnswers (λ v. v) old.book old.gather frozen new.book taken
+  pub held : IsHeld frozen old.keeper taken a new.keeper new.gather
+  pub transit : new.transit ≡ old.transit
+  pub mark : new.mark ≡ old.mark
+  pub next : new.next ≡ old.next
+
+-- The image of what is frozen is packed, and begun by the keeper, and nothing is gathered then. It
+-- is refused where nothing is frozen, and without memory, which leaves what is repeated.
+abbrev pub IsPacked : {D : Type 0} → KeeperState D → GatherState → Answer → KeeperState D →
+    GatherState → Type 0
+IsPacked k g a l h =
+    ((g.frozen ≡ None) × (a ≡ Answer.Refused Refusal.Unfinished) × (l ≡ k) × (h ≡ g))
+    ⊎ ((g.frozen ≢ None) × (a ≡ Answer.Refused Refusal.NoMemory) × (l ≡ k) × Repeats g h)
+    ⊎ ((image : Image) × Packs g image × ((begun : Result (Unit {0}) Refusal) ×
+    BeginAnswers k image l begun × (a ≡ outcome (alone Answer.Packed) begun)) ×
+    (h ≡ none_gathered))
+
+pub record IsPack {D : Type 0} (old : Whole D) (a : Answer) (new : Whole D) : Type 0 where
+  pub packed : IsPacked old.keeper old.gather a new.keeper new.gather
+  pub book : new.book ≡ old.book
   pub transit : new.transit ≡ old.transit
   pub mark : new.mark ≡ old.mark
   pub next : new.next ≡ old.next
@@ -67,15 +132,16 @@ pub record IsFreeze {D : Type 0} (old : Whole D) (a : Answer) (new : Whole D) : 
 -- A piece is the keeper's where one is left, and else refused so.
 abbrev pub IsPieced : {D : Type 0} → (D → ℕ) → KeeperState D → Answer → KeeperState D → Type 0
 IsPieced fault_count k a l =
-    (HasPiece k.image × ((laid : Result Bool Refusal) ×
+    (HasPiece k.stage × ((laid : Result Bool Refusal) ×
     PieceAnswers k (Rises (fault_count k.disk) (fault_count l.disk)) l laid ×
     (a ≡ outcome Answer.Laid laid)))
-    ⊎ (¬ HasPiece k.image × (a ≡ Answer.Refused Refusal.Unfinished) × (l ≡ k))
+    ⊎ (¬ HasPiece k.stage × (a ≡ Answer.Refused Refusal.Unfinished) × (l ≡ k))
 
 pub record IsPiece {D : Type 0} (fault_count : D → ℕ) (old : Whole D) (a : Answer)
     (new : Whole D) : Type 0 where
   pub pieced : IsPieced fault_count old.keeper a new.keeper
   pub book : new.book ≡ old.book
+  pub gather : new.gather ≡ old.gather
   pub transit : new.transit ≡ old.transit
   pub mark : new.mark ≡ old.mark
   pub next : new.next ≡ old.next
@@ -88,6 +154,7 @@ pub record IsFlip {D : Type 0} (fault_count : D → ℕ) (old : Whole D) (a : An
       (Rises (fault_count old.keeper.disk) (fault_count new.keeper.disk)) new.keeper flipped
   pub answer : a ≡ outcome Answer.Flipped flipped
   pub book : new.book ≡ old.book
+  pub gather : new.gather ≡ old.gather
   pub transit : new.transit ≡ old.transit
   pub mark : new.mark ≡ mark_flipped old.mark flipped
   pub next : new.next ≡ old.next
@@ -95,9 +162,12 @@ pub record IsFlip {D : Type 0} (fault_count : D → ℕ) (old : Whole D) (a : An
 -- The step, with its answer, leads from one world to another.
 abbrev pub Moves : {D : Type 0} → (D → ℕ) → Whole D → Step × Answer → Whole D → Type 0
 Moves fault_count old (Step.Turn, a) new = IsTurn fault_count old a new
+Moves fault_count old (Step.Gather, a) new = IsGather old a new
 Moves fault_count old (Step.Freeze, a) new = IsFreeze old a new
+Moves fault_count old (Step.Pack, a) new = IsPack old a new
 Moves fault_count old (Step.Piece, a) new = IsPiece fault_count old a new
 Moves fault_count old (Step.Flip, a) new = IsFlip fault_count old a new
 Moves fault_count old x new =
     CoreStep old.book old.transit old.mark x new.book new.transit
     × Draws old.next x new.next × (new.mark ≡ old.mark) × (new.keeper ≡ old.keeper)
+    × (new.gather ≡ old.gather)

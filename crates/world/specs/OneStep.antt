@@ -12,7 +12,7 @@ use Rattle.world.specs.Moves.{Whole, Moves}
 
 -- the parts of a world that its past speaks of
 abbrev pub parts : {D : Type 0} → Whole D → Parts D
-parts w = parts_of w.book w.keeper w.transit w.mark
+parts w = parts_of w.book w.gather w.keeper w.transit w.mark
 
 -- The step is taken, with this answer, and leads from one world to another.
 pub record TakesStep {D : Type 0} (g : Ghosts D) (old : Whole D) (x : Step × Answer)

@@ -45,6 +45,8 @@ action_of (Step.Ended n) Answer.Ended = Some (Action.Ended n (Ok tt))
 action_of (Step.Ended n) (Answer.Refused e) = Some (Action.Ended n (Err e))
 action_of Step.Cut (Answer.Cut handed) = Some (Action.Cut 0 (Ok handed))
 action_of Step.Cut (Answer.Refused e) = Some (Action.Cut 0 (Err e))
+action_of Step.Gather (Answer.Gathered more) = Some (Action.Gather (Ok more))
+action_of Step.Gather (Answer.Refused e) = Some (Action.Gather (Err e))
 action_of Step.Freeze Answer.Frozen = Some (Action.Freeze (Ok tt))
 action_of Step.Freeze (Answer.Refused e) = Some (Action.Freeze (Err e))
 action_of s a = None
@@ -94,6 +96,7 @@ BookState = books.BookState (List Collection)
 abbrev pub CallsKeeper : Step → Type 0
 CallsKeeper Step.Turn = Unit {0}
 CallsKeeper Step.Freeze = Unit {0}
+CallsKeeper Step.Pack = Unit {0}
 CallsKeeper Step.Piece = Unit {0}
 CallsKeeper Step.Flip = Unit {0}
 CallsKeeper s = ⊥
@@ -120,8 +123,12 @@ IsAnswerOf Step.Cut (Answer.Cut handed) = Unit {0}
 IsAnswerOf Step.Cut (Answer.Refused e) = Unit {0}
 IsAnswerOf Step.Turn (Answer.Turned turn) = Unit {0}
 IsAnswerOf Step.Turn (Answer.Refused e) = Unit {0}
+IsAnswerOf Step.Gather (Answer.Gathered more) = Unit {0}
+IsAnswerOf Step.Gather (Answer.Refused e) = Unit {0}
 IsAnswerOf Step.Freeze Answer.Frozen = Unit {0}
 IsAnswerOf Step.Freeze (Answer.Refused e) = Unit {0}
+IsAnswerOf Step.Pack Answer.Packed = Unit {0}
+IsAnswerOf Step.Pack (Answer.Refused e) = Unit {0}
 IsAnswerOf Step.Piece (Answer.Laid more) = Unit {0}
 IsAnswerOf Step.Piece (Answer.Refused e) = Unit {0}
 IsAnswerOf Step.Flip (Answer.Flipped place) = Unit {0}
@@ -134,8 +141,8 @@ abbrev pub BookTakes : BookState → Option Action → BookState → Type 0
 BookTakes s None t = t ≡ s
 BookTakes s (Some action) t = books.Takes catalog_meaning catalog_making s action t
 
--- A step that calls no keeper, with its answer, leads a book and the blocks in transit on; the mark
--- is the one that a look answers. No block is handed over where four wait.
+-- A step that calls no keeper and gathers nothing, with its answer, leads a book and the blocks in
+-- transit on; the mark is the one that a look answers. No block is handed over where four wait.
 abbrev pub CoreStep : BookState → List Block → ℕ → Step × Answer → BookState → List Block → Type 0
 CoreStep s waiting mark (Step.Cut, Answer.Cut handed) t waits =
     books.CutAnswers s (λ bs. waits ≡ waiting ++ bs) (4 ≤ length waiting) (Ok handed) t
@@ -145,7 +152,9 @@ CoreStep s waiting mark (Step.Cut, a) t waits = ⊥
 CoreStep s waiting mark (Step.Look, Answer.Marked m) t waits =
     (t ≡ s) × (m ≡ mark) × (waits ≡ waiting)
 CoreStep s waiting mark (Step.Turn, a) t waits = ⊥
+CoreStep s waiting mark (Step.Gather, a) t waits = ⊥
 CoreStep s waiting mark (Step.Freeze, a) t waits = ⊥
+CoreStep s waiting mark (Step.Pack, a) t waits = ⊥
 CoreStep s waiting mark (Step.Piece, a) t waits = ⊥
 CoreStep s waiting mark (Step.Flip, a) t waits = ⊥
 CoreStep s waiting mark x t waits =

@@ -25,8 +25,13 @@ pub enum Step {
     Cut,
     /// Brings a block to the disk.
     Turn,
-    /// Freezes the book, and begins to write its image into the area that is not in use.
+    /// Copies the next collection of the book for an image, if one is left, and repeats on the
+    /// copies what was run behind them.
+    Gather,
+    /// Freezes the book, all collections of which are copied, and holds the end of its image.
     Freeze,
+    /// Packs the image of what was frozen, and begins to write it into the area that is not in use.
+    Pack,
     /// Writes a block of the image in progress.
     Piece,
     /// Makes the image in progress the store.
@@ -51,8 +56,12 @@ pub enum Answer {
     /// Whether a block was handed over.
     Cut(bool),
     Turned(Turn),
-    /// An image is in progress.
+    /// Whether a collection is not copied yet.
+    Gathered(bool),
+    /// The end of an image is held.
     Frozen,
+    /// An image is in progress.
+    Packed,
     /// Whether a block of the image is left.
     Laid(bool),
     /// The image is the store, and so many commits are kept.

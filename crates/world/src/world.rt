@@ -1,6 +1,6 @@
 // The core as a list of steps.
 ghost use Rattle.std.specs.Prelude.{◌≡◌, ◌≤◌, ◌↔◌, IsTrue, ℕ, List, ◌++◌, ◌∷◌, [], length, IfOk};
-ghost use Rattle.std.specs.Prelude.{IfErr, OnErr, IsOkUnless};
+ghost use Rattle.std.specs.Prelude.{IfErr, OnErr, IsOkUnless, is_some};
 ghost use Rattle.std.specs.List.{zip};
 ghost use Rattle.std.specs.Option.{IsSomeAnd};
 ghost use Rattle.calls.specs.Contents.{Collection};
@@ -14,29 +14,34 @@ ghost use Rattle.world.specs.declared.steps.Answer.{Answer};
 ghost use Rattle.world.specs.Pasts.{Past, acknowledged, mark_behind, mark_flipped, AreAnswered};
 ghost use Rattle.world.specs.Pasts.{Draws, alone, outcome, committed_in, IsOneHistory};
 ghost use Rattle.checkpoint.specs.Crash.{Yields};
-ghost use Rattle.world.specs.Worlds.{HasPast};
-ghost use Rattle.world.specs.Moves.{Moves};
+ghost use Rattle.world.specs.Worlds.{HasPast, none_gathered};
+ghost use Rattle.world.specs.Moves.{Moves, unless_outrun};
 ghost use Rattle.world.specs.OneStep.{parts, TakesStep};
 
 use crate::steps::{Answer, Step};
 use crate::transit::Transit;
 use calls::limits::NUMBER_END;
 use calls::{Call, Kind, Name, Refusal, Reply};
-use catalog::Catalog;
+use catalog::{Catalog, NamedHolding};
 use checkpoint::{Keeper, Turn};
 use disk_model::Disk;
+use images::Gather;
 use std::alloc::Global;
 use std::marker::Model;
+use std::mem;
 use txn::Book;
 
-/// A book, a keeper, the blocks in transit, the mark and the next number. Contracts see all of it.
+/// A book, what is gathered of it for an image, a keeper, the blocks in transit, the mark and the
+/// next number. Contracts see all of it.
 ///
 /// Each step has a method of its own. Whatever it answers, also a refusal, is one step of the core
 /// (`TakesStep`): each past of the world goes on with it, and whatever a stop at any moment of it
 /// might have left is what that past yields.
 #[derive(Drop)]
 pub struct World<D: Disk> {
+    alloc: Global,
     book: Book<Catalog>,
+    gather: Gather<NamedHolding>,
     keeper: Keeper<D>,
     transit: Transit,
     mark: u64,
@@ -48,34 +53,42 @@ impl<D: Disk> Model for World<D> {
     ghost use Rattle.std.specs.Coded.{codes, coded_ℕ, coded_bool};
     ghost use Rattle.std.specs.FinMap as maps;
     ghost use Rattle.std.specs.Ordering.{nat_cmp};
-    ghost use Rattle.catalog.specs.Holdings.{catalog_code};
+    ghost use Rattle.catalog.specs.Holdings.{catalog_code, collection_code};
     ghost use Rattle.world.specs.Moves.{Whole};
+    ghost use Rattle.world.specs.Worlds.{IsOfBook};
 
     ghost Value = { Whole D };
 
-    ghost coded = { Prim.hlevel (codes, catalog_code, maps.code {R = nat_cmp} coded_ℕ coded_bool) };
+    ghost coded = { Prim.hlevel (
+      codes,
+      catalog_code,
+      collection_code,
+      maps.code {R = nat_cmp} coded_ℕ coded_bool,
+    ) };
 
     ghost view = { λ w. record {
       book = w.book;
+      gather = w.gather;
       keeper = w.keeper;
       transit = w.transit.blocks.items;
       mark = w.mark;
       next = w.next;
     } };
 
-    ghost invariant = { λ w. w.mark ≡ w.keeper.mark };
+    ghost invariant = { λ w. (w.mark ≡ w.keeper.mark) × IsOfBook w.book w.gather };
 }
 
 impl<D: Disk> World<D> {
     /// A world of an opened book and its keeper, which has brought nothing to the disk yet, with
-    /// nothing in transit. Numbers are drawn from the book's next one on. Its past begins there:
-    /// what a stop leaves is what it leaves of the store that was opened.
+    /// nothing in transit and nothing gathered. Numbers are drawn from the book's next one on. Its
+    /// past begins there: what a stop leaves is what it leaves of the store that was opened.
     ///
     /// Refused only for want of memory, and then the disk is handed back.
     pub fn new(alloc: Global, book: Book<Catalog>, keeper: Keeper<D>) -> Result<Self, (Refusal, D)>
         requires { IsFresh keeper }
-        ensures parts { IfOk result (λ w. (w.book ≡ book) × (w.keeper ≡ keeper) ×
-            (w.transit ≡ []) × (w.next ≡ book.next)) }
+        ensures parts { IfOk result (λ w. (w.book ≡ book) ×
+            (w.gather ≡ none_gathered) × (w.keeper ≡ keeper) × (w.transit ≡ []) ×
+            (w.next ≡ book.next)) }
         ensures past { IfOk result (λ w. (bytes : List ℕ) →
             IsOpened bytes book keeper.area (D.seen keeper.disk) →
             IsReadyStore D.seen D.may_leave bytes book keeper.area keeper.disk →
@@ -85,7 +98,9 @@ impl<D: Disk> World<D> {
         let next = book.next();
         match Transit::new(alloc) {
             Ok(transit) => Ok(Self {
+                alloc,
                 book,
+                gather: Gather::new(alloc),
                 keeper,
                 transit,
                 mark: 0,
@@ -105,9 +120,16 @@ impl<D: Disk> World<D> {
     /// How many blocks of the image in progress are not yet written: none, where no image is in
     /// progress. This is no step.
     pub fn left(&self) -> Option<u64>
-        ensures { result ≡ pieces_left self.now.keeper.image }
+        ensures { result ≡ pieces_left self.now.keeper.stage }
     {
         self.keeper.left()
+    }
+
+    /// Whether what is gathered is frozen. This is no step.
+    pub fn is_frozen(&self) -> bool
+        ensures { result ≡ is_some self.now.gather.frozen }
+    {
+        self.gather.marks().is_some()
     }
 
     /// The disk. No device is called.
@@ -224,15 +246,70 @@ impl<D: Disk> World<D> {
         turned
     }
 
-    /// Freezes the book, and begins to write its image: the refusals of `Book::freeze`, then those
-    /// of `Keeper::begin_image`.
+    /// Copies the next collection of the book for an image, if one is left, and repeats on the
+    /// copies what was run behind them. Answers whether a collection is not copied yet: the
+    /// refusals of `Book::gather`, then those of `Gather::catch_up`.
+    ///
+    /// Where it is Outrun with nothing frozen, what was gathered is given up, and the next gather
+    /// begins anew.
+    pub fn gather(&mut self) -> Result<bool, Refusal>
+        ensures { TakesStep ⟦<D as Disk>⟧ self.old
+            (Step.Gather, outcome Answer.Gathered result) self.new }
+    {
+        match self.book.gather(&mut self.gather) {
+            Ok(more) => {
+                self.gather.catch_up()?;
+                Ok(more)
+            }
+            Err(refusal) => {
+                give_up_outrun(self.alloc, &refusal, &mut self.gather);
+                Err(refusal)
+            }
+        }
+    }
+
+    /// Freezes the book, all collections of which are copied, and holds the end of its image: the
+    /// refusals of `Book::freeze`, then those of `Keeper::hold`.
+    ///
+    /// Where it is Outrun with nothing frozen, or the keeper refuses, what was gathered is given
+    /// up, and the next gather begins anew.
     pub fn freeze(&mut self) -> Result<(), Refusal>
         ensures { TakesStep ⟦<D as Disk>⟧ self.old
             (Step.Freeze, outcome (alone Answer.Frozen) result) self.new }
     {
         self.book.upheld();
-        let image = self.book.freeze()?;
-        self.keeper.begin_image(image)
+        if let Err(refusal) = self.book.freeze(&mut self.gather) {
+            give_up_outrun(self.alloc, &refusal, &mut self.gather);
+            return Err(refusal);
+        }
+        let Some(marks) = self.gather.marks() else {
+            unreachable!();
+        };
+        if let Err(refusal) = self.keeper.hold(marks.end, marks.place) {
+            self.gather = Gather::new(self.alloc);
+            return Err(refusal);
+        }
+        Ok(())
+    }
+
+    /// Packs the image of what was frozen, and begins to write it. Nothing is gathered then.
+    ///
+    /// Unfinished where nothing is frozen; NoMemory, which leaves what is gathered, to be packed
+    /// again; then the refusals of `Keeper::begin_image`, with which what was gathered is given up.
+    pub fn pack(&mut self) -> Result<(), Refusal>
+        ensures { TakesStep ⟦<D as Disk>⟧ self.old
+            (Step.Pack, outcome (alone Answer.Packed) result) self.new }
+    {
+        if !self.is_frozen() {
+            return Err(Refusal::Unfinished);
+        }
+        match mem::replace(&mut self.gather, Gather::new(self.alloc)).pack() {
+            Ok(image) => self.keeper.begin_image(image),
+            Err((refusal, gather)) => {
+                self.gather = gather;
+                Err(refusal)
+            }
+        }
     }
 
     /// Writes a block of the image in progress, and answers whether another one is left.
@@ -293,7 +370,9 @@ impl<D: Disk> World<D> {
             Step::Ended(number) => answered(self.ended(*number), Answer::Ended),
             Step::Cut => self.cut().map_or_else(Answer::Refused, Answer::Cut),
             Step::Turn => self.turn().map_or_else(Answer::Refused, Answer::Turned),
+            Step::Gather => { self.gather().map_or_else(Answer::Refused, Answer::Gathered) }
             Step::Freeze => answered(self.freeze(), Answer::Frozen),
+            Step::Pack => answered(self.pack(), Answer::Packed),
             Step::Piece => self.piece().map_or_else(Answer::Refused, Answer::Laid),
             Step::Flip => self.flip().map_or_else(Answer::Refused, Answer::Flipped),
             Step::Look => Answer::Marked(self.look()),
@@ -366,6 +445,15 @@ fn answered(done: Result<(), Refusal>, answer: Answer) -> Answer
     match done {
         Ok(()) => answer,
         Err(refusal) => Answer::Refused(refusal),
+    }
+}
+
+// Gives up what is gathered of a gathering that is not under way, unless it is frozen.
+fn give_up_outrun(alloc: Global, refusal: &Refusal, gather: &mut Gather<NamedHolding>)
+    ensures { gather.new ≡ unless_outrun gather.old.frozen refusal.now gather.old }
+{
+    if matches!(refusal, Refusal::Outrun) && gather.marks().is_none() {
+        *gather = Gather::new(alloc);
     }
 }
 

@@ -26,17 +26,17 @@ returns-clause-past g c = λ honest.
     let parts = c.in_ok-new.ensures.parts in
     let keeper = c.in_ok-book.keeper in
     let book = c.in_ok-book.book in record {
-      opened = opened_parts g.D.Disk world made c.new-2.ensures.world keeper parts.1 c.args.disk
+      opened = opened_parts g.D.Disk world made c.new-2.ensures.world keeper parts.2 c.args.disk
           book parts.0 c.in_ok-book.ensures.opened honest;
-      nothing_sent = subst (λ (x : Whole _). x.transit ≡ []) (sym c.new-2.ensures.world) parts.2;
-      numbers = opened_numbers g.D.Disk world made c.new-2.ensures.world keeper parts.1 c.args.disk
-          book parts.0 parts.3;
+      nothing_sent = subst (λ (x : Whole _). x.transit ≡ []) (sym c.new-2.ensures.world) parts.3;
+      numbers = opened_numbers g.D.Disk world made c.new-2.ensures.world keeper parts.2 c.args.disk
+          book parts.0 parts.4;
       past = λ content stands rest. opened_past g.D.Disk world made c.new-2.ensures.world keeper
-          parts.1 c.args.disk book content c.in_ok-book.ensures.opened c.in_ok-book.ensures.ready
+          parts.2 c.args.disk book content c.in_ok-book.ensures.opened c.in_ok-book.ensures.ready
           (c.in_ok-book.ensures.content content stands) c.in_ok-new.ensures.past rest honest;
     }
 
 pub returns-clause-kept : goal.returns-clause-kept
 returns-clause-kept g c = λ honest. opened_keeps g.D.Disk c.new-2.result.world c.in_ok-new.field-0
-    c.new-2.ensures.world c.in_ok-book.keeper c.in_ok-new.ensures.parts.1 c.args.disk
+    c.new-2.ensures.world c.in_ok-book.keeper c.in_ok-new.ensures.parts.2 c.args.disk
     c.in_ok-book.ensures.kept honest

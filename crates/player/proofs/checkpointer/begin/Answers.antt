@@ -7,5 +7,5 @@ returns-in-Some g c = begun_before g.D.Disk c.args.world.now c.in-Some.field-0
     (sym c.left.ensures ∙ c.in-Some.is)
 
 pub returns-in-None : goal.returns-in-None
-returns-in-None g c = begun_now g.D.Disk c.args.world.now c.freeze.new.self c.freeze.result
-    (sym c.left.ensures ∙ c.in-None.is) c.freeze.ensures
+returns-in-None g c = begun_now g.D.Disk c.args.world.now c.begin_now.new.world c.begin_now.result
+    (sym c.left.ensures ∙ c.in-None.is) c.begin_now.ensures

@@ -1,49 +1,36 @@
-use Rattle.std.proofs.Common.{◌==◌, ◌-◌, ◌≤◌, not, min, rules, arith, vec_len, vec_capacity}
-use Rattle.std.specs.List.{filter}
-use Rattle.std.proofs.lemmas.Fn.{filter_same}
-use Rattle.std.proofs.lemmas.List.Elements.{All-filter}
-use Rattle.abstract_locks.specs.declared.table.Holder.{Holder}
-use Rattle.abstract_locks.specs.Holders.{all_holds, least_room}
-use Rattle.abstract_locks.proofs.Granting.{others_hold}
-use Rattle.abstract_locks.proofs.Members.{filtered_is_given_up}
-use Rattle.abstract_locks.proofs.Roomier.{HasOwn, least_of_some, roomier_refl, least_grows}
-use Rattle.abstract_locks.proofs.Rooms.{room_stays}
+use Rattle.std.proofs.Common.{◌≡◌, ◌∙◌, subst}
+use Rattle.std.specs.Vec.{with_items}
+use Rattle.std.proofs.lemmas.List.{with_items_is}
+use Rattle.std.proofs.lemmas.Slice.Zip.{AllZip-long}
+use Rattle.abstract_locks.specs.Collections.{IsLeft, AreLeft}
+use Rattle.abstract_locks.proofs.Collections.{own_left, all_given_up, left_on, rooms_stay}
 use Rattle.abstract_locks.proofs.table.NeedTable.give_up.Goals as goal
+use Rattle.abstract_locks.proofs.table.NeedTable.give_up.Goals.{After-self-1}
+
+left : (c : After-self-1) →
+    AreLeft c.args.owner c.self.inside.collections.items c.give_up_each.new.collections
+left c = subst (λ l. AreLeft c.args.owner l c.give_up_each.new.collections)
+    c.deref_mut.ensures.value c.give_up_each.ensures
+
+items : (c : After-self-1) →
+    (with_items c.self.inside.collections c.give_up_each.new.collections).items ≡
+    c.give_up_each.new.collections
+items c = with_items_is c.self.inside.collections c.give_up_each.new.collections
+    (AllZip-long (IsLeft c.args.owner) c.deref_mut.result.now c.give_up_each.new.collections
+    c.give_up_each.ensures ∙ c.deref_mut.ensures.len)
 
 pub invariant_of-self : goal.invariant_of-self
-invariant_of-self c =
-    let is = filter_same _ (λ x. not (x.owner == c.args.owner)) _ (λ x b f' k. search rules) _ _
-    c.retain.ensures.filtered in (
-      rw is (All-filter (λ x. not (x.owner == c.args.owner)) HasOwn c.self.inside.holders.items
-          c.self.invariant.0),
-      c.self.invariant.1,
-    )
+invariant_of-self c = rw (items c)
+    (own_left c.args.owner c.self.inside.collections.items c.give_up_each.new.collections (left c)
+    c.self.invariant)
 
 pub returns-clause-holds : goal.returns-clause-holds
-returns-clause-holds c =
-    let is = filter_same _ (λ x. not (x.owner == c.args.owner)) _ (λ x b f' k. search rules) _ _
-    c.retain.ensures.filtered in
-    rw (← c.self.view_is, is)
-    (filtered_is_given_up c.args.owner (all_holds c.self.inside.holders.items)
-    (all_holds (filter (λ x. not (x.owner == c.args.owner)) c.self.inside.holders.items))
-    (others_hold c.args.owner c.self.inside.holders.items c.self.invariant.0))
+returns-clause-holds c = rw (items c, ← c.self.view_is)
+    (all_given_up c.args.owner c.self.inside.collections.items c.give_up_each.new.collections
+    (left c))
 
 pub returns-clause-rooms : goal.returns-clause-rooms
-returns-clause-rooms c =
-    let p = λ (x : Holder). not (x.owner == c.args.owner) in
-    let is = filter_same _ (λ x. not (x.owner == c.args.owner)) _ (λ x b f' k. search rules) _ _
-    c.retain.ensures.filtered in
-    let items = c.self.inside.holders.items in
-    let old = c.self.inside.holders in
-    let new = c.retain.new.self in
-    let spare = c.self.inside.spare.room in
-    let n = min spare (vec_capacity old - vec_len old) in
-    let m = min spare (vec_capacity new - vec_len new) in
-    let fewer = c.retain.ensures.bound in
-    let same = c.retain.ensures.capacity in
-    let more : n ≤ m = omega arith in
-    let some = least_of_some p n items in
-    let grows = least_grows n m (filter p items) (filter p items) more
-    (roomier_refl (filter p items)) in
-    rw (← c.self.view_is, is)
-    (room_stays (least_room n items) (least_room m (filter p items)) (omega arith))
+returns-clause-rooms c = rw (items c, ← c.self.view_is)
+    (rooms_stay c.self.inside.collections.items c.give_up_each.new.collections
+    (λ at. (left_on c.args.owner c.self.inside.collections.items c.give_up_each.new.collections
+    (left c) at).room))

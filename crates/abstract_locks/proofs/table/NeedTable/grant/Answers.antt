@@ -1,98 +1,51 @@
-use Rattle.std.proofs.Common.{◌≡◌, ◌<◌, ◌-◌, ◌∙◌, [], min, arith, subst, sym, ap}
-use Rattle.std.proofs.Common.{refl, vec_len, vec_capacity}
-use Rattle.std.proofs.lemmas.List.Elements.{All-set, All-push, All-nil}
-use Rattle.abstract_locks.specs.declared.table.Holder.{Holder}
-use Rattle.abstract_locks.specs.Holders.{least_room}
-use Rattle.abstract_locks.specs.Holds.{hold, HasRoom, IsAdded}
-use Rattle.abstract_locks.proofs.Granting.{added_at, added_last, still_own}
-use Rattle.abstract_locks.proofs.Roomier.{HasOwn, base_positive, each_positive}
-use Rattle.abstract_locks.proofs.Rooms.{some_room}
+use Rattle.std.proofs.Common.{◌≡◌, ◌<◌, arith, subst, sym}
+use Rattle.abstract_locks.specs.Claimed.{Claimed, nothing}
+use Rattle.abstract_locks.specs.Collections.{held_on}
+use Rattle.abstract_locks.specs.Holds.{hold, IsAdded}
+use Rattle.abstract_locks.proofs.Granting.{added_at, all_still}
+use Rattle.abstract_locks.proofs.Collections.{shown_room, found_at, own_set}
 use Rattle.abstract_locks.proofs.table.NeedTable.grant.Goals as goal
+
+pub index_mut-requires : goal.index_mut-requires
+index_mut-requires c =
+    let had = shown_room c.self.inside.collections.items c.args.self.now c.args.col c.from.result
+    c.self.view_is c.requires.room c.from.ensures in
+    let lt = had.1 in omega arith
 
 pub add-requires : goal.add-requires
 add-requires c =
-    let old = c.self.inside.holders in
-    let n = min c.self.inside.spare.room (vec_capacity old - vec_len old) in
-    let had = subst (λ t. HasRoom t c.args.col) (sym c.self.view_is) c.requires.room in
-    let room = some_room (least_room n old.items) c.args.col had in
-    let x = c.index_mut.result.now in
-    let lt = rw c.deref.ensures.value at c.in-Some.ensures.0 in
-    subst (λ (y : Holder). 0 < y.claims.room) (sym c.index_mut.ensures.value)
-    (each_positive n old.items room c.in-Some.place x lt)
+    let cs = c.self.inside.collections.items in
+    let i = c.from.result in
+    let had = shown_room cs c.args.self.now c.args.col i c.self.view_is c.requires.room
+    c.from.ensures in
+    let is = found_at cs i c.index_mut.result.now had.1 c.index_mut.ensures.value in
+    subst (λ (x : Claimed). 0 < x.room) (sym is) had.0
 
 pub invariant_of-self : goal.invariant_of-self
 invariant_of-self c =
-    let items = c.self.inside.holders.items in
-    let i = c.in-Some.place in
-    let x = c.index_mut.result.now in
-    let new : Holder = record { owner = x.owner; claims = c.add.new.self } in
-    let is = c.index_mut.ensures.value in
-    let lt = rw c.deref.ensures.value at c.in-Some.ensures.0 in
-    let there = rw c.deref.ensures.value at (c.in-Some.ensures.1 x) in
-    let mine : c.args.owner ≡ x.owner = sym (ap (λ (y : Holder). y.owner) is ∙ there) in
-    let own : HasOwn x = subst HasOwn (sym is) (c.self.invariant.0 i x lt) in (
-      All-set HasOwn items i new
-          (still_own x.claims.holds c.add.new.self.holds
-          (hold c.args.owner c.args.col c.args.need) c.add.ensures.added x.owner mine own)
-          c.self.invariant.0,
-      c.self.invariant.1,
-    )
-
-pub add-requires-in-None : goal.add-requires-in-None
-add-requires-in-None c =
-    let old = c.self.inside.holders in
-    let n = min c.self.inside.spare.room (vec_capacity old - vec_len old) in
-    let had = subst (λ t. HasRoom t c.args.col) (sym c.self.view_is) c.requires.room in
-    let room = base_positive n old.items (some_room (least_room n old.items) c.args.col had) in
-    let is = c.replace-claims.ensures.value in
-    rw is (omega arith)
-
-pub push_reserved-requires : goal.push_reserved-requires
-push_reserved-requires c =
-    let old = c.self.inside.holders in
-    let n = min c.self.inside.spare.room (vec_capacity old - vec_len old) in
-    let had = subst (λ t. HasRoom t c.args.col) (sym c.self.view_is) c.requires.room in
-    let room = base_positive n old.items (some_room (least_room n old.items) c.args.col had) in
-    omega arith
-
-pub invariant_of-self-in-None : goal.invariant_of-self-in-None
-invariant_of-self-in-None c =
-    let items = c.self.inside.holders.items in
+    let cs = c.self.inside.collections.items in
+    let i = c.from.result in
+    let had = shown_room cs c.args.self.now c.args.col i c.self.view_is c.requires.room
+    c.from.ensures in
     let granted = hold c.args.owner c.args.col c.args.need in
-    let new : Holder = record { owner = c.args.owner; claims = c.add-in-None.new.self } in
-    let none = rw (c.replace-claims.ensures.value, c.self.invariant.1)
-    at c.add-in-None.ensures.added
-    in (
-      rw c.push_reserved.ensures.items
-          (All-push HasOwn items new c.self.invariant.0
-          (still_own [] c.add-in-None.new.self.holds granted none c.args.owner refl
-          (All-nil (λ h. h.owner ≡ c.args.owner)))),
-      rw c.replace-claims.ensures.after c.new.ensures,
-    )
+    let new = c.add.new.self in
+    let is = found_at cs i c.index_mut.result.now had.1 c.index_mut.ensures.value in
+    let added = subst (λ (x : Claimed). IsAdded x.holds new.holds granted) is c.add.ensures in
+    own_set cs c.self.invariant i new had.1
+    (all_still (held_on cs i).holds new.holds granted added (λ h. h.at ≡ i) (sym c.from.ensures)
+    (c.self.invariant i))
 
-pub returns-in-Some : goal.returns-in-Some
-returns-in-Some c =
-    let items = c.self.inside.holders.items in
+pub returns : goal.returns
+returns c =
+    let cs = c.self.inside.collections.items in
+    let i = c.from.result in
+    let had = shown_room cs c.args.self.now c.args.col i c.self.view_is c.requires.room
+    c.from.ensures in
     let granted = hold c.args.owner c.args.col c.args.need in
-    let x = c.index_mut.result.now in
-    let new : Holder = record { owner = x.owner; claims = c.add.new.self } in
-    let lt = rw c.deref.ensures.value at c.in-Some.ensures.0 in
+    let new = c.add.new.self in
+    let is = found_at cs i c.index_mut.result.now had.1 c.index_mut.ensures.value in
+    let added = subst (λ (x : Claimed). IsAdded x.holds new.holds granted) is c.add.ensures in
     record {
       held = rw (← c.self.view_is)
-          (added_at items c.in-Some.place x new granted lt
-          (subst (λ (y : Holder). IsAdded y.claims.holds new.claims.holds granted)
-          c.index_mut.ensures.value c.add.ensures.added));
-    }
-
-pub returns-in-None : goal.returns-in-None
-returns-in-None c =
-    let items = c.self.inside.holders.items in
-    let granted = hold c.args.owner c.args.col c.args.need in
-    let new : Holder = record { owner = c.args.owner; claims = c.add-in-None.new.self } in
-    let none = rw (c.replace-claims.ensures.value, c.self.invariant.1)
-    at c.add-in-None.ensures.added
-    in
-    record {
-      held = rw (← c.self.view_is, c.push_reserved.ensures.items)
-          (added_last items new granted none);
+          (added_at (λ (x : Claimed). x.holds) cs i nothing new granted had.1 added);
     }

@@ -1,108 +1,80 @@
-use Rattle.std.proofs.Common.{◌≡◌, ◌-◌, ◌∙◌, ℕ, min, arith, subst, sym, vec_len, vec_capacity}
-use Rattle.std.specs.Vec.{with_items}
-use Rattle.std.proofs.lemmas.List.{with_items_is}
+use Rattle.std.proofs.Common.{◌≡◌, ◌<◌, ◌≤◌, ◌∙◌, set, subst, sym, ap, arith, Result}
+use Rattle.std.proofs.Common.{Ok, Err, OnErr}
 use Rattle.std.proofs.lemmas.Result.{on_ok_weaker, on_err_weaker}
-use Rattle.abstract_locks.specs.Holders.{all_holds, least_room, AreRoomier}
-use Rattle.abstract_locks.specs.Holds.{HasRoom, everywhere}
-use Rattle.abstract_locks.proofs.Roomier.{base_positive, least_positive, least_grows, no_room_left}
-use Rattle.abstract_locks.proofs.Roomier.{same_all_holds, still_own, one_full, full_before}
-use Rattle.abstract_locks.proofs.Roomier.{length_roomier, ok_unless}
-use Rattle.abstract_locks.proofs.Rooms.{room_here, room_stays, some_room}
+use Rattle.abstract_locks.specs.Claimed.{Claimed}
+use Rattle.abstract_locks.specs.Collections.{held_on}
+use Rattle.abstract_locks.proofs.Collections.{shown_room, found_at, room_set, rooms_stay, all_set}
+use Rattle.abstract_locks.proofs.Collections.{alike_shown, same_set, more_at}
 use Rattle.abstract_locks.proofs.table.NeedTable.reserve.Goals as goal
 use Rattle.abstract_locks.proofs.table.NeedTable.reserve.Goals.{After-self-1}
 
-pub returns-in_err-reserve-clause-succeeds : goal.returns-in_err-reserve-clause-succeeds
-returns-in_err-reserve-clause-succeeds c had =
-    let old = c.self.inside.holders in
-    let full = c.in_err-reserve.ensures.full in
-    let n = min c.self.inside.spare.room (vec_capacity old - vec_len old) in
-    let room = base_positive n old.items (some_room (least_room n old.items) c.args.col
-    (subst (λ t. HasRoom t c.args.col) (sym c.self.view_is) had)) in
-    absurd (omega arith)
+on_err : {T E P : Type 0} (r : Result T E) → P → OnErr r P
+on_err (Ok x) p = tt
+on_err (Err e) p = p
 
-pub returns-in_err-reserve-2-clause-succeeds : goal.returns-in_err-reserve-2-clause-succeeds
-returns-in_err-reserve-2-clause-succeeds c had =
-    let old = c.self.inside.holders in
-    let n = min c.self.inside.spare.room (vec_capacity old - vec_len old) in
-    let room = base_positive n old.items (some_room (least_room n old.items) c.args.col
-    (subst (λ t. HasRoom t c.args.col) (sym c.self.view_is) had)) in
-    let none = no_room_left c.self.inside.spare.room c.in_err-reserve-2.ensures.succeeds in
-    absurd (omega arith)
+pub returns-in_err-reach-clause-rooms : goal.returns-in_err-reach-clause-rooms
+returns-in_err-reach-clause-rooms c =
+    let is = c.reach.ensures.alike in
+    rw (← c.self.view_is)
+    (rooms_stay c.self.inside.collections.items c.reach.new.collections.items
+    (λ at. rw (is.each at) (omega arith)))
 
-more : (c : After-self-1) → AreRoomier c.self.inside.holders.items c.reserve_each.new.holders
-more c = subst (λ l. AreRoomier l c.reserve_each.new.holders)
-    (c.deref_mut.ensures.value ∙ c.reserve.ensures.items) c.reserve_each.ensures.more
+pub returns-in_err-reach-clause-succeeds : goal.returns-in_err-reach-clause-succeeds
+returns-in_err-reach-clause-succeeds c had =
+    let room = shown_room c.self.inside.collections.items c.args.self.now c.args.col
+    c.from-place.result c.self.view_is had c.from-place.ensures in
+    let wrong = c.in_err-reach.ensures.succeeds room.1 in cc
 
--- the holders are those that `reserve_each` left
-left : (c : After-self-1) →
-    (with_items c.reserve.new.self c.reserve_each.new.holders).items ≡ c.reserve_each.new.holders
-left c = with_items_is c.reserve.new.self c.reserve_each.new.holders
-    (length_roomier c.deref_mut.result.now c.reserve_each.new.holders c.reserve_each.ensures.more
-    ∙ c.deref_mut.ensures.len)
+pub returns-in_err-reach-clause-unchanged : goal.returns-in_err-reach-clause-unchanged
+returns-in_err-reach-clause-unchanged c = on_err c.from_residual.result
+    (alike_shown c.self.inside.collections.items c.reach.new.collections.items c.reach.ensures.alike
+    ∙ c.self.view_is)
 
--- the room of the table without its holders, before and behind
-abbrev before : After-self-1 → ℕ
-before c = let v = c.self.inside.holders in
-    min c.self.inside.spare.room (vec_capacity v - vec_len v)
-
-abbrev behind : After-self-1 → ℕ
-behind c = let v = c.reserve.new.self in min c.reserve-2.new.self.room (vec_capacity v - vec_len v)
-
-pub invariant_of-self-2 : goal.invariant_of-self-2
-invariant_of-self-2 c =
-    rw (left c) (
-      still_own c.self.inside.holders.items c.reserve_each.new.holders (more c) c.self.invariant.0,
-      c.reserve-2.ensures.holds ∙ c.self.invariant.1,
-    )
+-- what stood in the place was held on the collection
+found : (c : After-self-1) →
+    c.index_mut.result.now ≡ held_on c.reach.new.collections.items c.from-place.result
+found c = found_at c.reach.new.collections.items c.from-place.result c.index_mut.result.now
+    c.in_ok-reach.ensures.reached c.index_mut.ensures.value
 
 pub returns-clause-room : goal.returns-clause-room
 returns-clause-room c =
-    let ok = c.in_ok-reserve.ensures.ok in
-    let spare = c.in_ok-reserve-2.ensures.room in
     let fits = c.ranges.col.fits in
-    let ys = c.reserve_each.new.holders in
-    rw (left c)
-    (on_ok_weaker c.reserve_each.result
-    (λ all. room_here (least_room (behind c) ys) c.args.col (omega arith)
-    (least_positive (behind c) ys (omega arith) all))
-    c.reserve_each.ensures.room)
+    on_ok_weaker c.reserve.result
+    (λ pos. room_set c.reach.new.collections.items c.from-place.result c.args.col
+    c.reserve.new.self c.from-place.ensures c.in_ok-reach.ensures.reached (omega arith) pos)
+    c.reserve.ensures.room
 
 pub returns-clause-rooms : goal.returns-clause-rooms
 returns-clause-rooms c =
-    let items = c.self.inside.holders.items in
-    let ys = c.reserve_each.new.holders in
-    let len = c.reserve.ensures.len in
-    let cap = c.reserve.ensures.capacity in
-    let spare = c.reserve-2.ensures.more in
-    rw (left c, ← c.self.view_is)
-    (room_stays (least_room (before c) items) (least_room (behind c) ys)
-    (least_grows (before c) (behind c) items ys (omega arith) (more c)))
+    let ds = c.reach.new.collections.items in
+    let i = c.from-place.result in
+    let new = c.reserve.new.self in
+    let le = subst (λ (x : Claimed). x.room ≤ new.room) (found c) c.reserve.ensures.more in
+    rw (← c.self.view_is)
+    (rooms_stay c.self.inside.collections.items (set ds i new)
+    (λ at. subst (λ (x : Claimed). x.room ≤ (held_on (set ds i new) at).room)
+    (c.reach.ensures.alike.each at) (more_at ds i new c.in_ok-reach.ensures.reached le at)))
 
 pub returns-clause-holds : goal.returns-clause-holds
 returns-clause-holds c =
-    rw (left c, ← c.self.view_is)
-    (same_all_holds c.self.inside.holders.items c.reserve_each.new.holders (more c))
+    rw (← c.self.view_is)
+    (all_set c.reach.new.collections.items c.from-place.result c.reserve.new.self
+    (c.reserve.ensures.holds ∙ ap (λ (x : Claimed). x.holds) (found c))
+    ∙ c.reach.ensures.alike.all)
 
 pub returns-clause-succeeds : goal.returns-clause-succeeds
 returns-clause-succeeds c had =
-    let items = c.self.inside.holders.items in
-    let room = some_room (least_room (before c) items) c.args.col
-    (subst (λ t. HasRoom t c.args.col) (sym c.self.view_is) had) in
-    ok_unless c.reserve_each.result c.reserve_each.ensures.full
-    (λ full. let none = full_before (before c) items c.reserve_each.new.holders (more c) full in
-    omega arith)
+    let i = c.from-place.result in
+    let room = shown_room c.self.inside.collections.items c.args.self.now c.args.col i
+    c.self.view_is had c.from-place.ensures in
+    c.reserve.ensures.succeeds
+    (subst (λ (x : Claimed). 0 < x.room) (sym (found c ∙ c.reach.ensures.alike.each i)) room.0)
 
 pub returns-clause-unchanged : goal.returns-clause-unchanged
-returns-clause-unchanged c =
-    let items = c.self.inside.holders.items in
-    let ys = c.reserve_each.new.holders in
-    on_err_weaker c.reserve_each.result
-    (λ full.
-    let old = full_before (before c) items ys (more c) full in
-    let new = one_full (behind c) ys full in
-    let rooms_is : least_room (behind c) (with_items c.reserve.new.self ys).items ≡
-    least_room (before c) items = rw (left c) (new ∙ sym old) in
-    let holds_is : all_holds (with_items c.reserve.new.self ys).items ≡ all_holds items =
-    rw (left c) (same_all_holds items ys (more c)) in
-    (λ i. record { holds = holds_is i; rooms = everywhere (rooms_is i) }) ∙ c.self.view_is)
-    c.reserve_each.ensures.full
+returns-clause-unchanged c = on_err_weaker c.reserve.result
+    (λ same. same_set c.reach.new.collections.items c.from-place.result c.reserve.new.self
+    (same ∙ found c)
+    ∙ alike_shown c.self.inside.collections.items c.reach.new.collections.items
+    c.reach.ensures.alike
+    ∙ c.self.view_is)
+    c.reserve.ensures.unchanged

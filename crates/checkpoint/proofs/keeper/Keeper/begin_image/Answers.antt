@@ -1,41 +1,72 @@
-use Rattle.std.proofs.Common.{refl, Ok}
+use Rattle.std.proofs.Common.{ℕ, refl, subst, Ok, Err}
+use Rattle.std.proofs.lemmas.Result.{err_from_is_err_and}
 use Rattle.calls.specs.declared.refusal.Refusal.{Refusal}
-use Rattle.checkpoint.proofs.Blocks.{none_is, not_too_long}
-use Rattle.checkpoint.proofs.ImageKeeping.{begin_still, begin_keeps}
+use Rattle.checkpoint.specs.Imaging.{IsTooLong}
+use Rattle.checkpoint.proofs.Beginning.{unasked}
+use Rattle.checkpoint.proofs.Blocks.{not_too_long}
+use Rattle.checkpoint.proofs.ImageKeeping.{begin_keeps}
 use Rattle.checkpoint.proofs.keeper.Keeper.begin_image.Goals as goal
 
 pub returns-then-self-clause-crash : goal.returns-then-self-clause-crash
-returns-then-self-clause-crash g c =
-    begin_still g.D.Disk c.args.self.now c.args.image Refusal.Failed
-    (g.met.D.Disk.only_now c.args.self.now.disk)
+returns-then-self-clause-crash g c = rw (← c.self.view_is) (begin_keeps g.D.Disk _ _
+    (g.met.D.Disk.only_now c.self.inside.disk) (g.met.D.Disk.counts_now c.self.inside.disk)
+    c.args.image c.requires.some (Err Refusal.Failed) (c.if-self.true, refl))
 
-pub returns-then-is_some-clause-crash : goal.returns-then-is_some-clause-crash
-returns-then-is_some-clause-crash g c =
-    begin_still g.D.Disk c.args.self.now c.args.image Refusal.Imaging
-    (g.met.D.Disk.only_now c.args.self.now.disk)
+pub returns-in_err-ask_for-clause-answer : goal.returns-in_err-ask_for-clause-answer
+returns-in_err-ask_for-clause-answer g c =
+    let p = err_from_is_err_and c.from_residual.result c.from_residual.ensures.1 in
+    rw (← c.self.view_is, p.1, p.2) (unasked _ c.args.image c.in_err-ask_for.field-0.0
+    c.if-self.false c.in_err-ask_for.ensures)
+
+pub returns-in_err-ask_for-clause-crash : goal.returns-in_err-ask_for-clause-crash
+returns-in_err-ask_for-clause-crash g c =
+    let p = err_from_is_err_and c.from_residual.result c.from_residual.ensures.1 in
+    let e = c.in_err-ask_for.field-0.0 in
+    rw (← c.self.view_is, p.1) (begin_keeps g.D.Disk _ _
+    (g.met.D.Disk.only_now c.self.inside.disk) (g.met.D.Disk.counts_now c.self.inside.disk)
+    c.args.image c.requires.some (Err e)
+    (unasked _ c.args.image e c.if-self.false c.in_err-ask_for.ensures))
+
+pub returns-then-is_too_long-clause-answer : goal.returns-then-is_too_long-clause-answer
+returns-then-is_too_long-clause-answer g c = rw (← c.self.view_is) (
+  c.if-self.false,
+  c.in_ok-ask_for.ensures,
+  subst (λ (n : ℕ). IsTooLong n c.args.image.blocks.items) c.size.ensures
+      (c.if-is_too_long.ensures.0 refl),
+  refl,
+)
 
 pub returns-then-is_too_long-clause-crash : goal.returns-then-is_too_long-clause-crash
-returns-then-is_too_long-clause-crash g c =
-    begin_still g.D.Disk c.args.self.now c.args.image Refusal.Full
-    (g.met.D.Disk.only_now c.args.self.now.disk)
+returns-then-is_too_long-clause-crash g c = rw (← c.self.view_is) (begin_keeps g.D.Disk _ _
+    (g.met.D.Disk.only_now c.self.inside.disk) (g.met.D.Disk.counts_now c.self.inside.disk)
+    c.args.image c.requires.some (Err Refusal.Full) (
+      c.if-self.false,
+      c.in_ok-ask_for.ensures,
+      subst (λ (n : ℕ). IsTooLong n c.args.image.blocks.items) c.size.ensures
+          (c.if-is_too_long.ensures.0 refl),
+      refl,
+    ))
 
 pub returns-clause-answer : goal.returns-clause-answer
-returns-clause-answer g c =
-    rw (← c.self.view_is) (
-      c.if-self.false,
-      none_is _ c.is_some.result c.is_some.ensures c.if-is_some.false,
-      not_too_long c.is_too_long.result _ c.size.result c.args.image.blocks.items c.size.ensures
-          c.is_too_long.ensures c.if-is_too_long.false,
-      (c.other_area-area.result, c.other_area-area.ensures, refl),
-    )
+returns-clause-answer g c = rw (← c.self.view_is) (
+  c.if-self.false,
+  c.in_ok-ask_for.ensures,
+  (
+    not_too_long c.is_too_long.result _ c.size.result c.args.image.blocks.items c.size.ensures
+        c.is_too_long.ensures c.if-is_too_long.false,
+    (c.other_area-area.result, c.other_area-area.ensures, refl),
+  ),
+)
 
 pub returns-clause-crash : goal.returns-clause-crash
-returns-clause-crash g c =
-    rw (← c.self.view_is) (begin_keeps g.D.Disk _ _ (g.met.D.Disk.only_now c.self.inside.disk)
-    (g.met.D.Disk.counts_now c.self.inside.disk) c.args.image c.requires.some (Ok tt) (
+returns-clause-crash g c = rw (← c.self.view_is) (begin_keeps g.D.Disk _ _
+    (g.met.D.Disk.only_now c.self.inside.disk) (g.met.D.Disk.counts_now c.self.inside.disk)
+    c.args.image c.requires.some (Ok tt) (
       c.if-self.false,
-      none_is _ c.is_some.result c.is_some.ensures c.if-is_some.false,
-      not_too_long c.is_too_long.result _ c.size.result c.args.image.blocks.items c.size.ensures
-          c.is_too_long.ensures c.if-is_too_long.false,
-      (c.other_area-area.result, c.other_area-area.ensures, refl),
+      c.in_ok-ask_for.ensures,
+      (
+        not_too_long c.is_too_long.result _ c.size.result c.args.image.blocks.items
+            c.size.ensures c.is_too_long.ensures c.if-is_too_long.false,
+        (c.other_area-area.result, c.other_area-area.ensures, refl),
+      ),
     ))

@@ -1,7 +1,8 @@
-use Rattle.std.proofs.Common.{rules, ◌≡◌, ◌≢◌, List, [], ℕ, Some, OnOk}
+use Rattle.std.proofs.Common.{rules, ◌≡◌, ◌≢◌, List, [], ℕ, OnOk}
 use Rattle.disk_model.specs.Disk.{LeavesOnly, Rises}
 use Rattle.gate_block.specs.Area.{IsReady}
 use Rattle.checkpoint.specs.declared.laying.Laying.{Laying}
+use Rattle.checkpoint.specs.declared.stage.Stage.{Stage}
 use Rattle.checkpoint.specs.Imaging.{IsBeingLaid, IsRooted, PicksWhole, left_of}
 use Rattle.checkpoint.specs.ImageAnswers.{FlipAnswers}
 use Rattle.checkpoint.proofs.Flipping.{flipped, flip_ready, flip_moments}
@@ -14,23 +15,23 @@ answer : (g : Over) (c : goal.After-pick g) →
     (Rises (g.D.Disk.fault_count c.args.self.now.disk) (g.D.Disk.fault_count c.pick.new.self.disk))
     c.pick.new.self c.pick.result
 answer g c =
-    rw (← c.self.view_is) (flipped _ _ c.in-Some.laying c.take_written.new.image _ c.pick.result
+    rw (← c.self.view_is) (flipped _ _ c.in-Some.laying c.take_written.new.self _ c.pick.result
     c.if-self.false c.in-Some.ensures.some.0 c.in-Some.ensures.some.1 c.pick.ensures.answer)
 
 kept : (g : Over) (c : goal.After-pick g) (w : Laying) (bodies : List (List ℕ)) →
-    c.args.self.now.image ≡ Some w → bodies ≢ [] →
+    c.args.self.now.stage ≡ Stage.Laid w → bodies ≢ [] →
     IsBeingLaid w (g.D.Disk.seen c.args.self.now.disk) bodies →
     OnOk c.pick.result (IsReady g.D.Disk.seen g.D.Disk.may_leave c.pick.new.self.area
     c.pick.new.self.disk bodies)
 kept g c = rw (← c.self.view_is) (λ w bodies is some was.
     flip_ready g.D.Disk.seen g.D.Disk.may_leave _ w bodies c.self.invariant is some was _ _
     c.pick.result
-    (flipped _ _ c.in-Some.laying c.take_written.new.image _ c.pick.result c.if-self.false
+    (flipped _ _ c.in-Some.laying c.take_written.new.self _ c.pick.result c.if-self.false
     c.in-Some.ensures.some.0 c.in-Some.ensures.some.1 c.pick.ensures.answer)
     c.pick.ensures.root c.pick.ensures.durable)
 
 any_moment_whole : (g : Over) (c : goal.After-pick g) (w : Laying) (bodies : List (List ℕ)) →
-    c.args.self.now.image ≡ Some w → left_of w ≡ [] → bodies ≢ [] →
+    c.args.self.now.stage ≡ Stage.Laid w → left_of w ≡ [] → bodies ≢ [] →
     IsBeingLaid w (g.D.Disk.seen c.args.self.now.disk) bodies →
     IsRooted g.D.Disk.seen g.D.Disk.may_leave c.args.self.now.area c.args.self.now.disk →
     LeavesOnly g.D.Disk.moment g.D.Disk.left_since c.args.self.now.disk c.pick.new.self.disk

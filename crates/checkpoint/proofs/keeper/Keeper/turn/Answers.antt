@@ -48,7 +48,7 @@ returns-in-Some-clause-crash g c =
       base = c.bring.ensures.base;
       size = c.bring.ensures.size;
       covered = c.bring.ensures.covered;
-      image = c.bring.ensures.image;
+      stage = c.bring.ensures.stage;
       only_now = g.met.D.Disk.only_now c.self.inside.disk;
       counts_now = g.met.D.Disk.counts_now c.bring.new.self.disk;
     })

@@ -22,14 +22,14 @@ repeated g c =
 pub invariant_of-self : goal.invariant_of-self
 invariant_of-self g c =
     let i = c.self.inside in
-    let old = gather_of g.P.Part.collection i.copies.items i.effects.items i.frozen in
+    let old = gather_of g.P.Part.collection i.mark i.copies.items i.effects.items i.frozen in
     let now = c.repeat_all-done.new.copies in
     let left = c.repeat_all-done.new.effects.items in
     let back = with_items_is i.copies now
     (c.repeat_all-done.auto.copies ∙ c.deref_mut.ensures.len) in
-    subst (λ l. IsGathered (gather_of g.P.Part.collection l left i.frozen)) (sym back)
-    (gathered_repeated old.parts old.effects old.frozen (copies_of g.P.Part.collection now) left
-    c.self.invariant (repeated g c))
+    subst (λ l. IsGathered (gather_of g.P.Part.collection i.mark l left i.frozen)) (sym back)
+    (gathered_repeated old.mark old.parts old.effects old.frozen c.self.invariant
+    (copies_of g.P.Part.collection now) left (repeated g c))
 
 pub returns-clause-repeats : goal.returns-clause-repeats
 returns-clause-repeats g c = rw (← c.self.view_is) (
@@ -42,6 +42,7 @@ returns-clause-repeats g c = rw (← c.self.view_is) (
     record {
       repeated = subst (λ l. HaveRepeated (copies i.copies.items) i.effects.items (copies l) left)
           (sym back) (repeated g c);
+      mark = refl;
       frozen = refl;
     }
     )

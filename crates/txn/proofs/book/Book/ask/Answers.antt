@@ -1,4 +1,4 @@
-use Rattle.std.proofs.Common.{◌≡◌, ◌∷◌, [], sym, subst, OnErr}
+use Rattle.std.proofs.Common.{◌≡◌, sym, subst, OnErr}
 use Rattle.record_format.specs.Short.{AreShort}
 use Rattle.abstract_locks.specs.Holds.{IsClear}
 use Rattle.boosted.specs.Meaning.{CanAsk}
@@ -49,7 +49,8 @@ returns-clause-err g c =
     let answered = subst (λ b. g.B.Boosted.meaning.answers b.state.now c.args.col c.args.call.now
     c.args.reply.now) (sym c.self.view_is) c.requires.answered in
     rw (← c.self.view_is) (ask_refused g.B.Boosted.meaning g.B.Parts.making
-    (book_of i.machine i.pending i.places i.next) _ c.args.number c.args.col c.args.call.now
+    (book_of i.machine i.pending i.places i.next i.gathering) _ c.args.number c.args.col
+    c.args.call.now
     c.make_call.result
     (subst (λ b. IsOpen (CanAsk g.B.Boosted.meaning b.state.now c.args.col c.args.call.now)
     (standing b) c.args.number) (sym c.self.view_is) c.requires.open) (

@@ -1,4 +1,4 @@
-use Rattle.std.proofs.Common.{◌<◌, length, refl, sym, subst, arith, inl, inr}
+use Rattle.std.proofs.Common.{◌<◌, length, refl, sym, subst, arith, inl}
 use Rattle.record_format.specs.declared.record.Record.{Record}
 use Rattle.record_format.specs.Short.{AreShort}
 use Rattle.undo_log.specs.Logs.{Lives}
@@ -13,6 +13,12 @@ use Rattle.machine.proofs.Steps.{back_settles}
 use Rattle.machine.proofs.Readings.{unread_settles}
 use Rattle.machine.proofs.UndoneCall.{written_back}
 use Rattle.txn.proofs.book.Book.back.Given.{Over}
+use Rattle.calls.specs.Transactions.{Asked}
+use Rattle.std.proofs.Common.{length-append}
+use Rattle.std.proofs.Common.{◌∙◌, ap, ◌+◌, ◌∷◌}
+use Rattle.gathering.specs.Gatherings.{AreRun}
+use Rattle.txn.specs.Books.{position}
+use Rattle.txn.proofs.Goings.{goes_ran, position_after}
 use Rattle.txn.proofs.book.Book.back.Goals as goal
 
 pub push-requires-clause-room : goal.push-requires-clause-room
@@ -36,18 +42,19 @@ laws g = book_laws g.met.B.Boosted.laws g.met.B.Parts.laws g.met.B.Coded.told
 
 -- the step that was taken
 step : (g : Over) (c : goal.After-push g) → let i = c.self.inside in
-    let old = book_of i.machine i.pending i.places i.next in
-    WrittenBackRow g.B.Boosted.meaning old.state c.args.number c.back.new.self ×
+    let old = book_of i.machine i.pending i.places i.next i.gathering in
+    WrittenBackRow g.B.Boosted.meaning old.state c.args.number c.back.new.machine ×
     Appends old (Record.Back c.args.number)
-    (book_of c.back.new.self c.push.new.self i.places i.next)
+    (book_of c.back.new.machine c.push.new.self i.places i.next c.back.new.self)
 step g c =
     let i = c.self.inside in
-    let written = recorded i.machine i.pending i.places i.next (Record.Back c.args.number)
-    c.back.new.self c.reserve.new.self c.push.new.self i.places i.next
+    let written = recorded i.machine i.pending i.places i.next i.gathering c.back.new.self
+    (Record.Back c.args.number) c.back.new.machine c.reserve.new.self c.push.new.self i.places
+    i.next
     (subst (λ b. length b.pending < 16384) (sym c.self.view_is) c.in_ok-check_backlog.ensures.ok)
     c.in_ok-reserve.ensures.records c.in_ok-reserve.ensures.freezes c.in_ok-reserve.ensures.handed
     c.push.ensures.records c.push.ensures.freezes c.push.ensures.handed (omega arith) refl in (
-      written_back g.B.Boosted.meaning i.machine c.back.new.self c.args.number
+      written_back g.B.Boosted.meaning i.machine c.back.new.machine c.args.number
           (λ read. let yes = c.newest_reads.ensures.1 read in let no' = c.if-newest_reads.false in
           cc) c.in_ok-back.ensures.ok,
       written,
@@ -80,3 +87,25 @@ pub returns-clause-settled : goal.returns-clause-settled
 returns-clause-settled g c = rw (← c.self.view_is)
     (λ d w. back_settles g.B.Boosted.meaning g.B.Parts.making (laws g).rules _
     c.self.invariant.upheld.holds c.args.number _ d (step g c).0.back w)
+
+pub returns-clause-goes : goal.returns-clause-goes
+returns-clause-goes g c =
+    let i = c.self.inside in
+    let s = i.machine in
+    let old = book_of s i.pending i.places i.next i.gathering in
+    let new = book_of c.back.new.machine c.push.new.self i.places i.next c.back.new.self in
+    let row = (step g c).0.back in
+    let notes = c.in_ok-back.ensures.noted in
+    let next = c.next_position-position.ensures ∙ ap (λ b. position b + 1) (sym c.self.view_is) in
+    let unworn = c.self.invariant.upheld.unworn in
+    rw (← c.self.view_is) (goes_ran g.met.B.Boosted.laws g.met.B.Coded.told old new notes.undoing
+    s.wear c.self.invariant.upheld.reached
+    (omega (
+      arith,
+      notes.one,
+      unworn,
+      ap length row.newest.is,
+      length-append row.newest.before ((c.args.number, Asked row.call) ∷ row.newest.after),
+    ))
+    (subst (λ p. AreRun g.B.Boosted.meaning p notes.undoing s.now c.back.new.machine.now) next
+    notes.run) notes.is (position_after old new (Record.Back c.args.number) (step g c).1))

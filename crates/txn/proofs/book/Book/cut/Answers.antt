@@ -16,7 +16,7 @@ invariant_of-self g c =
     let i = c.self.inside in
     cut_keeps g.B.Boosted.meaning g.B.Parts.making (λ s. AreShort (g.B.Parts.collections s))
     (laws g) _ c.self.invariant (λ bs. g.O.Outbox.sends c.args.out.now bs c.cut.new.out) _ _
-    (book_of i.machine c.cut.new.self i.places i.next) (c.cut.ensures, refl)
+    (book_of i.machine c.cut.new.self i.places i.next i.gathering) (c.cut.ensures, refl)
 
 pub returns-clause-answer : goal.returns-clause-answer
 returns-clause-answer g c = rw (← c.self.view_is) (c.cut.ensures, refl)

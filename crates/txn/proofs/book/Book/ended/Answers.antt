@@ -11,6 +11,9 @@ use Rattle.txn.proofs.BookLemmas.{mark_length, recorded}
 use Rattle.txn.proofs.BookInvariant.{ended_keeps}
 use Rattle.machine.proofs.Steps.{ended_settles}
 use Rattle.txn.proofs.book.Book.ended.Given.{Over}
+use Rattle.machine.specs.Machine.{State}
+use Rattle.std.proofs.Common.{ap}
+use Rattle.txn.proofs.Goings.{goes_still, position_after}
 use Rattle.txn.proofs.book.Book.ended.Goals as goal
 
 pub push-requires-clause-room : goal.push-requires-clause-room
@@ -29,13 +32,14 @@ laws g = book_laws g.met.B.Boosted.laws g.met.B.Parts.laws g.met.B.Coded.told
 
 -- the step that was taken
 step : (g : Over) (c : goal.After-push g) → let i = c.self.inside in
-    let old = book_of i.machine i.pending i.places i.next in
+    let old = book_of i.machine i.pending i.places i.next i.gathering in
     EndedRow old.state c.args.number c.ended.new.self ×
     Appends old (Record.Ended c.args.number)
-    (book_of c.ended.new.self c.push.new.self i.places i.next)
+    (book_of c.ended.new.self c.push.new.self i.places i.next i.gathering)
 step g c =
     let i = c.self.inside in
-    let written = recorded i.machine i.pending i.places i.next (Record.Ended c.args.number)
+    let written = recorded i.machine i.pending i.places i.next i.gathering i.gathering
+    (Record.Ended c.args.number)
     c.ended.new.self c.reserve.new.self c.push.new.self i.places i.next
     (subst (λ b. length b.pending < 16384) (sym c.self.view_is) c.in_ok-check_backlog.ensures.ok)
     c.in_ok-reserve.ensures.records c.in_ok-reserve.ensures.freezes c.in_ok-reserve.ensures.handed
@@ -54,3 +58,13 @@ pub returns-clause-settled : goal.returns-clause-settled
 returns-clause-settled g c = rw (← c.self.view_is)
     (λ d w. ended_settles g.B.Boosted.meaning g.B.Parts.making (laws g).rules _
     c.self.invariant.upheld.holds c.args.number _ d (step g c).0 w)
+
+pub returns-clause-goes : goal.returns-clause-goes
+returns-clause-goes g c =
+    let i = c.self.inside in
+    let old = book_of i.machine i.pending i.places i.next i.gathering in
+    let new = book_of c.ended.new.self c.push.new.self i.places i.next i.gathering in
+    let row = (step g c).0 in
+    let next = position_after old new (Record.Ended c.args.number) (step g c).1 in
+    rw (← c.self.view_is) (goes_still g.met.B.Boosted.laws g.met.B.Coded.told old new
+    (ap (λ (v : State _). v.now) row.left.is) refl (omega (arith, next)))

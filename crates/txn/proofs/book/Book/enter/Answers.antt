@@ -11,6 +11,9 @@ use Rattle.txn.proofs.BookLemmas.{mark_length, recorded}
 use Rattle.txn.proofs.BookInvariant.{enter_keeps}
 use Rattle.machine.proofs.InvariantRows.{enter_room}
 use Rattle.txn.proofs.book.Book.enter.Given.{Over}
+use Rattle.machine.specs.Machine.{State}
+use Rattle.std.proofs.Common.{refl, ap}
+use Rattle.txn.proofs.Goings.{goes_still, position_after}
 use Rattle.txn.proofs.book.Book.enter.Goals as goal
 
 pub push-requires-clause-room : goal.push-requires-clause-room
@@ -38,17 +41,18 @@ begin-requires-clause-room g c =
 
 -- the step that was taken
 step : (g : Over) (c : goal.After-self-1 g) → let i = c.self.inside in
-    let old = book_of i.machine i.pending i.places i.next in
+    let old = book_of i.machine i.pending i.places i.next i.gathering in
     BeginRow old.state c.args.number c.begin.new.self × (old.state.wear < 2 ^ 61) ×
     Appends old (Record.Begin c.args.number)
-    (book_of c.begin.new.self c.push.new.self i.places c.max-self-inside.result)
+    (book_of c.begin.new.self c.push.new.self i.places c.max-self-inside.result i.gathering)
 step g c =
     let i = c.self.inside in
-    let old = book_of i.machine i.pending i.places i.next in
+    let old = book_of i.machine i.pending i.places i.next i.gathering in
     let can : CanEnter (standing old) c.args.number =
     subst (λ b. CanEnter (standing b) c.args.number) (sym c.self.view_is)
     c.in_ok-check_enter.ensures.ok in
-    let written = recorded i.machine i.pending i.places i.next (Record.Begin c.args.number)
+    let written = recorded i.machine i.pending i.places i.next i.gathering i.gathering
+    (Record.Begin c.args.number)
     c.begin.new.self c.reserve.new.self c.push.new.self i.places c.max-self-inside.result
     can.room
     c.in_ok-reserve.ensures.records c.in_ok-reserve.ensures.freezes c.in_ok-reserve.ensures.handed
@@ -63,3 +67,14 @@ invariant_of-self-2 g c = enter_keeps g.B.Boosted.meaning g.B.Parts.making
 
 pub returns-clause-answer : goal.returns-clause-answer
 returns-clause-answer g c = rw (← c.self.view_is) (step g c)
+
+pub returns-clause-goes : goal.returns-clause-goes
+returns-clause-goes g c =
+    let i = c.self.inside in
+    let old = book_of i.machine i.pending i.places i.next i.gathering in
+    let new = book_of c.begin.new.self c.push.new.self i.places c.max-self-inside.result
+    i.gathering in
+    let row = (step g c).0 in
+    let next = position_after old new (Record.Begin c.args.number) (step g c).2 in
+    rw (← c.self.view_is) (goes_still g.met.B.Boosted.laws g.met.B.Coded.told old new
+    (ap (λ (v : State _). v.now) row.is) refl (omega (arith, next)))

@@ -1,10 +1,11 @@
-use Rattle.std.proofs.Common.{◌+◌, length, refl, ◌∙◌, ap}
+use Rattle.std.proofs.Common.{◌+◌, length, ◌∙◌, ap, subst}
 use Rattle.record_format.specs.Short.{AreShort}
-use Rattle.txn.specs.Views.{book_of}
+use Rattle.blocks.specs.declared.draft.Handed.{Handed}
 use Rattle.blocks.specs.Waits.{waiting}
 use Rattle.machine.proofs.BookLaws.{BookLaws, book_laws}
-use Rattle.txn.proofs.BookLemmas.{only_sealed}
-use Rattle.blocks.proofs.Packed.{all_whole}
+use Rattle.gathering.specs.Gatherings.{HoldsAll}
+use Rattle.txn.specs.Views.{book_of}
+use Rattle.txn.proofs.BookLemmas.{only_sealed, ended_sealed, seals_reserved}
 use Rattle.txn.proofs.BookInvariant.{freeze_keeps}
 use Rattle.txn.proofs.book.Book.freeze.Given.{Over}
 use Rattle.txn.proofs.book.Book.freeze.Goals as goal
@@ -14,27 +15,35 @@ laws : (g : Over) → BookLaws g.B.Boosted.meaning g.B.Parts.making
     (λ s. AreShort (g.B.Parts.collections s))
 laws g = book_laws g.met.B.Boosted.laws g.met.B.Parts.laws g.met.B.Coded.told
 
-pub invariant_of-result : goal.invariant_of-result
-invariant_of-result g c = let packed = c.in_ok-blocks.ensures.image in
-    record { whole = all_whole c.in_ok-blocks.blocks.items packed.groups packed.whole }
-
 pub invariant_of-self-2 : goal.invariant_of-self-2
 invariant_of-self-2 g c =
     let i = c.self.inside in
+    let made = c.in_ok-reserve_seal.ensures in
     freeze_keeps g.B.Boosted.meaning g.B.Parts.making (λ s. AreShort (g.B.Parts.collections s))
     (laws g) _ c.self.invariant
-    (book_of i.machine c.seal.new.self i.places i.next)
-    (only_sealed i.machine i.pending c.seal.new.self i.places i.next c.seal.ensures.records
-    c.seal.ensures.handed) c.in_ok-seal.ensures.sealed
+    (book_of i.machine c.seal.new.self i.places i.next c.freeze.new.self)
+    (only_sealed i.machine i.pending c.seal.new.self i.places i.next c.freeze.new.self
+    (c.seal.ensures.records ∙ made.records) (c.seal.ensures.handed ∙ made.handed))
+    (seals_reserved i.pending c.reserve_seal.new.self c.seal.new.self made.records made.freezes
+    made.handed c.in-Ok.ensures.sealed)
 
-pub returns-clause-answer : goal.returns-clause-answer
-returns-clause-answer g c =
+pub returns : goal.returns
+returns g c =
     let i = c.self.inside in
-    let end = c.position.ensures ∙ ap (λ h. h.end + length (waiting c.seal.new.self))
-    c.seal.ensures.handed ∙ ap (λ l. i.pending.handed.end + length l) c.seal.ensures.records in
-    rw (← c.self.view_is) (
-      record { packed = c.in_ok-blocks.ensures.image; end = end; place = refl },
-      only_sealed i.machine i.pending c.seal.new.self i.places i.next c.seal.ensures.records
-          c.seal.ensures.handed,
-      c.in_ok-seal.ensures.sealed,
-    )
+    let made = c.in_ok-reserve_seal.ensures in
+    let there = c.position-position.ensures ∙
+    ap (λ (h : Handed). h.end + length (waiting c.reserve_seal.new.self)) made.handed ∙
+    ap (λ l. i.pending.handed.end + length l) made.records in
+    rw (← c.self.view_is) (record {
+      answer = (
+        c.in_ok-check_freeze.ensures.ok,
+        subst (λ p. HoldsAll g.B.Parts.collections i.next i.places p i.machine c.freeze.new.gather)
+            there c.in_ok-freeze.ensures.holds,
+        ended_sealed i.machine i.pending c.seal.new.self i.places i.next i.gathering
+            c.freeze.new.self (c.seal.ensures.records ∙ made.records)
+            (c.seal.ensures.handed ∙ made.handed) c.in_ok-freeze.ensures.ended,
+        seals_reserved i.pending c.reserve_seal.new.self c.seal.new.self made.records made.freezes
+            made.handed c.in-Ok.ensures.sealed,
+        c.in_ok-freeze.ensures.mark,
+      );
+    })

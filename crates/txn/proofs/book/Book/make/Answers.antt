@@ -12,6 +12,9 @@ use Rattle.txn.proofs.BookLemmas.{recorded, make_refused, reserved_same}
 use Rattle.txn.proofs.BookInvariant.{make_keeps}
 use Rattle.machine.proofs.Steps.{make_settles}
 use Rattle.txn.proofs.book.Book.make.Given.{Over}
+use Rattle.machine.specs.Machine.{State}
+use Rattle.std.proofs.Common.{ap}
+use Rattle.txn.proofs.Goings.{goes_made, position_after}
 use Rattle.txn.proofs.book.Book.make.Goals as goal
 
 -- the laws of the collections
@@ -21,10 +24,10 @@ laws g = book_laws g.met.B.Boosted.laws g.met.B.Parts.laws g.met.B.Coded.told
 
 -- the step that was taken
 step : (g : Over) (c : goal.After-self-1 g) → let i = c.self.inside in
-    let old = book_of i.machine i.pending i.places i.next in
+    let old = book_of i.machine i.pending i.places i.next i.gathering in
     MakeRow g.B.Parts.making old.state c.args.name.now c.args.kind c.make.new.self ×
     Appends old (Record.Make c.args.kind c.args.name.now)
-    (book_of c.make.new.self c.push.new.self (i.places + 1) i.next)
+    (book_of c.make.new.self c.push.new.self (i.places + 1) i.next i.gathering)
 step g c =
     let i = c.self.inside in
     let same = c.new-spelled.ensures ∙ c.in_ok-to_string.ensures.ok in
@@ -32,7 +35,7 @@ step g c =
     Record.Make c.args.kind c.args.name.now ∷ [] =
     subst (λ v. waiting c.push.new.self ≡ waiting c.reserve.new.self ++
     Record.Make c.args.kind v ∷ []) same c.push.ensures.records in
-    let written = recorded i.machine i.pending i.places i.next
+    let written = recorded i.machine i.pending i.places i.next i.gathering i.gathering
     (Record.Make c.args.kind c.args.name.now) c.make.new.self c.reserve.new.self c.push.new.self
     (i.places + 1) i.next
     (subst (λ b. length b.pending < 16384) (sym c.self.view_is) c.in_ok-check_backlog.ensures.ok)
@@ -60,7 +63,8 @@ returns-in_err-make-clause-answer g c =
     let p = err_from_is_err_and c.from_residual-in_err-make.result
     c.from_residual-in_err-make.ensures.1 in
     let same = reserved_same i.machine c.make.new.self i.pending c.reserve.new.self i.places i.next
-    c.in_err-make.ensures.same c.in_ok-reserve.ensures.records c.in_ok-reserve.ensures.freezes
+    i.gathering i.gathering c.in_err-make.ensures.same refl c.in_ok-reserve.ensures.records
+    c.in_ok-reserve.ensures.freezes
     c.in_ok-reserve.ensures.handed ∙ c.self.view_is in
     let refused = subst (λ b. naming.MakeRefused (g.B.Parts.making.names b.state.now)
     c.args.name.now c.in_err-make.field-0.0) c.self.view_is c.in_err-make.ensures.err in
@@ -71,3 +75,15 @@ returns-in_err-make-clause-answer g c =
           c.in_ok-check_backlog.ensures.ok
           refused,
     )
+
+pub returns-clause-goes : goal.returns-clause-goes
+returns-clause-goes g c =
+    let i = c.self.inside in
+    let old = book_of i.machine i.pending i.places i.next i.gathering in
+    let new = book_of c.make.new.self c.push.new.self (i.places + 1) i.next i.gathering in
+    let row = (step g c).0 in
+    let made = subst (g.B.Parts.making.makes i.machine.now c.args.name.now c.args.kind)
+    (sym (ap (λ (v : State _). v.now) row.is)) row.made in
+    rw (← c.self.view_is) (goes_made g.met.B.Boosted.laws g.met.B.Coded.told old new
+    c.args.name.now c.args.kind made refl
+    (position_after old new (Record.Make c.args.kind c.args.name.now) (step g c).1))

@@ -16,7 +16,8 @@ laws g = book_laws g.met.B.Boosted.laws g.met.B.Parts.laws g.met.B.Coded.told
 pub invariant_of-result : goal.invariant_of-result
 invariant_of-result g c =
     let is = opened_is c.args.parts c.new.result c.new-2.result c.args.wear c.args.next
-    c.new.ensures c.new-2.ensures.records c.new-2.ensures.freezes c.new-2.ensures.handed in
+    c.new-3.result c.new.ensures c.new-2.ensures.records c.new-2.ensures.freezes
+    c.new-2.ensures.handed c.new-3.ensures in
     subst (IsKept g.B.Boosted.meaning g.B.Parts.making (λ s. AreShort (g.B.Parts.collections s))
     (IsSound g.B.Boosted.meaning g.B.Parts.making)) (sym is)
     (opened_kept g.B.Boosted.meaning g.B.Parts.making (λ s. AreShort (g.B.Parts.collections s))

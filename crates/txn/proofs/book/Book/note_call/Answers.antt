@@ -13,6 +13,13 @@ use Rattle.machine.proofs.InvariantRows.{call_room}
 use Rattle.machine.proofs.Steps.{call_settles}
 use Rattle.txn.proofs.CallRecords.{is_record}
 use Rattle.txn.proofs.book.Book.note_call.Given.{Over}
+use Rattle.machine.specs.Machine.{State}
+use Rattle.gathering.proofs.Running.{are_run}
+use Rattle.std.proofs.Common.{◌∙◌, ap, [], ◌∷◌, ◌+◌}
+use Rattle.undo_log.specs.Entries.{event_of}
+use Rattle.gathering.specs.Gatherings.{noted, effect_at}
+use Rattle.txn.specs.Books.{position}
+use Rattle.txn.proofs.Goings.{goes_ran, position_after}
 use Rattle.txn.proofs.book.Book.note_call.Goals as goal
 
 -- the laws of the collections
@@ -39,7 +46,7 @@ call-requires-clause-room g c =
 -- the call can be asked for, and gets the reply
 asks : (g : Over) (c : goal.After-push_call g) → let i = c.self.inside in
     IsOpen (CanAsk g.B.Boosted.meaning i.machine.now c.args.col c.args.call.now)
-    (standing (book_of i.machine i.pending i.places i.next)) c.args.number
+    (standing (book_of i.machine i.pending i.places i.next i.gathering)) c.args.number
 asks g c = subst (λ b. IsOpen (CanAsk g.B.Boosted.meaning b.state.now c.args.col c.args.call.now)
     (standing b) c.args.number) (sym c.self.view_is) c.requires.open
 
@@ -55,20 +62,21 @@ event g c = record { at = c.args.col; call = c.args.call.now; reply = c.args.rep
 
 -- the step that was taken
 step : (g : Over) (c : goal.After-push_call g) → let i = c.self.inside in
-    let old = book_of i.machine i.pending i.places i.next in
-    CallRow g.B.Boosted.meaning old.state c.args.number (event g c) c.call.new.self ×
+    let old = book_of i.machine i.pending i.places i.next i.gathering in
+    CallRow g.B.Boosted.meaning old.state c.args.number (event g c) c.call.new.machine ×
     Appends old (record_of c.args.number (event g c))
-    (book_of c.call.new.self c.push_call.new.self i.places i.next)
+    (book_of c.call.new.machine c.push_call.new.self i.places i.next c.call.new.self)
 step g c =
     let i = c.self.inside in
     let entry = record_of c.args.number (event g c) in
-    let written = recorded i.machine i.pending i.places i.next entry c.call.new.self
+    let written = recorded i.machine i.pending i.places i.next i.gathering c.call.new.self entry
+    c.call.new.machine
     c.reserve.new.self c.push_call.new.self i.places i.next
     (asks g c).room c.in_ok-reserve.ensures.records c.in_ok-reserve.ensures.freezes
     c.in_ok-reserve.ensures.handed c.push_call.ensures.records c.push_call.ensures.freezes
     c.push_call.ensures.handed
     (omega arith) refl in (
-      subst (λ e. CallRow g.B.Boosted.meaning i.machine c.args.number e c.call.new.self)
+      subst (λ e. CallRow g.B.Boosted.meaning i.machine c.args.number e c.call.new.machine)
           c.in_ok-asked.ensures.ok c.in_ok-call.ensures.ok,
       written,
     )
@@ -78,8 +86,8 @@ returns-clause-ok g c =
     let i = c.self.inside in
     rw (← c.self.view_is) (
       subst (λ b. IsMade g.B.Boosted.meaning g.B.Parts.making standing Appends Moves b
-          (book_of i.machine i.pending i.places i.next) c.args.number (event g c)
-          (book_of c.call.new.self c.push_call.new.self i.places i.next))
+          (book_of i.machine i.pending i.places i.next i.gathering) c.args.number (event g c)
+          (book_of c.call.new.machine c.push_call.new.self i.places i.next c.call.new.self))
           (sym c.requires.written) (step g c),
       (asks g c).unworn,
     )
@@ -100,3 +108,23 @@ pub returns-clause-settled : goal.returns-clause-settled
 returns-clause-settled g c = rw (← c.self.view_is)
     (λ d w. call_settles g.B.Boosted.meaning g.B.Parts.making (laws g).rules _
     c.self.invariant.upheld.holds c.args.number (event g c) _ d (step g c).0 w)
+
+pub returns-clause-goes : goal.returns-clause-goes
+returns-clause-goes g c =
+    let i = c.self.inside in
+    let s = i.machine in
+    let e = event g c in
+    let old = book_of s i.pending i.places i.next i.gathering in
+    let new = book_of c.call.new.machine c.push_call.new.self i.places i.next c.call.new.self in
+    let row = (step g c).0 in
+    let room = row.room in
+    let next = c.next_position-position.ensures ∙ ap (λ b. position b + 1) (sym c.self.view_is) in
+    rw (← c.self.view_is) (goes_ran g.met.B.Boosted.laws g.met.B.Coded.told old new
+    (effect_at (position old + 1) e ∷ []) s.wear c.self.invariant.upheld.reached (omega arith)
+    (are_run g.B.Boosted.meaning (position old + 1) (e ∷ []) s.now c.call.new.machine.now
+    (c.call.new.machine.now, (row.can.answered, ap (λ (v : State _). v.now) row.is), refl)
+    (row.can.asked.2, tt))
+    (c.in_ok-call.ensures.noted ∙ ap
+    (λ q. noted i.gathering (effect_at q (event_of c.in_ok-asked.asked) ∷ [])) next ∙
+    ap (λ v. noted i.gathering (effect_at (position old + 1) v ∷ [])) c.in_ok-asked.ensures.ok)
+    (position_after old new (record_of c.args.number e) (step g c).1))

@@ -12,6 +12,10 @@ use Rattle.txn.proofs.BookInvariant.{read_keeps}
 use Rattle.machine.proofs.InvariantRows.{call_room}
 use Rattle.machine.proofs.Readings.{read_settles}
 use Rattle.txn.proofs.book.Book.note_read.Given.{Over}
+use Rattle.std.proofs.Common.{arith}
+use Rattle.machine.specs.Machine.{State}
+use Rattle.std.proofs.Common.{ap}
+use Rattle.txn.proofs.Goings.{goes_still}
 use Rattle.txn.proofs.book.Book.note_read.Goals as goal
 
 -- the laws of the collections
@@ -53,12 +57,12 @@ step g c = subst (λ e. ReadRow g.B.Boosted.meaning c.self.inside.machine c.args
 pub returns-clause-ok : goal.returns-clause-ok
 returns-clause-ok g c =
     let i = c.self.inside in
-    let old = book_of i.machine i.pending i.places i.next in
+    let old = book_of i.machine i.pending i.places i.next i.gathering in
     let asked = subst (λ b. IsOpen (CanAsk g.B.Boosted.meaning b.state.now c.args.at
     c.args.call.now) (standing b) c.args.number) (sym c.self.view_is) c.requires.open in
     rw (← c.self.view_is) (
       subst (λ b. IsMade g.B.Boosted.meaning g.B.Parts.making standing Appends Moves b old
-          c.args.number (event g c) (book_of c.read.new.self i.pending i.places i.next))
+          c.args.number (event g c) (book_of c.read.new.self i.pending i.places i.next i.gathering))
           (sym c.requires.only_reads) (step g c, asked.room, refl),
       asked.unworn,
     )
@@ -72,3 +76,11 @@ pub returns-clause-settled : goal.returns-clause-settled
 returns-clause-settled g c = rw (← c.self.view_is)
     (λ d w. read_settles g.B.Boosted.meaning g.B.Parts.making (laws g).rules _ _ c.args.number
     (event g c) d c.self.invariant.upheld.holds (step g c) w)
+
+pub returns-clause-goes : goal.returns-clause-goes
+returns-clause-goes g c =
+    let i = c.self.inside in
+    let old = book_of i.machine i.pending i.places i.next i.gathering in
+    let new = book_of c.read.new.self i.pending i.places i.next i.gathering in
+    rw (← c.self.view_is) (goes_still g.met.B.Boosted.laws g.met.B.Coded.told old new
+    (ap (λ (v : State _). v.now) (step g c).is) refl (omega arith))

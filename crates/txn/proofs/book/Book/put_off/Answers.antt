@@ -15,6 +15,9 @@ use Rattle.txn.proofs.BookInvariant.{later_keeps}
 use Rattle.machine.proofs.InvariantRows.{call_room}
 use Rattle.machine.proofs.Steps.{later_settles}
 use Rattle.txn.proofs.book.Book.put_off.Given.{Over}
+use Rattle.machine.specs.Machine.{State}
+use Rattle.std.proofs.Common.{ap}
+use Rattle.txn.proofs.Goings.{goes_still, position_after}
 use Rattle.txn.proofs.book.Book.put_off.Goals as goal
 
 -- the laws of the collections
@@ -33,11 +36,11 @@ later-requires-clause-room g c =
 
 -- the step that was taken
 step : (g : Over) (c : goal.After-push g) → let i = c.self.inside in
-    let old = book_of i.machine i.pending i.places i.next in
+    let old = book_of i.machine i.pending i.places i.next i.gathering in
     LaterRow g.B.Boosted.meaning old.state c.args.number c.args.put.at c.args.put.call
     c.later.new.self ×
     Appends old (later_record c.args.number c.args.put.at c.args.put.call)
-    (book_of c.later.new.self c.push.new.self i.places i.next)
+    (book_of c.later.new.self c.push.new.self i.places i.next i.gathering)
 step g c =
     let i = c.self.inside in
     let entry = later_record c.args.number c.args.put.at c.args.put.call in
@@ -46,7 +49,8 @@ step g c =
     c.push.ensures.records in
     let asked = subst (λ b. IsOpen (CanDefer g.B.Boosted.meaning b.state.now c.args.put.at
     c.args.put.call) (standing b) c.args.number) (sym c.self.view_is) c.requires.open in
-    let written = recorded i.machine i.pending i.places i.next entry c.later.new.self
+    let written = recorded i.machine i.pending i.places i.next i.gathering i.gathering entry
+    c.later.new.self
     c.reserve.new.self c.push.new.self i.places i.next
     asked.room c.in_default.ensures.records c.in_default.ensures.freezes c.in_default.ensures.handed
     put c.push.ensures.freezes c.push.ensures.handed (omega arith) refl in
@@ -81,3 +85,14 @@ later-requires-clause-can g c =
       ready = ready;
       clear = clear;
     }
+
+pub returns-clause-goes : goal.returns-clause-goes
+returns-clause-goes g c =
+    let i = c.self.inside in
+    let old = book_of i.machine i.pending i.places i.next i.gathering in
+    let new = book_of c.later.new.self c.push.new.self i.places i.next i.gathering in
+    let row = (step g c).0 in
+    let next = position_after old new
+    (later_record c.args.number c.args.put.at c.args.put.call) (step g c).1 in
+    rw (← c.self.view_is) (goes_still g.met.B.Boosted.laws g.met.B.Coded.told old new
+    (ap (λ (v : State _). v.now) row.is) refl (omega (arith, next)))

@@ -11,7 +11,7 @@ use Rattle.world.proofs.world.World.flip.Goals as goal
 behind : (g : Over) (c : goal.After-self-1 g) →
     c.mark_then-self-inside.result ≡ c.flip-flipped.new.self.mark
 behind g c = c.mark_then-self-inside.ensures ∙
-    ap (λ m. mark_flipped m c.flip-flipped.result) c.self.invariant ∙
+    ap (λ m. mark_flipped m c.flip-flipped.result) c.self.invariant.0 ∙
     flip_mark_is c.self.inside.keeper c.flip-flipped.new.self _ c.flip-flipped.result
     c.flip-flipped.ensures.answer
 
@@ -21,10 +21,10 @@ marked g c =
     c.flip-flipped.ensures.answer in
     omega (
       arith,
-      c.self.invariant,
+      c.self.invariant.0,
       rises,
       c.mark_then-self-inside.ensures,
-      ap (λ m. mark_flipped m c.flip-flipped.result) c.self.invariant,
+      ap (λ m. mark_flipped m c.flip-flipped.result) c.self.invariant.0,
     )
 
 pub returns : goal.returns
@@ -47,6 +47,7 @@ returns g c =
         answers = c.flip-flipped.ensures.answer;
         answer = refl;
         book = refl;
+        gather = refl;
         transit = refl;
         mark = told;
         next = refl;

@@ -2,6 +2,7 @@ use Rattle.std.proofs.Common.{subst}
 use Rattle.txn.specs.declared.steps.Action.{Action}
 use Rattle.txn.specs.Books.{Takes}
 use Rattle.catalog.specs.Meaning.{catalog_meaning, catalog_making}
+use Rattle.world.proofs.OfBook.{of_step, make_same}
 use Rattle.world.proofs.CoreLemmas.{make_taken}
 use Rattle.world.proofs.world.World.make.Goals as goal
 
@@ -12,6 +13,7 @@ returns g c =
     (make_taken g.D.Disk (record {
       book =
           w.book;
+      gather = w.gather;
       keeper = w.keeper;
       transit = w.transit.blocks.items;
       mark = w.mark;
@@ -22,3 +24,16 @@ returns g c =
     (subst (λ n. Takes catalog_meaning catalog_making w.book
     (Action.Make n c.args.kind c.make-made.result) c.make-made.new.self) c.as_str.ensures
     c.make-made.ensures.answer))
+
+pub invariant_of-self : goal.invariant_of-self
+invariant_of-self g c = (
+  c.self.invariant.0,
+  of_step c.self.inside.book c.make-made.new.self c.self.inside.gather c.make-made.result
+      c.make-made.ensures.goes
+      (make_same c.self.inside.book c.make-made.new.self c.args.name.now c.args.kind
+      c.make-made.result
+      (subst (λ n. Takes catalog_meaning catalog_making c.self.inside.book
+      (Action.Make n c.args.kind c.make-made.result) c.make-made.new.self) c.as_str.ensures
+      c.make-made.ensures.answer))
+      c.self.invariant.1,
+)

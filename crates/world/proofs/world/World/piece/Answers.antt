@@ -20,11 +20,11 @@ returns-then-is_some_left g c =
     rw (← c.self.view_is) (record {
       past = λ start past had. (imaged g.D.Disk start past _ had
           (Step.Piece, outcome Answer.Laid c.image_piece.result) l c.self.inside.mark refl
-          c.image_piece.ensures.crash (c.self.invariant ∙ same) (omega arith)
+          c.image_piece.ensures.crash (c.self.invariant.0 ∙ same) (omega arith)
           (omega (arith, tells))).0;
       any_moment = λ start past had. (imaged g.D.Disk start past _ had
           (Step.Piece, outcome Answer.Laid c.image_piece.result) l c.self.inside.mark refl
-          c.image_piece.ensures.crash (c.self.invariant ∙ same) (omega arith)
+          c.image_piece.ensures.crash (c.self.invariant.0 ∙ same) (omega arith)
           (omega (arith, tells))).1;
       mark = omega arith;
       own = piece_answered c.image_piece.result;
@@ -36,6 +36,7 @@ returns-then-is_some_left g c =
           (c.image_piece.result, c.image_piece.ensures.answer, refl),
         );
         book = refl;
+        gather = refl;
         transit = refl;
         mark = refl;
         next = refl;
@@ -44,7 +45,7 @@ returns-then-is_some_left g c =
     })
 
 -- none is left
-none_left : (g : Over) (c : goal.Else-is_some_left g) → HasPiece c.self.inside.keeper.image → ⊥
+none_left : (g : Over) (c : goal.Else-is_some_left g) → HasPiece c.self.inside.keeper.stage → ⊥
 none_left g c has = true≢false (sym
     (c.is_some_left.ensures.1 (subst (λ o. IsSomeAnd o (λ n. 1 ≤ n)) (sym c.left.ensures) has)) ∙
     c.if-is_some_left.false)
@@ -62,6 +63,7 @@ returns g c = rw (← c.self.view_is) (record {
   moves = record {
     pieced = inr (none_left g c, refl, refl);
     book = refl;
+    gather = refl;
     transit = refl;
     mark = refl;
     next = refl;

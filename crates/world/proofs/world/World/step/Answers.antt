@@ -45,8 +45,16 @@ pub returns-in-Turn : goal.returns-in-Turn
 returns-in-Turn g c = wrapped g.D.Disk _ _ (Step.Turn) c.args.step.now (Answer.Turned) c.turn.result
     c.map_or_else-in-Turn.result c.in-Turn.is c.map_or_else-in-Turn.ensures c.turn.ensures
 
+pub returns-in-Gather : goal.returns-in-Gather
+returns-in-Gather g c = wrapped g.D.Disk _ _ (Step.Gather) c.args.step.now (Answer.Gathered)
+    c.gather.result c.map_or_else-in-Gather.result c.in-Gather.is c.map_or_else-in-Gather.ensures
+    c.gather.ensures
+
 pub returns-in-Freeze : goal.returns-in-Freeze
 returns-in-Freeze g c = rw (c.in-Freeze.is, c.answered-in-Freeze.ensures) c.freeze.ensures
+
+pub returns-in-Pack : goal.returns-in-Pack
+returns-in-Pack g c = rw (c.in-Pack.is, c.answered-in-Pack.ensures) c.pack.ensures
 
 pub returns-in-Piece : goal.returns-in-Piece
 returns-in-Piece g c = wrapped g.D.Disk _ _ (Step.Piece) c.args.step.now (Answer.Laid)

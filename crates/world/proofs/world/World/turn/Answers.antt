@@ -14,11 +14,11 @@ behind : (g : Over) (c : goal.After-self-1 g) →
 behind g c =
     let w = c.self.inside in
     let new = c.turn-turned.new.self in
-    ap (λ m. mark_behind m c.turn-turned.result) c.self.invariant ∙
+    ap (λ m. mark_behind m c.turn-turned.result) c.self.invariant.0 ∙
     mark_is w.keeper.held (λ bs. w.transit.blocks.items ≡ bs ++
     c.turn-turned.new.inbox.blocks.items)
     (w.transit.blocks.items ≡ []) w.keeper.failed new.failed w.keeper.mark new.mark
-    (λ b. b.end ≤ w.keeper.covered) (λ b. IsPast w.keeper.image b.end)
+    (λ b. b.end ≤ w.keeper.covered) (λ b. IsPast w.keeper.stage b.end)
     (λ b. size_of w.keeper.area < position_of w.keeper.area + length b.bytes.items) _
     (Rises (g.D.Disk.fault_count w.keeper.disk) (g.D.Disk.fault_count new.disk))
     c.turn-turned.result new.held c.turn-turned.ensures.answer
@@ -30,11 +30,11 @@ marked g c =
     let rises = mark_rises w.keeper.held
     (λ bs. w.transit.blocks.items ≡ bs ++ c.turn-turned.new.inbox.blocks.items)
     (w.transit.blocks.items ≡ []) w.keeper.failed new.failed w.keeper.mark new.mark
-    (λ b. b.end ≤ w.keeper.covered) (λ b. IsPast w.keeper.image b.end)
+    (λ b. b.end ≤ w.keeper.covered) (λ b. IsPast w.keeper.stage b.end)
     (λ b. size_of w.keeper.area < position_of w.keeper.area + length b.bytes.items) _
     (Rises (g.D.Disk.fault_count w.keeper.disk) (g.D.Disk.fault_count new.disk))
     c.turn-turned.result new.held c.turn-turned.ensures.answer in
-    omega (arith, rises, c.self.invariant, c.mark_after-self-inside.ensures, behind g c)
+    omega (arith, rises, c.self.invariant.0, c.mark_after-self-inside.ensures, behind g c)
 
 -- the blocks that the keeper took
 took : (g : Over) (c : goal.After-self-1 g) → (bs : List _) ×
@@ -45,7 +45,7 @@ took g c =
     some_received w.keeper.held
     (λ bs. w.transit.blocks.items ≡ bs ++ c.turn-turned.new.inbox.blocks.items)
     (w.transit.blocks.items ≡ []) w.keeper.failed new.failed w.keeper.mark new.mark
-    (λ b. b.end ≤ w.keeper.covered) (λ b. IsPast w.keeper.image b.end)
+    (λ b. b.end ≤ w.keeper.covered) (λ b. IsPast w.keeper.stage b.end)
     (λ b. size_of w.keeper.area < position_of w.keeper.area + length b.bytes.items) _
     (Rises (g.D.Disk.fault_count w.keeper.disk) (g.D.Disk.fault_count new.disk))
     c.turn-turned.result new.held c.turn-turned.ensures.answer
@@ -70,6 +70,7 @@ returns g c =
         answer = refl;
         answers = c.turn-turned.ensures.answer;
         book = refl;
+        gather = refl;
         mark = told;
         next = refl;
       };

@@ -1,0 +1,4 @@
+pub mod Going
+pub mod Running
+mod Laters
+mod Undoing

@@ -1,0 +1,156 @@
+-- What a book keeps while it is gathered, beside the steps of its machine.
+use Rattle.std.specs.Prelude.{◌≡◌, ◌≢◌, ℕ, ◌+◌, ◌==◌, ◌<◌, ◌≤◌, ◌^◌, ◌⊎◌, Bool, true, false, cond}
+use Rattle.std.specs.Prelude.{nat_le, nat_lt, List, [], ◌++◌, length, map, slice_get}
+use Rattle.std.specs.Prelude.{Some, Result, Ok, Err}
+use Rattle.std.specs.List.{AllByRecursion}
+use Rattle.calls.specs.declared.refusal.Refusal.{Refusal}
+use Rattle.calls.specs.Contents.{Collection}
+use Rattle.calls.specs.Rules.{IsShort}
+use Rattle.calls.specs.Transactions.{Event, Leads}
+use Rattle.boosted.specs.Meaning.{Meaning}
+use Rattle.machine.specs.Machine.{State, Does, BackRow}
+use Rattle.images.specs.declared.effect.Effect.{Effect}
+use Rattle.images.specs.Gathers.{GatherState, FrozenState, with_gathered, gathered, caught_up}
+use Rattle.images.specs.Images.{TellsTransactions}
+use Rattle.images.specs.Following.{Follows, CameBy}
+
+pub record GatheringState : Type 0 where
+  -- how many gatherings were begun
+  pub begun : ℕ
+  -- the last of them is under way: it was not given up, and nothing was frozen
+  pub going : Bool
+  -- the calls that were run since it was handed some
+  pub effects : List Effect
+
+-- where nothing was gathered yet
+abbrev pub none_begun : GatheringState
+none_begun = record { begun = 0; going = false; effects = [] }
+
+-- no gathering is under way
+abbrev pub given_up : GatheringState → GatheringState
+given_up n = record n { going = false; effects = [] }
+
+-- The calls are noted behind the others, if a gathering is under way: as long as there are 16,384
+-- at most. With more it is given up.
+abbrev pub noted : GatheringState → List Effect → GatheringState
+noted n es = cond n.going (cond (nat_le (length n.effects + length es) 16384)
+    (record n { effects = n.effects ++ es }) (given_up n)) n
+
+-- What holds of every gathering, where there is room for so many calls: while it is under way
+-- there is room for 16,384.
+pub record IsKept (n : GatheringState) (room : ℕ) : Type 0 where
+  pub few : n.begun ≤ 2 ^ 61
+  pub first : n.going ≡ true → 1 ≤ n.begun
+  pub none : n.going ≡ false → n.effects ≡ []
+  pub fit : length n.effects ≤ 16384
+  pub roomy : n.going ≡ true → 16384 ≤ room
+  pub short : AllByRecursion (λ e. IsShort e.call) n.effects
+
+-- ---- what the calls did
+
+-- the call with its reply, as transactions are told
+abbrev pub event_in : Effect → Event
+event_in e = record { at = e.collection; call = e.call; reply = e.reply }
+
+-- the call, where the record that tells of it is the one at the position
+abbrev pub effect_at : (position : ℕ) → Event → Effect
+effect_at position e =
+    record { position = position; collection = e.at; call = e.call; reply = e.reply }
+
+-- The calls lead from one content to another, can be spelled, and are told of by the record at the
+-- position.
+pub record AreRun {S : Type 0} (meaning : Meaning S ℕ) (position : ℕ) (es : List Effect) (s t : S) :
+    Type 0 where
+  pub leads : Leads (Does meaning) (map event_in es) s t
+  pub short : AllByRecursion (λ e. IsShort e.call) es
+  pub there : AllByRecursion (λ e. e.position ≡ position) es
+
+-- The calls, one at most, take the newest call of the transaction back.
+pub record IsUndoing {S : Type 0} (meaning : Meaning S ℕ) (s : State S) (n position : ℕ)
+    (es : List Effect) : Type 0 where
+  pub leads : (t : State S) → BackRow meaning s n t → AreRun meaning position es s.now t.now
+  pub one : length es ≤ 1
+
+-- Calls, one at most, are noted that lead from one content to the other.
+pub record NotesUndoing {S : Type 0} (meaning : Meaning S ℕ) (n : GatheringState) (s : S)
+    (position : ℕ) (m : GatheringState) (t : S) : Type 0 where
+  pub undoing : List Effect
+  pub one : length undoing ≤ 1
+  pub run : AreRun meaning position undoing s t
+  pub is : m ≡ noted n undoing
+
+-- ---- what goes along
+
+-- What is gathered is not new, and is of the gathering that is under way.
+abbrev pub IsUnderWay : GatheringState → GatherState → Type 0
+IsUnderWay n g = (g.mark ≢ 0) × (n.going ≡ true) × (g.mark ≡ n.begun)
+
+-- It is not new, and is not of the gathering that is under way. All is as before.
+abbrev pub IsOutrun : (n : GatheringState) → (g : GatherState) → (m : GatheringState) →
+    (h : GatherState) → Type 0
+IsOutrun n g m h = (m ≡ n) × (h ≡ g) × (g.mark ≢ 0) × (IsUnderWay n g → ⊥)
+
+-- The gathering with which is gone on: another one for what is new, which has taken nothing.
+abbrev pub gone_on : GatheringState → GatherState → GatheringState
+gone_on n g = cond (g.mark == 0) (record { begun = n.begun + 1; going = true; effects = [] }) n
+
+-- When each answer of a gathering comes, where these are the collections.
+abbrev pub GatherAnswers : List Collection → (position : ℕ) → (n : GatheringState) →
+    (g : GatherState) → Result Bool Refusal → (m : GatheringState) → (h : GatherState) → Type 0
+GatherAnswers xs position n g (Ok more) m h =
+    ((g.mark ≡ 0) ⊎ IsUnderWay n g) × (m ≡ record (gone_on n g) { effects = [] }) ×
+    (h ≡ with_gathered g m.begun (slice_get xs (length g.parts)) position (gone_on n g).effects) ×
+    (more ≡ nat_lt (length h.parts) (length xs))
+GatherAnswers xs position n g (Err Refusal.Outrun) m h = IsOutrun n g m h
+GatherAnswers xs position n g (Err Refusal.Worn) m h =
+    (m ≡ n) × (h ≡ g) × (g.mark ≡ 0) × (n.begun ≡ 2 ^ 61)
+GatherAnswers xs position n g (Err Refusal.NoMemory) m h =
+    (m ≡ n) × (h ≡ g) × (((g.mark ≡ 0) × (n.begun < 2 ^ 61)) ⊎ IsUnderWay n g)
+GatherAnswers xs position n g (Err e) m h = ⊥
+
+-- What is gathered is of the gathering that is under way, and all of these collections are copied.
+abbrev pub IsWhole : List Collection → GatheringState → GatherState → Type 0
+IsWhole xs n g = IsUnderWay n g × (length xs ≤ length g.parts)
+
+-- A freeze is refused so: where nothing is gathered, else where the gathering is not under way,
+-- else where a collection is not copied.
+abbrev pub FreezeRefused : List Collection → GatheringState → GatherState → Refusal → Type 0
+FreezeRefused xs n g Refusal.Unfinished =
+    (g.mark ≡ 0) ⊎ (IsUnderWay n g × (length g.parts < length xs))
+FreezeRefused xs n g Refusal.Outrun = (g.mark ≢ 0) × (IsUnderWay n g → ⊥)
+FreezeRefused xs n g e = ⊥
+
+module _ {S : Type 0} (collections : S → List Collection) where
+  -- What is gathered is of this gathering, and goes along with the collections, of which so many
+  -- records told: once all calls are repeated on the copies, they hold what the collections hold.
+  pub record GoesAlong (n : GatheringState) (now : S) (position : ℕ) (g : GatherState) :
+      Type 0 where
+    pub mark : g.mark ≡ n.begun
+    pub follows : Follows g n.effects (collections now)
+    pub came : CameBy g n.effects position
+
+  -- What went along before goes along behind, as long as the gathering is not given up.
+  pub record KeepsGoing (n : GatheringState) (s : S) (position : ℕ) (m : GatheringState) (t : S)
+      (next : ℕ) : Type 0 where
+    pub begun : m.begun ≡ n.begun
+    pub going : m.going ≡ true → n.going ≡ true
+    pub along : m.going ≡ true → (g : GatherState) → GoesAlong n s position g →
+        GoesAlong m t next g
+
+  -- What is gathered holds all of the state, and where it stands: once all calls are repeated, the
+  -- copies hold what all the collections hold, and beside them stand the marks, and records that
+  -- tell of the live transactions.
+  pub record HoldsAll (next place position : ℕ) (s : State S) (g : GatherState) : Type 0 where
+    pub frozen : FrozenState
+    pub is_frozen : g.frozen ≡ Some frozen
+    pub marks : frozen.marks ≡
+        record { next = next; wear = s.wear; end = position; place = place }
+    pub tells : TellsTransactions s.live s.entries frozen.live
+    pub copies : gathered (caught_up g.parts g.effects) ≡ collections s.now
+
+  -- What is gathered may be gone on with: what is new has taken nothing, and what is of the
+  -- gathering that is under way goes along.
+  pub record IsOfThis (n : GatheringState) (now : S) (position : ℕ) (g : GatherState) :
+      Type 0 where
+    pub new : g.mark ≡ 0 → (g.parts ≡ []) × (g.effects ≡ [])
+    pub along : IsUnderWay n g → GoesAlong n now position g

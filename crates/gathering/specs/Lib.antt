@@ -1,0 +1,3 @@
+pub mod Gatherings
+pub mod Views
+pub mod Laws
