@@ -58,14 +58,16 @@ fn is_room_made<D: Disk, J: Naming, R: Wait>(
     refusal == Refusal::Full && checkpoint(rt, checkpointer).is_ok()
 }
 
-// Takes a checkpoint.
+// Takes a checkpoint. Where clients have outrun what is gathered, it begins anew.
 fn checkpoint<D: Disk, J: Naming, R: Wait>(
     rt: &R,
     checkpointer: &mut Checkpointer<'_, D, J>,
 ) -> Result<u64, Refusal> {
     for _ in rt.forever() {
-        if let Checkpoint::Flipped(place) = checkpointer.turn(rt)? {
-            return Ok(place);
+        match checkpointer.turn(rt) {
+            Ok(Checkpoint::Flipped(place)) => return Ok(place),
+            Ok(_) | Err(Refusal::Outrun) => {}
+            Err(refusal) => return Err(refusal),
         }
     }
     unreachable!()

@@ -10,7 +10,6 @@ use Rattle.calls.specs.declared.refusal.Refusal.{Refusal}
 use Rattle.record_format.specs.declared.record.Record.{Record}
 use Rattle.record_format.specs.Records.{IsRecord}
 use Rattle.blocks.specs.declared.block.Block.{Block}
-use Rattle.blocks.specs.declared.block.Image.{Image}
 use Rattle.machine.specs.Machine.{journalled}
 use Rattle.repetition.specs.Steps.{Repeats}
 use Rattle.txn.specs.declared.steps.Action.{Action}
@@ -18,17 +17,19 @@ use Rattle.txn.specs.declared.steps.BookStep.{BookStep}
 use Rattle.txn.specs.Books.{BookState, standing, opened, Takes, CutAnswers}
 use Rattle.txn.specs.Rows.{Standing}
 use Rattle.txn.specs.Histories.{records_by, CutRow}
-use Rattle.txn.specs.Handing.{HasHandedAtOnce, image_ends}
+use Rattle.txn.specs.Handing.{HasHanded}
 use Rattle.txn.proofs.Handings.{records_by-push, records_then, opens, taken_left, takes_on}
 use Rattle.txn.proofs.Handings.{cuts_on}
 use Rattle.catalog.specs.Meaning.{catalog_meaning, catalog_making}
+use Rattle.group_commit.specs.Accords.{AccordState, nothing_gathered}
 use Rattle.group_commit.specs.Lines as lines
-use Rattle.group_commit.specs.Lines.{stepped}
+use Rattle.group_commit.specs.Lines.{stepped, with_client}
 use Rattle.group_commit.specs.Orders.{SenderState}
 use Rattle.clients.specs.declared.naming.Naming.{Ghosts}
-use Rattle.clients.specs.Desks.{AreRecorded, IsDesk}
+use Rattle.clients.specs.Desks.{AreRecorded, IsDesk, frozen_ends}
 use Rattle.clients.specs.Notes.{handed_count}
 use Rattle.clients.specs.Notes.{IsSent}
+use Rattle.clients.proofs.Gathered.{Goes, gathered_takes, gathered_cut, gathered_none}
 use Rattle.clients.proofs.Recording.{recorded_none, recorded_leads, recorded_unheard}
 
 abbrev Book : Type 0
@@ -36,66 +37,83 @@ Book = BookState (List Collection)
 
 module _ {J : Type 0} (j : Ghosts J) where
   -- a book that was just opened
-  pub desk_opens : (book : Book) (seat : lines.BookState) (sender : SenderState) →
-      book ≡ opened j.start j.next j.wear →
+  pub desk_opens : (book : Book) (seat : lines.BookState) (sender : SenderState)
+      (near : AccordState) → book ≡ opened j.start j.next j.wear →
       seat ≡ record { table = j.line; all = []; clients = 0 } →
-      sender ≡ record { table = j.handoff; sent = []; noted = [] } → IsDesk j book seat sender
-  desk_opens book seat sender book_is seat_is sender_is =
-      rw (book_is, seat_is, sender_is) (record {
+      sender ≡ record { table = j.handoff; sent = []; noted = [] } →
+      near ≡ record { table = j.gathering; gather = nothing_gathered } →
+      IsDesk j book seat sender near
+  desk_opens book seat sender near book_is seat_is sender_is near_is =
+      rw (book_is, seat_is, sender_is, near_is) (record {
         line = refl;
         handoff = refl;
+        gathering = refl;
+        gathered = gathered_none (opened j.start j.next j.wear);
         groups = [];
         handed = opens catalog_meaning catalog_making (λ v. v) j.start j.wear j.next;
-        recorded = λ s. ([], recorded_none j.start j.wear);
+        recorded = λ s. recorded_none j.start j.wear;
       })
 
-  module _ (book : Book) (seat : lines.BookState) (sender : SenderState)
-      (is : IsDesk j book seat sender) (client : Option ℕ) where
+  -- one client more was made
+  pub desk_admits : (book : Book) (seat : lines.BookState) (sender : SenderState)
+      (near : AccordState) → IsDesk j book seat sender near →
+      IsDesk j book (with_client seat) sender near
+  desk_admits book seat sender near is = record {
+    line = is.line;
+    handoff = is.handoff;
+    gathering = is.gathering;
+    gathered = is.gathered;
+    groups = is.groups;
+    handed = is.handed;
+    recorded = is.recorded;
+  }
+
+  module _ (book : Book) (seat : lines.BookState) (sender : SenderState) (near : AccordState)
+      (is : IsDesk j book seat sender near) (client : Option ℕ) where
     abbrev step : Action → BookStep
     step action = record { client = client; action = action }
 
     -- a step that hands nothing over
     pub desk_takes : (action : Action) (after : Book) (now : lines.BookState) →
         Takes catalog_meaning catalog_making book action after →
-        AllByRecursion (IsRecord None) after.pending → now ≡ stepped seat (step action) →
-        IsDesk j after now sender
-    desk_takes action after now took good now_is =
+        AllByRecursion (IsRecord None) after.pending → Goes book action after →
+        now ≡ stepped seat (step action) → IsDesk j after now sender near
+    desk_takes action after now took good goes now_is =
         let rs = records_then seat.all action in
         let left = taken_left catalog_meaning catalog_making (λ v. v) j.start j.wear seat.all book
-        after sender.sent is.groups (image_ends sender.noted) sender.noted is.handed client action
-        took in
+        after sender.sent is.groups (frozen_ends sender.noted) [] is.handed client action took in
         let more : AllByRecursion (IsRecord None) rs = each_back (IsRecord None) book.pending rs
         (subst (AllByRecursion (IsRecord None)) left.pending good) in
         rw now_is (record {
           line = is.line;
           handoff = is.handoff;
+          gathering = is.gathering;
+          gathered = gathered_takes book after near.gather action took goes is.gathered;
           groups = is.groups;
           handed = takes_on catalog_meaning catalog_making (λ v. v) j.start j.wear seat.all book
-              after sender.sent is.groups (image_ends sender.noted) sender.noted is.handed client
-              action took good;
+              after sender.sent is.groups (frozen_ends sender.noted) [] is.handed client action took
+              good;
           recorded = λ s.
-              let old = is.recorded s in (
-                old.0,
-                subst (λ l. AreRecorded j.start j.wear l (journalled after.state) sender.noted
-                    old.0) (sym (records_by-push seat.all (step action)))
-                    (⊎_elim
-                    (λ (leads : Repeats rs (journalled book.state) (journalled after.state)).
-                    recorded_leads j.start j.wear sender.noted old.0 (records_by seat.all)
-                    (journalled book.state) rs (journalled after.state) more leads old.1)
-                    (λ unheard. subst
-                    (λ l. AreRecorded j.start j.wear l (journalled after.state) sender.noted old.0)
-                    (sym (append-nil (records_by seat.all)) ∙
-                    ap (λ l. records_by seat.all ++ l) (sym unheard.0))
-                    (recorded_unheard j.start j.wear sender.noted old.0 (records_by seat.all)
-                    (journalled book.state) (journalled after.state) unheard.1 old.1))
-                    left.leads),
-              );
+              let old = is.recorded s in
+              subst (λ l. AreRecorded j.start j.wear l (journalled after.state) sender.noted)
+              (sym (records_by-push seat.all (step action)))
+              (⊎_elim
+              (λ (leads : Repeats rs (journalled book.state) (journalled after.state)).
+              recorded_leads j.start j.wear sender.noted (records_by seat.all)
+              (journalled book.state) rs (journalled after.state) more leads old)
+              (λ unheard. subst
+              (λ l. AreRecorded j.start j.wear l (journalled after.state) sender.noted)
+              (sym (append-nil (records_by seat.all)) ∙
+              ap (λ l. records_by seat.all ++ l) (sym unheard.0))
+              (recorded_unheard j.start j.wear sender.noted (records_by seat.all)
+              (journalled book.state) (journalled after.state) unheard.1 old))
+              left.leads);
         })
 
-  abbrev Handed : List BookStep → Book → List Block → List (List Record) → List Image → Type 0
-  Handed steps book sent groups noted =
-      HasHandedAtOnce catalog_meaning catalog_making (λ v. v) j.start j.wear steps book sent groups
-      noted
+  abbrev Handed : List BookStep → Book → List Block → List (List Record) → List ℕ → Type 0
+  Handed steps book sent groups freezes =
+      HasHanded catalog_meaning catalog_making (λ v. v) j.start j.wear steps book sent groups
+      freezes []
 
   -- how many records a cut has handed over
   pub cut_count : (s t : Book) (count : ℕ) (a : Result Bool Refusal) →
@@ -107,17 +125,17 @@ module _ {J : Type 0} (j : Ghosts J) where
       omega (arith, row.0, ap (λ (x : Standing (List Collection)). x.pending) row.1)
 
   -- a block is handed over, or none
-  pub desk_cuts : (book : Book) (seat : lines.BookState) (sender : SenderState) →
-      IsDesk j book seat sender → (after : Book) (now : lines.BookState) (ends : SenderState)
-      (full : Type 0) (a : Result Bool Refusal) →
+  pub desk_cuts : (book : Book) (seat : lines.BookState) (sender : SenderState)
+      (near : AccordState) → IsDesk j book seat sender near → (after : Book)
+      (now : lines.BookState) (ends : SenderState) (full : Type 0) (a : Result Bool Refusal) →
       CutAnswers book (λ bs. IsSent sender bs ends) full a after →
       now ≡ stepped seat (record {
         client = None;
         action = Action.Cut (handed_count book.pending after.pending) a;
-      }) → IsDesk j after now ends
-  desk_cuts book seat sender is after now ends full a cut now_is =
+      }) → IsDesk j after now ends near
+  desk_cuts book seat sender near is after now ends full a cut now_is =
       let on = cuts_on catalog_meaning catalog_making (λ v. v) j.start j.wear seat.all book after
-      sender.sent is.groups (image_ends sender.noted) sender.noted is.handed None
+      sender.sent is.groups (frozen_ends sender.noted) [] is.handed None
       (λ bs. IsSent sender bs ends) full a cut in
       let count = cut_count book after on.0 a on.5 in
       let step : BookStep = record {
@@ -129,23 +147,24 @@ module _ {J : Type 0} (j : Ghosts J) where
       rw now_is (record {
         line = is.line;
         handoff = on.3.table ∙ is.handoff;
+        gathering = is.gathering;
+        gathered = gathered_cut book after near.gather (λ bs. IsSent sender bs ends) full a cut
+            is.gathered;
         groups = is.groups ++ on.2;
-        handed = subst (λ l. Handed (seat.all ++ step ∷ []) after ends.sent (is.groups ++ on.2) l)
-            (sym on.3.noted)
-            (subst (λ l. Handed (seat.all ++ step ∷ []) after l (is.groups ++ on.2) sender.noted)
-            (sym on.3.sent)
+        handed = subst (λ l. Handed (seat.all ++ step ∷ []) after ends.sent (is.groups ++ on.2)
+            (frozen_ends l)) (sym on.3.noted)
+            (subst (λ l. Handed (seat.all ++ step ∷ []) after l (is.groups ++ on.2)
+            (frozen_ends sender.noted)) (sym on.3.sent)
             (subst (λ n. Handed (seat.all ++ record { client = None; action = Action.Cut n a } ∷ [])
-            after (sender.sent ++ on.1) (is.groups ++ on.2) sender.noted) count on.4));
+            after (sender.sent ++ on.1) (is.groups ++ on.2) (frozen_ends sender.noted)) count
+            on.4));
         recorded = λ s.
-            let old = is.recorded s in (
-              old.0,
-              subst (λ l. AreRecorded j.start j.wear (records_by (seat.all ++ step ∷ []))
-                  (journalled after.state) l old.0) (sym on.3.noted)
-                  (subst (λ l. AreRecorded j.start j.wear l (journalled after.state) sender.noted
-                  old.0) (sym same)
-                  (subst (λ v. AreRecorded j.start j.wear (records_by seat.all) v sender.noted
-                  old.0) (sym (ap (λ (x : Book). journalled x.state) cut.1)) old.1)),
-            );
+            subst (λ l. AreRecorded j.start j.wear (records_by (seat.all ++ step ∷ []))
+            (journalled after.state) l) (sym on.3.noted)
+            (subst (λ l. AreRecorded j.start j.wear l (journalled after.state) sender.noted)
+            (sym same)
+            (subst (λ v. AreRecorded j.start j.wear (records_by seat.all) v sender.noted)
+            (sym (ap (λ (x : Book). journalled x.state) cut.1)) (is.recorded s)));
       })
 
 -- what a cut answers of one way to send blocks it answers of a wider one

@@ -1,5 +1,6 @@
 pub mod Ends
 pub mod Recording
+pub mod Gathered
 pub mod DeskSteps
 pub mod Seeing
 pub mod Phases

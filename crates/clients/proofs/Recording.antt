@@ -1,4 +1,4 @@
--- Records that a book has made, and what images stand for, go on with each of its steps.
+-- Records that a book has made, and what is packed of it, go on with each of its steps.
 use Rattle.std.proofs.Common.{◌≡◌, ℕ, List, [], ◌∷◌, ◌++◌, None, refl, sym, subst}
 use Rattle.std.proofs.Common.{append_assoc}
 use Rattle.std.specs.List.{AllByRecursion}
@@ -7,38 +7,46 @@ use Rattle.boosted.proofs.Each.{weaker, each_append}
 use Rattle.calls.specs.Contents.{Collection}
 use Rattle.record_format.specs.declared.record.Record.{Record}
 use Rattle.record_format.specs.Records.{IsRecord}
-use Rattle.blocks.specs.declared.block.Image.{Image}
+use Rattle.images.specs.Gathers.{GatherState}
 use Rattle.machine.specs.Machines.{resting}
 use Rattle.machine.proofs.Journalled.{GoesUnheard}
 use Rattle.repetition.specs.Steps.{State, Steps, Repeats}
 use Rattle.repetition.proofs.LagLemmas.{lags_self, lags_step, lags_unheard}
 use Rattle.repetition.proofs.Lists.{leads_push, leads_split}
-use Rattle.checkpoint.specs.Keeping.{BegunImage}
 use Rattle.checkpoint.specs.Stored.{StandIn, AreReadTo, GoAlong}
 use Rattle.checkpoint.proofs.StandLemmas.{stands_push, stands_unheard}
-use Rattle.clients.specs.Desks.{AreRecorded}
+use Rattle.clients.specs.Desks.{AreRecorded, PacksImages}
 
 module _ (start : List Collection) (wear : ℕ) where
-  abbrev Standing : List Record → State → BegunImage → Type 0
-  Standing records now b = StandIn start wear records now b.blocks b.covered
-
   -- an opened book has made none
-  pub recorded_none : AreRecorded start wear [] (resting start wear) [] []
+  pub recorded_none : AreRecorded start wear [] (resting start wear) []
   recorded_none = record {
     good = tt;
     trail = resting start wear;
     leads = refl;
     trails = lags_self (resting start wear);
-    are_begun = tt;
     stand = tt;
   }
 
-  module _ (images : List Image) (begun : List BegunImage) where
+  -- What is packed stands for records that go on, where all that stood for the first ones does.
+  pub still_packed : (records : List Record) (now : State) (more : List Record) (next : State) →
+      ((blocks : List (List Record)) (covered : List Record) →
+      StandIn start wear records now blocks covered → StandIn start wear more next blocks covered) →
+      (noted : List GatherState) → AllByRecursion (PacksImages start wear records now) noted →
+      AllByRecursion (PacksImages start wear more next) noted
+  still_packed records now more next goes noted =
+      weaker (PacksImages start wear records now) (PacksImages start wear more next)
+      (λ g packs image packed. let is = packs image packed in record {
+        begun = is.begun;
+        is_for = is.is_for;
+        stands = goes is.begun.blocks is.begun.covered is.stands;
+      }) noted
+
+  module _ (noted : List GatherState) where
     -- one record more
     recorded_push : (records : List Record) (now : State) (r : Record) (next : State) →
-        IsRecord None r → Steps now r next →
-        AreRecorded start wear records now images begun →
-        AreRecorded start wear (records ++ r ∷ []) next images begun
+        IsRecord None r → Steps now r next → AreRecorded start wear records now noted →
+        AreRecorded start wear (records ++ r ∷ []) next noted
     recorded_push records now r next good row is =
         let trail = lags_step is.trail now is.trails r next row in
         record {
@@ -46,43 +54,41 @@ module _ (start : List Collection) (wear : ℕ) where
           trail = trail.0;
           leads = leads_push Steps records r (resting start wear) is.trail trail.0 is.leads trail.1;
           trails = trail.2;
-          are_begun = is.are_begun;
-          stand = weaker (Standing records now) (Standing (records ++ r ∷ []) next)
-              (λ b old. (stands_push start wear records now b.blocks b.covered r next row old).0)
-              begun is.stand;
+          stand = still_packed records now (records ++ r ∷ []) next
+              (λ blocks covered old.
+              (stands_push start wear records now blocks covered r next row old).0)
+              noted is.stand;
         }
 
     pub recorded_leads : (records : List Record) (now : State) (rs : List Record) (next : State) →
         AllByRecursion (IsRecord None) rs → Repeats rs now next →
-        AreRecorded start wear records now images begun →
-        AreRecorded start wear (records ++ rs) next images begun
+        AreRecorded start wear records now noted →
+        AreRecorded start wear (records ++ rs) next noted
     recorded_leads records now [] next good leads is =
-        subst (λ l. AreRecorded start wear l next images begun) (sym (append-nil records))
-        (subst (λ s. AreRecorded start wear records s images begun) leads is)
+        subst (λ l. AreRecorded start wear l next noted) (sym (append-nil records))
+        (subst (λ s. AreRecorded start wear records s noted) leads is)
     recorded_leads records now (r ∷ rs) next good leads is =
-        subst (λ l. AreRecorded start wear l next images begun) (append_assoc records (r ∷ []) rs)
+        subst (λ l. AreRecorded start wear l next noted) (append_assoc records (r ∷ []) rs)
         (recorded_leads (records ++ r ∷ []) leads.0 rs next good.1 leads.2
         (recorded_push records now r leads.0 good.0 leads.1 is))
 
     -- a step of which no record tells
     pub recorded_unheard : (records : List Record) (now next : State) → GoesUnheard now next →
-        AreRecorded start wear records now images begun →
-        AreRecorded start wear records next images begun
+        AreRecorded start wear records now noted → AreRecorded start wear records next noted
     recorded_unheard records now next step is = record {
       good = is.good;
       trail = is.trail;
       leads = is.leads;
       trails = lags_unheard is.trail now is.trails next step;
-      are_begun = is.are_begun;
-      stand = weaker (Standing records now) (Standing records next)
-          (λ b old. (stands_unheard start wear records now b.blocks b.covered next step old).0)
-          begun is.stand;
+      stand = still_packed records now records next
+          (λ blocks covered old.
+          (stands_unheard start wear records now blocks covered next step old).0)
+          noted is.stand;
     }
 
     -- what a store held that was opened stands for the beginning of all records
     pub opened_stands : (blocks : List (List Record)) (records : List Record) (now : State) →
-        AreReadTo blocks (resting start wear) →
-        AreRecorded start wear records now images begun →
+        AreReadTo blocks (resting start wear) → AreRecorded start wear records now noted →
         (stands : StandIn start wear records now blocks []) × (stands.since ≡ records)
     opened_stands blocks records now are_read is = (
       record {

@@ -12,6 +12,7 @@ use Rattle.txn.specs.declared.steps.BookStep.{BookStep}
 use Rattle.txn.specs.Books.{BookState, standing}
 use Rattle.group_commit.specs.Lines as lines
 use Rattle.group_commit.specs.Lines.{IsLonger, ClientState, mine_of, stepped, seeing, steps_of}
+use Rattle.group_commit.specs.Accords.{AccordState}
 use Rattle.group_commit.specs.Marks.{WatcherState}
 use Rattle.group_commit.specs.Numbers.{DrawerState}
 use Rattle.group_commit.specs.Orders.{SenderState}
@@ -28,11 +29,11 @@ ok_same m n e = cc
 module _ {J : Type 0} (j : Ghosts J) where
   -- a step that stands on the line
   pub steps_one : (book : BookState (List Collection)) (seat now : lines.BookState)
-      (sender : SenderState) (old new : ClientState) (action : Action) →
-      IsDesk j book now sender → now ≡ stepped seat (step_of old.number action) →
+      (sender : SenderState) (near : AccordState) (old new : ClientState) (action : Action) →
+      IsDesk j book now sender near → now ≡ stepped seat (step_of old.number action) →
       new ≡ seeing old now.all → IsPrefix old.seen seat.all →
       mine_of new ≡ mine_of old ++ step_of old.number action ∷ [] → Steps j old action new
-  steps_one book seat now sender old new action is now_is new_is begins mine =
+  steps_one book seat now sender near old new action is now_is new_is begins mine =
       let step = step_of old.number action in
       let all : new.seen ≡ seat.all ++ step ∷ [] =
       ap (λ (c : ClientState). c.seen) new_is ∙ ap (λ (b : lines.BookState). b.all) now_is in (

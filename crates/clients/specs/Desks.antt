@@ -1,43 +1,69 @@
 -- What lies under the book's lock.
-use Rattle.std.specs.Prelude.{◌≡◌, ℕ, List, None}
+use Rattle.std.specs.Prelude.{◌≡◌, ℕ, List, [], map, Option, Some, None}
 use Rattle.std.specs.List.{AllByRecursion}
 use Rattle.calls.specs.Contents.{Collection}
 use Rattle.record_format.specs.declared.record.Record.{Record}
 use Rattle.record_format.specs.Records.{IsRecord}
 use Rattle.blocks.specs.declared.block.Image.{Image}
+use Rattle.images.specs.Gathers.{FrozenState, GatherState, Packs}
 use Rattle.machine.specs.Machine.{journalled}
 use Rattle.machine.specs.Machines.{resting}
 use Rattle.repetition.specs.Steps.{State, Repeats}
 use Rattle.repetition.specs.Lagging.{Lags}
 use Rattle.txn.specs.Books.{BookState}
+use Rattle.txn.specs.Freezing.{IsGatheredOf}
 use Rattle.txn.specs.Histories.{records_by}
-use Rattle.txn.specs.Handing.{HasHandedAtOnce}
+use Rattle.txn.specs.Handing.{HasHanded}
 use Rattle.catalog.specs.Meaning.{catalog_meaning, catalog_making}
 use Rattle.checkpoint.specs.Stored.{StandIn}
-use Rattle.checkpoint.specs.Keeping.{BegunImage, AreImagesFor}
+use Rattle.checkpoint.specs.Keeping.{BegunImage, IsImageFor}
+use Rattle.group_commit.specs.Accords.{AccordState}
 use Rattle.group_commit.specs.Lines as lines
 use Rattle.group_commit.specs.Orders.{SenderState}
 use Rattle.clients.specs.declared.naming.Naming.{Ghosts}
 
--- The records are good, and lead the opened book to a state that lags behind the one now, which is
--- what a journal tells of the book; and these images stand for beginnings of them.
-pub record AreRecorded (start : List Collection) (wear : ℕ) (records : List Record) (now : State)
-    (images : List Image) (begun : List BegunImage) : Type 0 where
-  pub good : AllByRecursion (IsRecord None) records
-  pub trail : State
-  pub leads : Repeats records (resting start wear) trail
-  pub trails : Lags trail now
-  pub are_begun : AreImagesFor images begun
-  pub stand : AllByRecursion (λ b. StandIn start wear records now b.blocks b.covered) begun
+-- how many records came before a freeze
+abbrev pub frozen_end : Option FrozenState → ℕ
+frozen_end None = 0
+frozen_end (Some frozen) = frozen.marks.end
+
+-- and before each of what was frozen
+abbrev pub frozen_ends : List GatherState → List ℕ
+frozen_ends noted = map (λ g. frozen_end g.frozen) noted
+
+-- The records of an opened book, with this wear, lead to the state now.
+module _ (start : List Collection) (wear : ℕ) (records : List Record) (now : State) where
+  -- The image stands for a beginning of the records.
+  pub record IsImageOfRecords (image : Image) : Type 0 where
+    pub begun : BegunImage
+    pub is_for : IsImageFor image begun
+    pub stands : StandIn start wear records now begun.blocks begun.covered
+
+  -- Whatever is packed of what was frozen stands for a beginning of the records.
+  abbrev pub PacksImages : GatherState → Type 0
+  PacksImages g = (image : Image) → Packs g image → IsImageOfRecords image
+
+  -- The records are good, and lead the opened book to a state that lags behind the one now, which
+  -- is what a journal tells of the book; and what is packed of what was frozen stands for
+  -- beginnings of them.
+  pub record AreRecorded (noted : List GatherState) : Type 0 where
+    pub good : AllByRecursion (IsRecord None) records
+    pub trail : State
+    pub leads : Repeats records (resting start wear) trail
+    pub trails : Lags trail now
+    pub stand : AllByRecursion PacksImages noted
 
 -- The book stands where its history led. Its first records were sent in blocks, and the others are
--- pending; the images that were noted are of it.
+-- pending. No block crosses where it was frozen. What the near end of the accord knows to be
+-- gathered is of the book.
 pub record IsDesk {J : Type 0} (j : Ghosts J) (book : BookState (List Collection))
-    (seat : lines.BookState) (sender : SenderState) : Type 0 where
+    (seat : lines.BookState) (sender : SenderState) (near : AccordState) : Type 0 where
   pub line : seat.table ≡ j.line
   pub handoff : sender.table ≡ j.handoff
+  pub gathering : near.table ≡ j.gathering
+  pub gathered : IsGatheredOf (λ v. v) book near.gather
   pub groups : List (List Record)
-  pub handed : HasHandedAtOnce catalog_meaning catalog_making (λ v. v) j.start j.wear seat.all book
-      sender.sent groups sender.noted
-  pub recorded : j.sound → (begun : List BegunImage) ×
-      AreRecorded j.start j.wear (records_by seat.all) (journalled book.state) sender.noted begun
+  pub handed : HasHanded catalog_meaning catalog_making (λ v. v) j.start j.wear seat.all book
+      sender.sent groups (frozen_ends sender.noted) []
+  pub recorded : j.sound →
+      AreRecorded j.start j.wear (records_by seat.all) (journalled book.state) sender.noted

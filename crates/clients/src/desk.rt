@@ -1,13 +1,14 @@
 // What lies under the book's lock.
 ghost use Rattle.std.specs.Prelude.{◌≡◌, ℕ, [], ◌∷◌, ◌++◌, Option, Some, None, IfOk, IfErr};
-ghost use Rattle.std.specs.Prelude.{IsOkUnless};
+ghost use Rattle.std.specs.Prelude.{IsOkUnless, OnOk};
 ghost use Rattle.calls.specs.Names.{IsName};
 ghost use Rattle.calls.specs.declared.refusal.Refusal.{Refusal};
 ghost use Rattle.catalog.specs.Making.{IsPlaceOf, FindRefused, names_of};
 ghost use Rattle.catalog.specs.Meaning.{catalog_meaning, catalog_making};
 ghost use Rattle.txn.specs.declared.steps.Action.{Action};
 ghost use Rattle.txn.specs.declared.steps.Target.{Target};
-ghost use Rattle.txn.specs.Books.{opened, Takes, CutAnswers};
+ghost use Rattle.txn.specs.Books.{opened, Takes, GoesOn, CutAnswers};
+ghost use Rattle.group_commit.specs.Accords.{AccordState, nothing_gathered};
 ghost use Rattle.group_commit.specs.Lines.{mine_of, stepped, seeing};
 ghost use Rattle.group_commit.specs.Marks.{new_watcher};
 ghost use Rattle.group_commit.specs.Orders.{WasFull};
@@ -21,19 +22,21 @@ use crate::shared::Shared;
 use calls::{Call, Kind, Refusal, Reply};
 use catalog::Catalog;
 use group_commit::{
-    BookSeat, ClientSeat, Drawer, DrawerMaker, Handoff, Line, OneStep, Outgoing, Sender, Watcher,
+    BookSeat, ClientSeat, Drawer, DrawerMaker, Handoff, Line, Near, OneStep, Outgoing, Sender,
+    Watcher,
 };
 use std::marker::{Brand, Model, PhantomData};
 use std::snapshot::Snapshot;
 use std::sync::Wait;
 use txn::Book;
 
-/// The book, with the seats of its history, of the hand-off's sending end, and of what makes
-/// clients. What lies under a lock is known by its type: contracts see nothing else of it.
+/// The book, with the seats of its history, of the hand-off's sending end, of what is gathered of
+/// it for an image, and of what makes clients. What lies under a lock is known by its type: contracts see nothing else of it.
 pub struct Desk<J: Naming> {
     pub book: Book<Catalog>,
     pub seat: BookSeat,
     pub sender: Sender,
+    pub near: Near,
     maker: DrawerMaker,
     watcher: Watcher,
     of: PhantomData<J>,
@@ -46,6 +49,7 @@ impl<J: Naming> Drop for Desk<J> {
             book,
             seat,
             sender,
+            near,
             maker,
             watcher,
             of: _of,
@@ -53,6 +57,7 @@ impl<J: Naming> Drop for Desk<J> {
         drop(book);
         drop(seat);
         drop(sender);
+        drop(near);
         drop(maker);
         drop(watcher);
     }
@@ -66,7 +71,7 @@ impl<J: Naming> Model for Desk<J> {
 
     ghost view = { λ d. tt };
 
-    ghost invariant = { λ d. IsDesk ⟦<J as Naming>⟧ d.book d.seat d.sender
+    ghost invariant = { λ d. IsDesk ⟦<J as Naming>⟧ d.book d.seat d.sender d.near
         × (d.maker.table ≡ J.numbers) × (d.maker.from ≡ J.next) × (d.watcher.table ≡ J.mark) };
 }
 
@@ -76,12 +81,14 @@ impl<J: Naming> Desk<J> {
         book: Book<Catalog>,
         seat: BookSeat,
         sender: Sender,
+        near: Near,
         maker: DrawerMaker,
         watcher: Watcher,
     ) -> Self
         requires book { book ≡ opened J.start J.next J.wear }
         requires seat { seat ≡ record { table = J.line; all = []; clients = 0 } }
         requires sender { sender ≡ record { table = J.handoff; sent = []; noted = [] } }
+        requires near { near ≡ record { table = J.gathering; gather = nothing_gathered } }
         requires maker { maker ≡ record { table = J.numbers; from = J.next; made = 0 } }
         requires watcher { watcher.table ≡ J.mark }
     {
@@ -89,6 +96,7 @@ impl<J: Naming> Desk<J> {
             book,
             seat,
             sender,
+            near,
             maker,
             watcher,
             of: PhantomData,
@@ -255,16 +263,18 @@ impl<J: Naming> Desk<J> {
     /// The book, with its seat and the sending end, where no thread shares the desk any more. It
     /// takes no memory.
     pub fn into_parts(self) -> (Book<Catalog>, BookSeat, Sender)
-        ensures { IsDesk ⟦<J as Naming>⟧ result.0 result.1 result.2 }
+        ensures { (near : AccordState) × IsDesk ⟦<J as Naming>⟧ result.0 result.1 result.2 near }
     {
         let Self {
             book,
             seat,
             sender,
+            near,
             maker,
             watcher,
             of: _of,
         } = self;
+        drop(near);
         drop(maker);
         drop(watcher);
         (book, seat, sender)
@@ -320,9 +330,10 @@ fn later_found(
     requires ok { IfOk found.now (λ at. IsName name.now ×
         IsPlaceOf (names_of book.old.state.now) name.now at) }
     requires err { IfErr found.now (FindRefused (names_of book.old.state.now) name.now) }
-    ensures { Takes catalog_meaning catalog_making book.old
+    ensures answer { Takes catalog_meaning catalog_making book.old
         (Action.Later number (Target.Named name.now (found_of found.now)) call.now result)
         book.new }
+    ensures goes { OnOk result (GoesOn catalog_meaning catalog_making (λ v. v) book.old book.new) }
 {
     match found {
         Ok(at) => book.later(number, *at, call),
@@ -355,9 +366,10 @@ fn call_found(
     requires ok { IfOk found.now (λ at. IsName name.now ×
         IsPlaceOf (names_of book.old.state.now) name.now at) }
     requires err { IfErr found.now (FindRefused (names_of book.old.state.now) name.now) }
-    ensures { Takes catalog_meaning catalog_making book.old
+    ensures answer { Takes catalog_meaning catalog_making book.old
         (Action.Call number (Target.Named name.now (found_of found.now)) call.now result)
         book.new }
+    ensures goes { OnOk result (GoesOn catalog_meaning catalog_making (λ v. v) book.old book.new) }
 {
     match found {
         Ok(at) => book.call(number, *at, call),

@@ -9,7 +9,8 @@ pub trait Naming {
     ghost use Rattle.calls.specs.Contents.{Collection};
     ghost use Rattle.atomic_table.specs.Seated.{TableId};
 
-    /// The tables of the line, of the mark, of the numbers and of the hand-off.
+    /// The tables of the line, of the mark, of the numbers and of the hand-off, and of the accords on
+    /// what is gathered of the book and on the image that the keeper awaits.
     ghost line: { TableId };
 
     ghost mark: { TableId };
@@ -17,6 +18,10 @@ pub trait Naming {
     ghost numbers: { TableId };
 
     ghost handoff: { TableId };
+
+    ghost gathering: { TableId };
+
+    ghost awaited: { TableId };
 
     /// What the opened book held, its wear and its next number.
     ghost start: { List Collection };
@@ -41,6 +46,10 @@ impl Naming for Brand {
     ghost numbers = { no_table };
 
     ghost handoff = { no_table };
+
+    ghost gathering = { no_table };
+
+    ghost awaited = { no_table };
 
     ghost start = { [] };
 

@@ -3,7 +3,7 @@ use Rattle.std.proofs.Common.{◌≡◌, ◌≢◌, ℕ, true, false, true≢fal
 use Rattle.std.proofs.Common.{set, sym, refl, ap, ◌∙◌, append_assoc, length-append, arith}
 use Rattle.crossbeam_queue.specs.Fifo.{Pushes, Pops, Forks, Merges, Learns}
 use Rattle.blocks.specs.declared.block.Block.{Block}
-use Rattle.blocks.specs.declared.block.Image.{Image}
+use Rattle.images.specs.Gathers.{GatherState}
 use Rattle.group_commit.specs.declared.handoff.Log.{Log}
 use Rattle.group_commit.specs.Orders.{AreInTransit}
 use Rattle.group_commit.specs.Transit.{sender, receiver, united, nobody, Fits, Ordered}
@@ -12,7 +12,7 @@ use Rattle.group_commit.proofs.Seats.{Each, each_one, each_set, each_push, other
 off : {X : Type 0} → false ≡ true → X
 off e = absurd (true≢false (sym e))
 
-silent : (writer reader : ℕ) (sent received : List Block) (noted : List Image) (seat : ℕ) →
+silent : (writer reader : ℕ) (sent received : List Block) (noted : List GatherState) (seat : ℕ) →
     Fits writer reader sent received noted seat nobody
 silent writer reader sent received noted seat =
     record { sends = λ p. off p; receives = λ p. off p }
@@ -107,7 +107,7 @@ shows_receiver seat v is items views h at =
     )
 
 -- one end is cut into the sender's and the receiver's; what both have noted may change with it
-pub parts : (noting : List Image → List Image) (seat : ℕ) (v : Log) → v.sends ≡ true →
+pub parts : (noting : List GatherState → List GatherState) (seat : ℕ) (v : Log) → v.sends ≡ true →
     v.receives ≡ true
     → Forks Ordered seat v (sender v.sent (noting v.noted)) (receiver v.received (noting v.heard))
 parts noting seat v a b items views h at =
@@ -187,7 +187,7 @@ joins seat v other u a b items views h at apart there =
           (silent h.writer seat h.sent h.received h.noted other);
     }
 
--- both ends together know what is in transit, and have noted the same images
+-- both ends together know what is in transit, and have noted the same
 pub shows_both : (seat : ℕ) (v : Log) → v.sends ≡ true → v.receives ≡ true →
     Learns Ordered seat v
     (λ transit. (v.noted ≡ v.heard) × AreInTransit v.sent v.received transit)

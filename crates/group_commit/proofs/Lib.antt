@@ -1,3 +1,4 @@
+pub mod Agreements
 pub mod Drawers
 pub mod Handing
 pub mod Marking

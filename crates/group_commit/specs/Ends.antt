@@ -4,7 +4,7 @@ use Rattle.std.specs.Borrow.{MutBor}
 use Rattle.blocks.specs.declared.block.Block.{Block}
 use Rattle.group_commit.specs.Orders.{SenderState, ReceiverState, WasFull, WasEmpty}
 
--- it is the same end, these blocks were sent from it, in order, and no image was noted
+-- it is the same end, these blocks were sent from it, in order, and nothing was noted
 pub record Sends (before : MutBor SenderState) (blocks : List Block)
     (after : MutBor SenderState) : Type 0 where
   pub same : after.ghost_name ≡ before.ghost_name
@@ -12,7 +12,7 @@ pub record Sends (before : MutBor SenderState) (blocks : List Block)
   pub sent : after.now.sent ≡ before.now.sent ++ blocks
   pub noted : after.now.noted ≡ before.now.noted
 
--- it is the same end, these blocks were received at it, in order, and no image was noted
+-- it is the same end, these blocks were received at it, in order, and nothing was noted
 pub record Receives (before : MutBor ReceiverState) (blocks : List Block)
     (after : MutBor ReceiverState) : Type 0 where
   pub same : after.ghost_name ≡ before.ghost_name

@@ -1,10 +1,11 @@
+pub mod Accords
+pub mod Agreeing
 pub mod Drawing
 pub mod EndLaws
 pub mod Ends
 pub mod Histories
 pub mod Lines
 pub mod Marks
-pub mod NoImage
 pub mod NoStep
 pub mod Numbers
 pub mod Orders

@@ -1,22 +1,22 @@
--- The order of blocks on their way to the disk, and the images that both ends have noted.
+-- The order of blocks on their way to the disk, and what was frozen, as both ends have noted it.
 use Rattle.std.specs.Prelude.{◌≡◌, ◌≤◌, List, [], ◌∷◌, ◌++◌, length}
 use Rattle.atomic_table.specs.Seated.{TableId}
 use Rattle.blocks.specs.declared.block.Block.{Block}
-use Rattle.blocks.specs.declared.block.Image.{Image}
+use Rattle.images.specs.Gathers.{GatherState}
 
--- what the sender of a hand-off has sent, in order, and the images that it has noted, the newest
--- first
+-- what the sender of a hand-off has sent, in order, and what was frozen, as it has noted it, the
+-- newest first
 pub record SenderState : Type 0 where
   pub table : TableId
   pub sent : List Block
-  pub noted : List Image
+  pub noted : List GatherState
 
--- what the receiver of a hand-off has received, in order, and the images that it has noted, the
--- newest first
+-- what the receiver of a hand-off has received, in order, and what was frozen, as it has noted it,
+-- the newest first
 pub record ReceiverState : Type 0 where
   pub table : TableId
   pub received : List Block
-  pub noted : List Image
+  pub noted : List GatherState
 
 -- one block more was sent
 abbrev pub sending : SenderState → Block → SenderState
@@ -27,14 +27,14 @@ abbrev pub receiving : ReceiverState → Block → ReceiverState
 receiving r block =
     record { table = r.table; received = r.received ++ block ∷ []; noted = r.noted }
 
--- the sender has noted one image more
-abbrev pub noting : SenderState → Image → SenderState
-noting s image = record { table = s.table; sent = s.sent; noted = image ∷ s.noted }
+-- the sender has noted what was frozen
+abbrev pub noting : SenderState → GatherState → SenderState
+noting s frozen = record { table = s.table; sent = s.sent; noted = frozen ∷ s.noted }
 
--- the receiver has noted one image more
-abbrev pub noting_too : ReceiverState → Image → ReceiverState
-noting_too r image =
-    record { table = r.table; received = r.received; noted = image ∷ r.noted }
+-- the receiver has noted what was frozen
+abbrev pub noting_too : ReceiverState → GatherState → ReceiverState
+noting_too r frozen =
+    record { table = r.table; received = r.received; noted = frozen ∷ r.noted }
 
 -- what was sent is what was received, followed by these blocks in transit, at most four
 pub record AreInTransit (sent received transit : List Block) : Type 0 where

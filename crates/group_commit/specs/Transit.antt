@@ -1,13 +1,13 @@
 -- The rule of the hand-off: what was sent is what was received, followed by what is in transit. One
--- end at most may send, and it knows what was sent. The same for receiving. Both know the images
--- that were noted.
+-- end at most may send, and it knows what was sent. The same for receiving. Both know what was
+-- frozen, as it was noted.
 use Rattle.std.specs.Prelude.{◌≡◌, ℕ, true, false, List, []}
 use mathlib.Core.Option.{some}
 use lib.ListN.{get_elem?}
 use Rattle.crossbeam_queue.specs.Passes.{Pass}
 use Rattle.atomic_table.specs.Seated.{TableId}
 use Rattle.blocks.specs.declared.block.Block.{Block}
-use Rattle.blocks.specs.declared.block.Image.{Image}
+use Rattle.images.specs.Gathers.{GatherState}
 use Rattle.group_commit.specs.declared.handoff.Log.{Log}
 use Rattle.group_commit.specs.Orders.{AreInTransit}
 
@@ -15,7 +15,7 @@ use Rattle.group_commit.specs.Orders.{AreInTransit}
 abbrev pub known : Pass Block Log → Log
 known p = p.me.0.client
 
-abbrev pub sender : List Block → List Image → Log
+abbrev pub sender : List Block → List GatherState → Log
 sender sent noted = record {
   sends = true;
   receives = false;
@@ -25,7 +25,7 @@ sender sent noted = record {
   heard = [];
 }
 
-abbrev pub receiver : List Block → List Image → Log
+abbrev pub receiver : List Block → List GatherState → Log
 receiver received heard = record {
   sends = false;
   receives = true;
@@ -68,8 +68,8 @@ IsReceiver table p = IsEnd table (receiver (known p).received (known p).heard) p
 
 -- an end that may send is the writer, and knows what was sent and noted; one that may receive is
 -- the reader, and knows what was received and noted
-pub record Fits (writer reader : ℕ) (sent received : List Block) (noted : List Image) (seat : ℕ)
-    (v : Log) : Type 0 where
+pub record Fits (writer reader : ℕ) (sent received : List Block) (noted : List GatherState)
+    (seat : ℕ) (v : Log) : Type 0 where
   pub sends : v.sends ≡ true → (seat ≡ writer) × (v.sent ≡ sent) × (v.noted ≡ noted)
   pub receives : v.receives ≡ true → (seat ≡ reader) × (v.received ≡ received) × (v.heard ≡ noted)
 
@@ -78,7 +78,7 @@ pub record Ordered (transit : List Block) (views : List Log) : Type 0 where
   pub reader : ℕ
   pub sent : List Block
   pub received : List Block
-  pub noted : List Image
+  pub noted : List GatherState
   pub order : AreInTransit sent received transit
   pub fits : (seat : ℕ) (v : Log) → get_elem? views seat ≡ some v →
       Fits writer reader sent received noted seat v

@@ -1,4 +1,5 @@
 // What may cross threads: each function is accepted only where its argument may.
+use crate::accord::{Accord, Far, Near};
 use crate::handoff::{Handoff, Receiver, Sender};
 use crate::line::{BookSeat, ClientSeat, Line};
 use crate::mark::{KeeperSeat, Mark, Watcher};
@@ -11,7 +12,8 @@ fn sent<T: Send>(x: T) -> T {
 fn shared<T: Sync>(_x: &T) {}
 
 // What all threads of a store have by `&`.
-fn shares(handoff: &Handoff, line: &Line, mark: &Mark, numbers: &Numbers) {
+fn shares(accord: &Accord, handoff: &Handoff, line: &Line, mark: &Mark, numbers: &Numbers) {
+    shared(accord);
     shared(handoff);
     shared(line);
     shared(mark);
@@ -39,4 +41,9 @@ fn sends_client(
     drawer: Drawer,
 ) -> (ClientSeat, Watcher, Drawer) {
     (sent(client), sent(watcher), sent(drawer))
+}
+
+// The two ends of an accord.
+fn sends_ends(near: Near, far: Far) -> (Near, Far) {
+    (sent(near), sent(far))
 }

@@ -1,4 +1,4 @@
-// Blocks in transit, in order, and the images that both ends have noted.
+// Blocks in transit, in order, and what was frozen, as both ends have noted it.
 ghost use Rattle.std.specs.Prelude.{◌≡◌, List, [], IfOk, IfErr, IfSome, IfNone, OnOk, IsOkUnless};
 ghost use Rattle.blocks.specs.declared.block.Block.{Block};
 ghost use Rattle.calls.specs.declared.refusal.Refusal.{Refusal};
@@ -6,29 +6,32 @@ ghost use Rattle.group_commit.specs.Orders.{AreInTransit, WasFull, WasEmpty};
 ghost use Rattle.group_commit.specs.Orders.{sending, receiving, noting, noting_too};
 ghost use Rattle.group_commit.specs.Transit.{known, united, IsEnd, IsSender, IsReceiver};
 
-use blocks::{Block, Image};
+use crate::accord::OneGather;
+use blocks::Block;
 use calls::Refusal;
 use calls::limits::MAX_TRANSIT;
+use catalog::NamedHolding;
 use crossbeam_queue::protocol::{Join, Lesson, Outcome, Protocol, Split};
 use crossbeam_queue::{Pass, RuledArrayQueue};
+use images::Gather;
 use std::alloc::Global;
 use std::collections::LinkedList;
-use std::marker::{Brand, Model, PhantomData};
+use std::marker::{Model, PhantomData};
 use std::sync::Wait;
 
-// What an end may do, what it has sent and what it has received, and the images that it has noted,
-// as one that sends and as one that receives. No value of it is made.
+// What an end may do, what it has sent and what it has received, and what was frozen, as it has
+// noted it, as one that sends and as one that receives. No value of it is made.
 pub(crate) struct Log {
     sends: bool,
     receives: bool,
     sent: LinkedList<Block>,
     received: LinkedList<Block>,
-    noted: LinkedList<Image>,
-    heard: LinkedList<Image>,
+    noted: LinkedList<Gather<NamedHolding>>,
+    heard: LinkedList<Gather<NamedHolding>>,
 }
 
 // What was sent is what was received, followed by what is in transit. Both ends have noted the same
-// images.
+// of what was frozen.
 pub(crate) struct InOrder;
 
 impl Protocol<Block, Log> for InOrder {
@@ -38,20 +41,6 @@ impl Protocol<Block, Log> for InOrder {
     ghost holds = { Ordered };
 
     ghost first = { united (sender [] []) (receiver [] []) };
-}
-
-/// Which image both ends note. Each call picks it, by passing `Brand`, so that no image is stored:
-/// it exists in the proofs alone.
-pub trait OneImage {
-    ghost use Rattle.blocks.specs.declared.block.Image.{Image};
-
-    ghost image: { Image };
-}
-
-impl OneImage for Brand {
-    ghost use Rattle.group_commit.specs.NoImage.{no_image};
-
-    ghost image = { no_image };
 }
 
 // The first end is cut into the sender's and the receiver's, and these are joined again.
@@ -73,18 +62,18 @@ impl Join<Log> for Roles {
     ghost spent = { nobody };
 }
 
-// The joined end is cut again, and both have noted an image more.
+// The joined end is cut again, and both have noted what was frozen once more.
 struct Note<W> {
     of: PhantomData<W>,
 }
 
-impl<W: OneImage> Split<Log> for Note<W> {
+impl<W: OneGather> Split<Log> for Note<W> {
     ghost use Rattle.std.specs.Prelude.{◌∷◌};
     ghost use Rattle.group_commit.specs.Transit.{sender, receiver};
 
-    ghost left = { λ v. sender v.sent (W.image ∷ v.noted) };
+    ghost left = { λ v. sender v.sent (W.gather ∷ v.noted) };
 
-    ghost right = { λ v. receiver v.received (W.image ∷ v.heard) };
+    ghost right = { λ v. receiver v.received (W.gather ∷ v.heard) };
 }
 
 // All that an end may do goes to another.
@@ -142,8 +131,8 @@ impl Lesson<Block, Log> for Whole {
     ghost fact = { λ v transit. (v.noted ≡ v.heard) × AreInTransit v.sent v.received transit };
 }
 
-/// Blocks on their way from the book to the keeper, in order, at most four. Both ends note the same
-/// images. Threads share it by `&`. Contracts see which table it is.
+/// Blocks on their way from the book to the keeper, in order, at most four. Both ends note what was
+/// frozen. Threads share it by `&`. Contracts see which table it is.
 #[derive(Drop)]
 pub struct Handoff {
     queue: RuledArrayQueue<Block, Log, InOrder>,
@@ -162,7 +151,7 @@ impl Model for Handoff {
 }
 
 /// The one end of a hand-off from which blocks are sent. It has no bytes. Contracts see what it has
-/// sent, and the images that were noted.
+/// sent, and what was frozen, as both ends have noted it, the newest first.
 pub struct Sender {
     end: Pass<Block, Log>,
 }
@@ -180,6 +169,11 @@ impl Model for Sender {
 
     ghost Value = { SenderState };
 
+    ghost use Rattle.std.specs.Coded.{codes};
+    ghost use Rattle.catalog.specs.Holdings.{collection_code};
+
+    ghost coded = { Prim.hlevel (codes, collection_code) };
+
     ghost use Rattle.group_commit.specs.Transit.{known, sender};
 
     ghost view = { λ s. record {
@@ -193,7 +187,7 @@ impl Model for Sender {
 }
 
 /// The one end of a hand-off at which blocks are received. It has no bytes. Contracts see what it
-/// has received, and the images that were noted.
+/// has received, and what was frozen, as both ends have noted it, the newest first.
 pub struct Receiver {
     end: Pass<Block, Log>,
 }
@@ -211,6 +205,11 @@ impl Model for Receiver {
 
     ghost Value = { ReceiverState };
 
+    ghost use Rattle.std.specs.Coded.{codes};
+    ghost use Rattle.catalog.specs.Holdings.{collection_code};
+
+    ghost coded = { Prim.hlevel (codes, collection_code) };
+
     ghost use Rattle.group_commit.specs.Transit.{known, receiver};
 
     ghost view = { λ s. record {
@@ -224,7 +223,7 @@ impl Model for Receiver {
 }
 
 impl Handoff {
-    /// A hand-off with no block in transit, and its two ends, which have noted no image.
+    /// A hand-off with no block in transit, and its two ends, which have noted nothing.
     ///
     /// NoMemory for the queue.
     pub fn new(alloc: Global) -> Result<(Handoff, Sender, Receiver), Refusal>
@@ -278,7 +277,7 @@ impl Handoff {
     }
 
     /// What was sent is what was received, followed by at most four blocks in transit, and both
-    /// ends have noted the same images. It changes nothing, and waits for nobody.
+    /// ends have noted the same of what was frozen. It changes nothing, and waits for nobody.
     pub fn compare(&self, sender: &mut Sender, receiver: &mut Receiver)
         requires sender { sender.old.table ≡ self.now }
         requires receiver { receiver.old.table ≡ self.now }
@@ -292,14 +291,14 @@ impl Handoff {
         receiver.end = self.queue.another::<Roles>(&mut sender.end);
     }
 
-    /// Both ends note one image more: what the holder of the one learns at a freeze, the holder of
-    /// the other knows from then on. Up to then they have noted the same images. It moves no block,
-    /// takes no memory and waits for nobody.
-    pub fn note<W: OneImage>(&self, sender: &mut Sender, receiver: &mut Receiver)
+    /// Both ends note what was frozen: what the holder of the one learns at a freeze, the holder of
+    /// the other knows from then on. Up to then they have noted the same. It moves no block, takes
+    /// no memory and waits for nobody.
+    pub fn note<W: OneGather>(&self, sender: &mut Sender, receiver: &mut Receiver)
         requires sender { sender.old.table ≡ self.now }
         requires receiver { receiver.old.table ≡ self.now }
-        ensures sender { sender.new ≡ noting sender.old W.image }
-        ensures receiver { receiver.new ≡ noting_too receiver.old W.image }
+        ensures sender { sender.new ≡ noting sender.old W.gather }
+        ensures receiver { receiver.new ≡ noting_too receiver.old W.gather }
         ensures same { sender.old.noted ≡ receiver.old.noted }
     {
         self.unite(&mut sender.end, &mut receiver.end);

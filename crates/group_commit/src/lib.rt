@@ -2,31 +2,35 @@
 //!
 //! - `Handoff`: blocks on their way from the book to the keeper. What was sent is what was
 //!   received, followed by what is in transit, in order, at most four. Both ends have noted the
-//!   same images.
+//!   same of what was frozen.
 //! - `Mark`: how many commits are kept. The count never falls, and is what the keeper's seat has
 //!   brought it to, which tells it to a watcher. A failed flag stays.
 //! - `Line`: the one history of the book. What each client has seen is a beginning of it, with all
 //!   that the history has of the client.
 //! - `Numbers`: each number that was drawn was drawn once.
+//! - `Accord`: what is gathered of the book for an image, as two ends know it. Both know the same
+//!   state, and only both together change it.
 //!
-//! Threads share the four by `&`. What a thread knows of one lies in a seat, which goes with it: a
-//! sender, a receiver, a keeper's seat, a watcher, the book's seat, a client's, a drawer. A seat is
-//! made of another one by a function of its part, and only its own steps change what it knows. So
-//! what contracts say of a seat holds whatever the other threads do: the rule of a part is kept by
-//! each step, and is proved here.
+//! Threads share the five by `&`. What a thread knows of one lies in a seat, which goes with it: a
+//! sender, a receiver, a keeper's seat, a watcher, the book's seat, a client's, a drawer, the near
+//! end and the far end of an accord. A seat is made of another one by a function of its part, and
+//! only its own steps change what it knows. So what contracts say of a seat holds whatever the
+//! other threads do: the rule of a part is kept by each step, and is proved here.
 //!
-//! There are eight kinds of step: blocks are sent and received; the mark is brought on, its flag is
+//! There are nine kinds of step: blocks are sent and received; the mark is brought on, its flag is
 //! set, and both are loaded; a step is tallied on the line, and the line is loaded; a number is
-//! drawn. Seats are joined and cut, too: so one is told what another knows, and both ends of a
-//! hand-off note an image. The book's lock is held where blocks are sent, steps tallied and clients
-//! made, the keeper's where blocks are received and the mark is brought on and tells, and both
-//! where an image is noted.
+//! drawn; an accord is loaded. Seats are joined and cut, too: so one is told what another knows,
+//! both ends of a hand-off note what was frozen, and both ends of an accord come to know another
+//! state. The book's lock is held where blocks are sent, steps tallied and clients made, the
+//! keeper's where blocks are received and the mark is brought on and tells, and both where what was
+//! frozen is noted. Whoever takes a step of an accord holds the locks of both of its ends.
 //!
 //! The value of a seat names its `table`, and a call asks for the seats of the part itself. What
 //! lies under a lock is known by its type alone: pick the tables by a type parameter, and let the
 //! invariant of the locked type say that its seats are of these.
 #![tactic(auto)]
 
+mod accord;
 mod crossing;
 mod ends;
 mod handoff;
@@ -35,8 +39,9 @@ mod mark;
 mod numbers;
 mod view;
 
+pub use accord::{Accord, Far, Near, OneGather};
 pub use ends::{Incoming, Outgoing};
-pub use handoff::{Handoff, OneImage, Receiver, Sender};
+pub use handoff::{Handoff, Receiver, Sender};
 pub use line::{BookSeat, ClientSeat, Line};
 pub use mark::{KeeperSeat, Mark, Watcher};
 pub use numbers::{Drawer, DrawerMaker, Numbers};

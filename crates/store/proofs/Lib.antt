@@ -1,3 +1,5 @@
 pub mod Ends
 pub mod VaultSteps
+pub mod Freezes
+pub mod Gathers
 pub mod Sends

@@ -10,6 +10,9 @@ use Rattle.catalog.proofs.catalog.Catalog.TheSendSync as catalogs
 use Rattle.machine.proofs.machine.Machine.TheSendSync as machines
 use Rattle.gathering.proofs.gathering.Gathering.TheSendSync as gatherings
 use Rattle.checkpoint.proofs.keeper.Keeper.TheSendSync as keepers
+use Rattle.group_commit.proofs.accord.Accord.TheSendSync as accords
+use Rattle.group_commit.proofs.accord.Near.TheSendSync as nears
+use Rattle.group_commit.proofs.accord.Far.TheSendSync as fars
 use Rattle.group_commit.proofs.handoff.Handoff.TheSendSync as handoffs
 use Rattle.group_commit.proofs.handoff.Sender.TheSendSync as senders
 use Rattle.group_commit.proofs.handoff.Receiver.TheSendSync as receivers
@@ -24,9 +27,11 @@ use Rattle.group_commit.proofs.numbers.Drawer.TheSendSync as drawers
 use Rattle.group_commit.proofs.numbers.DrawerMaker.TheSendSync as makers
 use Rattle.clients.specs.declared.naming.Naming as namings
 use Rattle.clients.specs.contracts.desk.Desk as desk
+use Rattle.store.specs.contracts.gatherer.Gatherer as gatherer
 use Rattle.store.specs.contracts.vault.Vault as vault
 use Rattle.clients.specs.contracts.shared.Shared as shared
 use Rattle.store.specs.contracts.store.Store as store
+use Rattle.store.proofs.gatherer.Gatherer.TheSendSync as gatherers
 use Rattle.store.proofs.vault.Vault.TheSendSync as vaults
 
 pub pending_sends : IsSend the_row
@@ -40,6 +45,9 @@ pub ruleset parts = (
   machines.the_send,
   gatherings.the_send,
   keepers.the_send,
+  accords.the_sync,
+  nears.the_send,
+  fars.the_send,
   handoffs.the_sync,
   senders.the_send,
   receivers.the_send,
@@ -63,9 +71,13 @@ module _ (D J : RattleType) (n : namings.Ghosts J.Denot) (d : disks.Ghosts D.Den
   vault_sync : IsSync (mutex.the_row (vault.the_row D J d n))
   vault_sync = search (parts, vaults.the_send) depth 80 fits 100000
 
+  gatherer_sync : IsSync (mutex.the_row (gatherer.the_row J n))
+  gatherer_sync = search (parts, gatherers.the_send) depth 80 fits 100000
+
   shared_sync : IsSync (shared.the_field J n).row
   shared_sync = struct_sync (shape (shared.the_type J n)) (search parts depth 80 fits 100000)
 
   pub store_sync : IsSync (store.the_row D J n d)
   store_sync = recorded_sync (store.the_field D J n d).row _ _ (store.the_type D J n d).to_one
-      (struct_sync (shape (store.the_type D J n d)) (desk_sync, (vault_sync, (shared_sync, tt))))
+      (struct_sync (shape (store.the_type D J n d))
+      (desk_sync, (vault_sync, (gatherer_sync, (shared_sync, tt)))))

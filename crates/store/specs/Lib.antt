@@ -1,5 +1,5 @@
 pub mod Closing
-pub mod Freezes
+pub mod Gatherers
 pub mod Openings
 pub mod Turns
 pub mod Vaults

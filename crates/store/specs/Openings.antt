@@ -14,6 +14,8 @@ pub record Tables : Type 0 where
   pub mark : TableId
   pub numbers : TableId
   pub handoff : TableId
+  pub gathering : TableId
+  pub awaited : TableId
   pub from : ℕ
 
 -- its book and its keeper, and the tables of its parts
@@ -35,6 +37,8 @@ pub record IsNamed {J D : Type 0} (j : Ghosts J) (g : disks.Ghosts D) (o : Opene
   pub mark : o.tables.mark ≡ j.mark
   pub numbers : o.tables.numbers ≡ j.numbers
   pub handoff : o.tables.handoff ≡ j.handoff
+  pub gathering : o.tables.gathering ≡ j.gathering
+  pub awaited : o.tables.awaited ≡ j.awaited
   pub start : o.book.state.now ≡ j.start
   pub wear : o.book.state.wear ≡ j.wear
   pub next : o.book.next ≡ j.next
@@ -48,6 +52,8 @@ naming_of g o = record {
   mark = o.tables.mark;
   numbers = o.tables.numbers;
   handoff = o.tables.handoff;
+  gathering = o.tables.gathering;
+  awaited = o.tables.awaited;
   start = o.book.state.now;
   wear = o.book.state.wear;
   next = o.book.next;

@@ -41,6 +41,12 @@ CheckTells old (Ok (Checkpoint.Flipped place)) new = Reaches old place new
 CheckTells old (Ok c) new = new ≡ old
 CheckTells old (Err e) new = Fails old e new
 
+-- a step towards an image, which writes nothing
+abbrev pub IsPrepared : Checkpoint → Type 0
+IsPrepared Checkpoint.Piece = ⊥
+IsPrepared (Checkpoint.Flipped place) = ⊥
+IsPrepared c = Unit {0}
+
 -- these blocks were received, in order, and no image was noted
 pub record IsReceived (before : ReceiverState) (blocks : List Block) (after : ReceiverState) :
     Type 0 where

@@ -2,7 +2,7 @@
 ghost use Rattle.std.specs.Prelude.{◌≡◌, IfOk};
 ghost use Rattle.store.specs.Turns.{CheckTells};
 
-use crate::freezing::freeze;
+use crate::gatherer::Gatherer;
 use crate::vault::{Vault, note_failure};
 use calls::Refusal;
 use clients::{Desk, Naming, Shared};
@@ -14,21 +14,27 @@ use std::sync::{Mutex, Wait};
 /// What a turn of a checkpointer did.
 #[derive(Clone, Copy, Debug, PartialEq, Eq)]
 pub enum Checkpoint {
-    /// The book was frozen, and its image is in progress.
+    /// A collection was copied, if one was left, and what was run behind the copies is repeated.
+    Gathered,
+    /// The book was frozen, all collections of which are copied.
     Frozen,
+    /// What was frozen is packed, and its image is in progress.
+    Packed,
     /// A piece of the image was written.
     Piece,
     /// The image is the store, and all commits up to this place are kept: it is the mark.
     Flipped(u64),
 }
 
-/// Takes checkpoints of a store, step by step: an image of all collections goes into the area that
-/// is not in use, and then one byte makes it the store, with no journal behind it. Contracts see
-/// what it has loaded of the mark.
+/// Takes checkpoints of a store, step by step: the collections are copied one at a time while
+/// clients go on, an image of them goes into the area that is not in use, and then one byte makes
+/// it the store, with no journal behind it. A store has one checkpoint under way, with which each
+/// checkpointer goes on. Contracts see what it has loaded of the mark.
 #[derive(Drop)]
 pub struct Checkpointer<'s, D: Disk, J: Naming> {
     desk: &'s Mutex<Desk<J>>,
     vault: &'s Mutex<Vault<D, J>>,
+    gatherer: &'s Mutex<Gatherer<J>>,
     shared: &'s Shared<J>,
     watcher: Watcher,
 }
@@ -48,6 +54,7 @@ impl<'s, D: Disk, J: Naming> Checkpointer<'s, D, J> {
     pub(crate) fn new(
         desk: &'s Mutex<Desk<J>>,
         vault: &'s Mutex<Vault<D, J>>,
+        gatherer: &'s Mutex<Gatherer<J>>,
         shared: &'s Shared<J>,
         watcher: Watcher,
     ) -> Self
@@ -57,21 +64,27 @@ impl<'s, D: Disk, J: Naming> Checkpointer<'s, D, J> {
         Self {
             desk,
             vault,
+            gatherer,
             shared,
             watcher,
         }
     }
 
-    /// Takes the next step of a checkpoint. Where no image is in progress it freezes the book: it
-    /// holds both locks, the keeper's first, calls no device, and takes the time and memory of a
-    /// copy of all collections. Else it writes a piece of the image, which is one write, or makes
-    /// the image the store where no piece is left, which is a write and two syncs. Both go on under
-    /// the keeper's lock alone, so clients go on meanwhile. Take turns until `Flipped`.
+    /// Takes the next step of a checkpoint. Where an image is in progress it writes a piece of it,
+    /// which is one write, or makes the image the store where no piece is left, which is a write
+    /// and two syncs. Both go on under the keeper's lock alone, so clients go on meanwhile.
     ///
-    /// Of a freeze NoMemory, Failed after a Fault, Full where the image does not fit into an area:
-    /// no image is in progress then, and everything else is as before. Of a piece Failed and Fault,
-    /// of a flip too. After these each client that waits is told Lost, and the disk is to be opened
-    /// again.
+    /// Else it goes on towards an image. It copies the next collection under the book's lock, in
+    /// the time and memory that one copy takes, and repeats what was run behind the copies under no
+    /// lock that clients take. Where all are copied it freezes the book under both locks, in the
+    /// time of what the live transactions asked for, with no device called. Then it packs the image
+    /// under no lock, and begins it under the keeper's. Take turns until `Flipped`.
+    ///
+    /// Outrun where more calls were run between two copies than are noted; NoMemory; Worn where
+    /// 2^61 gatherings were begun; Full where the image does not fit into an area; Failed after a
+    /// Fault. No image is in progress then, everything else is as before, and the next turn goes
+    /// on, or begins anew. Of a piece Failed and Fault, of a flip too. After Failed and Fault each
+    /// client that waits is told Lost, and the disk is to be opened again.
     pub fn turn<R: Wait>(&mut self, rt: &R) -> Result<Checkpoint, Refusal>
         ensures { CheckTells self.old result self.new }
     {
@@ -79,23 +92,20 @@ impl<'s, D: Disk, J: Naming> Checkpointer<'s, D, J> {
         if let Some(done) = vault.lock(rt).lay(self.shared, &mut self.watcher) {
             return done;
         }
-        self.freeze(rt)
+        self.prepare(rt)
     }
 
-    // Freezes the book and begins its image.
-    fn freeze<R: Wait>(&mut self, rt: &R) -> Result<Checkpoint, Refusal>
+    // Takes the next step towards an image.
+    fn prepare<R: Wait>(&mut self, rt: &R) -> Result<Checkpoint, Refusal>
         ensures { CheckTells self.old result self.new }
     {
-        let desk = self.desk;
-        let vault = self.vault;
-        let mut vault = vault.lock(rt);
-        let mut desk = desk.lock(rt);
-        match freeze(self.shared, &mut desk, &mut vault) {
-            Ok(()) => Ok(Checkpoint::Frozen),
-            Err(refusal) => {
-                note_failure(&self.shared.mark, &mut self.watcher, refusal);
-                Err(refusal)
-            }
+        let gatherer = self.gatherer;
+        let prepared = gatherer
+            .lock(rt)
+            .turn(rt, self.shared, self.desk, self.vault);
+        if let Err(refusal) = &prepared {
+            note_failure(&self.shared.mark, &mut self.watcher, *refusal);
         }
+        prepared
     }
 }

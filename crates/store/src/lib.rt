@@ -43,7 +43,7 @@ mod checkpointing;
 mod closing;
 mod committing;
 mod crossing;
-mod freezing;
+mod gatherer;
 mod opened;
 mod store;
 mod vault;

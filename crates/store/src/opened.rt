@@ -9,6 +9,7 @@ ghost use Rattle.recovery.specs.Openings.{IsOpened, IsDamagedAt, HasNoRoom, IsRe
 ghost use Rattle.recovery.specs.Openings.{IsOpenRefusal, KeepsContent};
 ghost use Rattle.store.specs.Openings.{IsNamed};
 
+use crate::gatherer::Gatherer;
 use crate::store::Store;
 use crate::vault::Vault;
 use calls::Refusal;
@@ -17,7 +18,8 @@ use checkpoint::Keeper;
 use clients::{Desk, Naming, Shared};
 use disk_model::Disk;
 use group_commit::{
-    BookSeat, DrawerMaker, Handoff, KeeperSeat, Line, Mark, Numbers, Receiver, Sender, Watcher,
+    Accord, BookSeat, DrawerMaker, Far, Handoff, KeeperSeat, Line, Mark, Near, Numbers, Receiver,
+    Sender, Watcher,
 };
 use recovery::open;
 use std::alloc::Global;
@@ -27,6 +29,7 @@ use txn::Book;
 /// A store that was opened and has no name yet: `named` gives the store. Contracts see its book,
 /// its keeper, and the tables of its parts.
 pub struct Opened<D: Disk> {
+    alloc: Global,
     book: Book<Catalog>,
     keeper: Keeper<D>,
     parts: Parts,
@@ -36,6 +39,7 @@ pub struct Opened<D: Disk> {
 impl<D: Disk + Drop> Drop for Opened<D> {
     fn drop(self) {
         let Self {
+            alloc: _alloc,
             book,
             keeper,
             parts,
@@ -59,10 +63,19 @@ struct Parts {
     handoff: Handoff,
     sender: Sender,
     receiver: Receiver,
+    // What is gathered of the book, as its side and the gatherer's know it, and what is frozen, as
+    // the keeper's side does.
+    gathering: Accord,
+    gathered_near: Near,
+    gathered_far: Far,
+    awaited: Accord,
+    awaited_near: Near,
+    awaited_far: Far,
 }
 
 impl Model for Parts {
     ghost use Rattle.std.specs.Prelude.{◌≡◌, []};
+    ghost use Rattle.group_commit.specs.Accords.{nothing_gathered};
     ghost use Rattle.group_commit.specs.Marks.{new_watcher};
     ghost use Rattle.store.specs.Openings.{Tables};
 
@@ -73,6 +86,8 @@ impl Model for Parts {
       mark = p.mark;
       numbers = p.numbers;
       handoff = p.handoff;
+      gathering = p.gathering;
+      awaited = p.awaited;
       from = p.maker.from;
     } };
 
@@ -81,7 +96,11 @@ impl Model for Parts {
         × (p.watcher ≡ new_watcher p.mark)
         × (p.maker ≡ record { table = p.numbers; from = p.maker.from; made = 0 })
         × (p.sender ≡ record { table = p.handoff; sent = []; noted = [] })
-        × (p.receiver ≡ record { table = p.handoff; received = []; noted = [] }) };
+        × (p.receiver ≡ record { table = p.handoff; received = []; noted = [] })
+        × (p.gathered_near ≡ record { table = p.gathering; gather = nothing_gathered })
+        × (p.gathered_far ≡ record { table = p.gathering; gather = nothing_gathered })
+        × (p.awaited_near ≡ record { table = p.awaited; gather = nothing_gathered })
+        × (p.awaited_far ≡ record { table = p.awaited; gather = nothing_gathered }) };
 }
 
 impl<D: Disk> Model for Opened<D> {
@@ -115,6 +134,8 @@ impl Parts {
         let (mark, kept, watcher) = Mark::new(alloc)?;
         let (numbers, maker) = Numbers::new(alloc, from)?;
         let (handoff, sender, receiver) = Handoff::new(alloc)?;
+        let (gathering, gathered_near, gathered_far) = Accord::new(alloc)?;
+        let (awaited, awaited_near, awaited_far) = Accord::new(alloc)?;
         Ok(Parts {
             line,
             seat,
@@ -126,6 +147,12 @@ impl Parts {
             handoff,
             sender,
             receiver,
+            gathering,
+            gathered_near,
+            gathered_far,
+            awaited,
+            awaited_near,
+            awaited_far,
         })
     }
 }
@@ -171,6 +198,7 @@ impl<D: Disk> Opened<D> {
         book.upheld();
         match Parts::new(alloc, book.next()) {
             Ok(parts) => Ok(Opened {
+                alloc,
                 book,
                 keeper,
                 parts,
@@ -185,6 +213,7 @@ impl<D: Disk> Opened<D> {
         requires { IsNamed ⟦<J as Naming>⟧ ⟦<D as Disk>⟧ self }
     {
         let Opened {
+            alloc,
             book,
             keeper,
             parts,
@@ -200,17 +229,26 @@ impl<D: Disk> Opened<D> {
             handoff,
             sender,
             receiver,
+            gathering,
+            gathered_near,
+            gathered_far,
+            awaited,
+            awaited_near,
+            awaited_far,
         } = parts;
         let shared = Shared {
             line,
             mark,
             numbers,
             handoff,
+            gathering,
+            awaited,
             of: PhantomData,
         };
         Store::new(
-            Desk::new(book, seat, sender, maker, watcher),
-            Vault::new(keeper, receiver, kept),
+            Desk::new(book, seat, sender, gathered_near, maker, watcher),
+            Vault::new(keeper, receiver, kept, awaited_near),
+            Gatherer::new(alloc, gathered_far, awaited_far),
             shared,
         )
     }

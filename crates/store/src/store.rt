@@ -10,6 +10,7 @@ ghost use Rattle.store.specs.Closing.{Closes};
 use crate::checkpointing::Checkpointer;
 use crate::closing::close;
 use crate::committing::Committer;
+use crate::gatherer::Gatherer;
 use crate::vault::Vault;
 use calls::Refusal;
 use catalog::Catalog;
@@ -20,11 +21,13 @@ use std::sync::{Mutex, Wait};
 use txn::Book;
 
 /// A store of named collections that threads share. The book, which runs transactions in memory,
-/// lies under one lock, and the keeper of the disk under another. No device is called under the
-/// book's lock, so no client waits for the disk but in `Client::wait`.
+/// lies under one lock, the keeper of the disk under another, and what is gathered for an image
+/// under a third, which checkpointers alone take. No device is called under the book's lock, so no
+/// client waits for the disk but in `Client::wait`.
 pub struct Store<D: Disk, J: Naming> {
     desk: Mutex<Desk<J>>,
     vault: Mutex<Vault<D, J>>,
+    gatherer: Mutex<Gatherer<J>>,
     shared: Shared<J>,
 }
 
@@ -34,19 +37,27 @@ impl<D: Disk + Drop, J: Naming> Drop for Store<D, J> {
         let Self {
             desk,
             vault,
+            gatherer,
             shared,
         } = self;
         drop(desk);
         drop(vault);
+        drop(gatherer);
         drop(shared);
     }
 }
 
 impl<D: Disk, J: Naming> Store<D, J> {
-    pub(crate) fn new(desk: Desk<J>, vault: Vault<D, J>, shared: Shared<J>) -> Self {
+    pub(crate) fn new(
+        desk: Desk<J>,
+        vault: Vault<D, J>,
+        gatherer: Gatherer<J>,
+        shared: Shared<J>,
+    ) -> Self {
         Self {
             desk: Mutex::new(desk),
             vault: Mutex::new(vault),
+            gatherer: Mutex::new(gatherer),
             shared,
         }
     }
@@ -83,7 +94,13 @@ impl<D: Disk, J: Naming> Store<D, J> {
         ensures { result ≡ new_watcher J.mark }
     {
         let watcher = self.desk.lock(rt).watcher(&self.shared);
-        Checkpointer::new(&self.desk, &self.vault, &self.shared, watcher)
+        Checkpointer::new(
+            &self.desk,
+            &self.vault,
+            &self.gatherer,
+            &self.shared,
+            watcher,
+        )
     }
 
     /// What two clients of this store had seen when they left, as one, for `close`: the longer of
@@ -124,8 +141,10 @@ impl<D: Disk, J: Naming> Store<D, J> {
         let Store {
             desk,
             vault,
+            gatherer,
             shared,
         } = self;
+        drop(gatherer);
         close(&shared, desk.into_inner(), vault.into_inner(), last)
     }
 }

@@ -1,5 +1,6 @@
 // What lies under the keeper's lock.
 ghost use Rattle.std.specs.Prelude.{◌≡◌, max, [], IfSome, IfNone};
+ghost use Rattle.group_commit.specs.Accords.{nothing_gathered};
 ghost use Rattle.store.specs.Turns.{Brings, TurnTells, CheckTells, brought_to, flipped_to, Fails};
 ghost use Rattle.store.specs.Turns.{Reaches};
 ghost use Rattle.store.specs.Vaults.{ReceivesAny};
@@ -9,17 +10,19 @@ use calls::Refusal;
 use checkpoint::{Keeper, Turn};
 use clients::{Naming, Shared};
 use disk_model::Disk;
-use group_commit::{Handoff, Incoming, KeeperSeat, Mark, Receiver, Watcher};
+use group_commit::{Handoff, Incoming, KeeperSeat, Mark, Near, Receiver, Watcher};
 use std::marker::{Model, PhantomData};
 use std::sync::Wait;
 
-/// The keeper, with the receiving end of the hand-off and the seat that brings the mark on. What
-/// lies under a lock is known by its type: contracts see nothing else of it.
+/// The keeper, with the receiving end of the hand-off, the seat that brings the mark on, and what
+/// is frozen of the book for the image that it awaits. What lies under a lock is known by its type:
+/// contracts see nothing else of it.
 #[derive(Drop)]
 pub(crate) struct Vault<D: Disk, J: Naming> {
     pub(crate) keeper: Keeper<D>,
     pub(crate) receiver: Receiver,
     pub(crate) mark: KeeperSeat,
+    pub(crate) near: Near,
     of: PhantomData<J>,
 }
 
@@ -30,14 +33,16 @@ impl<D: Disk, J: Naming> Model for Vault<D, J> {
 
     ghost view = { λ v. tt };
 
-    ghost invariant = { λ v. IsVault ⟦<J as Naming>⟧ ⟦<D as Disk>⟧ v.keeper v.receiver v.mark };
+    ghost invariant = { λ v. IsVault ⟦<J as Naming>⟧ ⟦<D as Disk>⟧ v.keeper v.receiver v.mark
+        v.near };
 }
 
 impl<D: Disk, J: Naming> Vault<D, J> {
     /// The vault of a keeper that was just opened.
-    pub(crate) fn new(keeper: Keeper<D>, receiver: Receiver, mark: KeeperSeat) -> Self
+    pub(crate) fn new(keeper: Keeper<D>, receiver: Receiver, mark: KeeperSeat, near: Near) -> Self
         requires receiver { receiver ≡ record { table = J.handoff; received = []; noted = [] } }
         requires mark { mark ≡ record { table = J.mark; count = 0 } }
+        requires near { near ≡ record { table = J.awaited; gather = nothing_gathered } }
         requires received { J.sound →
             ReceivesAny ⟦<D as Disk>⟧ J.start J.wear [] [] keeper }
     {
@@ -45,6 +50,7 @@ impl<D: Disk, J: Naming> Vault<D, J> {
             keeper,
             receiver,
             mark,
+            near,
             of: PhantomData,
         }
     }

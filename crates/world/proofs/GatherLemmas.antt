@@ -43,7 +43,7 @@ use Rattle.catalog.specs.Meaning.{catalog_meaning, catalog_making}
 
 -- ---- what is packed
 
-repeats_none : (g : GatherState) → Repeats g g
+pub repeats_none : (g : GatherState) → Repeats g g
 repeats_none g =
     record { repeated = repeated_none g.parts g.effects; mark = refl; frozen = refl }
 

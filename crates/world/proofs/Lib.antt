@@ -12,7 +12,7 @@ mod ImageCalls
 mod ImageNames
 mod ImageReading
 pub mod FreezeLemmas
-mod GatherLemmas
+pub mod GatherLemmas
 mod GatherSteps
-mod OfBook
+pub mod OfBook
 pub mod Begins

@@ -10,12 +10,12 @@ abbrev action : (g : Over) → goal.After-note g → Action
 action g c = Action.Ended c.args.number c.ended-ended.result
 
 keeps : (g : Over) (c : goal.After-note g) →
-    IsDesk g.J.Naming c.ended-ended.new.self c.note.new.seat c.self.inside.sender
+    IsDesk g.J.Naming c.ended-ended.new.self c.note.new.seat c.self.inside.sender c.self.inside.near
 keeps g c =
     desk_takes g.J.Naming c.self.inside.book c.self.inside.seat c.self.inside.sender
-    c.self.invariant.0 (Some c.args.me.now.number) (action g c) c.ended-ended.new.self
+    c.self.inside.near c.self.invariant.0 (Some c.args.me.now.number) (action g c) c.ended-ended.new.self
     c.note.new.seat c.ended-ended.ensures.answer c.upheld.ensures.records
-    c.note.ensures.book
+    c.ended-ended.ensures.goes c.note.ensures.book
 
 pub invariant_of-self : goal.invariant_of-self
 invariant_of-self g c =
@@ -24,5 +24,5 @@ invariant_of-self g c =
 pub returns : goal.returns
 returns g c =
     steps_one g.J.Naming c.ended-ended.new.self c.self.inside.seat c.note.new.seat
-    c.self.inside.sender c.args.me.now c.note.new.me (action g c) (keeps g c) c.note.ensures.book
+    c.self.inside.sender c.self.inside.near c.args.me.now c.note.new.me (action g c) (keeps g c) c.note.ensures.book
     c.note.ensures.client c.note.ensures.seen c.note.ensures.mine

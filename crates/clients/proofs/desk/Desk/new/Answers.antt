@@ -5,8 +5,8 @@ use Rattle.clients.proofs.desk.Desk.new.Goals as goal
 
 pub invariant_of-result : goal.invariant_of-result
 invariant_of-result g c = (
-  desk_opens g.J.Naming c.args.book c.args.seat c.args.sender c.requires.book c.requires.seat
-      c.requires.sender,
+  desk_opens g.J.Naming c.args.book c.args.seat c.args.sender c.args.near c.requires.book
+      c.requires.seat c.requires.sender c.requires.near,
   ap (λ (m : MakerState). m.table) c.requires.maker,
   ap (λ (m : MakerState). m.from) c.requires.maker,
   c.requires.watcher,

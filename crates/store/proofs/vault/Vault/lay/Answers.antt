@@ -10,7 +10,8 @@ invariant_of-self g c =
     let k = c.self.inside.keeper in
     let l = c.image_piece-laid.new.self in
     let same = piece_mark k l _ c.image_piece-laid.result c.image_piece-laid.ensures.answer in
-    vault_images g.D.Disk g.J.Naming k c.self.inside.receiver c.self.inside.mark c.self.invariant l
+    vault_images g.D.Disk g.J.Naming k c.self.inside.receiver c.self.inside.mark
+    c.self.inside.near c.self.invariant l
     c.self.inside.mark c.image_piece-laid.ensures.crash refl
     (omega (arith, c.self.invariant.marked, same))
 
@@ -26,7 +27,8 @@ invariant_of-self-2 g c =
     c.flip-flipped.ensures.answer in
     let within = flipped_within c.self.inside.mark.count k.mark l.mark r c.self.invariant.marked is
     rises in
-    vault_images g.D.Disk g.J.Naming k c.self.inside.receiver c.self.inside.mark c.self.invariant l
+    vault_images g.D.Disk g.J.Naming k c.self.inside.receiver c.self.inside.mark
+    c.self.inside.near c.self.invariant l
     c.flip_told.new.seat c.flip-flipped.ensures.crash
     (ap (λ (m : KeeperMark). m.table) c.flip_told.ensures.seat)
     (omega (arith, within, ap (λ (m : KeeperMark). m.count) c.flip_told.ensures.seat))

@@ -8,7 +8,8 @@ invariant_of-self g c =
     let k = c.self.inside.keeper in
     let r = c.bring-turned.result in
     let least = brought_least c.self.inside.mark.count k.mark r c.self.invariant.marked in
-    vault_turns g.D.Disk g.J.Naming k c.self.inside.receiver c.self.inside.mark c.self.invariant r
+    vault_turns g.D.Disk g.J.Naming k c.self.inside.receiver c.self.inside.mark
+    c.self.inside.near c.self.invariant r
     c.bring-turned.new.keeper c.bring-turned.new.receiver c.turn_told.new.seat
     c.bring-turned.ensures (ap (λ (m : KeeperMark). m.table) c.turn_told.ensures.seat)
     (omega (

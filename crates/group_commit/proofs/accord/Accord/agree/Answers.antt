@@ -1,0 +1,17 @@
+use Rattle.std.proofs.Common.{rules, ap, arith}
+use Rattle.group_commit.specs.Agreeing.{SeatView}
+use Rattle.group_commit.proofs.Agreements.{parts}
+use Rattle.group_commit.proofs.accord.Accord.agree.Goals as goal
+
+pub split_seat-requires : goal.split_seat-requires
+split_seat-requires g c =
+    let united = c.unite.ensures.near.1 in (
+      search rules,
+      omega (arith, c.self.invariant),
+      λ s k at. parts s.views k c.unite.new.near.id c.unite.new.near.me.0
+          at (λ _. g.W.OneGather.gather)
+          (ap (λ (m : SeatView). m.0.near) united) (ap (λ (m : SeatView). m.0.far) united),
+    )
+
+pub returns-clause-near : goal.returns-clause-near
+returns-clause-near g c = search rules

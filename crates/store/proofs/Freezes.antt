@@ -1,0 +1,433 @@
+-- A copy of a collection and a freeze keep what lies under the locks; what a closed store leaves.
+use Rattle.std.proofs.Common.{◌≡◌, inl, ℕ, ◌+◌, ◌≤◌, Bool, true, false, Some, None, Result, Ok}
+use Rattle.std.proofs.Common.{Err, List}
+use Rattle.std.proofs.Common.{[], ◌∷◌, ◌++◌, length, refl, sym, ap, ◌∙◌, subst, arith}
+use Rattle.std.proofs.Common.{length-append, append_assoc}
+use Rattle.std.proofs.Common.{Option}
+use Rattle.std.specs.Option.{option_map}
+use mathlib.Core.List.{IsPrefix}
+use Rattle.std.proofs.lemmas.List.{append-nil}
+use Rattle.std.proofs.lemmas.List.Elements.{All-tail}
+use Rattle.calls.specs.Contents.{Collection}
+use Rattle.calls.specs.declared.refusal.Refusal.{Refusal}
+use Rattle.disk_model.specs.declared.disk.Disk as disks
+use Rattle.record_format.specs.declared.record.Record.{Record}
+use Rattle.record_format.specs.Acts.{places}
+use Rattle.record_format.specs.Short.{AreShort}
+use Rattle.blocks.specs.declared.block.Block.{Block}
+use Rattle.blocks.specs.declared.block.Image.{Image}
+use Rattle.blocks.specs.Carried.{Carries}
+use Rattle.blocks.specs.Packings.{joined}
+use Rattle.blocks.proofs.Carrying.{joined-append, carries_parts}
+use Rattle.images.specs.declared.gather.Marks.{Marks}
+use Rattle.images.specs.Gathers.{GatherState, FrozenState, Packs}
+use Rattle.gathering.specs.Gatherings.{HoldsAll, IsUnderWay}
+use Rattle.gathering.proofs.Going.{holds_image}
+use Rattle.machine.specs.Machine.{journalled}
+use Rattle.machine.specs.Sound.{IsSound}
+use Rattle.repetition.specs.Journals.{records_in}
+use Rattle.txn.specs.declared.steps.Action.{Action}
+use Rattle.txn.specs.declared.steps.BookStep.{BookStep}
+use Rattle.txn.specs.Books.{BookState, standing, position, IsKept}
+use Rattle.txn.specs.Freezing.{IsGatheredOf, IsImageOf, FreezeAnswers}
+use Rattle.txn.specs.Handing.{HasHanded}
+use Rattle.txn.specs.Histories.{records_by}
+use Rattle.txn.proofs.Handings.{records_by-push, gathers_on, frozen_not, freezes_gathered}
+use Rattle.txn.proofs.Handings.{freezes_nothing}
+use Rattle.catalog.specs.Meaning.{catalog_meaning, catalog_making}
+use Rattle.checkpoint.specs.ImageAnswers.{HoldAnswers}
+use Rattle.checkpoint.specs.Keepers.{KeeperState}
+use Rattle.checkpoint.specs.Keeping.{BegunImage, IsApart, Uncrossed, HasReceived, HoldKeeps}
+use Rattle.checkpoint.proofs.GroupLemmas.{uncrossed_front}
+use Rattle.checkpoint.proofs.ReceivedLemmas.{mark_few}
+use Rattle.world.proofs.FreezeLemmas as freezes
+use Rattle.world.proofs.GatherLemmas.{held_same, repeats_none}
+use Rattle.world.proofs.KeeperSteps.{none_crossed}
+use Rattle.world.proofs.OfBook.{of_unfrozen}
+use Rattle.world.proofs.Readings.{history_yields}
+use Rattle.group_commit.specs.Accords.{AccordState}
+use Rattle.group_commit.specs.Lines as lines
+use Rattle.group_commit.specs.Lines.{stepped}
+use Rattle.group_commit.specs.Marks.{KeeperMark, AreReached}
+use Rattle.group_commit.specs.Orders.{SenderState, ReceiverState, AreInTransit, noting, noting_too}
+use Rattle.clients.specs.declared.naming.Naming.{Ghosts}
+use Rattle.clients.specs.Desks.{AreRecorded, IsDesk, PacksImages, frozen_end, frozen_ends}
+use Rattle.clients.specs.Notes.{alone}
+use Rattle.store.specs.Closing.{Closes}
+use Rattle.store.specs.Gatherers.{Froze}
+use Rattle.store.specs.Vaults.{IsVault}
+
+abbrev Book : Type 0
+Book = BookState (List Collection)
+
+-- two lists of groups that one list of blocks carries have as many records
+carried_length : (end place : ℕ) (bs : List Block) (gs hs : List (List Record)) →
+    Carries end place bs gs → Carries end place bs hs → length (joined gs) ≡ length (joined hs)
+carried_length end place [] [] [] a b = refl
+carried_length end place [] (g ∷ gs) hs a b = absurd a
+carried_length end place [] [] (h ∷ hs) a b = absurd b
+carried_length end place (x ∷ bs) [] hs a b = absurd a
+carried_length end place (x ∷ bs) (g ∷ gs) [] a b = absurd b
+carried_length end place (x ∷ bs) (g ∷ gs) (h ∷ hs) a b =
+    let size : length g ≡ length h = omega (arith, a.0.end_is, b.0.end_is) in
+    let same : places g ≡ places h = omega (arith, a.0.place_is, b.0.place_is) in
+    omega (
+      arith,
+      size,
+      length-append g (joined gs),
+      length-append h (joined hs),
+      carried_length (end + length g) (place + places g) bs gs hs a.1
+          (subst (λ n. Carries n (place + places g) bs hs) (ap (λ n. end + n) (sym size))
+          (subst (λ n. Carries (end + length h) n bs hs) (ap (λ n. place + n) (sym same)) b.1)),
+    )
+
+reached_more : (counts : List ℕ) (m n : ℕ) → m ≤ n → AreReached counts m → AreReached counts n
+reached_more counts m n less all k x at = let one = all k x at in omega (arith, less, one)
+
+-- ---- the book
+
+module _ {J : Type 0} (j : Ghosts J) where
+  -- The next collection is copied, or that is refused.
+  pub desk_gathers : (book : Book) (seat : lines.BookState) (sender : SenderState)
+      (near : AccordState) → IsDesk j book seat sender near → (r : Result Bool Refusal)
+      (c : Book) (now : lines.BookState) (after : AccordState) →
+      c ≡ record book { gathering = c.gathering } →
+      now ≡ stepped seat (alone (Action.Gather r)) → after.table ≡ near.table →
+      IsGatheredOf (λ v. v) c after.gather → IsDesk j c now sender after
+  desk_gathers book seat sender near is r c now after same now_is table of =
+      let step = alone (Action.Gather r) in
+      let all : records_by (seat.all ++ step ∷ []) ≡ records_by seat.all =
+      records_by-push seat.all step ∙ append-nil (records_by seat.all) in
+      let state : c.state ≡ book.state = ap (λ (v : Book). v.state) same in
+      rw now_is (record {
+        line = is.line;
+        handoff = is.handoff;
+        gathering = table ∙ is.gathering;
+        gathered = of;
+        groups = is.groups;
+        handed = gathers_on catalog_meaning catalog_making (λ v. v) j.start j.wear seat.all book c
+            sender.sent is.groups (frozen_ends sender.noted) [] is.handed None r same;
+        recorded = λ s. rw (all, state) (is.recorded s);
+      })
+
+  -- where the book refuses a freeze, all is as it was
+  desk_refused : (book : Book) (seat : lines.BookState) (sender : SenderState)
+      (near : AccordState) → IsDesk j book seat sender near → (m n : GatherState) (c : Book)
+      (e : Refusal) (r : Result (Unit {0}) Refusal) (now : lines.BookState) →
+      FreezeAnswers (λ v. v) book m (Err e) c n → now ≡ stepped seat (alone (Action.Freeze r)) →
+      IsDesk j c now sender near
+  desk_refused book seat sender near is m n c e r now froze now_is =
+      let step = alone (Action.Freeze r) in
+      let all : records_by (seat.all ++ step ∷ []) ≡ records_by seat.all =
+      records_by-push seat.all step ∙ append-nil (records_by seat.all) in
+      let same : c ≡ book = frozen_not (λ v. v) book c m n e froze in
+      rw now_is (record {
+        line = is.line;
+        handoff = is.handoff;
+        gathering = is.gathering;
+        gathered = subst (λ b. IsGatheredOf (λ v. v) b near.gather) (sym same) is.gathered;
+        groups = is.groups;
+        handed = freezes_nothing catalog_meaning catalog_making (λ v. v) j.start j.wear seat.all
+            book c sender.sent is.groups (frozen_ends sender.noted) [] is.handed None m n e froze
+            r;
+        recorded = λ s. rw (all, ap (λ (v : Book). v.state) same) (is.recorded s);
+      })
+
+-- ---- both locks
+
+module _ {J D : Type 0} (j : Ghosts J) (g : disks.Ghosts D) where
+  module _ (book : Book) (seat : lines.BookState) (sender : SenderState) (near : AccordState)
+      (desk : IsDesk j book seat sender near) (k : KeeperState D) (receiver : ReceiverState)
+      (mark : KeeperMark) (held : AccordState) (vault : IsVault j g k receiver mark held)
+      (transit : List Block) (order : AreInTransit sender.sent receiver.received transit)
+      (same : sender.noted ≡ receiver.noted) where
+    -- where it was frozen
+    abbrev ends : List ℕ
+    ends = frozen_ends sender.noted
+
+    -- what was sent
+    handed : HasHanded catalog_meaning catalog_making (λ v. v) j.start j.wear seat.all book
+        (receiver.received ++ transit) desk.groups ends []
+    handed = subst (λ bs. HasHanded catalog_meaning catalog_making (λ v. v) j.start j.wear
+        seat.all book bs desk.groups ends []) order.order desk.handed
+
+    -- what was received of that carries the first records
+    parts : (first more : List (List Record)) × (desk.groups ≡ first ++ more) ×
+        Carries 0 0 receiver.received first
+    parts =
+        let p = carries_parts 0 0 receiver.received transit desk.groups handed.carried in
+        (p.0, p.1, p.2, p.3)
+
+    begins_all : IsPrefix (records_in parts.0) (records_by seat.all)
+    begins_all = (
+      records_in parts.1 ++ book.pending,
+      sym (append_assoc (records_in parts.0) (records_in parts.1) book.pending) ∙
+          ap (λ l. l ++ book.pending)
+          (sym (ap records_in parts.2 ∙ joined-append parts.0 parts.1)) ∙ sym handed.records,
+    )
+
+    -- the keeper has received it, and begun some images
+    module _ (s : j.sound) where
+      received : (begun : List BegunImage) × HasReceived g.seen g.may_leave j.start j.wear
+          (records_by seat.all) (journalled book.state) ends begun receiver.received k
+      received =
+          let had = vault.received s (records_by seat.all) (journalled book.state) parts.0
+          (subst (AreRecorded j.start j.wear (records_by seat.all) (journalled book.state)) same
+          (desk.recorded s)) parts.3 begins_all
+          (subst (λ gs. Uncrossed (frozen_ends gs) parts.0) same
+          (uncrossed_front ends parts.0 parts.1
+          (subst (Uncrossed ends) parts.2
+          (none_crossed desk.groups book handed.end ends handed.between)))) in
+          subst (λ gs. (begun : List BegunImage) × HasReceived g.seen g.may_leave j.start j.wear
+          (records_by seat.all) (journalled book.state) (frozen_ends gs) begun receiver.received
+          k) (sym same) had
+
+      abbrev begun : List BegunImage
+      begun = received.0
+
+      keeps : HasReceived g.seen g.may_leave j.start j.wear (records_by seat.all)
+          (journalled book.state) ends begun receiver.received k
+      keeps = received.1
+
+    pub closes : (seen : List BookStep) (counts : List ℕ) → IsPrefix seen seat.all →
+        AreReached counts mark.count → Closes j g seen counts book k
+    closes seen counts begins reached = record {
+      steps = seat.all;
+      legal = handed.legal;
+      begins = begins;
+      reached = reached_more counts mark.count k.mark vault.marked reached;
+      stop = λ s bytes left.
+          history_yields j.start j.wear seat.all (standing book) handed.legal k.mark
+          (mark_few g.seen g.may_leave j.start j.wear (records_by seat.all)
+          (journalled book.state) ends (begun s) receiver.received k (keeps s)) bytes
+          ((keeps s).stop bytes left);
+    }
+
+    -- The book is frozen.
+    module _ (kept : IsKept catalog_meaning catalog_making AreShort
+        (IsSound catalog_meaning catalog_making) book) (m n : GatherState) (c : Book)
+        (froze : FreezeAnswers (λ v. v) book m (Ok tt) c n) where
+      same_state : c.state ≡ book.state
+      same_state = ap (λ (v : Book). v.state) froze.2
+
+      image_of : (image : Image) → Packs n image → IsImageOf (λ v. v) book image
+      image_of image packs =
+          let is = holds_image (λ v. v) book.next book.places (position book) book.state n n image
+          froze.1 (repeats_none n) packs in
+          record { packed = is.0; end = is.1; place = is.2 }
+
+      -- and whatever is packed of it stands for all records
+      packs_images : j.sound → PacksImages j.start j.wear (records_by seat.all)
+          (journalled book.state) n
+      packs_images s image packs =
+          let is = image_of image packs in record {
+            begun = freezes.begins g j.start j.wear seat.all book receiver.received transit
+                desk.groups ends ends [] (begun s) k handed (keeps s) kept image is;
+            is_for = freezes.is_for g j.start j.wear seat.all book receiver.received transit
+                desk.groups ends ends [] (begun s) k handed (keeps s) kept image is;
+            stands = freezes.stands g j.start j.wear seat.all book receiver.received transit
+                desk.groups ends ends [] (begun s) k handed (keeps s) kept image is;
+          }
+
+      -- the gathering that was under way is over
+      over : IsGatheredOf (λ v. v) c near.gather
+      over = record {
+        new = desk.gathered.new;
+        along = λ under. absurd (none under);
+      }
+        where
+          none : IsUnderWay c.gathering near.gather → ⊥
+          none under =
+              let both : true ≡ false =
+              sym under.1 ∙ ap (λ (v : Book). v.gathering.going) froze.2 in absurd cc
+
+      module _ (r : Result (Unit {0}) Refusal) (now : lines.BookState)
+          (now_is : now ≡ stepped seat (alone (Action.Freeze r))) where
+        abbrev step : BookStep
+        step = alone (Action.Freeze r)
+
+        all_records : records_by (seat.all ++ step ∷ []) ≡ records_by seat.all
+        all_records = records_by-push seat.all step ∙ append-nil (records_by seat.all)
+
+        frozen_handed : HasHanded catalog_meaning catalog_making (λ v. v) j.start j.wear
+            (seat.all ++ step ∷ []) c sender.sent desk.groups (position book ∷ ends) []
+        frozen_handed = freezes_gathered catalog_meaning catalog_making (λ v. v) j.start j.wear
+            seat.all book c sender.sent desk.groups ends [] desk.handed None m n r froze
+
+        -- its end is not held
+        desk_freezes : IsDesk j c now sender near
+        desk_freezes =
+            let on = frozen_handed in
+            rw now_is (record {
+              line = desk.line;
+              handoff = desk.handoff;
+              gathering = desk.gathering;
+              gathered = over;
+              groups = desk.groups;
+              handed = record {
+                legal = on.legal;
+                good = on.good;
+                carried = on.carried;
+                records = on.records;
+                end = on.end;
+                place = on.place;
+                are_images = on.are_images;
+                between = on.between.1;
+              };
+              recorded = λ s. rw (all_records, same_state) (desk.recorded s);
+            })
+
+        -- its end is held, and it is noted
+        desk_notes : IsDesk j c now (noting sender n) near
+        desk_notes = rw now_is (record {
+          line = desk.line;
+          handoff = desk.handoff;
+          gathering = desk.gathering;
+          gathered = over;
+          groups = desk.groups;
+          handed = subst (λ p. HasHanded catalog_meaning catalog_making (λ v. v) j.start j.wear
+              (seat.all ++ step ∷ []) c sender.sent desk.groups (p ∷ ends) [])
+              (sym (end_is n froze.1)) frozen_handed;
+          recorded = λ s.
+              let old = desk.recorded s in
+              rw (all_records, same_state) (record {
+                good = old.good;
+                trail = old.trail;
+                leads = old.leads;
+                trails = old.trails;
+                stand = (packs_images s, old.stand);
+              });
+        })
+          where
+            end_is : (h : GatherState) → HoldsAll (λ v. v) book.next book.places (position book)
+                book.state h → frozen_end h.frozen ≡ position book
+            end_is h holds = ap frozen_end holds.is_frozen ∙
+                ap (λ (v : Marks). v.end) holds.marks
+
+      -- What was received, and what is in use, ends before it.
+      covers : j.sound → (groups : List (List Record)) → Carries 0 0 receiver.received groups →
+          (length (records_in groups) ≤ position book) × (k.covered ≤ position book)
+      covers s groups carried =
+          let first = freezes.received_begins g j.start j.wear seat.all book receiver.received
+          transit desk.groups ends ends [] (begun s) k handed (keeps s) kept in
+          let size = carried_length 0 0 receiver.received groups first.0 carried first.1 in
+          let within = freezes.covers_received g j.start j.wear seat.all book receiver.received
+          transit desk.groups ends ends [] (begun s) k handed (keeps s) kept in (
+            omega (arith, size, within),
+            freezes.covers_use g j.start j.wear seat.all book receiver.received transit
+                desk.groups ends ends [] (begun s) k handed (keeps s) kept,
+          )
+
+      -- the keeper holds the end
+      vault_holds : (l : KeeperState D) → HoldAnswers k
+          (record { end = position book; place = book.places }) l (Ok tt) →
+          HoldKeeps g (position book) (Ok tt) k l →
+          IsVault j g l (noting_too receiver n) mark (record { table = held.table; gather = n })
+      vault_holds l answers holds = record {
+        handoff = vault.handoff;
+        mark = vault.mark;
+        awaited = vault.awaited;
+        marked = omega (arith, vault.marked, (held_same k _ l (Ok tt) answers).1);
+        noted = λ some. inl refl;
+        received = λ s records state groups recorded carried begin apart.
+            let room = covers s groups carried in
+            let others : AreRecorded j.start j.wear records state receiver.noted = record {
+              good = recorded.good;
+              trail = recorded.trail;
+              leads = recorded.leads;
+              trails = recorded.trails;
+              stand = recorded.stand.1;
+            } in
+            let had = vault.received s records state groups others carried begin
+            (All-tail (λ p. IsApart 0 groups p) (frozen_end n.frozen)
+            (frozen_ends receiver.noted) apart) in (
+              had.0,
+              subst (λ p. HasReceived g.seen g.may_leave j.start j.wear records state
+                  (p ∷ frozen_ends receiver.noted) had.0 receiver.received l)
+                  (sym (ap frozen_end froze.1.is_frozen ∙
+                  ap (λ (v : Marks). v.end) froze.1.marks))
+                  (holds j.start j.wear records state (frozen_ends receiver.noted) had.0
+                  receiver.received groups carried begin room.0 room.1 had.1).0,
+            );
+      }
+
+    -- where the keeper does not hold the end, it stays
+    hold_refused : (l : KeeperState D) (e : Refusal) → HoldAnswers k
+        (record { end = position book; place = book.places }) l (Err e) → l ≡ k
+    hold_refused l Refusal.Failed a = a.1
+    hold_refused l Refusal.Imaging a = a.2
+    hold_refused l e a = absurd a
+
+    -- What a freeze leaves that is refused,
+    pub freeze_refused : IsKept catalog_meaning catalog_making AreShort
+        (IsSound catalog_meaning catalog_making) book → (m n : GatherState)
+        (frozen : Result (Unit {0}) Refusal) (e : Refusal) (c : Book) (l : KeeperState D)
+        (now : lines.BookState) → Froze g book k m frozen (Err e) c l n →
+        now ≡ stepped seat (alone (Action.Freeze (Err e))) →
+        IsDesk j c now sender near × IsVault j g l receiver mark held
+    freeze_refused kept m n (Ok done) e c l now froze now_is = (
+      desk_freezes kept m n c froze.0 (Err e) now now_is,
+      subst (λ x. IsVault j g x receiver mark held) (sym (hold_refused l e froze.1)) vault,
+    )
+    freeze_refused kept m n (Err d) e c l now froze now_is = (
+      desk_refused j book seat sender near desk m n c d (Err e) now froze.0 now_is,
+      subst (λ x. IsVault j g x receiver mark held) (sym froze.2) vault,
+    )
+
+    -- and one that is not.
+    pub freeze_held : IsKept catalog_meaning catalog_making AreShort
+        (IsSound catalog_meaning catalog_making) book → (m n : GatherState)
+        (frozen : Result (Unit {0}) Refusal) (c : Book) (l : KeeperState D)
+        (now : lines.BookState) → Froze g book k m frozen (Ok tt) c l n →
+        now ≡ stepped seat (alone (Action.Freeze (Ok tt))) →
+        IsDesk j c now (noting sender n) near ×
+        IsVault j g l (noting_too receiver n) mark (record { table = held.table; gather = n })
+    freeze_held kept m n (Ok done) c l now froze now_is = (
+      desk_notes kept m n c froze.0 (Ok tt) now now_is,
+      vault_holds kept m n c froze.0 l froze.1 froze.2,
+    )
+    freeze_held kept m n (Err d) c l now froze now_is = absurd (no_ok d froze.1)
+      where
+        no_ok : (d : Refusal) → ◌≡◌ {A = Result (Unit {0}) Refusal} (Ok tt) (Err d) → ⊥
+        no_ok d both = absurd cc
+
+-- ---- what is gathered then
+
+-- It is frozen once its end is held,
+pub held_frozen : {D : Type 0} (g : disks.Ghosts D) (b : Book) (k : KeeperState D)
+    (m n : GatherState) (frozen : Result (Unit {0}) Refusal) (c : Book) (l : KeeperState D) →
+    Froze g b k m frozen (Ok tt) c l n → n.frozen ≡ None → ⊥
+held_frozen g b k m n (Ok done) c l froze none =
+    let both : Some froze.0.1.frozen ≡ None = sym froze.0.1.is_frozen ∙ none in absurd cc
+held_frozen g b k m n (Err d) c l froze none =
+    let both : ◌≡◌ {A = Result (Unit {0}) Refusal} (Ok tt) (Err d) = froze.1 in absurd cc
+
+-- and as it was where it is not frozen.
+pub unheld_same : {D : Type 0} (g : disks.Ghosts D) (b : Book) (k : KeeperState D)
+    (m n : GatherState) (frozen : Result (Unit {0}) Refusal) (e : Refusal) (c : Book) (l : KeeperState D) →
+    Froze g b k m frozen (Err e) c l n → n.frozen ≡ None → n ≡ m
+unheld_same g b k m n (Ok done) e c l froze none =
+    let both : Some froze.0.1.frozen ≡ None = sym froze.0.1.is_frozen ∙ none in absurd cc
+unheld_same g b k m n (Err d) e c l froze none = (of_unfrozen b c m n d froze.0).1
+
+-- ---- where the end is
+
+same_marks : (m n : Marks) → ◌≡◌ {A = Option Marks} (Some m) (Some n) → m ≡ n
+same_marks m n both = cc
+
+-- The keeper was asked to hold the end that what is frozen tells.
+pub froze_and_asked : {D : Type 0} (g : disks.Ghosts D) (b : Book) (k : KeeperState D)
+    (m n : GatherState) (c : Book) → FreezeAnswers (λ v. v) b m (Ok tt) c n → (marks : Marks) →
+    Some marks ≡ option_map (λ f. f.marks) n.frozen → (l : KeeperState D)
+    (r : Result (Unit {0}) Refusal) →
+    HoldAnswers k (record { end = marks.end; place = marks.place }) l r →
+    HoldKeeps g marks.end r k l → Froze g b k m (Ok tt) r c l n
+froze_and_asked g b k m n c froze marks told l r answers keeps =
+    let holds = froze.1 in
+    let is = same_marks marks holds.frozen.marks
+    (told ∙ ap (option_map (λ (f : FrozenState). f.marks)) holds.is_frozen) ∙ holds.marks in (
+      froze,
+      subst (λ (v : Marks). HoldAnswers k (record { end = v.end; place = v.place }) l r) is
+          answers,
+      subst (λ (v : Marks). HoldKeeps g v.end r k l) is keeps,
+    )

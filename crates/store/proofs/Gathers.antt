@@ -1,0 +1,113 @@
+-- What is gathered of the book of a store is of the book, from one copy to the next.
+use Rattle.std.proofs.Common.{◌≡◌, ◌≢◌, ◌⊎◌, inl, inr, Bool, None, Result, Ok, Err, List, sym, ap}
+use Rattle.std.proofs.Common.{◌∙◌, subst, Option, Some}
+use Rattle.std.specs.Prelude.{OnOk, IsSome}
+use Rattle.calls.specs.Contents.{Collection}
+use Rattle.calls.specs.declared.refusal.Refusal.{Refusal}
+use Rattle.images.specs.Gathers.{GatherState, Repeats}
+use Rattle.images.proofs.Repeats.{repeated_both}
+use Rattle.gathering.specs.Gatherings.{GoesAlong}
+use Rattle.txn.specs.Books.{BookState, position}
+use Rattle.txn.specs.Freezing.{IsGatheredOf, BookGathers}
+use Rattle.world.specs.Worlds.{IsOfBook}
+use Rattle.world.proofs.OfBook.{of_repeated, of_gathered, of_ungathered}
+use Rattle.group_commit.specs.Accords.{AccordState, nothing_gathered}
+use Rattle.clients.specs.declared.naming.Naming.{Ghosts}
+use Rattle.clients.proofs.Gathered.{gathered_none}
+use Rattle.store.specs.Gatherers.{IsKnown, IsGatherer}
+
+abbrev Book : Type 0
+Book = BookState (List Collection)
+
+abbrev Of : Book → GatherState → Type 0
+Of b g = IsGatheredOf (λ v. v) b g
+
+-- what is not frozen, as worlds speak of it
+in_world : (b : Book) (g : GatherState) → g.frozen ≡ None → Of b g → IsOfBook b g
+in_world b g none of = record { gathered = of; over = λ some. absurd (some none) }
+
+-- What is known of the book's is of the book.
+pub known_of_book : (b : Book) (side : AccordState) (g : GatherState) → Of b side.gather →
+    IsKnown side g → g.frozen ≡ None → Of b g
+known_of_book b side g of (inl new) none = subst (Of b) (sym new) (gathered_none b)
+known_of_book b side g of (inr repeats) none =
+    (of_repeated b side.gather g repeats
+    (in_world b side.gather (sym repeats.frozen ∙ none) of)).gathered
+
+-- The next collection is copied, or that is refused.
+pub copied_of_book : (b c : Book) (g h : GatherState) (r : Result Bool Refusal) →
+    BookGathers (λ v. v) b g r c h →
+    OnOk r (GoesAlong (λ v. v) c.gathering c.state.now (position c) h) → g.frozen ≡ None →
+    Of b g → Of c h × (h.frozen ≡ None)
+copied_of_book b c g h (Ok more) gathers along none of = (
+  (of_gathered b c g h more gathers along (in_world b g none of)).gathered,
+  ap (λ (v : GatherState). v.frozen) gathers.0.2 ∙ none,
+)
+copied_of_book b c g h (Err e) gathers along none of =
+    let same = of_ungathered b c g h e gathers in (
+      subst (λ x. Of x h) (sym same.0) (subst (Of b) (sym same.1) of),
+      ap (λ (v : GatherState). v.frozen) same.1 ∙ none,
+    )
+
+-- ---- the gatherer
+
+-- what is there is not nothing
+pub some_is : {X : Type 0} (o : Option X) → IsSome o → o ≢ None
+some_is None is none = absurd cc
+some_is (Some x) is none = absurd cc
+
+-- what is repeated twice
+pub repeats_both : (f g h : GatherState) → Repeats f g → Repeats g h → Repeats f h
+repeats_both f g h first last = record {
+  repeated = repeated_both f.parts g.parts h.parts f.effects g.effects h.effects first.repeated
+      last.repeated;
+  mark = last.mark ∙ first.mark;
+  frozen = last.frozen ∙ first.frozen;
+}
+
+module _ {J : Type 0} (j : Ghosts J) where
+  -- It has what is not frozen, and the book's side knows that.
+  pub holds_unfrozen : (of_book of_keeper : AccordState) (g : GatherState) →
+      of_book.table ≡ j.gathering → of_keeper.table ≡ j.awaited → g.frozen ≡ None →
+      IsKnown of_book g →
+      IsGatherer j (record { gather = g; of_book = of_book; of_keeper = of_keeper })
+  holds_unfrozen of_book of_keeper g book keeper none known = record {
+    gathering = book;
+    awaited = keeper;
+    unfrozen = λ same. known;
+    frozen = λ some. absurd (some none);
+  }
+
+  -- It has what is frozen, and the keeper's side knows that.
+  pub holds_frozen : (of_book of_keeper : AccordState) (g : GatherState) →
+      of_book.table ≡ j.gathering → of_keeper.table ≡ j.awaited → g.frozen ≢ None →
+      Repeats of_keeper.gather g →
+      IsGatherer j (record { gather = g; of_book = of_book; of_keeper = of_keeper })
+  holds_frozen of_book of_keeper g book keeper some repeats = record {
+    gathering = book;
+    awaited = keeper;
+    unfrozen = λ none. absurd (some none);
+    frozen = λ same. repeats;
+  }
+
+  -- A copy was taken, and some calls repeated.
+  pub holds_copied : (far of_keeper : AccordState) (g h : GatherState) →
+      far ≡ record { table = j.gathering; gather = g } → of_keeper.table ≡ j.awaited →
+      g.frozen ≡ None → Repeats g h →
+      IsGatherer j (record { gather = h; of_book = far; of_keeper = of_keeper })
+  holds_copied far of_keeper g h far_is keeper none repeats =
+      holds_unfrozen far of_keeper h (ap (λ (a : AccordState). a.table) far_is) keeper
+      (repeats.frozen ∙ none)
+      (inr (subst (λ v. Repeats v h) (sym (ap (λ (a : AccordState). a.gather) far_is)) repeats))
+
+  -- What was not frozen is given up, or not.
+  pub holds_rest : (far of_keeper : AccordState) (g h : GatherState) →
+      far.table ≡ j.gathering → of_keeper.table ≡ j.awaited → h.frozen ≡ None →
+      (g.frozen ≡ None → IsKnown far g) → (h ≡ g) ⊎ (h ≡ nothing_gathered) →
+      IsGatherer j (record { gather = h; of_book = far; of_keeper = of_keeper })
+  holds_rest far of_keeper g h book keeper none known (inl same) =
+      holds_unfrozen far of_keeper h book keeper none
+      (subst (IsKnown far) (sym same)
+      (known (ap (λ (v : GatherState). v.frozen) (sym same) ∙ none)))
+  holds_rest far of_keeper g h book keeper none known (inr new) =
+      holds_unfrozen far of_keeper h book keeper none (inl new)

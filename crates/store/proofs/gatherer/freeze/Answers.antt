@@ -1,0 +1,118 @@
+use Rattle.std.proofs.Common.{◌≡◌, ◌∙◌, sym, subst, ap, Ok, Err}
+use Rattle.images.specs.Gathers.{GatherState}
+use Rattle.txn.specs.Freezing.{IsGatheredOf}
+use Rattle.group_commit.specs.Orders.{SenderState, ReceiverState, noting, noting_too}
+use Rattle.clients.specs.Desks.{IsDesk}
+use Rattle.clients.specs.Notes.{alone}
+use Rattle.txn.specs.declared.steps.Action.{Action}
+use Rattle.group_commit.specs.Lines.{stepped}
+use Rattle.store.specs.Gatherers.{Froze}
+use Rattle.store.specs.Vaults.{IsVault}
+use Rattle.store.proofs.Freezes.{freeze_refused, freeze_held}
+use Rattle.store.proofs.Gathers.{known_of_book}
+use Rattle.store.proofs.gatherer.freeze.Given.{Over}
+use Rattle.store.proofs.gatherer.freeze.Goals as goal
+
+pub freeze_book-frozen-requires : goal.freeze_book-frozen-requires
+freeze_book-frozen-requires g c =
+    known_of_book c.desk.inside.book c.args.of_book.now c.args.gather.now
+    (subst (IsGatheredOf (λ v. v) c.desk.inside.book) c.compare.ensures.same
+    c.desk.invariant.0.gathered) c.requires.known c.requires.unfrozen
+
+-- What a freeze leaves that is refused,
+refused : (g : Over) (c : goal.After-from_residual g) →
+    IsDesk g.J.Naming c.freeze_book-frozen.new.book c.note_alone.new.seat c.desk.inside.sender
+    c.desk.inside.near
+    × IsVault g.J.Naming g.D.Disk c.freeze_book-frozen.new.keeper c.vault.inside.receiver
+    c.vault.inside.mark c.vault.inside.near
+refused g c =
+    freeze_refused g.J.Naming g.D.Disk c.desk.inside.book c.desk.inside.seat c.desk.inside.sender
+    c.desk.inside.near c.desk.invariant.0 c.vault.inside.keeper c.vault.inside.receiver
+    c.vault.inside.mark c.vault.inside.near c.vault.invariant c.compare-2.ensures.order.0
+    c.compare-2.ensures.order.1 c.compare-2.ensures.noted c.upheld.ensures c.args.gather.now
+    c.freeze_book-frozen.new.gather c.freeze_book-frozen.ensures.0 c.in_err-frozen.field-0.0
+    c.freeze_book-frozen.new.book c.freeze_book-frozen.new.keeper c.note_alone.new.seat
+    (subst (λ r. Froze g.D.Disk c.desk.inside.book c.vault.inside.keeper c.args.gather.now
+    c.freeze_book-frozen.ensures.0 r c.freeze_book-frozen.new.book
+    c.freeze_book-frozen.new.keeper c.freeze_book-frozen.new.gather) c.in_err-frozen.was
+    c.freeze_book-frozen.ensures.1)
+    (subst (λ r. c.note_alone.new.seat ≡ stepped c.desk.inside.seat (alone (Action.Freeze r)))
+    c.in_err-frozen.was c.note_alone.ensures.book)
+
+pub invariant_of-desk : goal.invariant_of-desk
+invariant_of-desk g c = (
+  subst (IsDesk g.J.Naming c.freeze_book-frozen.new.book c.note_alone.new.seat
+      c.compare-2.new.sender) (sym c.compare.ensures.near)
+      (subst (λ s. IsDesk g.J.Naming c.freeze_book-frozen.new.book c.note_alone.new.seat s
+      c.desk.inside.near) (sym c.compare-2.ensures.sender) (refused g c).0),
+  c.desk.invariant.1,
+  c.desk.invariant.2,
+  c.desk.invariant.3,
+)
+
+pub invariant_of-vault : goal.invariant_of-vault
+invariant_of-vault g c =
+    subst (λ r. IsVault g.J.Naming g.D.Disk c.freeze_book-frozen.new.keeper r
+    c.vault.inside.mark c.vault.inside.near) (sym c.compare-2.ensures.receiver) (refused g c).1
+
+-- and one whose end is held.
+held : (g : Over) (c : goal.After-drop-shown g) →
+    IsDesk g.J.Naming c.freeze_book-frozen.new.book c.note_alone.new.seat
+    (noting c.desk.inside.sender c.freeze_book-frozen.new.gather) c.desk.inside.near
+    × IsVault g.J.Naming g.D.Disk c.freeze_book-frozen.new.keeper
+    (noting_too c.vault.inside.receiver c.freeze_book-frozen.new.gather) c.vault.inside.mark
+    (record { table = c.vault.inside.near.table; gather = c.freeze_book-frozen.new.gather })
+held g c =
+    freeze_held g.J.Naming g.D.Disk c.desk.inside.book c.desk.inside.seat c.desk.inside.sender
+    c.desk.inside.near c.desk.invariant.0 c.vault.inside.keeper c.vault.inside.receiver
+    c.vault.inside.mark c.vault.inside.near c.vault.invariant c.compare-2.ensures.order.0
+    c.compare-2.ensures.order.1 c.compare-2.ensures.noted c.upheld.ensures c.args.gather.now
+    c.freeze_book-frozen.new.gather c.freeze_book-frozen.ensures.0 c.freeze_book-frozen.new.book
+    c.freeze_book-frozen.new.keeper c.note_alone.new.seat
+    (subst (λ r. Froze g.D.Disk c.desk.inside.book c.vault.inside.keeper c.args.gather.now
+    c.freeze_book-frozen.ensures.0 r c.freeze_book-frozen.new.book
+    c.freeze_book-frozen.new.keeper c.freeze_book-frozen.new.gather) c.in_ok-frozen.was
+    c.freeze_book-frozen.ensures.1)
+    (subst (λ r. c.note_alone.new.seat ≡ stepped c.desk.inside.seat (alone (Action.Freeze r)))
+    c.in_ok-frozen.was c.note_alone.ensures.book)
+
+pub invariant_of-desk-2 : goal.invariant_of-desk-2
+invariant_of-desk-2 g c = (
+  subst (IsDesk g.J.Naming c.freeze_book-frozen.new.book c.note_alone.new.seat
+      c.note_frozen.new.sender) (sym c.compare.ensures.near)
+      (subst (λ s. IsDesk g.J.Naming c.freeze_book-frozen.new.book c.note_alone.new.seat s
+      c.desk.inside.near) (sym sender_is) (held g c).0),
+  c.desk.invariant.1,
+  c.desk.invariant.2,
+  c.desk.invariant.3,
+)
+  where
+    sender_is : c.note_frozen.new.sender ≡
+        noting c.desk.inside.sender c.freeze_book-frozen.new.gather
+    sender_is = c.note_frozen.ensures.sender ∙
+        ap (λ (s : SenderState). noting s c.of-shown.result.value) c.compare-2.ensures.sender ∙
+        ap (noting c.desk.inside.sender) c.of-shown.ensures
+
+pub invariant_of-vault-2 : goal.invariant_of-vault-2
+invariant_of-vault-2 g c =
+    subst (IsVault g.J.Naming g.D.Disk c.freeze_book-frozen.new.keeper
+    c.note_frozen.new.receiver c.vault.inside.mark) (sym near_is)
+    (subst (λ r. IsVault g.J.Naming g.D.Disk c.freeze_book-frozen.new.keeper r
+    c.vault.inside.mark
+    (record { table = c.vault.inside.near.table; gather = c.freeze_book-frozen.new.gather }))
+    (sym receiver_is) (held g c).1)
+  where
+    receiver_is : c.note_frozen.new.receiver ≡
+        noting_too c.vault.inside.receiver c.freeze_book-frozen.new.gather
+    receiver_is = c.note_frozen.ensures.receiver ∙
+        ap (λ (r : ReceiverState). noting_too r c.of-shown.result.value)
+        c.compare-2.ensures.receiver ∙
+        ap (noting_too c.vault.inside.receiver) c.of-shown.ensures
+
+    near_is : c.agree.new.near ≡ record {
+      table = c.vault.inside.near.table;
+      gather = c.freeze_book-frozen.new.gather;
+    }
+    near_is = c.agree.ensures.near ∙
+        ap (λ (v : GatherState). record { table = c.vault.inside.near.table; gather = v })
+        c.of-shown.ensures
