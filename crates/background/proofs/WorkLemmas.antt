@@ -1,6 +1,7 @@
 -- A store that was closed was worked on.
 use Rattle.std.proofs.Common.{◌≡◌, ◌⊎◌, inl, inr, ℕ, zero, suc, ◌≤◌, ◌<◌, List, [], ◌∷◌, ◌++◌}
-use Rattle.std.proofs.Common.{length, Some, Result, Ok, Err, refl, sym, ap, ◌∙◌, subst, take, append_assoc}
+use Rattle.std.proofs.Common.{length, Some, Result, Ok, Err, refl, sym, ap, ◌∙◌, subst, take}
+use Rattle.std.proofs.Common.{append_assoc}
 use Rattle.std.proofs.Common.{arith, length-append}
 use Rattle.std.specs.Prelude.{Contains, IfOk, slice_get, get_or}
 use mathlib.Core.List.{IsPrefix}
@@ -36,7 +37,10 @@ ok_then (Err e) P Q p then = tt
 -- ---- beginnings of a list
 
 prefix_through : (xs ys zs : List BookStep) → IsPrefix xs ys → IsPrefix ys zs → IsPrefix xs zs
-prefix_through xs ys zs a b = (a.0 ++ b.0, sym (append_assoc xs a.0 b.0) ∙ (ap (λ l. l ++ b.0) a.1 ∙ b.1))
+prefix_through xs ys zs a b = (
+  a.0 ++ b.0,
+  sym (append_assoc xs a.0 b.0) ∙ (ap (λ l. l ++ b.0) a.1 ∙ b.1),
+)
 
 -- two lists of one length, with one more each
 pub snocs_same : {A B : Type 0} (xs : List A) (ys : List B) (x : A) (y : B) →

@@ -76,10 +76,10 @@ module _ {A : Type 0} (says : ℕ → A → Known → Type 0) where
 
 -- ---- what is left
 
--- Threads took the steps of a legal history from the content. Whatever a stop leaves of the disk now
--- is sound, and stands for a content that some beginning of the transactions gives that the history
--- commits, each run whole, one after another, with the replies that its client got; and that
--- beginning holds the first so many of them. told: what is known of the history.
+-- Threads took the steps of a legal history from the content. Whatever a stop leaves of the disk
+-- now is sound, and stands for a content that some beginning of the transactions gives that the
+-- history commits, each run whole, one after another, with the replies that its client got; and
+-- that beginning holds the first so many of them. told: what is known of the history.
 pub record IsWorkedOn {D : Type 0} (g : Ghosts D) (told : List BookStep → Type 0)
     (content : List Collection) (new : D) (kept : ℕ) : Type 0 where
   pub wear : ℕ

@@ -222,7 +222,8 @@ refused_one task script same (Failure.Refused refusal) one why is = elim (why is
   | inr memory ↦ inr memory.1
 ]
 refused_one task script same (Failure.NotUnderstood line) one why is = absurd (omega (arith, one))
-refused_one task script same (Failure.CannotOpen path error) one why is = absurd (omega (arith, one))
+refused_one task script same (Failure.CannotOpen path error) one why is =
+    absurd (omega (arith, one))
 refused_one task script same Failure.Unwritten one why is = absurd (omega (arith, one))
 
 -- the stored run's lines were played, whatever is shown behind them

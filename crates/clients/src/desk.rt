@@ -31,7 +31,8 @@ use std::sync::Wait;
 use txn::Book;
 
 /// The book, with the seats of its history, of the hand-off's sending end, of what is gathered of
-/// it for an image, and of what makes clients. What lies under a lock is known by its type: contracts see nothing else of it.
+/// it for an image, and of what makes clients. What lies under a lock is known by its type:
+/// contracts see nothing else of it.
 pub struct Desk<J: Naming> {
     pub book: Book<Catalog>,
     pub seat: BookSeat,

@@ -9,8 +9,8 @@ pub trait Naming {
     ghost use Rattle.calls.specs.Contents.{Collection};
     ghost use Rattle.atomic_table.specs.Seated.{TableId};
 
-    /// The tables of the line, of the mark, of the numbers and of the hand-off, and of the accords on
-    /// what is gathered of the book and on the image that the keeper awaits.
+    /// The tables of the line, of the mark, of the numbers and of the hand-off, and of the accords
+    /// on what is gathered of the book and on the image that the keeper awaits.
     ghost line: { TableId };
 
     ghost mark: { TableId };

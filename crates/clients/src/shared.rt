@@ -6,8 +6,8 @@ use group_commit::{Accord, Handoff, Line, Mark, Numbers};
 use std::marker::PhantomData;
 
 /// The parts that threads share by `&`, of the store's own name: the one history, the mark, the
-/// numbers, the hand-off of blocks, and the accords on what is gathered of the book and on the image
-/// that the keeper awaits.
+/// numbers, the hand-off of blocks, and the accords on what is gathered of the book and on the
+/// image that the keeper awaits.
 #[derive(Drop)]
 pub struct Shared<J: Naming> {
     pub line: Line,

@@ -33,8 +33,8 @@ impl TableRule<(), Sides, ()> for OneState {
     ghost first = { λ _. both_sides (near_side nothing_gathered) (far_side nothing_gathered) };
 }
 
-/// What is gathered, or frozen, for both ends of an accord or of a hand-off to know. Each call picks
-/// it, by passing `Brand`, so that no state is stored: it exists in the proofs alone.
+/// What is gathered, or frozen, for both ends of an accord or of a hand-off to know. Each call
+/// picks it, by passing `Brand`, so that no state is stored: it exists in the proofs alone.
 pub trait OneGather {
     ghost use Rattle.images.specs.Gathers.{GatherState};
 

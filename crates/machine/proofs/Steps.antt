@@ -35,7 +35,8 @@ use Rattle.machine.proofs.LiveNumbers.{nobody}
 use Rattle.machine.proofs.Theory.Stands.{falls_sound}
 use Rattle.machine.proofs.OwnedEntries.{owner, left, leads_map, leads_back, calls_are, laters_are}
 use Rattle.machine.proofs.OwnedEntries.{own_owned, own_laters, newest_call}
-use Rattle.machine.proofs.TheoryRows.{Follows, make_follows, begin_follows, call_follows, later_follows}
+use Rattle.machine.proofs.TheoryRows.{Follows, make_follows, begin_follows, call_follows}
+use Rattle.machine.proofs.TheoryRows.{later_follows}
 use Rattle.machine.proofs.TheoryRows.{commit_follows, ended_follows, back_follows, fall_follows}
 use Rattle.boosted.specs.Meaning.{Meaning}
 use Rattle.catalog.specs.Making.{Making}

@@ -30,7 +30,8 @@ use Rattle.machine.proofs.Theory.Lists.{every, filter_has, has_filter, has_left,
 use Rattle.machine.proofs.Theory.Lists.{append_has, without_has, has_without, kept_true}
 use Rattle.machine.proofs.LiveNumbers.{fallen_is, lives_more, falls_more, falls_fresh, lives_fewer}
 use Rattle.machine.proofs.LiveNumbers.{falls_fewer}
-use Rattle.machine.proofs.OwnedEntries.{owner, left, leads_back, laters_are, own_laters, others_owned}
+use Rattle.machine.proofs.OwnedEntries.{owner, left, leads_back, laters_are, own_laters}
+use Rattle.machine.proofs.OwnedEntries.{others_owned}
 use Rattle.machine.proofs.OwnedEntries.{no_call, newest_call}
 use Rattle.machine.proofs.LeftCalls.{left_once}
 use Rattle.boosted.specs.Meaning.{Meaning}

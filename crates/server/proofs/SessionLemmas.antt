@@ -28,7 +28,8 @@ module _ {J : Type 0} (j : Ghosts J) where
         first,
         rest ++ answers_of more,
         next,
-        ap (λ s. s ++ answers_of more) carried.3 ∙ append_assoc (answers_of first) rest (answers_of more),
+        ap (λ s. s ++ answers_of more) carried.3 ∙
+            append_assoc (answers_of first) rest (answers_of more),
         carried.4,
         carries_on k next mid new lines line rest more carried.5 answered,
       )

@@ -58,7 +58,8 @@ module _ {J : Type 0} (j : Ghosts J) where
 
   -- A transaction begins under a number that is drawn, unless one is open.
   abbrev pub Begins : SessionState → Result ℕ Refusal → SessionState → Type 0
-  Begins old (Ok n) new = IsClosed old.known × (n < 2 ^ 61) × calls.Draws j.next old.known n new.known ×
+  Begins old (Ok n) new = IsClosed old.known × (n < 2 ^ 61) ×
+      calls.Draws j.next old.known n new.known ×
       (new.known.phase ≡ Phase.Drawn n) × (new.ticket ≡ old.ticket)
   Begins old (Err e) new =
       (calls.IsOpen old.known.phase × (e ≡ Refusal.AlreadyLive) × (new ≡ old))
@@ -165,7 +166,8 @@ Ends old End.Lost new = (ticket : Ticket) × (old.ticket ≡ Some ticket) ×
 module _ {J : Type 0} (j : Ghosts J) where
   -- what a request is answered
   abbrev pub Says : SessionState → Request → Said → SessionState → Type 0
-  Says old request said new = (r : Result Said Refusal) × (said ≡ saying r) × Obeys j old request r new
+  Says old request said new = (r : Result Said Refusal) × (said ≡ saying r) ×
+      Obeys j old request r new
 
   -- The transcript tells what the client's lines were answered, and how its wait ended.
   pub record IsRun (k : ℕ) (old : SessionState) (lines : List Line) (new : SessionState)

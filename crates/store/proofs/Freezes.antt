@@ -404,7 +404,8 @@ held_frozen g b k m n (Err d) c l froze none =
 
 -- and as it was where it is not frozen.
 pub unheld_same : {D : Type 0} (g : disks.Ghosts D) (b : Book) (k : KeeperState D)
-    (m n : GatherState) (frozen : Result (Unit {0}) Refusal) (e : Refusal) (c : Book) (l : KeeperState D) →
+    (m n : GatherState) (frozen : Result (Unit {0}) Refusal) (e : Refusal) (c : Book)
+    (l : KeeperState D) →
     Froze g b k m frozen (Err e) c l n → n.frozen ≡ None → n ≡ m
 unheld_same g b k m n (Ok done) e c l froze none =
     let both : Some froze.0.1.frozen ≡ None = sym froze.0.1.is_frozen ∙ none in absurd cc

@@ -80,11 +80,12 @@ impl<'s, D: Disk, J: Naming> Checkpointer<'s, D, J> {
     /// time of what the live transactions asked for, with no device called. Then it packs the image
     /// under no lock, and begins it under the keeper's. Take turns until `Flipped`.
     ///
-    /// Outrun where more calls were run between two copies than are noted; NoMemory; Worn where
-    /// 2^61 gatherings were begun; Full where the image does not fit into an area; Failed after a
-    /// Fault. No image is in progress then, everything else is as before, and the next turn goes
-    /// on, or begins anew. Of a piece Failed and Fault, of a flip too. After Failed and Fault each
-    /// client that waits is told Lost, and the disk is to be opened again.
+    /// Towards an image it is refused: Outrun where more calls were run between two copies than are
+    /// noted; NoMemory; Worn where 2^61 gatherings were begun; Full where the image does not fit
+    /// into an area; Failed after a Fault. NoMemory leaves what was gathered, and the next turn
+    /// goes on with it; with each other refusal it is given up, and the next turn begins anew. What
+    /// clients see is as before. Of a piece Failed and Fault, of a flip too. After Failed and Fault
+    /// each client that waits is told Lost, and the disk is to be opened again.
     pub fn turn<R: Wait>(&mut self, rt: &R) -> Result<Checkpoint, Refusal>
         ensures { CheckTells self.old result self.new }
     {

@@ -8,7 +8,9 @@ pub returns : goal.returns
 returns c =
     IfOk-weaker c.arg.result _ _
     (λ whole h. (
-      h.shape (search rules) ∙ ap₂ with_rule (ap app_of_fields c.about.ensures ∙ c.new.ensures.app) c.path.ensures.rule,
-      h.globals ∙ ap₂ ◌||◌ (ap (λ f. f.has_globals) c.about.ensures ∙ c.new.ensures.local) c.path.ensures.alone,
+      h.shape (search rules) ∙ ap₂ with_rule (ap app_of_fields c.about.ensures ∙ c.new.ensures.app)
+          c.path.ensures.rule,
+      h.globals ∙ ap₂ ◌||◌ (ap (λ f. f.has_globals) c.about.ensures ∙ c.new.ensures.local)
+          c.path.ensures.alone,
     ))
     c.arg.ensures

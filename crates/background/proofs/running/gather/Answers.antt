@@ -22,7 +22,8 @@ loop-one-preserved g c =
     let answer = c.in_ok-answer.answer in
     let seen = c.in_ok-answer.seen in
     let together = c.put_together in
-    let turn = YieldsList-turn (YieldsList-from_vec {s = c.into_iter-one-iterator.result} ended.items
+    let turn = YieldsList-turn (YieldsList-from_vec {s = c.into_iter-one-iterator.result}
+    ended.items
     (search rules) (search rules)) l.yielded l.one-iterator l.yielded_by c.next.result
     c.next.new.self c.in-Some.one c.in-Some.is c.next.ensures.steps in
     let said = said_at says ended.items ended.len (length l.yielded) c.requires

@@ -11,22 +11,26 @@ returns-in-Format-clause-any_moment g c = rw c.in-Format.is c.format_disk.ensure
 
 pub returns-in-Format-clause-why : goal.returns-in-Format-clause-why
 returns-in-Format-clause-why g c =
-    rw c.in-Format.is (other_undone (Task.Format c.in-Format.disk c.in-Format.area) c.args.script.now (c.format_disk.result.1 ≡ c.args.disk)
+    rw c.in-Format.is (other_undone (Task.Format c.in-Format.disk c.in-Format.area)
+    c.args.script.now (c.format_disk.result.1 ≡ c.args.disk)
     c.format_disk.result.0 (λ is. is) c.format_disk.ensures.why)
 
 pub returns-in-Play-clause-why : goal.returns-in-Play-clause-why
 returns-in-Play-clause-why g c =
-    rw c.in-Play.is (play_undone (Task.Play c.in-Play.disk c.in-Play.script) c.args.script.now (c.play_script.result.1 ≡ c.args.disk)
+    rw c.in-Play.is (play_undone (Task.Play c.in-Play.disk c.in-Play.script) c.args.script.now
+    (c.play_script.result.1 ≡ c.args.disk)
     c.play_script.result.0 (tt {0}) c.play_script.ensures.why)
 
 pub returns-in-Show-clause-why : goal.returns-in-Show-clause-why
 returns-in-Show-clause-why g c =
-    rw c.in-Show.is (other_undone (Task.Show c.in-Show.disk) c.args.script.now (c.show.result.1 ≡ c.args.disk)
+    rw c.in-Show.is (other_undone (Task.Show c.in-Show.disk) c.args.script.now
+    (c.show.result.1 ≡ c.args.disk)
     c.show.result.0 (λ is. is) c.show.ensures.why)
 
 pub returns-in-Check-clause-why : goal.returns-in-Check-clause-why
 returns-in-Check-clause-why g c =
-    rw c.in-Check.is (other_undone (Task.Check c.in-Check.disk) c.args.script.now (c.check.result.1 ≡ c.args.disk)
+    rw c.in-Check.is (other_undone (Task.Check c.in-Check.disk) c.args.script.now
+    (c.check.result.1 ≡ c.args.disk)
     c.check.result.0 (λ is. is) c.check.ensures.why)
 
 pub returns-in-Demo-clause-why : goal.returns-in-Demo-clause-why

@@ -10,10 +10,12 @@ abbrev action : (g : Over) → goal.After-note g → Action
 action g c = Action.Commit c.args.number c.commit-committed.result
 
 keeps : (g : Over) (c : goal.After-note g) →
-    IsDesk g.J.Naming c.commit-committed.new.self c.note.new.seat c.self.inside.sender c.self.inside.near
+    IsDesk g.J.Naming c.commit-committed.new.self c.note.new.seat c.self.inside.sender
+    c.self.inside.near
 keeps g c =
     desk_takes g.J.Naming c.self.inside.book c.self.inside.seat c.self.inside.sender
-    c.self.inside.near c.self.invariant.0 (Some c.args.me.now.number) (action g c) c.commit-committed.new.self
+    c.self.inside.near c.self.invariant.0 (Some c.args.me.now.number) (action g c)
+    c.commit-committed.new.self
     c.note.new.seat c.commit-committed.ensures.answer c.upheld.ensures.records
     c.commit-committed.ensures.goes c.note.ensures.book
 
@@ -24,5 +26,6 @@ invariant_of-self g c =
 pub returns : goal.returns
 returns g c =
     steps_one g.J.Naming c.commit-committed.new.self c.self.inside.seat c.note.new.seat
-    c.self.inside.sender c.self.inside.near c.args.me.now c.note.new.me (action g c) (keeps g c) c.note.ensures.book
+    c.self.inside.sender c.self.inside.near c.args.me.now c.note.new.me (action g c) (keeps g c)
+    c.note.ensures.book
     c.note.ensures.client c.note.ensures.seen c.note.ensures.mine

@@ -13,7 +13,8 @@ keeps : (g : Over) (c : goal.After-note g) →
     IsDesk g.J.Naming c.ended-ended.new.self c.note.new.seat c.self.inside.sender c.self.inside.near
 keeps g c =
     desk_takes g.J.Naming c.self.inside.book c.self.inside.seat c.self.inside.sender
-    c.self.inside.near c.self.invariant.0 (Some c.args.me.now.number) (action g c) c.ended-ended.new.self
+    c.self.inside.near c.self.invariant.0 (Some c.args.me.now.number) (action g c)
+    c.ended-ended.new.self
     c.note.new.seat c.ended-ended.ensures.answer c.upheld.ensures.records
     c.ended-ended.ensures.goes c.note.ensures.book
 
@@ -24,5 +25,6 @@ invariant_of-self g c =
 pub returns : goal.returns
 returns g c =
     steps_one g.J.Naming c.ended-ended.new.self c.self.inside.seat c.note.new.seat
-    c.self.inside.sender c.self.inside.near c.args.me.now c.note.new.me (action g c) (keeps g c) c.note.ensures.book
+    c.self.inside.sender c.self.inside.near c.args.me.now c.note.new.me (action g c) (keeps g c)
+    c.note.ensures.book
     c.note.ensures.client c.note.ensures.seen c.note.ensures.mine

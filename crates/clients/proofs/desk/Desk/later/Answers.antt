@@ -14,10 +14,12 @@ action g c = Action.Later c.args.number
     c.later_found-put_off.result
 
 keeps : (g : Over) (c : goal.After-note g) →
-    IsDesk g.J.Naming c.later_found-put_off.new.book c.note.new.seat c.self.inside.sender c.self.inside.near
+    IsDesk g.J.Naming c.later_found-put_off.new.book c.note.new.seat c.self.inside.sender
+    c.self.inside.near
 keeps g c =
     desk_takes g.J.Naming c.self.inside.book c.self.inside.seat c.self.inside.sender
-    c.self.inside.near c.self.invariant.0 (Some c.args.me.now.number) (action g c) c.later_found-put_off.new.book
+    c.self.inside.near c.self.invariant.0 (Some c.args.me.now.number) (action g c)
+    c.later_found-put_off.new.book
     c.note.new.seat c.later_found-put_off.ensures.answer
     c.upheld.ensures.records c.later_found-put_off.ensures.goes c.note.ensures.book
 
@@ -30,6 +32,7 @@ returns g c = (
   found_of c.find-found.result,
   steps_one g.J.Naming c.later_found-put_off.new.book
       c.self.inside.seat c.note.new.seat
-      c.self.inside.sender c.self.inside.near c.args.me.now c.note.new.me (action g c) (keeps g c) c.note.ensures.book
+      c.self.inside.sender c.self.inside.near c.args.me.now c.note.new.me (action g c) (keeps g c)
+      c.note.ensures.book
       c.note.ensures.client c.note.ensures.seen c.note.ensures.mine,
 )
