@@ -27,16 +27,15 @@ use Rattle.checkpoint.specs.declared.stage.Ending.{Ending}
 use Rattle.checkpoint.specs.declared.stage.Stage.{Stage}
 use Rattle.checkpoint.specs.Imaging.{IsOther, IsBeingLaid, IsRooted, LeavesRoot, PicksWhole}
 use Rattle.checkpoint.specs.Imaging.{IsSameImage, IsAwaited, EndsThere, left_of, bodies_of}
-use Rattle.checkpoint.specs.ImageAnswers.{IsStarted, HoldAnswers, BeginAnswers, StartAnswers}
-use Rattle.checkpoint.specs.ImageAnswers.{PieceAnswers, FlipAnswers}
+use Rattle.checkpoint.specs.ImageAnswers.{IsStarted, HoldAnswers, BeginAnswers, PieceAnswers}
+use Rattle.checkpoint.specs.ImageAnswers.{FlipAnswers}
 use Rattle.checkpoint.specs.Keepers.{KeeperState, IsKeeper, IsOneOfTwo}
 use Rattle.checkpoint.specs.Stored.{StandIn}
 use Rattle.checkpoint.specs.DiskHeads.{IsHeaded, IsInUse}
 use Rattle.checkpoint.specs.Crash.{YieldsUpTo}
 use Rattle.checkpoint.specs.Keeping.{BegunImage, IsImageFor, IsApart, IsHolding, IsImaging}
-use Rattle.checkpoint.specs.Keeping.{HasReceived, HasReceivedAtOnce, ends_of, LeavesKept}
-use Rattle.checkpoint.specs.Keeping.{HoldKeeps, BeginKeeps, StartKeeps, ImageKeeps}
-use Rattle.checkpoint.specs.Keeping.{held_with, begun_with}
+use Rattle.checkpoint.specs.Keeping.{HasReceived, LeavesKept, HoldKeeps, BeginKeeps}
+use Rattle.checkpoint.specs.Keeping.{ImageKeeps, held_with, begun_with}
 use Rattle.checkpoint.proofs.Apart.{back, apart, still_ready}
 use Rattle.checkpoint.proofs.Turning.{beside_is}
 use Rattle.checkpoint.proofs.Flipping.{laid_same}
@@ -602,48 +601,6 @@ module _ {D : Type 0} (g : Ghosts D) (k l : KeeperState D)
         still,
       )
       begun_or (Err e) a = subst (Both images) (sym a.2) (had, still)
-
-  -- an image begins at once, or is refused
-  pub start_keeps : (image : Image) → image.blocks.items ≢ [] → (r : Result (Unit {0}) Refusal) →
-      StartAnswers k image l r → StartKeeps g image r k l
-  start_keeps image some r a start wear records now images received groups begun carried begins
-      is_for stands behind over had =
-      started_or r a
-    where
-      Both : List BegunImage → KeeperState D → Type 0
-      Both ims n = HasReceivedAtOnce g.seen g.may_leave start wear records now ims received n
-          × LeavesKept g start records k n
-
-      still : LeavesKept g start records k k
-      still = still_kept g.seen g.may_leave start wear records now (ends_of images) images received
-          k had g.moment g.left_since only_now
-
-      e : Ending
-      e = record { end = length begun.covered; place = image.place }
-
-      -- its end is held first
-      held : HasReceived g.seen g.may_leave start wear records now
-          (length begun.covered ∷ ends_of images) images received
-          (record k { stage = Stage.Awaited e })
-      held =
-          let all = received_once g.seen g.may_leave start wear records now (ends_of images) images
-          received k had groups carried begins in
-          is_held g.seen g.may_leave start wear records now (ends_of images) images received k had e
-          (subst (λ gs. length (records_in gs) ≤ length begun.covered) all behind) over
-
-      started_or : (r : Result (Unit {0}) Refusal) → StartAnswers k image l r →
-          Both (begun_with begun images r) l
-      started_or (Ok done) a = subst (Both (begun ∷ images)) (sym a.2.1.2) (
-        is_begun g.seen g.may_leave start wear records now
-            (length begun.covered ∷ ends_of images) images received
-            (record k { stage = Stage.Awaited e }) held e a.0 refl image (is_for.end, refl) some
-            begun is_for stands a.2.1.0 a.2.1.1,
-        still,
-      )
-      started_or (Err Refusal.Failed) a = subst (Both images) (sym a.1) (had, still)
-      started_or (Err Refusal.Imaging) a = subst (Both images) (sym a.2) (had, still)
-      started_or (Err Refusal.Full) a = subst (Both images) (sym a.3) (had, still)
-      started_or (Err e) a = absurd a
 
   module _ (start : List Collection) (wear : ℕ) (records : List Record) (now : State)
       (freezes : List ℕ) (images : List BegunImage) (received : List Block)

@@ -57,19 +57,6 @@ BeginAnswers k image l (Err Refusal.Full) =
 BeginAnswers k image l (Err e) =
     (k.failed ≡ false) × AskAnswers k.stage image (Err e) × (l ≡ k)
 
--- an image begins whose end was not held before; or nothing changes
-abbrev pub StartAnswers : {D : Type 0} → KeeperState D → Image → KeeperState D →
-    Result (Unit {0}) Refusal → Type 0
-StartAnswers k image l (Ok done) =
-    (k.failed ≡ false) × (k.stage ≡ Stage.Idle) × Begins k image l
-StartAnswers k image l (Err Refusal.Failed) = (k.failed ≡ true) × (l ≡ k)
-StartAnswers k image l (Err Refusal.Imaging) =
-    (k.failed ≡ false) × (k.stage ≢ Stage.Idle) × (l ≡ k)
-StartAnswers k image l (Err Refusal.Full) =
-    (k.failed ≡ false) × (k.stage ≡ Stage.Idle)
-    × IsTooLong (size_of k.area) image.blocks.items × (l ≡ k)
-StartAnswers k image l (Err e) = ⊥
-
 -- the next block of an image was written; more tells whether another one is left
 pub record IsOneFewer (w v : Laying) (more : Bool) : Type 0 where
   pub block : Vec ℕ Global

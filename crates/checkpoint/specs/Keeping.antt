@@ -136,17 +136,6 @@ pub record HasReceived {D : Type 0} (seen : D → List ℕ) (may_leave : D → L
       IsImaging seen start wear records now images keeper.disk keeper.area
       (length covered + length (records_in kept)) l
 
--- the ends of the images that were begun
-abbrev pub ends_of : List BegunImage → List ℕ
-ends_of images = map (λ i. length i.covered) images
-
--- The same, where each image was begun at once, when its end was held.
-abbrev pub HasReceivedAtOnce : {D : Type 0} → (D → List ℕ) → (D → List ℕ → Type 0) →
-    List Collection → ℕ → List Record → State → List BegunImage → List Block → KeeperState D →
-    Type 0
-HasReceivedAtOnce seen may_leave start wear records now images received keeper =
-    HasReceived seen may_leave start wear records now (ends_of images) images received keeper
-
 -- ---- what each call of a keeper keeps
 
 -- Whatever a stop at any moment of the call might have left is sound, and stands for a content that
@@ -202,22 +191,6 @@ BeginKeeps g image r k l =
     IsImageFor image begun → StandIn start wear records now begun.blocks begun.covered →
     HasReceived g.seen g.may_leave start wear records now freezes images received k →
     HasReceived g.seen g.may_leave start wear records now freezes (begun_with begun images r)
-    received l
-    × LeavesKept g start records k l
-
--- An image may be begun at once that stands for a beginning of the records, and covers all that was
--- received and all that the area in use covers.
-abbrev pub StartKeeps : {D : Type 0} → Ghosts D → Image → Result (Unit {0}) Refusal →
-    KeeperState D → KeeperState D → Type 0
-StartKeeps g image r k l =
-    (start : List Collection) (wear : ℕ) (records : List Record) (now : State)
-    (images : List BegunImage) (received : List Block) (groups : List (List Record))
-    (begun : BegunImage) →
-    Carries 0 0 received groups → IsPrefix (records_in groups) records →
-    IsImageFor image begun → StandIn start wear records now begun.blocks begun.covered →
-    length (records_in groups) ≤ length begun.covered → k.covered ≤ length begun.covered →
-    HasReceivedAtOnce g.seen g.may_leave start wear records now images received k →
-    HasReceivedAtOnce g.seen g.may_leave start wear records now (begun_with begun images r)
     received l
     × LeavesKept g start records k l
 

@@ -14,10 +14,9 @@ ghost use Rattle.checkpoint.specs.Imaging.{pieces_left};
 ghost use Rattle.gate_block.specs.Layout.{base_in_use};
 ghost use Rattle.checkpoint.specs.Keepers.{KeeperState, IsOneOfTwo, IsPast, OnKept, IsBrought};
 ghost use Rattle.checkpoint.specs.Keepers.{AppendAnswers, BringAnswers, TurnAnswers};
-ghost use Rattle.checkpoint.specs.Keeping.{TurnKeeps, HoldKeeps, BeginKeeps, StartKeeps};
-ghost use Rattle.checkpoint.specs.Keeping.{ImageKeeps};
-ghost use Rattle.checkpoint.specs.ImageAnswers.{HoldAnswers, BeginAnswers, StartAnswers};
-ghost use Rattle.checkpoint.specs.ImageAnswers.{PieceAnswers, PickAnswers, FlipAnswers};
+ghost use Rattle.checkpoint.specs.Keeping.{TurnKeeps, HoldKeeps, BeginKeeps, ImageKeeps};
+ghost use Rattle.checkpoint.specs.ImageAnswers.{HoldAnswers, BeginAnswers, PieceAnswers};
+ghost use Rattle.checkpoint.specs.ImageAnswers.{PickAnswers, FlipAnswers};
 
 use crate::inbox::Inbox;
 use crate::laying::{Laying, is_too_long, other_area};
@@ -345,30 +344,6 @@ impl<D: Disk> Keeper<D> {
         let area = other_area(&self.area, self.disk.size());
         self.stage = Stage::Laid(Laying { area, image });
         Ok(())
-    }
-
-    /// Holds the end of an image, and begins to write the image, which has a block. No device is
-    /// called, no memory is taken and no block copied.
-    ///
-    /// An image that stands for a beginning of the book's records, and covers all that was received
-    /// and all that the area in use covers, may be begun at any time: a stop leaves what it left
-    /// before, and later calls go on from there.
-    ///
-    /// Refusals, in this order, each with everything as before: Failed after a Fault; Imaging where
-    /// an image is being written; Full where the blocks, with a closed gate behind the last, need
-    /// more bytes than an area has.
-    pub fn start_image(&mut self, image: Image) -> Result<(), Refusal>
-        requires some { image.blocks.items ≢ [] }
-        ensures answer { StartAnswers self.old image self.new result }
-        // What was received stays received, and the image is one of those that were begun, where it
-        // stands for a beginning of the book's records.
-        ensures crash { StartKeeps ⟦<D as Disk>⟧ image result self.old self.new }
-        // All of it is left.
-        ensures begun { (w : Laying) → self.new.stage ≡ Stage.Laid w →
-            OnOk result (IsBeingLaid w (D.seen self.new.disk) (bodies_of image.blocks.items)) }
-    {
-        self.hold(image.end, image.place)?;
-        self.begin_image(image)
     }
 
     /// Writes the next block of the image, in one write and without a sync, and answers whether

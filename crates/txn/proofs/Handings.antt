@@ -27,12 +27,12 @@ use Rattle.txn.specs.declared.steps.BookStep.{BookStep}
 use Rattle.txn.specs.Rows.{Standing, opening}
 use Rattle.txn.specs.Books.{BookState, opened, position, standing, Takes, CutAnswers}
 use Rattle.images.specs.Gathers.{GatherState}
-use Rattle.txn.specs.Freezing.{ImageAnswers, IsImageOf, Seals, FreezeAnswers}
+use Rattle.txn.specs.Freezing.{IsImageOf, Seals, FreezeAnswers}
 use Rattle.txn.specs.Histories.{LiveCalls, shows, shown_by, no_calls, records_of_action}
 use Rattle.txn.specs.Histories.{records_after, records_by, CutRow, Row, IsLegal}
 use Rattle.txn.specs.Handing.{IsBetween, IsImageIn, HasHanded}
 use Rattle.txn.proofs.LiveCalls.{history_shown}
-use Rattle.txn.proofs.Takings.{taken, cut_taken, freeze_taken, IsTaken, leaves}
+use Rattle.txn.proofs.Takings.{taken, cut_taken, IsTaken, leaves}
 
 -- ---- records of steps
 
@@ -296,21 +296,6 @@ module _ {S : Type 0} (meaning : Meaning S ℕ) (making : Making S)
         (row.0, [], [], cut.0.1, none_more (Action.Cut row.0 (Err Refusal.NotNow)) on, row.1)
     cuts_on sends full (Err e) cut = absurd cut.0
 
-    -- A freeze: where it answers an image, that is one of the book now.
-    pub freezes_on : (a : Result (Unit {0}) Refusal) (frozen : Result Image Refusal) →
-        ImageAnswers collections b frozen c →
-        Handed (steps ++ step (Action.Freeze a) ∷ []) c handed groups freezes images
-    freezes_on a (Ok image) froze =
-        stays_on (Action.Freeze a) (freeze_taken meaning making b c collections (Ok image) froze)
-        refl (ap (λ v. v.pending) froze.1) (ap (λ v. v.end) froze.1) (ap (λ v. v.place) froze.1)
-        (λ f there. (froze.2 f).1 (inl there))
-    freezes_on a (Err Refusal.NoMemory) froze =
-        stays_on (Action.Freeze a)
-        (freeze_taken meaning making b c collections (Err Refusal.NoMemory) froze) refl
-        (ap (λ v. v.pending) froze) (ap (λ v. v.end) froze) (ap (λ v. v.place) froze)
-        (λ f there. subst (λ l. Contains l f) (sym (ap (λ v. v.freezes) froze)) there)
-    freezes_on a (Err e) froze = absurd froze
-
     -- so many records came before
     counted : position b ≡ length (records_by steps)
     counted = omega (
@@ -349,27 +334,6 @@ module _ {S : Type 0} (meaning : Meaning S ℕ) (making : Making S)
       end = is.end ∙ counted;
       place = is.place;
     }
-
-    pub freezes_image : (a : Result (Unit {0}) Refusal) (image : Image) →
-        ImageAnswers collections b (Ok image) c →
-        Handed (steps ++ step (Action.Freeze a) ∷ []) c handed groups (image.end ∷ freezes)
-        (image ∷ images)
-    freezes_image a image froze =
-        let on = freezes_on a (Ok image) froze in
-        record {
-          legal = on.legal;
-          good = on.good;
-          carried = on.carried;
-          records = on.records;
-          end = on.end;
-          place = on.place;
-          are_images = (imaged_now (Action.Freeze a) image froze.0, on.are_images);
-          between = (
-            subst (IsBetween groups c) (sym froze.0.end)
-                (sealed_between (ap (λ v. v.end) froze.1) froze.2),
-            on.between,
-          );
-        }
 
     -- The next collection is copied, or that is refused: nothing changes but what is noted.
     pub gathers_on : (a : Result Bool Refusal) → c ≡ record b { gathering = c.gathering } →

@@ -6,7 +6,6 @@ use Rattle.std.proofs.lemmas.List.{append-nil}
 use Rattle.calls.specs.declared.call.Call.{Call}
 use Rattle.calls.specs.declared.reply.Reply.{Reply}
 use Rattle.calls.specs.declared.refusal.Refusal.{Refusal}
-use Rattle.calls.specs.Contents.{Collection}
 use Rattle.calls.specs.Reads.{reads}
 use Rattle.calls.specs.Transactions.{Leads, Event, Entry}
 use Rattle.undo_log.specs.Entries.{IsNewestCall}
@@ -20,13 +19,11 @@ use Rattle.machine.proofs.Journalled.{make_told, begin_told, call_told, later_to
 use Rattle.machine.proofs.Journalled.{back_told, ended_told}
 use Rattle.machine.proofs.Sizes.{append_length, pushed_length}
 use Rattle.blocks.specs.declared.block.Block.{Block}
-use Rattle.blocks.specs.declared.block.Image.{Image}
 use Rattle.txn.specs.declared.steps.Action.{Action}
 use Rattle.txn.specs.declared.steps.Target.{Target}
 use Rattle.txn.specs.Rows.{IsMade, IsUndone, CallAnswers, LaterAnswers, NotFound}
 use Rattle.txn.specs.Rows.{record_of, later_record}
 use Rattle.txn.specs.Books.{BookState, standing, Appends, Moves, Takes, CutAnswers}
-use Rattle.txn.specs.Freezing.{ImageAnswers}
 use Rattle.txn.specs.Histories.{Adds, Shifts, CutRow, Row, LiveCalls, unless_read, back_records}
 use Rattle.txn.specs.Histories.{records_of_action}
 use Rattle.txn.proofs.LiveCalls.{AreShown, newest_shown}
@@ -123,13 +120,6 @@ module _ {S : Type 0} (meaning : Meaning S ℕ) (making : Making S) (b c : BookS
     ),
   )
   cut_taken sends full (Err e) cut = absurd cut.0
-
-  -- A freeze leaves all that histories speak of.
-  pub freeze_taken : (collections : S → List Collection) (a : Result Image Refusal) →
-      ImageAnswers collections b a c → standing c ≡ standing b
-  freeze_taken collections (Ok image) froze = ap standing froze.1
-  freeze_taken collections (Err Refusal.NoMemory) froze = ap standing froze
-  freeze_taken collections (Err e) froze = absurd froze
 
 -- What a step of a book leaves besides what histories speak of: its records wait behind the others,
 -- and lead on what a journal tells of the state; or the step goes unheard.

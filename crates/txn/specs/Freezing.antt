@@ -1,5 +1,4 @@
--- What a freeze answers: an image of the book in whole blocks, and where it stands among the
--- records.
+-- What an image of the book is, and what a copy of a collection and a freeze answer.
 use Rattle.std.specs.Prelude.{◌≡◌, ℕ, ◌+◌, ◌<◌, ◌⊎◌, ◌↔◌, List, length, Contains}
 use Rattle.std.specs.Prelude.{Bool, Result, Ok, Err}
 use Rattle.calls.specs.declared.refusal.Refusal.{Refusal}
@@ -25,15 +24,6 @@ pub record IsImageOf {S : Type 0} (collections : S → List Collection) (b : Boo
 abbrev pub Seals : {S : Type 0} → BookState S → BookState S → Type 0
 Seals b c = (f : ℕ) → Contains c.freezes f ↔
     (Contains b.freezes f ⊎ ((f ≡ position b) × (0 < length b.pending)))
-
--- When each answer comes where an image is taken at once. It leaves all but that no block may cross
--- the position behind the last record.
-abbrev pub ImageAnswers : {S : Type 0} → (S → List Collection) → BookState S →
-    Result Image Refusal → BookState S → Type 0
-ImageAnswers collections b (Ok image) c =
-    IsImageOf collections b image × (c ≡ record b { freezes = c.freezes }) × Seals b c
-ImageAnswers collections b (Err Refusal.NoMemory) c = c ≡ b
-ImageAnswers collections b (Err e) c = ⊥
 
 -- ---- gathering
 

@@ -1,5 +1,5 @@
 -- What a book has handed over since it was opened, and the images of it.
-use Rattle.std.specs.Prelude.{◌≡◌, ◌⊎◌, ℕ, ◌<◌, List, ◌++◌, length, map, Contains, None}
+use Rattle.std.specs.Prelude.{◌≡◌, ◌⊎◌, ℕ, ◌<◌, List, ◌++◌, length, Contains, None}
 use Rattle.std.specs.List.{AllByRecursion}
 use Rattle.calls.specs.Contents.{Collection}
 use Rattle.record_format.specs.declared.record.Record.{Record}
@@ -24,10 +24,6 @@ IsBetween groups book position =
     ((first rest : List (List Record)) × (groups ≡ first ++ rest) ×
     (position ≡ length (joined first)))
     ⊎ ((book.end < position) × Contains book.freezes position)
-
--- where the images end
-abbrev pub image_ends : List Image → List ℕ
-image_ends images = map (λ image. image.end) images
 
 -- start, wear: of the book that was opened.
 module _ {S : Type 0} (meaning : Meaning S ℕ) (making : Making S)
@@ -58,9 +54,3 @@ module _ {S : Type 0} (meaning : Meaning S ℕ) (making : Making S)
     pub place : book.place ≡ places (joined groups)
     pub are_images : AllByRecursion (IsImageIn steps) images
     pub between : AllByRecursion (λ position. IsBetween groups book position) freezes
-
-  -- The same, where each image was taken at once when the book was frozen.
-  abbrev pub HasHandedAtOnce : List BookStep → BookState S → List Block → List (List Record) →
-      List Image → Type 0
-  HasHandedAtOnce steps book handed groups images =
-      HasHanded steps book handed groups (image_ends images) images

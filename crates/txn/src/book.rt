@@ -16,19 +16,19 @@ ghost use Rattle.txn.specs.declared.steps.Target.{Target};
 ghost use Rattle.txn.specs.Rows.{later_record, IsOpen, IsFull, RunRefused, OpenRefused, CanEnter};
 ghost use Rattle.txn.specs.Rows.{EnterRefused, CallRefused, LaterRefused};
 ghost use Rattle.txn.specs.Books.{opened, position, standing, IsKept, Takes, GoesOn, CutAnswers};
-ghost use Rattle.txn.specs.Freezing.{ImageAnswers, IsGatheredOf, BookGathers, FreezeAnswers};
+ghost use Rattle.txn.specs.Freezing.{IsGatheredOf, BookGathers, FreezeAnswers};
 ghost use Rattle.gathering.specs.Gatherings.{GoesAlong};
 ghost use Rattle.machine.specs.Transactions.{RunsWhole};
 ghost use Rattle.machine.specs.Sound.{IsSound};
 ghost use Rattle.calls.specs.Rules.{need_of};
 ghost use Rattle.calls.specs.Reads.{reads};
 
-use blocks::{Image, Outbox, Pending};
+use blocks::{Outbox, Pending};
 use calls::limits::{MAX_CALLS, MAX_LIVE, MAX_PENDING, NUMBER_END};
 use calls::{Call, Kind, Name, Refusal, Reply};
 use catalog::Parts;
 use gathering::Gathering;
-use images::{Gather, image_blocks};
+use images::Gather;
 use machine::Machine;
 use records::{Coded, LaterRecord, Record, call_len, encoded_len, fits_call, fits_reply};
 use std::alloc::Global;
@@ -322,30 +322,6 @@ impl<B: Parts + Coded> Book<B> {
             IsSettled B.meaning self.new.state c }
     {
         self.pending.cut(out)
-    }
-
-    /// An image of the book as it is now: what the collections hold, the live transactions, and
-    /// what these asked for, but for what a falling one put off. It marks the position behind the
-    /// last record, which the image covers too: no block that `cut` hands over from now on holds
-    /// records from both sides of it. Nothing else is changed.
-    ///
-    /// It takes time and memory in proportion to what the collections hold and the live
-    /// transactions asked for, of which the image is one copy; beside it the items of one
-    /// collection at a time are copied.
-    ///
-    /// NoMemory, which changes nothing.
-    pub fn image(&mut self) -> Result<Image, Refusal>
-        ensures answer { ImageAnswers B.collections self.old result self.new }
-        ensures settled { (c : B) → IsSettled B.meaning self.old.state c →
-            IsSettled B.meaning self.new.state c }
-    {
-        let blocks = image_blocks(self.alloc, &self.machine, self.next)?;
-        self.pending.seal()?;
-        Ok(Image {
-            blocks,
-            end: self.pending.position(),
-            place: self.places,
-        })
     }
 
     /// Goes on with a gathering of the book, one collection at a time: copies the next one by

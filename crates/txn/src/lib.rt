@@ -5,7 +5,7 @@ mod book;
 mod history;
 mod steps;
 
-pub use blocks::{Block, Image, Outbox};
+pub use blocks::{Block, Outbox};
 pub use book::Book;
 pub use history::{images, one_history};
 pub use loader::Loader;

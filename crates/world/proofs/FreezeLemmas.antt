@@ -1,14 +1,11 @@
 -- The image of a book that is frozen stands for all of its records.
 use Rattle.std.proofs.Common.{◌≡◌, ◌≢◌, ℕ, ◌≤◌, List, [], ◌∷◌, ◌++◌, length, refl, sym}
-use Rattle.std.proofs.Common.{◌∙◌, ap, subst, arith, append_assoc, length-append, Some, None}
-use Rattle.std.proofs.Common.{Result, Ok, Err}
+use Rattle.std.proofs.Common.{◌∙◌, ap, subst, arith, append_assoc, length-append}
 use Rattle.std.specs.Prelude.{Vec}
 use Rattle.std.specs.declared.alloc.Global.{Global}
-use Rattle.std.proofs.lemmas.List.{append-nil}
 use mathlib.Core.List.{IsPrefix}
 use Rattle.calls.specs.Contents.{Collection}
 use Rattle.calls.specs.Transactions.{Leads}
-use Rattle.calls.specs.declared.refusal.Refusal.{Refusal}
 use Rattle.catalog.specs.Holdings.{AreNamed}
 use Rattle.catalog.specs.Making.{names_of, AreDistinct}
 use Rattle.disk_model.specs.declared.disk.Disk.{Ghosts}
@@ -20,15 +17,14 @@ use Rattle.blocks.specs.declared.block.Image.{Image}
 use Rattle.blocks.specs.Carried.{Carries}
 use Rattle.blocks.specs.Packings.{joined, AreWhole}
 use Rattle.blocks.proofs.Places.{places_append}
-use Rattle.images.specs.Images.{IsPacked, IsPackedImage, TellsGathered}
+use Rattle.images.specs.Images.{IsPacked, TellsGathered}
 use Rattle.machine.specs.Machine.{journalled}
 use Rattle.machine.specs.Sound.{IsSound}
 use Rattle.txn.specs.declared.steps.BookStep.{BookStep}
 use Rattle.txn.specs.Books.{IsKept, position}
-use Rattle.txn.specs.Freezing.{IsImageOf, ImageAnswers}
+use Rattle.txn.specs.Freezing.{IsImageOf}
 use Rattle.txn.specs.Histories.{records_by}
 use Rattle.txn.specs.Handing.{HasHanded}
-use Rattle.checkpoint.specs.ImageAnswers.{StartAnswers}
 use Rattle.checkpoint.specs.Keepers.{KeeperState}
 use Rattle.checkpoint.specs.Stored.{StandIn}
 use Rattle.checkpoint.specs.Keeping.{BegunImage, IsImageFor, HasReceived}
@@ -56,20 +52,6 @@ some_gathered next wear xs live bs packed none =
     let empty : joined packed.groups ≡ [] =
     ap joined (no_groups bs packed.groups packed.whole none) in
     absurd (omega (arith, ap length (sym packed.tells.is ∙ empty)))
-
-pub some_blocks : (next : ℕ) (s : State) (bs : List (Vec ℕ Global)) →
-    IsPackedImage (λ v. v) next s bs → bs ≢ []
-some_blocks next s bs packed none =
-    let empty : joined packed.groups ≡ [] =
-    ap joined (no_groups bs packed.groups packed.whole none) in
-    absurd (omega (arith, ap length (sym packed.tells.is_image.is ∙ empty)))
-
--- a freeze leaves the state
-pub freeze_stays : (b c : BookState) (frozen : Result Image Refusal) →
-    ImageAnswers (λ v. v) b frozen c → c.state ≡ b.state
-freeze_stays b c (Ok image) froze = ap (λ (x : BookState). x.state) froze.1
-freeze_stays b c (Err Refusal.NoMemory) froze = ap (λ (x : BookState). x.state) froze
-freeze_stays b c (Err e) froze = absurd froze
 
 -- A book that is frozen and a keeper that has received blocks of it: the image stands for all
 -- records, and the keeper may hold its end.
@@ -174,19 +156,3 @@ module _ {D : Type 0} (g : Ghosts D) (start : List Collection) (wear : ℕ) (ste
     length-append keeps.covered keeps.stands.since,
     counted,
   )
-
--- where an image is begun, or refused, disk and mark stay
-pub begun_same : {D : Type 0} (k : KeeperState D) (image : Image) (l : KeeperState D)
-    (r : Result (Unit {0}) Refusal) → StartAnswers k image l r →
-    (l.disk ≡ k.disk) × (k.mark ≡ l.mark)
-begun_same {D = D} k image l (Ok done) begun = (
-  ap (λ (x : KeeperState D). x.disk) begun.2.1.2,
-  sym (ap (λ (x : KeeperState D). x.mark) begun.2.1.2),
-)
-begun_same {D = D} k image l (Err Refusal.Failed) begun =
-    (ap (λ (x : KeeperState D). x.disk) begun.1, sym (ap (λ (x : KeeperState D). x.mark) begun.1))
-begun_same {D = D} k image l (Err Refusal.Imaging) begun =
-    (ap (λ (x : KeeperState D). x.disk) begun.2, sym (ap (λ (x : KeeperState D). x.mark) begun.2))
-begun_same {D = D} k image l (Err Refusal.Full) begun =
-    (ap (λ (x : KeeperState D). x.disk) begun.3, sym (ap (λ (x : KeeperState D). x.mark) begun.3))
-begun_same {D = D} k image l (Err e) begun = absurd begun

@@ -12,18 +12,16 @@ use Rattle.disk_model.specs.Disk.{LeavesOnly}
 use Rattle.disk_model.specs.declared.disk.Disk.{Ghosts}
 use Rattle.record_format.specs.declared.record.Record.{Record}
 use Rattle.blocks.specs.declared.block.Block.{Block}
-use Rattle.blocks.specs.declared.block.Image.{Image}
 use Rattle.blocks.specs.Carried.{Carries}
 use Rattle.machine.specs.Machine.{journalled}
 use Rattle.repetition.specs.Journals.{records_in}
-use Rattle.txn.specs.Handing.{IsBetween, HasHanded, image_ends}
+use Rattle.txn.specs.Handing.{IsBetween, HasHanded}
 use Rattle.txn.specs.Histories.{records_by}
 use Rattle.checkpoint.specs.declared.turn.Turn.{Turn}
 use Rattle.checkpoint.specs.Crash.{Yields}
 use Rattle.checkpoint.specs.ImageAnswers.{PieceAnswers, FlipAnswers}
 use Rattle.checkpoint.specs.Keepers.{KeeperState, IsBrought, TurnAnswers}
-use Rattle.checkpoint.specs.Keeping.{BegunImage, AreImagesFor, IsApart, Uncrossed, TurnKeeps}
-use Rattle.checkpoint.specs.Keeping.{ImageKeeps, ends_of}
+use Rattle.checkpoint.specs.Keeping.{IsApart, Uncrossed, TurnKeeps, ImageKeeps}
 use Rattle.blocks.proofs.Carrying.{joined-append, carries_parts}
 use Rattle.checkpoint.proofs.GroupLemmas.{apart_append, apart_before, apart_behind}
 use Rattle.checkpoint.proofs.GroupLemmas.{uncrossed_front}
@@ -137,19 +135,6 @@ apart_between groups book position end (inl split) =
     (apart_before (0 + length (records_in split.0)) split.1 position (omega (arith, split.3))))
 apart_between groups book position end (inr behind) =
     apart_behind 0 groups position (omega (arith, end, behind.0))
-
--- where the ends of images stand between blocks, no block of these crosses one
-pub uncrossed : (groups : List (List Record)) (book : BookState) →
-    book.end ≡ length (records_in groups) → (images : List Image) (begun : List BegunImage) →
-    AreImagesFor images begun → AllByRecursion (IsBetween groups book) (image_ends images) →
-    Uncrossed (ends_of begun) groups
-uncrossed groups book end [] [] for between = All-nil (λ p. IsApart 0 groups p)
-uncrossed groups book end [] (b ∷ begun) for between = absurd for
-uncrossed groups book end (image ∷ images) [] for between = absurd for
-uncrossed groups book end (image ∷ images) (b ∷ begun) for between =
-    All-cons (λ p. IsApart 0 groups p) (length b.covered) (ends_of begun)
-    (subst (IsApart 0 groups) for.0.end (apart_between groups book image.end end between.0))
-    (uncrossed groups book end images begun for.1 between.1)
 
 -- where these positions stand between blocks, no block of these crosses one
 pub none_crossed : (groups : List (List Record)) (book : BookState) →
