@@ -26,7 +26,7 @@ use Rattle.txn.specs.declared.steps.BookStep.{BookStep}
 use Rattle.txn.specs.Histories.{IsLegal, committed_by}
 use Rattle.txn.specs.Rows.{opening}
 use Rattle.background.specs.Works.{IsSaid, AreSaid, AreParts, AreTold}
-use Rattle.background.specs.Works.{IsClosed, IsWorkedOn, WasOpened, IsLeftByWork}
+use Rattle.background.specs.Works.{IsClosed, WasOpened, IsLeftByWork}
 
 -- what holds of an answer, and what follows from it
 pub ok_then : {X E : Type 0} (r : Result X E) (P Q : X → Type 0) → IfOk r P →

@@ -5,7 +5,7 @@ use Rattle.std.proofs.Common.{◌∙◌}
 use Rattle.std.proofs.Common.{ap, subst, arith, append_assoc, length-append}
 use Rattle.std.specs.Int.{w32, to_be_bytes}
 use Rattle.std.specs.declared.alloc.Global.{Global}
-use Rattle.std.proofs.lemmas.List.{append-nil, take_at}
+use Rattle.std.proofs.lemmas.List.{take_at}
 use Rattle.std.proofs.lemmas.List.Elements.{All-contains, All-weaker}
 use Rattle.gate_block.specs.Row.{IsBlockOf}
 use Rattle.record_format.specs.declared.record.Record.{Record}
@@ -13,13 +13,10 @@ use Rattle.record_format.specs.Records.{spelling}
 use Rattle.record_format.specs.Acts.{places}
 use Rattle.blocks.specs.declared.block.Block.{Block}
 use Rattle.blocks.specs.Packings.{AreWhole}
-use Rattle.blocks.proofs.Carrying.{joined-append}
 use Rattle.blocks.specs.Wholes.{body_of}
-use Rattle.blocks.proofs.Places.{places_append}
 use Rattle.repetition.specs.Journals.{records_in}
-use Rattle.repetition.proofs.Lists.{flat_map-append}
 use Rattle.checkpoint.specs.Imaging.{bodies_of}
-use Rattle.blocks.specs.Carried.{IsCarried, Carries}
+use Rattle.blocks.specs.Carried.{Carries}
 use Rattle.checkpoint.specs.Keeping.{IsApart, Uncrossed}
 use Rattle.checkpoint.proofs.StandLemmas.{same_beginning}
 

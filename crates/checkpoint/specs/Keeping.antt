@@ -1,7 +1,7 @@
 -- What a keeper has received since it was opened, and what its disk holds of that. No book is
 -- named.
 use Rattle.std.specs.Prelude.{◌≡◌, ◌≢◌, ◌⊎◌, ℕ, ◌+◌, ◌<◌, ◌≤◌, false, List, [], ◌∷◌, ◌++◌, length}
-use Rattle.std.specs.Prelude.{map, All, Contains, Some, None, Result, Ok, Err}
+use Rattle.std.specs.Prelude.{map, All, Contains, None, Result, Ok, Err}
 use Rattle.std.specs.List.{AllByRecursion}
 use mathlib.Core.List.{IsPrefix}
 use Rattle.calls.specs.Contents.{Collection}

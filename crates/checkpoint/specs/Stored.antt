@@ -1,12 +1,9 @@
 -- Blocks of records, and what those that a disk holds stand for.
-use Rattle.std.specs.Prelude.{◌≡◌, ℕ, ◌+◌, List, [], ◌∷◌, ◌++◌, length, map, None}
+use Rattle.std.specs.Prelude.{◌≡◌, ℕ, ◌+◌, List, ◌++◌, map, None}
 use Rattle.calls.specs.Contents.{Collection}
 use Rattle.calls.specs.Transactions.{calls_of}
-use Rattle.gate_block.specs.Row.{IsBlockOf}
 use Rattle.record_format.specs.declared.record.Record.{Record}
-use Rattle.record_format.specs.Records.{spelling, AreRecords}
-use Rattle.record_format.specs.Acts.{places}
-use Rattle.blocks.specs.declared.block.Block.{Block}
+use Rattle.record_format.specs.Records.{AreRecords}
 use Rattle.machine.specs.Machines.{resting}
 use Rattle.repetition.specs.Journals.{records_in}
 use Rattle.repetition.specs.Steps.{State, Repeats}

@@ -43,7 +43,6 @@ use Rattle.checkpoint.proofs.ReceivedLemmas.{mark_few}
 use Rattle.world.proofs.FreezeLemmas as freezes
 use Rattle.world.proofs.GatherLemmas.{held_same, repeats_none}
 use Rattle.world.proofs.KeeperSteps.{none_crossed}
-use Rattle.world.proofs.OfBook.{of_unfrozen}
 use Rattle.world.proofs.Readings.{history_yields}
 use Rattle.group_commit.specs.Accords.{AccordState}
 use Rattle.group_commit.specs.Lines as lines
@@ -390,26 +389,6 @@ module _ {J D : Type 0} (j : Ghosts J) (g : disks.Ghosts D) where
       where
         no_ok : (d : Refusal) → ◌≡◌ {A = Result (Unit {0}) Refusal} (Ok tt) (Err d) → ⊥
         no_ok d both = absurd cc
-
--- ---- what is gathered then
-
--- It is frozen once its end is held,
-pub held_frozen : {D : Type 0} (g : disks.Ghosts D) (b : Book) (k : KeeperState D)
-    (m n : GatherState) (frozen : Result (Unit {0}) Refusal) (c : Book) (l : KeeperState D) →
-    Froze g b k m frozen (Ok tt) c l n → n.frozen ≡ None → ⊥
-held_frozen g b k m n (Ok done) c l froze none =
-    let both : Some froze.0.1.frozen ≡ None = sym froze.0.1.is_frozen ∙ none in absurd cc
-held_frozen g b k m n (Err d) c l froze none =
-    let both : ◌≡◌ {A = Result (Unit {0}) Refusal} (Ok tt) (Err d) = froze.1 in absurd cc
-
--- and as it was where it is not frozen.
-pub unheld_same : {D : Type 0} (g : disks.Ghosts D) (b : Book) (k : KeeperState D)
-    (m n : GatherState) (frozen : Result (Unit {0}) Refusal) (e : Refusal) (c : Book)
-    (l : KeeperState D) →
-    Froze g b k m frozen (Err e) c l n → n.frozen ≡ None → n ≡ m
-unheld_same g b k m n (Ok done) e c l froze none =
-    let both : Some froze.0.1.frozen ≡ None = sym froze.0.1.is_frozen ∙ none in absurd cc
-unheld_same g b k m n (Err d) e c l froze none = (of_unfrozen b c m n d froze.0).1
 
 -- ---- where the end is
 

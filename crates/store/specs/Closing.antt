@@ -1,5 +1,5 @@
 -- What a store leaves that is closed.
-use Rattle.std.specs.Prelude.{ℕ, List, [], Option, Some, None, take}
+use Rattle.std.specs.Prelude.{ℕ, List, take}
 use mathlib.Core.List.{IsPrefix}
 use Rattle.calls.specs.Contents.{Collection}
 use Rattle.disk_model.specs.declared.disk.Disk as disks

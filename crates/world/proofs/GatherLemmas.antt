@@ -1,13 +1,11 @@
 -- What is gathered of a book, its freeze and its image: the past of the world goes on.
-use Rattle.std.proofs.Common.{◌≡◌, ℕ, Bool, List, [], ◌∷◌, ◌++◌, length, refl, sym, ◌∙◌, ap, subst}
-use Rattle.std.proofs.Common.{arith, Some, None, Option, Result, Ok, Err}
+use Rattle.std.proofs.Common.{◌≡◌, ℕ, Bool, List, [], ◌∷◌, ◌++◌, refl, sym, ◌∙◌, ap, subst}
+use Rattle.std.proofs.Common.{arith, Some, None, Result, Ok, Err}
 use Rattle.std.proofs.lemmas.List.{append-nil}
 use Rattle.calls.specs.Contents.{Collection}
 use Rattle.calls.specs.declared.refusal.Refusal.{Refusal}
 use Rattle.disk_model.specs.declared.disk.Disk.{Ghosts}
-use Rattle.record_format.specs.declared.record.Record.{Record}
 use Rattle.record_format.specs.Short.{AreShort}
-use Rattle.blocks.specs.declared.block.Block.{Block}
 use Rattle.blocks.specs.declared.block.Image.{Image}
 use Rattle.machine.specs.Machine.{journalled}
 use Rattle.machine.specs.Sound.{IsSound}
@@ -79,11 +77,6 @@ freeze_action : (r : Result (Unit {0}) Refusal) →
     action_of Step.Freeze (outcome (alone Answer.Frozen) r) ≡ Some (Action.Freeze r)
 freeze_action (Ok done) = refl
 freeze_action (Err e) = refl
-
-freeze_tells : (r : Result (Unit {0}) Refusal) →
-    told Step.Freeze (outcome (alone Answer.Frozen) r) ≡ 0
-freeze_tells (Ok done) = refl
-freeze_tells (Err e) = refl
 
 pack_tells : (r : Result (Unit {0}) Refusal) →
     told Step.Pack (outcome (alone Answer.Packed) r) ≡ 0

@@ -1,7 +1,7 @@
 -- What a world has gathered is of its book, and stays so with each step.
 use Rattle.std.proofs.Common.{◌≡◌, ℕ, Bool, List, [], ◌∷◌, ◌++◌, length, refl, sym, ◌∙◌, ap, subst}
 use Rattle.std.proofs.Common.{arith, Some, None}
-use Rattle.std.proofs.Common.{◌≢◌, ◌+◌, ◌==◌, cond, zero, suc, ⊎_elim, ◌⊎◌, Option, Result, Ok, Err}
+use Rattle.std.proofs.Common.{◌≢◌, ◌+◌, ◌==◌, cond, ⊎_elim, ◌⊎◌, Option, Result, Ok, Err}
 use Rattle.std.proofs.Common.{length-append, true, false}
 use Rattle.std.specs.Prelude.{OnOk, OnErr}
 use Rattle.std.proofs.lemmas.Bool.{eqb-true}
@@ -219,20 +219,7 @@ of_ungathered b c g h Refusal.NoMemory gathers =
     (gathers.1 ∙ ap (λ n. record b { gathering = n }) gathers.0.0, gathers.0.1)
 of_ungathered b c g h e gathers = absurd gathers.0
 
--- What is frozen is of no gathering that is under way.
-pub of_frozen : (b c : BookState) (g h : GatherState) →
-    FreezeAnswers (λ v. v) b g (Ok tt) c h → IsOfBook c h
-of_frozen b c g h froze =
-    let some : h.mark ≢ 0 = λ none. froze.0.0.0 (sym froze.4 ∙ none) in
-    let over : c.gathering.going ≡ false = ap (λ (v : BookState). v.gathering.going) froze.2 in
-    let none : IsUnderWay c.gathering h → ⊥ = λ under.
-    let both : true ≡ false = sym under.1 ∙ over in absurd cc in
-    record {
-      gathered = record { new = λ new. absurd (some new); along = λ under. absurd (none under) };
-      over = λ frozen. (some, none);
-    }
-
--- where that is refused, all is as it was
+-- where a freeze is refused, all is as it was
 pub of_unfrozen : (b c : BookState) (g h : GatherState) (e : Refusal) →
     FreezeAnswers (λ v. v) b g (Err e) c h → (c ≡ b) × (h ≡ g)
 of_unfrozen b c g h Refusal.NoMemory froze = (froze.1, froze.2)

@@ -1,10 +1,9 @@
 -- What a journal tells of transactions without their calls that only read stands for what these
 -- transactions give, with all their calls.
-use Rattle.std.proofs.Common.{◌≡◌, ℕ, ◌+◌, ◌≤◌, List, [], ◌∷◌, ◌++◌, length, map, take, drop, refl}
+use Rattle.std.proofs.Common.{◌≡◌, ℕ, ◌≤◌, List, [], ◌∷◌, length, map, take, drop, refl}
 use Rattle.std.proofs.Common.{sym, ◌∙◌, ap, subst, arith, length-append}
 use Rattle.std.proofs.lemmas.List.{take-map, take-append-le, take-append-drop, length-map}
 use Rattle.std.proofs.lemmas.List.{length-take-le, take_all}
-use mathlib.Core.List.{IsPrefix}
 use Rattle.boosted.proofs.Runs.{Leads-split}
 use Rattle.calls.specs.Contents.{Collection}
 use Rattle.calls.specs.Reads.{without_reads}

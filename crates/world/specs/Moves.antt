@@ -29,18 +29,6 @@ pub record Whole (D : Type 0) : Type 0 where
   pub mark : ℕ
   pub next : ℕ
 
--- a world from its fields
-abbrev pub whole_of : {D : Type 0} → BookState → GatherState → KeeperState D → List Block →
-    (mark next : ℕ) → Whole D
-whole_of book gather keeper transit mark next = record {
-  book = book;
-  gather = gather;
-  keeper = keeper;
-  transit = transit;
-  mark = mark;
-  next = next;
-}
-
 -- A turn is the keeper's, of the blocks in transit. The book, what is gathered and the next number
 -- stay.
 pub record IsTurn {D : Type 0} (fault_count : D → ℕ) (old : Whole D) (a : Answer)

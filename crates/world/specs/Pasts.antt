@@ -5,7 +5,6 @@ use Rattle.std.specs.List.{flat_map, AllByRecursion}
 use Rattle.calls.specs.Contents.{Collection}
 use Rattle.calls.specs.Transactions.{Transaction, Serial}
 use Rattle.calls.specs.declared.refusal.Refusal.{Refusal}
-use Rattle.record_format.specs.declared.record.Record.{Record}
 use Rattle.checkpoint.specs.declared.turn.Turn.{Turn}
 use Rattle.blocks.specs.declared.block.Block.{Block}
 use Rattle.machine.specs.Machine.{IsSettled}
@@ -13,7 +12,7 @@ use Rattle.txn.specs.declared.steps.Action.{Action}
 use Rattle.txn.specs.declared.steps.BookStep.{BookStep}
 use Rattle.txn.specs.declared.steps.Target.{Target}
 use Rattle.txn.specs.Books as books
-use Rattle.txn.specs.Histories.{committed_by, records_by, uncounted}
+use Rattle.txn.specs.Histories.{committed_by, uncounted}
 use Rattle.world.specs.declared.steps.Step.{Step}
 use Rattle.world.specs.declared.steps.Answer.{Answer}
 use Rattle.catalog.specs.Meaning.{catalog_meaning, catalog_making}
@@ -84,22 +83,9 @@ greatest_told (x ∷ past) = max (told x.0 x.1) (greatest_told past)
 abbrev pub acknowledged : Past → List Transaction
 acknowledged past = take (greatest_told past) (committed_in past)
 
--- The records of the past's steps, in their order.
-abbrev pub records_of : Past → List Record
-records_of past = records_by (book_steps_of past)
-
 -- the state of a book of named collections
 abbrev pub BookState : Type 0
 BookState = books.BookState (List Collection)
-
--- The keeper takes the step, or takes part in it.
-abbrev pub CallsKeeper : Step → Type 0
-CallsKeeper Step.Turn = Unit {0}
-CallsKeeper Step.Freeze = Unit {0}
-CallsKeeper Step.Pack = Unit {0}
-CallsKeeper Step.Piece = Unit {0}
-CallsKeeper Step.Flip = Unit {0}
-CallsKeeper s = ⊥
 
 -- Each step has answers of its own, and may be refused; a look is never refused.
 abbrev pub IsAnswerOf : Step → Answer → Type 0

@@ -1,6 +1,6 @@
 use denote.Param.{param}
 use Rattle.std.proofs.Common.{sym, subst}
-use Rattle.clients.specs.Known.{seen_of, counts_of}
+use Rattle.clients.specs.Known.{seen_of}
 use Rattle.store.proofs.Sends.{parts, store_sync}
 use Rattle.background.specs.Works.{AreParts}
 use Rattle.background.proofs.WorkLemmas.{closed_with}

@@ -1,4 +1,4 @@
-use Rattle.std.proofs.Common.{◌≡◌, ◌∙◌, sym, subst, ap, Ok, Err}
+use Rattle.std.proofs.Common.{◌≡◌, ◌∙◌, sym, subst, ap}
 use Rattle.images.specs.Gathers.{GatherState}
 use Rattle.txn.specs.Freezing.{IsGatheredOf}
 use Rattle.group_commit.specs.Orders.{SenderState, ReceiverState, noting, noting_too}

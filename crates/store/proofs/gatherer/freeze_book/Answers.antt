@@ -1,5 +1,4 @@
-use Rattle.std.proofs.Common.{sym, ◌∙◌, Ok, Err, refl}
-use Rattle.std.proofs.lemmas.Result.{err_from_is_err_and}
+use Rattle.std.proofs.Common.{sym, ◌∙◌, Ok}
 use Rattle.store.proofs.Freezes.{froze_and_asked}
 use Rattle.store.proofs.gatherer.freeze_book.Goals as goal
 

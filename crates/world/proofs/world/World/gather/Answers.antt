@@ -1,10 +1,8 @@
 use Rattle.std.proofs.Common.{inl, inr, refl, ap, Ok, Err}
 use Rattle.std.proofs.lemmas.Result.{err_from_is_err_and}
 use Rattle.world.specs.declared.steps.Answer.{Answer}
-use Rattle.world.specs.Worlds.{IsOfBook}
 use Rattle.world.proofs.OfBook.{of_repeated, of_gathered, of_ungathered}
 use Rattle.world.proofs.GatherSteps.{gather_taken, gather_refused}
-use Rattle.world.proofs.world.World.gather.Given.{Over}
 use Rattle.world.proofs.world.World.gather.Goals as goal
 
 pub invariant_of-self : goal.invariant_of-self
