@@ -8,7 +8,8 @@ use std::alloc::{AllocError, Global};
 
 /// Whether the content of a store is what its clients were told: the counter's number is the count
 /// of calls; no identifier was drawn twice, and all that were drawn are taken; no job was taken
-/// twice, and those are left that were put and not taken; all keys are there.
+/// twice, and those are left that were put and not taken; all keys are there, of the map beside
+/// which images were written too.
 pub fn is_right(
     alloc: Global,
     catalog: &Catalog,
@@ -30,8 +31,16 @@ pub fn is_right(
         Kind::Map => Ok(count == first),
         _ => {
             let calls = outcome.commits().wrapping_mul(u64::from(workload.calls()));
-            Ok(total(items) == Some(i128::from(calls)))
+            Ok(total(items) == Some(i128::from(calls)) && has_all_keys(catalog, workload)?)
         }
+    }
+}
+
+// Whether all keys of the map are there beside which images were written, if they were.
+fn has_all_keys(catalog: &Catalog, workload: Workload) -> Result<bool, Refusal> {
+    match workload.imaged() {
+        Some(size) => Ok(catalog.show(1)?.items.len() as u64 == u64::from(size)),
+        None => Ok(true),
     }
 }
 

@@ -5,6 +5,10 @@
 //! COUNT transactions and begin none after SECONDS; the store's file lies in the folder DIR. The
 //! workloads are those of `Workload`.
 //!
+//! The workloads whose names have `beside-images` in them take checkpoints in a thread of their own
+//! for as long as the clients run, and print how many: an image of a map each, which the store is
+//! filled with before.
+//!
 //! `book WORKLOAD OTHERS COUNT SIZE DIR` measures a book by itself, on one thread and without a
 //! disk: COUNT transactions on a collection of SIZE entries, beside OTHERS live transactions of
 //! 1,000 calls each. Nothing is done in DIR.
@@ -20,6 +24,7 @@ mod checking;
 mod committing;
 mod counts;
 mod filing;
+mod imaging;
 mod log;
 mod measuring;
 mod options;
@@ -62,7 +67,7 @@ fn obey<R: System + Sync>(rt: &R) -> Result<(), Trouble> {
     if options.workload == Workload::Open {
         return reopening::measure(rt, &options);
     }
-    let disk = make_disk(rt, options.folder)?;
+    let disk = make_disk(rt, options.folder, options.workload)?;
     let (outcome, is_right) = running::measure(rt, disk, &options)?;
     match options.workload {
         Workload::OpenFill if is_right => report::print_filled(rt, &options)?,

@@ -5,15 +5,18 @@ use crate::log::Log;
 use crate::trouble::Trouble;
 use crate::window::Window;
 use crate::workload::Workload;
-use background::{Signal, Work, keep};
-use calls::{Kind, Reply};
+use background::{Signal, Work, keep, transact};
+use calls::{Call, Kind, Reply};
 use rand_pcg::Pcg32;
 use std::alloc::AllocGlobal;
 use std::rt::Clock;
 use std::sync::Wait;
 use std::thread;
-use std::time::Instant;
+use std::time::{Duration, Instant};
 use store::{Client, Naming};
+
+// For how many milliseconds a client pauses that does not wait for each transaction.
+const PAUSE: u64 = 1;
 
 /// What the clients do that are measured, each in a thread.
 #[derive(Drop)]
@@ -41,6 +44,9 @@ impl<C: Clock + Print> Work for Measuring<'_, C> {
     ) -> Result<Log, Trouble> {
         match self.workload {
             Workload::CounterAsync | Workload::OpenFill => self.fill(rt, client, signal),
+            Workload::CounterAsyncBesideImages | Workload::CounterAsyncBesideImagesMillion => {
+                self.pace(rt, client, signal)
+            }
             _ => self.run(rt, client, signal, thread as u64),
         }
     }
@@ -86,6 +92,38 @@ impl<C: Clock + Print> Measuring<'_, C> {
             self.tell(number, &log)?;
         }
         unreachable!()
+    }
+
+    // Commits a transaction after each pause, until the window admits no more, and waits for the
+    // last one alone. What is timed is from its begin to its commit, and no pause.
+    fn pace<J: Naming, R: Wait + AllocGlobal>(
+        &self,
+        rt: &R,
+        client: &mut Client<'_, J>,
+        signal: &Signal,
+    ) -> Result<Log, Trouble> {
+        let workload = self.workload;
+        let bump = SameCall {
+            workload,
+            call: Call::Bump(1),
+        };
+        let mut log = Log::new(rt.alloc(), Instant::now(self.clock)?);
+        let mut last = None;
+        for _ in rt.forever() {
+            if !self.window.admits(&log) {
+                break;
+            }
+            thread::sleep(self.clock, Duration::from_millis(PAUSE));
+            let start = Instant::now(self.clock)?;
+            let (reply, ticket) = transact(rt, client, signal, &bump)?;
+            log.end = Instant::now(self.clock)?;
+            self.note(reply, start, &mut log)?;
+            last = Some(ticket);
+        }
+        if let Some(ticket) = last {
+            client.wait(rt, &ticket)?;
+        }
+        Ok(log)
     }
 
     // Tells how many of a client's transactions are kept.

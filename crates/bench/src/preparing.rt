@@ -8,7 +8,8 @@ use std::alloc::AllocGlobal;
 use std::sync::Wait;
 use store::{Client, Naming};
 
-/// Makes the collection of a workload, with what it holds at the start.
+/// Makes the collection of a workload, with what it holds at the start, and the map beside which
+/// images are written.
 #[derive(Clone, Copy)]
 pub struct Preparing {
     pub workload: Workload,
@@ -24,11 +25,27 @@ impl Work for Preparing {
         signal: &Signal,
         _thread: usize,
     ) -> Result<(), Refusal> {
-        let workload = self.workload;
-        let ticket = client.make(rt, workload.collection(), workload.kind())?;
-        signal.wake();
-        client.wait(rt, &ticket)?;
-        let content = Content::of(workload);
-        commit_all(rt, client, signal, content, u64::from(content.size))
+        fill(rt, client, signal, Content::of(self.workload))?;
+        match self.workload.imaged() {
+            Some(size) => {
+                let workload = Workload::Map;
+                fill(rt, client, signal, Content { workload, size })
+            }
+            None => Ok(()),
+        }
     }
+}
+
+// Makes the collection of a content, and fills it.
+fn fill<J: Naming, R: Wait + AllocGlobal>(
+    rt: &R,
+    client: &mut Client<'_, J>,
+    signal: &Signal,
+    content: Content,
+) -> Result<(), Refusal> {
+    let workload = content.workload;
+    let ticket = client.make(rt, workload.collection(), workload.kind())?;
+    signal.wake();
+    client.wait(rt, &ticket)?;
+    commit_all(rt, client, signal, content, u64::from(content.size))
 }

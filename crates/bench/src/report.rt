@@ -50,7 +50,11 @@ fn print_times(rt: &(impl Print + AllocGlobal), outcome: &Outcome) -> io::Result
         "\"write_bytes\":{bytes},\"write_bytes_per_commit\":{:.1},",
         nearest_u64_to_f64(bytes) / commits
     )?;
-    print!(rt; "\"client_min\":{least},\"client_max\":{most},")
+    print!(rt; "\"client_min\":{least},\"client_max\":{most},")?;
+    match outcome.checkpoints {
+        Some(checkpoints) => print!(rt; "\"checkpoints\":{checkpoints},"),
+        None => Ok(()),
+    }
 }
 
 // Prints the times that half of the transactions, 99 of a hundred and all are not above.

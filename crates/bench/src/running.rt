@@ -1,6 +1,7 @@
 // A run on a new store.
 use crate::checking::is_right;
 use crate::counts::Counts;
+use crate::imaging::{Imaged, run_beside_images};
 use crate::log::Log;
 use crate::measuring::Measuring;
 use crate::options::{Options, Variant};
@@ -28,21 +29,23 @@ pub fn measure<
     let (prepared, closed) = run(rt, disk, &Preparing { workload }, 1);
     all_ended(prepared?.as_slice())?;
     let before = Counts::read(rt);
-    let (logs, disk) = run_clients(rt, closed.disk, options)?;
+    let (logs, checkpoints, disk) = run_clients(rt, closed.disk, options)?;
     let outcome = Outcome {
         logs,
         counts: Counts::read(rt).since(before),
+        checkpoints,
     };
     let is_right = is_kept(rt, disk, workload, &outcome)?;
     Ok((outcome, is_right))
 }
 
-// Lets the clients run, each in a thread of its own.
+// Lets the clients run, each in a thread of its own. What they did, and how many checkpoints were
+// taken meanwhile, where that was a thread's work.
 fn run_clients<D: Disk + Drop + Send, R: Threads + Wait + Clock + Print + AllocGlobal + Sync>(
     rt: &R,
     disk: D,
     options: &Options<'_>,
-) -> Result<(Vec<Log>, D), Trouble> {
+) -> Result<(Vec<Log>, Option<u64>, D), Trouble> {
     let clients = Measuring {
         clock: rt,
         is_told: options.variant == Variant::Told,
@@ -50,8 +53,16 @@ fn run_clients<D: Disk + Drop + Send, R: Threads + Wait + Clock + Print + AllocG
         count: options.count,
         window: Window::new(options),
     };
-    let (logs, closed) = run(rt, disk, &clients, options.threads());
-    Ok((all_logs(rt.alloc(), logs?)?, closed.disk))
+    if options.workload.imaged().is_none() {
+        let (logs, closed) = run(rt, disk, &clients, options.threads());
+        return Ok((all_logs(rt.alloc(), logs?)?, None, closed.disk));
+    }
+    let Imaged {
+        answers,
+        checkpoints,
+        disk,
+    } = run_beside_images(rt, disk, &clients, options.threads())?;
+    Ok((all_logs(rt.alloc(), answers)?, Some(checkpoints), disk))
 }
 
 // What each client did, where none met trouble.

@@ -20,14 +20,24 @@ pub enum Workload {
     Long,
     /// One adds 1 to the counter, again and again, and waits for the last time alone.
     CounterAsync,
-    /// The same, and then the program ends without closing the store.
+    /// As `Counter`, beside a map of 1,000 values of 100 bytes, while one checkpoint after another
+    /// is taken.
+    CounterBesideImages,
+    /// The same, with a million values.
+    CounterBesideImagesMillion,
+    /// As `CounterBesideImages`, but each client pauses for a millisecond before a transaction, and
+    /// waits for the last one alone.
+    CounterAsyncBesideImages,
+    /// The same, with a million values.
+    CounterAsyncBesideImagesMillion,
+    /// As `CounterAsync`, and then the program ends without closing the store.
     OpenFill,
     /// The store that is there is opened.
     Open,
 }
 
 // Each with the word for it.
-const WORDS: [(Workload, &str); 10] = [
+const WORDS: [(Workload, &str); 14] = [
     (Workload::Counter, "counter"),
     (Workload::JobQueue, "jobqueue"),
     (Workload::JobQueueMillion, "jobqueue-million"),
@@ -36,6 +46,19 @@ const WORDS: [(Workload, &str); 10] = [
     (Workload::Map, "map"),
     (Workload::Long, "long"),
     (Workload::CounterAsync, "counter-async"),
+    (Workload::CounterBesideImages, "counter-beside-images"),
+    (
+        Workload::CounterBesideImagesMillion,
+        "counter-beside-images-million",
+    ),
+    (
+        Workload::CounterAsyncBesideImages,
+        "counter-async-beside-images",
+    ),
+    (
+        Workload::CounterAsyncBesideImagesMillion,
+        "counter-async-beside-images-million",
+    ),
     (Workload::OpenFill, "openfill"),
     (Workload::Open, "open"),
 ];
@@ -58,6 +81,10 @@ impl Workload {
             Workload::Map => "map",
             Workload::Long => "long",
             Workload::CounterAsync => "counter-async",
+            Workload::CounterBesideImages => "counter-beside-images",
+            Workload::CounterBesideImagesMillion => "counter-beside-images-million",
+            Workload::CounterAsyncBesideImages => "counter-async-beside-images",
+            Workload::CounterAsyncBesideImagesMillion => "counter-async-beside-images-million",
             Workload::OpenFill => "openfill",
             Workload::Open => "open",
         }
@@ -90,6 +117,18 @@ impl Workload {
             Workload::JobQueueMillion | Workload::IdsMillion => 1_000_000,
             Workload::Map => 100_000,
             _ => 0,
+        }
+    }
+
+    /// How many entries the map has beside which its clients run while checkpoints are taken; None
+    /// of a workload with no such map, beside which no checkpointer runs.
+    pub fn imaged(self) -> Option<u32> {
+        match self {
+            Workload::CounterBesideImages | Workload::CounterAsyncBesideImages => Some(1000),
+            Workload::CounterBesideImagesMillion | Workload::CounterAsyncBesideImagesMillion => {
+                Some(1_000_000)
+            }
+            _ => None,
         }
     }
 
