@@ -42,7 +42,10 @@ impl Cost {
         let workload = Workload::named(workload.as_str())?;
         let size = size.parse::<u32>().ok()?;
         Some(Cost {
-            content: Content { workload, size },
+            content: Content {
+                size,
+                ..Content::of(workload)
+            },
             others: others.parse::<u64>().ok()?,
             count: count.parse::<u64>().ok()?,
         })
@@ -56,7 +59,7 @@ impl Cost {
         let start = Instant::now(rt)?;
         bench.run(self.count)?;
         let time = start.elapsed(rt)?;
-        let Content { workload, size } = self.content;
+        let Content { workload, size, .. } = self.content;
         let calls = self.count.wrapping_mul(u64::from(workload.calls()));
         print!(rt;
             "{{\"workload\":\"{}\",\"others\":{},",
@@ -92,8 +95,7 @@ impl BookBench {
     // A book with an empty collection of the workload's kind, and a counter for other transactions.
     fn new(alloc: Global, content: Content) -> Result<BookBench, Refusal> {
         let mut book = Book::new(alloc, Catalog::new(alloc), 1, 0);
-        let workload = content.workload;
-        book.make(workload.collection(), workload.kind())?;
+        book.make(content.collection, content.workload.kind())?;
         book.make("others", Kind::Counter)?;
         Ok(BookBench {
             alloc,

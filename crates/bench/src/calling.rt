@@ -11,19 +11,23 @@ const PRIORITIES: u32 = 1000;
 // How many bytes a value has.
 const VALUE_SIZE: usize = 100;
 
-/// What the collection of a workload holds at the start.
+/// What a collection holds at the start.
 #[derive(Clone, Copy)]
 pub struct Content {
+    /// The workload whose calls make it.
     pub workload: Workload,
+    /// The name of the collection.
+    pub collection: &'static str,
     /// How many calls made it, which is how many entries it has; of a counter it is its number.
     pub size: u32,
 }
 
 impl Content {
-    /// What a store holds for the workload.
+    /// What the collection of the workload holds.
     pub fn of(workload: Workload) -> Content {
         Content {
             workload,
+            collection: workload.collection(),
             size: workload.first_count(),
         }
     }

@@ -8,7 +8,7 @@ use std::alloc::{AllocError, Global};
 
 /// Whether the content of a store is what its clients were told: the counter's number is the count
 /// of calls; no identifier was drawn twice, and all that were drawn are taken; no job was taken
-/// twice, and those are left that were put and not taken; all keys are there, of the map beside
+/// twice, and those are left that were put and not taken; all keys are there, of the maps beside
 /// which images were written too.
 pub fn is_right(
     alloc: Global,
@@ -36,12 +36,15 @@ pub fn is_right(
     }
 }
 
-// Whether all keys of the map are there beside which images were written, if they were.
+// Whether all keys of the maps are there beside which images were written.
 fn has_all_keys(catalog: &Catalog, workload: Workload) -> Result<bool, Refusal> {
-    match workload.imaged() {
-        Some(size) => Ok(catalog.show(1)?.items.len() as u64 == u64::from(size)),
-        None => Ok(true),
+    let maps = workload.maps();
+    for place in (1..=u8::MAX).take(maps.names.len()) {
+        if catalog.show(place)?.items.len() as u64 != u64::from(maps.size) {
+            return Ok(false);
+        }
     }
+    Ok(true)
 }
 
 /// The number of the counter that these are the items of.

@@ -1,6 +1,5 @@
 // Transactions of the same call.
 use crate::calling::Content;
-use crate::workload::Workload;
 use background::{Signal, Transaction, transact};
 use calls::{Call, Refusal, Reply};
 use rand_pcg::Pcg32;
@@ -8,12 +7,24 @@ use std::alloc::AllocGlobal;
 use std::sync::Wait;
 use store::{Client, Naming};
 
-/// A transaction of one call, of the collection that its workload has, or of as many of the same as
-/// the workload's transactions have.
+/// A transaction of one call of a collection, or of as many of the same as the transactions of a
+/// workload have.
 #[derive(Drop)]
 pub struct SameCall {
-    pub workload: Workload,
-    pub call: Call,
+    collection: &'static str,
+    count: u32,
+    call: Call,
+}
+
+impl SameCall {
+    /// The transaction of a call of the collection with that content.
+    pub fn of(content: Content, call: Call) -> SameCall {
+        SameCall {
+            collection: content.collection,
+            count: content.workload.calls(),
+            call,
+        }
+    }
 }
 
 impl Transaction for SameCall {
@@ -24,11 +35,10 @@ impl Transaction for SameCall {
         rt: &R,
         client: &mut Client<'_, J>,
     ) -> Result<Reply, Refusal> {
-        let name = self.workload.collection();
-        for _ in 1..self.workload.calls() {
-            client.call(rt, name, &self.call)?;
+        for _ in 1..self.count {
+            client.call(rt, self.collection, &self.call)?;
         }
-        client.call(rt, name, &self.call)
+        client.call(rt, self.collection, &self.call)
     }
 }
 
@@ -43,12 +53,11 @@ pub fn commit_all<J: Naming, R: Wait + AllocGlobal>(
     content: Content,
     count: u64,
 ) -> Result<(), Refusal> {
-    let workload = content.workload;
     let mut numbers = Pcg32::new(0, 1);
     let mut last = None;
     for number in 0..count {
         let call = content.first_call(rt.alloc(), number, &mut numbers)?;
-        let (_, ticket) = transact(rt, client, signal, &SameCall { workload, call })?;
+        let (_, ticket) = transact(rt, client, signal, &SameCall::of(content, call))?;
         last = Some(ticket);
     }
     if let Some(ticket) = last {

@@ -50,9 +50,9 @@ pub fn open_disk<R: Files<File = File> + AllocGlobal>(
 // The size of an area, and of the file, in bytes.
 fn sizes(workload: Workload) -> (u64, u64) {
     match workload {
-        Workload::CounterBesideImagesMillion | Workload::CounterAsyncBesideImagesMillion => {
-            (LARGE_AREA, LARGE_FILE_SIZE)
-        }
+        Workload::CounterBesideImagesMillion
+        | Workload::CounterAsyncBesideImagesMillion
+        | Workload::CounterAsyncBesideImagesOfEight => (LARGE_AREA, LARGE_FILE_SIZE),
         _ => (AREA, FILE_SIZE),
     }
 }

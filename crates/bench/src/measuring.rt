@@ -44,9 +44,9 @@ impl<C: Clock + Print> Work for Measuring<'_, C> {
     ) -> Result<Log, Trouble> {
         match self.workload {
             Workload::CounterAsync | Workload::OpenFill => self.fill(rt, client, signal),
-            Workload::CounterAsyncBesideImages | Workload::CounterAsyncBesideImagesMillion => {
-                self.pace(rt, client, signal)
-            }
+            Workload::CounterAsyncBesideImages
+            | Workload::CounterAsyncBesideImagesMillion
+            | Workload::CounterAsyncBesideImagesOfEight => self.pace(rt, client, signal),
             _ => self.run(rt, client, signal, thread as u64),
         }
     }
@@ -76,8 +76,7 @@ impl<C: Clock + Print> Measuring<'_, C> {
         signal: &Signal,
         number: u64,
     ) -> Result<Log, Trouble> {
-        let workload = self.workload;
-        let content = Content::of(workload);
+        let content = Content::of(self.workload);
         let mut numbers = Pcg32::new(number, 1);
         let mut log = Log::new(rt.alloc(), Instant::now(self.clock)?);
         for _ in rt.forever() {
@@ -86,7 +85,7 @@ impl<C: Clock + Print> Measuring<'_, C> {
             }
             let call = content.next_call(rt.alloc(), number, &mut numbers, &mut log.put)?;
             let start = log.end;
-            let (reply, _) = keep(rt, client, signal, &SameCall { workload, call })?;
+            let (reply, _) = keep(rt, client, signal, &SameCall::of(content, call))?;
             log.end = Instant::now(self.clock)?;
             self.note(reply, start, &mut log)?;
             self.tell(number, &log)?;
@@ -102,11 +101,7 @@ impl<C: Clock + Print> Measuring<'_, C> {
         client: &mut Client<'_, J>,
         signal: &Signal,
     ) -> Result<Log, Trouble> {
-        let workload = self.workload;
-        let bump = SameCall {
-            workload,
-            call: Call::Bump(1),
-        };
+        let bump = SameCall::of(Content::of(self.workload), Call::Bump(1));
         let mut log = Log::new(rt.alloc(), Instant::now(self.clock)?);
         let mut last = None;
         for _ in rt.forever() {

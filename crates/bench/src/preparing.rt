@@ -8,7 +8,7 @@ use std::alloc::AllocGlobal;
 use std::sync::Wait;
 use store::{Client, Naming};
 
-/// Makes the collection of a workload, with what it holds at the start, and the map beside which
+/// Makes the collection of a workload, with what it holds at the start, and the maps beside which
 /// images are written.
 #[derive(Clone, Copy)]
 pub struct Preparing {
@@ -26,13 +26,16 @@ impl Work for Preparing {
         _thread: usize,
     ) -> Result<(), Refusal> {
         fill(rt, client, signal, Content::of(self.workload))?;
-        match self.workload.imaged() {
-            Some(size) => {
-                let workload = Workload::Map;
-                fill(rt, client, signal, Content { workload, size })
-            }
-            None => Ok(()),
+        let maps = self.workload.maps();
+        for collection in maps.names {
+            let content = Content {
+                workload: Workload::Map,
+                collection,
+                size: maps.size,
+            };
+            fill(rt, client, signal, content)?;
         }
+        Ok(())
     }
 }
 
@@ -43,8 +46,7 @@ fn fill<J: Naming, R: Wait + AllocGlobal>(
     signal: &Signal,
     content: Content,
 ) -> Result<(), Refusal> {
-    let workload = content.workload;
-    let ticket = client.make(rt, workload.collection(), workload.kind())?;
+    let ticket = client.make(rt, content.collection, content.workload.kind())?;
     signal.wake();
     client.wait(rt, &ticket)?;
     commit_all(rt, client, signal, content, u64::from(content.size))

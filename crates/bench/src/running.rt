@@ -53,7 +53,7 @@ fn run_clients<D: Disk + Drop + Send, R: Threads + Wait + Clock + Print + AllocG
         count: options.count,
         window: Window::new(options),
     };
-    if options.workload.imaged().is_none() {
+    if options.workload.maps().names.is_empty() {
         let (logs, closed) = run(rt, disk, &clients, options.threads());
         return Ok((all_logs(rt.alloc(), logs?)?, None, closed.disk));
     }

@@ -30,14 +30,31 @@ pub enum Workload {
     CounterAsyncBesideImages,
     /// The same, with a million values.
     CounterAsyncBesideImagesMillion,
+    /// The same, with the million values in eight maps.
+    CounterAsyncBesideImagesOfEight,
     /// As `CounterAsync`, and then the program ends without closing the store.
     OpenFill,
     /// The store that is there is opened.
     Open,
 }
 
+/// The maps beside which clients run while checkpoints are taken. Where there is none, no
+/// checkpointer runs.
+#[derive(Clone, Copy)]
+pub struct Maps {
+    /// Their names.
+    pub names: &'static [&'static str],
+    /// How many values each has, of 100 bytes.
+    pub size: u32,
+}
+
+// The names of these maps.
+const MAP_NAMES: [&str; 8] = [
+    "map1", "map2", "map3", "map4", "map5", "map6", "map7", "map8",
+];
+
 // Each with the word for it.
-const WORDS: [(Workload, &str); 14] = [
+const WORDS: [(Workload, &str); 15] = [
     (Workload::Counter, "counter"),
     (Workload::JobQueue, "jobqueue"),
     (Workload::JobQueueMillion, "jobqueue-million"),
@@ -58,6 +75,10 @@ const WORDS: [(Workload, &str); 14] = [
     (
         Workload::CounterAsyncBesideImagesMillion,
         "counter-async-beside-images-million",
+    ),
+    (
+        Workload::CounterAsyncBesideImagesOfEight,
+        "counter-async-beside-images-of-eight",
     ),
     (Workload::OpenFill, "openfill"),
     (Workload::Open, "open"),
@@ -85,6 +106,7 @@ impl Workload {
             Workload::CounterBesideImagesMillion => "counter-beside-images-million",
             Workload::CounterAsyncBesideImages => "counter-async-beside-images",
             Workload::CounterAsyncBesideImagesMillion => "counter-async-beside-images-million",
+            Workload::CounterAsyncBesideImagesOfEight => "counter-async-beside-images-of-eight",
             Workload::OpenFill => "openfill",
             Workload::Open => "open",
         }
@@ -120,16 +142,20 @@ impl Workload {
         }
     }
 
-    /// How many entries the map has beside which its clients run while checkpoints are taken; None
-    /// of a workload with no such map, beside which no checkpointer runs.
-    pub fn imaged(self) -> Option<u32> {
-        match self {
-            Workload::CounterBesideImages | Workload::CounterAsyncBesideImages => Some(1000),
+    /// The maps beside which its clients run while checkpoints are taken.
+    pub fn maps(self) -> Maps {
+        let (names, size): (&'static [&'static str], u32) = match self {
+            Workload::CounterBesideImages | Workload::CounterAsyncBesideImages => (
+                &MAP_NAMES[..1],
+                1000,
+            ),
             Workload::CounterBesideImagesMillion | Workload::CounterAsyncBesideImagesMillion => {
-                Some(1_000_000)
+                (&MAP_NAMES[..1], 1_000_000)
             }
-            _ => None,
-        }
+            Workload::CounterAsyncBesideImagesOfEight => (&MAP_NAMES, 125_000),
+            _ => (&[], 0),
+        };
+        Maps { names, size }
     }
 
     /// How many calls a transaction makes.
