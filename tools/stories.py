@@ -183,6 +183,16 @@ class Store:
         self.pending = [[]]
         self.device_calls = reads
 
+    def reopen(self):
+        """Opens the store anew: what has not ended is undone."""
+        for client in list(self.clients.values()):
+            if client.number is not None:
+                self.abort(client)
+        self.clients = {}
+        self.places = self.mark = 0
+        self.shown = [self.beside.shown()]
+        self.pending = [[]]
+
     # What waits for the disk is a list of places for each row of records between two images.
     def note(self, count=1):
         self.pending[-1].extend([self.places] * count)
