@@ -13,11 +13,13 @@ to the end of the script. At each of them a child of the program goes on without
   answers them alone. Opened with ample memory, the store must show a beginning of what they committed, which holds what
   was told as kept.
 
-Six short scripts are played, or those that are named: one for each kind, and one over two checkpoints. Behind each of
-its lines a script reads each collection back, in the same session. So a call that was refused and has changed something
-all the same shows there, also where the call that is run once more answers as ever and nothing of it is on the disk.
-Each script is run on an empty store, and then the store that it left is opened and read. What a run with ample memory
-answers on the empty store is compared with the model of tools/stories.py.
+All scripts are played, or those that are named. Six are of this tool: one for each kind, and one over two checkpoints.
+Behind each of its lines such a script reads each collection back, in the same session. So a call that was refused and
+has changed something all the same shows there, also where the call that is run once more answers as ever and nothing
+of it is on the disk. It is run on an empty store, and then the store that it left is opened and read. Eleven are those
+that are failed and stopped at each call of the disk (`sweeps`, tools/sweeps.py): six by name, and five generated
+stories, two of which have images of two blocks. What a run with ample memory answers is compared with the model of
+tools/stories.py.
 
 As many children go side by side as the process may use processors; `taskset -c 0,1 tools/refusals.py` runs it on two.
 It prints for each script, and for each store that was opened, how many allocations were refused. It ends at the first
@@ -64,6 +66,13 @@ DONE = {
                               "call p draw", "later n bump 70", "commit", "turn", "checkpoint", "kept",
                               "call s remove 1", "call q take", "abort"]),
 }
+# What a full area answers, of which the model knows nothing, by the numbers of lines.
+FULL = {"room": {160: "refused 18 Full", 161: "not yet", 164: "kept 4"}}
+
+# The stories of the generator, by their seeds.
+STORIES = {f"story_{seed}": (stories.EMPTY, stories.story(seed, 40)) for seed in (5, 6, 8)}
+STORIES |= {f"story_{seed}": (stories.wide(), stories.story(seed, 20)) for seed in (25, 38)}
+
 LIBRARY = r"""
 #define _GNU_SOURCE
 #include <fcntl.h>
@@ -200,17 +209,17 @@ def script_of(names, done):
     return lines + ["turn", "turn"]
 
 
-def asked(setup, script):
-    """The case: a setup, and a script, allocations of which are refused."""
+def asked(ground, setup, script):
+    """The case: what makes its ground, a setup, and a script, allocations of which are refused."""
     before, scripted = ([f"| {line}" for line in lines] for lines in (setup, script))
     looked = ["show", "read 0 520", "read 4096 8192", "read 69632 8192"]
-    return ["@ refusals", *before, "play_shared", *scripted, "play_shared", *looked]
+    return ["@ refusals", *ground.lines, *before, "play_shared", *scripted, "play_shared", *looked]
 
 
-def run(library, setup, script, is_rest):
+def run(library, sweep, is_rest):
     """What the program prints with ample memory, and what each of its children does."""
     with tempfile.TemporaryDirectory() as folder:
-        for name, lines in (("index", ["case"]), ("case", asked(setup, script))):
+        for name, lines in (("index", ["case"]), ("case", asked(sweep.ground, sweep.setup, sweep.script))):
             with open(os.path.join(folder, name), "w", encoding="utf-8") as file:
                 file.write("".join(line + "\n" for line in lines))
         environment = {"LD_PRELOAD": library, "REFUSE_SIDE": str(SIDE), **({"REFUSE_REST": "1"} if is_rest else {})}
@@ -278,7 +287,9 @@ class Rest:
         self.may_fall = False
 
     def is_left_out(self, line, answer):
-        """Whether a line was refused for want of memory, or since an abort before it was."""
+        """Whether a line was refused for want of memory, or since an abort was before it, or a turn in a full area."""
+        if line == "turn" and answer == "refused 18 Full":
+            return True
         if answer == "refused 4 NoMemory":
             self.may_fall |= line.endswith(" abort")
             return True
@@ -297,7 +308,8 @@ class Rest:
         """Plays a line that was answered so."""
         if self.is_left_out(line, answer):
             return
-        is_right = self.keep(answer) if line in ("turn", "checkpoint") else self.store.line(line) == answer
+        is_kept = line in ("turn", "checkpoint")
+        is_right = self.keep(answer) if is_kept else stories.brief(self.store.line(line)) == answer
         if not is_right:
             raise Unlike(f"{line}: {answer}")
 
@@ -318,7 +330,7 @@ def check_rest(sweep, ordinary, child):
     rest = Rest(sweep.model())
     for number, line in enumerate(sweep.script, 1):
         rest.play(line, answers.get(str(number), "nothing"))
-    if content(shown) not in rest.store.shown[rest.store.mark : rest.store.places + 1]:
+    if content(shown) not in map(sweep.as_printed, rest.store.shown[rest.store.mark : rest.store.places + 1]):
         raise Unlike(brief(child))
 
 
@@ -326,17 +338,23 @@ class Sweep:
     """A script behind a setup, each of whose allocations is refused in one of the two ways. The answers are those of
     the model, and the contents what is shown after each place."""
 
-    def __init__(self, name, setup, script):
-        self.name, self.setup, self.script = name, setup, script
+    def __init__(self, name, setup, script, ground=stories.EMPTY):
+        self.name, self.setup, self.script, self.ground = name, setup, script, ground
         model = self.model()
-        self.answers = [f"{number}: {model.line(line)}" for number, line in enumerate(script, 1)]
-        self.contents = model.shown
+        full = FULL.get(name, {})
+        answers = [full.get(number, model.line(line)) for number, line in enumerate(script, 1)]
+        self.answers = [stories.brief(f"{number}: {answer}") for number, answer in enumerate(answers, 1)]
+        self.contents = [self.as_printed(text) for text in model.shown]
 
     def model(self):
         """A store of the model, as it is before the script: the one that the setup left was opened again."""
-        store, _ = stories.played(stories.EMPTY, self.setup)
+        store, _ = stories.played(self.ground, self.setup)
         store.reopen()
         return store
+
+    def as_printed(self, shown):
+        """What is shown, with the ground, as the program prints it: long runs of one character are cut short."""
+        return "".join(stories.brief(line) + "\n" for line in (self.ground.shown + shown).splitlines())
 
     def check(self, ordinary, child, is_rest):
         if is_rest:
@@ -346,7 +364,7 @@ class Sweep:
 
     def counts(self, library, is_rest):
         """Counts the allocations that were refused, those of the program itself, and the lines that were refused."""
-        ordinary, children = run(library, self.setup, self.script, is_rest)
+        ordinary, children = run(library, self, is_rest)
         if parts(ordinary)[:2] != ("= 0", self.answers):
             raise Unlike(f"{self.name}: with ample memory:\n{brief(ordinary)}")
         own = [is_of_the_program(child) for child in children]
@@ -360,7 +378,12 @@ class Sweep:
 
 
 def sweeps_of(name):
-    """The script of this name on an empty store, and the store that it left, which is opened and read."""
+    """The script of this name on an empty store. Behind one of DONE the store that it left is opened and read too."""
+    if name in stories.SWEPT:
+        return [Sweep(name, [], list(stories.expanded(stories.SWEPT[name])))]
+    if name in STORIES:
+        ground, script = STORIES[name]
+        return [Sweep(name, [], script, ground)]
     names, done = DONE[name]
     script = script_of(names, done)
     again = ["c9 make counter y", "turn", "c1 begin", *read_back(names)]
@@ -368,7 +391,7 @@ def sweeps_of(name):
 
 
 def main():
-    names = sys.argv[1:] or list(DONE)
+    names = sys.argv[1:] or [*DONE, *stories.SWEPT, *STORIES]
     with tempfile.TemporaryDirectory() as folder:
         library = compiled(folder)
         for sweep in [sweep for name in names for sweep in sweeps_of(name)]:
