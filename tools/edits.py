@@ -60,7 +60,8 @@ def edits(rt, crate, words, room):
         if words and not any(word in name for word in words):
             continue
         over = f"{room}/{name}"
-        rt.linked(f"{crate.folder}/out/incremental", over)
+        # (links: a check writes a new file for each module that it makes)
+        shutil.copytree(f"{crate.folder}/out/incremental", over, copy_function=os.link)
         began, before = time.time(), used()
         _, said = rt.must_fail(crate, edit, ["--jobs", "1"], over)
         ended = time.time()

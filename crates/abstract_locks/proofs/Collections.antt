@@ -5,8 +5,7 @@ use Rattle.std.proofs.Common.{arith, Result, Ok, Err, IfErr}
 use Rattle.std.specs.List.{All, Contains, range_with_len}
 use Rattle.std.proofs.lemmas.Bool.{cases_lt, cases_eq}
 use Rattle.std.proofs.lemmas.List.{get_or_past, get_or_default, get_or-set_same}
-use Rattle.std.proofs.lemmas.List.{get_or-set_other, set-get_or, append-nil}
-use Rattle.std.proofs.lemmas.List.Concat.{flat_map-append}
+use Rattle.std.proofs.lemmas.List.{get_or-set_other, set-get_or}
 use Rattle.std.proofs.lemmas.List.Elements.{All-weaker, All-contains, All-contains_itself, All-nil}
 use Rattle.std.proofs.lemmas.List.Elements.{Contains-append_left, Contains-append_right}
 use Rattle.std.proofs.lemmas.List.Elements.{Contains-append_cases}
@@ -119,9 +118,6 @@ own_place cs own h there =
     in
     subst (λ at. Contains (held_on cs at).holds h) (sym is) found.1
 
-pub nothing_own : (at : ℕ) → All (λ (h : Hold). h.at ≡ at) (held_on [] at).holds
-nothing_own at = All-nil (λ (h : Hold). h.at ≡ at)
-
 pub own_set : (cs : List Claimed) → AreOnTheirOwn cs → (i : ℕ) (c : Claimed) → i < length cs →
     All (λ (h : Hold). h.at ≡ i) c.holds → AreOnTheirOwn (set cs i c)
 own_set cs own i c lt all at =
@@ -130,10 +126,6 @@ own_set cs own i c lt all at =
     subst (λ k. All (λ (h : Hold). h.at ≡ k) (held_on (set cs i c) k).holds) (sym same)
     (rw (get_or-set_same cs i c nothing lt) all))
     (λ other. rw (get_or-set_other cs i at c nothing other) (own at)) (cases_eq at i)
-
-pub own_alike : (xs ys : List Claimed) → AreAlike xs ys → AreOnTheirOwn xs → AreOnTheirOwn ys
-own_alike xs ys alike own at =
-    subst (λ (c : Claimed). All (λ h. h.at ≡ at) c.holds) (sym (alike.each at)) (own at)
 
 -- ---- a need that is asked for
 
@@ -175,25 +167,6 @@ module _ (cs : List Claimed) (own : AreOnTheirOwn cs) (owner at : ℕ) (need : N
   pub clear_past : length cs ≤ at → IsClear (all_held cs) owner at need
   clear_past le = clear_of_all (rw (get_or_past cs at nothing le)
       (All-nil (λ h. Blocks owner at need h → ⊥)))
-
--- ---- a place is made
-
-pub alike_refl : (cs : List Claimed) → AreAlike cs cs
-alike_refl cs = record { all = refl; each = λ at. refl }
-
-held_push : (cs : List Claimed) (at : ℕ) → held_on (cs ++ nothing ∷ []) at ≡ held_on cs at
-held_push [] zero = refl
-held_push [] (suc at) = refl
-held_push (c ∷ cs) zero = refl
-held_push (c ∷ cs) (suc at) = held_push cs at
-
--- one place more changes nothing
-pub alike_push : (xs ys : List Claimed) → AreAlike xs ys → AreAlike xs (ys ++ nothing ∷ [])
-alike_push xs ys alike = record {
-  all = flat_map-append (λ (c : Claimed). c.holds) ys (nothing ∷ []) ∙ append-nil (all_held ys)
-      ∙ alike.all;
-  each = λ at. held_push ys at ∙ alike.each at;
-}
 
 -- one collection gets room
 pub all_set : (cs : List Claimed) (i : ℕ) (c : Claimed) →

@@ -1,10 +1,7 @@
 pub mod Members
-pub mod Blockers
-pub mod Places
-pub mod Reaching
-pub mod Halving
-pub mod Putting
-pub mod Roomier
+pub mod Covering
+pub mod Blocking
 pub mod Granting
-pub mod Collections
+pub mod Splitting
 pub mod Leaving
+pub mod Collections

@@ -8,6 +8,7 @@ use Rattle.std.proofs.lemmas.List.Elements.{Contains-append_left, Contains-appen
 use Rattle.std.proofs.lemmas.List.Elements.{Contains-append_cases}
 use Rattle.abstract_locks.specs.declared.table.Hold.{Hold}
 use Rattle.abstract_locks.specs.Holds.{IsAdded, IsGivenUp}
+use Rattle.abstract_locks.specs.Segments.{all_holds, AreGivenUp}
 
 module _ {X : Type 0} where
   only : (x y : X) → Contains (x ∷ []) y → x ≡ y
@@ -55,21 +56,6 @@ module _ {X : Type 0} where
         (Contains-append_right (x ∷ []) xs y rest.0, rest.1))
         (split (p x) x y (filter p xs) h)
 
--- a hold that is put to the end
-pub pushed_is_added : (holds : List Hold) (h : Hold) → IsAdded holds (holds ++ h ∷ []) h
-pushed_is_added holds h x = (
-  λ inside. ⊎_elim (λ old. inl old) (λ same. inr (sym same)) (Contains-push_cases holds h x inside),
-  λ either. ⊎_elim (λ old. Contains-append_left holds (h ∷ []) x old)
-      (λ same. subst (Contains (holds ++ h ∷ [])) (sym same) (Contains-push holds h)) either,
-)
-
--- a hold that was there
-pub present_is_added : (holds : List Hold) (h : Hold) → Contains holds h → IsAdded holds holds h
-present_is_added holds h there x = (
-  λ inside. inl inside,
-  λ either. ⊎_elim (λ old. old) (λ same. subst (Contains holds) (sym same) there) either,
-)
-
 -- a hold that is put at a place
 pub inserted_is_added : (holds : List Hold) (i : ℕ) (h : Hold) → IsAdded holds (insert holds i h) h
 inserted_is_added holds i h x =
@@ -98,6 +84,32 @@ test_says a b e same = grind arith
 
 pub says_test : (a b : ℕ) → a ≢ b → not (a == b) ≡ true
 says_test a b n = grind arith
+
+module _ (owner : ℕ) where
+  given_up_nothing : IsGivenUp [] [] owner
+  given_up_nothing h =
+      (λ inside. let lt = inside.1 in absurd (omega arith), λ both. both.0)
+
+  given_up_both : (xs ys zs ws : List Hold) → IsGivenUp xs ys owner → IsGivenUp zs ws owner →
+      IsGivenUp (xs ++ zs) (ys ++ ws) owner
+  given_up_both xs ys zs ws one other h = (
+    λ inside. ⊎_elim
+        (λ a. let both = (one h).0 a in (Contains-append_left xs zs h both.0, both.1))
+        (λ b. let both = (other h).0 b in (Contains-append_right xs zs h both.0, both.1))
+        (Contains-append_cases ys ws h inside),
+    λ both. ⊎_elim (λ a. Contains-append_left ys ws h ((one h).1 (a, both.1)))
+        (λ b. Contains-append_right ys ws h ((other h).1 (b, both.1)))
+        (Contains-append_cases xs zs h both.0),
+  )
+
+  -- what is given up in each segment is in all
+  pub all_given_up : (xs ys : List (List Hold)) → AreGivenUp owner xs ys →
+      IsGivenUp (all_holds xs) (all_holds ys) owner
+  all_given_up [] [] each = given_up_nothing
+  all_given_up [] (y ∷ ys) each = absurd each
+  all_given_up (x ∷ xs) [] each = absurd each
+  all_given_up (x ∷ xs) (y ∷ ys) each =
+      given_up_both x y (all_holds xs) (all_holds ys) each.0 (all_given_up xs ys each.1)
 
 -- the holds of others are what is left of all
 pub filtered_is_given_up : (owner : ℕ) (old new : List Hold) →

@@ -1,4 +1,4 @@
--- What one owner holds, or what is held on one collection, as contracts see it.
+-- What is held on one collection, as contracts see it.
 use Rattle.std.specs.Prelude.{ℕ, List, []}
 use Rattle.abstract_locks.specs.declared.table.Hold.{Hold}
 

@@ -1,5 +1,5 @@
 pub mod Holds
+pub mod Bounds
 pub mod Claimed
-pub mod Claims
-pub mod Holders
+pub mod Segments
 pub mod Collections

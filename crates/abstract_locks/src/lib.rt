@@ -1,8 +1,9 @@
 //! The needs that live transactions hold, and which other owner stands in the way of a need.
 #![tactic(auto)]
 
-mod claims;
+mod bounds;
 mod needs;
+mod segment;
 mod table;
 
 pub use table::NeedTable;

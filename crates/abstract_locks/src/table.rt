@@ -1,11 +1,10 @@
 // The table of needs: what each owner holds on each collection.
-ghost use Rattle.std.specs.Prelude.{◌≡◌, ◌<◌, [], length, IsOk, IsOkUnless, IfErr, OnOk, OnErr};
-ghost use Rattle.abstract_locks.specs.Claims.{first, last};
+ghost use Rattle.std.specs.Prelude.{◌≡◌, ◌<◌, ◌↔◌, [], length, IsTrue, IsOk, IsOkUnless, IfErr};
+ghost use Rattle.std.specs.Prelude.{OnOk, OnErr};
 ghost use Rattle.abstract_locks.specs.Collections.{AreAlike, AreLeft};
-ghost use Rattle.abstract_locks.specs.Holds.{hold, IsClear, IsBusyRefusal};
+ghost use Rattle.abstract_locks.specs.Holds.{hold, Blocks, IsClear, IsBusyRefusal};
 ghost use Rattle.abstract_locks.specs.Holds.{IsAskRefusal, HasRoom, KeepsRoom, IsAdded, IsGivenUp};
 
-use crate::claims::place;
 use crate::needs::Needs;
 use calls::{Need, Refusal};
 use std::alloc::Global;
@@ -14,44 +13,48 @@ use std::marker::Model;
 /// A need that a transaction holds on a collection.
 #[derive(Clone, Copy, PartialEq, Eq)]
 pub struct Hold {
-    owner: u64,
-    at: u8,
-    need: Need,
+    pub owner: u64,
+    pub at: u8,
+    pub need: Need,
 }
 
 impl Hold {
-    /// Who holds it.
-    pub fn owner(&self) -> u64
-        ensures { result ≡ self.now.owner }
-    {
-        self.owner
+    /// What the holds on a collection are ordered by: the lowest key, then the owner and the rest.
+    pub fn key(&self) -> (u64, u64, u64, u8) {
+        (
+            self.need.low,
+            self.owner,
+            self.need.high,
+            self.need.mode as u8,
+        )
     }
 
-    /// The place of the lowest key.
-    pub fn first(&self) -> u128
-        ensures { result ≡ first self.now }
+    /// Whether it keeps the need on the collection from the owner.
+    pub fn blocks(&self, owner: u64, at: u8, need: &Need) -> bool
+        ensures { IsTrue result ↔ Blocks owner at need.now self.now }
     {
-        place(self.at, self.need.mode, self.need.low)
-    }
-
-    /// The place of the highest key.
-    pub fn last(&self) -> u128
-        ensures { result ≡ last self.now }
-    {
-        place(self.at, self.need.mode, self.need.high)
+        self.owner != owner && self.at == at && self.need.conflicts(need)
     }
 }
 
 /// The needs that live transactions hold. Contracts see the holds, and for how many more there is
 /// room.
 ///
-/// Each collection has a list of its own, and in it each owner has one. So what is held on other
-/// collections costs a call nothing, but for `give_up`. What is held on its own collection costs
-/// it a look at each owner, and the steps of a halving.
-#[derive(Drop)]
+/// Each collection has a list of its own, which all owners share, in segments of some 100 holds. So
+/// what is held on other collections costs a call nothing, but for a look at each by `give_up`.
+/// What is held on its own collection costs it a look at each segment, and at the holds of those
+/// where there may be what it looks for.
 pub struct NeedTable {
     // by the number of the collection, up to the greatest that room was asked for
     collections: Vec<Needs>,
+}
+
+// Written out, so that the crates above call it in place of proving it again.
+impl Drop for NeedTable {
+    fn drop(self) {
+        let Self { collections } = self;
+        drop(collections);
+    }
 }
 
 impl Model for NeedTable {
@@ -96,9 +99,9 @@ impl NeedTable {
     }
 
     /// Lets the owner hold the need on the collection, beside what is held, where the need is free
-    /// and room is reserved. It tests neither, and takes no memory. The owner is looked for among
-    /// those of the collection, and its own holds there that stand behind the new one move; a hold
-    /// that it has already is not kept twice.
+    /// and room is reserved. It tests neither, and takes no memory. Two halvings; the holds behind
+    /// it in its segment move, and a segment that is full is split. A hold that the owner has
+    /// already is not kept twice.
     pub fn grant(&mut self, owner: u64, col: u8, need: Need)
         requires room { HasRoom self.old col }
         requires clear { IsClear self.old.holds owner col need }
@@ -113,7 +116,8 @@ impl NeedTable {
     }
 
     /// Whether `ask` would find the need free: Busy as there, and no other refusal. It takes no
-    /// memory. Two or three halvings of what each other owner holds on the collection.
+    /// memory. A look at the bounds of each segment on the collection, and at the holds of those in
+    /// which one may be in the way; one look in all where none has a mode that conflicts.
     pub fn test(&self, owner: u64, col: u8, need: &Need) -> Result<(), Refusal>
         ensures clear { OnOk result (IsClear self.now.holds owner col need.now) }
         ensures busy { IfErr result (IsBusyRefusal self.now.holds owner col need.now) }
@@ -125,10 +129,9 @@ impl NeedTable {
     }
 
     /// Makes room for one more hold on the collection. NoMemory, which leaves the table as it was,
-    /// only where no room was reserved for the collection. One look at each owner on the
-    /// collection: each gets room, since any may be the next. Where one had none its holds there
-    /// move. The first for a collection makes a place for it and for those of lesser numbers, 256
-    /// at most.
+    /// only where no room was reserved for the collection. It takes memory for a segment where the
+    /// spare one was used, and its list of segments moves where that is full. The first for a
+    /// collection makes a place for it and for those of lesser numbers, 256 at most.
     pub fn reserve(&mut self, col: u8) -> Result<(), Refusal>
         ensures room { OnOk result (HasRoom self.new col) }
         ensures rooms { KeepsRoom self.old self.new }
@@ -143,7 +146,8 @@ impl NeedTable {
     }
 
     /// Takes all holds of the owner out of the table. Reserved room stays. It takes no memory. One
-    /// look at each owner on each collection that has a place; the lists of this one are let go.
+    /// look at each collection that has a place; where the owner may have a hold, one at each
+    /// segment, and at the holds of those in which it may have one.
     pub fn give_up(&mut self, owner: u64)
         ensures holds { IsGivenUp self.old.holds self.new.holds owner }
         ensures rooms { KeepsRoom self.old self.new }

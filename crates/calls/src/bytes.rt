@@ -1,13 +1,21 @@
 // A value of a map.
-ghost use Rattle.std.specs.Prelude.{◌≡◌, ◌↔◌, IsTrue, IfOk};
+ghost use Rattle.std.specs.Prelude.{◌≡◌, ◌↔◌, IsTrue};
 
 use std::alloc::AllocError;
 use std::marker::Model;
 
 /// A value of a map: a list of bytes. Contracts see the list.
-#[derive(Drop, Debug)]
+#[derive(Debug)]
 pub struct Bytes {
     items: Vec<u8>,
+}
+
+// Written out, so that the crates above call it in place of proving it again.
+impl Drop for Bytes {
+    fn drop(self) {
+        let Self { items } = self;
+        drop(items);
+    }
 }
 
 impl Model for Bytes {
@@ -33,15 +41,6 @@ impl Bytes {
         self.as_slice() == other.as_slice()
     }
 
-    /// The same bytes once more. Refused only for want of memory.
-    pub fn copy(&self) -> Result<Self, AllocError>
-        ensures { IfOk result (λ bytes. bytes ≡ self.now) }
-    {
-        Ok(Self {
-            items: self.items.clone()?,
-        })
-    }
-
     /// The bytes.
     pub fn as_slice(&self) -> &[u8]
         ensures { result.now ≡ self.now }
@@ -55,5 +54,18 @@ impl Bytes {
     {
         let Self { items } = self;
         items
+    }
+}
+
+/// The same bytes once more. Refused only for want of memory.
+impl Clone for Bytes {
+    ghost use Rattle.std.specs.Prelude.{◌≡◌};
+
+    ghost is_clone = { λ bytes copy. copy ≡ bytes };
+
+    fn clone(&self) -> Result<Self, AllocError> {
+        Ok(Self {
+            items: self.items.clone()?,
+        })
     }
 }

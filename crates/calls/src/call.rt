@@ -95,7 +95,7 @@ impl Call {
             Call::SetAdd(x) => Ok(Call::SetAdd(*x)),
             Call::SetRemove(x) => Ok(Call::SetRemove(*x)),
             Call::Get(key) => Ok(Call::Get(*key)),
-            Call::Put(key, value) => Ok(Call::Put(*key, value.copy()?)),
+            Call::Put(key, value) => Ok(Call::Put(*key, value.clone()?)),
             Call::MapRemove(key) => Ok(Call::MapRemove(*key)),
             Call::Ceiling(key) => Ok(Call::Ceiling(*key)),
             Call::QueueAdd(priority, tag) => Ok(Call::QueueAdd(*priority, *tag)),

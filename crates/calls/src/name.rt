@@ -6,9 +6,17 @@ use std::marker::Model;
 
 /// The name of a collection. Contracts see the list of its bytes. Whether it is a good name says
 /// `check_name`.
-#[derive(Drop, Debug)]
+#[derive(Debug)]
 pub struct Name {
     text: String,
+}
+
+// Written out, so that the crates above call it in place of proving it again.
+impl Drop for Name {
+    fn drop(self) {
+        let Self { text } = self;
+        drop(text);
+    }
 }
 
 impl Model for Name {

@@ -94,7 +94,7 @@ impl Call {
         ensures refusal { IsOkUnless result Refusal.NoMemory }
     {
         match self.taken_entry(reply) {
-            Some((key, old)) => Ok(Some(Call::Put(key, old.copy()?))),
+            Some((key, old)) => Ok(Some(Call::Put(key, old.clone()?))),
             None => Ok(self.plain_inverse(reply)),
         }
     }
@@ -108,7 +108,7 @@ impl Call {
         match (self, reply) {
             (Call::SetAdd(_) | Call::SetRemove(_), Reply::Yes) => Ok(Reply::Yes),
             (Call::Put(_, value), Reply::Nothing | Reply::Value(_)) => {
-                Ok(Reply::Value(value.copy()?))
+                Ok(Reply::Value(value.clone()?))
             }
             (Call::MapRemove(_), Reply::Value(_)) => Ok(Reply::Nothing),
             _ => Ok(Reply::Done),

@@ -55,14 +55,13 @@ impl Holding {
         }
     }
 
-    // The same once more. NoMemory alone is refused.
-    pub(crate) fn copy(&self, alloc: Global) -> Result<Self, Refusal>
-        ensures ok { IfOk result (λ copy. content_of copy ≡ content_of self.now) }
-        ensures refusal { IsOkUnless result Refusal.NoMemory }
+    // The same once more. Refused only for want of memory.
+    pub(crate) fn copy(&self) -> Result<Self, AllocError>
+        ensures { IfOk result (λ copy. content_of copy ≡ content_of self.now) }
     {
         match self {
             Holding::Set(set) => Ok(Holding::Set(set.copy()?)),
-            Holding::Map(map) => Ok(Holding::Map(map.copy(alloc)?)),
+            Holding::Map(map) => Ok(Holding::Map(map.copy()?)),
             Holding::Queue(queue) => Ok(Holding::Queue(queue.copy()?)),
             Holding::Counter(counter) => Ok(Holding::Counter(counter.copy())),
             Holding::Pool(pool) => Ok(Holding::Pool(pool.copy()?)),
@@ -147,7 +146,7 @@ fn entries_of(map: &MapCol, alloc: Global) -> Result<Vec<Item>, AllocError>
 {
     let mut items = Vec::new(alloc);
     for (key, value) in map.iter() {
-        items.push(Item::Entry(*key, value.copy()?))?;
+        items.push(Item::Entry(*key, value.clone()?))?;
     }
     Ok(items)
 }

@@ -38,10 +38,18 @@ pub trait Part: Drop {
 }
 
 /// A collection of any kind, with its name. Contracts see what it holds.
-#[derive(Drop)]
 pub struct NamedHolding {
     name: String,
     holding: Holding,
+}
+
+// Written out, so that the crates above call it in place of proving it again.
+impl Drop for NamedHolding {
+    fn drop(self) {
+        let Self { name, holding } = self;
+        drop(name);
+        drop(holding);
+    }
 }
 
 impl Model for NamedHolding {
@@ -71,7 +79,7 @@ impl NamedHolding {
         ensures refusal { IsOkUnless result Refusal.NoMemory }
     {
         let text = name.clone()?;
-        let holding = holding.copy(*name.allocator())?;
+        let holding = holding.copy()?;
         Ok(Self {
             name: text,
             holding,

@@ -2,9 +2,13 @@
 use Rattle.std.proofs.Common.{◌≡◌, ◌∙◌, sym, [], ◌∷◌, None, List, ℕ, Bool, false, length, subst}
 use Rattle.std.proofs.Common.{Option, Some}
 use Rattle.std.proofs.Common.{OnOk, Result, Ok, Err, inr}
+use Rattle.std.proofs.Common.{inl, refl}
+use Rattle.disk_model.specs.Disk.{LeavesOnly}
+use Rattle.disk_model.proofs.Walk.{started}
 use Rattle.calls.specs.declared.refusal.Refusal.{Refusal}
-use Rattle.gate_block.specs.Row.{SameOutside}
-use Rattle.gate_block.specs.Area.{base_of, size_of}
+use Rattle.gate_block.specs.Row.{SameOutside, IsRow}
+use Rattle.gate_block.specs.declared.area.Area.{Area}
+use Rattle.gate_block.specs.Area.{base_of, size_of, IsReady, LeavesBlocks}
 use Rattle.blocks.specs.declared.block.Block.{Block}
 use Rattle.checkpoint.specs.declared.turn.Turn.{Turn}
 use Rattle.checkpoint.specs.declared.laying.Laying.{Laying}
@@ -49,6 +53,19 @@ appended b mark next is_covered is_past is_full is_same is_risen (Ok Turn.Idle) 
     near a = absurd a
 appended b mark next is_covered is_past is_full is_same is_risen (Err e) held failed fresh near a =
     (fresh, near, a)
+
+-- nothing was asked of the disk
+pub unmoved : {D : Type 0} (seen : D → List ℕ) (may_leave : D → List ℕ → Type 0) (moment : D → ℕ)
+    (left_since : D → ℕ → List ℕ → Type 0) (disk : D)
+    → ((c : List ℕ) → left_since disk (moment disk) c → may_leave disk c) → (area : Area)
+    (bodies : List (List ℕ)) (body : List ℕ) → IsReady seen may_leave area disk bodies →
+    LeavesOnly moment left_since disk disk (LeavesBlocks (may_leave disk) area bodies body)
+unmoved seen may_leave moment left_since disk only_now area bodies body ready =
+    started moment left_since disk (LeavesBlocks (may_leave disk) area bodies body)
+    (λ c left. let now = only_now c left in record {
+      blocks = inl (subst (λ l. IsRow bodies l) (sym (ready.at_rest c now)) ready.holds);
+      elsewhere = (c, now, record { before = refl; after = refl; same_size = refl });
+    })
 
 -- where an append that was answered well has led to P, so has one that kept a block
 pub kept_of : (P : Type 0) (r : Result Turn Refusal) → OnOk r P → OnKept r P

@@ -14,6 +14,7 @@ ghost use Rattle.clients.specs.Calls.{Aborts};
 ghost use Rattle.clients.specs.Calls.{ended_by, placed, back, backs, Loads, Hears, Waits};
 
 use crate::desk::Desk;
+use crate::desk_lock::DeskLock;
 use crate::naming::Naming;
 use crate::phase::Phase;
 use crate::seen::Seen;
@@ -23,12 +24,12 @@ use calls::{Call, Kind, Refusal, Reply};
 use crossbeam_utils::Backoff;
 use group_commit::{ClientSeat, Drawer, Watcher};
 use std::marker::Model;
-use std::sync::{Mutex, Wait};
+use std::sync::Wait;
 
 /// A client of a store, which one thread has at a time. It has one transaction, or none. Contracts
 /// see what it knows.
 pub struct Client<'s, J: Naming> {
-    desk: &'s Mutex<Desk<J>>,
+    desk: &'s DeskLock<J>,
     shared: &'s Shared<J>,
     line: ClientSeat,
     watcher: Watcher,
@@ -67,7 +68,7 @@ impl<'s, J: Naming> Model for Client<'s, J> {
 impl<'s, J: Naming> Client<'s, J> {
     /// A client with no transaction, of seats that were just made: `Store::client` makes it.
     pub fn new(
-        desk: &'s Mutex<Desk<J>>,
+        desk: &'s DeskLock<J>,
         shared: &'s Shared<J>,
         line: ClientSeat,
         watcher: Watcher,

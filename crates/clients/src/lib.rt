@@ -8,6 +8,7 @@
 
 mod client;
 mod desk;
+mod desk_lock;
 mod naming;
 mod phase;
 mod seen;
@@ -16,6 +17,7 @@ mod ticket;
 
 pub use client::Client;
 pub use desk::{Desk, note_alone};
+pub use desk_lock::DeskLock;
 pub use naming::Naming;
 pub use phase::Phase;
 pub use seen::Seen;

@@ -4,4 +4,3 @@ pub mod Tables
 pub mod Sifts
 pub mod Holders
 pub mod Items
-mod Copies

@@ -16,9 +16,16 @@ use std::collections::btree_map::Iter;
 use std::marker::Model;
 
 /// A map from numbers to bytes. Contracts see the map.
-#[derive(Drop)]
 pub struct MapCol {
     values: BTreeMap<u64, Bytes>,
+}
+
+// Written out, so that the crates above call it in place of proving it again.
+impl Drop for MapCol {
+    fn drop(self) {
+        let Self { values } = self;
+        drop(values);
+    }
 }
 
 impl Model for MapCol {
@@ -54,16 +61,13 @@ impl MapCol {
     }
 
     /// The same map once more. Refused only for want of memory. Its cost is a copy of each value,
-    /// and a search for its place.
-    pub fn copy(&self, alloc: Global) -> Result<Self, Refusal>
-        ensures ok { IfOk result (λ copy. copy ≡ self.now) }
-        ensures refusal { IsOkUnless result Refusal.NoMemory }
+    /// and linear in the number of keys.
+    pub fn copy(&self) -> Result<Self, AllocError>
+        ensures { IfOk result (λ map. map ≡ self.now) }
     {
-        let mut copy = Self::new(alloc);
-        for (key, value) in self.iter() {
-            copy.put(*key, value.copy()?)?;
-        }
-        Ok(copy)
+        Ok(Self {
+            values: self.values.clone()?,
+        })
     }
 
     // The value at the key.
@@ -78,7 +82,7 @@ impl MapCol {
         ensures { IfOk result (λ reply. Answers self.now (Call.Get key) reply) }
     {
         match self.get(key) {
-            Some(value) => Ok(Reply::Value(value.copy()?)),
+            Some(value) => Ok(Reply::Value(value.clone()?)),
             None => Ok(Reply::Nothing),
         }
     }
@@ -99,7 +103,7 @@ impl MapCol {
         ensures { IfOk result (λ reply. Answers self.now (Call.Ceiling key) reply) }
     {
         match self.ceiling(key) {
-            Some((at, value)) => Ok(Reply::Entry(at, value.copy()?)),
+            Some((at, value)) => Ok(Reply::Entry(at, value.clone()?)),
             None => Ok(Reply::Nothing),
         }
     }
@@ -194,7 +198,7 @@ impl MapCol {
     {
         match (call, reply) {
             (Call::Put(key, value), _) => {
-                self.values.insert(*key, value.copy()?)?;
+                self.values.insert(*key, value.clone()?)?;
                 Ok(())
             }
             (Call::MapRemove(key), Reply::Value(_)) => {

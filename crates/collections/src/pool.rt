@@ -14,9 +14,16 @@ use std::collections::btree_set::Iter;
 use std::marker::Model;
 
 /// A pool of identifiers. Contracts see the set of those that are taken.
-#[derive(Drop)]
 pub struct PoolCol {
     taken: BTreeSet<u64>,
+}
+
+// Written out, so that the crates above call it in place of proving it again.
+impl Drop for PoolCol {
+    fn drop(self) {
+        let Self { taken } = self;
+        drop(taken);
+    }
 }
 
 impl Model for PoolCol {

@@ -14,12 +14,22 @@ use std::marker::Model;
 
 /// A queue of pairs of a priority and a tag, each as often as it was put there. Contracts see the
 /// multiset.
-#[derive(Drop)]
 pub struct QueueCol {
     // A heap, the least pair at the root. The root is not marked.
     holders: Vec<Holder>,
     // How many are marked, as they were plucked: never more than are not.
     marked: usize,
+}
+
+// Written out, so that the crates above call it in place of proving it again.
+impl Drop for QueueCol {
+    fn drop(self) {
+        let Self {
+            holders,
+            marked: _marked,
+        } = self;
+        drop(holders);
+    }
 }
 
 impl Model for QueueCol {

@@ -14,9 +14,16 @@ use std::collections::btree_set::Iter;
 use std::marker::Model;
 
 /// A set of numbers. Contracts see the set.
-#[derive(Drop)]
 pub struct SetCol {
     elements: BTreeSet<u64>,
+}
+
+// Written out, so that the crates above call it in place of proving it again.
+impl Drop for SetCol {
+    fn drop(self) {
+        let Self { elements } = self;
+        drop(elements);
+    }
 }
 
 impl Model for SetCol {

@@ -1,4 +1,5 @@
 mod Append
+mod Exits
 pub mod Facts
 mod Laying
 pub mod Parts

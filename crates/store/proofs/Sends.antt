@@ -26,7 +26,7 @@ use Rattle.group_commit.proofs.numbers.Numbers.TheSendSync as numbers
 use Rattle.group_commit.proofs.numbers.Drawer.TheSendSync as drawers
 use Rattle.group_commit.proofs.numbers.DrawerMaker.TheSendSync as makers
 use Rattle.clients.specs.declared.naming.Naming as namings
-use Rattle.clients.specs.contracts.desk.Desk as desk
+use Rattle.clients.specs.contracts.desk_lock.DeskLock as desk_lock
 use Rattle.store.specs.contracts.gatherer.Gatherer as gatherer
 use Rattle.store.specs.contracts.vault.Vault as vault
 use Rattle.clients.specs.contracts.shared.Shared as shared
@@ -65,8 +65,8 @@ pub ruleset parts = (
 -- A store may be shared where its disk may be sent.
 module _ (D J : RattleType) (n : namings.Ghosts J.Denot) (d : disks.Ghosts D.Denot)
     (D_send : IsSend D) (J_send : IsSend J) (J_sync : IsSync J) where
-  desk_sync : IsSync (mutex.the_row (desk.the_row J n))
-  desk_sync = search parts depth 80 fits 100000
+  desk_sync : IsSync (desk_lock.the_field J n).row
+  desk_sync = struct_sync (shape (desk_lock.the_type J n)) (search parts depth 80 fits 100000)
 
   vault_sync : IsSync (mutex.the_row (vault.the_row D J d n))
   vault_sync = search (parts, vaults.the_send) depth 80 fits 100000

@@ -5,7 +5,7 @@ ghost use Rattle.store.specs.Turns.{CheckTells};
 use crate::gatherer::Gatherer;
 use crate::vault::{Vault, note_failure};
 use calls::Refusal;
-use clients::{Desk, Naming, Shared};
+use clients::{DeskLock, Naming, Shared};
 use disk_model::Disk;
 use group_commit::Watcher;
 use std::marker::Model;
@@ -32,7 +32,7 @@ pub enum Checkpoint {
 /// checkpointer goes on. Contracts see what it has loaded of the mark.
 #[derive(Drop)]
 pub struct Checkpointer<'s, D: Disk, J: Naming> {
-    desk: &'s Mutex<Desk<J>>,
+    desk: &'s DeskLock<J>,
     vault: &'s Mutex<Vault<D, J>>,
     gatherer: &'s Mutex<Gatherer<J>>,
     shared: &'s Shared<J>,
@@ -52,7 +52,7 @@ impl<'s, D: Disk, J: Naming> Model for Checkpointer<'s, D, J> {
 
 impl<'s, D: Disk, J: Naming> Checkpointer<'s, D, J> {
     pub(crate) fn new(
-        desk: &'s Mutex<Desk<J>>,
+        desk: &'s DeskLock<J>,
         vault: &'s Mutex<Vault<D, J>>,
         gatherer: &'s Mutex<Gatherer<J>>,
         shared: &'s Shared<J>,
@@ -74,11 +74,13 @@ impl<'s, D: Disk, J: Naming> Checkpointer<'s, D, J> {
     /// which is one write, or makes the image the store where no piece is left, which is a write
     /// and two syncs. Both go on under the keeper's lock alone, so clients go on meanwhile.
     ///
-    /// Else it goes on towards an image. It copies the next collection under the book's lock, in
-    /// the time and memory that one copy takes, and repeats what was run behind the copies under no
-    /// lock that clients take. Where all are copied it freezes the book under both locks, in the
-    /// time of what the live transactions asked for, with no device called. Then it packs the image
-    /// under no lock, and begins it under the keeper's. Take turns until `Flipped`.
+    /// Else it goes on towards an image. It lets those who wait for the book's lock have it, and
+    /// copies the next collection under it, in the time and memory that one copy takes. So a client
+    /// waits for one copy at most times, and not for several in a row. What was run behind the
+    /// copies is repeated under no lock that clients take. Where all are copied it freezes the book
+    /// under both locks, in the time of what the live transactions asked for, with no device
+    /// called. Then it packs the image under no lock, and begins it under the keeper's. Take turns
+    /// until `Flipped`.
     ///
     /// Towards an image it is refused: Outrun where more calls were run between two copies than are
     /// noted; NoMemory; Worn where 2^61 gatherings were begun; Full where the image does not fit

@@ -6,7 +6,7 @@ ghost use Rattle.store.specs.Turns.{TurnTells};
 use crate::vault::Vault;
 use calls::Refusal;
 use checkpoint::Turn;
-use clients::{Desk, Naming, Shared};
+use clients::{DeskLock, Naming, Shared};
 use disk_model::Disk;
 use group_commit::Watcher;
 use std::marker::Model;
@@ -16,7 +16,7 @@ use std::sync::{Mutex, Wait};
 /// takes its turns in a loop. Contracts see what it has loaded of the mark.
 #[derive(Drop)]
 pub struct Committer<'s, D: Disk, J: Naming> {
-    desk: &'s Mutex<Desk<J>>,
+    desk: &'s DeskLock<J>,
     vault: &'s Mutex<Vault<D, J>>,
     shared: &'s Shared<J>,
     watcher: Watcher,
@@ -35,7 +35,7 @@ impl<'s, D: Disk, J: Naming> Model for Committer<'s, D, J> {
 
 impl<'s, D: Disk, J: Naming> Committer<'s, D, J> {
     pub(crate) fn new(
-        desk: &'s Mutex<Desk<J>>,
+        desk: &'s DeskLock<J>,
         vault: &'s Mutex<Vault<D, J>>,
         shared: &'s Shared<J>,
         watcher: Watcher,

@@ -14,7 +14,7 @@ use blocks::Image;
 use calls::Refusal;
 use catalog::{Catalog, NamedHolding};
 use checkpoint::Keeper;
-use clients::{Desk, Naming, Shared, note_alone};
+use clients::{Desk, DeskLock, Naming, Shared, note_alone};
 use disk_model::Disk;
 use group_commit::{Accord, Far, Handoff, Near, OneGather, Receiver, Sender};
 use images::Gather;
@@ -87,7 +87,7 @@ impl<J: Naming> Gatherer<J> {
         &mut self,
         rt: &R,
         shared: &Shared<J>,
-        desk: &Mutex<Desk<J>>,
+        desk: &DeskLock<J>,
         vault: &Mutex<Vault<D, J>>,
     ) -> Result<Checkpoint, Refusal>
         ensures { IfOk result IsPrepared }
@@ -104,17 +104,18 @@ impl<J: Naming> Gatherer<J> {
         self.copy(rt, shared, desk)
     }
 
-    // Copies the next collection under the book's lock, and repeats on the copies what was run
-    // behind them under none.
+    // Copies the next collection under the book's lock, once those who wait for it have had it,
+    // and repeats on the copies what was run behind them under none.
     fn copy<R: Wait>(
         &mut self,
         rt: &R,
         shared: &Shared<J>,
-        desk: &Mutex<Desk<J>>,
+        desk: &DeskLock<J>,
     ) -> Result<Checkpoint, Refusal>
         requires { self.old.gather.frozen ≡ None }
         ensures { IfOk result IsPrepared }
     {
+        desk.give_way(rt);
         let copied = copy_next(
             shared,
             &mut desk.lock(rt),
@@ -139,7 +140,7 @@ impl<J: Naming> Gatherer<J> {
         &mut self,
         rt: &R,
         shared: &Shared<J>,
-        desk: &Mutex<Desk<J>>,
+        desk: &DeskLock<J>,
         vault: &Mutex<Vault<D, J>>,
     ) -> Result<Checkpoint, Refusal>
         requires { self.old.gather.frozen ≡ None }

@@ -15,7 +15,7 @@ use crate::vault::Vault;
 use calls::Refusal;
 use catalog::Catalog;
 use checkpoint::Keeper;
-use clients::{Client, Desk, Naming, Seen, Shared};
+use clients::{Client, Desk, DeskLock, Naming, Seen, Shared};
 use disk_model::Disk;
 use std::sync::{Mutex, Wait};
 use txn::Book;
@@ -25,7 +25,7 @@ use txn::Book;
 /// under a third, which checkpointers alone take. No device is called under the book's lock, so no
 /// client waits for the disk but in `Client::wait`.
 pub struct Store<D: Disk, J: Naming> {
-    desk: Mutex<Desk<J>>,
+    desk: DeskLock<J>,
     vault: Mutex<Vault<D, J>>,
     gatherer: Mutex<Gatherer<J>>,
     shared: Shared<J>,
@@ -55,7 +55,7 @@ impl<D: Disk, J: Naming> Store<D, J> {
         shared: Shared<J>,
     ) -> Self {
         Self {
-            desk: Mutex::new(desk),
+            desk: DeskLock::new(desk),
             vault: Mutex::new(vault),
             gatherer: Mutex::new(gatherer),
             shared,

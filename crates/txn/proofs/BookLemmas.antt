@@ -102,6 +102,12 @@ make_refused names b name Refusal.BadName room is = (λ full. absurd (omega (ari
 make_refused names b name Refusal.TooLong room is = (λ full. absurd (omega (arith, room, full)), is)
 make_refused names b name e room is = (λ full. absurd (omega (arith, room, full)), is)
 
+-- What refuses a new name refuses the making too.
+pub new_refused : (names : List (List ℕ)) (name : List ℕ) (e : Refusal) →
+    naming.NewRefused names name e → naming.MakeRefused names name e
+new_refused names name Refusal.NoMemory is = absurd is
+new_refused names name e is = is
+
 -- What is asked behind the look-up is refused only for want of memory, and changes nothing then.
 pub ask_refused : {S : Type 0} (meaning : Meaning S ℕ) (making : Making S)
     (b c : BookState S) (n at : ℕ) (call : Call)

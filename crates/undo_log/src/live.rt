@@ -52,7 +52,6 @@ struct Table {
 /// Each transaction has its own entries, and each entry a stamp that tells its place in the order
 /// asked. So what a call costs does not depend on what other transactions asked for, but for
 /// `in_order`. A search is a halving of the live numbers.
-#[derive(Drop)]
 pub struct Live {
     alloc: Global,
     table: Table,
@@ -60,6 +59,19 @@ pub struct Live {
     next: u64,
     // how many entries there are
     count: usize,
+}
+
+// Written out, so that the crates above call it in place of proving it again.
+impl Drop for Live {
+    fn drop(self) {
+        let Self {
+            alloc: _alloc,
+            table,
+            next: _next,
+            count: _count,
+        } = self;
+        drop(table);
+    }
 }
 
 impl Model for Live {

@@ -1,10 +1,7 @@
 use Rattle.std.proofs.Common.{take}
-use Rattle.std.specs.Option.{MatchOption}
-use Rattle.abstract_locks.specs.Holders.{all_holds}
-use Rattle.abstract_locks.specs.Holds.{IsClear, IsBusy}
+use Rattle.abstract_locks.specs.Segments.{all_holds, IsLeast}
 use Rattle.abstract_locks.proofs.needs.Needs.least_blocker.Given as goal
 
-abbrev pub invariant-loop-holder : goal.invariant-loop-holder
-invariant-loop-holder l =
-    let seen = all_holds (take l.holder-index l.holder-items) in
-    MatchOption l.least (IsClear seen l.owner l.at l.need) (IsBusy seen l.owner l.at l.need)
+abbrev pub invariant-loop-segment : goal.invariant-loop-segment
+invariant-loop-segment l =
+    IsLeast (all_holds (take l.segment-index l.segment-items)) l.owner l.at l.need l.least

@@ -70,3 +70,20 @@ returns-in_default-clause-answer g c =
 
 pub returns-in-Ok-clause-answer : goal.returns-in-Ok-clause-answer
 returns-in-Ok-clause-answer g c = search rules
+
+pub returns-in-Ok-clause-elsewhere : goal.returns-in-Ok-clause-elsewhere
+returns-in-Ok-clause-elsewhere g c =
+    rw (← c.self.view_is) c.append.ensures.elsewhere
+
+pub returns-in-Full-clause-elsewhere : goal.returns-in-Full-clause-elsewhere
+returns-in-Full-clause-elsewhere g c =
+    rw (← c.self.view_is) c.append.ensures.elsewhere
+
+pub returns-in_default-clause-elsewhere : goal.returns-in_default-clause-elsewhere
+returns-in_default-clause-elsewhere g c =
+    rw (← c.self.view_is) c.append.ensures.elsewhere
+
+pub returns-in-Ok-clause-kept : goal.returns-in-Ok-clause-kept
+returns-in-Ok-clause-kept g c =
+    rw (← c.self.view_is) (λ bodies body is ready. c.in-Ok.ensures.kept bodies body
+    (rw c.as_slice.ensures.value is) ready)

@@ -9,8 +9,8 @@ returns-in_ok-insert-in-Put-default-clause-ok c =
     rw c.in-Put-default.is-0
     (table_of-insert c.self.inside.values c.insert.new.self _ _
     c.in_ok-insert-in-Put-default.ensures.updates
-    ∙ ap (λ m. map.insert m c.in-Put-default.key c.in_ok-copy-in-Put-default.field-0) c.self.view_is
-    ∙ ap (map.insert c.args.self.now c.in-Put-default.key) c.in_ok-copy-in-Put-default.ensures)
+    ∙ ap (λ m. map.insert m c.in-Put-default.key c.in_ok-clone-in-Put-default.field-0) c.self.view_is
+    ∙ ap (map.insert c.args.self.now c.in-Put-default.key) c.in_ok-clone-in-Put-default.ensures.cases)
 
 pub returns-in-MapRemove-Value-clause-ok : goal.returns-in-MapRemove-Value-clause-ok
 returns-in-MapRemove-Value-clause-ok c =

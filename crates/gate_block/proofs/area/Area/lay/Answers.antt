@@ -3,6 +3,8 @@ use Rattle.std.specs.Result.{is_err}
 use Rattle.gate_block.proofs.Parts.{outside}
 use Rattle.gate_block.proofs.Rows.{length-row_push}
 use Rattle.gate_block.proofs.Laying.{lays, leaves_elsewhere, has_room, use_ok}
+use Rattle.std.proofs.lemmas.Result.{err_from_is_err_and}
+use Rattle.gate_block.proofs.Exits.{place_on, leaves_elsewhere_none}
 use Rattle.gate_block.proofs.area.Area.lay.Goals as goal
 
 pub returns-then-is_err-clause-any_moment_elsewhere :
@@ -51,3 +53,23 @@ returns-clause-elsewhere g c =
     let a = c.args.self.now in
     outside a.base a.size (a.base + a.position) a.position (length c.args.block.now) refl
     (has_room _ _ c.in_ok-check_place.ensures.1) _ _ c.write_at.ensures.seen
+
+pub returns-then-is_err-clause-answer : goal.returns-then-is_err-clause-answer
+returns-then-is_err-clause-answer g c =
+    let e = c.in_ok-check_place.ensures in (
+      e.0,
+      refl,
+      e.1,
+      c.write_at.ensures.cause.risen
+          (sym c.is_err.ensures.value ∙ c.if-is_err.true),
+    )
+
+pub returns-in_err-check_place-clause-answer : goal.returns-in_err-check_place-clause-answer
+returns-in_err-check_place-clause-answer g c =
+    let p = err_from_is_err_and c.from_residual.result c.from_residual.ensures.1 in
+    rw (p.1, p.2) (place_on _ _ _ _ c.in_err-check_place.ensures)
+
+pub returns-in_err-check_place-clause-any_moment_elsewhere : goal.returns-in_err-check_place-clause-any_moment_elsewhere
+returns-in_err-check_place-clause-any_moment_elsewhere g c =
+    leaves_elsewhere_none g.D.Disk.seen g.D.Disk.may_leave g.D.Disk.moment g.D.Disk.left_since
+    c.args.disk.now (g.met.D.Disk.only_now c.args.disk.now) c.args.self.now

@@ -1,5 +1,8 @@
 use Rattle.std.proofs.Common.{◌≡◌, ◌+◌, List, ℕ, take, drop, refl, sym, ◌∙◌, ap, arith}
+use Rattle.std.proofs.lemmas.Result.{err_from_is_err_and}
+use Rattle.disk_model.proofs.Walk.{reads_on}
 use Rattle.gate_block.proofs.Reading.{stands, broken}
+use Rattle.gate_block.proofs.Exits.{rises_on, error_on}
 use Rattle.gate_block.proofs.area.Area.read_block.Goals as goal
 use Rattle.gate_block.proofs.area.Area.read_block.Goals.{then-n-eq0-via-then-n-eq0}
 use Rattle.gate_block.proofs.area.Area.read_block.Goals.{then-n-eq0-via-else-n-eq0+then-n}
@@ -42,3 +45,64 @@ returns-clause-found g c = λ honest.
     c.read.new.out c.read-2.new.out c.in_ok-read_bytes.field-0.items refl refl refl one_is
     four_is body_is c.if-open.false c.number-n.ensures.spelled (omega arith) (omega arith)
     (omega arith)
+
+pub returns-in_err-read-clause-reads : goal.returns-in_err-read-clause-reads
+returns-in_err-read-clause-reads g c =
+    c.read.ensures.reads
+
+pub returns-then-open-clause-reads : goal.returns-then-open-clause-reads
+returns-then-open-clause-reads g c =
+    c.read.ensures.reads
+
+pub returns-then-room-lt6-clause-reads : goal.returns-then-room-lt6-clause-reads
+returns-then-room-lt6-clause-reads g c =
+    c.read.ensures.reads
+
+pub returns-in_err-read-2-clause-reads : goal.returns-in_err-read-2-clause-reads
+returns-in_err-read-2-clause-reads g c =
+    reads_on g.D.Disk.seen g.D.Disk.may_leave g.D.Disk.moment g.D.Disk.left_since c.args.disk.now
+    c.read.new.disk c.read-2.new.disk c.read.ensures.reads c.read-2.ensures.reads
+
+pub returns-then-n-eq0-clause-reads : goal.returns-then-n-eq0-clause-reads
+returns-then-n-eq0-clause-reads g c =
+    reads_on g.D.Disk.seen g.D.Disk.may_leave g.D.Disk.moment g.D.Disk.left_since c.args.disk.now
+    c.read.new.disk c.read-2.new.disk c.read.ensures.reads c.read-2.ensures.reads
+
+pub returns-in_err-read_bytes-clause-reads : goal.returns-in_err-read_bytes-clause-reads
+returns-in_err-read_bytes-clause-reads g c =
+    reads_on g.D.Disk.seen g.D.Disk.may_leave g.D.Disk.moment g.D.Disk.left_since c.args.disk.now
+    c.read-2.new.disk c.read_bytes.new.disk
+    (reads_on g.D.Disk.seen g.D.Disk.may_leave g.D.Disk.moment g.D.Disk.left_since c.args.disk.now
+    c.read.new.disk c.read-2.new.disk c.read.ensures.reads c.read-2.ensures.reads)
+    c.read_bytes.ensures.reads
+
+pub returns-clause-reads : goal.returns-clause-reads
+returns-clause-reads g c =
+    reads_on g.D.Disk.seen g.D.Disk.may_leave g.D.Disk.moment g.D.Disk.left_since c.args.disk.now
+    c.read-2.new.disk c.read_bytes.new.disk
+    (reads_on g.D.Disk.seen g.D.Disk.may_leave g.D.Disk.moment g.D.Disk.left_since c.args.disk.now
+    c.read.new.disk c.read-2.new.disk c.read.ensures.reads c.read-2.ensures.reads)
+    c.read_bytes.ensures.reads
+
+pub returns-in_err-read-clause-error : goal.returns-in_err-read-clause-error
+returns-in_err-read-clause-error g c =
+    let p = err_from_is_err_and c.from_residual.result c.from_residual.ensures.1 in
+    rw (p.1, p.2) (c.in_err-read.ensures.cause.risen refl)
+
+pub returns-in_err-read-2-clause-error : goal.returns-in_err-read-2-clause-error
+returns-in_err-read-2-clause-error g c =
+    let r = c.from_residual-in_err-read-2 in
+    let p = err_from_is_err_and r.result r.ensures.1 in
+    rw (p.1, p.2)
+    (rises_on _ _ _ c.read.ensures.cause.later c.read-2.ensures.cause.later
+    (c.in_err-read-2.ensures.cause.risen refl))
+
+pub returns-in_err-read_bytes-clause-error : goal.returns-in_err-read_bytes-clause-error
+returns-in_err-read_bytes-clause-error g c =
+    let r = c.from_residual-in_err-read_bytes in
+    let p = err_from_is_err_and r.result r.ensures.1 in
+    rw (p.1, p.2)
+    (error_on _ _ _ (rises_on _ _ _
+    (omega (arith, c.read.ensures.cause.later, c.read-2.ensures.cause.later))
+    c.read_bytes.ensures.faults)
+    _ c.in_err-read_bytes.ensures.error)

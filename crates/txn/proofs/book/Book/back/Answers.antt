@@ -19,6 +19,8 @@ use Rattle.std.proofs.Common.{◌∙◌, ap, ◌+◌, ◌∷◌}
 use Rattle.gathering.specs.Gatherings.{AreRun}
 use Rattle.txn.specs.Books.{position}
 use Rattle.txn.proofs.Goings.{goes_ran, position_after}
+use Rattle.std.proofs.lemmas.Result.{err_from_is_err_and}
+use Rattle.txn.proofs.BookLemmas.{reserved_same}
 use Rattle.txn.proofs.book.Book.back.Goals as goal
 
 pub push-requires-clause-room : goal.push-requires-clause-room
@@ -109,3 +111,51 @@ returns-clause-goes g c =
     ))
     (subst (λ p. AreRun g.B.Boosted.meaning p notes.undoing s.now c.back.new.machine.now) next
     notes.run) notes.is (position_after old new (Record.Back c.args.number) (step g c).1))
+
+pub returns-in_err-check_live-clause-answer : goal.returns-in_err-check_live-clause-answer
+returns-in_err-check_live-clause-answer g c =
+    let r = c.from_residual in
+    let p = err_from_is_err_and r.result r.ensures.1 in
+    let err = c.in_err-check_live.ensures.err in
+    rw (p.1, p.2, err.0) (refl, err.1)
+
+pub returns-in_err-check_backlog-clause-answer : goal.returns-in_err-check_backlog-clause-answer
+returns-in_err-check_backlog-clause-answer g c =
+    let r = c.from_residual-in_err-check_backlog in
+    let p = err_from_is_err_and r.result r.ensures.1 in
+    let err = c.in_err-check_backlog.ensures.err in
+    rw (p.1, p.2, err.0) (refl, (c.in_ok-check_live.ensures.ok, err.1))
+
+pub returns-in_err-reserve-clause-answer : goal.returns-in_err-reserve-clause-answer
+returns-in_err-reserve-clause-answer g c =
+    let r = c.from_residual-in_err-reserve in
+    let p = err_from_is_err_and r.result r.ensures.1 in
+    let i = c.self.inside in
+    let kept = c.in_err-reserve.ensures in
+    let same = reserved_same i.machine i.machine i.pending c.reserve.new.self i.places i.next
+    i.gathering i.gathering refl refl kept.records kept.freezes kept.handed ∙ c.self.view_is in
+    rw (p.1, p.2, kept.refusal) (
+      same,
+      (
+        c.in_ok-check_live.ensures.ok,
+        (λ full. absurd (omega (arith, c.in_ok-check_backlog.ensures.ok, full))),
+      ),
+    )
+
+pub returns-in_err-back-clause-answer : goal.returns-in_err-back-clause-answer
+returns-in_err-back-clause-answer g c =
+    let r = c.from_residual-in_err-back in
+    let p = err_from_is_err_and r.result r.ensures.1 in
+    let i = c.self.inside in
+    let kept = c.in_ok-reserve.ensures in
+    let same = reserved_same i.machine c.back.new.machine i.pending c.reserve.new.self i.places
+    i.next
+    i.gathering c.back.new.self c.in_err-back.ensures.same.0 c.in_err-back.ensures.same.1
+    kept.records kept.freezes kept.handed ∙ c.self.view_is in
+    rw (p.1, p.2, c.in_err-back.ensures.refusal) (
+      same,
+      (
+        c.in_ok-check_live.ensures.ok,
+        (λ full. absurd (omega (arith, c.in_ok-check_backlog.ensures.ok, full))),
+      ),
+    )

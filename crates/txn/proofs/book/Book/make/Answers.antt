@@ -15,6 +15,8 @@ use Rattle.txn.proofs.book.Book.make.Given.{Over}
 use Rattle.machine.specs.Machine.{State}
 use Rattle.std.proofs.Common.{ap}
 use Rattle.txn.proofs.Goings.{goes_made, position_after}
+use Rattle.txn.specs.Books.{BookState}
+use Rattle.txn.proofs.BookLemmas.{new_refused}
 use Rattle.txn.proofs.book.Book.make.Goals as goal
 
 -- the laws of the collections
@@ -87,3 +89,62 @@ returns-clause-goes g c =
     rw (← c.self.view_is) (goes_made g.met.B.Boosted.laws g.met.B.Coded.told old new
     c.args.name.now c.args.kind made refl
     (position_after old new (Record.Make c.args.kind c.args.name.now) (step g c).1))
+
+pub returns-in_err-check_backlog-clause-answer : goal.returns-in_err-check_backlog-clause-answer
+returns-in_err-check_backlog-clause-answer g c =
+    let r = c.from_residual in
+    let p = err_from_is_err_and r.result r.ensures.1 in
+    let err = c.in_err-check_backlog.ensures.err in
+    rw (p.1, p.2, err.0) (refl, err.1)
+
+pub returns-in_err-check_new-clause-answer : goal.returns-in_err-check_new-clause-answer
+returns-in_err-check_new-clause-answer g c =
+    let r = c.from_residual-in_err-check_new in
+    let p = err_from_is_err_and r.result r.ensures.1 in
+    let names = g.B.Parts.making.names in
+    let refused = subst (λ s. naming.NewRefused (names s) c.args.name.now
+    c.in_err-check_new.field-0.0)
+    (c.parts.ensures ∙ ap (λ (b : BookState _). b.state.now) c.self.view_is)
+    c.in_err-check_new.ensures.err in
+    rw (p.1, p.2) (
+      refl,
+      make_refused (names c.args.self.now.state.now)
+          (standing c.args.self.now) c.args.name.now c.in_err-check_new.field-0.0
+          c.in_ok-check_backlog.ensures.ok
+          (new_refused (names c.args.self.now.state.now) c.args.name.now _ refused),
+    )
+
+pub returns-in_err-reserve-clause-answer : goal.returns-in_err-reserve-clause-answer
+returns-in_err-reserve-clause-answer g c =
+    let r = c.from_residual-in_err-reserve in
+    let p = err_from_is_err_and r.result r.ensures.1 in
+    let i = c.self.inside in
+    let kept = c.in_err-reserve.ensures in
+    let same = reserved_same i.machine i.machine i.pending c.reserve.new.self i.places i.next
+    i.gathering i.gathering refl refl kept.records kept.freezes kept.handed ∙ c.self.view_is in
+    let new = subst (λ s. naming.IsNew (g.B.Parts.making.names s) c.args.name.now)
+    (c.parts.ensures ∙ ap (λ (b : BookState _). b.state.now) c.self.view_is)
+    c.in_ok-check_new.ensures.ok in
+    rw (p.1, p.2, kept.refusal) (
+      same,
+      ((λ full. absurd (omega (arith, c.in_ok-check_backlog.ensures.ok, full))), new),
+    )
+
+pub returns-in_err-to_string-clause-answer : goal.returns-in_err-to_string-clause-answer
+returns-in_err-to_string-clause-answer g c =
+    let r = c.from_residual-in_err-to_string in
+    let p = err_from_is_err_and r.result r.ensures.1 in
+    let i = c.self.inside in
+    let kept = c.in_ok-reserve.ensures in
+    let same = reserved_same i.machine i.machine i.pending c.reserve.new.self i.places i.next
+    i.gathering i.gathering refl refl kept.records kept.freezes kept.handed ∙ c.self.view_is in
+    let new = subst (λ s. naming.IsNew (g.B.Parts.making.names s) c.args.name.now)
+    (c.parts.ensures ∙ ap (λ (b : BookState _). b.state.now) c.self.view_is)
+    c.in_ok-check_new.ensures.ok in
+    rw (p.1, p.2) (
+      same,
+      (
+        (λ full. absurd (omega (arith, c.in_ok-check_backlog.ensures.ok, full))),
+        new,
+      ),
+    )

@@ -20,6 +20,8 @@ use Rattle.undo_log.specs.Entries.{event_of}
 use Rattle.gathering.specs.Gatherings.{noted, effect_at}
 use Rattle.txn.specs.Books.{position}
 use Rattle.txn.proofs.Goings.{goes_ran, position_after}
+use Rattle.std.proofs.lemmas.Result.{err_from_is_err_and}
+use Rattle.txn.proofs.BookLemmas.{reserved_same}
 use Rattle.txn.proofs.book.Book.note_call.Goals as goal
 
 -- the laws of the collections
@@ -128,3 +130,35 @@ returns-clause-goes g c =
     (λ q. noted i.gathering (effect_at q (event_of c.in_ok-asked.asked) ∷ [])) next ∙
     ap (λ v. noted i.gathering (effect_at (position old + 1) v ∷ [])) c.in_ok-asked.ensures.ok)
     (position_after old new (record_of c.args.number e) (step g c).1))
+
+pub returns-in_err-reserve-clause-same : goal.returns-in_err-reserve-clause-same
+returns-in_err-reserve-clause-same g c =
+    let r = c.from_residual in
+    let p = err_from_is_err_and r.result r.ensures.1 in
+    let i = c.self.inside in
+    let kept = c.in_err-reserve.ensures in
+    let same = reserved_same i.machine i.machine i.pending c.reserve.new.self i.places i.next
+    i.gathering i.gathering refl refl kept.records kept.freezes kept.handed ∙ c.self.view_is in
+    rw p.1 same
+
+pub returns-in_err-asked-clause-same : goal.returns-in_err-asked-clause-same
+returns-in_err-asked-clause-same g c =
+    let r = c.from_residual-in_err-asked in
+    let p = err_from_is_err_and r.result r.ensures.1 in
+    let i = c.self.inside in
+    let kept = c.in_ok-reserve.ensures in
+    let same = reserved_same i.machine i.machine i.pending c.reserve.new.self i.places i.next
+    i.gathering i.gathering refl refl kept.records kept.freezes kept.handed ∙ c.self.view_is in
+    rw p.1 same
+
+pub returns-in_err-call-clause-same : goal.returns-in_err-call-clause-same
+returns-in_err-call-clause-same g c =
+    let r = c.from_residual-in_err-call in
+    let p = err_from_is_err_and r.result r.ensures.1 in
+    let i = c.self.inside in
+    let kept = c.in_ok-reserve.ensures in
+    let same = reserved_same i.machine c.call.new.machine i.pending c.reserve.new.self i.places
+    i.next
+    i.gathering c.call.new.self c.in_err-call.ensures.same.0 c.in_err-call.ensures.same.1
+    kept.records kept.freezes kept.handed ∙ c.self.view_is in
+    rw p.1 same

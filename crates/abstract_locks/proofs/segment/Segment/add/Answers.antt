@@ -1,0 +1,34 @@
+use Rattle.std.proofs.Common.{◌≢◌, length, arith}
+use Rattle.std.proofs.lemmas.List.Elements.{All-weaker}
+use Rattle.std.specs.List.{insert}
+use Rattle.abstract_locks.specs.Bounds.{IsWithin}
+use Rattle.abstract_locks.specs.Segments.{segment_size}
+use Rattle.abstract_locks.proofs.Granting.{all_still}
+use Rattle.abstract_locks.proofs.Members.{inserted_is_added}
+use Rattle.abstract_locks.proofs.segment.Segment.add.Goals as goal
+
+pub invariant_of-self : goal.invariant_of-self
+invariant_of-self c =
+    let items = c.self.inside.holds.items in
+    let place = c.place_of-place.result in
+    let hold = c.args.hold in
+    let wide = c.with-self-inside.result in
+    let few = c.self.invariant.few in
+    let room = c.self.invariant.room in
+    let more = c.in-Ok.ensures.len in
+    let capacity = c.in-Ok.ensures.capacity in
+    let open_yet : length items ≢ segment_size = rw c.self.view_is c.requires in
+    record {
+      within = rw c.in-Ok.ensures.items
+          (all_still items (insert items place hold) hold (inserted_is_added items place hold)
+          (IsWithin wide) (c.with-self-inside.ensures.others hold c.of.ensures)
+          (All-weaker (IsWithin c.self.inside.bounds) (IsWithin wide)
+          c.with-self-inside.ensures.own items c.self.invariant.within));
+      few = omega arith;
+      room = omega arith;
+    }
+
+pub returns : goal.returns
+returns c =
+    rw (← c.self.view_is, c.in-Ok.ensures.items)
+    (inserted_is_added c.self.inside.holds.items c.place_of-place.result c.args.hold)

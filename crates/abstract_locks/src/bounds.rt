@@ -1,0 +1,104 @@
+// Bounds of some holds, which tell that none of them is in the way.
+ghost use Rattle.std.specs.Prelude.{◌≡◌, ℕ, IsTrue};
+ghost use Rattle.calls.specs.declared.need.Mode.{Mode};
+ghost use Rattle.calls.specs.Rules.{Compatible};
+ghost use Rattle.abstract_locks.specs.declared.table.Hold.{Hold};
+ghost use Rattle.abstract_locks.specs.Bounds.{HasMode, IsWithin, Covers};
+ghost use Rattle.abstract_locks.specs.Holds.{Blocks};
+
+use crate::table::Hold;
+use calls::{Mode, Need};
+
+/// Bounds of some holds: of their keys, of their owners, and which modes they have. The remainders
+/// of their owners by 64 are the bits of a mask, so that most of those who have none are known.
+#[derive(Clone, Copy)]
+pub struct Bounds {
+    low: u64,
+    high: u64,
+    first_owner: u64,
+    last_owner: u64,
+    owners: u64,
+    reads: bool,
+    writes: bool,
+    adds: bool,
+}
+
+impl Bounds {
+    /// Those of no hold.
+    pub fn none() -> Self {
+        Self {
+            low: u64::MAX,
+            high: 0,
+            first_owner: u64::MAX,
+            last_owner: 0,
+            owners: 0,
+            reads: false,
+            writes: false,
+            adds: false,
+        }
+    }
+
+    /// Those of one hold.
+    pub fn of(hold: &Hold) -> Self
+        ensures { IsWithin result hold.now }
+    {
+        Self {
+            low: hold.need.low,
+            high: hold.need.high,
+            first_owner: hold.owner,
+            last_owner: hold.owner,
+            owners: 1 << (hold.owner % 64),
+            reads: hold.need.mode == Mode::Read,
+            writes: hold.need.mode == Mode::Write,
+            adds: hold.need.mode == Mode::Add,
+        }
+    }
+
+    /// Those of the holds of both.
+    pub fn with(&self, other: &Self) -> Self
+        ensures own { Covers result self.now }
+        ensures others { Covers result other.now }
+    {
+        Self {
+            low: self.low.min(other.low),
+            high: self.high.max(other.high),
+            first_owner: self.first_owner.min(other.first_owner),
+            last_owner: self.last_owner.max(other.last_owner),
+            owners: self.owners | other.owners,
+            reads: self.reads | other.reads,
+            writes: self.writes | other.writes,
+            adds: self.adds | other.adds,
+        }
+    }
+
+    /// Whether a hold within the bounds may keep the need from the owner.
+    pub fn may_block(&self, owner: u64, need: &Need) -> bool
+        ensures { (h : Hold) (at : ℕ) → IsWithin self.now h → Blocks owner at need.now h →
+            IsTrue result }
+    {
+        self.low <= need.high
+            && need.low <= self.high
+            && self.may_conflict(need.mode)
+            && (self.first_owner != owner || self.last_owner != owner)
+    }
+
+    // Whether a mode of the holds is not compatible with the one.
+    fn may_conflict(&self, mode: Mode) -> bool
+        ensures { (m : Mode) → HasMode self.now m → (Compatible m mode → ⊥) → IsTrue result }
+    {
+        match mode {
+            Mode::Read => self.writes || self.adds,
+            Mode::Write => true,
+            Mode::Add => self.reads || self.writes,
+        }
+    }
+
+    /// Whether a hold within the bounds may be the owner's.
+    pub fn may_have(&self, owner: u64) -> bool
+        ensures { (h : Hold) → IsWithin self.now h → h.owner ≡ owner → IsTrue result }
+    {
+        self.first_owner <= owner
+            && owner <= self.last_owner
+            && (self.owners >> (owner % 64)) & 1 == 1
+    }
+}
