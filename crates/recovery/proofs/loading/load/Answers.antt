@@ -3,6 +3,7 @@ use Rattle.std.proofs.Common.{◌+◌, Some, ◌∙◌}
 use Rattle.std.proofs.lemmas.Option.{none-some}
 use Rattle.std.proofs.lemmas.Result.{err_from_is_err_and}
 use Rattle.std.specs.declared.alloc.Global.{Global}
+use Rattle.disk_model.proofs.Walk.{reads_on}
 use Rattle.gate_block.specs.Row.{Finds, StandsAt}
 use Rattle.gate_block.specs.Area.{body_in}
 use Rattle.recovery.proofs.LoadLemmas.{loading_starts, gate_refused, body_refused, loads_on}
@@ -120,3 +121,24 @@ loop-body-smaller g c =
       c.next_block.ensures.size,
       c.loop-body.invariant.size_is,
     )
+
+pub returns-in-Err-clause-reads : goal.returns-in-Err-clause-reads
+returns-in-Err-clause-reads g c =
+    reads_on g.D.Disk.seen g.D.Disk.may_leave g.D.Disk.moment g.D.Disk.left_since c.args.disk.now
+    _ _ c.loop-body.invariant.reads c.next_block.ensures.reads
+
+pub returns-in_err-repetition-in-Ok-Some-clause-reads :
+    goal.returns-in_err-repetition-in-Ok-Some-clause-reads
+returns-in_err-repetition-in-Ok-Some-clause-reads g c =
+    reads_on g.D.Disk.seen g.D.Disk.may_leave g.D.Disk.moment g.D.Disk.left_since c.args.disk.now
+    _ _ c.loop-body.invariant.reads c.next_block.ensures.reads
+
+pub returns-in_err-repeated-clause-reads : goal.returns-in_err-repeated-clause-reads
+returns-in_err-repeated-clause-reads g c =
+    reads_on g.D.Disk.seen g.D.Disk.may_leave g.D.Disk.moment g.D.Disk.left_since c.args.disk.now
+    _ _ c.loop-body.invariant.reads c.next_block.ensures.reads
+
+pub returns-clause-reads : goal.returns-clause-reads
+returns-clause-reads g c =
+    reads_on g.D.Disk.seen g.D.Disk.may_leave g.D.Disk.moment g.D.Disk.left_since c.args.disk.now
+    _ _ c.loop-body.invariant.reads c.next_block.ensures.reads

@@ -167,3 +167,55 @@ returns-clause-area g c =
           appended.same_size
           (c.append_all.ensures.size ∙ ap length c.find.ensures.reads.same ∙ one.whole) one.base,
     )
+
+pub returns-in_err-machine-clause-unchanged : goal.returns-in_err-machine-clause-unchanged
+returns-in_err-machine-clause-unchanged g c =
+    let r = c.from_residual in
+    let p = err_from_is_err_and r.result r.ensures.1 in
+    rw p.1 (λ no_fault. c.find.ensures.reads)
+
+pub returns-then-not-fits-clause-unchanged : goal.returns-then-not-fits-clause-unchanged
+returns-then-not-fits-clause-unchanged g c =
+    λ no_fault. c.find.ensures.reads
+
+pub returns-in_err-buffer-clause-unchanged : goal.returns-in_err-buffer-clause-unchanged
+returns-in_err-buffer-clause-unchanged g c =
+    let r = c.from_residual-in_err-buffer in
+    let p = err_from_is_err_and r.result r.ensures.1 in
+    rw p.1 (λ no_fault. c.find.ensures.reads)
+
+pub returns-in_err-machine-clause-kept : goal.returns-in_err-machine-clause-kept
+returns-in_err-machine-clause-kept g c =
+    λ true_read.
+    keeps_content g.D.Disk.seen g.D.Disk.may_leave g.D.Disk.moment g.D.Disk.left_since
+    c.args.disk.now c.find.new.disk c.find.ensures.reads
+
+pub returns-in_err-buffer-clause-refused : goal.returns-in_err-buffer-clause-refused
+returns-in_err-buffer-clause-refused g c =
+    let r = c.from_residual-in_err-buffer in
+    let p = err_from_is_err_and r.result r.ensures.1 in
+    rw (p.1, p.2, c.in_err-buffer.ensures.only) tt
+
+pub returns-in_err-machine-clause-size : goal.returns-in_err-machine-clause-size
+returns-in_err-machine-clause-size g c =
+    ap length c.find.ensures.reads.same
+
+pub returns-then-not-fits-clause-size : goal.returns-then-not-fits-clause-size
+returns-then-not-fits-clause-size g c =
+    ap length c.find.ensures.reads.same
+
+pub returns-in_err-buffer-clause-size : goal.returns-in_err-buffer-clause-size
+returns-in_err-buffer-clause-size g c =
+    ap length c.find.ensures.reads.same
+
+pub returns-in_err-append_all-clause-size : goal.returns-in_err-append_all-clause-size
+returns-in_err-append_all-clause-size g c =
+    c.append_all.ensures.size ∙ ap length c.find.ensures.reads.same
+
+pub returns-clause-size : goal.returns-clause-size
+returns-clause-size g c =
+    c.append_all.ensures.size ∙ ap length c.find.ensures.reads.same
+
+pub returns-clause-rests : goal.returns-clause-rests
+returns-clause-rests g c =
+    rw c.new.ensures refl
