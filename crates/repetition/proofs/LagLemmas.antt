@@ -6,7 +6,8 @@ use Rattle.std.proofs.Common.{subst, arith}
 use Rattle.std.specs.Prelude.{◌↔◌, ◌⊎◌, Contains}
 use Rattle.std.specs.List.{filter}
 use Rattle.std.specs.FinMap as maps
-use Rattle.std.proofs.lemmas.List.Elements.{All-contains, Contains-get_or}
+use Rattle.std.proofs.lemmas.List.Elements.{All-contains, Contains-get_or, Contains-push}
+use Rattle.std.proofs.lemmas.List.Elements.{Contains-push_cases, Contains-append_left}
 use Rattle.calls.specs.declared.kind.Kind.{Kind}
 use Rattle.calls.specs.declared.call.Call.{Call}
 use Rattle.calls.specs.declared.reply.Reply.{Reply}
@@ -17,7 +18,7 @@ use Rattle.calls.specs.Transactions.{laters_of}
 use Rattle.calls.specs.Rules.{need_of}
 use Rattle.abstract_locks.specs.declared.table.Hold.{Hold}
 use Rattle.abstract_locks.specs.Holds.{hold, Blocks, IsClear, IsAdded, IsGivenUp}
-use Rattle.abstract_locks.proofs.Members.{pushed_is_added, filtered_is_given_up}
+use Rattle.abstract_locks.proofs.Members.{filtered_is_given_up}
 use Rattle.undo_log.specs.Entries.{HasNoCall, IsNewestCall}
 use Rattle.undo_log.specs.Logs.{Statuses, Lives, Falls, fallen}
 use Rattle.machine.specs.Machine.{Does, IsRunning, IsLeft, BeginRow, MakeRow}
@@ -200,6 +201,14 @@ thinned_newest live few all thin n x rest newest =
     (found.0, found.1, subst (IsThinned live found.0) (sym newest.rest_is) found.2)
 
 -- ---- fewer needs
+
+-- a hold that is put to the end
+pushed_is_added : (holds : List Hold) (h : Hold) → IsAdded holds (holds ++ h ∷ []) h
+pushed_is_added holds h x = (
+  λ inside. ⊎_elim (λ old. inl old) (λ same. inr (sym same)) (Contains-push_cases holds h x inside),
+  λ either. ⊎_elim (λ old. Contains-append_left holds (h ∷ []) x old)
+      (λ same. subst (Contains (holds ++ h ∷ [])) (sym same) (Contains-push holds h)) either,
+)
 
 module _ (few all : List Hold) (fewer : (h : Hold) → Contains few h → Contains all h) where
   -- what stands in the way of nothing still does not
