@@ -76,8 +76,8 @@ impl<'s, D: Disk, J: Naming> Checkpointer<'s, D, J> {
     ///
     /// Else it goes on towards an image. It lets those who wait for the book's lock have it, and
     /// copies the next collection under it, in the time and memory that one copy takes. So a client
-    /// waits for one copy at most times, and not for several in a row. What was run behind the
-    /// copies is repeated under no lock that clients take. Where all are copied it freezes the book
+    /// waits for one copy as a rule, and not for several in a row. What was run behind the copies
+    /// is repeated under no lock that clients take. Where all are copied it freezes the book
     /// under both locks, in the time of what the live transactions asked for, with no device
     /// called. Then it packs the image under no lock, and begins it under the keeper's. Take turns
     /// until `Flipped`.
