@@ -1,7 +1,12 @@
 pub mod Members
+pub mod Ordering
+pub mod Rising
+pub mod Placing
 pub mod Covering
+pub mod Reaching
 pub mod Blocking
 pub mod Granting
 pub mod Splitting
-pub mod Leaving
+pub mod Gathered
+pub mod Listing
 pub mod Collections

@@ -8,10 +8,9 @@ use Rattle.std.proofs.lemmas.List.Elements.{Contains-append_left, Contains-appen
 use Rattle.std.proofs.lemmas.List.Elements.{Contains-append_cases}
 use Rattle.abstract_locks.specs.declared.table.Hold.{Hold}
 use Rattle.abstract_locks.specs.Holds.{IsAdded, IsGivenUp}
-use Rattle.abstract_locks.specs.Segments.{all_holds, AreGivenUp}
 
 module _ {X : Type 0} where
-  only : (x y : X) → Contains (x ∷ []) y → x ≡ y
+  pub only : (x y : X) → Contains (x ∷ []) y → x ≡ y
   only x y h = ⊎_elim (λ none. let lt = none.1 in absurd (omega arith)) (λ same. same)
       (Contains-push_cases [] x y h)
 
@@ -84,32 +83,6 @@ test_says a b e same = grind arith
 
 pub says_test : (a b : ℕ) → a ≢ b → not (a == b) ≡ true
 says_test a b n = grind arith
-
-module _ (owner : ℕ) where
-  given_up_nothing : IsGivenUp [] [] owner
-  given_up_nothing h =
-      (λ inside. let lt = inside.1 in absurd (omega arith), λ both. both.0)
-
-  given_up_both : (xs ys zs ws : List Hold) → IsGivenUp xs ys owner → IsGivenUp zs ws owner →
-      IsGivenUp (xs ++ zs) (ys ++ ws) owner
-  given_up_both xs ys zs ws one other h = (
-    λ inside. ⊎_elim
-        (λ a. let both = (one h).0 a in (Contains-append_left xs zs h both.0, both.1))
-        (λ b. let both = (other h).0 b in (Contains-append_right xs zs h both.0, both.1))
-        (Contains-append_cases ys ws h inside),
-    λ both. ⊎_elim (λ a. Contains-append_left ys ws h ((one h).1 (a, both.1)))
-        (λ b. Contains-append_right ys ws h ((other h).1 (b, both.1)))
-        (Contains-append_cases xs zs h both.0),
-  )
-
-  -- what is given up in each segment is in all
-  pub all_given_up : (xs ys : List (List Hold)) → AreGivenUp owner xs ys →
-      IsGivenUp (all_holds xs) (all_holds ys) owner
-  all_given_up [] [] each = given_up_nothing
-  all_given_up [] (y ∷ ys) each = absurd each
-  all_given_up (x ∷ xs) [] each = absurd each
-  all_given_up (x ∷ xs) (y ∷ ys) each =
-      given_up_both x y (all_holds xs) (all_holds ys) each.0 (all_given_up xs ys each.1)
 
 -- the holds of others are what is left of all
 pub filtered_is_given_up : (owner : ℕ) (old new : List Hold) →

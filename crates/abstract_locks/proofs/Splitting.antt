@@ -1,8 +1,7 @@
--- A hold is put into one of the segments, or into a part of one; and empty segments are let go.
-use Rattle.std.proofs.Common.{◌≡◌, ◌==◌, ℕ, zero, suc, ◌<◌, List, [], ◌∷◌, ◌++◌, not, length}
-use Rattle.std.proofs.Common.{get_or, set, refl, ap, subst, arith, append_assoc}
-use Rattle.std.specs.List.{insert, filter}
-use Rattle.std.proofs.lemmas.Bool.{ne_eqb}
+-- A hold is put into one of the segments, or into a part of one.
+use Rattle.std.proofs.Common.{ℕ, zero, suc, ◌<◌, List, [], ◌∷◌, ◌++◌, length}
+use Rattle.std.proofs.Common.{get_or, set, subst, arith, append_assoc}
+use Rattle.std.specs.List.{insert}
 use Rattle.std.proofs.lemmas.List.{append-nil}
 use Rattle.std.proofs.lemmas.List.Concat.{flat_map-append}
 use Rattle.abstract_locks.specs.declared.table.Hold.{Hold}
@@ -29,11 +28,3 @@ added_in_parts (x ∷ xs) zero d lower upper h lt added =
 added_in_parts (x ∷ xs) (suc i) d lower upper h lt added =
     added_behind (all_holds xs) (all_holds (insert (set xs i lower) (suc i) upper)) h
     (added_in_parts xs i d lower upper h (omega arith) added) x
-
--- those that are empty held nothing
-pub all_kept : (xs : List (List Hold)) →
-    all_holds (filter (λ s. not (length s == 0)) xs) ≡ all_holds xs
-all_kept [] = refl
-all_kept ([] ∷ xs) = all_kept xs
-all_kept ((h ∷ hs) ∷ xs) =
-    rw (ne_eqb (length (h ∷ hs)) 0 (λ none. omega arith)) (ap (λ l. (h ∷ hs) ++ l) (all_kept xs))

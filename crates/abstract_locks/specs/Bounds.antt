@@ -1,6 +1,5 @@
 -- What bounds tell of holds.
-use Rattle.std.specs.Prelude.{◌≡◌, ◌≤◌, ◌%◌, IsTrue}
-use Rattle.std.specs.Int.{bit_at}
+use Rattle.std.specs.Prelude.{◌≤◌, ◌+◌, IsTrue}
 use Rattle.calls.specs.declared.need.Mode.{Mode}
 use Rattle.abstract_locks.specs.declared.bounds.Bounds.{Bounds}
 use Rattle.abstract_locks.specs.declared.table.Hold.{Hold}
@@ -11,13 +10,13 @@ HasMode b Mode.Read = IsTrue b.reads
 HasMode b Mode.Write = IsTrue b.writes
 HasMode b Mode.Add = IsTrue b.adds
 
--- The hold is within the bounds: its keys are, its owner and its mode.
+-- The hold is within the bounds: its keys are, how far they span, its owner and its mode.
 pub record IsWithin (b : Bounds) (h : Hold) : Type 0 where
   pub low : b.low ≤ h.need.low
   pub high : h.need.high ≤ b.high
+  pub span : h.need.high ≤ h.need.low + b.widest
   pub first : b.first_owner ≤ h.owner
   pub last : h.owner ≤ b.last_owner
-  pub marked : bit_at b.owners (h.owner % 64) ≡ 1
   pub mode : HasMode b h.need.mode
 
 -- What is within the narrow bounds is within the wide ones.

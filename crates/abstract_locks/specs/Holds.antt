@@ -58,3 +58,7 @@ IsAdded old new added = (h : Hold) → Contains new h ↔ (Contains old h ⊎ (h
 -- The holds of the owner are gone, and the others are held as before.
 abbrev pub IsGivenUp : (old new : List Hold) → ℕ → Type 0
 IsGivenUp old new owner = (h : Hold) → Contains new h ↔ (Contains old h × (h.owner ≢ owner))
+
+-- The one hold is gone, and the others are held as before.
+abbrev pub IsRemoved : (old new : List Hold) → Hold → Type 0
+IsRemoved old new gone = (h : Hold) → Contains new h ↔ (Contains old h × (h ≢ gone))

@@ -9,15 +9,16 @@ ghost use Rattle.abstract_locks.specs.Holds.{Blocks};
 use crate::table::Hold;
 use calls::{Mode, Need};
 
-/// Bounds of some holds: of their keys, of their owners, and which modes they have. The remainders
-/// of their owners by 64 are the bits of a mask, so that most of those who have none are known.
+/// Bounds of some holds: of their keys, of how far one spans, of their owners, and which modes they
+/// have.
 #[derive(Clone, Copy)]
 pub struct Bounds {
     low: u64,
     high: u64,
+    // how far the highest key of a hold is above its lowest, at most
+    widest: u64,
     first_owner: u64,
     last_owner: u64,
-    owners: u64,
     reads: bool,
     writes: bool,
     adds: bool,
@@ -29,9 +30,9 @@ impl Bounds {
         Self {
             low: u64::MAX,
             high: 0,
+            widest: 0,
             first_owner: u64::MAX,
             last_owner: 0,
-            owners: 0,
             reads: false,
             writes: false,
             adds: false,
@@ -45,9 +46,9 @@ impl Bounds {
         Self {
             low: hold.need.low,
             high: hold.need.high,
+            widest: hold.need.high.saturating_sub(hold.need.low),
             first_owner: hold.owner,
             last_owner: hold.owner,
-            owners: 1 << (hold.owner % 64),
             reads: hold.need.mode == Mode::Read,
             writes: hold.need.mode == Mode::Write,
             adds: hold.need.mode == Mode::Add,
@@ -62,13 +63,20 @@ impl Bounds {
         Self {
             low: self.low.min(other.low),
             high: self.high.max(other.high),
+            widest: self.widest.max(other.widest),
             first_owner: self.first_owner.min(other.first_owner),
             last_owner: self.last_owner.max(other.last_owner),
-            owners: self.owners | other.owners,
             reads: self.reads | other.reads,
             writes: self.writes | other.writes,
             adds: self.adds | other.adds,
         }
+    }
+
+    /// How far the highest key of a hold is above its lowest, at most.
+    pub fn widest(&self) -> u64
+        ensures { result ≡ self.now.widest }
+    {
+        self.widest
     }
 
     /// Whether a hold within the bounds may keep the need from the owner.
@@ -91,14 +99,5 @@ impl Bounds {
             Mode::Write => true,
             Mode::Add => self.reads || self.writes,
         }
-    }
-
-    /// Whether a hold within the bounds may be the owner's.
-    pub fn may_have(&self, owner: u64) -> bool
-        ensures { (h : Hold) → IsWithin self.now h → h.owner ≡ owner → IsTrue result }
-    {
-        self.first_owner <= owner
-            && owner <= self.last_owner
-            && (self.owners >> (owner % 64)) & 1 == 1
     }
 }

@@ -3,6 +3,7 @@
 
 mod bounds;
 mod needs;
+mod owners;
 mod segment;
 mod table;
 

@@ -2,22 +2,24 @@
 ghost use Rattle.std.specs.Prelude.{◌≡◌, ◌≢◌, ◌==◌, ◌↔◌, ◌<◌, ◌≤◌, [], ◌++◌, length, All, IsTrue};
 ghost use Rattle.std.specs.Prelude.{IfOk, Contains, vec_capacity};
 ghost use Rattle.abstract_locks.specs.Bounds.{IsWithin};
-ghost use Rattle.abstract_locks.specs.Holds.{IsAdded, IsGivenUp};
-ghost use Rattle.abstract_locks.specs.Segments.{segment_size, IsLeast, lesser};
+ghost use Rattle.abstract_locks.specs.Holds.{IsAdded, IsRemoved};
+ghost use Rattle.abstract_locks.specs.Order.{rank, compare, Rises, IsPlace};
+ghost use Rattle.abstract_locks.specs.Segments.{segment_size, begins_by, begins_to, IsLeast};
+ghost use Rattle.abstract_locks.specs.Segments.{lesser};
 
 use crate::bounds::Bounds;
 use crate::table::Hold;
-use calls::Need;
+use calls::{Mode, Need};
 use std::alloc::{AllocError, Global};
+use std::cmp::Ordering;
 use std::marker::Model;
 
 // How many holds a segment has at most.
 const SEGMENT_SIZE: usize = 128;
 
-/// A stretch of the holds on one collection, in the order of their lowest keys, with bounds of
-/// them. Contracts see the holds. It has room for as many as there may be from the start, so that
-/// no call but `new` takes memory. That each hold is within the bounds is what all rests on; of the
-/// order nothing is proved.
+/// A stretch of the holds on one collection, in their order, with bounds of them. Contracts see the
+/// holds. It has room for as many as there may be from the start, so that no call but `new` takes
+/// memory.
 #[derive(Drop)]
 pub struct Segment {
     holds: Vec<Hold>,
@@ -62,65 +64,72 @@ impl Segment {
         self.holds.len() == SEGMENT_SIZE
     }
 
-    /// Whether its first hold stands at the place of this one or before it, or there is none.
-    pub fn begins_by(&self, hold: &Hold) -> bool {
+    /// Whether it begins with a hold that does not stand behind this one, or has none.
+    pub fn begins_by(&self, hold: &Hold) -> bool
+        ensures { result ≡ begins_by hold.now self.now }
+    {
         match self.holds.first() {
-            Some(first) => first.key() <= hold.key(),
+            Some(first) => compare(first, hold).is_le(),
             None => true,
         }
     }
 
-    /// Bounds of its holds.
-    pub fn bounds(&self) -> Bounds
-        ensures { All (IsWithin result) self.now }
+    /// Whether it begins with a hold whose lowest key is at most this one, or has none.
+    pub fn begins_to(&self, key: u64) -> bool
+        ensures { result ≡ begins_to key self.now }
     {
-        self.bounds
+        match self.holds.first() {
+            Some(first) => first.need.low <= key,
+            None => true,
+        }
     }
 
-    /// Puts the hold in its place among the others, where it does not stand there. One halving;
-    /// those behind it move.
-    pub fn add(&mut self, hold: Hold)
+    /// Puts the hold in its place among the others, where it does not stand there. Answers whether
+    /// it is new. One halving; those behind it move.
+    pub fn add(&mut self, hold: Hold) -> bool
         requires { length self.old ≢ segment_size }
-        ensures { IsAdded self.old self.new hold }
+        ensures held { IsAdded self.old self.new hold }
+        ensures fresh { IsTrue result ↔ (Contains self.old hold → ⊥) }
+        ensures order { Rises self.new }
     {
-        let place = place_of(&self.holds, &hold);
-        if has_before(&self.holds, place, &hold) {
-            return;
-        }
+        let Err(place) = find(&self.holds, &hold) else {
+            return false;
+        };
         self.bounds = self.bounds.with(&Bounds::of(&hold));
         let Ok(()) = self.holds.insert(place, hold) else {
             unreachable!();
         };
+        true
     }
 
     /// Moves the upper half of its holds to the spare segment, and puts the hold into the half that
-    /// it belongs to. One look at each hold, for the bounds.
-    pub fn split(&mut self, spare: &mut Self, hold: Hold)
+    /// it belongs to. Answers whether the hold is new. One look at each hold, for the bounds.
+    pub fn split(&mut self, spare: &mut Self, hold: Hold) -> bool
         requires full { length self.old ≡ segment_size }
         requires spare { spare.old ≡ [] }
-        ensures { IsAdded self.old (self.new ++ spare.new) hold }
+        ensures held { IsAdded self.old (self.new ++ spare.new) hold }
+        ensures fresh { IsTrue result ↔ (Contains self.old hold → ⊥) }
+        ensures order { Rises (self.new ++ spare.new) }
+        ensures filled { (0 < length self.new) × (0 < length spare.new) }
     {
         move_upper_half(&mut self.holds, &mut spare.holds);
         self.bounds = bounds_of(&self.holds);
         spare.bounds = bounds_of(&spare.holds);
         if spare.begins_by(&hold) {
-            spare.add(hold);
+            spare.add(hold)
         } else {
-            self.add(hold);
+            self.add(hold)
         }
     }
 
-    /// Takes all holds of the owner out. One look at each, or none where the bounds tell that the
-    /// owner has none.
-    pub fn give_up(&mut self, owner: u64)
-        ensures { IsGivenUp self.old self.new owner }
+    /// Takes the hold out, where it is there. One halving; those behind it move, and each that is
+    /// left is looked at, for the bounds.
+    pub fn remove(&mut self, hold: &Hold)
+        ensures holds { IsRemoved self.old self.new hold.now }
+        ensures order { Rises self.new }
     {
-        if !self.bounds.may_have(owner) {
-            return;
-        }
-        let count = self.holds.len();
-        self.holds.retain(|hold| hold.owner != owner);
-        if self.holds.len() < count {
+        if let Ok(place) = find(&self.holds, hold) {
+            self.holds.remove(place);
             self.bounds = bounds_of(&self.holds);
         }
     }
@@ -151,20 +160,12 @@ fn least_of(holds: &[Hold], owner: u64, at: u8, need: &Need) -> Option<u64>
     least
 }
 
-// Where the hold belongs: behind all that stand before it or are equal to it.
-fn place_of(holds: &[Hold], hold: &Hold) -> usize
-    ensures { result ≤ length holds.now }
+// Where the hold stands, or else the place where it belongs.
+fn find(holds: &[Hold], hold: &Hold) -> Result<usize, usize>
+    requires { Rises holds.now }
+    ensures { IsPlace holds.now hold.now result }
 {
-    let key = hold.key();
-    holds.partition_point(|other| other.key() <= key)
-}
-
-// Whether the hold before the place is this one.
-fn has_before(holds: &[Hold], place: usize, hold: &Hold) -> bool
-    requires { place ≤ length holds.now }
-    ensures { IsTrue result → Contains holds.now hold.now }
-{
-    place > 0 && holds[place - 1] == *hold
+    holds.binary_search_by(|other| compare(other, hold))
 }
 
 // Moves the last holds to the other list, half as many as a segment has.
@@ -173,8 +174,8 @@ fn move_upper_half(holds: &mut Vec<Hold>, upper: &mut Vec<Hold>)
     requires empty { upper.old.items ≡ [] }
     requires room { segment_size ≤ vec_capacity upper.old }
     ensures all { holds.old.items ≡ holds.new.items ++ upper.new.items }
-    ensures lower { length holds.new.items < segment_size }
-    ensures upper { length upper.new.items < segment_size }
+    ensures lower { (0 < length holds.new.items) × (length holds.new.items < segment_size) }
+    ensures upper { (0 < length upper.new.items) × (length upper.new.items < segment_size) }
     ensures capacity { vec_capacity holds.new ≡ vec_capacity holds.old }
     ensures upper_capacity { vec_capacity upper.old ≤ vec_capacity upper.new }
 {
@@ -204,5 +205,29 @@ pub fn lesser(one: Option<u64>, other: Option<u64>) -> Option<u64>
         (Some(a), Some(b)) => Some(a.min(b)),
         (Some(a), None) => Some(a),
         (None, b) => b,
+    }
+}
+
+// How the two stand in the order of a collection: by the lowest key, then the owner and the rest.
+fn compare(one: &Hold, other: &Hold) -> Ordering
+    ensures { result ≡ compare one.now other.now }
+{
+    one.need
+        .low
+        .cmp(&other.need.low)
+        .then(one.owner.cmp(&other.owner))
+        .then(one.need.high.cmp(&other.need.high))
+        .then(rank(one.need.mode).cmp(&rank(other.need.mode)))
+        .then(one.at.cmp(&other.at))
+}
+
+// Where the mode stands among the others.
+fn rank(mode: Mode) -> u8
+    ensures { result ≡ rank mode }
+{
+    match mode {
+        Mode::Read => 0,
+        Mode::Write => 1,
+        Mode::Add => 2,
     }
 }

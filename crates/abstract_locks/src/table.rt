@@ -1,11 +1,12 @@
 // The table of needs: what each owner holds on each collection.
 ghost use Rattle.std.specs.Prelude.{◌≡◌, ◌<◌, ◌↔◌, [], length, IsTrue, IsOk, IsOkUnless, IfErr};
 ghost use Rattle.std.specs.Prelude.{OnOk, OnErr};
-ghost use Rattle.abstract_locks.specs.Collections.{AreAlike, AreLeft};
+ghost use Rattle.abstract_locks.specs.Collections.{AreOnTheirOwn, AreAlike, AreWithout};
 ghost use Rattle.abstract_locks.specs.Holds.{hold, Blocks, IsClear, IsBusyRefusal};
 ghost use Rattle.abstract_locks.specs.Holds.{IsAskRefusal, HasRoom, KeepsRoom, IsAdded, IsGivenUp};
 
 use crate::needs::Needs;
+use crate::owners::Owners;
 use calls::{Need, Refusal};
 use std::alloc::Global;
 use std::marker::Model;
@@ -19,16 +20,6 @@ pub struct Hold {
 }
 
 impl Hold {
-    /// What the holds on a collection are ordered by: the lowest key, then the owner and the rest.
-    pub fn key(&self) -> (u64, u64, u64, u8) {
-        (
-            self.need.low,
-            self.owner,
-            self.need.high,
-            self.need.mode as u8,
-        )
-    }
-
     /// Whether it keeps the need on the collection from the owner.
     pub fn blocks(&self, owner: u64, at: u8, need: &Need) -> bool
         ensures { IsTrue result ↔ Blocks owner at need.now self.now }
@@ -41,18 +32,25 @@ impl Hold {
 /// room.
 ///
 /// Each collection has a list of its own, which all owners share, in segments of some 100 holds. So
-/// what is held on other collections costs a call nothing, but for a look at each by `give_up`.
-/// What is held on its own collection costs it a look at each segment, and at the holds of those
-/// where there may be what it looks for.
+/// what is held on other collections costs a call nothing. What is held on its own collection costs
+/// it halvings, and a look at the segments in which what it looks for may be.
+///
+/// Each owner has a list of its own besides, of what it holds on all of them. So to give up costs
+/// it what it holds itself, whatever others hold.
 pub struct NeedTable {
     // by the number of the collection, up to the greatest that room was asked for
     collections: Vec<Needs>,
+    owners: Owners,
 }
 
 // Written out, so that the crates above call it in place of proving it again.
 impl Drop for NeedTable {
     fn drop(self) {
-        let Self { collections } = self;
+        let Self {
+            collections,
+            owners,
+        } = self;
+        drop(owners);
         drop(collections);
     }
 }
@@ -62,14 +60,14 @@ impl Model for NeedTable {
 
     ghost Value = { Holdings };
 
-    ghost use Rattle.abstract_locks.specs.Collections.{all_held, rooms, AreOnTheirOwn};
+    ghost use Rattle.abstract_locks.specs.Collections.{all_held, rooms, AreInTable};
 
     ghost view = { λ table. record {
       holds = all_held table.collections.items;
-      rooms = rooms table.collections.items;
+      rooms = rooms table.collections.items table.owners.ready;
     } };
 
-    ghost invariant = { λ table. AreOnTheirOwn table.collections.items };
+    ghost invariant = { λ table. AreInTable table.collections.items table.owners.holds };
 }
 
 impl NeedTable {
@@ -79,6 +77,7 @@ impl NeedTable {
     {
         Self {
             collections: Vec::new(alloc),
+            owners: Owners::new(alloc),
         }
     }
 
@@ -100,7 +99,8 @@ impl NeedTable {
 
     /// Lets the owner hold the need on the collection, beside what is held, where the need is free
     /// and room is reserved. It tests neither, and takes no memory. Two halvings; the holds behind
-    /// it in its segment move, and a segment that is full is split. A hold that the owner has
+    /// it in its segment move, and a segment that is full is split. Then one halving for the list
+    /// of the owner; where that is new, those of greater owners move. A hold that the owner has
     /// already is not kept twice.
     pub fn grant(&mut self, owner: u64, col: u8, need: Need)
         requires room { HasRoom self.old col }
@@ -112,12 +112,15 @@ impl NeedTable {
             at: col,
             need,
         };
-        self.collections[usize::from(col)].add(hold);
+        if self.collections[usize::from(col)].add(hold) {
+            self.owners.add(hold);
+        }
     }
 
     /// Whether `ask` would find the need free: Busy as there, and no other refusal. It takes no
-    /// memory. A look at the bounds of each segment on the collection, and at the holds of those in
-    /// which one may be in the way; one look in all where none has a mode that conflicts.
+    /// memory. Two halvings of the collection's segments, a look at the bounds of each between, and
+    /// at the holds of those in which one may be in the way; one look in all where bounds of all its
+    /// holds tell that none is.
     pub fn test(&self, owner: u64, col: u8, need: &Need) -> Result<(), Refusal>
         ensures clear { OnOk result (IsClear self.now.holds owner col need.now) }
         ensures busy { IfErr result (IsBusyRefusal self.now.holds owner col need.now) }
@@ -131,7 +134,10 @@ impl NeedTable {
     /// Makes room for one more hold on the collection. NoMemory, which leaves the table as it was,
     /// only where no room was reserved for the collection. It takes memory for a segment where the
     /// spare one was used, and its list of segments moves where that is full. The first for a
-    /// collection makes a place for it and for those of lesser numbers, 256 at most.
+    /// collection makes a place for it and for those of lesser numbers, 256 at most. Where the last
+    /// hold took the last room of its owner's list, or the last spare list or place for one, it
+    /// looks at each owner's list once more: what is full moves, and a list is made where none is
+    /// spare.
     pub fn reserve(&mut self, col: u8) -> Result<(), Refusal>
         ensures room { OnOk result (HasRoom self.new col) }
         ensures rooms { KeepsRoom self.old self.new }
@@ -142,17 +148,20 @@ impl NeedTable {
     {
         let place = usize::from(col);
         reach(&mut self.collections, place)?;
-        self.collections[place].reserve()
+        self.collections[place].reserve()?;
+        self.owners.reserve()
     }
 
-    /// Takes all holds of the owner out of the table. Reserved room stays. It takes no memory. One
-    /// look at each collection that has a place; where the owner may have a hold, one at each
-    /// segment, and at the holds of those in which it may have one.
+    /// Takes all holds of the owner out of the table. Reserved room stays. It takes no memory. Two
+    /// halvings for each hold of the owner, where those behind it in its segment move; no other
+    /// hold is looked at, whoever has it. Two halvings more for the list of the owner; those of
+    /// greater owners move.
     pub fn give_up(&mut self, owner: u64)
         ensures holds { IsGivenUp self.old.holds self.new.holds owner }
         ensures rooms { KeepsRoom self.old self.new }
     {
-        give_up_each(&mut self.collections, owner);
+        remove_each(&mut self.collections, self.owners.of(owner));
+        self.owners.give_up(owner);
     }
 }
 
@@ -170,11 +179,16 @@ fn reach(collections: &mut Vec<Needs>, place: usize) -> Result<(), Refusal>
     Ok(())
 }
 
-// Takes all holds of the owner out of each collection.
-fn give_up_each(collections: &mut [Needs], owner: u64)
-    ensures { AreLeft owner collections.old collections.new }
+// Takes the holds out, each of its collection.
+fn remove_each(collections: &mut [Needs], holds: &[Hold])
+    requires { AreOnTheirOwn collections.old }
+    ensures without { AreWithout holds.now collections.old collections.new }
+    ensures len { length collections.new ≡ length collections.old }
 {
-    for needs in collections.iter_mut() {
-        needs.give_up(owner);
+    for hold in holds {
+        let place = usize::from(hold.at);
+        if place < collections.len() {
+            collections[place].remove(hold);
+        }
     }
 }

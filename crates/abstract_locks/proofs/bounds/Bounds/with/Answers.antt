@@ -1,6 +1,6 @@
 use Rattle.std.proofs.Common.{arith}
 use Rattle.std.proofs.lemmas.Bool.{or_left, or_right}
-use Rattle.abstract_locks.proofs.Covering.{wider_covers, marked_left, marked_right}
+use Rattle.abstract_locks.proofs.Covering.{wider_covers}
 use Rattle.abstract_locks.proofs.bounds.Bounds.with.Goals as goal
 
 pub returns-clause-own : goal.returns-clause-own
@@ -10,9 +10,9 @@ returns-clause-own c =
     wider_covers _ a (record {
       low = omega arith;
       high = omega arith;
+      widest = omega arith;
       first = omega arith;
       last = omega arith;
-      marked = marked_left a.owners b.owners;
       reads = or_left a.reads b.reads;
       writes = or_left a.writes b.writes;
       adds = or_left a.adds b.adds;
@@ -25,9 +25,9 @@ returns-clause-others c =
     wider_covers _ b (record {
       low = omega arith;
       high = omega arith;
+      widest = omega arith;
       first = omega arith;
       last = omega arith;
-      marked = marked_right a.owners b.owners;
       reads = or_right a.reads b.reads;
       writes = or_right a.writes b.writes;
       adds = or_right a.adds b.adds;

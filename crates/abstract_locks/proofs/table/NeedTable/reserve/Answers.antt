@@ -1,80 +1,127 @@
-use Rattle.std.proofs.Common.{◌≡◌, ◌<◌, ◌≤◌, ◌∙◌, set, subst, sym, ap, arith, Result}
-use Rattle.std.proofs.Common.{Ok, Err, OnErr}
+use Rattle.std.proofs.Common.{◌<◌, ◌∙◌, set, subst, sym, ap, arith, Result, Ok, Err, OnOk}
+use Rattle.std.proofs.Common.{OnErr, IsOk, slice_index}
 use Rattle.std.proofs.lemmas.Result.{on_ok_weaker, on_err_weaker}
-use Rattle.abstract_locks.specs.Claimed.{Claimed}
-use Rattle.abstract_locks.specs.Collections.{held_on}
-use Rattle.abstract_locks.proofs.Collections.{shown_room, found_at, room_set, rooms_stay, all_set}
-use Rattle.abstract_locks.proofs.Collections.{alike_shown, same_set, more_at}
+use Rattle.abstract_locks.specs.Collections.{rooms}
+use Rattle.abstract_locks.specs.Owners.{Noted}
+use Rattle.abstract_locks.proofs.Collections.{shown_room, room_set, rooms_stay, alike_shown}
+use Rattle.abstract_locks.proofs.Collections.{reserved_held, reserved_room, reserved_in_table}
+use Rattle.abstract_locks.proofs.Collections.{had_room, unreserved_shown, refused_shown}
 use Rattle.abstract_locks.proofs.table.NeedTable.reserve.Goals as goal
-use Rattle.abstract_locks.proofs.table.NeedTable.reserve.Goals.{After-self-1}
 
 on_err : {T E P : Type 0} (r : Result T E) → P → OnErr r P
 on_err (Ok x) p = tt
 on_err (Err e) p = p
+
+where_ok : {T E P : Type 0} (r : Result T E) → IsOk r → OnOk r P → P
+where_ok (Ok x) ok p = p
+where_ok (Err e) ok p = absurd (cc)
 
 pub returns-in_err-reach-clause-rooms : goal.returns-in_err-reach-clause-rooms
 returns-in_err-reach-clause-rooms c =
     let is = c.reach.ensures.alike in
     rw (← c.self.view_is)
     (rooms_stay c.self.inside.collections.items c.reach.new.collections.items
+    c.self.inside.owners.ready c.self.inside.owners.ready (λ had. had)
     (λ at. rw (is.each at) (omega arith)))
 
 pub returns-in_err-reach-clause-succeeds : goal.returns-in_err-reach-clause-succeeds
 returns-in_err-reach-clause-succeeds c had =
-    let room = shown_room c.self.inside.collections.items c.args.self.now c.args.col
-    c.from-place.result c.self.view_is had c.from-place.ensures in
+    let room = shown_room c.self.inside.collections.items c.self.inside.owners.ready
+    c.args.self.now c.args.col c.from-place.result c.self.view_is had c.from-place.ensures in
     let wrong = c.in_err-reach.ensures.succeeds room.1 in cc
 
 pub returns-in_err-reach-clause-unchanged : goal.returns-in_err-reach-clause-unchanged
 returns-in_err-reach-clause-unchanged c = on_err c.from_residual.result
-    (alike_shown c.self.inside.collections.items c.reach.new.collections.items c.reach.ensures.alike
+    (alike_shown c.self.inside.collections.items c.reach.new.collections.items
+    c.self.inside.owners.ready c.reach.ensures.alike
     ∙ c.self.view_is)
 
--- what stood in the place was held on the collection
-found : (c : After-self-1) →
-    c.index_mut.result.now ≡ held_on c.reach.new.collections.items c.from-place.result
-found c = found_at c.reach.new.collections.items c.from-place.result c.index_mut.result.now
-    c.in_ok-reach.ensures.reached c.index_mut.ensures.value
+pub returns-in_err-reserve-clause-rooms : goal.returns-in_err-reserve-clause-rooms
+returns-in_err-reserve-clause-rooms c =
+    let cs = c.self.inside.collections.items in
+    let ds = c.reach.new.collections.items in
+    let i = c.from-place.result in
+    let new = c.reserve.new.self in
+    rw (← c.self.view_is)
+    (rooms_stay cs (set ds i new) c.self.inside.owners.ready c.self.inside.owners.ready (λ had. had)
+    (reserved_room cs ds c.reach.ensures.alike i c.in_ok-reach.ensures.reached
+    c.index_mut.result.now new c.index_mut.ensures.value c.reserve.ensures.holds
+    c.reserve.ensures.more))
+
+pub returns-in_err-reserve-clause-succeeds : goal.returns-in_err-reserve-clause-succeeds
+returns-in_err-reserve-clause-succeeds c had =
+    let room = had_room c.self.inside.collections.items c.reach.new.collections.items
+    c.reach.ensures.alike c.from-place.result c.in_ok-reach.ensures.reached c.index_mut.result.now
+    c.reserve.new.self c.index_mut.ensures.value c.reserve.ensures.holds
+    c.self.inside.owners.ready c.args.self.now c.args.col c.self.view_is had c.from-place.ensures in
+    let wrong = c.in_err-reserve.ensures.succeeds room.0 in cc
+
+pub returns-in_err-reserve-clause-unchanged : goal.returns-in_err-reserve-clause-unchanged
+returns-in_err-reserve-clause-unchanged c = on_err c.from_residual-in_err-reserve.result
+    (unreserved_shown c.self.inside.collections.items c.reach.new.collections.items
+    c.reach.ensures.alike c.from-place.result c.in_ok-reach.ensures.reached c.index_mut.result.now
+    c.reserve.new.self c.index_mut.ensures.value c.reserve.ensures.holds
+    c.self.inside.owners.ready c.in_err-reserve.ensures.unchanged
+    ∙ c.self.view_is)
+
+pub invariant_of-self-2 : goal.invariant_of-self-2
+invariant_of-self-2 c =
+    rw c.reserve-2.ensures.holds
+    (reserved_in_table c.self.inside.collections.items c.reach.new.collections.items
+    c.reach.ensures.alike c.from-place.result c.in_ok-reach.ensures.reached c.index_mut.result.now
+    c.reserve.new.self c.index_mut.ensures.value c.reserve.ensures.holds
+    c.self.inside.owners.holds c.self.invariant)
 
 pub returns-clause-room : goal.returns-clause-room
 returns-clause-room c =
     let fits = c.ranges.col.fits in
-    on_ok_weaker c.reserve.result
-    (λ pos. room_set c.reach.new.collections.items c.from-place.result c.args.col
-    c.reserve.new.self c.from-place.ensures c.in_ok-reach.ensures.reached (omega arith) pos)
-    c.reserve.ensures.room
-
-pub returns-clause-rooms : goal.returns-clause-rooms
-returns-clause-rooms c =
     let ds = c.reach.new.collections.items in
     let i = c.from-place.result in
     let new = c.reserve.new.self in
-    let le = subst (λ (x : Claimed). x.room ≤ new.room) (found c) c.reserve.ensures.more in
+    on_ok_weaker c.reserve-2.result
+    (λ ready. subst (λ b. 0 < slice_index (rooms (set ds i new) b) c.args.col) (sym ready)
+    (room_set ds i c.args.col new c.from-place.ensures c.in_ok-reach.ensures.reached (omega arith)
+    c.in_ok-reserve.ensures.room))
+    c.reserve-2.ensures.ready
+
+pub returns-clause-rooms : goal.returns-clause-rooms
+returns-clause-rooms c =
+    let cs = c.self.inside.collections.items in
+    let ds = c.reach.new.collections.items in
+    let i = c.from-place.result in
+    let new = c.reserve.new.self in
     rw (← c.self.view_is)
-    (rooms_stay c.self.inside.collections.items (set ds i new)
-    (λ at. subst (λ (x : Claimed). x.room ≤ (held_on (set ds i new) at).room)
-    (c.reach.ensures.alike.each at) (more_at ds i new c.in_ok-reach.ensures.reached le at)))
+    (rooms_stay cs (set ds i new) c.self.inside.owners.ready c.reserve-2.new.self.ready
+    (λ had. where_ok c.reserve-2.result (c.reserve-2.ensures.succeeds had)
+    c.reserve-2.ensures.ready)
+    (reserved_room cs ds c.reach.ensures.alike i c.in_ok-reach.ensures.reached
+    c.index_mut.result.now new c.index_mut.ensures.value c.reserve.ensures.holds
+    c.reserve.ensures.more))
 
 pub returns-clause-holds : goal.returns-clause-holds
-returns-clause-holds c =
-    rw (← c.self.view_is)
-    (all_set c.reach.new.collections.items c.from-place.result c.reserve.new.self
-    (c.reserve.ensures.holds ∙ ap (λ (x : Claimed). x.holds) (found c))
-    ∙ c.reach.ensures.alike.all)
+returns-clause-holds c = rw (← c.self.view_is)
+    (reserved_held c.self.inside.collections.items c.reach.new.collections.items
+    c.reach.ensures.alike c.from-place.result c.in_ok-reach.ensures.reached c.index_mut.result.now
+    c.reserve.new.self c.index_mut.ensures.value c.reserve.ensures.holds)
 
 pub returns-clause-succeeds : goal.returns-clause-succeeds
 returns-clause-succeeds c had =
-    let i = c.from-place.result in
-    let room = shown_room c.self.inside.collections.items c.args.self.now c.args.col i
-    c.self.view_is had c.from-place.ensures in
-    c.reserve.ensures.succeeds
-    (subst (λ (x : Claimed). 0 < x.room) (sym (found c ∙ c.reach.ensures.alike.each i)) room.0)
+    let room = had_room c.self.inside.collections.items c.reach.new.collections.items
+    c.reach.ensures.alike c.from-place.result c.in_ok-reach.ensures.reached c.index_mut.result.now
+    c.reserve.new.self c.index_mut.ensures.value c.reserve.ensures.holds
+    c.self.inside.owners.ready c.args.self.now c.args.col c.self.view_is had c.from-place.ensures in
+    c.reserve-2.ensures.succeeds room.1
 
 pub returns-clause-unchanged : goal.returns-clause-unchanged
-returns-clause-unchanged c = on_err_weaker c.reserve.result
-    (λ same. same_set c.reach.new.collections.items c.from-place.result c.reserve.new.self
-    (same ∙ found c)
-    ∙ alike_shown c.self.inside.collections.items c.reach.new.collections.items
-    c.reach.ensures.alike
-    ∙ c.self.view_is)
-    c.reserve.ensures.unchanged
+returns-clause-unchanged c =
+    let cs = c.self.inside.collections.items in
+    let ds = c.reach.new.collections.items in
+    let i = c.from-place.result in
+    let new = c.reserve.new.self in
+    on_err_weaker c.reserve-2.result (λ same. same ∙ c.self.view_is)
+    (refused_shown c.reserve-2.result cs (set ds i new) c.self.inside.owners.ready
+    c.reserve-2.new.self.ready c.reserve-2.ensures.succeeds
+    (on_err_weaker c.reserve-2.result (λ same. ap (λ (n : Noted). n.ready) same)
+    c.reserve-2.ensures.unchanged)
+    (reserved_held cs ds c.reach.ensures.alike i c.in_ok-reach.ensures.reached
+    c.index_mut.result.now new c.index_mut.ensures.value c.reserve.ensures.holds))

@@ -25,7 +25,8 @@ returns-in-Some-clause-clear c =
     let a = c.args in
     rw (← c.self.view_is)
     (on_ok_weaker c.test.result
-    (λ free. clear_of_all c.self.inside.collections.items c.self.invariant a.owner a.col a.need.now
+    (λ free. clear_of_all c.self.inside.collections.items c.self.invariant.own a.owner a.col
+    a.need.now
     (subst (λ (x : Claimed). IsClear x.holds a.owner a.col a.need.now) (found c) free))
     c.test.ensures.clear)
 
@@ -33,7 +34,7 @@ pub returns-in-Some-clause-busy : goal.returns-in-Some-clause-busy
 returns-in-Some-clause-busy c =
     let a = c.args in
     rw (← c.self.view_is)
-    (test_of_all c.self.inside.collections.items c.self.invariant a.owner a.col a.need.now
+    (test_of_all c.self.inside.collections.items c.self.invariant.own a.owner a.col a.need.now
     c.test.result
     (subst
     (λ (x : Claimed). IfErr c.test.result (IsBusyRefusal x.holds a.owner a.col a.need.now))
@@ -46,4 +47,4 @@ returns-in-None-clause-clear c =
     let past : length cs ≤ c.args.col = rw (← c.deref.ensures.value, ← c.from.ensures)
     (ltb-false c.from.result (length c.deref.result.now) (sym none)) in
     rw (← c.self.view_is)
-    (clear_past cs c.self.invariant c.args.owner c.args.col c.args.need.now past)
+    (clear_past cs c.self.invariant.own c.args.owner c.args.col c.args.need.now past)

@@ -1,0 +1,18 @@
+use Rattle.abstract_locks.proofs.Ordering.{compared}
+use Rattle.abstract_locks.proofs.segment.compare.Goals as goal
+
+pub returns : goal.returns
+returns c =
+    rw (
+      c.then-4.ensures,
+      c.then-3.ensures,
+      c.then-2.ensures,
+      c.then.ensures,
+      c.cmp.ensures,
+      c.cmp-2.ensures,
+      c.cmp-3.ensures,
+      c.cmp-4.ensures,
+      c.cmp-5.ensures,
+      c.rank.ensures,
+      c.rank-2.ensures,
+    ) (compared c.args.one.now c.args.other.now)
