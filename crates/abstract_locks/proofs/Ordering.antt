@@ -12,36 +12,39 @@ use Rattle.std.proofs.lemmas.List.Sorted.{searchable_from_sorted}
 use Rattle.std.proofs.lemmas.Map.Lookups.{exact_bytes}
 use Rattle.calls.specs.declared.need.Mode.{Mode}
 use Rattle.abstract_locks.specs.declared.table.Hold.{Hold}
-use Rattle.abstract_locks.specs.Order.{rank, key, compare, Precedes, Rises, IsPlace}
+use Rattle.abstract_locks.specs.Order.{rank, key, compare, compare_rest}
+use Rattle.abstract_locks.specs.Order.{Precedes, Rises, IsPlace}
 
 pub order : IsTotalOrder compare
 unfolding compare
 order = on_texts key
 
-chain : (a b c d e : Ordering) →
-    ordering_then (ordering_then (ordering_then (ordering_then a b) c) d) e
-    ≡ ordering_then a (ordering_then b (ordering_then c (ordering_then d (ordering_then e Equal))))
-chain Less b c d e = refl
-chain Greater b c d e = refl
-chain Equal Less c d e = refl
-chain Equal Greater c d e = refl
-chain Equal Equal Less d e = refl
-chain Equal Equal Greater d e = refl
-chain Equal Equal Equal Less e = refl
-chain Equal Equal Equal Greater e = refl
-chain Equal Equal Equal Equal Less = refl
-chain Equal Equal Equal Equal Equal = refl
-chain Equal Equal Equal Equal Greater = refl
+chain : (a b c d : Ordering) → ordering_then (ordering_then (ordering_then a b) c) d
+    ≡ ordering_then a (ordering_then b (ordering_then c (ordering_then d Equal)))
+chain Less b c d = refl
+chain Greater b c d = refl
+chain Equal Less c d = refl
+chain Equal Greater c d = refl
+chain Equal Equal Less d = refl
+chain Equal Equal Greater d = refl
+chain Equal Equal Equal Less = refl
+chain Equal Equal Equal Equal = refl
+chain Equal Equal Equal Greater = refl
 
 -- number by number
 pub compared : (h g : Hold) →
-    ordering_then (ordering_then (ordering_then (ordering_then (nat_cmp h.need.low g.need.low)
-    (nat_cmp h.owner g.owner)) (nat_cmp h.need.high g.need.high))
-    (nat_cmp (rank h.need.mode) (rank g.need.mode))) (nat_cmp h.at g.at) ≡ compare h g
-unfolding compare
-compared h g = chain (nat_cmp h.need.low g.need.low) (nat_cmp h.owner g.owner)
-    (nat_cmp h.need.high g.need.high) (nat_cmp (rank h.need.mode) (rank g.need.mode))
-    (nat_cmp h.at g.at)
+    ordering_then (ordering_then (ordering_then (nat_cmp h.owner g.owner)
+    (nat_cmp h.need.high g.need.high)) (nat_cmp (rank h.need.mode) (rank g.need.mode)))
+    (nat_cmp h.at g.at) ≡ compare_rest h g
+unfolding compare_rest
+compared h g = chain (nat_cmp h.owner g.owner) (nat_cmp h.need.high g.need.high)
+    (nat_cmp (rank h.need.mode) (rank g.need.mode)) (nat_cmp h.at g.at)
+
+-- by the lowest keys first
+pub by_low : (h g : Hold) (r : Ordering) → nat_cmp h.need.low g.need.low ≡ r →
+    ordering_then r (compare_rest h g) ≡ compare h g
+unfolding compare compare_rest
+by_low h g r is = ap (λ o. ordering_then o (compare_rest h g)) (sym is)
 
 pub precedes_itself : (h : Hold) → Precedes h h → ⊥
 precedes_itself h less = let tied = tied_itself order h in cc

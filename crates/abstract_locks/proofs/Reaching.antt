@@ -20,7 +20,7 @@ use Rattle.abstract_locks.specs.Holds.{Blocks}
 use Rattle.abstract_locks.specs.Order.{compare, Precedes, Rises}
 use Rattle.abstract_locks.specs.Segments.{all_holds, AreOrdered, begins_to, AreNarrow, AreInReach}
 use Rattle.abstract_locks.specs.Segments.{IsLeast}
-use Rattle.abstract_locks.proofs.Ordering.{compared}
+use Rattle.abstract_locks.proofs.Ordering.{by_low}
 use Rattle.abstract_locks.proofs.Placing.{earlier, between_at}
 use Rattle.abstract_locks.proofs.Rising.{All-left, ArePreceding, rises_left, rises_right}
 
@@ -33,7 +33,7 @@ low_of a b before =
     (λ (lt : b.need.low < a.need.low).
     let more : nat_cmp a.need.low b.need.low ≡ Greater =
     sym (nat_cmp_is a.need.low b.need.low Greater lt) in
-    let after : Greater ≡ compare a b = rw more at (compared a b) in
+    let after : Greater ≡ compare a b = by_low a b Greater more in
     let wrong : Greater ≡ Less = after ∙ before in
     cc)
     (λ (le : a.need.low ≤ b.need.low). le) (cases_lt b.need.low a.need.low)

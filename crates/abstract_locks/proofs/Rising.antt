@@ -203,6 +203,12 @@ module _ (holds : List Hold) (i : ℕ) (h : Hold) where
         (removed_between (take i holds) (drop (suc i) holds) h before behind (h ∷ []) []
         (one_removed h))
 
+-- what holds of all holds of those that are left
+pub all_removed : (P : Hold → Type 0) (old new : List Hold) (gone : Hold) → IsRemoved old new gone →
+    All P old → All P new
+all_removed P old new gone is all = All-weaker (Contains new) P
+    (λ g there. All-contains P old g all ((is g).0 there).0) new (All-contains_itself new)
+
 -- ---- a hold and a segment
 
 -- what precedes a segment that begins at the hold's place or before it precedes the hold

@@ -13,10 +13,16 @@ rank Mode.Write = 1
 rank Mode.Add = 2
 
 -- What the holds are ordered by: the lowest key, then the owner and the rest.
+abbrev pub rest_of_key : Hold → List ℕ
+rest_of_key h = h.owner ∷ h.need.high ∷ rank h.need.mode ∷ h.at ∷ []
+
 abbrev pub key : Hold → List ℕ
-key h = h.need.low ∷ h.owner ∷ h.need.high ∷ rank h.need.mode ∷ h.at ∷ []
+key h = h.need.low ∷ rest_of_key h
 
 -- The keys are compared as words in a dictionary are, number by number from the first.
+unfoldable pub compare_rest : Hold → Hold → Ordering
+compare_rest h g = slice_cmp nat_cmp (rest_of_key h) (rest_of_key g)
+
 unfoldable pub compare : Hold → Hold → Ordering
 compare h g = slice_cmp nat_cmp (key h) (key g)
 

@@ -83,8 +83,8 @@ impl Needs {
     }
 
     /// Takes the hold out, where it is there. Room stays. It takes no memory. Two halvings, one for
-    /// its segment and one in it, where those behind it move and all are looked at; a segment that
-    /// is empty then is let go, where it is not the only one.
+    /// its segment and one in it, where those behind it move; a segment that is empty then is let
+    /// go, where it is not the only one.
     pub fn remove(&mut self, hold: &Hold)
         ensures holds { IsRemoved self.old.holds self.new.holds hold.now }
         ensures room { self.old.room ≤ self.new.room }

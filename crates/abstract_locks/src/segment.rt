@@ -3,7 +3,7 @@ ghost use Rattle.std.specs.Prelude.{◌≡◌, ◌≢◌, ◌==◌, ◌↔◌, �
 ghost use Rattle.std.specs.Prelude.{IfOk, Contains, vec_capacity};
 ghost use Rattle.abstract_locks.specs.Bounds.{IsWithin};
 ghost use Rattle.abstract_locks.specs.Holds.{IsAdded, IsRemoved};
-ghost use Rattle.abstract_locks.specs.Order.{rank, compare, Rises, IsPlace};
+ghost use Rattle.abstract_locks.specs.Order.{rank, compare, compare_rest, Rises, IsPlace};
 ghost use Rattle.abstract_locks.specs.Segments.{segment_size, begins_by, begins_to, IsLeast};
 ghost use Rattle.abstract_locks.specs.Segments.{lesser};
 
@@ -24,6 +24,8 @@ const SEGMENT_SIZE: usize = 128;
 pub struct Segment {
     holds: Vec<Hold>,
     bounds: Bounds,
+    // how many were taken out since the bounds were made from what is left
+    removed: usize,
 }
 
 impl Model for Segment {
@@ -47,6 +49,7 @@ impl Segment {
         Ok(Self {
             holds: Vec::with_capacity(alloc, SEGMENT_SIZE)?,
             bounds: Bounds::none(),
+            removed: 0,
         })
     }
 
@@ -122,15 +125,17 @@ impl Segment {
         }
     }
 
-    /// Takes the hold out, where it is there. One halving; those behind it move, and each that is
-    /// left is looked at, for the bounds.
+    /// Takes the hold out, where it is there. One halving; those behind it move. Now and then each
+    /// that is left is looked at, for the bounds.
     pub fn remove(&mut self, hold: &Hold)
         ensures holds { IsRemoved self.old self.new hold.now }
         ensures order { Rises self.new }
     {
         if let Ok(place) = find(&self.holds, hold) {
             self.holds.remove(place);
-            self.bounds = bounds_of(&self.holds);
+            let (bounds, removed) = narrowed(self.bounds, self.removed, &self.holds);
+            self.bounds = bounds;
+            self.removed = removed;
         }
     }
 
@@ -186,6 +191,20 @@ fn move_upper_half(holds: &mut Vec<Hold>, upper: &mut Vec<Hold>)
     holds.truncate(middle);
 }
 
+// Bounds of the holds that are left where one more was taken out, and how many were since bounds
+// were made. Once that is more than are left they are made anew, so that a removal costs two looks
+// at most, taken together; until then the wide ones serve.
+fn narrowed(bounds: Bounds, removed: usize, holds: &[Hold]) -> (Bounds, usize)
+    requires { All (IsWithin bounds) holds.now }
+    ensures { All (IsWithin result.0) holds.now }
+{
+    if removed < holds.len() {
+        (bounds, removed + 1)
+    } else {
+        (bounds_of(holds), 0)
+    }
+}
+
 // Bounds of the holds.
 fn bounds_of(holds: &[Hold]) -> Bounds
     ensures { All (IsWithin result) holds.now }
@@ -212,10 +231,19 @@ pub fn lesser(one: Option<u64>, other: Option<u64>) -> Option<u64>
 fn compare(one: &Hold, other: &Hold) -> Ordering
     ensures { result ≡ compare one.now other.now }
 {
-    one.need
-        .low
-        .cmp(&other.need.low)
-        .then(one.owner.cmp(&other.owner))
+    match one.need.low.cmp(&other.need.low) {
+        Ordering::Less => Ordering::Less,
+        Ordering::Equal => compare_rest(one, other),
+        Ordering::Greater => Ordering::Greater,
+    }
+}
+
+// How two with the same lowest key stand.
+fn compare_rest(one: &Hold, other: &Hold) -> Ordering
+    ensures { result ≡ compare_rest one.now other.now }
+{
+    one.owner
+        .cmp(&other.owner)
         .then(one.need.high.cmp(&other.need.high))
         .then(rank(one.need.mode).cmp(&rank(other.need.mode)))
         .then(one.at.cmp(&other.at))

@@ -14,7 +14,7 @@ invariant_of-self c =
     record {
       rises = rw c.remove.ensures.items (rises_remove items c.in-Ok.place c.args.hold.now at.0
           (at.1 c.args.hold.now) c.self.invariant.rises);
-      within = rw (← c.deref-in-Ok.ensures.value) c.bounds_of-self-inside.ensures;
+      within = rw (← c.deref-in-Ok.ensures.value) c.narrowed-removed.ensures;
       few = omega arith;
       room = omega arith;
     }
