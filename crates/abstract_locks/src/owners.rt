@@ -14,6 +14,10 @@ use std::marker::Model;
 // For how many holds a new list has room.
 const FIRST_ROOM: usize = 16;
 
+// Below so many spare lists one is made: with two, an owner that comes takes one and leaves one, so
+// that owners who come and go need no look at the lists of others.
+const FEW_SPARES: usize = 2;
+
 // What one owner holds.
 #[derive(Drop)]
 struct Owned {
@@ -285,13 +289,13 @@ fn reserve_each(lists: &mut [Owned]) -> Result<(), AllocError>
     Ok(())
 }
 
-// Makes a spare list, where there is none.
+// Makes one more spare list, where there are few.
 fn make_spare(spares: &mut Vec<Owned>) -> Result<(), AllocError>
     requires { All IsSpare spares.old.items }
     ensures spare { All IsSpare spares.new.items }
     ensures some { OnOk result (0 < length spares.new.items) }
 {
-    if spares.is_empty() {
+    if spares.len() < FEW_SPARES {
         let alloc = *spares.allocator();
         spares.push(Owned::new(alloc)?)?;
     }
