@@ -16,7 +16,7 @@ use clap::{Arg, ArgAction, ArgMatches, Error, value_parser};
 use std::alloc::{AllocError, Global};
 
 /// What the program is asked to do, with the paths as they were written.
-#[derive(Drop)]
+#[derive(Drop, Debug)]
 pub enum Invocation {
     /// A task of one thread.
     Run(Task),
@@ -25,7 +25,7 @@ pub enum Invocation {
 }
 
 /// What the program does on one thread, with the paths as they were written.
-#[derive(Drop)]
+#[derive(Drop, Debug)]
 pub enum Task {
     /// Makes the file, or sets its size, and formats it with two areas of so many bytes.
     Format { disk: String, area: u64 },
