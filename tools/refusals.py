@@ -17,7 +17,7 @@ All scripts are played, or those that are named. Six are of this tool: one for e
 Behind each of its lines such a script reads each collection back, in the same session. So a call that was refused and
 has changed something all the same shows there, also where the call that is run once more answers as ever and nothing
 of it is on the disk. It is run on an empty store, and then the store that it left is opened and read. Eleven are those
-that are failed and stopped at each call of the disk (`sweeps`, tools/sweeps.py): six by name, and five generated
+that are failed and stopped at each call of the disk (`sweep`, tools/sweeps.py): six by name, and five generated
 stories, two of which have images of two blocks. What a run with ample memory answers is compared with the model of
 tools/stories.py.
 

@@ -1,9 +1,9 @@
 #!/usr/bin/env python3
-"""Makes the generated stories of crates/cases and crates/sweeps, and says what they must answer, from a plain model of a store.
+"""Makes the generated stories of crates/cases, and says what they must answer, from a plain model of a store.
 
-    tools/stories.py          writes the stories that are played whole into crates/cases/data; and those that are stopped, the
-                              sweeps, and what each shows after each place into crates/sweeps/data
-    tools/stories.py told     prints what the two programs must print of the stories
+    tools/stories.py          writes the stories that are played whole, those that are stopped, the sweeps, and what each of
+                              these shows after each place, into crates/cases/data
+    tools/stories.py told     prints what the program must print of the stories
 
 The model knows what a store means, and nothing of how the program does it: five kinds of collections with a row for
 each call and reply, needs that conflict, transactions that are live, what they put off, places, and which blocks a turn
@@ -16,8 +16,7 @@ import random
 import sys
 from pathlib import Path
 
-CRATES = Path(__file__).resolve().parent.parent / "crates"
-CASES, SWEEPS = CRATES / "cases" / "data", CRATES / "sweeps" / "data"
+DATA = Path(__file__).resolve().parent.parent / "crates" / "cases" / "data"
 MAX = 2**64 - 1
 KINDS = {"s": "set", "m": "map", "q": "queue", "n": "counter", "p": "pool"}
 READ, WRITE, ADD = "read", "write", "add"
@@ -515,7 +514,7 @@ def main():
             cased, printed, shown = stopped(f"story {seed} is stopped at each call", file, ground, story(seed, count))
             halted, told = halted + cased, told + printed
             if sys.argv[1:] != ["told"]:
-                (SWEEPS / file).write_text(shown)
+                (DATA / file).write_text(shown)
     for seed in range(100, 112):
         cased, printed = whole(f"story {seed} is played whole", story(seed, 250))
         cases, told = cases + cased, told + printed
@@ -523,11 +522,11 @@ def main():
         print("\n".join(told))
     else:
         head = "# Generated stories, written by tools/stories.py, which also says what they must answer."
-        (SWEEPS / "stopped_stories").write_text("\n".join([head, *halted]) + "\n")
-        (CASES / "stories").write_text("\n".join([head, *cases]) + "\n")
+        (DATA / "stopped_stories").write_text("\n".join([head, *halted]) + "\n")
+        (DATA / "stories").write_text("\n".join([head, *cases]) + "\n")
         head = "# Bytes that look like chance, written by tools/stories.py: each area is refused or opened."
-        (CASES / "any_bytes").write_text("\n".join([head, *any_bytes(1)]) + "\n")
-        write_sweeps(SWEEPS, {name: (EMPTY, lines) for name, lines in SWEPT.items()})
+        (DATA / "any_bytes").write_text("\n".join([head, *any_bytes(1)]) + "\n")
+        write_sweeps(DATA, {name: (EMPTY, lines) for name, lines in SWEPT.items()})
 
 
 if __name__ == "__main__":

@@ -2,7 +2,7 @@
 """sweeps.py [SEED..]: fails and stops generated stories at each call of the disk and behind the last one, and the opening of what
 is left at each of its own.
 
-The program is `sweeps`, proved and built (`rt run` in crates/sweeps builds it), with the question `sweep` (docs/CASES.md). The
+The program is `cases`, proved and built (`rt run` in crates/cases builds it), with the question `sweep` (docs/CASES.md). The
 stories are those of the seeds, on an empty store; 5, 6 and 8 where none is given, and then 25 and 38 on a store whose image
 has two blocks. Then it opens 20,000 areas of bytes of a generator. It prints the figures of each, and ends with status 1
 where something was not as the model of tools/stories.py tells.
@@ -17,7 +17,7 @@ from pathlib import Path
 import stories
 
 TOP = os.path.dirname(os.path.dirname(os.path.realpath(__file__)))
-SWEEPS = os.path.join(TOP, "crates/sweeps/out/sweeps")
+CASES = os.path.join(TOP, "crates/cases/out/cases")
 AREAS = ["@ areas", *(f"| {line}" for line in stories.HITS), "play", "areas 2 20000"]
 
 
@@ -35,7 +35,7 @@ def main():
         stories.write_sweeps(Path(folder), scripts(sys.argv[1:]))
         Path(folder, "areas").write_text("\n".join(AREAS) + "\n")
         Path(folder, "index").write_text("sweeps\nareas\n")
-        done = subprocess.run([SWEEPS], cwd=folder, capture_output=True, text=True)
+        done = subprocess.run([CASES], cwd=folder, capture_output=True, text=True)
     print(done.stdout, end="")
     figures = re.findall(r" (\d+) (?:not as told|answered in two ways|answered otherwise)$", done.stdout, re.M)
     if done.returncode != 0 or not figures or any(int(figure) for figure in figures):

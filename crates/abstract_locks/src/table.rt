@@ -153,9 +153,9 @@ impl NeedTable {
     }
 
     /// Takes all holds of the owner out of the table. Reserved room stays. It takes no memory. Two
-    /// halvings for each hold of the owner, where those behind it in its segment move; no other
-    /// hold is looked at, whoever has it. Two halvings more for the list of the owner; those of
-    /// greater owners move.
+    /// halvings for each hold of the owner, where those behind it in its segment move. What others
+    /// hold is met in the halvings alone, and where the bounds of a segment are made anew. Two
+    /// halvings more for the list of the owner; those of greater owners move.
     pub fn give_up(&mut self, owner: u64)
         ensures holds { IsGivenUp self.old.holds self.new.holds owner }
         ensures rooms { KeepsRoom self.old self.new }

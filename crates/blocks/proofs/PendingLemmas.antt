@@ -435,6 +435,32 @@ pub none_long : {A : Type 0} (l : List A) → length l ≡ 0 → l ≡ []
 none_long [] is = refl
 none_long (x ∷ l) is = absurd (omega (arith, is))
 
-pub some_long : {A : Type 0} (l : List A) → (l ≡ [] → ⊥) → 0 < length l
-some_long [] some = absurd (some refl)
-some_long (x ∷ l) some = omega arith
+pub some_told : {A : Type 0} (l : List A) (told : Bool) → IsTrue told ↔ (l ≡ []) →
+    told ≡ false → 0 < length l
+some_told [] told is no' = let yes = is.1 refl in cc
+some_told (x ∷ l) told is no' = omega arith
+
+pub first_long : (all full : List Filled) (first : Filled) (last : List Record) →
+    all ≡ first ∷ full → length first.draft.records ≤ length (in_full all ++ last)
+first_long all full first last same =
+    omega (
+      arith,
+      ap (λ (l : List Filled). length (in_full l ++ last)) same,
+      ap length (append_assoc first.draft.records (in_full full) last),
+      length-append first.draft.records (in_full full ++ last),
+    )
+
+-- What was put back waits as before.
+pub waits_again : (full before : List Filled) (last had : List Record) (handed was : Handed) →
+    before ≡ full → last ≡ had → handed ≡ was → 0 < length had →
+    (in_full full ++ last ≡ in_full before ++ had) × (handed.end ≡ was.end) ×
+    (handed.place ≡ was.place) × (sealed_ends handed.end full ≡ sealed_ends was.end before) ×
+    (0 < length (in_full before ++ had))
+waits_again full before last had handed was full_is last_is handed_is some =
+    let back : full ≡ before = sym full_is in (
+      λ i. in_full (back i) ++ last_is i,
+      ap (λ (h : Handed). h.end) handed_is,
+      ap (λ (h : Handed). h.place) handed_is,
+      λ i. sealed_ends (handed_is i).end (back i),
+      omega (arith, some, length-append (in_full before) had),
+    )

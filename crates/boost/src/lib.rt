@@ -2,10 +2,15 @@
 #![tactic(auto)]
 
 mod commands;
+mod script_work;
 mod serving;
+mod session;
+mod transcript;
 
 pub use arguments::{Invocation, Task, command};
 pub use commands::{Failure, STORED_RUN, report, run};
 pub use player::Said;
 pub use script::{Action, Line, Operation, Request, ScriptError, Verb, parse};
 pub use serving::serve;
+pub use session::Session;
+pub use transcript::{Answer, End, Transcript};

@@ -5,12 +5,13 @@ ghost use Rattle.boost.specs.Commands.{IsUnderstood, IsOfStore, IsWhyUnplayed, I
 ghost use Rattle.background.specs.Works.{IsLeftByWork};
 
 use crate::commands::{Failure, report};
+use crate::script_work::{Script, collect};
+use crate::transcript::Transcript;
 use background::{all_ended, run};
 use calls::Refusal;
 use crossbeam_channel::Receiver;
 use disk_model::Disk;
 use script::{Line, parse};
-use server::{Script, Transcript, collect};
 use std::alloc::{AllocGlobal, Global};
 use std::io::{BufWriter, Write};
 use std::sync::Wait;

@@ -1,15 +1,18 @@
 //! Plays cases that are data: each is a list of scripts and questions, on disks in memory and on
-//! files. What is asked and what is answered is printed, and the file `stdout` says what it must
-//! be. A line that is no question ends the run.
+//! files, for one client and for clients in threads. What is asked and what is answered is printed,
+//! and the file `stdout` says what it must be. A line that is no question ends the run.
 #![tactic(auto)]
 
+mod comparison;
 mod damage;
 mod files;
 mod image_bytes;
 mod questions;
 mod runs;
 mod spellings;
+mod sweeps;
 mod texts;
+mod threads;
 
 use plays::bench::Bench;
 use plays::told::Told;

@@ -1,5 +1,7 @@
 // What the lines of a case ask.
-use crate::{damage, files, image_bytes, runs, spellings, texts};
+use crate::sweeps::{any_areas, stops, sweeping};
+use crate::threads::{load, second_call_during_sync};
+use crate::{comparison, damage, files, image_bytes, runs, spellings, texts};
 use plays::bench::Bench;
 use plays::questions;
 use plays::told::Told;
@@ -33,6 +35,11 @@ fn ask_of_threads(
     match word {
         "boost" => files::run_program(rt, rest, told),
         "serve" => runs::serve(rt, bench, told),
+        "second_call_during_sync" => {
+            second_call_during_sync::run(rt, told);
+            Ok(())
+        }
+        "load" => load::run(rt, told),
         _ => ask_of_files(rt, bench, word, rest, told),
     }
 }
@@ -56,12 +63,29 @@ fn ask_of_files(
         }
         "remove" => fs::remove_file(rt, rest),
         "play_read_only" => files::play_read_only(rt, bench, rest, told),
+        _ => ask_of_sweeps(rt, bench, word, rest, told),
+    }
+}
+
+// Asks for stops or for areas, or else another question.
+fn ask_of_sweeps(
+    rt: &(impl Files + Wait + AllocGlobal),
+    bench: &mut Bench,
+    word: &str,
+    rest: &str,
+    told: &mut Told,
+) -> io::Result<()> {
+    match word {
+        "stops" => stops::stop_story(rt, bench, rest, told),
+        "stop_opening" => stops::stop_opening(rt.alloc(), bench, told),
+        "stop_format" => stops::stop_format(rt.alloc(), bench, rest, told),
+        "sweep" => sweeping::sweep(rt, bench, rest, told),
+        "areas" => any_areas::open_all(rt, bench, rest, told),
         _ => ask_of_stores(rt, bench, word, rest, told),
     }
 }
 
-// Asks a question of a store, or one that brings all that it needs, or else one that the programs
-// share.
+// Asks a question of a store, or one that brings all that it needs, or else one of the library.
 fn ask_of_stores(
     rt: &(impl Wait + AllocGlobal),
     bench: &mut Bench,
@@ -78,6 +102,7 @@ fn ask_of_stores(
         "image" => image_bytes::open(rt.alloc(), bench, rest, told),
         "record" => spellings::read(rt.alloc(), rest, told),
         "command" => runs::understand(rt.alloc(), rest, told),
+        "compare" => comparison::compare(rt.alloc(), rest, told),
         "texts" => {
             texts::tell_all(told);
             Ok(())

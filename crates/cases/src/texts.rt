@@ -1,4 +1,4 @@
-// The texts of all refusals, and the room of what clauses alone read.
+// The texts of refusals, and the room of what clauses alone read.
 use boost::Said;
 use calls::Refusal;
 use disk_model::{FileDisk, Past, Unknown};
@@ -41,6 +41,13 @@ const REFUSALS: [Refusal; 27] = [
 pub fn tell_all(told: &mut Told) {
     for refusal in &REFUSALS {
         told.tell(Said::Refused(*refusal));
+    }
+}
+
+/// Tells why something was refused, where it was.
+pub fn tell_refusal(done: Result<(), Refusal>, told: &mut Told) {
+    if let Err(refusal) = done {
+        told.tell(format_args!("refused {refusal}"));
     }
 }
 

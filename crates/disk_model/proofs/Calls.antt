@@ -1,11 +1,25 @@
 -- What a stop may leave after a call that was noted.
 use Rattle.std.proofs.Common.{◌≡◌, ℕ, ◌+◌, ◌≤◌, Bool, true, false, List, ◌∷◌, length, replicate}
-use Rattle.std.proofs.Common.{refl, sym, ◌∙◌, ap, subst}
+use Rattle.std.proofs.Common.{◌++◌, take, drop, refl, sym, ◌∙◌, ap, subst, arith}
+use Rattle.std.proofs.Common.{length-append, length-drop}
+use Rattle.std.proofs.lemmas.List.{length-take-le, length-replicate}
 use Rattle.disk_model.specs.Disk.{Torn, Only}
 use Rattle.disk_model.specs.Marks.{Leaves, marked}
 use Rattle.disk_model.specs.Events.{Event, Wrote, Synced, seen_of, marks_of}
 use Rattle.disk_model.proofs.Stops.{written_back, overwritten_torn, untouched, leaves_only}
 use Rattle.disk_model.proofs.Stops.{unmarked_stays}
+
+length-marked : (at n : ℕ) (marks : List Bool) → at + n ≤ length marks →
+    length (marked at n marks) ≡ length marks
+length-marked at n marks inside =
+    omega (
+      arith,
+      length-append (take at marks ++ replicate n true) (drop (at + n) marks),
+      length-append (take at marks) (replicate n true),
+      length-take-le at marks (omega arith),
+      length-replicate n true,
+      length-drop (at + n) marks,
+    )
 
 module _ (start : List ℕ) (n : ℕ) (es now : List Event) (sized : length (seen_of start es) ≡ n)
     (marks_sized : length (marks_of n es) ≡ n) where
@@ -46,3 +60,38 @@ module _ (start : List ℕ) (n : ℕ) (es now : List Event) (sized : length (see
       Leaves (seen_of start now) (marks_of n now) c → Leaves (seen_of start es) (marks_of n es) c
   sync_adds_nothing ok is done c left =
       unmarked_stays (seen_of start es) c (marks_of n es) same_length (after_sync ok is done c left)
+
+  -- what a read gives after a write, whether or not it failed
+  pub torn_by_write : (at : ℕ) (bytes : List ℕ) (ok : Bool) → now ≡ Wrote at bytes ok ∷ es →
+      at + length bytes ≤ length (seen_of start es) →
+      Torn at (length bytes) (seen_of start es) (seen_of start now)
+  torn_by_write at bytes ok is inside =
+      subst (λ (l : List Event). Torn at (length bytes) (seen_of start es) (seen_of start l))
+      (sym is) (by_answer ok)
+    where
+      by_answer : (ok : Bool) →
+          Torn at (length bytes) (seen_of start es) (seen_of start (Wrote at bytes ok ∷ es))
+      by_answer true = overwritten_torn at bytes (seen_of start es) _ inside refl
+      by_answer false = untouched at (length bytes) (seen_of start es)
+
+  -- no call changes the size
+  pub sizes_after_write : (at : ℕ) (bytes : List ℕ) (ok : Bool) → now ≡ Wrote at bytes ok ∷ es →
+      at + length bytes ≤ length (seen_of start es) →
+      (length (seen_of start now) ≡ n) × (length (marks_of n now) ≡ n)
+  sizes_after_write at bytes ok is inside =
+      let torn = torn_by_write at bytes ok is inside in (
+        torn.size ∙ sized,
+        ap (λ (l : List Event). length (marks_of n l)) is ∙
+            length-marked at (length bytes) (marks_of n es) (omega arith) ∙ marks_sized,
+      )
+
+  pub sizes_after_sync : (ok : Bool) → now ≡ Synced ok ∷ es →
+      (length (seen_of start now) ≡ n) × (length (marks_of n now) ≡ n)
+  sizes_after_sync ok is = (
+    ap (λ (l : List Event). length (seen_of start l)) is ∙ sized,
+    ap (λ (l : List Event). length (marks_of n l)) is ∙ by_answer ok,
+  )
+    where
+      by_answer : (ok : Bool) → length (marks_of n (Synced ok ∷ es)) ≡ n
+      by_answer true = length-replicate n false
+      by_answer false = marks_sized

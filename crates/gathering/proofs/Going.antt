@@ -23,7 +23,8 @@ use Rattle.images.proofs.Following.{came_taken, came_copied}
 use Rattle.images.proofs.Following as following
 use Rattle.images.proofs.Repeats.{repeated_same}
 use Rattle.images.proofs.ImageRecords.{tells_state}
-use Rattle.gathering.specs.Gatherings.{GatheringState, noted, given_up, event_in, GoesAlong}
+use Rattle.gathering.specs.Gatherings.{GatheringState, IsKept, noted, given_up, event_in, GoesAlong}
+use Rattle.gathering.specs.Views.{gathering_of}
 use Rattle.gathering.specs.Laws.{GoesPastRuns, GoesPastMakings, GoesPastOthers, HoldsImage}
 
 -- ---- what is noted
@@ -54,6 +55,36 @@ module _ (n : GatheringState) (es : List Effect) where
   -- Where none is under way, nothing is noted.
   pub noted_none : n.going ≡ false → noted n es ≡ n
   noted_none is = ap (λ b. noted_by b (nat_le (length n.effects + length es) 16384)) is
+
+-- ---- what holds of every gathering
+
+-- It holds still where there is more room, with the same calls,
+pub kept_room : (begun : ℕ) (going : Bool) (es fs : List Effect) (room more : ℕ) → fs ≡ es →
+    room ≤ more → IsKept (gathering_of begun going es) room → IsKept (gathering_of begun going fs)
+    more
+kept_room begun going es fs room more same low kept =
+    subst (λ l. IsKept (gathering_of begun going l) more) (sym same) (record {
+      few = kept.few;
+      first = kept.first;
+      none = kept.none;
+      fit = kept.fit;
+      roomy = λ yes. omega (arith, kept.roomy yes, low);
+      short = kept.short;
+    })
+
+-- or with none.
+pub kept_none : (begun : ℕ) (going : Bool) (es fs : List Effect) (room more : ℕ) → fs ≡ [] →
+    room ≤ more → IsKept (gathering_of begun going es) room → IsKept (gathering_of begun going fs)
+    more
+kept_none begun going es fs room more none low kept =
+    subst (λ l. IsKept (gathering_of begun going l) more) (sym none) (record {
+      few = kept.few;
+      first = kept.first;
+      none = λ no'. refl;
+      fit = omega arith;
+      roomy = λ yes. omega (arith, kept.roomy yes, low);
+      short = tt;
+    })
 
 -- ---- calls
 

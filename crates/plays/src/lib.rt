@@ -1,6 +1,6 @@
-//! What the programs whose cases are data share: how a line of a case is read, the disk and the
-//! script that it asks, commands on that disk, scripts through the store that threads share, and
-//! what is told of it all.
+//! What plays cases that are data: how a line of a case is read, the disk and the script that it
+//! asks, commands on that disk, scripts through the store that threads share, and what is told of
+//! it all.
 #![tactic(auto)]
 
 pub mod bench;

@@ -1,4 +1,4 @@
-// What the lines of cases ask, as far as the programs share it.
+// What the lines of cases ask of a disk and of a script.
 use crate::bench::Bench;
 use crate::runs::{carry_out, to_check, to_format, to_show};
 use crate::told::Told;

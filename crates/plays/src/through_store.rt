@@ -2,10 +2,9 @@
 ghost use Rattle.store.specs.Openings.{IsNamed};
 
 use crate::runs::Ran;
-use boost::{Action, Failure, Line, Request, Said, parse, report};
+use boost::{Action, End, Failure, Line, Request, Said, Session, parse, report};
 use calls::Refusal;
 use disk_model::Disk;
-use server::{End, Session};
 use std::alloc::{AllocError, Global};
 use std::io::{self, Write};
 use std::marker::Brand;

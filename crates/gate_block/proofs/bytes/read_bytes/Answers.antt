@@ -1,4 +1,5 @@
-use Rattle.std.proofs.Common.{refl}
+use Rattle.std.proofs.Common.{◌∙◌, ℕ, ap, refl, arith, length, take, drop}
+use Rattle.std.proofs.lemmas.List.{take_at}
 use Rattle.std.proofs.lemmas.Result.{err_from_is_err_and}
 use Rattle.gate_block.proofs.Exits.{reads_none}
 use Rattle.gate_block.proofs.bytes.read_bytes.Goals as goal
@@ -24,3 +25,15 @@ returns-in_err-read-clause-reads g c = c.read.ensures.reads
 
 pub returns-clause-reads : goal.returns-clause-reads
 returns-clause-reads g c = c.read.ensures.reads
+
+pub returns-clause-bytes : goal.returns-clause-bytes
+returns-clause-bytes g c = λ honest.
+    take_at c.read.new.out _ c.in_ok-bytes.bytes.len (omega arith) ∙
+    c.in_ok-read.ensures.bytes honest ∙
+    ap (λ (m : ℕ). take m (drop c.args.at (g.D.Disk.seen c.args.disk.now)))
+    (omega (arith, c.in_ok-bytes.ensures.len))
+
+pub returns-clause-length : goal.returns-clause-length
+returns-clause-length g c =
+    ap length (take_at c.read.new.out _ c.in_ok-bytes.bytes.len (omega arith)) ∙
+    omega (arith, c.in_ok-bytes.ensures.len)

@@ -1,7 +1,8 @@
-use Rattle.std.proofs.Common.{◌≡◌, length, arith, ap, ◌+◌, refl}
+use Rattle.std.proofs.Common.{◌≡◌, ◌∙◌, length, take, arith, ap, ◌+◌, ◌-◌, refl}
+use Rattle.std.specs.Vec.{vec_capacity, vec_len}
 use Rattle.record_format.specs.Records.{spelling}
 use Rattle.blocks.specs.Drafts.{noted_records}
-use Rattle.blocks.proofs.DraftLemmas.{offered, whole, block_whole}
+use Rattle.blocks.proofs.DraftLemmas.{offered, restored, whole, block_whole}
 use Rattle.blocks.proofs.draft.Draft.offer.Goals as goal
 
 pub invariant_of-block : goal.invariant_of-block
@@ -26,3 +27,21 @@ returns-in-Ok-clause-handed g c =
     c.in-Ok.ensures.sent block
     (ap (λ n. c.args.handed.now.end + n) c.self.invariant.1)
     (ap (λ n. c.args.handed.now.place + n) c.self.invariant.2) refl
+
+pub invariant_of-result : goal.invariant_of-result
+invariant_of-result g c =
+    let back = ap (λ b. b.bytes) c.in-Err.ensures.back in
+    let closed = c.close_block.new.bytes in (
+      restored c.self.inside.bytes.items _ c.pop.new.self.items _ _
+          (noted_records c.self.inside.noted) c.self.invariant.0 c.close_block.ensures.block
+          (c.pop.ensures.rest ∙ ap (λ v. take (vec_len v - 1) v.items) back ∙
+          ap (λ n. take (n - 1) closed.items) (omega (arith, closed.ok.0)))
+          (omega (
+            arith,
+            closed.ok.0,
+            c.pop.ensures.capacity,
+            ap (λ v. vec_capacity v) back,
+          )),
+      c.self.invariant.1,
+      c.self.invariant.2,
+    )

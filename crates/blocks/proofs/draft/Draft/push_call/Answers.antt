@@ -1,4 +1,4 @@
-use Rattle.std.proofs.Common.{◌∷◌, [], List, arith, ap, length-append}
+use Rattle.std.proofs.Common.{◌∷◌, [], ◌++◌, List, arith, ap, length-append}
 use Rattle.record_format.specs.declared.record.Record.{Record}
 use Rattle.record_format.specs.Records.{record_of_call}
 use Rattle.blocks.specs.Drafts.{noted_records}
@@ -33,3 +33,10 @@ invariant_of-self c =
       omega (arith, c.self.invariant.1, length-append rs (r ∷ [])),
       omega (arith, c.self.invariant.2, places_append rs (r ∷ [])),
     )
+
+pub returns : goal.returns
+returns c =
+    let a = c.args in
+    let r : Record = record_of_call a.number a.at a.asked.now a.answer.now in
+    rw (c.of.ensures, c.of-2.ensures, c.of-3.ensures, c.of-4.ensures, c.of-5.ensures)
+    (ap (λ d. d.records ++ r ∷ []) c.self.view_is)

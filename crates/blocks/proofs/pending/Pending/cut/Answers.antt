@@ -3,7 +3,8 @@ use Rattle.std.proofs.Common.{◌≡◌, ◌<◌, [], length, arith, ap, ◌∙�
 use Rattle.record_format.specs.Acts.{places}
 use Rattle.blocks.specs.Offers.{IsOffered}
 use Rattle.blocks.specs.Waits.{waiting}
-use Rattle.blocks.proofs.PendingLemmas.{first_places, first_over, last_over, none_long, some_long}
+use Rattle.blocks.proofs.PendingLemmas.{first_places, first_over, last_over, none_long, some_told}
+use Rattle.blocks.proofs.PendingLemmas.{first_long, waits_again}
 use Rattle.blocks.proofs.pending.Pending.cut.Goals as goal
 
 pub offer-requires-clause-place : goal.offer-requires-clause-place
@@ -37,8 +38,7 @@ returns g c =
     let empty : c.replace-last.new.dest.records ≡ [] =
     ap (λ d. d.records) c.replace-last.ensures.after ∙ c.new.ensures in
     let some : 0 < length last.records =
-    some_long last.records (λ e. let yes = c.is_empty.ensures.1 e in
-    let no' = c.if-is_empty.false in cc) in
+    some_told last.records c.is_empty.result c.is_empty.ensures c.if-is_empty.false in
     rw (← c.self.view_is)
     (last_over (record {
       full = c.self.inside.full.items;
@@ -67,3 +67,49 @@ returns-in-Err g c = grind (arith, common_steps)
 
 pub invariant_of-self-in-Some : goal.invariant_of-self-in-Some
 invariant_of-self-in-Some g c = grind (arith, common_steps)
+
+pub offer-requires-clause-end : goal.offer-requires-clause-end
+offer-requires-clause-end g c =
+    let seen = c.self.view_is in
+    omega (
+      arith,
+      c.requires.end,
+      ap (λ w. length (waiting w)) seen,
+      ap (λ w. w.handed.end) seen,
+      first_long c.self.inside.full.items c.pop_front.new.self.items c.in-Some.first
+          c.self.inside.last.records c.in-Some.ensures.items,
+    )
+
+pub overflow_sub-self : goal.overflow_sub-self
+overflow_sub-self g c =
+    omega (
+      arith,
+      c.count-count.ensures,
+      c.self.invariant.counted,
+      first_long c.self.inside.full.items c.pop_front.new.self.items c.in-Some.first
+          c.self.inside.last.records c.in-Some.ensures.items,
+    )
+
+pub offer-requires-2-clause-some : goal.offer-requires-2-clause-some
+offer-requires-2-clause-some g c =
+    rw c.replace-last.ensures.value
+    (some_told c.self.inside.last.records c.is_empty.result c.is_empty.ensures
+    c.if-is_empty.false)
+
+pub returns-in-Err-offer : goal.returns-in-Err-offer
+returns-in-Err-offer g c =
+    let last = c.self.inside.last in
+    let some : 0 < length last.records =
+    some_told last.records c.is_empty.result c.is_empty.ensures c.if-is_empty.false in
+    let again = waits_again _ _ _ _ _ _ c.in_default.ensures.items
+    (c.in-Err-offer.ensures.back ∙ ap (λ d. d.records) c.replace-last.ensures.value)
+    c.in-Err-offer.ensures.same some in
+    rw (← c.self.view_is) (
+      c.in-Err-offer.ensures.full,
+      c.in-Err-offer.ensures.none,
+      again.0,
+      again.1,
+      again.2,
+      again.3,
+      again.4,
+    )

@@ -3,7 +3,7 @@ use Rattle.std.specs.VecDeque.{deque_capacity}
 use Rattle.blocks.specs.Waits.{Waiting}
 use Rattle.record_format.specs.Records.{spelling}
 use Rattle.blocks.specs.declared.pending.Filled.{Filled}
-use Rattle.blocks.proofs.PendingLemmas.{counted_closed, sealed_there, sealed_before, some_long}
+use Rattle.blocks.proofs.PendingLemmas.{counted_closed, sealed_there, sealed_before, some_told}
 use Rattle.blocks.proofs.pending.Pending.seal.Goals as goal
 
 pub returns-then-is_empty-clause-sealed : goal.returns-then-is_empty-clause-sealed
@@ -23,8 +23,8 @@ was c = let inside = c.self.inside in
     }
 
 some : (c : goal.After-push_back_reserved) → 0 < length c.self.inside.last.records
-some c = some_long c.self.inside.last.records
-    (λ e. let yes = c.is_empty.ensures.1 e in let no' = c.if-is_empty.false in cc)
+some c = some_told c.self.inside.last.records c.is_empty.result c.is_empty.ensures
+    c.if-is_empty.false
 
 empty : (c : goal.After-push_back_reserved) → c.replace-draft.new.dest.records ≡ []
 empty c = ap (λ d. d.records) c.replace-draft.ensures.after ∙ c.new.ensures

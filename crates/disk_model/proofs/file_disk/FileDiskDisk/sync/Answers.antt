@@ -1,5 +1,5 @@
 use Rattle.disk_model.specs.Events.{padded}
-use Rattle.disk_model.proofs.Calls.{at_rest, sync_adds_nothing}
+use Rattle.disk_model.proofs.Calls.{at_rest, sizes_after_sync, sync_adds_nothing}
 use Rattle.disk_model.proofs.file_disk.FileDiskDisk.sync.Goals as goal
 
 pub returns-clause-durable : goal.returns-clause-durable
@@ -13,3 +13,10 @@ returns-clause-stop g c =
     let d = c.args.self.now in
     sync_adds_nothing (padded g.S.Content.content d.size) d.size d.log.events c.note.new.self.events
     d.sized d.marked _ c.note.ensures c.if-not-ok.false
+
+pub invariant_of-self-else-not-ok : goal.invariant_of-self-else-not-ok
+invariant_of-self-else-not-ok g c =
+    let d = c.args.self.now in
+    let sizes = sizes_after_sync (padded g.S.Content.content d.size) d.size d.log.events
+    c.note.new.self.events d.sized d.marked _ c.note.ensures in
+    record { sized = sizes.0; marked = sizes.1 }

@@ -1,7 +1,7 @@
 use Rattle.std.proofs.Common.{◌≡◌, ◌+◌, List, ℕ, take, drop, refl, sym, ◌∙◌, ap, arith}
 use Rattle.std.proofs.lemmas.Result.{err_from_is_err_and}
 use Rattle.disk_model.proofs.Walk.{reads_on}
-use Rattle.gate_block.proofs.Reading.{stands, broken}
+use Rattle.gate_block.proofs.Reading.{gate_is, stands, broken, cramped}
 use Rattle.gate_block.proofs.Exits.{rises_on, error_on}
 use Rattle.gate_block.proofs.area.Area.read_block.Goals as goal
 use Rattle.gate_block.proofs.area.Area.read_block.Goals.{then-n-eq0-via-then-n-eq0}
@@ -106,3 +106,20 @@ returns-in_err-read_bytes-clause-error g c =
     (omega (arith, c.read.ensures.cause.later, c.read-2.ensures.cause.later))
     c.read_bytes.ensures.faults)
     _ c.in_err-read_bytes.ensures.error)
+
+pub returns-then-open-clause-found : goal.returns-then-open-clause-found
+returns-then-open-clause-found g c = λ honest opened.
+    let a = c.args.self.now in
+    let gate = gate_is a.base a.size a.position (g.D.Disk.seen c.args.disk.now) c.requires
+    (a.base + a.position) c.read.new.out refl (omega arith) (c.in_ok-read.ensures.bytes honest) in
+    c.if-open.true (sym gate.1 ∙ opened)
+
+pub returns-then-room-lt6-clause-error : goal.returns-then-room-lt6-clause-error
+returns-then-room-lt6-clause-error g c = record {
+  here = refl;
+  broken = λ honest.
+      let a = c.args.self.now in
+      cramped a.base a.size a.position (g.D.Disk.seen c.args.disk.now) c.requires
+      (a.base + a.position) c.read.new.out refl (omega arith) (omega arith)
+      (c.in_ok-read.ensures.bytes honest) c.if-open.false;
+}

@@ -21,6 +21,11 @@ use Rattle.txn.specs.Books.{position}
 use Rattle.txn.proofs.Goings.{goes_ran, position_after}
 use Rattle.std.proofs.lemmas.Result.{err_from_is_err_and}
 use Rattle.txn.proofs.BookLemmas.{reserved_same}
+use Rattle.txn.proofs.BookInvariant.{reserved_keeps}
+use Rattle.std.proofs.Common.{inr}
+use Rattle.machine.proofs.Steps.{fall_settles}
+use Rattle.machine.specs.Machine.{State, IsSettled}
+use Rattle.txn.proofs.Goings.{goes_still}
 use Rattle.txn.proofs.book.Book.back.Goals as goal
 
 pub push-requires-clause-room : goal.push-requires-clause-room
@@ -159,3 +164,82 @@ returns-in_err-back-clause-answer g c =
         (λ full. absurd (omega (arith, c.in_ok-check_backlog.ensures.ok, full))),
       ),
     )
+
+pub invariant_of-self-in_err-reserve : goal.invariant_of-self-in_err-reserve
+invariant_of-self-in_err-reserve g c =
+    let i = c.self.inside in
+    let kept = c.in_err-reserve.ensures in
+    reserved_keeps g.B.Boosted.meaning g.B.Parts.making (λ s. AreShort (g.B.Parts.collections s))
+    i.machine i.machine i.pending c.reserve.new.self i.places i.next i.gathering i.gathering
+    refl refl kept.records kept.freezes kept.handed c.self.invariant
+
+pub invariant_of-self-in_err-back : goal.invariant_of-self-in_err-back
+invariant_of-self-in_err-back g c =
+    let i = c.self.inside in
+    let kept = c.in_ok-reserve.ensures in
+    reserved_keeps g.B.Boosted.meaning g.B.Parts.making (λ s. AreShort (g.B.Parts.collections s))
+    i.machine c.back.new.machine i.pending c.reserve.new.self i.places i.next i.gathering
+    c.back.new.self
+    c.in_err-back.ensures.same.0 c.in_err-back.ensures.same.1 kept.records kept.freezes kept.handed
+    c.self.invariant
+
+pub push-requires-clause-few : goal.push-requires-clause-few
+push-requires-clause-few g c =
+    omega (arith, ap length c.in_ok-reserve.ensures.records, c.self.invariant.few_pending)
+
+pub push-requires-clause-fits : goal.push-requires-clause-fits
+push-requires-clause-fits g c = c.ranges.number.fits
+
+pub back-requires-clause-call : goal.back-requires-clause-call
+back-requires-clause-call g c = c.has_call.ensures.some.0 c.if-not-has_call.false
+
+pub fall-requires-clause-undone : goal.fall-requires-clause-undone
+fall-requires-clause-undone g c = c.has_call.ensures.none c.if-not-has_call.true
+
+pub unread-requires-clause-live : goal.unread-requires-clause-live
+unread-requires-clause-live g c =
+    subst (λ (b : BookState _). Lives b.state.live c.args.number) (sym c.self.view_is)
+    c.in_ok-check_live.ensures.ok
+
+pub unread-requires-clause-newest : goal.unread-requires-clause-newest
+unread-requires-clause-newest g c = c.newest_reads.ensures.0 c.if-newest_reads.true
+
+pub returns-then-not-has_call-clause-answer : goal.returns-then-not-has_call-clause-answer
+returns-then-not-has_call-clause-answer g c =
+    let room = subst (λ b. length b.pending < 16384) (sym c.self.view_is)
+    c.in_ok-check_backlog.ensures.ok in
+    rw (← c.self.view_is) (c.fall.ensures, room, refl)
+
+pub returns-then-newest_reads-clause-answer : goal.returns-then-newest_reads-clause-answer
+returns-then-newest_reads-clause-answer g c =
+    let room = subst (λ b. length b.pending < 16384) (sym c.self.view_is)
+    c.in_ok-check_backlog.ensures.ok in
+    rw (← c.self.view_is) (inr (c.unread.ensures, room, refl))
+
+pub returns-then-not-has_call-clause-settled : goal.returns-then-not-has_call-clause-settled
+returns-then-not-has_call-clause-settled g c = rw (← c.self.view_is)
+    (λ d w. fall_settles g.B.Boosted.meaning g.B.Parts.making (laws g).rules _
+    c.self.invariant.upheld.holds c.args.number _ d c.fall.ensures w)
+
+pub returns-then-not-has_call-clause-goes : goal.returns-then-not-has_call-clause-goes
+returns-then-not-has_call-clause-goes g c =
+    let i = c.self.inside in
+    rw (← c.self.view_is) (goes_still g.met.B.Boosted.laws g.met.B.Coded.told
+    (book_of i.machine i.pending i.places i.next i.gathering)
+    (book_of c.fall.new.self i.pending i.places i.next i.gathering)
+    (ap (λ (v : State _). v.now) c.fall.ensures.is) refl (omega arith))
+
+pub returns-then-newest_reads-clause-goes : goal.returns-then-newest_reads-clause-goes
+returns-then-newest_reads-clause-goes g c =
+    let i = c.self.inside in
+    rw (← c.self.view_is) (goes_still g.met.B.Boosted.laws g.met.B.Coded.told
+    (book_of i.machine i.pending i.places i.next i.gathering)
+    (book_of c.unread.new.self i.pending i.places i.next i.gathering)
+    (ap (λ (v : State _). v.now) c.unread.ensures.is) refl (omega arith))
+
+pub returns-in_err-back-clause-settled : goal.returns-in_err-back-clause-settled
+returns-in_err-back-clause-settled g c = rw (← c.self.view_is)
+    (λ d w. subst (λ s. IsSettled g.B.Boosted.meaning s d) (sym c.in_err-back.ensures.same.0) w)
+
+pub returns-in_err-reserve-clause-settled : goal.returns-in_err-reserve-clause-settled
+returns-in_err-reserve-clause-settled g c = rw (← c.self.view_is) (λ d w. w)

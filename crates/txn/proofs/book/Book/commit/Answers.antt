@@ -24,6 +24,7 @@ use Rattle.std.proofs.Common.{map, ap, ◌∙◌}
 use Rattle.gathering.specs.Gatherings.{noted, effect_at}
 use Rattle.txn.specs.Books.{position}
 use Rattle.txn.proofs.Goings.{goes_ran, position_after}
+use Rattle.txn.proofs.BookInvariant.{reserved_keeps}
 use Rattle.txn.proofs.book.Book.commit.Goals as goal
 
 pub push-requires-clause-room : goal.push-requires-clause-room
@@ -94,3 +95,21 @@ returns-clause-goes g c =
     (are_run meaning (position old + 1) ls s.now c.commit.new.machine.now runs (late_short ls late))
     (c.in_ok-commit.ensures.noted ∙ ap (λ q. noted i.gathering (map (effect_at q) ls)) next)
     (position_after old new (Record.Commit c.args.number) (step g c).1))
+
+pub invariant_of-self : goal.invariant_of-self
+invariant_of-self g c =
+    let i = c.self.inside in
+    let kept = c.in_err-reserve.ensures in
+    reserved_keeps g.B.Boosted.meaning g.B.Parts.making (λ s. AreShort (g.B.Parts.collections s))
+    i.machine i.machine i.pending c.reserve.new.self i.places i.next i.gathering i.gathering
+    refl refl kept.records kept.freezes kept.handed c.self.invariant
+
+pub invariant_of-self-in_err-commit : goal.invariant_of-self-in_err-commit
+invariant_of-self-in_err-commit g c =
+    let i = c.self.inside in
+    let kept = c.in_ok-reserve.ensures in
+    reserved_keeps g.B.Boosted.meaning g.B.Parts.making (λ s. AreShort (g.B.Parts.collections s))
+    i.machine c.commit.new.machine i.pending c.reserve.new.self i.places i.next i.gathering
+    c.commit.new.self
+    c.in_err-commit.ensures.same.0 c.in_err-commit.ensures.same.1 kept.records kept.freezes
+    kept.handed c.self.invariant

@@ -14,6 +14,11 @@ use Rattle.txn.proofs.book.Book.ended.Given.{Over}
 use Rattle.machine.specs.Machine.{State}
 use Rattle.std.proofs.Common.{ap}
 use Rattle.txn.proofs.Goings.{goes_still, position_after}
+use Rattle.txn.proofs.BookInvariant.{reserved_keeps}
+use Rattle.std.proofs.Common.{◌∙◌}
+use Rattle.std.proofs.lemmas.Result.{err_from_is_err_and}
+use Rattle.undo_log.specs.Entries.{HasNoCall}
+use Rattle.txn.proofs.BookLemmas.{reserved_same}
 use Rattle.txn.proofs.book.Book.ended.Goals as goal
 
 pub push-requires-clause-room : goal.push-requires-clause-room
@@ -68,3 +73,65 @@ returns-clause-goes g c =
     let next = position_after old new (Record.Ended c.args.number) (step g c).1 in
     rw (← c.self.view_is) (goes_still g.met.B.Boosted.laws g.met.B.Coded.told old new
     (ap (λ (v : State _). v.now) row.left.is) refl (omega (arith, next)))
+
+pub invariant_of-self : goal.invariant_of-self
+invariant_of-self g c =
+    let i = c.self.inside in
+    let kept = c.in_err-reserve.ensures in
+    reserved_keeps g.B.Boosted.meaning g.B.Parts.making (λ s. AreShort (g.B.Parts.collections s))
+    i.machine i.machine i.pending c.reserve.new.self i.places i.next i.gathering i.gathering
+    refl refl kept.records kept.freezes kept.handed c.self.invariant
+
+pub push-requires-clause-few : goal.push-requires-clause-few
+push-requires-clause-few g c =
+    omega (arith, ap length c.in_ok-reserve.ensures.records, c.self.invariant.few_pending)
+
+pub push-requires-clause-fits : goal.push-requires-clause-fits
+push-requires-clause-fits g c = c.ranges.number.fits
+
+pub ended-requires-clause-undone : goal.ended-requires-clause-undone
+ended-requires-clause-undone g c = c.has_call.ensures.none c.if-has_call.false
+
+pub returns-then-has_call-clause-answer : goal.returns-then-has_call-clause-answer
+returns-then-has_call-clause-answer g c =
+    let some = subst (λ (b : BookState _). HasNoCall c.args.number b.state.entries → ⊥)
+    c.self.view_is (c.has_call.ensures.some.0 c.if-has_call.true) in
+    (refl, (c.in_ok-check_live.ensures.ok, some))
+
+pub returns-in_err-check_live-clause-answer : goal.returns-in_err-check_live-clause-answer
+returns-in_err-check_live-clause-answer g c =
+    let r = c.from_residual in
+    let p = err_from_is_err_and r.result r.ensures.1 in
+    let err = c.in_err-check_live.ensures.err in
+    rw (p.1, p.2, err.0) (refl, err.1)
+
+pub returns-in_err-check_backlog-clause-answer : goal.returns-in_err-check_backlog-clause-answer
+returns-in_err-check_backlog-clause-answer g c =
+    let r = c.from_residual-in_err-check_backlog in
+    let p = err_from_is_err_and r.result r.ensures.1 in
+    let err = c.in_err-check_backlog.ensures.err in
+    let none = subst (λ (b : BookState _). HasNoCall c.args.number b.state.entries) c.self.view_is
+    (c.has_call.ensures.none c.if-has_call.false) in
+    rw (p.1, p.2, err.0) (refl, (c.in_ok-check_live.ensures.ok, none, err.1))
+
+pub returns-in_err-reserve-clause-answer : goal.returns-in_err-reserve-clause-answer
+returns-in_err-reserve-clause-answer g c =
+    let r = c.from_residual-in_err-reserve in
+    let p = err_from_is_err_and r.result r.ensures.1 in
+    let i = c.self.inside in
+    let kept = c.in_err-reserve.ensures in
+    let same = reserved_same i.machine i.machine i.pending c.reserve.new.self i.places i.next
+    i.gathering i.gathering refl refl kept.records kept.freezes kept.handed ∙ c.self.view_is in
+    let none = subst (λ (b : BookState _). HasNoCall c.args.number b.state.entries) c.self.view_is
+    (c.has_call.ensures.none c.if-has_call.false) in
+    rw (p.1, p.2, kept.refusal) (
+      same,
+      (
+        c.in_ok-check_live.ensures.ok,
+        none,
+        (λ full. absurd (omega (arith, c.in_ok-check_backlog.ensures.ok, full))),
+      ),
+    )
+
+pub returns-in_err-reserve-clause-settled : goal.returns-in_err-reserve-clause-settled
+returns-in_err-reserve-clause-settled g c = rw (← c.self.view_is) (λ d w. w)

@@ -14,6 +14,7 @@ use Rattle.txn.proofs.book.Book.enter.Given.{Over}
 use Rattle.machine.specs.Machine.{State}
 use Rattle.std.proofs.Common.{refl, ap}
 use Rattle.txn.proofs.Goings.{goes_still, position_after}
+use Rattle.txn.proofs.BookInvariant.{reserved_keeps}
 use Rattle.txn.proofs.book.Book.enter.Goals as goal
 
 pub push-requires-clause-room : goal.push-requires-clause-room
@@ -78,3 +79,19 @@ returns-clause-goes g c =
     let next = position_after old new (Record.Begin c.args.number) (step g c).2 in
     rw (← c.self.view_is) (goes_still g.met.B.Boosted.laws g.met.B.Coded.told old new
     (ap (λ (v : State _). v.now) row.is) refl (omega (arith, next)))
+
+pub invariant_of-self : goal.invariant_of-self
+invariant_of-self g c =
+    let i = c.self.inside in
+    let kept = c.in_err-reserve.ensures in
+    reserved_keeps g.B.Boosted.meaning g.B.Parts.making (λ s. AreShort (g.B.Parts.collections s))
+    i.machine i.machine i.pending c.reserve.new.self i.places i.next i.gathering i.gathering
+    refl refl kept.records kept.freezes kept.handed c.self.invariant
+
+pub invariant_of-self-in_err-begin : goal.invariant_of-self-in_err-begin
+invariant_of-self-in_err-begin g c =
+    let i = c.self.inside in
+    let kept = c.in_ok-reserve.ensures in
+    reserved_keeps g.B.Boosted.meaning g.B.Parts.making (λ s. AreShort (g.B.Parts.collections s))
+    i.machine c.begin.new.self i.pending c.reserve.new.self i.places i.next i.gathering i.gathering
+    c.in_err-begin.ensures.same refl kept.records kept.freezes kept.handed c.self.invariant

@@ -17,6 +17,10 @@ use Rattle.std.proofs.Common.{ap}
 use Rattle.txn.proofs.Goings.{goes_made, position_after}
 use Rattle.txn.specs.Books.{BookState}
 use Rattle.txn.proofs.BookLemmas.{new_refused}
+use Rattle.txn.proofs.BookInvariant.{reserved_keeps}
+use Rattle.std.proofs.Common.{suc}
+use Rattle.calls.specs.Names.{IsName}
+use Rattle.blocks.specs.Waits.{HasRoomFor}
 use Rattle.txn.proofs.book.Book.make.Goals as goal
 
 -- the laws of the collections
@@ -148,3 +152,55 @@ returns-in_err-to_string-clause-answer g c =
         new,
       ),
     )
+
+pub invariant_of-self : goal.invariant_of-self
+invariant_of-self g c =
+    let i = c.self.inside in
+    let kept = c.in_err-reserve.ensures in
+    reserved_keeps g.B.Boosted.meaning g.B.Parts.making (λ s. AreShort (g.B.Parts.collections s))
+    i.machine i.machine i.pending c.reserve.new.self i.places i.next i.gathering i.gathering
+    refl refl kept.records kept.freezes kept.handed c.self.invariant
+
+pub invariant_of-self-in_err-to_string : goal.invariant_of-self-in_err-to_string
+invariant_of-self-in_err-to_string g c =
+    let i = c.self.inside in
+    let kept = c.in_ok-reserve.ensures in
+    reserved_keeps g.B.Boosted.meaning g.B.Parts.making (λ s. AreShort (g.B.Parts.collections s))
+    i.machine i.machine i.pending c.reserve.new.self i.places i.next i.gathering i.gathering
+    refl refl kept.records kept.freezes kept.handed c.self.invariant
+
+pub invariant_of-self-in_err-make : goal.invariant_of-self-in_err-make
+invariant_of-self-in_err-make g c =
+    let i = c.self.inside in
+    let kept = c.in_ok-reserve.ensures in
+    reserved_keeps g.B.Boosted.meaning g.B.Parts.making (λ s. AreShort (g.B.Parts.collections s))
+    i.machine c.make.new.self i.pending c.reserve.new.self i.places i.next i.gathering i.gathering
+    c.in_err-make.ensures.same refl kept.records kept.freezes kept.handed c.self.invariant
+
+pub overflow_add-name : goal.overflow_add-name
+overflow_add-name g c = omega (arith, c.in_ok-check_new.ensures.ok.good.short)
+
+pub reserve-requires : goal.reserve-requires
+reserve-requires g c = omega (arith, c.in_ok-check_new.ensures.ok.good.short)
+
+pub overflow_add-self : goal.overflow_add-self
+overflow_add-self g c =
+    let kept = c.self.invariant in
+    let upheld = kept.upheld in
+    omega (arith, kept.counted, kept.positions, upheld.unworn, upheld.few_names)
+
+pub push-requires-clause-few : goal.push-requires-clause-few
+push-requires-clause-few g c =
+    omega (arith, ap length c.in_ok-reserve.ensures.records, c.self.invariant.few_pending)
+
+pub push-requires-clause-fits : goal.push-requires-clause-fits
+push-requires-clause-fits g c =
+    subst IsName (sym (c.new-spelled.ensures ∙ c.in_ok-to_string.ensures.ok))
+    c.in_ok-check_new.ensures.ok.good
+
+pub push-requires-clause-room : goal.push-requires-clause-room
+push-requires-clause-room g c =
+    let same = ap length (c.new-spelled.ensures ∙ c.in_ok-to_string.ensures.ok) in
+    let long : 3 + length c.args.name.now ≡ suc (suc (suc (length c.new-spelled.result))) =
+    omega (arith, same) in
+    subst (HasRoomFor c.reserve.new.self) long c.in_ok-reserve.ensures.room

@@ -22,6 +22,10 @@ use Rattle.txn.specs.Books.{position}
 use Rattle.txn.proofs.Goings.{goes_ran, position_after}
 use Rattle.std.proofs.lemmas.Result.{err_from_is_err_and}
 use Rattle.txn.proofs.BookLemmas.{reserved_same}
+use Rattle.txn.proofs.BookInvariant.{reserved_keeps}
+use Rattle.std.proofs.Common.{length}
+use Rattle.machine.specs.Machine.{IsSettled}
+use Rattle.blocks.specs.Waits.{HasRoomFor}
 use Rattle.txn.proofs.book.Book.note_call.Goals as goal
 
 -- the laws of the collections
@@ -162,3 +166,96 @@ returns-in_err-call-clause-same g c =
     i.gathering c.call.new.self c.in_err-call.ensures.same.0 c.in_err-call.ensures.same.1
     kept.records kept.freezes kept.handed ∙ c.self.view_is in
     rw p.1 same
+
+pub invariant_of-self : goal.invariant_of-self
+invariant_of-self g c =
+    let i = c.self.inside in
+    let kept = c.in_err-reserve.ensures in
+    reserved_keeps g.B.Boosted.meaning g.B.Parts.making (λ s. AreShort (g.B.Parts.collections s))
+    i.machine i.machine i.pending c.reserve.new.self i.places i.next i.gathering i.gathering
+    refl refl kept.records kept.freezes kept.handed c.self.invariant
+
+pub invariant_of-self-in_err-asked : goal.invariant_of-self-in_err-asked
+invariant_of-self-in_err-asked g c =
+    let i = c.self.inside in
+    let kept = c.in_ok-reserve.ensures in
+    reserved_keeps g.B.Boosted.meaning g.B.Parts.making (λ s. AreShort (g.B.Parts.collections s))
+    i.machine i.machine i.pending c.reserve.new.self i.places i.next i.gathering i.gathering
+    refl refl kept.records kept.freezes kept.handed c.self.invariant
+
+pub invariant_of-self-in_err-call : goal.invariant_of-self-in_err-call
+invariant_of-self-in_err-call g c =
+    let i = c.self.inside in
+    let kept = c.in_ok-reserve.ensures in
+    reserved_keeps g.B.Boosted.meaning g.B.Parts.making (λ s. AreShort (g.B.Parts.collections s))
+    i.machine c.call.new.machine i.pending c.reserve.new.self i.places i.next i.gathering
+    c.call.new.self
+    c.in_err-call.ensures.same.0 c.in_err-call.ensures.same.1 kept.records kept.freezes kept.handed
+    c.self.invariant
+
+pub push_call-requires-clause-few : goal.push_call-requires-clause-few
+push_call-requires-clause-few g c =
+    omega (arith, ap length c.in_ok-reserve.ensures.records, c.self.invariant.few_pending)
+
+pub push_call-requires-clause-room : goal.push_call-requires-clause-room
+push_call-requires-clause-room g c =
+    subst (HasRoomFor c.reserve.new.self) (c.call_len.ensures.len c.args.number c.args.col)
+    c.in_ok-reserve.ensures.room
+
+pub prove-unreachable-requires : goal.prove-unreachable-requires
+prove-unreachable-requires g c =
+    let yes = c.fits_call.ensures.short.1 c.requires.open.asked.2 in
+    let no' = c.if-prove.true in
+    cc
+
+pub prove-unreachable-requires-2 : goal.prove-unreachable-requires-2
+prove-unreachable-requires-2 g c =
+    let yes = c.fits_reply.ensures.short.1 c.requires.short in
+    let no' = c.if-prove-2.true in
+    cc
+
+pub returns-in_err-reserve-clause-settled : goal.returns-in_err-reserve-clause-settled
+returns-in_err-reserve-clause-settled g c = rw (← c.self.view_is) (λ d w. w)
+
+pub returns-in_err-asked-clause-settled : goal.returns-in_err-asked-clause-settled
+returns-in_err-asked-clause-settled g c = rw (← c.self.view_is) (λ d w. w)
+
+pub returns-in_err-call-clause-settled : goal.returns-in_err-call-clause-settled
+returns-in_err-call-clause-settled g c = rw (← c.self.view_is)
+    (λ d w. subst (λ s. IsSettled g.B.Boosted.meaning s d) (sym c.in_err-call.ensures.same.0) w)
+
+pub returns-in_err-reserve-clause-refusal : goal.returns-in_err-reserve-clause-refusal
+returns-in_err-reserve-clause-refusal g c =
+    let r = c.from_residual in
+    let p = err_from_is_err_and r.result r.ensures.1 in
+    rw (p.1, p.2) c.in_err-reserve.ensures.refusal
+
+pub returns-in_err-asked-clause-refusal : goal.returns-in_err-asked-clause-refusal
+returns-in_err-asked-clause-refusal g c =
+    let r = c.from_residual-in_err-asked in
+    let p = err_from_is_err_and r.result r.ensures.1 in
+    rw (p.1, p.2) c.in_err-asked.ensures.refusal
+
+pub returns-in_err-call-clause-refusal : goal.returns-in_err-call-clause-refusal
+returns-in_err-call-clause-refusal g c =
+    let r = c.from_residual-in_err-call in
+    let p = err_from_is_err_and r.result r.ensures.1 in
+    rw (p.1, p.2) c.in_err-call.ensures.refusal
+
+pub call_len-requires-clause-askable : goal.call_len-requires-clause-askable
+call_len-requires-clause-askable g c = c.requires.open.asked.1
+
+pub call_len-requires-clause-asked : goal.call_len-requires-clause-asked
+call_len-requires-clause-asked g c = c.fits_call.ensures.fits.0 c.if-prove.false
+
+pub call_len-requires-clause-answer : goal.call_len-requires-clause-answer
+call_len-requires-clause-answer g c = c.fits_reply.ensures.fits.0 c.if-prove-2.false
+
+pub push_call-requires-clause-askable : goal.push_call-requires-clause-askable
+push_call-requires-clause-askable g c = c.requires.open.asked.1
+
+pub push_call-requires-clause-asked : goal.push_call-requires-clause-asked
+push_call-requires-clause-asked g c = c.fits_call.ensures.fits.0 c.if-prove.false
+
+pub push_call-requires-clause-answer : goal.push_call-requires-clause-answer
+push_call-requires-clause-answer g c = c.fits_reply.ensures.fits.0 c.if-prove-2.false

@@ -18,6 +18,11 @@ use Rattle.txn.proofs.book.Book.put_off.Given.{Over}
 use Rattle.machine.specs.Machine.{State}
 use Rattle.std.proofs.Common.{ap}
 use Rattle.txn.proofs.Goings.{goes_still, position_after}
+use Rattle.txn.proofs.BookInvariant.{reserved_keeps}
+use Rattle.std.proofs.Common.{length, inr, ◌<◌, ◌^◌, ◌∙◌}
+use Rattle.machine.specs.Machine.{IsSettled}
+use Rattle.blocks.specs.Waits.{HasRoomFor}
+use Rattle.txn.proofs.BookLemmas.{reserved_same}
 use Rattle.txn.proofs.book.Book.put_off.Goals as goal
 
 -- the laws of the collections
@@ -96,3 +101,61 @@ returns-clause-goes g c =
     (later_record c.args.number c.args.put.at c.args.put.call) (step g c).1 in
     rw (← c.self.view_is) (goes_still g.met.B.Boosted.laws g.met.B.Coded.told old new
     (ap (λ (v : State _). v.now) row.is) refl (omega (arith, next)))
+
+pub invariant_of-self : goal.invariant_of-self
+invariant_of-self g c =
+    let i = c.self.inside in
+    let kept = c.in-Err.ensures in
+    reserved_keeps g.B.Boosted.meaning g.B.Parts.making (λ s. AreShort (g.B.Parts.collections s))
+    i.machine i.machine i.pending c.reserve.new.self i.places i.next i.gathering i.gathering
+    refl refl kept.records kept.freezes kept.handed c.self.invariant
+
+pub invariant_of-self-in-Err-later : goal.invariant_of-self-in-Err-later
+invariant_of-self-in-Err-later g c =
+    let i = c.self.inside in
+    let kept = c.in_default.ensures in
+    reserved_keeps g.B.Boosted.meaning g.B.Parts.making (λ s. AreShort (g.B.Parts.collections s))
+    i.machine c.later.new.self i.pending c.reserve.new.self i.places i.next i.gathering i.gathering
+    c.in-Err-later.ensures.same refl kept.records kept.freezes kept.handed c.self.invariant
+
+pub push-requires-clause-few : goal.push-requires-clause-few
+push-requires-clause-few g c =
+    omega (arith, ap length c.in_default.ensures.records, c.self.invariant.few_pending)
+
+pub push-requires-clause-room : goal.push-requires-clause-room
+push-requires-clause-room g c =
+    subst (HasRoomFor c.reserve.new.self) c.encoded_len.ensures.len c.in_default.ensures.room
+
+pub reserve-requires : goal.reserve-requires
+reserve-requires g c = omega (arith, c.encoded_len.ensures.bound)
+
+pub returns-clause-answer : goal.returns-clause-answer
+returns-clause-answer g c = rw (← c.self.view_is) (
+  (step g c).0,
+  subst (λ (b : BookState _). b.state.wear < 2 ^ 61) (sym c.self.view_is) c.requires.open.unworn,
+  (step g c).1,
+)
+
+pub returns-in-Err-clause-answer : goal.returns-in-Err-clause-answer
+returns-in-Err-clause-answer g c =
+    let i = c.self.inside in
+    let kept = c.in-Err.ensures in
+    let same = reserved_same i.machine i.machine i.pending c.reserve.new.self i.places i.next
+    i.gathering i.gathering refl refl kept.records kept.freezes kept.handed ∙ c.self.view_is in
+    rw (kept.refusal) (same, inr (inr (c.requires.open, c.requires.clear)))
+
+pub returns-in-Err-later-clause-answer : goal.returns-in-Err-later-clause-answer
+returns-in-Err-later-clause-answer g c =
+    let i = c.self.inside in
+    let kept = c.in_default.ensures in
+    let same = reserved_same i.machine c.later.new.self i.pending c.reserve.new.self i.places i.next
+    i.gathering i.gathering c.in-Err-later.ensures.same refl kept.records kept.freezes kept.handed ∙
+    c.self.view_is in
+    rw (c.in-Err-later.ensures.refusal) (same, inr (inr (c.requires.open, c.requires.clear)))
+
+pub returns-in-Err-clause-settled : goal.returns-in-Err-clause-settled
+returns-in-Err-clause-settled g c = rw (← c.self.view_is) (λ d w. w)
+
+pub returns-in-Err-later-clause-settled : goal.returns-in-Err-later-clause-settled
+returns-in-Err-later-clause-settled g c = rw (← c.self.view_is)
+    (λ d w. subst (λ s. IsSettled g.B.Boosted.meaning s d) (sym c.in-Err-later.ensures.same) w)

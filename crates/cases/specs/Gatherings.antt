@@ -1,0 +1,29 @@
+-- Collections that are gathered while calls run on them.
+use Rattle.std.specs.Prelude.{ℕ, ◌≤◌, ◌^◌, List, length}
+use Rattle.std.specs.List.{AllByRecursion}
+use Rattle.calls.specs.Contents.{Collection}
+use Rattle.calls.specs.Rules.{IsShort}
+use Rattle.catalog.specs.Places.{IsWithin}
+use Rattle.record_format.specs.Short.{AreShort}
+use Rattle.images.specs.declared.effect.Effect.{Effect}
+use Rattle.images.specs.Gathers.{GatherState}
+use Rattle.images.specs.Following.{Follows, CameBy}
+use Rattle.cases.specs.declared.comparison.gatherings.Gathering.{Gathering}
+
+-- A catalog of so few collections, on which so many calls were run.
+pub record HasRun (xs : List Collection) (most position : ℕ) : Type 0 where
+  pub few : length xs ≤ most
+  pub short : AreShort xs
+  pub within : IsWithin xs position
+
+-- What is gathered goes along with the collections, on which there is room for more calls.
+pub record Goes (xs : List Collection) (g : GatherState) (later : List Effect) (position : ℕ) :
+    Type 0 where
+  pub has_run : HasRun xs 5 position
+  pub unworn : position ≤ 2 ^ 61
+  pub follows : Follows g later xs
+  pub came : CameBy g later position
+  pub short_calls : AllByRecursion (λ e. IsShort e.call) later
+
+abbrev pub IsGoing : Gathering → Type 0
+IsGoing g = Goes g.catalog g.gather g.effects.items g.position

@@ -1,0 +1,5 @@
+// A disk that fails and is stopped at each of its calls, or holds bytes of a generator.
+pub mod any_areas;
+mod faults;
+pub mod stops;
+pub mod sweeping;
