@@ -1,10 +1,10 @@
 #!/usr/bin/env python3
 """kills.py [TIMES] [CLIENTS]: kills a program that serves, again and again, and looks at what it leaves.
 
-The program is `bench told counter`, proved and built (`rt run` in crates/bench builds it): so many clients add 1 to one counter, each
-addition a transaction, and a line tells each one that is kept. It is killed (SIGKILL) after a random time. Then the store is
-opened by `boost show`: the counter must hold at least what was told, and at most one addition more for each client. A second
-`boost show` and a `boost check` must find the same, and nothing unfinished.
+The program is `cases bench told counter`, proved and built (`rt run` in crates/cases builds it): so many clients add 1 to one
+counter, each addition a transaction, and a line tells each one that is kept. It is killed (SIGKILL) after a random time. Then
+the store is opened by `boost show`: the counter must hold at least what was told, and at most one addition more for each
+client. A second `boost show` and a `boost check` must find the same, and nothing unfinished.
 
 It is no part of the gate, which runs each program to its end. It prints how many runs there were, and how many additions were told.
 """
@@ -18,14 +18,14 @@ import tempfile
 import time
 
 TOP = os.path.dirname(os.path.dirname(os.path.realpath(__file__)))
-BENCH = os.path.join(TOP, "crates/bench/out/bench")
+CASES = os.path.join(TOP, "crates/cases/out/cases")
 BOOST = os.path.join(TOP, "crates/boost_main/out/boost_main")
 
 
 def told_before_the_kill(folder, clients, seconds):
     """Runs the program for so long, kills it, and counts what it told."""
     with open(os.path.join(folder, "told"), "w+b") as out:
-        words = [BENCH, "told", "counter", str(clients), "1000000000", "3600", folder]
+        words = [CASES, "bench", "told", "counter", str(clients), "1000000000", "3600", folder]
         program = subprocess.Popen(words, stdout=out)
         time.sleep(seconds)
         program.send_signal(signal.SIGKILL)

@@ -6,9 +6,9 @@ mod queues;
 mod sequence;
 mod tally;
 
+use crate::plays::told::Told;
+use crate::plays::values::not_understood;
 use calls::Refusal;
-use plays::told::Told;
-use plays::values::not_understood;
 use std::alloc::Global;
 use std::fmt::Display;
 use std::io;

@@ -1,11 +1,11 @@
 // Stores with bytes that no program wrote: what a check and a show make of them.
+use crate::plays::bench::{Bench, empty_store};
+use crate::plays::disks::{changed, disk_of};
+use crate::plays::runs::{Ran, run_on, text, to_check, to_show};
+use crate::plays::through_store::play;
+use crate::plays::told::Told;
+use crate::plays::values::{byte, bytes, number, three};
 use disk_model::MemDisk;
-use plays::bench::{Bench, empty_store};
-use plays::disks::{changed, disk_of};
-use plays::runs::{Ran, run_on, text, to_check, to_show};
-use plays::through_store::play;
-use plays::told::Told;
-use plays::values::{byte, bytes, number, three};
 use std::alloc::{AllocError, Global};
 use std::io;
 use std::sync::Wait;

@@ -1,11 +1,11 @@
 // The program on files.
+use crate::plays::bench::Bench;
+use crate::plays::runs::{Ran, run_on, to_play};
+use crate::plays::told::Told;
+use crate::plays::values::{bytes, not_understood, number, numbers, pair, three};
 use crate::runs::words;
 use command_line::obey;
 use disk_model::{FileDisk, Unknown};
-use plays::bench::Bench;
-use plays::runs::{Ran, run_on, to_play};
-use plays::told::Told;
-use plays::values::{bytes, not_understood, number, numbers, pair, three};
 use std::fs::{self, File};
 use std::io::{self, Seek, SeekFrom, Write};
 use std::rt::Files;

@@ -1,10 +1,10 @@
 // Images that are written to a disk by hand.
+use crate::plays::bench::{Bench, empty_store};
+use crate::plays::disks::put_at;
+use crate::plays::runs::{carry_out, to_check, to_show};
+use crate::plays::told::Told;
+use crate::plays::values::{bytes, not_understood};
 use disk_model::MemDisk;
-use plays::bench::{Bench, empty_store};
-use plays::disks::put_at;
-use plays::runs::{carry_out, to_check, to_show};
-use plays::told::Told;
-use plays::values::{bytes, not_understood};
 use std::alloc::Global;
 use std::io;
 

@@ -1,31 +1,36 @@
 //! Plays cases that are data: each is a list of scripts and questions, on disks in memory and on
 //! files, for one client and for clients in threads. What is asked and what is answered is printed,
 //! and the file `stdout` says what it must be. A line that is no question ends the run.
+//!
+//! With the word `bench` and the words of a measurement it measures the store instead.
 #![tactic(auto)]
 
+mod bench;
 mod comparison;
 mod damage;
 mod files;
 mod image_bytes;
+mod plays;
 mod questions;
 mod runs;
 mod spellings;
 mod sweeps;
+mod system;
 mod texts;
 mod threads;
 
 use plays::bench::Bench;
 use plays::told::Told;
-use std::fs::{self, File};
+use std::alloc::{AllocError, Global};
 use std::io::{self, Write};
-use std::rt::Files;
-use std::sync::Wait;
-use std::thread::Threads;
+use std::process::ExitCode;
+use std::{env, fs};
+use system::System;
 
 // Asks what a line asks. Behind a script that is played through the store alone, what was told so
 // far is printed.
 fn ask(
-    rt: &(impl Files<File = File> + Threads + Wait + AllocGlobal + Sync),
+    rt: &(impl System + Sync),
     bench: &mut Bench,
     line: &str,
     told: &mut Told,
@@ -41,7 +46,7 @@ fn ask(
 
 // Asks what the lines of a text ask, one after another. An error is told with its line.
 fn ask_all(
-    rt: &(impl Files<File = File> + Threads + Wait + AllocGlobal + Sync),
+    rt: &(impl System + Sync),
     name: &str,
     text: &str,
     told: &mut Told,
@@ -62,7 +67,7 @@ fn ask_all(
 
 // Plays the cases of each file that is named, and prints what is told behind each.
 fn play_files(
-    rt: &(impl Files<File = File> + Threads + Wait + AllocGlobal + Sync),
+    rt: &(impl System + Sync),
     names: &str,
     told: &mut Told,
     out: &mut impl Write,
@@ -75,11 +80,33 @@ fn play_files(
     Ok(())
 }
 
-fn main(rt: HostRuntime) -> io::Result<()> {
-    let names = fs::read_to_string(&rt, "index")?;
+// Plays the cases of the files that the file `index` names, and prints what is told.
+fn play_all(rt: &(impl System + Sync), out: &mut impl Write) -> io::Result<()> {
+    let names = fs::read_to_string(rt, "index")?;
     let mut told = Told::new(rt.alloc())?;
-    let mut out = rt.stdout();
-    let played = play_files(&rt, names.as_str(), &mut told, &mut out);
-    told.print(&mut out)?;
+    let played = play_files(rt, names.as_str(), &mut told, out);
+    told.print(out)?;
     played
+}
+
+// The words of a command line, as references into them.
+fn as_words(alloc: Global, args: &Vec<String>) -> Result<Vec<&str>, AllocError> {
+    args.iter().map(|word| word.as_str()).collect(alloc)
+}
+
+fn main(rt: HostRuntime) -> io::Result<ExitCode> {
+    let args = env::args(&rt)?.collect(rt.alloc())?;
+    let words = as_words(rt.alloc(), &args)?;
+    let mut out = rt.stdout();
+    let [_, "bench", asked @ ..] = words.as_slice() else {
+        play_all(&rt, &mut out)?;
+        return Ok(ExitCode::SUCCESS);
+    };
+    match bench::measure(&rt, asked, &mut out) {
+        Ok(()) => Ok(ExitCode::SUCCESS),
+        Err(trouble) => {
+            let _written = eprintln!(rt; "bench: {trouble}");
+            Ok(ExitCode::FAILURE)
+        }
+    }
 }

@@ -1,19 +1,19 @@
 // What the lines of a case ask.
+use crate::plays::bench::Bench;
+use crate::plays::questions;
+use crate::plays::told::Told;
 use crate::sweeps::{any_areas, stops, sweeping};
+use crate::system::System;
 use crate::threads::{load, second_call_during_sync};
-use crate::{comparison, damage, files, image_bytes, runs, spellings, texts};
-use plays::bench::Bench;
-use plays::questions;
-use plays::told::Told;
+use crate::{bench, comparison, damage, files, image_bytes, runs, spellings, texts};
 use std::fs::{self, File};
 use std::io;
 use std::rt::Files;
 use std::sync::Wait;
-use std::thread::Threads;
 
 /// Asks what a line asks, and tells what is answered.
 pub fn ask(
-    rt: &(impl Files<File = File> + Threads + Wait + AllocGlobal + Sync),
+    rt: &(impl System + Sync),
     bench: &mut Bench,
     line: &str,
     told: &mut Told,
@@ -26,7 +26,7 @@ pub fn ask(
 
 // Asks a question of threads, or else another.
 fn ask_of_threads(
-    rt: &(impl Files<File = File> + Threads + Wait + AllocGlobal + Sync),
+    rt: &(impl System + Sync),
     bench: &mut Bench,
     word: &str,
     rest: &str,
@@ -40,6 +40,7 @@ fn ask_of_threads(
             Ok(())
         }
         "load" => load::run(rt, told),
+        "bench" => bench::tell(rt, rest, told),
         _ => ask_of_files(rt, bench, word, rest, told),
     }
 }
@@ -85,7 +86,7 @@ fn ask_of_sweeps(
     }
 }
 
-// Asks a question of a store, or one that brings all that it needs, or else one of the library.
+// Asks a question of a store, or one that brings all that it needs, or else one of `plays`.
 fn ask_of_stores(
     rt: &(impl Wait + AllocGlobal),
     bench: &mut Bench,

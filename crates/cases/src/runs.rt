@@ -1,11 +1,11 @@
 // Commands of the program that are carried out in a way of their own, and its command line.
+use crate::plays::bench::Bench;
+use crate::plays::runs::{Ran, play, to_show};
+use crate::plays::through_store;
+use crate::plays::told::Told;
+use crate::plays::values::{not_understood, number};
 use boost::{Task, command, run};
 use disk_model::MemDisk;
-use plays::bench::Bench;
-use plays::runs::{Ran, play, to_show};
-use plays::through_store;
-use plays::told::Told;
-use plays::values::{not_understood, number};
 use std::alloc::{AllocError, Global};
 use std::io::{self, ErrorKind, Write};
 use std::sync::Wait;

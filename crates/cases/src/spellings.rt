@@ -1,9 +1,9 @@
 // Bytes that spell a record.
 ghost use Rattle.record_format.specs.Records.{Fits};
 
+use crate::plays::told::Told;
+use crate::plays::values::{bytes, not_understood};
 use calls::Kind;
-use plays::told::Told;
-use plays::values::{bytes, not_understood};
 use records::{Record, decode, encode};
 use std::alloc::Global;
 use std::io;

@@ -1,8 +1,8 @@
 // The texts of refusals, and the room of what clauses alone read.
+use crate::plays::told::Told;
 use boost::Said;
 use calls::Refusal;
 use disk_model::{FileDisk, Past, Unknown};
-use plays::told::Told;
 use std::fs::File;
 use std::mem::size_of;
 

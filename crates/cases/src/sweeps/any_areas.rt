@@ -1,11 +1,11 @@
 // Stores whose area in use has bytes of a generator.
+use crate::plays::bench::{Bench, empty_store};
+use crate::plays::disks::{changed, disk_of};
+use crate::plays::runs::{Ran, run_on, to_check, to_show};
+use crate::plays::through_store::play;
+use crate::plays::told::Told;
+use crate::plays::values::numbers;
 use disk_model::MemDisk;
-use plays::bench::{Bench, empty_store};
-use plays::disks::{changed, disk_of};
-use plays::runs::{Ran, run_on, to_check, to_show};
-use plays::through_store::play;
-use plays::told::Told;
-use plays::values::numbers;
 use rand_core::utils::NextWord;
 use rand_pcg::Pcg32;
 use std::alloc::{AllocError, Global};

@@ -1,7 +1,7 @@
 // What a script is answered through the store where a call of the disk fails.
+use crate::plays::runs::text;
+use crate::plays::through_store::Played;
 use boost::{Action, Line, Request};
-use plays::runs::text;
-use plays::through_store::Played;
 use std::alloc::{AllocError, Global};
 use std::io::{self, Write};
 

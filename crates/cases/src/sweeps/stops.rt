@@ -1,12 +1,12 @@
 // What is stopped at each call of the disk and behind the last one, in each of four ways, and then
 // opened.
+use crate::plays::bench::Bench;
+use crate::plays::disks::{all_as, at_rest};
+use crate::plays::runs::{Ran, run_on, text, to_check, to_format, to_play, to_show};
+use crate::plays::told::Told;
+use crate::plays::values::number;
 use boost::Task;
 use disk_model::{Disk, MemDisk};
-use plays::bench::Bench;
-use plays::disks::{all_as, at_rest};
-use plays::runs::{Ran, run_on, text, to_check, to_format, to_play, to_show};
-use plays::told::Told;
-use plays::values::number;
 use std::alloc::{AllocError, Global};
 use std::rt::Files;
 use std::{fs, io};

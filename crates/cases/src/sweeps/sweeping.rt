@@ -1,15 +1,15 @@
 // A script through the store that threads share, where the disk fails at each of its calls in turn,
 // and is stopped there and behind the last one, and opened.
+use crate::plays::bench::Bench;
+use crate::plays::disks::{all_as, at_rest, bytes_of};
+use crate::plays::runs::{Ran, run_on, text, to_show};
+use crate::plays::through_store::{Played, play};
+use crate::plays::told::Told;
+use crate::plays::values::not_understood;
 use crate::sweeps::faults;
 use crate::sweeps::stops::{behind, is_among, may_show};
 use boost::{Line, parse};
 use disk_model::{Disk, MemDisk};
-use plays::bench::Bench;
-use plays::disks::{all_as, at_rest, bytes_of};
-use plays::runs::{Ran, run_on, text, to_show};
-use plays::through_store::{Played, play};
-use plays::told::Told;
-use plays::values::not_understood;
 use std::alloc::Global;
 use std::rt::Files;
 use std::sync::Wait;

@@ -3,12 +3,12 @@ mod plain;
 mod requests;
 mod workers;
 
+use crate::plays::told::Told;
 use crate::texts::tell_refusal;
 use background::Work;
 use calls::Refusal;
 use disk_model::{FileDisk, Unknown};
 use plain::Plain;
-use plays::told::Told;
 use recovery::format;
 use std::alloc::{AllocGlobal, Global};
 use std::fs::File;

@@ -3,12 +3,12 @@ mod held_disk;
 mod serving;
 mod signals;
 
+use crate::plays::told::Told;
 use crate::texts::tell_refusal;
 use calls::Refusal;
 use calls::limits::MIN_AREA;
 use disk_model::MemDisk;
 use held_disk::HeldDisk;
-use plays::told::Told;
 use recovery::format;
 use serving::serve_any;
 use signals::Signals;

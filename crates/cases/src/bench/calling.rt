@@ -1,0 +1,88 @@
+// The calls that clients make.
+use crate::bench::workload::Workload;
+use calls::{Bytes, Call, Kind};
+use rand_core::utils::NextWord;
+use rand_pcg::Pcg32;
+use std::alloc::{AllocError, Global};
+
+// Priorities of jobs are below that.
+const PRIORITIES: u32 = 1000;
+
+// How many bytes a value has.
+const VALUE_SIZE: usize = 100;
+
+/// What a collection holds at the start.
+#[derive(Clone, Copy)]
+pub struct Content {
+    /// The workload whose calls make it.
+    pub workload: Workload,
+    /// The name of the collection.
+    pub collection: &'static str,
+    /// How many calls made it, which is how many entries it has; of a counter it is its number.
+    pub size: u32,
+}
+
+impl Content {
+    /// What the collection of the workload holds.
+    pub fn of(workload: Workload) -> Content {
+        Content {
+            workload,
+            collection: workload.collection(),
+            size: workload.first_count(),
+        }
+    }
+
+    /// The call of this number, of those that make it.
+    pub fn first_call(
+        &self,
+        alloc: Global,
+        number: u64,
+        numbers: &mut Pcg32,
+    ) -> Result<Call, AllocError> {
+        match self.workload.kind() {
+            Kind::Queue => Ok(Call::QueueAdd(priority(numbers), tag(u64::MAX, number))),
+            Kind::Map => Ok(Call::Put(number, value(alloc, b'v')?)),
+            Kind::Pool => Ok(Call::Draw),
+            _ => Ok(Call::Bump(1)),
+        }
+    }
+
+    /// The call of a client's next transaction: every other client of the queue puts jobs, so many
+    /// so far, and the others take them.
+    pub fn next_call(
+        &self,
+        alloc: Global,
+        client: u64,
+        numbers: &mut Pcg32,
+        put: &mut u64,
+    ) -> Result<Call, AllocError> {
+        match self.workload.kind() {
+            Kind::Queue if client % 2 == 1 => Ok(Call::Take),
+            Kind::Queue => {
+                *put = put.wrapping_add(1);
+                Ok(Call::QueueAdd(priority(numbers), tag(client, *put)))
+            }
+            Kind::Map => {
+                let key = u64::from(numbers.next_word() % self.size.max(1));
+                Ok(Call::Put(key, value(alloc, b'a')?))
+            }
+            Kind::Pool => Ok(Call::Draw),
+            _ => Ok(Call::Bump(1)),
+        }
+    }
+}
+
+// A job's priority.
+fn priority(numbers: &mut Pcg32) -> u64 {
+    u64::from(numbers.next_word() % PRIORITIES)
+}
+
+// A job's tag: no other job has it, as long as a client puts fewer than 2^32.
+fn tag(client: u64, number: u64) -> u64 {
+    (client % (1 << 32) * (1 << 32)) | (number % (1 << 32))
+}
+
+// A value of that letter.
+fn value(alloc: Global, letter: u8) -> Result<Bytes, AllocError> {
+    Ok(Bytes::new(vec![in alloc; letter; VALUE_SIZE]?))
+}

@@ -1,0 +1,67 @@
+// Transactions of the same call.
+use crate::bench::calling::Content;
+use background::{Signal, Transaction, transact};
+use calls::{Call, Refusal, Reply};
+use rand_pcg::Pcg32;
+use std::alloc::AllocGlobal;
+use std::sync::Wait;
+use store::{Client, Naming};
+
+/// A transaction of one call of a collection, or of as many of the same as the transactions of a
+/// workload have.
+#[derive(Drop)]
+pub struct SameCall {
+    collection: &'static str,
+    count: u32,
+    call: Call,
+}
+
+impl SameCall {
+    /// The transaction of a call of the collection with that content.
+    pub fn of(content: Content, call: Call) -> SameCall {
+        SameCall {
+            collection: content.collection,
+            count: content.workload.calls(),
+            call,
+        }
+    }
+}
+
+impl Transaction for SameCall {
+    type Output = Reply;
+
+    fn make_calls<J: Naming, R: Wait>(
+        &self,
+        rt: &R,
+        client: &mut Client<'_, J>,
+    ) -> Result<Reply, Refusal> {
+        for _ in 1..self.count {
+            client.call(rt, self.collection, &self.call)?;
+        }
+        client.call(rt, self.collection, &self.call)
+    }
+}
+
+/// Commits so many of the calls that make the content, each in a transaction, without waiting
+/// between them, and waits for the last one.
+///
+/// The refusals of `transact`; Lost where the disk failed; NoMemory.
+pub fn commit_all<J: Naming, R: Wait + AllocGlobal>(
+    rt: &R,
+    client: &mut Client<'_, J>,
+    signal: &Signal,
+    content: Content,
+    count: u64,
+) -> Result<(), Refusal> {
+    let mut numbers = Pcg32::new(0, 1);
+    let mut last = None;
+    for number in 0..count {
+        let call = content.first_call(rt.alloc(), number, &mut numbers)?;
+        let (_, ticket) = transact(rt, client, signal, &SameCall::of(content, call))?;
+        last = Some(ticket);
+    }
+    if let Some(ticket) = last {
+        client.wait(rt, &ticket)?;
+    }
+    Ok(())
+}

@@ -1,0 +1,116 @@
+// Commands that are carried out on the disk of a case.
+use crate::plays::bench::Bench;
+use crate::plays::disks::bytes_of;
+use crate::plays::through_store;
+use crate::plays::told::Told;
+use boost::{Task, run};
+use disk_model::{Disk, MemDisk};
+use std::alloc::Global;
+use std::io;
+use std::sync::Wait;
+
+/// What a run answered: its status, and what it printed.
+#[derive(Drop)]
+pub struct Ran {
+    pub status: u8,
+    pub out: Vec<u8>,
+    pub err: Vec<u8>,
+}
+
+impl Ran {
+    /// Tells its status, the last lines of what it printed, so many of them, and each line of its
+    /// errors behind a mark.
+    pub fn tell(&self, last: usize, told: &mut Told) {
+        told.tell(format_args!("= {}", self.status));
+        told.tell_last(text(&self.out), last, "");
+        told.tell_last(text(&self.err), usize::MAX, "! ");
+    }
+
+    /// Whether another run ended alike: with the same status and errors.
+    pub fn is_alike(&self, other: &Ran) -> bool {
+        self.status == other.status && self.err == other.err
+    }
+}
+
+/// What was printed, as a text.
+pub fn text(bytes: &Vec<u8>) -> &str {
+    std::str::from_utf8(bytes.as_slice()).unwrap_or("no text")
+}
+
+/// A task that plays.
+pub fn to_play(alloc: Global) -> Task {
+    Task::Play {
+        disk: String::new(alloc),
+        script: String::new(alloc),
+    }
+}
+
+/// A task that shows.
+pub fn to_show(alloc: Global) -> Task {
+    Task::Show {
+        disk: String::new(alloc),
+    }
+}
+
+/// A task that checks.
+pub fn to_check(alloc: Global) -> Task {
+    Task::Check {
+        disk: String::new(alloc),
+    }
+}
+
+/// A task that formats, with areas of so many bytes.
+pub fn to_format(alloc: Global, area: u64) -> Task {
+    Task::Format {
+        disk: String::new(alloc),
+        area,
+    }
+}
+
+/// Carries a task out on a disk. Answers the disk behind what the run answered.
+pub fn run_on<D: Disk>(alloc: Global, task: Task, disk: D, script: &[u8]) -> (Ran, D) {
+    let (mut out, mut err) = (Vec::new(alloc), Vec::new(alloc));
+    let (status, disk) = run(alloc, &task, disk, script, &mut out, &mut err);
+    (Ran { status, out, err }, disk)
+}
+
+/// Carries a task out on the disk of the case with the script that was written, which is empty
+/// then, and tells what it answered: of its output as many of the last lines as the case wants.
+pub fn carry_out(alloc: Global, bench: &mut Bench, task: Task, told: &mut Told) -> io::Result<()> {
+    let script = bench.take_script(alloc);
+    let disk = bench.take_disk(alloc)?;
+    let (ran, disk) = run_on(alloc, task, disk, script.as_slice());
+    bench.put_back(disk);
+    ran.tell(bench.take_last(), told);
+    Ok(())
+}
+
+/// Plays the script that was written, and once more through the store that threads share: what that
+/// answers or leaves otherwise is told too.
+pub fn play(rt: &(impl Wait + AllocGlobal), bench: &mut Bench, told: &mut Told) -> io::Result<()> {
+    let alloc = rt.alloc();
+    let beside = bench.copy(alloc)?;
+    let script = bench.take_script(alloc);
+    let disk = bench.take_disk(alloc)?;
+    let (ran, disk) = run_on(alloc, to_play(alloc), disk, script.as_slice());
+    bench.put_back(disk);
+    ran.tell(bench.take_last(), told);
+    let (played, beside) = through_store::play(rt, beside, script.as_slice())?;
+    bench.compared.compare(&ran, &played.ran, told);
+    compare_disks(alloc, bench, beside, told)
+}
+
+// Compares what the disk of the case holds with what the other one does.
+fn compare_disks(
+    alloc: Global,
+    bench: &mut Bench,
+    beside: MemDisk,
+    told: &mut Told,
+) -> io::Result<()> {
+    let bytes = bench.bytes(alloc)?;
+    let others = bytes_of(alloc, beside.stop(&[]))?;
+    bench
+        .compared
+        .compare_disks(bytes.as_slice(), others.as_slice(), told);
+    Ok(())
+}

@@ -1,0 +1,229 @@
+// A script through the store that threads share, on one thread.
+ghost use Rattle.store.specs.Openings.{IsNamed};
+
+use crate::plays::runs::Ran;
+use boost::{Action, End, Failure, Line, Request, Said, Session, parse, report};
+use calls::Refusal;
+use disk_model::Disk;
+use std::alloc::{AllocError, Global};
+use std::io::{self, Write};
+use std::marker::Brand;
+use std::sync::Wait;
+use store::{Checkpoint, Checkpointer, Client, Committer, Naming, Opened, Store};
+
+// A script's clients are numbered from 1 to so many.
+const CLIENTS: usize = 64;
+
+// So many bytes of answers are written without more memory.
+const ROOM: usize = 1 << 16;
+
+// The clients of a script on a store, its committer and its checkpointer.
+#[derive(Drop)]
+struct Stage<'c, 's, D: Disk, J: Naming> {
+    sessions: Vec<Session<'c, 's, J>>,
+    committer: Committer<'s, D, J>,
+    checkpointer: Checkpointer<'s, D, J>,
+    has_failed: bool,
+}
+
+// The clients of a script.
+fn clients<'s, D: Disk, J: Naming, R: Wait + AllocGlobal>(
+    rt: &R,
+    store: &'s Store<D, J>,
+) -> Result<Vec<Client<'s, J>>, Refusal> {
+    let mut clients = Vec::with_capacity(rt.alloc(), CLIENTS)?;
+    for _ in 0..CLIENTS {
+        clients.push(store.client(rt)?)?;
+    }
+    Ok(clients)
+}
+
+// A session for each client.
+fn sessions<'c, 's, J: Naming>(
+    alloc: Global,
+    clients: &'c mut [Client<'s, J>],
+) -> Result<Vec<Session<'c, 's, J>>, AllocError> {
+    clients
+        .iter_mut()
+        .map(|client| Session::new(client))
+        .collect(alloc)
+}
+
+impl<'c, 's, D: Disk, J: Naming> Stage<'c, 's, D, J> {
+    // Before the first line.
+    fn new<R: Wait + AllocGlobal>(
+        rt: &R,
+        store: &'s Store<D, J>,
+        clients: &'c mut [Client<'s, J>],
+    ) -> Result<Self, Refusal> {
+        Ok(Self {
+            sessions: sessions(rt.alloc(), clients)?,
+            committer: store.committer(rt),
+            checkpointer: store.checkpointer(rt),
+            has_failed: false,
+        })
+    }
+
+    // What a line answers. Whether the disk has failed is noted.
+    fn answer<R: Wait>(&mut self, rt: &R, action: &Action) -> Said {
+        match self.act(rt, action) {
+            Ok(said) => said,
+            Err(refusal) => {
+                self.has_failed |= matches!(refusal, Refusal::Fault | Refusal::Failed);
+                Said::Refused(refusal)
+            }
+        }
+    }
+
+    // Does what a line asks for.
+    fn act<R: Wait>(&mut self, rt: &R, action: &Action) -> Result<Said, Refusal> {
+        match action {
+            Action::Turn => Ok(Said::Turned(self.committer.turn(rt)?)),
+            Action::Checkpoint => Ok(Said::Flipped(self.checkpoint(rt)?)),
+            Action::Client(number, request) => self.ask(rt, usize::from(*number), request),
+        }
+    }
+
+    // What a client's request is answered.
+    fn ask<R: Wait>(&mut self, rt: &R, client: usize, request: &Request) -> Result<Said, Refusal> {
+        match self.sessions.get_mut(client.wrapping_sub(1)) {
+            Some(session) => Ok(session.say(rt, request)),
+            // each of the 64 has a session
+            None => Err(Refusal::Worn),
+        }
+    }
+
+    // Turns of the checkpointer, until an image is the store.
+    fn checkpoint<R: Wait>(&mut self, rt: &R) -> Result<u64, Refusal> {
+        for _ in rt.forever() {
+            if let Checkpoint::Flipped(place) = self.checkpointer.turn(rt)? {
+                return Ok(place);
+            }
+        }
+        unreachable!()
+    }
+
+    // Runs a line and prints what it is answered. Whether memory was refused.
+    fn play_once<R: Wait>(&mut self, rt: &R, line: &Line, out: &mut Vec<u8>) -> io::Result<bool> {
+        let said = self.answer(rt, &line.what);
+        writeln!(out, "{}: {said}", line.number)?;
+        Ok(matches!(said, Said::Refused(Refusal::NoMemory)))
+    }
+
+    // Runs lines, each once more where memory was refused.
+    fn play<R: Wait>(&mut self, rt: &R, lines: &[Line], out: &mut Vec<u8>) -> io::Result<()> {
+        for line in lines {
+            if self.play_once(rt, line, out)? {
+                let _is_refused_again = self.play_once(rt, line, out)?;
+            }
+        }
+        Ok(())
+    }
+
+    // Prints what each client that has a ticket is told of it, where the disk has failed. Else it
+    // might wait for ever.
+    fn tell_ends<R: Wait>(&mut self, rt: &R, ends: &mut Vec<u8>) -> io::Result<()> {
+        let mut client = 1u64;
+        for session in self.sessions.iter_mut() {
+            tell_end(client, session.end(rt), ends)?;
+            client = client.wrapping_add(1);
+        }
+        Ok(())
+    }
+}
+
+// Prints what a client is told of its last ticket, if it has one.
+fn tell_end(client: u64, end: End, ends: &mut Vec<u8>) -> io::Result<()> {
+    match end {
+        End::NoTicket => Ok(()),
+        End::Kept | End::Lost => writeln!(ends, "c{client}: {end}"),
+    }
+}
+
+// Runs lines on a store, and then asks after each client's ticket, where the disk has failed.
+fn play_on<D: Disk, J: Naming, R: Wait + AllocGlobal>(
+    rt: &R,
+    store: &Store<D, J>,
+    lines: &[Line],
+    out: &mut Vec<u8>,
+    ends: &mut Vec<u8>,
+) -> Result<(), Failure<'static>> {
+    let mut clients = clients(rt, store)?;
+    let mut stage = Stage::new(rt, store, clients.as_mut_slice())?;
+    stage.play(rt, lines, out)?;
+    if stage.has_failed {
+        stage.tell_ends(rt, ends)?;
+    }
+    Ok(())
+}
+
+// The same on a store that was opened, which is closed then.
+fn play_opened<J: Naming, D: Disk + Drop, R: Wait + AllocGlobal>(
+    rt: &R,
+    opened: Opened<D>,
+    lines: &[Line],
+    out: &mut Vec<u8>,
+    ends: &mut Vec<u8>,
+) -> (Result<(), Failure<'static>>, D)
+    requires { IsNamed ⟦<J as Naming>⟧ ⟦<D as Disk>⟧ opened }
+{
+    let store = opened.named::<J>();
+    let done = play_on(rt, &store, lines, out, ends);
+    let (_, keeper) = store.close(None);
+    (done, keeper.into_disk())
+}
+
+// The same on the store of a disk, under a name of its own.
+fn play_lines<D: Disk + Drop, R: Wait + AllocGlobal>(
+    rt: &R,
+    opened: Opened<D>,
+    lines: &[Line],
+    out: &mut Vec<u8>,
+    ends: &mut Vec<u8>,
+) -> (Result<(), Failure<'static>>, D) {
+    play_opened::<Brand, D, R>(rt, opened, lines, out, ends)
+}
+
+// Runs a script on the store of a disk.
+fn play_script<D: Disk + Drop, R: Wait + AllocGlobal>(
+    rt: &R,
+    disk: D,
+    script: &[u8],
+    out: &mut Vec<u8>,
+    ends: &mut Vec<u8>,
+) -> (Result<(), Failure<'static>>, D) {
+    match parse(rt.alloc(), script) {
+        Ok(lines) => match Opened::open(rt.alloc(), disk) {
+            Ok(opened) => play_lines(rt, opened, lines.as_slice(), out, ends),
+            Err((refusal, disk)) => (Err(Failure::Refused(refusal)), disk),
+        },
+        Err(error) => (Err(Failure::from(error)), disk),
+    }
+}
+
+/// What a script was answered through the store, and, where the disk failed, what each client was
+/// told of its last ticket then.
+#[derive(Drop)]
+pub struct Played {
+    pub ran: Ran,
+    pub ends: Vec<u8>,
+}
+
+/// Runs a script through the store that threads share, on one thread, as the program plays it. A
+/// line that is refused for want of memory is run once more.
+pub fn play<D: Disk + Drop, R: Wait + AllocGlobal>(
+    rt: &R,
+    disk: D,
+    script: &[u8],
+) -> Result<(Played, D), AllocError> {
+    let alloc = rt.alloc();
+    let mut out = Vec::with_capacity(alloc, ROOM)?;
+    let (mut err, mut ends) = (Vec::new(alloc), Vec::new(alloc));
+    let (done, disk) = play_script(rt, disk, script, &mut out, &mut ends);
+    let status = match done {
+        Ok(()) => 0,
+        Err(failure) => report(&failure, &mut err),
+    };
+    let ran = Ran { status, out, err };
+    Ok((Played { ran, ends }, disk))
+}
