@@ -68,10 +68,10 @@ has_place cs at pos =
     absurd (omega arith)) (cases_lt at (length cs))
 
 -- where a table shows room the collection has room and a place, and the owners' lists have room
-pub shown_room : (cs : List Claimed) (ready : Bool) (table : Holdings) (at i : ℕ) →
+pub shown_room : (cs : List Claimed) (ready : Bool) {table : Holdings} {at i : ℕ} →
     held_by cs ready ≡ table → HasRoom table at → i ≡ at →
     (0 < (held_on cs i).room) × (i < length cs) × (ready ≡ true)
-shown_room cs ready table at i is had same =
+shown_room cs ready {table} {at} {i} is had same =
     let some = some_room cs ready at (subst (λ t. HasRoom t at) (sym is) had) in
     let room : 0 < (held_on cs i).room = rw same some.0 in
     (room, has_place cs i room, some.1)
@@ -236,7 +236,7 @@ module _ (xs ys : List Claimed) (alike : AreAlike xs ys) (i : ℕ) (lt : i < len
   pub had_room : (ready : Bool) (table : Holdings) (at : ℕ) → held_by xs ready ≡ table →
       HasRoom table at → i ≡ at → (0 < old.room) × (ready ≡ true)
   had_room ready table at is had same =
-      let shown = shown_room xs ready table at i is had same in
+      let shown = shown_room xs ready is had same in
       (subst (λ (c : Claimed). 0 < c.room) (sym (here ∙ alike.each i)) shown.0, shown.2)
 
   -- where it gets none all is as it was
@@ -256,11 +256,11 @@ refused_shown (Err e) xs ys false new ok same all =
 
 -- ---- a hold is granted
 
-module _ (cs : List Claimed) (ready : Bool) (shown : Holdings) (is : held_by cs ready ≡ shown)
-    (h : Hold) (room : HasRoom shown h.at) (i : ℕ) (same : i ≡ h.at) (old new : Claimed)
+module _ (cs : List Claimed) (ready : Bool) (new : Claimed) {shown : Holdings} {h : Hold} {i : ℕ}
+    {old : Claimed} (is : held_by cs ready ≡ shown) (room : HasRoom shown h.at) (same : i ≡ h.at)
     (stood : old ≡ get_or cs i old) (added : IsAdded old.holds new.holds h) where
   lt : i < length cs
-  lt = (shown_room cs ready shown h.at i is room same).1
+  lt = (shown_room cs ready is room same).1
 
   added_here : IsAdded (held_on cs i).holds new.holds h
   added_here = subst (λ (c : Claimed). IsAdded c.holds new.holds h) (found_at cs i old lt stood)

@@ -1,102 +1,45 @@
 -- What each owner holds, in lists that stand in the order of their owners.
-use Rattle.std.proofs.Common.{◌≡◌, ◌≢◌, ◌∙◌, ℕ, zero, suc, ◌+◌, ◌<◌, ◌≤◌, ◌↔◌, ◌⊎◌, inl, inr, Bool}
+use Rattle.std.proofs.Common.{◌≡◌, ◌≢◌, ◌∙◌, ℕ, zero, suc, ◌<◌, ◌≤◌, ◌↔◌, ◌⊎◌, inl, inr, Bool}
 use Rattle.std.proofs.Common.{List, [], ◌∷◌, ◌++◌, length, get_or, set, take, drop, refl, sym, ap}
-use Rattle.std.proofs.Common.{subst, ⊎_elim, arith, IsTrue, take-append-drop, length-take}
-use Rattle.std.proofs.Common.{length-drop, Result, Ok, Err}
+use Rattle.std.proofs.Common.{subst, ⊎_elim, arith, IsTrue, take-append-drop}
+use Rattle.std.proofs.Common.{Result, Ok, Err, false, true≢false}
 use Rattle.std.specs.List.{All, Contains, insert, remove}
-use Rattle.std.specs.List.Sorted.{IsSearchInRange, IsBinarySearchResult, IsNonDecreasingBy}
-use Rattle.std.specs.Ordering.{nat_cmp, ordering_index}
-use Rattle.std.proofs.Math.Seq.{drop-cons}
-use Rattle.std.proofs.lemmas.Bool.{cases_eq, cases_order}
-use Rattle.std.proofs.lemmas.Bool.Decides.{nat_tests}
-use Rattle.std.proofs.lemmas.Cmp.{ranked}
+use Rattle.std.specs.List.Sorted.{IsSearchInRange, IsBinarySearchResult}
+use Rattle.std.specs.Ordering.{nat_cmp}
+use Rattle.std.proofs.lemmas.Bool.{cases_eq}
 use Rattle.std.proofs.lemmas.List.{get_or_default, get_or-set_same, get_or-set_other}
-use Rattle.std.proofs.lemmas.List.{get_or-take, get_or-drop}
 use Rattle.std.proofs.lemmas.List.Concat.{flat_map-append}
 use Rattle.std.proofs.lemmas.List.Elements.{All-append, All-cons, All-contains, All-get_or}
 use Rattle.std.proofs.lemmas.List.Elements.{All-nil, All-push, All-set, All-tail, All-weaker}
 use Rattle.std.proofs.lemmas.List.Elements.{All-from_get_or, All-drop, All-take}
 use Rattle.std.proofs.lemmas.List.Elements.{Contains-append_left, Contains-append_right}
 use Rattle.std.proofs.lemmas.List.Elements.{All-head, Contains-append_cases}
+use Rattle.calls.proofs.Parts.{All-right, All-left, around}
+use Rattle.calls.proofs.RisingKeys as rising
+use Rattle.calls.proofs.RisingKeys.{IsOrder, IsGap, rise_at, others, none_in_gap, put, removed}
 use Rattle.abstract_locks.specs.declared.table.Hold.{Hold}
 use Rattle.abstract_locks.specs.Holds.{IsAdded, IsGivenUp}
 use Rattle.abstract_locks.specs.Owners.{Listed, listed_at, all_noted, AreRising, IsGapFor}
 use Rattle.abstract_locks.specs.Owners.{IsPlaceFor, HasItsOwn, IsSpare, HasPlaces, AreListed}
-use Rattle.abstract_locks.specs.Owners.{IsKept, AreKept, unlisted}
+use Rattle.abstract_locks.specs.Owners.{IsKept, AreKept, unlisted, Noted}
 use Rattle.abstract_locks.proofs.Gathered.{in_none, pushed_is_added}
 use Rattle.abstract_locks.proofs.Granting.{added_at, added_before, added_behind}
-use Rattle.abstract_locks.proofs.Rising.{All-left, All-right}
 
 -- ---- the order of the owners
 
--- Those of l stand below x, and those of r above it.
-record IsFork (l : List Listed) (x : Listed) (r : List Listed) : Type 0 where
-  left : AreRising l
-  right : AreRising r
-  below : All (λ y. y.owner < x.owner) l
-  above : All (λ y. x.owner < y.owner) r
-
-split : (l : List Listed) (x : Listed) (r : List Listed) → AreRising (l ++ x ∷ r) → IsFork l x r
-split [] x r up = record {
-  left = tt;
-  right = up.1;
-  below = All-nil (λ y. y.owner < x.owner);
-  above = up.0;
+-- the lists rise by their owners
+by_owner : IsOrder (λ (l : Listed). l.owner) AreRising
+by_owner = record {
+  none = tt;
+  above = λ l ls up. up.0;
+  rest = λ l ls up. up.1;
+  more = λ l ls above up. (above, up);
 }
-split (y ∷ l) x r up =
-    let rest = split l x r up.1 in
-    let behind : y.owner < x.owner =
-    All-head (λ z. y.owner < z.owner) x r (All-right (λ z. y.owner < z.owner) l (x ∷ r) up.0) in
-    record {
-      left = (All-left (λ z. y.owner < z.owner) l (x ∷ r) up.0, rest.left);
-      right = rest.right;
-      below = All-cons (λ z. z.owner < x.owner) y l behind rest.below;
-      above = rest.above;
-    }
 
-join : (l : List Listed) (x : Listed) (r : List Listed) → IsFork l x r → AreRising (l ++ x ∷ r)
-join [] x r f = (f.above, f.right)
-join (y ∷ l) x r f =
-    let behind : y.owner < x.owner = All-head (λ z. z.owner < x.owner) y l f.below in
-    let far : All (λ z. y.owner < z.owner) r = All-weaker (λ z. x.owner < z.owner)
-    (λ z. y.owner < z.owner) (λ z up. omega arith) r f.above in (
-      All-append (λ z. y.owner < z.owner) l (x ∷ r) f.left.0
-          (All-cons (λ z. y.owner < z.owner) x r behind far),
-      join l x r (record {
-        left = f.left.1;
-        right = f.right;
-        below = All-tail (λ z. z.owner < x.owner) y l f.below;
-        above = f.above;
-      }),
-    )
-
-rise_front : (l r : List Listed) → AreRising (l ++ r) → AreRising l
-rise_front [] r up = tt
-rise_front (x ∷ l) r up = (All-left (λ y. x.owner < y.owner) l r up.0, rise_front l r up.1)
-
-rise_back : (l r : List Listed) → AreRising (l ++ r) → AreRising r
-rise_back [] r up = up
-rise_back (x ∷ l) r up = rise_back l r up.1
-
--- the order without one of them
-without : (l : List Listed) (x : Listed) (r : List Listed) → AreRising (l ++ x ∷ r) →
-    AreRising (l ++ r)
-without [] x r up = up.1
-without (y ∷ l) x r up = (
-  All-append (λ z. y.owner < z.owner) l r (All-left (λ z. y.owner < z.owner) l (x ∷ r) up.0)
-      (All-tail (λ z. y.owner < z.owner) x r (All-right (λ z. y.owner < z.owner) l (x ∷ r) up.0)),
-  without l x r up.1,
-)
-
--- the order place by place
-rise_at : (xs : List Listed) (i j : ℕ) (d : Listed) → AreRising xs → i < j → j < length xs →
-    (get_or xs i d).owner < (get_or xs j d).owner
-rise_at [] i j d up less lt = absurd (omega arith)
-rise_at (x ∷ xs) zero zero d up less lt = absurd (omega arith)
-rise_at (x ∷ xs) zero (suc j) d up less lt = up.0 j d (omega arith)
-rise_at (x ∷ xs) (suc i) zero d up less lt = absurd (omega arith)
-rise_at (x ∷ xs) (suc i) (suc j) d up less lt =
-    rise_at xs i j d up.1 (omega arith) (omega arith)
+gap_of : (owner : ℕ) (ls : List Listed) (i : ℕ) → IsGapFor owner ls i →
+    IsGap (λ (l : Listed). l.owner) owner ls i
+gap_of owner ls i gap =
+    record { within = gap.within; lesser = gap.lesser; greater = gap.greater }
 
 rise_by_places : (xs : List Listed) → ((i j : ℕ) → i < j → j < length xs →
     (listed_at xs i).owner < (listed_at xs j).owner) → AreRising xs
@@ -119,36 +62,15 @@ rise_set (x ∷ xs) (suc i) d new lt same up = (
   rise_set xs i d new (omega arith) same up.1,
 )
 
-module _ (ls : List Listed) (up : AreRising ls) (owner : ℕ) where
-  comparisons_rise : IsNonDecreasingBy (λ (x : Listed). ordering_index (nat_cmp x.owner owner)) ls
-  comparisons_rise i j d le lt =
-      let owners_rise : (get_or ls i d).owner ≤ (get_or ls j d).owner =
-      ⊎_elim (λ same. let e : (get_or ls i d).owner ≡ (get_or ls j d).owner =
-      ap (λ k. (get_or ls k d).owner) same in omega arith)
-      (λ rest. ⊎_elim
-      (λ less. let a = rise_at ls i j d up less lt in omega arith)
-      (λ more. absurd (omega arith)) rest)
-      (cases_order i j) in
-      grind (arith, nat_tests)
-
-  -- where a halving ends
-  pub searched : (r : Result ℕ ℕ) → IsSearchInRange r (length ls) →
-      IsBinarySearchResult (λ (x : Listed). nat_cmp x.owner owner) ls r → IsPlaceFor owner ls r
-  searched (Ok i) in_range equal = (in_range, λ d. ranked _ owner _ (sym (equal d)))
-  searched (Err i) in_range parted =
-      let both = parted comparisons_rise in
-      record {
-        within = in_range;
-        lesser = λ k d lt.
-            let few = length-take i ls in
-            let below : k < i = omega arith in
-            rw (get_or-take i ls k d below)
-            (ranked _ owner _ (sym (both.0 k d (omega arith) below)));
-        greater = λ k d lt.
-            let few = length-drop i ls in
-            rw (get_or-drop i ls k d)
-            (ranked _ owner _ (sym (both.1 (i + k) d (omega arith) (omega arith))));
-      }
+-- where a halving ends
+pub searched : (ls : List Listed) → AreRising ls → (owner : ℕ) (r : Result ℕ ℕ) →
+    IsSearchInRange r (length ls) →
+    IsBinarySearchResult (λ (x : Listed). nat_cmp x.owner owner) ls r → IsPlaceFor owner ls r
+searched ls up owner (Ok i) in_range equal =
+    rising.searched by_owner ls up owner (Ok i) in_range equal
+searched ls up owner (Err i) in_range parted =
+    let gap = rising.searched by_owner ls up owner (Err i) in_range parted in
+    record { within = gap.within; lesser = gap.lesser; greater = gap.greater }
 
 -- ---- whose holds they are
 
@@ -168,9 +90,6 @@ owner_of P (l ∷ ls) own all h there =
 -- a list among others, and the holds of its owner
 module _ (l : List Listed) (x : Listed) (r : List Listed) (up : AreRising (l ++ x ∷ r))
     (own : All HasItsOwn (l ++ x ∷ r)) where
-  fork : IsFork l x r
-  fork = split l x r up
-
   own_rest : All HasItsOwn (x ∷ r)
   own_rest = All-right HasItsOwn l (x ∷ r) own
 
@@ -181,11 +100,7 @@ module _ (l : List Listed) (x : Listed) (r : List Listed) (up : AreRising (l ++ 
   -- the others are others' holds
   not_its : (h : Hold) → Contains (all_noted (l ++ r)) h → h.owner ≢ x.owner
   not_its = owner_of (λ n. n ≢ x.owner) (l ++ r) own_others
-      (All-append (λ (y : Listed). y.owner ≢ x.owner) l r
-      (All-weaker (λ (y : Listed). y.owner < x.owner) (λ (y : Listed). y.owner ≢ x.owner)
-      (λ y less e. omega arith) l fork.below)
-      (All-weaker (λ (y : Listed). x.owner < y.owner) (λ (y : Listed). y.owner ≢ x.owner)
-      (λ y more e. omega arith) r fork.above))
+      (others by_owner l x r up)
 
   its : (h : Hold) → Contains x.holds h → h.owner ≡ x.owner
   its h there = All-contains (λ (h : Hold). h.owner ≡ x.owner) x.holds h
@@ -242,9 +157,7 @@ module _ (ls spares : List Listed) (places : ℕ) (ready : Bool)
     (listed : AreListed ls spares places ready) (i : ℕ) (x : Listed) (lt : i < length ls)
     (at : x ≡ get_or ls i x) where
   whole : take i ls ++ x ∷ drop (suc i) ls ≡ ls
-  whole = ap (λ l. take i ls ++ l)
-      (ap (λ y. y ∷ drop (suc i) ls) at ∙ sym (drop-cons ls i x lt))
-      ∙ take-append-drop i ls
+  whole = around ls i x lt at
 
   parts_rise : AreRising (take i ls ++ x ∷ drop (suc i) ls)
   parts_rise = subst AreRising (sym whole) listed.rising
@@ -270,7 +183,7 @@ module _ (ls spares : List Listed) (places : ℕ) (ready : Bool)
   pub taken_listed : (more : List Listed) (free : ℕ) → All IsSpare more →
       length spares ≤ length more → places ≤ free → AreListed (remove ls i) more free ready
   taken_listed more free empty longer wider = record {
-    rising = without (take i ls) x (drop (suc i) ls) parts_rise;
+    rising = removed by_owner ls listed.rising i x lt at;
     own = own_others (take i ls) x (drop (suc i) ls) parts_rise parts_own;
     empty = empty;
     places = λ is. let had = listed.places is in
@@ -323,19 +236,11 @@ module _ (ls spares : List Listed) (places : ℕ) (ready : Bool)
     (listed : AreListed ls spares places ready) (owner i : ℕ) (gap : IsGapFor owner ls i) where
   pub nothing_of : (h : Hold) → Contains (all_noted ls) h → h.owner ≢ owner
   nothing_of = owner_of (λ n. n ≢ owner) ls listed.own
-      (subst (All (λ (l : Listed). l.owner ≢ owner)) (take-append-drop i ls)
-      (All-append (λ (l : Listed). l.owner ≢ owner) (take i ls) (drop i ls)
-      (All-weaker (λ (l : Listed). l.owner < owner) (λ (l : Listed). l.owner ≢ owner)
-      (λ l less e. omega arith) (take i ls) gap.lesser)
-      (All-weaker (λ (l : Listed). owner < l.owner) (λ (l : Listed). l.owner ≢ owner)
-      (λ l more e. omega arith) (drop i ls) gap.greater)))
+      (none_in_gap (λ (l : Listed). l.owner) owner ls i (gap_of owner ls i gap))
 
   -- its own is put in
   module _ (h : Hold) (new : Listed) (is : h.owner ≡ owner) (its : new.owner ≡ h.owner)
       (holds : new.holds ≡ h ∷ []) where
-    parts : AreRising (take i ls ++ drop i ls)
-    parts = subst AreRising (sym (take-append-drop i ls)) listed.rising
-
     put_all : (P : Listed → Type 0) → P new → All P ls → All P (insert ls i new)
     put_all P one all = All-append P (take i ls) (new ∷ drop i ls) (All-take P i ls all)
         (All-cons P new (drop i ls) one (All-drop P i ls all))
@@ -348,14 +253,9 @@ module _ (ls spares : List Listed) (places : ℕ) (ready : Bool)
         (now : Bool) → (IsTrue now → (0 < new.room) × (0 < free) × (0 < length left)) →
         AreListed (insert ls i new) left free now
     put_listed was left free empty now has = record {
-      rising = join (take i ls) new (drop i ls) (record {
-        left = rise_front (take i ls) (drop i ls) parts;
-        right = rise_back (take i ls) (drop i ls) parts;
-        below = subst (λ n. All (λ (l : Listed). l.owner < n) (take i ls)) (sym (its ∙ is))
-            gap.lesser;
-        above = subst (λ n. All (λ (l : Listed). n < l.owner) (drop i ls)) (sym (its ∙ is))
-            gap.greater;
-      });
+      rising = put by_owner ls i new listed.rising
+          (subst (λ n. IsGap (λ (l : Listed). l.owner) n ls i) (sym (its ∙ is))
+          (gap_of owner ls i gap));
       own = put_all HasItsOwn put_own listed.own;
       empty = empty;
       places = λ so. let now = has so in
@@ -408,23 +308,41 @@ kept_noted (x ∷ xs) (y ∷ ys) kept =
     ap (λ l. l ++ all_noted ys) (kept 0).holds
     ∙ ap (λ l. x.holds ++ l) (kept_noted xs ys (λ i. kept (suc i)))
 
+-- what is noted stays as it is seen
+pub still_shown : (xs ys : List Listed) {ready : Bool} {was : Noted} → AreKept xs ys →
+    record { holds = all_noted xs; ready = ready } ≡ was →
+    record { holds = all_noted ys; ready = ready } ≡ was
+still_shown xs ys {ready} kept is =
+    ap (λ l. record { holds = l; ready = ready }) (kept_noted xs ys kept) ∙ is
+
+pub still_noted : (xs ys : List Listed) {ready : Bool} {was : Noted} → AreKept xs ys →
+    record { holds = all_noted xs; ready = ready } ≡ was → all_noted ys ≡ was.holds
+still_noted xs ys kept is = ap (λ (n : Noted). n.holds) (still_shown xs ys kept is)
+
 module _ (xs ys : List Listed) (kept : AreKept xs ys) (len : length ys ≡ length xs) where
   kept_rising : AreRising xs → AreRising ys
   kept_rising up = rise_by_places ys
       (λ i j less lt. rw ((kept i).owner, (kept j).owner)
-      (rise_at xs i j unlisted up less (omega arith)))
+      (rise_at by_owner xs i j unlisted up less (omega arith)))
 
   kept_own : All HasItsOwn xs → All HasItsOwn ys
   kept_own own = All-from_get_or HasItsOwn ys unlisted
       (λ i lt. rw ((kept i).owner, (kept i).holds)
       (All-get_or HasItsOwn xs i unlisted (omega arith) own))
 
-  pub kept_listed : (spares more : List Listed) (places free : ℕ) (old new : Bool) →
+  pub kept_listed : {spares more : List Listed} {places free : ℕ} {old new : Bool} →
       AreListed xs spares places old → All IsSpare more →
       (IsTrue new → HasPlaces ys more free) → AreListed ys more free new
-  kept_listed spares more places free old new listed empty has = record {
+  kept_listed listed empty has = record {
     rising = kept_rising listed.rising;
     own = kept_own listed.own;
     empty = empty;
     places = has;
   }
+
+  -- what is not ready asks for no places
+  pub unready_listed : {spares more : List Listed} {places free : ℕ} {ready : Bool} →
+      ready ≡ false → AreListed xs spares places ready → All IsSpare more →
+      AreListed ys more free ready
+  unready_listed is listed empty =
+      kept_listed listed empty (λ now. absurd (true≢false (sym now ∙ is)))

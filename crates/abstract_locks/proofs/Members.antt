@@ -3,17 +3,14 @@ use Rattle.std.proofs.Common.{◌≡◌, ◌≢◌, ℕ, ◌⊎◌, ◌==◌, in
 use Rattle.std.proofs.Common.{[], ◌∷◌, ◌++◌, take, drop, take-append-drop, refl, sym, subst, ⊎_elim}
 use Rattle.std.proofs.Common.{arith}
 use Rattle.std.specs.List.{filter, insert, Contains}
-use Rattle.std.proofs.lemmas.List.Elements.{Contains-push, Contains-push_cases}
+use Rattle.std.proofs.lemmas.List.Elements.{Contains-push}
 use Rattle.std.proofs.lemmas.List.Elements.{Contains-append_left, Contains-append_right}
 use Rattle.std.proofs.lemmas.List.Elements.{Contains-append_cases}
+use Rattle.calls.proofs.Parts.{only}
 use Rattle.abstract_locks.specs.declared.table.Hold.{Hold}
 use Rattle.abstract_locks.specs.Holds.{IsAdded, IsGivenUp}
 
 module _ {X : Type 0} where
-  pub only : (x y : X) → Contains (x ∷ []) y → x ≡ y
-  only x y h = ⊎_elim (λ none. let lt = none.1 in absurd (omega arith)) (λ same. same)
-      (Contains-push_cases [] x y h)
-
   module _ (p : X → Bool) where
     head_kept : (b : Bool) (x : X) (us : List X) → b ≡ true → Contains (cond b (x ∷ us) us) x
     head_kept true x us e = Contains-append_left (x ∷ []) us x (Contains-push [] x)

@@ -12,12 +12,13 @@ use Rattle.std.proofs.lemmas.List.Elements.{All-nil, All-cons, All-append, All-w
 use Rattle.std.proofs.lemmas.List.Elements.{All-get_or, All-take, All-drop, All-head, All-contains}
 use Rattle.std.proofs.lemmas.List.Elements.{All-contains_itself}
 use Rattle.std.proofs.lemmas.List.Elements.{Contains-append_left, Contains-append_right}
+use Rattle.calls.proofs.Parts.{All-left}
 use Rattle.abstract_locks.specs.declared.table.Hold.{Hold}
 use Rattle.abstract_locks.specs.Holds.{IsAdded, IsRemoved}
 use Rattle.abstract_locks.specs.Order.{Precedes, Rises}
 use Rattle.abstract_locks.specs.Segments.{all_holds, AreOrdered, IsSegmentOf, begins_by}
 use Rattle.abstract_locks.proofs.Ordering.{in_front}
-use Rattle.abstract_locks.proofs.Rising.{All-left, ArePreceding, rises_left, rises_right}
+use Rattle.abstract_locks.proofs.Rising.{ArePreceding, rises_left, rises_right}
 use Rattle.abstract_locks.proofs.Rising.{rises_between, exchanged, fresh_between, removed_between}
 use Rattle.abstract_locks.proofs.Rising.{known_added, known_removed, front_of, back_of, some_added}
 use Rattle.abstract_locks.proofs.Rising.{none_removed}
@@ -203,7 +204,7 @@ module _ (xs : List (List Hold)) (i : ℕ) (h : Hold) (d : List Hold) (lt : i < 
       }
 
   module _ (new : List Hold) (removed : IsRemoved (get_or xs i d) new h) where
-    pub segment_removed : IsRemoved (all_holds xs) (all_holds (set xs i new)) h
+    segment_removed : IsRemoved (all_holds xs) (all_holds (set xs i new)) h
     segment_removed =
         subst (λ l. IsRemoved (all_holds xs) l h) (sym (all_set xs i new lt))
         (subst (λ l. IsRemoved l (all_holds (take i xs) ++ (new ++ all_holds (drop (suc i) xs))) h)
@@ -216,7 +217,7 @@ module _ (xs : List (List Hold)) (i : ℕ) (h : Hold) (d : List Hold) (lt : i < 
         (exchanged (all_holds (take i xs)) (all_holds (drop (suc i) xs)) h here.front here.back
         (get_or xs i d) new rises_here own (known_removed (get_or xs i d) new h removed))
 
-    pub segment_kept : Rises new → (1 < length xs → 0 < length new) → AreOrdered (set xs i new)
+    segment_kept : Rises new → (1 < length xs → 0 < length new) → AreOrdered (set xs i new)
     segment_kept own some = record {
       rise = still_rise own;
       filled = λ many. let long = length-set xs i new in
@@ -229,10 +230,10 @@ module _ (xs : List (List Hold)) (i : ℕ) (h : Hold) (d : List Hold) (lt : i < 
       gone = all_without (set xs i new) i (let long = length-set xs i new in omega arith)
           (λ e. get_or-set_same xs i new e lt ∙ empty)
 
-      pub segment_gone : IsRemoved (all_holds xs) (all_holds (remove (set xs i new) i)) h
+      segment_gone : IsRemoved (all_holds xs) (all_holds (remove (set xs i new) i)) h
       segment_gone = rw gone segment_removed
 
-      pub segment_let_go : 1 < length xs → AreOrdered (remove (set xs i new) i)
+      segment_let_go : 1 < length xs → AreOrdered (remove (set xs i new) i)
       segment_let_go many =
           let filled = ordered.filled many in
           record {
@@ -244,7 +245,7 @@ module _ (xs : List (List Hold)) (i : ℕ) (h : Hold) (d : List Hold) (lt : i < 
           }
 
 -- the segment that is looked at behind the change is empty
-pub emptied : (xs : List (List Hold)) (i : ℕ) (new x : List Hold) → i < length xs →
+emptied : (xs : List (List Hold)) (i : ℕ) (new x : List Hold) → i < length xs →
     x ≡ get_or (set xs i new) i x → (length x == 0) ≡ true → new ≡ []
 emptied xs i [] x lt is none = refl
 emptied xs i (h ∷ hs) x lt is none =
@@ -252,12 +253,43 @@ emptied xs i (h ∷ hs) x lt is none =
     let zero_long = eqb-true (length x) 0 none in
     absurd (omega arith)
 
-pub still_some : (xs : List (List Hold)) (i : ℕ) (new x : List Hold) → i < length xs →
+still_some : (xs : List (List Hold)) (i : ℕ) (new x : List Hold) → i < length xs →
     x ≡ get_or (set xs i new) i x → (length x == 0) ≡ false → 0 < length new
 still_some xs i new x lt is some =
     let same = ap length (is ∙ get_or-set_same xs i new x lt) in
     let long = eqb-false (length x) 0 some in
     omega arith
+
+-- a hold is taken out of the segment that is found
+module _ (new : List Hold) {xs : List (List Hold)} {i : ℕ} {h : Hold} {x : List Hold}
+    (ordered : AreOrdered xs) (here : IsSegmentOf xs h i) (lt : i < length xs)
+    (at : x ≡ get_or xs i x) (removed : IsRemoved x new h) where
+  removed_there : IsRemoved (get_or xs i x) new h
+  removed_there = subst (λ s. IsRemoved s new h) at removed
+
+  pub left_out : IsRemoved (all_holds xs) (all_holds (set xs i new)) h
+  left_out = segment_removed xs i h x lt ordered here new removed_there
+
+  -- the order stays where the segment is the only one,
+  pub only_kept : Rises new → length xs ≤ 1 → AreOrdered (set xs i new)
+  only_kept own few = segment_kept xs i h x lt ordered here new removed_there own
+      (λ many. absurd (omega arith))
+
+  module _ {y : List Hold} (looked : y ≡ get_or (set xs i new) i y) where
+    -- or has some left,
+    pub filled_kept : Rises new → (length y == 0) ≡ false → AreOrdered (set xs i new)
+    filled_kept own more = segment_kept xs i h x lt ordered here new removed_there own
+        (λ many. still_some xs i new y lt looked more)
+
+    -- or is let go
+    module _ (none : (length y == 0) ≡ true) where
+      pub gone_out : IsRemoved (all_holds xs) (all_holds (remove (set xs i new) i)) h
+      gone_out = segment_gone xs i h x lt ordered here new removed_there
+          (emptied xs i new y lt looked none)
+
+      pub gone_kept : 1 < length xs → AreOrdered (remove (set xs i new) i)
+      gone_kept many = segment_let_go xs i h x lt ordered here new removed_there
+          (emptied xs i new y lt looked none) many
 
 -- ---- no segment
 

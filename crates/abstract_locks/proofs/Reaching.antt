@@ -15,6 +15,7 @@ use Rattle.std.proofs.lemmas.List.Elements.{All-take, All-head, All-contains, Al
 use Rattle.std.proofs.lemmas.List.Elements.{Contains-append_left, Contains-append_right}
 use Rattle.std.proofs.lemmas.List.Elements.{Contains-append_cases}
 use Rattle.calls.specs.declared.need.Need.{Need}
+use Rattle.calls.proofs.Parts.{All-left}
 use Rattle.abstract_locks.specs.declared.table.Hold.{Hold}
 use Rattle.abstract_locks.specs.Holds.{Blocks}
 use Rattle.abstract_locks.specs.Order.{compare, Precedes, Rises}
@@ -22,7 +23,7 @@ use Rattle.abstract_locks.specs.Segments.{all_holds, AreOrdered, begins_to, AreN
 use Rattle.abstract_locks.specs.Segments.{IsLeast}
 use Rattle.abstract_locks.proofs.Ordering.{by_low}
 use Rattle.abstract_locks.proofs.Placing.{earlier, between_at}
-use Rattle.abstract_locks.proofs.Rising.{All-left, ArePreceding, rises_left, rises_right}
+use Rattle.abstract_locks.proofs.Rising.{ArePreceding, rises_left, rises_right}
 
 -- ---- lowest keys
 

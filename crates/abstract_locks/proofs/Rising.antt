@@ -1,33 +1,21 @@
 -- Lists of holds in their order: parts of them, and what is put in, exchanged or taken out.
-use Rattle.std.proofs.Common.{◌≡◌, ◌∙◌, ◌⊎◌, ◌↔◌, ℕ, suc, ◌<◌, inl, inr, List, [], ◌∷◌, ◌++◌}
+use Rattle.std.proofs.Common.{◌≡◌, ◌⊎◌, ◌↔◌, ℕ, suc, ◌<◌, inl, inr, List, [], ◌∷◌, ◌++◌}
 use Rattle.std.proofs.Common.{Bool, true, false, true≢false, length, get_or, refl, take, drop}
-use Rattle.std.proofs.Common.{take-append-drop, IsTrue, sym, ap, subst}
+use Rattle.std.proofs.Common.{take-append-drop, IsTrue, sym, subst}
 use Rattle.std.proofs.Common.{⊎_elim, arith}
 use Rattle.std.specs.List.{All, Contains, insert, remove}
-use Rattle.std.proofs.Math.Seq.{drop-cons}
 use Rattle.std.proofs.lemmas.List.{append-nil}
 use Rattle.std.proofs.lemmas.List.Elements.{All-nil, All-cons, All-append, All-head, All-tail}
 use Rattle.std.proofs.lemmas.List.Elements.{All-weaker, All-contains, All-contains_itself}
 use Rattle.std.proofs.lemmas.List.Elements.{Contains-append_left, Contains-append_right}
 use Rattle.std.proofs.lemmas.List.Elements.{Contains-append_cases}
+use Rattle.calls.proofs.Parts.{All-left, All-right, only, around}
 use Rattle.abstract_locks.specs.declared.table.Hold.{Hold}
 use Rattle.abstract_locks.specs.Holds.{IsAdded, IsRemoved}
 use Rattle.abstract_locks.specs.Order.{Precedes, Rises, IsGap}
-use Rattle.abstract_locks.proofs.Members.{only}
 use Rattle.abstract_locks.specs.Segments.{begins_by}
 use Rattle.abstract_locks.proofs.Ordering.{precedes_itself, precedes_further, in_front}
 use Rattle.abstract_locks.proofs.Ordering.{behind as behind_it}
-
-module _ {X : Type 0} (P : X → Type 0) where
-  pub All-left : (xs ys : List X) → All P (xs ++ ys) → All P xs
-  All-left xs ys all = All-weaker (Contains xs) P
-      (λ x there. All-contains P (xs ++ ys) x all (Contains-append_left xs ys x there)) xs
-      (All-contains_itself xs)
-
-  pub All-right : (xs ys : List X) → All P (xs ++ ys) → All P ys
-  All-right xs ys all = All-weaker (Contains ys) P
-      (λ x there. All-contains P (xs ++ ys) x all (Contains-append_right xs ys x there)) ys
-      (All-contains_itself ys)
 
 -- Each of the first precedes each of the others.
 abbrev pub ArePreceding : (xs ys : List Hold) → Type 0
@@ -179,9 +167,7 @@ module _ (holds : List Hold) (i : ℕ) (h : Hold) where
 
   module _ (lt : i < length holds) (is : get_or holds i h ≡ h) (rises : Rises holds) where
     whole : take i holds ++ h ∷ drop (suc i) holds ≡ holds
-    whole = ap (λ l. take i holds ++ l)
-        (ap (λ g. g ∷ drop (suc i) holds) (sym is) ∙ sym (drop-cons holds i h lt))
-        ∙ take-append-drop i holds
+    whole = around holds i h lt (sym is)
 
     all_rise : Rises (take i holds ++ h ∷ drop (suc i) holds)
     all_rise = subst Rises (sym whole) rises

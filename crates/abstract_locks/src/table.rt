@@ -119,8 +119,8 @@ impl NeedTable {
 
     /// Whether `ask` would find the need free: Busy as there, and no other refusal. It takes no
     /// memory. Two halvings of the collection's segments, a look at the bounds of each between, and
-    /// at the holds of those in which one may be in the way; one look in all where bounds of all its
-    /// holds tell that none is.
+    /// at the holds of those in which one may be in the way; one look in all where bounds of all
+    /// its holds tell that none is.
     pub fn test(&self, owner: u64, col: u8, need: &Need) -> Result<(), Refusal>
         ensures clear { OnOk result (IsClear self.now.holds owner col need.now) }
         ensures busy { IfErr result (IsBusyRefusal self.now.holds owner col need.now) }

@@ -11,3 +11,5 @@ pub mod KindLaws
 pub mod Conflicts
 mod KindNames
 pub mod Readings
+pub mod Parts
+pub mod RisingKeys

@@ -1,5 +1,5 @@
 -- Calls that only read: a journal does not tell of them.
-use Rattle.std.specs.Prelude.{Bool, true, false, not, List}
+use Rattle.std.specs.Prelude.{Bool, true, false, not}
 use Rattle.std.specs.List.{filter}
 use Rattle.calls.specs.declared.call.Call.{Call}
 use Rattle.calls.specs.declared.reply.Reply.{Reply}

@@ -1,10 +1,10 @@
 // Stores with bytes that no program wrote: what a check and a show make of them.
-use crate::plays::bench::{Bench, empty_store};
 use crate::plays::disks::{changed, disk_of};
 use crate::plays::runs::{Ran, run_on, text, to_check, to_show};
 use crate::plays::through_store::play;
 use crate::plays::told::Told;
 use crate::plays::values::{byte, bytes, number, three};
+use crate::plays::workbench::{Workbench, empty_store};
 use disk_model::MemDisk;
 use std::alloc::{AllocError, Global};
 use std::io;
@@ -84,7 +84,7 @@ fn found_with(
 /// before. The disk of the case stays.
 pub fn change_each(
     rt: &(impl Wait + AllocGlobal),
-    bench: &mut Bench,
+    bench: &mut Workbench,
     text: &str,
     told: &mut Told,
 ) -> io::Result<()> {

@@ -1,8 +1,8 @@
 // The program on files.
-use crate::plays::bench::Bench;
 use crate::plays::runs::{Ran, run_on, to_play};
 use crate::plays::told::Told;
 use crate::plays::values::{bytes, not_understood, number, numbers, pair, three};
+use crate::plays::workbench::Workbench;
 use crate::runs::words;
 use command_line::obey;
 use disk_model::{FileDisk, Unknown};
@@ -37,7 +37,7 @@ fn obeyed(
 /// Writes the script to a file.
 pub fn write_script(
     rt: &(impl Files<File = File> + AllocGlobal),
-    bench: &mut Bench,
+    bench: &mut Workbench,
     path: &str,
 ) -> io::Result<()> {
     let script = bench.take_script(rt.alloc());
@@ -92,7 +92,7 @@ fn tell_range(bytes: &[u8], at: usize, count: usize, told: &mut Told) -> io::Res
 /// Plays the script on a file that is opened for reading alone, and tells what that answers.
 pub fn play_read_only(
     rt: &(impl Files<File = File> + AllocGlobal),
-    bench: &mut Bench,
+    bench: &mut Workbench,
     path: &str,
     told: &mut Told,
 ) -> io::Result<()> {

@@ -1,9 +1,9 @@
 // Images that are written to a disk by hand.
-use crate::plays::bench::{Bench, empty_store};
 use crate::plays::disks::put_at;
 use crate::plays::runs::{carry_out, to_check, to_show};
 use crate::plays::told::Told;
 use crate::plays::values::{bytes, not_understood};
+use crate::plays::workbench::{Workbench, empty_store};
 use disk_model::MemDisk;
 use std::alloc::Global;
 use std::io;
@@ -49,7 +49,7 @@ fn write_blocks(alloc: Global, disk: &mut MemDisk, bodies: &str) -> io::Result<u
 
 /// An empty store whose image is these blocks: tells where the last one stands, what the store is
 /// checked as, and what it shows, which opens it. That is what the disk of the case is then.
-pub fn open(alloc: Global, bench: &mut Bench, bodies: &str, told: &mut Told) -> io::Result<()> {
+pub fn open(alloc: Global, bench: &mut Workbench, bodies: &str, told: &mut Told) -> io::Result<()> {
     bench.disk = empty_store(alloc)?;
     let last = write_blocks(alloc, &mut bench.disk, bodies)?;
     told.tell(format_args!("last block at {last}"));

@@ -19,8 +19,8 @@ mod system;
 mod texts;
 mod threads;
 
-use plays::bench::Bench;
 use plays::told::Told;
+use plays::workbench::Workbench;
 use std::alloc::{AllocError, Global};
 use std::io::{self, Write};
 use std::process::ExitCode;
@@ -31,7 +31,7 @@ use system::System;
 // far is printed.
 fn ask(
     rt: &(impl System + Sync),
-    bench: &mut Bench,
+    bench: &mut Workbench,
     line: &str,
     told: &mut Told,
     out: &mut impl Write,
@@ -52,7 +52,7 @@ fn ask_all(
     told: &mut Told,
     out: &mut impl Write,
 ) -> io::Result<()> {
-    let mut bench = Bench::new(rt.alloc())?;
+    let mut bench = Workbench::new(rt.alloc())?;
     let mut number = 0u64;
     for line in text.lines() {
         number = number.saturating_add(1);

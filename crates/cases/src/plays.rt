@@ -1,6 +1,5 @@
 // How a line of a case is read, the disk and the script that it asks, commands on that disk,
 // scripts through the store that threads share, and what is told of it all.
-pub mod bench;
 pub mod compared;
 pub mod disks;
 pub mod questions;
@@ -10,3 +9,4 @@ mod steps;
 pub mod through_store;
 pub mod told;
 pub mod values;
+pub mod workbench;

@@ -1,7 +1,7 @@
 // What the lines of a case ask.
-use crate::plays::bench::Bench;
 use crate::plays::questions;
 use crate::plays::told::Told;
+use crate::plays::workbench::Workbench;
 use crate::sweeps::{any_areas, stops, sweeping};
 use crate::system::System;
 use crate::threads::{load, second_call_during_sync};
@@ -14,7 +14,7 @@ use std::sync::Wait;
 /// Asks what a line asks, and tells what is answered.
 pub fn ask(
     rt: &(impl System + Sync),
-    bench: &mut Bench,
+    bench: &mut Workbench,
     line: &str,
     told: &mut Told,
 ) -> io::Result<()> {
@@ -27,7 +27,7 @@ pub fn ask(
 // Asks a question of threads, or else another.
 fn ask_of_threads(
     rt: &(impl System + Sync),
-    bench: &mut Bench,
+    bench: &mut Workbench,
     word: &str,
     rest: &str,
     told: &mut Told,
@@ -48,7 +48,7 @@ fn ask_of_threads(
 // Asks a question of files, or else another.
 fn ask_of_files(
     rt: &(impl Files<File = File> + Wait + AllocGlobal),
-    bench: &mut Bench,
+    bench: &mut Workbench,
     word: &str,
     rest: &str,
     told: &mut Told,
@@ -71,7 +71,7 @@ fn ask_of_files(
 // Asks for stops or for areas, or else another question.
 fn ask_of_sweeps(
     rt: &(impl Files + Wait + AllocGlobal),
-    bench: &mut Bench,
+    bench: &mut Workbench,
     word: &str,
     rest: &str,
     told: &mut Told,
@@ -89,7 +89,7 @@ fn ask_of_sweeps(
 // Asks a question of a store, or one that brings all that it needs, or else one of `plays`.
 fn ask_of_stores(
     rt: &(impl Wait + AllocGlobal),
-    bench: &mut Bench,
+    bench: &mut Workbench,
     word: &str,
     rest: &str,
     told: &mut Told,

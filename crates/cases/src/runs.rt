@@ -1,9 +1,9 @@
 // Commands of the program that are carried out in a way of their own, and its command line.
-use crate::plays::bench::Bench;
 use crate::plays::runs::{Ran, play, to_show};
 use crate::plays::through_store;
 use crate::plays::told::Told;
 use crate::plays::values::{not_understood, number};
+use crate::plays::workbench::Workbench;
 use boost::{Task, command, run};
 use disk_model::MemDisk;
 use std::alloc::{AllocError, Global};
@@ -14,7 +14,7 @@ use std::thread::Threads;
 /// Plays the script that was written through the store that threads share.
 pub fn play_shared(
     rt: &(impl Wait + AllocGlobal),
-    bench: &mut Bench,
+    bench: &mut Workbench,
     told: &mut Told,
 ) -> io::Result<()> {
     let alloc = rt.alloc();
@@ -29,7 +29,7 @@ pub fn play_shared(
 /// Serves the script that was written: each of its clients runs in a thread of its own.
 pub fn serve(
     rt: &(impl Threads + Wait + AllocGlobal + Sync),
-    bench: &mut Bench,
+    bench: &mut Workbench,
     told: &mut Told,
 ) -> io::Result<()> {
     let alloc = rt.alloc();
@@ -46,7 +46,7 @@ pub fn serve(
 /// Plays a script of one line, which stands between two marks.
 pub fn play_line(
     rt: &(impl Wait + AllocGlobal),
-    bench: &mut Bench,
+    bench: &mut Workbench,
     text: &str,
     told: &mut Told,
 ) -> io::Result<()> {

@@ -1,5 +1,5 @@
 -- Blocks of records, and what those that a disk holds stand for.
-use Rattle.std.specs.Prelude.{◌≡◌, ℕ, ◌+◌, List, ◌++◌, map, None}
+use Rattle.std.specs.Prelude.{◌≡◌, ℕ, List, ◌++◌, map, None}
 use Rattle.calls.specs.Contents.{Collection}
 use Rattle.calls.specs.Transactions.{calls_of}
 use Rattle.record_format.specs.declared.record.Record.{Record}

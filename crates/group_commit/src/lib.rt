@@ -36,6 +36,7 @@ mod ends;
 mod handoff;
 mod line;
 mod mark;
+mod no_part;
 mod numbers;
 mod view;
 

@@ -58,14 +58,15 @@ ended_is_record n number = let below = number.below in
     record { fits = omega arith; suits = tt; sound = number }
 
 -- Room that is made, and nothing else, leaves what holds of a book.
-pub reserved_keeps : {S : Type 0} (meaning : Meaning S ℕ) (making : Making S) (short : S → Type 0)
-    (s t : State S) (w w' : Waiting) (count next : ℕ) (m n : GatheringState) → t ≡ s → n ≡ m →
+pub reserved_keeps : {S : Type 0} {meaning : Meaning S ℕ} {making : Making S} {short : S → Type 0}
+    {s t : State S} (w w' : Waiting) {places next : ℕ} {m n : GatheringState} → t ≡ s → n ≡ m →
     waiting w' ≡ waiting w → freezes w' ≡ freezes w → w'.handed ≡ w.handed →
-    IsKept meaning making short (IsSound meaning making) (book_of s w count next m) →
-    IsKept meaning making short (IsSound meaning making) (book_of t w' count next n)
-reserved_keeps meaning making short s t w w' count next m n same noted waits marks handed kept =
+    IsKept meaning making short (IsSound meaning making) (book_of s w places next m) →
+    IsKept meaning making short (IsSound meaning making) (book_of t w' places next n)
+reserved_keeps {S} {meaning} {making} {short} {s} {t} w w' {places} {next} {m} {n} same noted waits
+    marks handed kept =
     subst (IsKept meaning making short (IsSound meaning making))
-    (sym (reserved_same s t w w' count next m n same noted waits marks handed)) kept
+    (sym (reserved_same s t w w' places next m n same noted waits marks handed)) kept
 
 module _ {S : Type 0} (meaning : Meaning S ℕ) (making : Making S)
     (short : S → Type 0) (laws : BookLaws meaning making short) where

@@ -144,6 +144,14 @@ reserved_same {S} s t w w' places next m n same noted waits marks handed =
     ap (λ v. with s m (waiting w) v w'.handed) marks ∙
     ap (λ v. with s m (waiting w) (freezes w) v) handed
 
+-- So it is seen as it was.
+pub reserved_seen : {S : Type 0} {s t : State S} (w w' : Waiting) {places next : ℕ}
+    {m n : GatheringState} {b : BookState S} → book_of s w places next m ≡ b → t ≡ s → n ≡ m →
+    waiting w' ≡ waiting w → freezes w' ≡ freezes w → w'.handed ≡ w.handed →
+    book_of t w' places next n ≡ b
+reserved_seen {S} {s} {t} w w' {places} {next} {m} {n} is same noted waits marks handed =
+    reserved_same s t w w' places next m n same noted waits marks handed ∙ is
+
 -- Nothing but the freezes changes where the last block was sealed.
 pub only_sealed : {S : Type 0} (s : State S) (w w' : Waiting) (places next : ℕ)
     (n : GatheringState) → waiting w' ≡ waiting w → w'.handed ≡ w.handed →

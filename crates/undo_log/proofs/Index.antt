@@ -1,22 +1,23 @@
 -- The index of the live numbers: one is found, put in, or taken out.
-use Rattle.std.proofs.Common.{◌≡◌, ◌≢◌, ◌∙◌, ℕ, zero, suc, ◌+◌, ◌<◌, ◌≤◌, List, [], ◌∷◌, ◌++◌}
+use Rattle.std.proofs.Common.{◌≡◌, ◌≢◌, ◌∙◌, ℕ, suc, ◌+◌, ◌<◌, ◌≤◌, List, [], ◌∷◌, ◌++◌}
 use Rattle.std.proofs.Common.{length, get_or, take, drop, sym, ap, subst, ⊎_elim, ◌⊎◌, inl, inr}
 use Rattle.std.proofs.Common.{arith, refl, take-append-drop, length-take, length-drop, Some, None}
 use Rattle.std.proofs.Common.{Result, Ok, Err, IfOk, IfErr, is_some, ◌↔◌}
 use Rattle.std.specs.List.{All, Contains, HoldsAt, insert, remove}
-use Rattle.std.specs.List.Sorted.{IsSearchInRange, IsBinarySearchResult, IsNonDecreasingBy}
-use Rattle.std.specs.Ordering.{nat_cmp, ordering_index}
-use Rattle.std.proofs.lemmas.Cmp.{ranked}
-use Rattle.std.proofs.lemmas.Bool.{cases_order, cases_eq}
-use Rattle.std.proofs.lemmas.Bool.Decides.{nat_tests}
+use Rattle.std.specs.List.Sorted.{IsSearchInRange, IsBinarySearchResult}
+use Rattle.std.specs.Ordering.{nat_cmp}
+use Rattle.std.proofs.lemmas.Bool.{cases_eq}
 use Rattle.std.proofs.lemmas.List.{get_or-take, get_or-drop, drop_more}
-use Rattle.std.proofs.lemmas.List.Elements.{All-append, All-cons, All-contains, All-head, All-tail}
-use Rattle.std.proofs.lemmas.List.Elements.{All-nil, All-weaker, All-contains_itself}
-use Rattle.std.proofs.lemmas.List.Elements.{Contains-append_left}
-use Rattle.std.proofs.lemmas.List.Elements.{Contains-append_right, Contains-append_cases}
-use Rattle.std.proofs.lemmas.List.Elements.{Contains-push, Contains-push_cases}
+use Rattle.std.proofs.lemmas.List.Elements.{All-contains, All-head, All-weaker}
+use Rattle.std.proofs.lemmas.List.Elements.{All-contains_itself, Contains-push}
+use Rattle.std.proofs.lemmas.List.Elements.{Contains-append_left, Contains-append_right}
+use Rattle.std.proofs.lemmas.List.Elements.{Contains-append_cases}
 use Rattle.slab.specs.Slab.{Slab, get, Updates, with_value}
 use Rattle.slab.proofs.SlabLemmas.{Updates-with_value}
+use Rattle.calls.proofs.Parts.{only, around}
+use Rattle.calls.proofs.RisingKeys as rising
+use Rattle.calls.proofs.RisingKeys.{IsOrder, IsGap, put, removed, rise_at, never_fall, fork_at}
+use Rattle.calls.proofs.RisingKeys.{others_at}
 use Rattle.undo_log.specs.declared.live.Transaction.{Transaction}
 use Rattle.undo_log.specs.declared.live.Seat.{Seat}
 use Rattle.undo_log.specs.Logs.{IsSlotOf, IsLeastSlot, IsNextSlot}
@@ -26,19 +27,6 @@ use Rattle.undo_log.proofs.Slots.{same_value}
 -- ---- what is in a list
 
 module _ {X : Type 0} where
-  all_front : (P : X → Type 0) (xs ys : List X) → All P (xs ++ ys) → All P xs
-  all_front P [] ys all = All-nil P
-  all_front P (x ∷ xs) ys all = All-cons P x xs (All-head P x (xs ++ ys) all)
-      (all_front P xs ys (All-tail P x (xs ++ ys) all))
-
-  all_back : (P : X → Type 0) (xs ys : List X) → All P (xs ++ ys) → All P ys
-  all_back P [] ys all = all
-  all_back P (x ∷ xs) ys all = all_back P xs ys (All-tail P x (xs ++ ys) all)
-
-  only : (x y : X) → Contains (x ∷ []) y → x ≡ y
-  only x y h = ⊎_elim (λ none. let lt = none.1 in absurd (omega arith)) (λ same. same)
-      (Contains-push_cases [] x y h)
-
   -- what is before an element, is it, or is behind it
   cases : (l : List X) (x : X) (r : List X) (y : X) → Contains (l ++ x ∷ r) y →
       Contains l y ⊎ ((x ≡ y) ⊎ Contains r y)
@@ -59,129 +47,41 @@ module _ {X : Type 0} where
       (λ b. Contains-append_right l (x ∷ r) y (Contains-append_right (x ∷ []) r y b))
       (Contains-append_cases l r y inside)
 
-  -- the list around a place
-  around : (xs : List X) (i : ℕ) (d : X) → i < length xs →
-      xs ≡ take i xs ++ get_or xs i d ∷ drop (suc i) xs
-  around xs i d lt =
-      let next : i + 1 ≡ suc i = omega arith in
-      let behind : drop i xs ≡ get_or xs i d ∷ drop (suc i) xs =
-      drop_more xs i d lt ∙ ap (λ n. get_or xs i d ∷ drop n xs) next in
-      sym (take-append-drop i xs) ∙ ap (λ l. take i xs ++ l) behind
-
 -- ---- seats in the order of their numbers
-
--- Those of l stand below x, and those of r above it.
-record IsFork (l : List Seat) (x : Seat) (r : List Seat) : Type 0 where
-  left : AreRising l
-  right : AreRising r
-  below : All (λ y. y.number < x.number) l
-  above : All (λ y. x.number < y.number) r
-
-split : (l : List Seat) (x : Seat) (r : List Seat) → AreRising (l ++ x ∷ r) → IsFork l x r
-split [] x r up = record {
-  left = tt;
-  right = up.1;
-  below = All-nil (λ y. y.number < x.number);
-  above = up.0;
-}
-split (y ∷ l) x r up =
-    let rest = split l x r up.1 in
-    let behind : y.number < x.number =
-    All-head (λ z. y.number < z.number) x r (all_back (λ z. y.number < z.number) l (x ∷ r) up.0) in
-    record {
-      left = (all_front (λ z. y.number < z.number) l (x ∷ r) up.0, rest.left);
-      right = rest.right;
-      below = All-cons (λ z. z.number < x.number) y l behind rest.below;
-      above = rest.above;
-    }
-
-join : (l : List Seat) (x : Seat) (r : List Seat) → IsFork l x r → AreRising (l ++ x ∷ r)
-join [] x r f = (f.above, f.right)
-join (y ∷ l) x r f =
-    let behind : y.number < x.number = All-head (λ z. z.number < x.number) y l f.below in
-    let far : All (λ z. y.number < z.number) r = All-weaker (λ z. x.number < z.number)
-    (λ z. y.number < z.number) (λ z up. omega arith) r f.above in (
-      All-append (λ z. y.number < z.number) l (x ∷ r) f.left.0
-          (All-cons (λ z. y.number < z.number) x r behind far),
-      join l x r (record {
-        left = f.left.1;
-        right = f.right;
-        below = All-tail (λ z. z.number < x.number) y l f.below;
-        above = f.above;
-      }),
-    )
-
-rise_front : (l r : List Seat) → AreRising (l ++ r) → AreRising l
-rise_front [] r up = tt
-rise_front (x ∷ l) r up = (all_front (λ y. x.number < y.number) l r up.0, rise_front l r up.1)
-
-rise_back : (l r : List Seat) → AreRising (l ++ r) → AreRising r
-rise_back [] r up = up
-rise_back (x ∷ l) r up = rise_back l r up.1
-
--- the order without one of them
-without : (l : List Seat) (x : Seat) (r : List Seat) → AreRising (l ++ x ∷ r) → AreRising (l ++ r)
-without [] x r up = up.1
-without (y ∷ l) x r up = (
-  All-append (λ z. y.number < z.number) l r (all_front (λ z. y.number < z.number) l (x ∷ r) up.0)
-      (All-tail (λ z. y.number < z.number) x r (all_back (λ z. y.number < z.number) l (x ∷ r)
-      up.0)),
-  without l x r up.1,
-)
-
--- the order place by place
-rise_at : (xs : List Seat) (i j : ℕ) (d : Seat) → AreRising xs → i < j → j < length xs →
-    (get_or xs i d).number < (get_or xs j d).number
-rise_at [] i j d up less lt = absurd (omega arith)
-rise_at (x ∷ xs) zero zero d up less lt = absurd (omega arith)
-rise_at (x ∷ xs) zero (suc j) d up less lt = up.0 j d (omega arith)
-rise_at (x ∷ xs) (suc i) zero d up less lt = absurd (omega arith)
-rise_at (x ∷ xs) (suc i) (suc j) d up less lt =
-    rise_at xs i j d up.1 (omega arith) (omega arith)
 
 abbrev pub number_of : Seat → ℕ
 number_of s = s.number
 
-module _ (index : List Seat) (up : AreRising index) (n : ℕ) where
-  comparisons_rise : IsNonDecreasingBy (λ x. ordering_index (nat_cmp x.number n)) index
-  comparisons_rise i j d le lt =
-      let numbers_rise : (get_or index i d).number ≤ (get_or index j d).number =
-      ⊎_elim (λ same. let e : (get_or index i d).number ≡ (get_or index j d).number =
-      ap (λ k. number_of (get_or index k d)) same in omega arith)
-      (λ rest. ⊎_elim
-      (λ less. let a = rise_at index i j d up less lt in omega arith)
-      (λ more. absurd (omega arith)) rest)
-      (cases_order i j) in
-      grind (arith, nat_tests)
+-- the index rises by its numbers
+by_number : IsOrder number_of AreRising
+by_number = record {
+  none = tt;
+  above = λ s rest up. up.0;
+  rest = λ s rest up. up.1;
+  more = λ s rest above up. (above, up);
+}
 
-  -- where a halving ends
-  pub searched : (r : Result ℕ ℕ) → IsSearchInRange r (length index) →
-      IsBinarySearchResult (λ x. nat_cmp x.number n) index r →
-      record {
-        found : IfOk r (λ i. (i < length index) × HoldsAt (λ x. x.number ≡ n) index i);
-        absent : IfErr r (IsGapFor n index);
-      }
-  searched (Ok i) in_range equal = record {
-    found = (in_range, λ d. ranked _ n _ (sym (equal d)));
-    absent = tt;
-  }
-  searched (Err i) in_range parted =
-      let both = parted comparisons_rise in
-      record {
-        found = tt;
-        absent = record {
-          within = in_range;
-          lesser = λ k d lt.
-              let few = length-take i index in
-              let below : k < i = omega arith in
-              rw (get_or-take i index k d below) (ranked _ n _ (sym (both.0 k d (omega arith)
-              below)));
-          greater = λ k d lt.
-              let few = length-drop i index in
-              rw (get_or-drop i index k d)
-              (ranked _ n _ (sym (both.1 (i + k) d (omega arith) (omega arith))));
-        };
-      }
+gap_of : (n : ℕ) (index : List Seat) (i : ℕ) → IsGapFor n index i → IsGap number_of n index i
+gap_of n index i gap =
+    record { within = gap.within; lesser = gap.lesser; greater = gap.greater }
+
+-- where a halving ends
+pub searched : (index : List Seat) → AreRising index → (n : ℕ) (r : Result ℕ ℕ) →
+    IsSearchInRange r (length index) → IsBinarySearchResult (λ x. nat_cmp x.number n) index r →
+    record {
+      found : IfOk r (λ i. (i < length index) × HoldsAt (λ x. x.number ≡ n) index i);
+      absent : IfErr r (IsGapFor n index);
+    }
+searched index up n (Ok i) in_range equal = record {
+  found = rising.searched by_number index up n (Ok i) in_range equal;
+  absent = tt;
+}
+searched index up n (Err i) in_range parted =
+    let gap = rising.searched by_number index up n (Err i) in_range parted in
+    record {
+      found = tt;
+      absent = record { within = gap.within; lesser = gap.lesser; greater = gap.greater };
+    }
 
 -- ---- the index of the slots
 
@@ -196,13 +96,7 @@ module _ (s : Slab Transaction) (index : List Seat) (is : IsIndex s index) where
   pub none_in_gap : (n i : ℕ) → IsGapFor n index i → (key : ℕ) → IsSlotOf s n key → ⊥
   none_in_gap n i gap key slot =
       let seat : Seat = record { number = n; slot = key } in
-      let other : All (λ x. x.number ≢ n) index =
-      subst (All (λ x. x.number ≢ n)) (take-append-drop i index)
-      (All-append (λ x. x.number ≢ n) (take i index) (drop i index)
-      (All-weaker (λ x. x.number < n) (λ x. x.number ≢ n) (λ x less e. omega arith)
-      (take i index) gap.lesser)
-      (All-weaker (λ x. n < x.number) (λ x. x.number ≢ n) (λ x more e. omega arith)
-      (drop i index) gap.greater)) in
+      let other = rising.none_in_gap number_of n index i (gap_of n index i gap) in
       All-contains (λ x. x.number ≢ n) index seat other ((is.seats seat).1 slot) refl
 
   -- no seat has a number that no slot has
@@ -265,16 +159,8 @@ written_index old index is key was now there number =
 -- a seat is put in
 module _ (index : List Seat) (up : AreRising index) (i : ℕ) (seat : Seat)
     (gap : IsGapFor seat.number index i) where
-  parts : AreRising (take i index ++ drop i index)
-  parts = subst AreRising (sym (take-append-drop i index)) up
-
   pub inserted_rises : AreRising (insert index i seat)
-  inserted_rises = join (take i index) seat (drop i index) (record {
-    left = rise_front (take i index) (drop i index) parts;
-    right = rise_back (take i index) (drop i index) parts;
-    below = gap.lesser;
-    above = gap.greater;
-  })
+  inserted_rises = put by_number index i seat up (gap_of seat.number index i gap)
 
   pub inserted : (s : Seat) → Contains (insert index i seat) s ↔ (Contains index s ⊎ (s ≡ seat))
   inserted s =
@@ -329,10 +215,7 @@ put_index old new index put is key t vacant updates rising listed = record {
 module _ (s : Slab Transaction) (index : List Seat) (is : IsIndex s index) (i : ℕ)
     (lt : i < length index) (x : Seat) (at : x ≡ get_or index i x) where
   whole : index ≡ take i index ++ x ∷ drop (suc i) index
-  whole = around index i x lt ∙ ap (λ y. take i index ++ y ∷ drop (suc i) index) (sym at)
-
-  fork : IsFork (take i index) x (drop (suc i) index)
-  fork = split (take i index) x (drop (suc i) index) (subst AreRising whole is.rising)
+  whole = sym (around index i x lt at)
 
   pub its : IsSlotOf s x.number x.slot
   its = (is.seats x).0 (i, lt, sym at)
@@ -344,8 +227,9 @@ module _ (s : Slab Transaction) (index : List Seat) (is : IsIndex s index) (i : 
       ⊎_elim (λ a. absurd (later a))
       (λ rest. ⊎_elim
       (λ one. let same : x.number ≡ seat.number = ap number_of one in omega arith)
-      (λ b. let more = All-contains (λ y. x.number < y.number) (drop (suc i) index) seat fork.above
-      b in omega arith) rest)
+      (λ b. let fork = fork_at by_number index is.rising i x lt at in
+      let more = All-contains (λ y. x.number < y.number) (drop (suc i) index) seat fork.above b in
+      omega arith) rest)
       (cases (take i index) x (drop (suc i) index) seat
       (subst (λ l. Contains l seat) whole ((is.seats seat).1 slot)))
 
@@ -402,18 +286,13 @@ module _ (index : List Seat) (up : AreRising index) (n i : ℕ) (lt : i < length
       let below : k < i + 1 = omega arith in
       let here : (get_or index i d).number ≡ n = holds d in
       rw (get_or-take (i + 1) index k d below)
-      (⊎_elim
-      (λ same. let e : (get_or index k d).number ≡ (get_or index i d).number =
-      ap (λ j. number_of (get_or index j d)) same in omega arith)
-      (λ rest. ⊎_elim (λ less. let a = rise_at index k i d up less lt in omega arith)
-      (λ more. absurd (omega arith)) rest)
-      (cases_order k i))
+      (let most = never_fall by_number index k i d up (omega arith) lt in omega arith)
 
   pub found_above : All (λ y. n < y.number) (drop (i + 1) index)
   found_above k d within =
       let few = length-drop (i + 1) index in
       let here : (get_or index i d).number ≡ n = holds d in
-      let over = rise_at index i (i + 1 + k) d up (omega arith) (omega arith) in
+      let over = rise_at by_number index i (i + 1 + k) d up (omega arith) (omega arith) in
       rw (get_or-drop (i + 1) index k d) (omega arith)
 
 -- and above one that is not there
@@ -429,30 +308,21 @@ module _ (old new : Slab Transaction) (index : List Seat) (is : IsIndex old inde
   all : index ≡ take i index ++ x ∷ drop (suc i) index
   all = whole old index is i lt x at
 
-  -- what is left has another number
-  other : (s : Seat) → Contains (remove index i) s → s.number ≢ x.number
-  other s inside same =
-      ⊎_elim
-      (λ a. let less = All-contains (λ y. y.number < x.number) (take i index) s
-      (fork old index is i lt x at).below a in
-      absurd (omega arith))
-      (λ b. let more = All-contains (λ y. x.number < y.number) (drop (suc i) index) s
-      (fork old index is i lt x at).above b
-      in absurd (omega arith))
-      (Contains-append_cases (take i index) (drop (suc i) index) s inside)
-
   mine : IsSlotOf old x.number x.slot
   mine = its old index is i lt x at
 
   pub gone_index : IsIndex new (remove index i)
   gone_index = record {
-    rising = without (take i index) x (drop (suc i) index) (subst AreRising all is.rising);
+    rising = removed by_number index is.rising i x lt at;
     seats = λ s. (
       λ inside.
           let was : Contains index s = subst (λ l. Contains l s) (sym all)
           (amid (take i index) x (drop (suc i) index) s inside) in
           let slot = (is.seats s).0 was in
-          let away : s.slot ≢ x.slot = λ same. other s inside (sym slot.2 ∙ ap (λ u. u.number)
+          let other = others_at by_number index is.rising i x lt at in
+          let away : s.slot ≢ x.slot = λ same.
+          All-contains (λ y. y.number ≢ x.number) (remove index i) s other inside
+          (sym slot.2 ∙ ap (λ u. u.number)
           (same_value slot.0 mine.0 (sym slot.1 ∙ ap (get old) same ∙ mine.1)) ∙ mine.2) in
           (slot.0, gone.others s.slot away ∙ slot.1, slot.2),
       λ slot.

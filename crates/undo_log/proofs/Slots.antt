@@ -9,10 +9,10 @@ use Rattle.std.specs.Cmp.{nat_cmp_total}
 use Rattle.std.specs.FinMap as maps
 use Rattle.std.proofs.lemmas.Bool.{cases_eq, lt-ltb, ltb-true}
 use Rattle.std.proofs.lemmas.Grind.{common_steps}
-use Rattle.std.proofs.lemmas.List.Elements.{Contains-push, Contains-push_cases}
-use Rattle.std.proofs.lemmas.List.Elements.{Contains-append_left, Contains-append_right}
-use Rattle.std.proofs.lemmas.List.Elements.{Contains-append_cases}
+use Rattle.std.proofs.lemmas.List.Elements.{Contains-push, Contains-append_left}
+use Rattle.std.proofs.lemmas.List.Elements.{Contains-append_right, Contains-append_cases}
 use Rattle.slab.specs.Slab.{Slab, get, Updates}
+use Rattle.calls.proofs.Parts.{only}
 use Rattle.calls.proofs.Points.{get_insert, get_insert_other, get_remove, get_remove_other}
 use Rattle.undo_log.specs.declared.live.Transaction.{Transaction}
 use Rattle.undo_log.specs.Logs.{Statuses, statuses, live_of, roomy, rooms_of, fallen, EachOnce}
@@ -218,10 +218,6 @@ remove_absent m n none = maps.same_map nat_cmp_total maps.nat_cmp-IsAntisymmetri
     (λ (same : q ≡ n). ap (maps.get m) same ∙ none ∙ sym (get_remove m n q same))
     (λ (other : q ≡ n → ⊥). sym (get_remove_other m n q other))
     (cases_eq q n))
-
-only : (x y : ℕ) → Contains (x ∷ []) y → x ≡ y
-only x y h = ⊎_elim (λ none. let lt = none.1 in absurd (omega arith)) (λ same. same)
-    (Contains-push_cases [] x y h)
 
 pub in_head : {X : Type 0} (x : X) (xs : List X) → Contains (x ∷ xs) x
 in_head x xs = Contains-append_left (x ∷ []) xs x (Contains-push [] x)

@@ -9,7 +9,7 @@ use Rattle.std.proofs.lemmas.List.Elements.{filter-append, Contains-append_left,
 use Rattle.std.proofs.lemmas.List.Elements.{Contains-push_cases}
 use Rattle.std.specs.List.{filter, AllByRecursion}
 use Rattle.std.specs.FinMap as maps
-use Rattle.calls.specs.Transactions.{Event, Entry, Asked, PutOff, own, others, calls_of}
+use Rattle.calls.specs.Transactions.{Event, Entry, Asked, own, others, calls_of}
 use Rattle.undo_log.specs.Entries.{IsNewestCall}
 use Rattle.undo_log.specs.Logs.{Statuses, Lives, fallen}
 use Rattle.record_format.specs.declared.record.Record.{Record}

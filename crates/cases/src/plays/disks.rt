@@ -1,7 +1,7 @@
 // Questions of the disk itself: its bytes, a call that fails, and a stop.
-use crate::plays::bench::Bench;
 use crate::plays::told::Told;
 use crate::plays::values::{self, not_understood, number, numbers, pair};
+use crate::plays::workbench::Workbench;
 use disk_model::{Disk, MemDisk};
 use std::alloc::{AllocError, Global};
 use std::io;
@@ -54,7 +54,7 @@ pub fn bytes_of(alloc: Global, disk: MemDisk) -> io::Result<Vec<u8>> {
 }
 
 /// Tells bytes of the disk: where they begin, and how many.
-pub fn read(alloc: Global, bench: &mut Bench, text: &str, told: &mut Told) -> io::Result<()> {
+pub fn read(alloc: Global, bench: &mut Workbench, text: &str, told: &mut Told) -> io::Result<()> {
     let (at, count) = numbers(text)?;
     let bytes = bytes_at(alloc, &mut bench.disk, at, count)?;
     told.tell_bytes(bytes.as_slice());
@@ -62,7 +62,7 @@ pub fn read(alloc: Global, bench: &mut Bench, text: &str, told: &mut Told) -> io
 }
 
 /// Writes bytes to the disk: where they begin, and which.
-pub fn write(alloc: Global, bench: &mut Bench, text: &str) -> io::Result<()> {
+pub fn write(alloc: Global, bench: &mut Workbench, text: &str) -> io::Result<()> {
     let (at, rest) = pair(text, " ")?;
     let at = number(at)?;
     let bytes = values::bytes(alloc, rest)?;
@@ -70,7 +70,7 @@ pub fn write(alloc: Global, bench: &mut Bench, text: &str) -> io::Result<()> {
 }
 
 /// A disk of so many zeros.
-pub fn resize(alloc: Global, bench: &mut Bench, text: &str) -> io::Result<()> {
+pub fn resize(alloc: Global, bench: &mut Workbench, text: &str) -> io::Result<()> {
     bench.disk = MemDisk::new(alloc, number(text)?)?;
     bench.fail_in = 0;
     Ok(())
@@ -113,7 +113,7 @@ fn picks(alloc: Global, size: u64, text: &str) -> io::Result<Vec<(u64, u8)>> {
 }
 
 /// Stops the disk.
-pub fn stop(alloc: Global, bench: &mut Bench, text: &str) -> io::Result<()> {
+pub fn stop(alloc: Global, bench: &mut Workbench, text: &str) -> io::Result<()> {
     let picks = picks(alloc, bench.disk.size(), text)?;
     let disk = bench.take_disk(alloc)?;
     bench.disk = disk.stop(picks.as_slice());

@@ -1,8 +1,8 @@
 // What the lines of cases ask of a disk and of a script.
-use crate::plays::bench::Bench;
 use crate::plays::runs::{carry_out, to_check, to_format, to_show};
 use crate::plays::told::Told;
 use crate::plays::values::{not_understood, number};
+use crate::plays::workbench::Workbench;
 use crate::plays::{disks, runs, scripts, steps};
 use boost::Task;
 use disk_model::Disk;
@@ -14,7 +14,7 @@ use std::sync::Wait;
 /// the line is empty or begins with `#`, or where it was added to the script: one with a bar in
 /// front, and one that is repeated.
 pub fn question<'a>(
-    bench: &mut Bench,
+    bench: &mut Workbench,
     line: &'a str,
     told: &mut Told,
 ) -> io::Result<Option<(&'a str, &'a str)>> {
@@ -37,7 +37,7 @@ pub fn question<'a>(
 /// is neither is refused as InvalidInput.
 pub fn ask(
     rt: &(impl Wait + AllocGlobal),
-    bench: &mut Bench,
+    bench: &mut Workbench,
     word: &str,
     rest: &str,
     told: &mut Told,
@@ -57,7 +57,7 @@ pub fn ask(
 // Asks a question of the disk and of the script of the case.
 fn ask_of_disk(
     alloc: Global,
-    bench: &mut Bench,
+    bench: &mut Workbench,
     word: &str,
     rest: &str,
     told: &mut Told,

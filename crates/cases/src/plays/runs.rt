@@ -1,8 +1,8 @@
 // Commands that are carried out on the disk of a case.
-use crate::plays::bench::Bench;
 use crate::plays::disks::bytes_of;
 use crate::plays::through_store;
 use crate::plays::told::Told;
+use crate::plays::workbench::Workbench;
 use boost::{Task, run};
 use disk_model::{Disk, MemDisk};
 use std::alloc::Global;
@@ -76,7 +76,12 @@ pub fn run_on<D: Disk>(alloc: Global, task: Task, disk: D, script: &[u8]) -> (Ra
 
 /// Carries a task out on the disk of the case with the script that was written, which is empty
 /// then, and tells what it answered: of its output as many of the last lines as the case wants.
-pub fn carry_out(alloc: Global, bench: &mut Bench, task: Task, told: &mut Told) -> io::Result<()> {
+pub fn carry_out(
+    alloc: Global,
+    bench: &mut Workbench,
+    task: Task,
+    told: &mut Told,
+) -> io::Result<()> {
     let script = bench.take_script(alloc);
     let disk = bench.take_disk(alloc)?;
     let (ran, disk) = run_on(alloc, task, disk, script.as_slice());
@@ -87,7 +92,11 @@ pub fn carry_out(alloc: Global, bench: &mut Bench, task: Task, told: &mut Told) 
 
 /// Plays the script that was written, and once more through the store that threads share: what that
 /// answers or leaves otherwise is told too.
-pub fn play(rt: &(impl Wait + AllocGlobal), bench: &mut Bench, told: &mut Told) -> io::Result<()> {
+pub fn play(
+    rt: &(impl Wait + AllocGlobal),
+    bench: &mut Workbench,
+    told: &mut Told,
+) -> io::Result<()> {
     let alloc = rt.alloc();
     let beside = bench.copy(alloc)?;
     let script = bench.take_script(alloc);
@@ -103,7 +112,7 @@ pub fn play(rt: &(impl Wait + AllocGlobal), bench: &mut Bench, told: &mut Told) 
 // Compares what the disk of the case holds with what the other one does.
 fn compare_disks(
     alloc: Global,
-    bench: &mut Bench,
+    bench: &mut Workbench,
     beside: MemDisk,
     told: &mut Told,
 ) -> io::Result<()> {

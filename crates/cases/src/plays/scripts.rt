@@ -1,6 +1,6 @@
 // The script that is being written.
-use crate::plays::bench::Bench;
 use crate::plays::values::{bytes, number, three};
+use crate::plays::workbench::Workbench;
 use std::alloc::{AllocError, Global};
 use std::io::{self, Write};
 
@@ -11,14 +11,14 @@ pub fn add_line(script: &mut Vec<u8>, line: &str) -> Result<(), AllocError> {
 }
 
 /// Adds bytes as they are.
-pub fn add_bytes(alloc: Global, bench: &mut Bench, text: &str) -> io::Result<()> {
+pub fn add_bytes(alloc: Global, bench: &mut Workbench, text: &str) -> io::Result<()> {
     let added = bytes(alloc, text)?;
     Ok(bench.script.extend_from_slice(added.as_slice())?)
 }
 
 /// Adds a line for each number from the first to the end, which is left out; `#` in it stands for
 /// the number.
-pub fn repeat(bench: &mut Bench, text: &str) -> io::Result<()> {
+pub fn repeat(bench: &mut Workbench, text: &str) -> io::Result<()> {
     let (first, end, line) = three(text)?;
     for n in number(first)?..number(end)? {
         add_numbered(&mut bench.script, line, n)?;

@@ -1,10 +1,10 @@
 // Steps of the core, which no script can take alone.
 ghost use Rattle.checkpoint.specs.Keepers.{IsFresh};
 
-use crate::plays::bench::Bench;
 use crate::plays::runs::text;
 use crate::plays::told::Told;
 use crate::plays::values::{byte, not_understood, number, pair, three};
+use crate::plays::workbench::Workbench;
 use boost::Said;
 use calls::{Call, Kind, Name, Refusal};
 use catalog::Catalog;
@@ -114,7 +114,7 @@ fn world_on(alloc: Global, disk: MemDisk) -> Result<World<MemDisk>, (Refusal, Me
 
 /// Takes the steps that the script tells in the world of the disk, and tells what each is answered,
 /// a turn as a script is told it: as many of the last answers as the case wants.
-pub fn take(alloc: Global, bench: &mut Bench, told: &mut Told) -> io::Result<()> {
+pub fn take(alloc: Global, bench: &mut Workbench, told: &mut Told) -> io::Result<()> {
     let script = bench.take_script(alloc);
     let steps = steps(alloc, text(&script))?;
     let mut answers = Told::new(alloc)?;

@@ -1,10 +1,10 @@
 // Stores whose area in use has bytes of a generator.
-use crate::plays::bench::{Bench, empty_store};
 use crate::plays::disks::{changed, disk_of};
 use crate::plays::runs::{Ran, run_on, to_check, to_show};
 use crate::plays::through_store::play;
 use crate::plays::told::Told;
 use crate::plays::values::numbers;
+use crate::plays::workbench::{Workbench, empty_store};
 use disk_model::MemDisk;
 use rand_core::utils::NextWord;
 use rand_pcg::Pcg32;
@@ -116,7 +116,7 @@ fn drawn(
 /// quarter of them are the store of the case with one to three bytes of its journal changed.
 pub fn open_all<R: Wait + AllocGlobal>(
     rt: &R,
-    bench: &mut Bench,
+    bench: &mut Workbench,
     text: &str,
     told: &mut Told,
 ) -> io::Result<()> {

@@ -1,10 +1,10 @@
 // What is stopped at each call of the disk and behind the last one, in each of four ways, and then
 // opened.
-use crate::plays::bench::Bench;
 use crate::plays::disks::{all_as, at_rest};
 use crate::plays::runs::{Ran, run_on, text, to_check, to_format, to_play, to_show};
 use crate::plays::told::Told;
 use crate::plays::values::number;
+use crate::plays::workbench::Workbench;
 use boost::Task;
 use disk_model::{Disk, MemDisk};
 use std::alloc::{AllocError, Global};
@@ -36,7 +36,7 @@ enum Trial<'a> {
 /// shown after each place behind what the disk shows now, with a line `.` between each two.
 pub fn stop_story(
     rt: &(impl Files + AllocGlobal),
-    bench: &mut Bench,
+    bench: &mut Workbench,
     file: &str,
     told: &mut Told,
 ) -> io::Result<()> {
@@ -48,7 +48,7 @@ pub fn stop_story(
 // place.
 fn stop_told_story(
     alloc: Global,
-    bench: &mut Bench,
+    bench: &mut Workbench,
     shown: &str,
     told: &mut Told,
 ) -> io::Result<()> {
@@ -67,7 +67,7 @@ fn stop_told_story(
 /// Stops the opening of the disk at each of its calls and behind the last one. Tells how many it
 /// makes, and what the store is checked as then, where that is not what it was at the call before.
 /// It is stopped there three times over, and then opened to the end.
-pub fn stop_opening(alloc: Global, bench: &mut Bench, told: &mut Told) -> io::Result<()> {
+pub fn stop_opening(alloc: Global, bench: &mut Workbench, told: &mut Told) -> io::Result<()> {
     let bytes = bench.bytes(alloc)?;
     let disk = at_rest(alloc, bytes.as_slice())?;
     let (shown, checked) = show_and_check(alloc, disk);
@@ -89,7 +89,7 @@ fn show_and_check(alloc: Global, disk: MemDisk) -> (Ran, Ran) {
 /// the disk shows then, where that is not what it showed at the call before.
 pub fn stop_format(
     alloc: Global,
-    bench: &mut Bench,
+    bench: &mut Workbench,
     area: &str,
     told: &mut Told,
 ) -> io::Result<()> {

@@ -1,11 +1,11 @@
 // A script through the store that threads share, where the disk fails at each of its calls in turn,
 // and is stopped there and behind the last one, and opened.
-use crate::plays::bench::Bench;
 use crate::plays::disks::{all_as, at_rest, bytes_of};
 use crate::plays::runs::{Ran, run_on, text, to_show};
 use crate::plays::through_store::{Played, play};
 use crate::plays::told::Told;
 use crate::plays::values::not_understood;
+use crate::plays::workbench::Workbench;
 use crate::sweeps::faults;
 use crate::sweeps::stops::{behind, is_among, may_show};
 use boost::{Line, parse};
@@ -82,7 +82,7 @@ struct Left {
 /// place behind what the disk shows now, with a line `.` between each two.
 pub fn sweep<R: Files + Wait + AllocGlobal>(
     rt: &R,
-    bench: &mut Bench,
+    bench: &mut Workbench,
     file: &str,
     told: &mut Told,
 ) -> io::Result<()> {

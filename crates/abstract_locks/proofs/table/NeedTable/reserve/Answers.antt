@@ -27,7 +27,7 @@ returns-in_err-reach-clause-rooms c =
 pub returns-in_err-reach-clause-succeeds : goal.returns-in_err-reach-clause-succeeds
 returns-in_err-reach-clause-succeeds c had =
     let room = shown_room c.self.inside.collections.items c.self.inside.owners.ready
-    c.args.self.now c.args.col c.from-place.result c.self.view_is had c.from-place.ensures in
+    c.self.view_is had c.from-place.ensures in
     let wrong = c.in_err-reach.ensures.succeeds room.1 in cc
 
 pub returns-in_err-reach-clause-unchanged : goal.returns-in_err-reach-clause-unchanged

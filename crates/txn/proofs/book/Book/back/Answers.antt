@@ -20,7 +20,7 @@ use Rattle.gathering.specs.Gatherings.{AreRun}
 use Rattle.txn.specs.Books.{position}
 use Rattle.txn.proofs.Goings.{goes_ran, position_after}
 use Rattle.std.proofs.lemmas.Result.{err_from_is_err_and}
-use Rattle.txn.proofs.BookLemmas.{reserved_same}
+use Rattle.txn.proofs.BookLemmas.{reserved_seen}
 use Rattle.txn.proofs.BookInvariant.{reserved_keeps}
 use Rattle.std.proofs.Common.{inr}
 use Rattle.machine.proofs.Steps.{fall_settles}
@@ -135,10 +135,9 @@ pub returns-in_err-reserve-clause-answer : goal.returns-in_err-reserve-clause-an
 returns-in_err-reserve-clause-answer g c =
     let r = c.from_residual-in_err-reserve in
     let p = err_from_is_err_and r.result r.ensures.1 in
-    let i = c.self.inside in
     let kept = c.in_err-reserve.ensures in
-    let same = reserved_same i.machine i.machine i.pending c.reserve.new.self i.places i.next
-    i.gathering i.gathering refl refl kept.records kept.freezes kept.handed ∙ c.self.view_is in
+    let same = reserved_seen c.self.inside.pending c.reserve.new.self c.self.view_is refl refl
+    kept.records kept.freezes kept.handed in
     rw (p.1, p.2, kept.refusal) (
       same,
       (
@@ -151,12 +150,10 @@ pub returns-in_err-back-clause-answer : goal.returns-in_err-back-clause-answer
 returns-in_err-back-clause-answer g c =
     let r = c.from_residual-in_err-back in
     let p = err_from_is_err_and r.result r.ensures.1 in
-    let i = c.self.inside in
     let kept = c.in_ok-reserve.ensures in
-    let same = reserved_same i.machine c.back.new.machine i.pending c.reserve.new.self i.places
-    i.next
-    i.gathering c.back.new.self c.in_err-back.ensures.same.0 c.in_err-back.ensures.same.1
-    kept.records kept.freezes kept.handed ∙ c.self.view_is in
+    let same = reserved_seen c.self.inside.pending c.reserve.new.self c.self.view_is
+    c.in_err-back.ensures.same.0 c.in_err-back.ensures.same.1 kept.records kept.freezes kept.handed
+    in
     rw (p.1, p.2, c.in_err-back.ensures.refusal) (
       same,
       (
@@ -167,21 +164,15 @@ returns-in_err-back-clause-answer g c =
 
 pub invariant_of-self-in_err-reserve : goal.invariant_of-self-in_err-reserve
 invariant_of-self-in_err-reserve g c =
-    let i = c.self.inside in
     let kept = c.in_err-reserve.ensures in
-    reserved_keeps g.B.Boosted.meaning g.B.Parts.making (λ s. AreShort (g.B.Parts.collections s))
-    i.machine i.machine i.pending c.reserve.new.self i.places i.next i.gathering i.gathering
-    refl refl kept.records kept.freezes kept.handed c.self.invariant
+    reserved_keeps c.self.inside.pending c.reserve.new.self refl refl kept.records kept.freezes
+    kept.handed c.self.invariant
 
 pub invariant_of-self-in_err-back : goal.invariant_of-self-in_err-back
 invariant_of-self-in_err-back g c =
-    let i = c.self.inside in
     let kept = c.in_ok-reserve.ensures in
-    reserved_keeps g.B.Boosted.meaning g.B.Parts.making (λ s. AreShort (g.B.Parts.collections s))
-    i.machine c.back.new.machine i.pending c.reserve.new.self i.places i.next i.gathering
-    c.back.new.self
-    c.in_err-back.ensures.same.0 c.in_err-back.ensures.same.1 kept.records kept.freezes kept.handed
-    c.self.invariant
+    reserved_keeps c.self.inside.pending c.reserve.new.self c.in_err-back.ensures.same.0
+    c.in_err-back.ensures.same.1 kept.records kept.freezes kept.handed c.self.invariant
 
 pub push-requires-clause-few : goal.push-requires-clause-few
 push-requires-clause-few g c =

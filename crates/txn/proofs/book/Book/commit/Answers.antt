@@ -98,18 +98,12 @@ returns-clause-goes g c =
 
 pub invariant_of-self : goal.invariant_of-self
 invariant_of-self g c =
-    let i = c.self.inside in
     let kept = c.in_err-reserve.ensures in
-    reserved_keeps g.B.Boosted.meaning g.B.Parts.making (λ s. AreShort (g.B.Parts.collections s))
-    i.machine i.machine i.pending c.reserve.new.self i.places i.next i.gathering i.gathering
-    refl refl kept.records kept.freezes kept.handed c.self.invariant
+    reserved_keeps c.self.inside.pending c.reserve.new.self refl refl kept.records kept.freezes
+    kept.handed c.self.invariant
 
 pub invariant_of-self-in_err-commit : goal.invariant_of-self-in_err-commit
 invariant_of-self-in_err-commit g c =
-    let i = c.self.inside in
     let kept = c.in_ok-reserve.ensures in
-    reserved_keeps g.B.Boosted.meaning g.B.Parts.making (λ s. AreShort (g.B.Parts.collections s))
-    i.machine c.commit.new.machine i.pending c.reserve.new.self i.places i.next i.gathering
-    c.commit.new.self
-    c.in_err-commit.ensures.same.0 c.in_err-commit.ensures.same.1 kept.records kept.freezes
-    kept.handed c.self.invariant
+    reserved_keeps c.self.inside.pending c.reserve.new.self c.in_err-commit.ensures.same.0
+    c.in_err-commit.ensures.same.1 kept.records kept.freezes kept.handed c.self.invariant

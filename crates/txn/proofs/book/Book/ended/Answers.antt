@@ -15,10 +15,9 @@ use Rattle.machine.specs.Machine.{State}
 use Rattle.std.proofs.Common.{ap}
 use Rattle.txn.proofs.Goings.{goes_still, position_after}
 use Rattle.txn.proofs.BookInvariant.{reserved_keeps}
-use Rattle.std.proofs.Common.{◌∙◌}
 use Rattle.std.proofs.lemmas.Result.{err_from_is_err_and}
 use Rattle.undo_log.specs.Entries.{HasNoCall}
-use Rattle.txn.proofs.BookLemmas.{reserved_same}
+use Rattle.txn.proofs.BookLemmas.{reserved_seen}
 use Rattle.txn.proofs.book.Book.ended.Goals as goal
 
 pub push-requires-clause-room : goal.push-requires-clause-room
@@ -76,11 +75,9 @@ returns-clause-goes g c =
 
 pub invariant_of-self : goal.invariant_of-self
 invariant_of-self g c =
-    let i = c.self.inside in
     let kept = c.in_err-reserve.ensures in
-    reserved_keeps g.B.Boosted.meaning g.B.Parts.making (λ s. AreShort (g.B.Parts.collections s))
-    i.machine i.machine i.pending c.reserve.new.self i.places i.next i.gathering i.gathering
-    refl refl kept.records kept.freezes kept.handed c.self.invariant
+    reserved_keeps c.self.inside.pending c.reserve.new.self refl refl kept.records kept.freezes
+    kept.handed c.self.invariant
 
 pub push-requires-clause-few : goal.push-requires-clause-few
 push-requires-clause-few g c =
@@ -118,10 +115,9 @@ pub returns-in_err-reserve-clause-answer : goal.returns-in_err-reserve-clause-an
 returns-in_err-reserve-clause-answer g c =
     let r = c.from_residual-in_err-reserve in
     let p = err_from_is_err_and r.result r.ensures.1 in
-    let i = c.self.inside in
     let kept = c.in_err-reserve.ensures in
-    let same = reserved_same i.machine i.machine i.pending c.reserve.new.self i.places i.next
-    i.gathering i.gathering refl refl kept.records kept.freezes kept.handed ∙ c.self.view_is in
+    let same = reserved_seen c.self.inside.pending c.reserve.new.self c.self.view_is refl refl
+    kept.records kept.freezes kept.handed in
     let none = subst (λ (b : BookState _). HasNoCall c.args.number b.state.entries) c.self.view_is
     (c.has_call.ensures.none c.if-has_call.false) in
     rw (p.1, p.2, kept.refusal) (

@@ -82,16 +82,12 @@ returns-clause-goes g c =
 
 pub invariant_of-self : goal.invariant_of-self
 invariant_of-self g c =
-    let i = c.self.inside in
     let kept = c.in_err-reserve.ensures in
-    reserved_keeps g.B.Boosted.meaning g.B.Parts.making (λ s. AreShort (g.B.Parts.collections s))
-    i.machine i.machine i.pending c.reserve.new.self i.places i.next i.gathering i.gathering
-    refl refl kept.records kept.freezes kept.handed c.self.invariant
+    reserved_keeps c.self.inside.pending c.reserve.new.self refl refl kept.records kept.freezes
+    kept.handed c.self.invariant
 
 pub invariant_of-self-in_err-begin : goal.invariant_of-self-in_err-begin
 invariant_of-self-in_err-begin g c =
-    let i = c.self.inside in
     let kept = c.in_ok-reserve.ensures in
-    reserved_keeps g.B.Boosted.meaning g.B.Parts.making (λ s. AreShort (g.B.Parts.collections s))
-    i.machine c.begin.new.self i.pending c.reserve.new.self i.places i.next i.gathering i.gathering
-    c.in_err-begin.ensures.same refl kept.records kept.freezes kept.handed c.self.invariant
+    reserved_keeps c.self.inside.pending c.reserve.new.self c.in_err-begin.ensures.same refl
+    kept.records kept.freezes kept.handed c.self.invariant

@@ -8,7 +8,7 @@ use Rattle.txn.specs.Books.{standing, Appends}
 use Rattle.txn.specs.Views.{book_of}
 use Rattle.blocks.specs.Waits.{waiting}
 use Rattle.machine.proofs.BookLaws.{BookLaws, book_laws}
-use Rattle.txn.proofs.BookLemmas.{recorded, make_refused, reserved_same}
+use Rattle.txn.proofs.BookLemmas.{recorded, make_refused, reserved_seen}
 use Rattle.txn.proofs.BookInvariant.{make_keeps}
 use Rattle.machine.proofs.Steps.{make_settles}
 use Rattle.txn.proofs.book.Book.make.Given.{Over}
@@ -65,13 +65,11 @@ returns-clause-settled g c = rw (← c.self.view_is)
 
 pub returns-in_err-make-clause-answer : goal.returns-in_err-make-clause-answer
 returns-in_err-make-clause-answer g c =
-    let i = c.self.inside in
     let p = err_from_is_err_and c.from_residual-in_err-make.result
     c.from_residual-in_err-make.ensures.1 in
-    let same = reserved_same i.machine c.make.new.self i.pending c.reserve.new.self i.places i.next
-    i.gathering i.gathering c.in_err-make.ensures.same refl c.in_ok-reserve.ensures.records
-    c.in_ok-reserve.ensures.freezes
-    c.in_ok-reserve.ensures.handed ∙ c.self.view_is in
+    let same = reserved_seen c.self.inside.pending c.reserve.new.self c.self.view_is
+    c.in_err-make.ensures.same refl c.in_ok-reserve.ensures.records c.in_ok-reserve.ensures.freezes
+    c.in_ok-reserve.ensures.handed in
     let refused = subst (λ b. naming.MakeRefused (g.B.Parts.making.names b.state.now)
     c.args.name.now c.in_err-make.field-0.0) c.self.view_is c.in_err-make.ensures.err in
     rw (p.1, p.2) (
@@ -122,10 +120,9 @@ pub returns-in_err-reserve-clause-answer : goal.returns-in_err-reserve-clause-an
 returns-in_err-reserve-clause-answer g c =
     let r = c.from_residual-in_err-reserve in
     let p = err_from_is_err_and r.result r.ensures.1 in
-    let i = c.self.inside in
     let kept = c.in_err-reserve.ensures in
-    let same = reserved_same i.machine i.machine i.pending c.reserve.new.self i.places i.next
-    i.gathering i.gathering refl refl kept.records kept.freezes kept.handed ∙ c.self.view_is in
+    let same = reserved_seen c.self.inside.pending c.reserve.new.self c.self.view_is refl refl
+    kept.records kept.freezes kept.handed in
     let new = subst (λ s. naming.IsNew (g.B.Parts.making.names s) c.args.name.now)
     (c.parts.ensures ∙ ap (λ (b : BookState _). b.state.now) c.self.view_is)
     c.in_ok-check_new.ensures.ok in
@@ -138,10 +135,9 @@ pub returns-in_err-to_string-clause-answer : goal.returns-in_err-to_string-claus
 returns-in_err-to_string-clause-answer g c =
     let r = c.from_residual-in_err-to_string in
     let p = err_from_is_err_and r.result r.ensures.1 in
-    let i = c.self.inside in
     let kept = c.in_ok-reserve.ensures in
-    let same = reserved_same i.machine i.machine i.pending c.reserve.new.self i.places i.next
-    i.gathering i.gathering refl refl kept.records kept.freezes kept.handed ∙ c.self.view_is in
+    let same = reserved_seen c.self.inside.pending c.reserve.new.self c.self.view_is refl refl
+    kept.records kept.freezes kept.handed in
     let new = subst (λ s. naming.IsNew (g.B.Parts.making.names s) c.args.name.now)
     (c.parts.ensures ∙ ap (λ (b : BookState _). b.state.now) c.self.view_is)
     c.in_ok-check_new.ensures.ok in
@@ -155,27 +151,21 @@ returns-in_err-to_string-clause-answer g c =
 
 pub invariant_of-self : goal.invariant_of-self
 invariant_of-self g c =
-    let i = c.self.inside in
     let kept = c.in_err-reserve.ensures in
-    reserved_keeps g.B.Boosted.meaning g.B.Parts.making (λ s. AreShort (g.B.Parts.collections s))
-    i.machine i.machine i.pending c.reserve.new.self i.places i.next i.gathering i.gathering
-    refl refl kept.records kept.freezes kept.handed c.self.invariant
+    reserved_keeps c.self.inside.pending c.reserve.new.self refl refl kept.records kept.freezes
+    kept.handed c.self.invariant
 
 pub invariant_of-self-in_err-to_string : goal.invariant_of-self-in_err-to_string
 invariant_of-self-in_err-to_string g c =
-    let i = c.self.inside in
     let kept = c.in_ok-reserve.ensures in
-    reserved_keeps g.B.Boosted.meaning g.B.Parts.making (λ s. AreShort (g.B.Parts.collections s))
-    i.machine i.machine i.pending c.reserve.new.self i.places i.next i.gathering i.gathering
-    refl refl kept.records kept.freezes kept.handed c.self.invariant
+    reserved_keeps c.self.inside.pending c.reserve.new.self refl refl kept.records kept.freezes
+    kept.handed c.self.invariant
 
 pub invariant_of-self-in_err-make : goal.invariant_of-self-in_err-make
 invariant_of-self-in_err-make g c =
-    let i = c.self.inside in
     let kept = c.in_ok-reserve.ensures in
-    reserved_keeps g.B.Boosted.meaning g.B.Parts.making (λ s. AreShort (g.B.Parts.collections s))
-    i.machine c.make.new.self i.pending c.reserve.new.self i.places i.next i.gathering i.gathering
-    c.in_err-make.ensures.same refl kept.records kept.freezes kept.handed c.self.invariant
+    reserved_keeps c.self.inside.pending c.reserve.new.self c.in_err-make.ensures.same refl
+    kept.records kept.freezes kept.handed c.self.invariant
 
 pub overflow_add-name : goal.overflow_add-name
 overflow_add-name g c = omega (arith, c.in_ok-check_new.ensures.ok.good.short)

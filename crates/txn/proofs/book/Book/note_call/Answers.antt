@@ -21,7 +21,7 @@ use Rattle.gathering.specs.Gatherings.{noted, effect_at}
 use Rattle.txn.specs.Books.{position}
 use Rattle.txn.proofs.Goings.{goes_ran, position_after}
 use Rattle.std.proofs.lemmas.Result.{err_from_is_err_and}
-use Rattle.txn.proofs.BookLemmas.{reserved_same}
+use Rattle.txn.proofs.BookLemmas.{reserved_seen}
 use Rattle.txn.proofs.BookInvariant.{reserved_keeps}
 use Rattle.std.proofs.Common.{length}
 use Rattle.machine.specs.Machine.{IsSettled}
@@ -139,59 +139,47 @@ pub returns-in_err-reserve-clause-same : goal.returns-in_err-reserve-clause-same
 returns-in_err-reserve-clause-same g c =
     let r = c.from_residual in
     let p = err_from_is_err_and r.result r.ensures.1 in
-    let i = c.self.inside in
     let kept = c.in_err-reserve.ensures in
-    let same = reserved_same i.machine i.machine i.pending c.reserve.new.self i.places i.next
-    i.gathering i.gathering refl refl kept.records kept.freezes kept.handed ∙ c.self.view_is in
+    let same = reserved_seen c.self.inside.pending c.reserve.new.self c.self.view_is refl refl
+    kept.records kept.freezes kept.handed in
     rw p.1 same
 
 pub returns-in_err-asked-clause-same : goal.returns-in_err-asked-clause-same
 returns-in_err-asked-clause-same g c =
     let r = c.from_residual-in_err-asked in
     let p = err_from_is_err_and r.result r.ensures.1 in
-    let i = c.self.inside in
     let kept = c.in_ok-reserve.ensures in
-    let same = reserved_same i.machine i.machine i.pending c.reserve.new.self i.places i.next
-    i.gathering i.gathering refl refl kept.records kept.freezes kept.handed ∙ c.self.view_is in
+    let same = reserved_seen c.self.inside.pending c.reserve.new.self c.self.view_is refl refl
+    kept.records kept.freezes kept.handed in
     rw p.1 same
 
 pub returns-in_err-call-clause-same : goal.returns-in_err-call-clause-same
 returns-in_err-call-clause-same g c =
     let r = c.from_residual-in_err-call in
     let p = err_from_is_err_and r.result r.ensures.1 in
-    let i = c.self.inside in
     let kept = c.in_ok-reserve.ensures in
-    let same = reserved_same i.machine c.call.new.machine i.pending c.reserve.new.self i.places
-    i.next
-    i.gathering c.call.new.self c.in_err-call.ensures.same.0 c.in_err-call.ensures.same.1
-    kept.records kept.freezes kept.handed ∙ c.self.view_is in
+    let same = reserved_seen c.self.inside.pending c.reserve.new.self c.self.view_is
+    c.in_err-call.ensures.same.0 c.in_err-call.ensures.same.1 kept.records kept.freezes kept.handed
+    in
     rw p.1 same
 
 pub invariant_of-self : goal.invariant_of-self
 invariant_of-self g c =
-    let i = c.self.inside in
     let kept = c.in_err-reserve.ensures in
-    reserved_keeps g.B.Boosted.meaning g.B.Parts.making (λ s. AreShort (g.B.Parts.collections s))
-    i.machine i.machine i.pending c.reserve.new.self i.places i.next i.gathering i.gathering
-    refl refl kept.records kept.freezes kept.handed c.self.invariant
+    reserved_keeps c.self.inside.pending c.reserve.new.self refl refl kept.records kept.freezes
+    kept.handed c.self.invariant
 
 pub invariant_of-self-in_err-asked : goal.invariant_of-self-in_err-asked
 invariant_of-self-in_err-asked g c =
-    let i = c.self.inside in
     let kept = c.in_ok-reserve.ensures in
-    reserved_keeps g.B.Boosted.meaning g.B.Parts.making (λ s. AreShort (g.B.Parts.collections s))
-    i.machine i.machine i.pending c.reserve.new.self i.places i.next i.gathering i.gathering
-    refl refl kept.records kept.freezes kept.handed c.self.invariant
+    reserved_keeps c.self.inside.pending c.reserve.new.self refl refl kept.records kept.freezes
+    kept.handed c.self.invariant
 
 pub invariant_of-self-in_err-call : goal.invariant_of-self-in_err-call
 invariant_of-self-in_err-call g c =
-    let i = c.self.inside in
     let kept = c.in_ok-reserve.ensures in
-    reserved_keeps g.B.Boosted.meaning g.B.Parts.making (λ s. AreShort (g.B.Parts.collections s))
-    i.machine c.call.new.machine i.pending c.reserve.new.self i.places i.next i.gathering
-    c.call.new.self
-    c.in_err-call.ensures.same.0 c.in_err-call.ensures.same.1 kept.records kept.freezes kept.handed
-    c.self.invariant
+    reserved_keeps c.self.inside.pending c.reserve.new.self c.in_err-call.ensures.same.0
+    c.in_err-call.ensures.same.1 kept.records kept.freezes kept.handed c.self.invariant
 
 pub push_call-requires-clause-few : goal.push_call-requires-clause-few
 push_call-requires-clause-few g c =

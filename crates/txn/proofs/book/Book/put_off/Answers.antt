@@ -19,10 +19,10 @@ use Rattle.machine.specs.Machine.{State}
 use Rattle.std.proofs.Common.{ap}
 use Rattle.txn.proofs.Goings.{goes_still, position_after}
 use Rattle.txn.proofs.BookInvariant.{reserved_keeps}
-use Rattle.std.proofs.Common.{length, inr, ◌<◌, ◌^◌, ◌∙◌}
+use Rattle.std.proofs.Common.{length, inr, ◌<◌, ◌^◌}
 use Rattle.machine.specs.Machine.{IsSettled}
 use Rattle.blocks.specs.Waits.{HasRoomFor}
-use Rattle.txn.proofs.BookLemmas.{reserved_same}
+use Rattle.txn.proofs.BookLemmas.{reserved_seen}
 use Rattle.txn.proofs.book.Book.put_off.Goals as goal
 
 -- the laws of the collections
@@ -104,19 +104,15 @@ returns-clause-goes g c =
 
 pub invariant_of-self : goal.invariant_of-self
 invariant_of-self g c =
-    let i = c.self.inside in
     let kept = c.in-Err.ensures in
-    reserved_keeps g.B.Boosted.meaning g.B.Parts.making (λ s. AreShort (g.B.Parts.collections s))
-    i.machine i.machine i.pending c.reserve.new.self i.places i.next i.gathering i.gathering
-    refl refl kept.records kept.freezes kept.handed c.self.invariant
+    reserved_keeps c.self.inside.pending c.reserve.new.self refl refl kept.records kept.freezes
+    kept.handed c.self.invariant
 
 pub invariant_of-self-in-Err-later : goal.invariant_of-self-in-Err-later
 invariant_of-self-in-Err-later g c =
-    let i = c.self.inside in
     let kept = c.in_default.ensures in
-    reserved_keeps g.B.Boosted.meaning g.B.Parts.making (λ s. AreShort (g.B.Parts.collections s))
-    i.machine c.later.new.self i.pending c.reserve.new.self i.places i.next i.gathering i.gathering
-    c.in-Err-later.ensures.same refl kept.records kept.freezes kept.handed c.self.invariant
+    reserved_keeps c.self.inside.pending c.reserve.new.self c.in-Err-later.ensures.same refl
+    kept.records kept.freezes kept.handed c.self.invariant
 
 pub push-requires-clause-few : goal.push-requires-clause-few
 push-requires-clause-few g c =
@@ -138,19 +134,16 @@ returns-clause-answer g c = rw (← c.self.view_is) (
 
 pub returns-in-Err-clause-answer : goal.returns-in-Err-clause-answer
 returns-in-Err-clause-answer g c =
-    let i = c.self.inside in
     let kept = c.in-Err.ensures in
-    let same = reserved_same i.machine i.machine i.pending c.reserve.new.self i.places i.next
-    i.gathering i.gathering refl refl kept.records kept.freezes kept.handed ∙ c.self.view_is in
+    let same = reserved_seen c.self.inside.pending c.reserve.new.self c.self.view_is refl refl
+    kept.records kept.freezes kept.handed in
     rw (kept.refusal) (same, inr (inr (c.requires.open, c.requires.clear)))
 
 pub returns-in-Err-later-clause-answer : goal.returns-in-Err-later-clause-answer
 returns-in-Err-later-clause-answer g c =
-    let i = c.self.inside in
     let kept = c.in_default.ensures in
-    let same = reserved_same i.machine c.later.new.self i.pending c.reserve.new.self i.places i.next
-    i.gathering i.gathering c.in-Err-later.ensures.same refl kept.records kept.freezes kept.handed ∙
-    c.self.view_is in
+    let same = reserved_seen c.self.inside.pending c.reserve.new.self c.self.view_is
+    c.in-Err-later.ensures.same refl kept.records kept.freezes kept.handed in
     rw (c.in-Err-later.ensures.refusal) (same, inr (inr (c.requires.open, c.requires.clear)))
 
 pub returns-in-Err-clause-settled : goal.returns-in-Err-clause-settled

@@ -14,7 +14,7 @@ const SIZE: u64 = 4096 + 2 * MIN_AREA;
 /// A disk in memory, which of its calls is to fail (0 for none), a script, and how many lines of
 /// what the next run prints are told. Behind them is how the scripts compare through the store.
 #[derive(Drop)]
-pub struct Bench {
+pub struct Workbench {
     pub disk: MemDisk,
     pub fail_in: u64,
     pub script: Vec<u8>,
@@ -22,7 +22,7 @@ pub struct Bench {
     pub compared: Compared,
 }
 
-impl Bench {
+impl Workbench {
     /// A bench with a disk of no bytes.
     pub fn new(alloc: Global) -> Result<Self, AllocError> {
         Ok(Self {
