@@ -6,7 +6,6 @@ pub mod Ends
 pub mod Histories
 pub mod Lines
 pub mod Marks
-pub mod NoPart
 pub mod NoStep
 pub mod Numbers
 pub mod Orders

@@ -4,9 +4,9 @@ ghost use Rattle.calls.specs.declared.refusal.Refusal.{Refusal};
 ghost use Rattle.group_commit.specs.Accords.{nothing_gathered};
 ghost use Rattle.group_commit.specs.Agreeing.{Sits, near_side, far_side, both_sides};
 
-use crate::no_part::NoPart;
 use atomic_table::{Join, Play, Seat, Split, Table, TableRule};
 use calls::Refusal;
+use catalog::NamedHolding;
 use images::Gather;
 use std::alloc::Global;
 use std::marker::{Brand, Model, PhantomData};
@@ -15,8 +15,8 @@ use std::marker::{Brand, Model, PhantomData};
 pub(crate) struct Sides {
     near: bool,
     far: bool,
-    by_near: Gather<NoPart>,
-    by_far: Gather<NoPart>,
+    by_near: Gather<NamedHolding>,
+    by_far: Gather<NamedHolding>,
 }
 
 type SideSeat = Seat<(), Sides>;

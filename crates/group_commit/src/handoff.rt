@@ -7,10 +7,10 @@ ghost use Rattle.group_commit.specs.Orders.{sending, receiving, noting, noting_t
 ghost use Rattle.group_commit.specs.Transit.{known, united, IsEnd, IsSender, IsReceiver};
 
 use crate::accord::OneGather;
-use crate::no_part::NoPart;
 use blocks::Block;
 use calls::Refusal;
 use calls::limits::MAX_TRANSIT;
+use catalog::NamedHolding;
 use crossbeam_queue::protocol::{Join, Lesson, Outcome, Protocol, Split};
 use crossbeam_queue::{Pass, RuledArrayQueue};
 use images::Gather;
@@ -26,8 +26,8 @@ pub(crate) struct Log {
     receives: bool,
     sent: LinkedList<Block>,
     received: LinkedList<Block>,
-    noted: LinkedList<Gather<NoPart>>,
-    heard: LinkedList<Gather<NoPart>>,
+    noted: LinkedList<Gather<NamedHolding>>,
+    heard: LinkedList<Gather<NamedHolding>>,
 }
 
 // What was sent is what was received, followed by what is in transit. Both ends have noted the same

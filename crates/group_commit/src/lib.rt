@@ -36,7 +36,6 @@ mod ends;
 mod handoff;
 mod line;
 mod mark;
-mod no_part;
 mod numbers;
 mod view;
 
