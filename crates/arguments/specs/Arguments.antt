@@ -1,11 +1,11 @@
 -- The program's command line, and what it asks for.
-use Rattle.std.specs.Prelude.{◌≡◌, ℕ, ◌-◌, ◌^◌, List, Some, Ok, codes, string_bytes, true}
-use Rattle.std.specs.Prelude.{IsSomeAnd}
+use Rattle.std.specs.Prelude.{◌≡◌, ◌↔◌, ℕ, ◌-◌, ◌^◌, List, Some, Ok, codes, string_bytes, true}
+use Rattle.std.specs.Prelude.{IsSomeAnd, IsTrue}
 use Rattle.std.specs.Str.Parse.{ParsesUnsigned}
 use Rattle.std.specs.declared.num.ParseIntError.{ParseIntError}
 use Rattle.clap.specs.Words.{App, Row, Rule, Text, first_of, new_app, new_rule, subcommand_of}
 use Rattle.clap.specs.Words.{with_rule, with_subcommand}
-use Rattle.clap.specs.declared.builder.ArgAction.TheVariants.{Set}
+use Rattle.clap.specs.declared.builder.ArgAction.TheVariants.{Set, SetTrue}
 use Rattle.clap.specs.declared.builder.ValueParser.TheVariants as parsers
 use Rattle.arguments.specs.declared.Invocation.{Invocation}
 use Rattle.arguments.specs.declared.Task.{Task}
@@ -25,6 +25,9 @@ area_rule = record (new_rule (codes "area")) {
   parser = Some (parsers.Unsigned 0 (2 ^ 64 - 1));
 }
 
+abbrev pub why_rule : Rule
+why_rule = record (new_rule (codes "why")) { long = Some (codes "why"); action = Some SetTrue }
+
 abbrev pub format_app : App
 format_app = with_rule (with_rule (new_app (codes "format")) (path_rule (codes "DISK"))) area_rule
 
@@ -40,7 +43,7 @@ abbrev pub play_app : App
 play_app = script_app (codes "play")
 
 abbrev pub serve_app : App
-serve_app = script_app (codes "serve")
+serve_app = with_rule (script_app (codes "serve")) why_rule
 
 abbrev pub show_app : App
 show_app = disk_app (codes "show")
@@ -73,6 +76,10 @@ abbrev pub ArePaths : (disk script : Text) → List Row → Type 0
 ArePaths disk script rows = (first_of (codes "DISK") rows ≡ Some disk) ×
     (first_of (codes "SCRIPT") rows ≡ Some script)
 
+-- the flag stands on the command line
+abbrev pub IsGiven : Text → List Row → Type 0
+IsGiven flag rows = first_of flag rows ≡ Some (codes "true")
+
 -- the subcommand that was found, with its arguments
 abbrev pub AsksTask : Task → Text × List Row → Type 0
 AsksTask (Task.Format disk area) found =
@@ -88,8 +95,9 @@ AsksTask Task.Demo found = found.0 ≡ codes "demo"
 
 abbrev pub Asks : Invocation → Text × List Row → Type 0
 Asks (Invocation.Run task) found = AsksTask task found
-Asks (Invocation.Serve disk script) found = (found.0 ≡ codes "serve") ×
-    ArePaths (string_bytes disk) (string_bytes script) found.1
+Asks (Invocation.Serve disk script why) found = (found.0 ≡ codes "serve") ×
+    ArePaths (string_bytes disk) (string_bytes script) found.1 ×
+    (IsTrue why ↔ IsGiven (codes "why") found.1)
 
 -- The words ask for this: clap finds the command in them, with its paths and number.
 abbrev pub IsAskedBy : Invocation → List Text → Type 0

@@ -1,13 +1,14 @@
 //! The program's command line.
 #![tactic(auto)]
 
-ghost use Rattle.std.specs.Prelude.{◌≡◌, codes, false, true, map, IfOk, IfErr, Some, IfSome};
-ghost use Rattle.std.specs.Prelude.{IsSomeAnd, string_bytes};
+ghost use Rattle.std.specs.Prelude.{◌≡◌, ◌↔◌, codes, false, true, map, IfOk, IfErr, Some, IfSome};
+ghost use Rattle.std.specs.Prelude.{IsSomeAnd, IsTrue, string_bytes};
 ghost use Rattle.std.specs.Result.{IsOkAnd};
 ghost use Rattle.clap.specs.declared.builder.command.Command.TheViews.{out-Command};
 ghost use Rattle.clap.specs.Words.{app_of, found_of, first_of, rows_of, rule_of};
 ghost use Rattle.clap.specs.Words.{subcommand_rows_of, with_subcommand};
-ghost use Rattle.arguments.specs.Arguments.{path_rule, area_rule, disk_app, format_app, script_app};
+ghost use Rattle.arguments.specs.Arguments.{path_rule, area_rule, why_rule, disk_app};
+ghost use Rattle.arguments.specs.Arguments.{format_app, script_app, serve_app, IsGiven};
 ghost use Rattle.arguments.specs.Arguments.{program_app, ArePaths, Asks, AsksTask, IsNumberOf};
 ghost use Rattle.arguments.specs.Arguments.{IsAskedBy};
 
@@ -20,8 +21,13 @@ use std::alloc::{AllocError, Global};
 pub enum Invocation {
     /// A task of one thread.
     Run(Task),
-    /// Runs the clients of a script on the store in the file, each in a thread of its own.
-    Serve { disk: String, script: String },
+    /// Runs the clients of a script on the store in the file, each in a thread of its own. `why`
+    /// asks to be told what ended keeping early.
+    Serve {
+        disk: String,
+        script: String,
+        why: bool,
+    },
 }
 
 /// What the program does on one thread, with the paths as they were written.
@@ -64,6 +70,17 @@ fn area<'a>(alloc: Global) -> Arg<'a>
         .help("The bytes of each of its two areas, from 65536 to 1073741824")
 }
 
+// The flag that asks what ended keeping early.
+fn why<'a>(alloc: Global) -> Arg<'a>
+    ensures rule { rule_of result ≡ why_rule }
+    ensures alone { result.global ≡ false }
+{
+    Arg::new(alloc, "why")
+        .long("why")
+        .action(ArgAction::SetTrue)
+        .help("Tell what ended keeping early, where tickets were lost")
+}
+
 // A command on a disk alone.
 fn disk_command<'a>(
     alloc: Global,
@@ -101,6 +118,13 @@ fn script_command<'a>(
     ))
 }
 
+// The command that serves a script.
+fn serve_command<'a>(alloc: Global, about: &'a str) -> Result<clap::Command<'a>, AllocError>
+    ensures { IfOk result (λ c. (app_of c ≡ serve_app) × ((out-Command c).has_globals ≡ false)) }
+{
+    script_command(alloc, "serve", about)?.arg(why(alloc))
+}
+
 // The program with one command more, where that could be made.
 fn with<'a>(
     program: clap::Command<'a>,
@@ -124,7 +148,7 @@ fn program<'a>(alloc: Global) -> Result<clap::Command<'a>, AllocError>
     let demo = "Run a stored script on a disk in memory";
     let program = with(program, format_command(alloc))?;
     let program = with(program, script_command(alloc, "play", play))?;
-    let program = with(program, script_command(alloc, "serve", serve))?;
+    let program = with(program, serve_command(alloc, serve))?;
     let program = with(
         program,
         disk_command(alloc, "show", "Print what the store holds"),
@@ -153,6 +177,16 @@ fn number(found: &ArgMatches<'_>, id: &str) -> Option<u64>
     found.get_str(id)?.parse().ok()
 }
 
+// Whether a flag was given.
+fn is_given(found: &ArgMatches<'_>, id: &str) -> bool
+    ensures { IsTrue result ↔ IsGiven id.now (rows_of (found_of found.now)) }
+{
+    match found.get_str(id) {
+        Some(text) => text == "true",
+        None => false,
+    }
+}
+
 // The paths of a disk and of a script.
 fn paths(alloc: Global, found: &ArgMatches<'_>) -> Result<Option<(String, String)>, AllocError>
     ensures { IfOk result (λ paths. IfSome paths (λ p.
@@ -178,7 +212,10 @@ fn named(
 {
     if name == "serve" {
         return match paths(alloc, found)? {
-            Some((disk, script)) => Ok(Some(Invocation::Serve { disk, script })),
+            Some((disk, script)) => {
+                let why = is_given(found, "why");
+                Ok(Some(Invocation::Serve { disk, script, why }))
+            }
             None => Ok(None),
         };
     }

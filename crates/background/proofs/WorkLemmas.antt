@@ -36,7 +36,7 @@ ok_then (Err e) P Q p then = tt
 
 -- ---- beginnings of a list
 
-prefix_through : (xs ys zs : List BookStep) → IsPrefix xs ys → IsPrefix ys zs → IsPrefix xs zs
+pub prefix_through : (xs ys zs : List BookStep) → IsPrefix xs ys → IsPrefix ys zs → IsPrefix xs zs
 prefix_through xs ys zs a b = (
   a.0 ++ b.0,
   sym (append_assoc xs a.0 b.0) ∙ (ap (λ l. l ++ b.0) a.1 ∙ b.1),
@@ -92,10 +92,9 @@ module _ {A : Type 0} (says : ℕ → A → Known → Type 0) where
           known = said.known;
           said = subst (λ (x : A). says thread x said.known) last.1
               (subst (λ n. says n answer said.known) (sym last.0) said.said);
-          begins = subst (λ l. IsPrefix l more) said.seen comes;
+          begins = prefix_through said.known.seen left.seen more said.seen comes;
           loaded = λ count some. subst (λ l. Contains l count) (sym all)
-              (Contains-append_right counts left.counts count
-              (subst (λ l. Contains l count) (sym said.counts) some));
+              (Contains-append_right counts left.counts count (said.loaded count some));
         }
       ]
 

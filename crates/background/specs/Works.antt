@@ -35,6 +35,13 @@ pub record HasCommitted (known : Known) (place : ℕ) : Type 0 where
 abbrev pub WasToldKept : Known → ℕ → Type 0
 WasToldKept known place = (count : ℕ) × Contains known.counts count × (place ≤ count)
 
+-- What the client knew it knows still: it is the same one, it has seen as much and more, and no
+-- count that it had loaded is gone.
+pub record KnowsStill (old new : Known) : Type 0 where
+  pub number : new.number ≡ old.number
+  pub seen : IsPrefix old.seen new.seen
+  pub counts : (count : ℕ) → Contains old.counts count → Contains new.counts count
+
 module _ {A : Type 0} (says : ℕ → A → Known → Type 0) where
   -- A thread's answer says so of what its client knew at the end. The history begins with what the
   -- client had seen, and what it was told as kept is kept.
@@ -49,12 +56,12 @@ module _ {A : Type 0} (says : ℕ → A → Known → Type 0) where
   AreTold answers kept steps = (thread : ℕ) (answer : A) →
       slice_get answers thread ≡ Some answer → IsTold steps kept thread answer
 
-  -- A thread's answer says so of what its client knew, which left this.
+  -- A thread's answer says so of what its client knew, which was part of what it left.
   pub record IsSaid (thread : ℕ) (answer : A) (left : SeenState) : Type 0 where
     pub known : Known
     pub said : says thread answer known
-    pub seen : left.seen ≡ known.seen
-    pub counts : left.counts ≡ known.counts
+    pub seen : IsPrefix known.seen left.seen
+    pub loaded : (count : ℕ) → Contains known.counts count → Contains left.counts count
 
   -- so it is with the answers of so many threads, unless one was refused a client
   abbrev pub AreSaid : List (Result (A × SeenState) Refusal) → ℕ → Type 0

@@ -1,6 +1,8 @@
 // How a burst of commits gets into one block.
-use crate::signal::Signal;
-use std::hint;
+use std::rt::Clock;
+use std::time::{Duration, Instant};
+use std::{hint, thread};
+use store::Signal;
 
 // How often the committer pauses, with no commit meanwhile, before it cuts all the same.
 const PATIENCE: u32 = 16;
@@ -14,16 +16,31 @@ const MOST: u64 = 1024;
 // How often it spins in a pause.
 const SPINS: u32 = 32;
 
+// A disk on which a block takes more microseconds is slow: who waits for it sleeps, and so the
+// committer gives those who come back longer.
+const SLOW: u64 = 400;
+
+// On a slow disk it waits for a part of the time that the last block took, and no more microseconds
+// than that.
+const PART: u32 = 4;
+
+const LONGEST_WAIT: u64 = 1000;
+
+// How often a client looks for its ticket before it sleeps, on a disk that is not slow.
+const LOOKS: u64 = 1000;
+
 // For how many commits the next block waits. A client whose commit was just kept is likely to come
 // back with its next one, so the block waits for as many as were kept, beside those that came
 // meanwhile, as long as they come.
 #[derive(Drop)]
 pub(crate) struct Burst {
-    // The wakes before the last cut, and before the one before it.
+    // The commits before the last cut, and before the one before it.
     cut: u64,
     before: u64,
-    // The wakes for which the next cut waits.
+    // The commits for which the next cut waits.
     wanted: u64,
+    // How long it waits for them, where the disk is slow.
+    longest: Duration,
 }
 
 impl Burst {
@@ -32,39 +49,81 @@ impl Burst {
             cut: 0,
             before: 0,
             wanted: 0,
+            longest: Duration::ZERO,
         }
     }
 
-    // Waits for the commits of the next block, as long as they come, and answers how many wakes
-    // there were.
-    pub(crate) fn gather(&mut self, signal: &Signal) -> u64 {
-        let mut wakes = signal.wakes();
-        let mut idle = 0;
-        for _ in 0..LONGEST {
-            if wakes >= self.wanted || idle >= PATIENCE || signal.is_over() {
-                break;
-            }
-            pause();
-            let now = signal.wakes();
-            idle = if now == wakes { idle + 1 } else { 0 };
-            wakes = now;
-        }
+    // Waits for the commits of the next block, as long as they come.
+    pub(crate) fn gather(&mut self, clock: &impl Clock, signal: &Signal) {
+        let commits = if self.longest.is_zero() {
+            spin_for(signal, self.wanted)
+        } else {
+            yield_for(clock, signal, self.wanted, self.longest)
+        };
         self.before = self.cut;
-        self.cut = wakes;
-        wakes
+        self.cut = commits;
     }
 
-    // The block was kept: those whose commits it had may come back.
-    pub(crate) fn release(&mut self, signal: &Signal) {
+    // The block was kept, and took so long: those whose commits it had may come back.
+    pub(crate) fn release(&mut self, signal: &Signal, took: Duration) {
         let released = self.cut.wrapping_sub(self.before).min(MOST);
-        self.wanted = signal.wakes().wrapping_add(released);
+        self.wanted = signal.commits().wrapping_add(released);
+        let is_slow = took > Duration::from_micros(SLOW);
+        self.longest = if is_slow {
+            (took / PART).min(Duration::from_micros(LONGEST_WAIT))
+        } else {
+            Duration::ZERO
+        };
+        signal.set_patience(if is_slow { 0 } else { LOOKS });
+    }
+
+    // Nothing is pending: who comes next is not waited for long.
+    pub(crate) fn rest(&mut self) {
+        self.longest = Duration::ZERO;
     }
 }
 
-// A few microseconds. It does not yield: where other programs are at work on all processors, who
-// yields may get its own back some milliseconds later.
+// Waits for so many commits, as long as they come. It does not yield: where other programs are at
+// work on all processors, who yields may get its own back some milliseconds later. Answers how many
+// there are.
+fn spin_for(signal: &Signal, wanted: u64) -> u64 {
+    let mut commits = signal.commits();
+    let mut idle = 0;
+    for _ in 0..LONGEST {
+        if commits >= wanted || idle >= PATIENCE || signal.is_over() {
+            break;
+        }
+        pause();
+        let now = signal.commits();
+        idle = if now == commits { idle + 1 } else { 0 };
+        commits = now;
+    }
+    commits
+}
+
+// A few microseconds.
 fn pause() {
     for _ in 0..SPINS {
         hint::spin_loop();
     }
+}
+
+// Waits for so many commits, no longer than that, while those who are to come have the processors.
+// Answers how many there are.
+fn yield_for(clock: &impl Clock, signal: &Signal, wanted: u64, longest: Duration) -> u64 {
+    let mut commits = signal.commits();
+    let Ok(start) = Instant::now(clock) else {
+        return commits;
+    };
+    for _ in 0..u64::MAX {
+        let is_late = start
+            .elapsed(clock)
+            .map_or(true, |waited| waited >= longest);
+        if commits >= wanted || is_late || signal.is_over() {
+            break;
+        }
+        thread::yield_now();
+        commits = signal.commits();
+    }
+    commits
 }

@@ -1,94 +1,208 @@
-// The committer's thread.
+// The threads of a store's committer and of its checkpointer.
 ghost use Rattle.std.specs.Prelude.{IsOkUnless};
 ghost use Rattle.calls.specs.declared.refusal.Refusal.{Refusal};
 
 use crate::burst::Burst;
-use crate::signal::{Signal, Sleeper};
+use crate::checkpoints::Checkpoints;
+use crate::filling::Filling;
+use crate::pause::Pause;
 use calls::Refusal;
 use checkpoint::Turn;
 use disk_model::Disk;
+use std::io;
+use std::rt::Clock;
 use std::sync::Wait;
-use std::thread::{self, JoinHandle, Scope};
-use store::{Checkpoint, Checkpointer, Committer, Naming, Store};
+use std::thread::{self, JoinHandle, Scope, Threads};
+use std::time::{Duration, Instant};
+use store::{Checkpoint, Checkpointer, Committer, Naming, Signal, Store};
 
-/// A store whose commits a thread brings to the disk.
-pub trait Commits {
-    /// Brings what clients commit to the disk until the signal says that no more comes, and all is
-    /// there; sleeps while nothing is pending. Before it cuts a block it waits for a moment where
-    /// clients whose commits were just kept come back with more, so that a burst gets into one.
-    /// Where the area is full it takes a checkpoint.
+// How many microseconds the committer sleeps before it asks again whether an image is the store.
+const MOMENT: u64 = 100;
+
+// How often a checkpoint that finds no memory is tried again once no more commits come.
+const LAST_TRIES: u32 = 100;
+
+/// A store whose commits threads bring to the disk.
+pub(crate) trait Commits {
+    /// Brings what clients commit to the disk until the store's signal says that no more comes, and
+    /// all is there; sleeps while nothing is pending. Before it cuts a block it waits for a moment
+    /// where clients whose commits were just kept come back with more, so that a burst gets into
+    /// one. Where the journal has filled a part of the area it asks for a checkpoint, and goes on.
+    /// Where a block does not fit, with the undoing of all that is live behind it, it waits for one.
     ///
-    /// It ends early where the disk fails, and where a checkpoint is refused: then the mark's
-    /// failed flag is set, so that who waits is told.
-    fn commit_all<R: Wait>(&self, rt: &R, signal: &Signal, sleeper: &Sleeper);
+    /// It ends early where the disk fails, and where a checkpoint makes no room: then the mark's
+    /// failed flag is set, so that who waits is told, and the refusal is noted.
+    fn commit_all<R: Wait + Clock>(&self, rt: &R, checkpoints: &Checkpoints);
+
+    /// Takes the checkpoints that are asked for, until no more are. One that finds no memory is
+    /// tried again later.
+    fn checkpoint_all<R: Wait + Clock>(&self, rt: &R, checkpoints: &Checkpoints);
+
+    /// No more commits come.
+    fn end(&self);
 }
 
 impl<D: Disk, J: Naming> Commits for Store<D, J> {
-    fn commit_all<R: Wait>(&self, rt: &R, signal: &Signal, sleeper: &Sleeper) {
+    fn commit_all<R: Wait + Clock>(&self, rt: &R, checkpoints: &Checkpoints) {
         let mut committer = self.committer(rt);
-        let mut checkpointer = self.checkpointer(rt);
-        let mut burst = Burst::new();
-        for _ in rt.forever() {
-            let wakes = burst.gather(signal);
-            // Asked before the turn: what was committed before the end is cut by a turn behind it.
-            let is_over = signal.is_over();
-            match committer.turn(rt) {
-                Ok(Turn::Idle) if is_over => return,
-                Ok(Turn::Idle) => sleeper.sleep(rt, signal, wakes),
-                Ok(Turn::Kept(_)) => burst.release(signal),
-                // Another checkpointer's image is in progress.
-                Ok(Turn::Held) => thread::yield_now(),
-                Err(refusal) => {
-                    if !is_room_made(rt, refusal, &mut checkpointer) {
-                        committer.stop();
-                        return;
-                    }
-                }
-            }
+        if let Err(refusal) = commit_until_over(rt, &mut committer, self.signal(), checkpoints) {
+            checkpoints.end_by(refusal);
+            committer.stop();
         }
+        checkpoints.end();
+    }
+
+    fn checkpoint_all<R: Wait + Clock>(&self, rt: &R, checkpoints: &Checkpoints) {
+        let mut checkpointer = self.checkpointer(rt);
+        for _ in rt.forever() {
+            let Some(asked) = checkpoints.next(rt) else {
+                return;
+            };
+            let made = checkpoint(rt, &mut checkpointer, self.signal(), checkpoints);
+            if made == Err(Refusal::Fault) {
+                checkpoints.end_by(Refusal::Fault);
+            }
+            checkpoints.answer(asked, made.is_ok());
+        }
+    }
+
+    fn end(&self) {
+        self.signal().end();
     }
 }
 
-// Takes a checkpoint where the area was full. Whether the committer can go on.
-fn is_room_made<D: Disk, J: Naming, R: Wait>(
+// Takes the turns of a committer until no more commits come, and all is on the disk.
+fn commit_until_over<D: Disk, J: Naming, R: Wait + Clock>(
     rt: &R,
-    refusal: Refusal,
-    checkpointer: &mut Checkpointer<'_, D, J>,
-) -> bool {
-    refusal == Refusal::Full && checkpoint(rt, checkpointer).is_ok()
-}
-
-// Takes a checkpoint. Where clients have outrun what is gathered, it begins anew.
-fn checkpoint<D: Disk, J: Naming, R: Wait>(
-    rt: &R,
-    checkpointer: &mut Checkpointer<'_, D, J>,
-) -> Result<u64, Refusal> {
+    committer: &mut Committer<'_, D, J>,
+    signal: &Signal,
+    checkpoints: &Checkpoints,
+) -> Result<(), Refusal> {
+    let mut burst = Burst::new();
+    let mut filling = Filling::new(committer.free(rt));
     for _ in rt.forever() {
-        match checkpointer.turn(rt) {
-            Ok(Checkpoint::Flipped(place)) => return Ok(place),
-            Ok(_) | Err(Refusal::Outrun) => {}
+        burst.gather(rt, signal);
+        // Asked before the turn: what was committed before the end is cut by a turn behind it.
+        let is_over = signal.is_over();
+        let start = Instant::now(rt);
+        match turn(rt, committer, signal) {
+            Ok(Turn::Idle) if is_over => return Ok(()),
+            Ok(Turn::Idle) => burst.rest(),
+            Ok(Turn::Kept(_)) => {
+                burst.release(signal, elapsed(rt, start));
+                filling.note(committer.free(rt), checkpoints);
+            }
+            Ok(Turn::Held) if checkpoints.is_asked() => {
+                thread::sleep(rt, Duration::from_micros(MOMENT));
+            }
+            // The image was left, as memory was refused for long.
+            Ok(Turn::Held) if checkpoints.has_made_room(rt) => {}
+            Ok(Turn::Held) => return Err(Refusal::NoMemory),
+            Err(Refusal::Full) if checkpoints.has_made_room(rt) => {}
             Err(refusal) => return Err(refusal),
         }
     }
     unreachable!()
 }
 
-/// Starts a thread in which all that clients of the store commit is brought to the disk
-/// (`Commits::commit_all`). It ends behind `Signal::end`, which is to be called on each way out of
-/// the scope.
+// Takes a turn. Where there is nothing to do it sleeps until something is, or no more comes.
+fn turn<D: Disk, J: Naming, R: Wait>(
+    rt: &R,
+    committer: &mut Committer<'_, D, J>,
+    signal: &Signal,
+) -> Result<Turn, Refusal> {
+    let turned = committer.turn_with_room(rt);
+    if turned != Ok(Turn::Idle) {
+        return turned;
+    }
+    let events = signal.prepare_wait();
+    let turned = committer.turn_with_room(rt);
+    if turned == Ok(Turn::Idle) && !signal.is_over() {
+        events.wait(rt);
+    } else {
+        drop(events);
+    }
+    turned
+}
+
+// How long it took since then: nothing where the clock cannot be read.
+fn elapsed(clock: &impl Clock, start: io::Result<Instant>) -> Duration {
+    let Ok(start) = start else {
+        return Duration::ZERO;
+    };
+    start.elapsed(clock).unwrap_or(Duration::ZERO)
+}
+
+// Takes a checkpoint. Where clients have outrun what is gathered, it begins anew; where it finds no
+// memory, it is tried again later. It is given up where it is not needed any more.
+fn checkpoint<D: Disk, J: Naming, R: Wait + Clock>(
+    rt: &R,
+    checkpointer: &mut Checkpointer<'_, D, J>,
+    signal: &Signal,
+    checkpoints: &Checkpoints,
+) -> Result<u64, Refusal> {
+    let mut pause = Pause::new();
+    let mut tries = 0;
+    for _ in rt.forever() {
+        match checkpointer.turn_with_room(rt) {
+            Ok(Checkpoint::Flipped(place)) => return Ok(place),
+            Ok(_) | Err(Refusal::Outrun) => {}
+            Err(Refusal::NoMemory) if tries < LAST_TRIES => {
+                tries = if signal.is_over() { tries + 1 } else { 0 };
+                pause.pause(rt);
+            }
+            Err(refusal) => return Err(refusal),
+        }
+        if checkpoints.is_over() {
+            return Err(Refusal::NotNow);
+        }
+    }
+    unreachable!()
+}
+
+/// The threads that keep what the clients of a store commit.
+#[derive(Drop)]
+pub(crate) struct Keeping {
+    committer: JoinHandle<()>,
+    checkpointer: JoinHandle<()>,
+}
+
+impl Keeping {
+    /// Waits until both have ended, which is behind `Commits::end`.
+    pub(crate) fn join<R: Threads>(self, rt: &R) {
+        let Self {
+            committer,
+            checkpointer,
+        } = self;
+        committer.join(rt);
+        checkpointer.join(rt);
+    }
+}
+
+/// Starts the threads in which all that clients of the store commit is brought to the disk
+/// (`Commits::commit_all`), and checkpoints are taken (`Commits::checkpoint_all`). They end behind
+/// `Commits::end`, which is to be called on each way out of the scope.
 ///
 /// NoMemory where no thread can be started.
-pub fn start<'s, E, S: Commits + Sync, R: Wait + Sync>(
+pub(crate) fn start<'s, E, S: Commits + Sync, R: Wait + Clock + Sync>(
     scope: &Scope<'s, E>,
     rt: &'s R,
     store: &'s S,
-    signal: &'s Signal,
-    sleeper: Sleeper,
-) -> Result<JoinHandle<()>, Refusal>
+    checkpoints: &'s Checkpoints,
+) -> Result<Keeping, Refusal>
     ensures { IsOkUnless result Refusal.NoMemory }
 {
-    match scope.spawn(move || store.commit_all(rt, signal, &sleeper)) {
-        Ok(thread) => Ok(thread),
-        Err(_) => Err(Refusal::NoMemory),
+    let Ok(checkpointer) = scope.spawn(move || store.checkpoint_all(rt, checkpoints)) else {
+        return Err(Refusal::NoMemory);
+    };
+    match scope.spawn(move || store.commit_all(rt, checkpoints)) {
+        Ok(committer) => Ok(Keeping {
+            committer,
+            checkpointer,
+        }),
+        Err(_) => {
+            checkpoints.end();
+            Err(Refusal::NoMemory)
+        }
     }
 }

@@ -1,6 +1,7 @@
-//! Runs a program's work on a store beside the store's committer, which is in a thread of its own:
-//! it brings what clients commit to the disk, takes a checkpoint where the area is full, and sleeps
-//! while nothing is pending.
+//! Runs a program's work on a store beside the store's committer and its checkpointer, which are in
+//! threads of their own. The committer brings what clients commit to the disk, and sleeps while
+//! nothing is pending; the checkpointer writes an image of the store before the journal has filled
+//! the area.
 //!
 //! A program says what each of its threads does, and hands that to `run` with a disk:
 //!
@@ -10,17 +11,15 @@
 //! impl Work for Counting {
 //!     type Output = Result<(), Refusal>;
 //!
-//!     fn work<J: Naming, R: Wait + AllocGlobal>(
+//!     fn work<J: Naming, R: Wait + Clock + AllocGlobal>(
 //!         &self,
 //!         rt: &R,
 //!         client: &mut Client<'_, J>,
-//!         signal: &Signal,
 //!         thread: usize,
 //!     ) -> Result<(), Refusal> {
 //!         client.begin()?;
 //!         client.call(rt, "hits", &Call::Bump(1))?;
 //!         let ticket = client.commit(rt)?;
-//!         signal.wake();
 //!         client.wait(rt, &ticket)
 //!     }
 //! }
@@ -30,12 +29,12 @@
 #![tactic(auto)]
 
 mod burst;
+mod checkpoints;
 mod committing;
+mod filling;
+mod pause;
 mod running;
-mod signal;
 mod transacting;
 
-pub use committing::{Commits, start};
 pub use running::{Closed, Work, all_ended, run};
-pub use signal::{Signal, Sleeper};
 pub use transacting::{Transaction, keep, transact};

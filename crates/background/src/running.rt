@@ -10,12 +10,14 @@ ghost use Rattle.store.specs.Openings.{IsNamed};
 ghost use Rattle.background.specs.Works.{IsLeftByWork, WasOpened, IsClosed, AreTold, IsSaid};
 ghost use Rattle.background.specs.Works.{AreSaid, AreParts};
 
+use crate::checkpoints::Checkpoints;
 use crate::committing::{Commits, start};
-use crate::signal::Signal;
+use crate::transacting::take_back_at_last;
 use calls::Refusal;
 use disk_model::Disk;
 use std::alloc::{AllocGlobal, Global};
 use std::marker::Brand;
+use std::rt::Clock;
 use std::sync::Wait;
 use std::thread::{self, Threads};
 use store::{Client, Naming, Opened, Seen, Store};
@@ -31,14 +33,12 @@ pub trait Work {
     /// the history and of the mark.
     ghost says: { Self → ℕ → Self.Output → Known → Type 0 } = { λ _ _ _ _. ⊤ };
 
-    /// What the thread of this number does; they are counted from 0. The client is its own. Behind
-    /// a commit that it will wait for it calls `Signal::wake`. What the client leaves open is
-    /// undone when the disk is opened again.
-    fn work<J: Naming, R: Wait + AllocGlobal>(
+    /// What the thread of this number does; they are counted from 0. The client is its own. What it
+    /// leaves open is taken back behind the work, so a `?` leaves no lock.
+    fn work<J: Naming, R: Wait + Clock + AllocGlobal>(
         &self,
         rt: &R,
         client: &mut Client<'_, J>,
-        signal: &Signal,
         thread: usize,
     ) -> Self::Output
         requires { client.old ≡ newcomer client.old.number }
@@ -52,6 +52,10 @@ pub struct Closed<D> {
     /// The commits and makings up to this place are kept through a stop: all whose tickets have a
     /// place that is not above it. 0 where the store was not opened.
     pub kept: u64,
+    /// What ended keeping early, if something did: who waited from then on was told Lost. Full
+    /// where no checkpoint made room, NoMemory where none found memory, Fault where the disk
+    /// failed.
+    pub ended_by: Option<Refusal>,
 }
 
 // A store that is open, as its clients see it: what threads share of it.
@@ -72,10 +76,16 @@ impl<D: Disk, J: Naming> Clients<J> for Store<D, J> {
 type Ended<O, J> = Result<(O, Seen<J>), Refusal>;
 
 /// Opens the store of a disk, works on it in so many threads, beside one that brings what is
-/// committed to the disk (`start`), and closes it once all work has ended and all that it committed
-/// is there. Answers what the threads answered, in their order, with the disk and how much of what
-/// was committed is kept there. Where the system makes no more threads, a thread does the work of
-/// several, one after another.
+/// committed to the disk and one that takes checkpoints, and closes it once all work has ended and
+/// all that it committed is there. Answers what the threads answered, in their order, with the disk
+/// and how much of what was committed is kept there. Where the system makes no more threads, a
+/// thread does the work of several, one after another.
+///
+/// A checkpoint is begun once the journal has filled half of what the last one left free, while
+/// commits go on being kept; from its freeze until it is the store they are kept later. On the disk
+/// there is always room for the undoing of what is live: a block behind which there would be none
+/// waits for a checkpoint. Where that makes no room either keeping ends, and who waits is told Lost
+/// (`Closed::ended_by`).
 ///
 /// On a disk at rest that reads true until it is open, and whose bytes stand for a content, a stop
 /// in the opening leaves the content, and one behind the call a beginning of what was committed,
@@ -83,10 +93,10 @@ type Ended<O, J> = Result<(O, Seen<J>), Refusal>;
 /// commits, and no count of kept commits that it was told is past `kept`: so a commit that a thread
 /// was told is kept is there. Each answer says of its client what `Work::says` says.
 ///
-/// The refusals of `Opened::open`, and NoMemory where the committer's thread cannot be started: no
-/// work is begun then. NoMemory also where the answers take more than there is, and Worn where a
+/// The refusals of `Opened::open`, and NoMemory where the committer's thread or the checkpointer's
+/// cannot be started: no work is begun then. NoMemory also where the answers take more than there is, and Worn where a
 /// thread above the 65,536th wants a client: then some of the work may be done.
-pub fn run<D: Disk + Drop + Send, W: Work + Sync, R: Threads + Wait + AllocGlobal + Sync>(
+pub fn run<D: Disk + Drop + Send, W: Work + Sync, R: Threads + Wait + Clock + AllocGlobal + Sync>(
     rt: &R,
     disk: D,
     work: &W,
@@ -99,7 +109,14 @@ pub fn run<D: Disk + Drop + Send, W: Work + Sync, R: Threads + Wait + AllocGloba
 {
     match Opened::open(rt.alloc(), disk) {
         Ok(opened) => run_opened::<Brand, D, W, R>(rt, opened, work, threads),
-        Err((refusal, disk)) => (Err(refusal), Closed { disk, kept: 0 }),
+        Err((refusal, disk)) => (
+            Err(refusal),
+            Closed {
+                disk,
+                kept: 0,
+                ended_by: None,
+            },
+        ),
     }
 }
 
@@ -108,7 +125,7 @@ fn run_opened<
     J: Naming + Send + Sync,
     D: Disk + Drop + Send,
     W: Work + Sync,
-    R: Threads + Wait + AllocGlobal + Sync,
+    R: Threads + Wait + Clock + AllocGlobal + Sync,
 >(
     rt: &R,
     opened: Opened<D>,
@@ -122,17 +139,24 @@ fn run_opened<
         result.1.kept }
 {
     let store = opened.named::<J>();
-    match run_beside::<J, Store<D, J>, W, R>(rt, &store, work, threads) {
+    let checkpoints = Checkpoints::new();
+    let ended = run_beside::<J, Store<D, J>, W, R>(rt, &store, &checkpoints, work, threads);
+    let ended_by = checkpoints.ended_by();
+    match ended {
         Ok(ended) => match gather::<J, D, W>(rt.alloc(), &store, work, ended) {
-            Ok((answers, last)) => (Ok(answers), close(store, last)),
-            Err(refusal) => (Err(refusal), close(store, None)),
+            Ok((answers, last)) => (Ok(answers), close(store, last, ended_by)),
+            Err(refusal) => (Err(refusal), close(store, None, ended_by)),
         },
-        Err(refusal) => (Err(refusal), close(store, None)),
+        Err(refusal) => (Err(refusal), close(store, None, ended_by)),
     }
 }
 
-// Closes a store whose clients had seen so much.
-fn close<J: Naming, D: Disk + Drop>(store: Store<D, J>, last: Option<Seen<J>>) -> Closed<D>
+// Closes a store whose clients had seen so much, and whose keeping this has ended early.
+fn close<J: Naming, D: Disk + Drop>(
+    store: Store<D, J>,
+    last: Option<Seen<J>>,
+    ended_by: Option<Refusal>,
+) -> Closed<D>
     ensures { IsClosed ⟦<J as Naming>⟧ ⟦<D as Disk>⟧
         (λ seen counts. (seen ≡ seen_of last) × (counts ≡ counts_of last)) result.disk
         result.kept }
@@ -142,6 +166,7 @@ fn close<J: Naming, D: Disk + Drop>(store: Store<D, J>, last: Option<Seen<J>>) -
     Closed {
         disk: keeper.into_disk(),
         kept,
+        ended_by,
     }
 }
 
@@ -185,18 +210,22 @@ fn put_together<J: Naming, D: Disk>(
     }
 }
 
-// Works on a store beside its committer's thread.
+// Works on a store beside the threads that keep what is committed.
 fn run_beside<
     J: Naming + Send + Sync,
     S: Commits + Clients<J> + Sync,
     W: Work + Sync,
-    R: Threads + Wait + AllocGlobal + Sync,
->(rt: &R, store: &S, work: &W, threads: usize) -> Result<Vec<Ended<W::Output, J>>, Refusal>
+    R: Threads + Wait + Clock + AllocGlobal + Sync,
+>(
+    rt: &R,
+    store: &S,
+    checkpoints: &Checkpoints,
+    work: &W,
+    threads: usize,
+) -> Result<Vec<Ended<W::Output, J>>, Refusal>
     ensures len { IfOk result (λ ended. vec_len ended ≡ threads) }
     ensures said { IfOk result (λ ended. AreSaid (W.says work.now) ended.items threads) }
 {
-    let (signal, sleeper) = Signal::new(rt.alloc())?;
-    let signal = &signal;
     thread::scope(
         thread::scope_env(),
         rt,
@@ -206,10 +235,10 @@ fn run_beside<
             ensures said { IfOk result (λ ended.
                 AreSaid (W.says work.entry.now) ended.items threads) }
         {
-            let committer = start(scope, rt, store, signal, sleeper)?;
-            let done = work_all::<J, S, W, R>(rt, store, work, signal, threads);
-            signal.end();
-            committer.join(rt);
+            let keeping = start(scope, rt, store, checkpoints)?;
+            let done = work_all::<J, S, W, R>(rt, store, work, threads);
+            store.end();
+            keeping.join(rt);
             done
         },
     )
@@ -220,35 +249,29 @@ fn work_all<
     J: Naming + Send + Sync,
     S: Clients<J> + Sync,
     W: Work + Sync,
-    R: Threads + Wait + AllocGlobal + Sync,
->(
-    rt: &R,
-    store: &S,
-    work: &W,
-    signal: &Signal,
-    threads: usize,
-) -> Result<Vec<Ended<W::Output, J>>, Refusal>
+    R: Threads + Wait + Clock + AllocGlobal + Sync,
+>(rt: &R, store: &S, work: &W, threads: usize) -> Result<Vec<Ended<W::Output, J>>, Refusal>
     ensures len { IfOk result (λ ended. vec_len ended ≡ threads) }
     ensures said { IfOk result (λ ended. AreSaid (W.says work.now) ended.items threads) }
 {
     let one = |thread: usize| -> Ended<W::Output, J>
         ensures { IfOk result (λ e. IsSaid (W.says work.entry.now) thread e.0 e.1) }
-    { work_one::<J, S, W, R>(rt, store, work, signal, thread) };
+    { work_one::<J, S, W, R>(rt, store, work, thread) };
     Ok(thread::map_indices(rt, rt.alloc(), threads, &one)?)
 }
 
-// Does the work of one thread, with a client of its own.
-fn work_one<J: Naming, S: Clients<J>, W: Work, R: Wait + AllocGlobal>(
+// Does the work of one thread, with a client of its own, and takes back what it left open.
+fn work_one<J: Naming, S: Clients<J>, W: Work, R: Wait + Clock + AllocGlobal>(
     rt: &R,
     store: &S,
     work: &W,
-    signal: &Signal,
     thread: usize,
 ) -> Ended<W::Output, J>
     ensures { IfOk result (λ e. IsSaid (W.says work.now) thread e.0 e.1) }
 {
     let mut client = store.client(rt)?;
-    let answer = work.work::<J, R>(rt, &mut client, signal, thread);
+    let answer = work.work::<J, R>(rt, &mut client, thread);
+    take_back_at_last(rt, &mut client);
     Ok((answer, client.leave()))
 }
 

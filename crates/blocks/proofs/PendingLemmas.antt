@@ -308,6 +308,62 @@ next_too_long b (f ∷ fs) last r behind fills is = first f.draft.records (in_fu
     first [] more fills same = absurd fills
     first (s ∷ c) more fills same = subst (λ (l : List Record). Fills b l) same fills
 
+-- These of the records are the next block's: as many as fit and as come before the next freeze.
+pub record ComeNext (w : Waiting) (first rest : List Record) : Type 0 where
+  pub are : waiting w ≡ first ++ rest
+  pub some : 0 < length first
+  pub short : length (spelling first) ≤ 65535
+  pub most : (r : Record) (behind : List Record) → rest ≡ r ∷ behind →
+      (65535 < length (spelling first) + length (spelled r))
+      ⊎ Contains (freezes w) (w.handed.end + length first)
+  pub apart : (f : ℕ) → Contains (freezes w) f → w.handed.end + length first ≤ f
+
+-- Those of the first full block are.
+pub first_next : (w : Waiting) (first : Filled) (full : List Filled) (count : ℕ) →
+    IsCounted w count → w.full ≡ first ∷ full →
+    ComeNext w first.draft.records (in_full full ++ w.last.records)
+first_next w first full count is same =
+    let all : AreFilled (first ∷ full) w.last.records =
+    subst (λ (l : List Filled). AreFilled l w.last.records) same is.packed in
+    let end = w.handed.end + length first.draft.records in
+    let ends : freezes w ≡ sealed_end first.sealed end ++ sealed_ends end full =
+    ap (sealed_ends w.handed.end) same in
+    record {
+      are = ap (λ (l : List Filled). in_full l ++ w.last.records) same ∙
+          append_assoc first.draft.records (in_full full) w.last.records;
+      some = all.0;
+      short = all.1;
+      most = λ r behind next. elim all.2 [
+        | inl fills ↦ inl (next_too_long first.draft.records full w.last.records r behind fills
+            next)
+        | inr sealed ↦ inr (subst (λ l. Contains l end) (sym ends)
+            (Contains-append_left (sealed_end first.sealed end) (sealed_ends end full) end
+            (end_there first.sealed end sealed)))
+      ];
+      apart = λ n there. elim (Contains-append_cases (sealed_end first.sealed end)
+          (sealed_ends end full) n (subst (λ l. Contains l n) ends there)) [
+            | inl here ↦ omega (arith, end_only first.sealed end n here)
+            | inr later ↦ omega (arith, ends_above end full w.last.records n all.3 later)
+          ];
+    }
+
+no_freeze : {A : Type 0} (from : ℕ) (bs : List Filled) (n : ℕ) → bs ≡ [] →
+    Contains (sealed_ends from bs) n → A
+no_freeze from bs n is there = let below =
+    (subst (λ l. Contains (sealed_ends from l) n) is there).1 in absurd (omega arith)
+
+-- Where no block is full, those of the last one are.
+pub last_next : (w : Waiting) (count : ℕ) → IsCounted w count → w.full ≡ [] →
+    0 < length w.last.records → ComeNext w w.last.records []
+last_next w count is none some = record {
+  are = ap (λ (l : List Filled). in_full l ++ w.last.records) none ∙
+      sym (append-nil w.last.records);
+  some = some;
+  short = last_fits w.full w.last.records is.packed;
+  most = λ r behind next. cc;
+  apart = λ n there. no_freeze w.handed.end w.full n none there;
+}
+
 -- The first full block is handed over: it holds as many of the records as fit and come before the
 -- next freeze.
 pub first_over : (w : Waiting) (first : Filled) (full : List Filled) (count : ℕ) (after : Handed)
@@ -324,33 +380,20 @@ first_over w first full count after sends is same offered =
     let ends : freezes w ≡ sealed_end first.sealed end ++ sealed_ends end full =
     ap (sealed_ends w.handed.end) same in
     let block_end : offered.block.end ≡ end = offered.end in
+    let next = first_next w first full count is same in
     let after_end : after.end ≡ end = ap (λ (h : Handed). h.end) offered.counted ∙ block_end in (
       offered.block,
       offered.sent,
       record {
         first = first.draft.records;
-        are = ap (λ (l : List Filled). in_full l ++ w.last.records) same ∙
-            append_assoc first.draft.records (in_full full) w.last.records;
-        some = all.0;
+        are = next.are;
+        some = next.some;
         bytes = offered.bytes;
-        most = λ r behind next. elim all.2 [
-          | inl fills ↦ inl (next_too_long first.draft.records full w.last.records r behind fills
-              next)
-          | inr sealed ↦ inr (subst (λ l. Contains l offered.block.end) (sym ends)
-              (Contains-append_left (sealed_end first.sealed end) (sealed_ends end full)
-              offered.block.end
-              (subst (Contains (sealed_end first.sealed end)) (sym block_end)
-              (end_there first.sealed end sealed))))
-        ];
-        apart = λ n there. elim (Contains-append_cases (sealed_end first.sealed end)
-            (sealed_ends end full) n (subst (λ l. Contains l n) ends there)) [
-              | inl here ↦ omega (arith, block_end, end_only first.sealed end n here)
-              | inr later ↦ omega (
-                arith,
-                block_end,
-                ends_above end full w.last.records n all.3 later,
-              )
-            ];
+        most = subst (λ (e : ℕ). (r : Record) (behind : List Record) →
+            in_full full ++ w.last.records ≡ r ∷ behind →
+            (65535 < length (spelling first.draft.records) + length (spelled r))
+            ⊎ Contains (freezes w) e) (sym block_end) next.most;
+        apart = λ n there. omega (arith, block_end, next.apart n there);
         ends = offered.end;
         commits = offered.place;
       },
@@ -414,11 +457,6 @@ last_over w after sends full last none some left empty offered =
         l ≡ r ∷ behind → A
     cons_none [] r behind a b = cc
     cons_none (x ∷ l) r behind a b = cc
-
-    no_freeze : {A : Type 0} (from : ℕ) (bs : List Filled) (n : ℕ) → bs ≡ [] →
-        Contains (sealed_ends from bs) n → A
-    no_freeze from bs n is there = let below =
-        (subst (λ l. Contains (sealed_ends from l) n) is there).1 in absurd (omega arith)
 
 -- The first block commits no more than all of them.
 pub first_places : (all full : List Filled) (first : Filled) (last : List Record) →

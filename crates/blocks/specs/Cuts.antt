@@ -7,6 +7,7 @@ use Rattle.record_format.specs.declared.record.Record.{Record}
 use Rattle.record_format.specs.Acts.{places}
 use Rattle.record_format.specs.Records.{spelled, spelling}
 use Rattle.blocks.specs.declared.block.Block.{Block}
+use Rattle.blocks.specs.declared.draft.NextBlock.{NextBlock}
 
 -- The first of the records, as many as fit and as come before the next freeze, are handed over as
 -- one block, and rest is left.
@@ -23,6 +24,27 @@ pub record HandsOver (pending : List Record) (freezes : List ℕ) (end place : �
   pub apart : (f : ℕ) → Contains freezes f → block.end ≤ f
   pub ends : block.end ≡ end + length first
   pub commits : block.place ≡ place + places first
+
+-- The block that is handed over next has so many of the first records: as many as fit and as come
+-- before the next freeze. So many bytes spell them.
+pub record IsNextBlock (pending : List Record) (freezes : List ℕ) (end : ℕ) (next : NextBlock) : Type
+    0 where
+  pub first : List Record
+  pub rest : List Record
+  pub are : pending ≡ first ++ rest
+  pub records : next.records ≡ length first
+  pub some : 0 < next.records
+  pub body : next.body ≡ length (spelling first)
+  pub short : next.body ≤ 65535
+  -- the next one would not have fitted, or a freeze stands between
+  pub most : (r : Record) (behind : List Record) → rest ≡ r ∷ behind →
+      (65535 < next.body + length (spelled r)) ⊎ Contains freezes (end + next.records)
+  -- no record of it comes from behind a freeze
+  pub apart : (f : ℕ) → Contains freezes f → end + next.records ≤ f
+  -- whichever block is handed over next has these records, behind its head and with a gate behind
+  pub handed : (place : ℕ) (block : Block) (behind : List Record) →
+      HandsOver pending freezes end place block behind →
+      (block.end ≡ end + next.records) × (length block.bytes.items ≡ next.body + 6)
 
 -- What a cut answers of the records that are pending, of the freezes that stood between them, and
 -- of how many were handed over before: one block is sent, and the freezes behind its end are left;

@@ -27,6 +27,14 @@ pub struct Handed {
     pub place: u64,
 }
 
+/// The block that `Pending::cut` hands over next: so many records, whose spelling, the block's body,
+/// has so many bytes. The block's head and the gate behind it are not counted.
+#[derive(Clone, Copy)]
+pub struct NextBlock {
+    pub records: u64,
+    pub body: u64,
+}
+
 /// Records spelled one behind another, into the block in which they will be handed over.
 pub(crate) struct Draft {
     bytes: Vec<u8>,
@@ -148,6 +156,17 @@ impl Draft {
         ensures { result ≡ length self.now.records }
     {
         self.count
+    }
+
+    // How many records they are, and how many bytes they take.
+    pub(crate) fn size(&self) -> NextBlock
+        ensures records { result.records ≡ length self.now.records }
+        ensures body { result.body ≡ length (spelling self.now.records) }
+    {
+        NextBlock {
+            records: self.count() as u64,
+            body: self.len() as u64,
+        }
     }
 
     // The records as one whole block. It takes no memory.

@@ -8,6 +8,6 @@ mod packing;
 mod pending;
 
 pub use block::{Block, Image, Outbox};
-pub use draft::Handed;
+pub use draft::{Handed, NextBlock};
 pub use packing::Packer;
 pub use pending::Pending;

@@ -1,14 +1,14 @@
 // The records that wait for a block.
 ghost use Rattle.std.specs.Prelude.{◌≡◌, ℕ, ◌+◌, ◌<◌, ◌≤◌, ◌^◌, ◌⊎◌, [], ◌∷◌, ◌++◌, ◌↔◌, IsTrue};
-ghost use Rattle.std.specs.Prelude.{length, Contains, OnOk, OnErr, IfSome, IsOk, IsOkUnless};
+ghost use Rattle.std.specs.Prelude.{length, Contains, OnOk, OnErr, IfSome, IsNone, IsOk, IsOkUnless};
 ghost use Rattle.record_format.specs.Acts.{places};
 ghost use Rattle.calls.specs.Rules.{Askable};
 ghost use Rattle.record_format.specs.Records.{record_of_call, spelled, Fits, FitsCall, FitsReply};
 ghost use Rattle.blocks.specs.Waits.{waiting, freezes, Suits, HasRoomFor, HasBlockRoom};
-ghost use Rattle.blocks.specs.Cuts.{CutsOff};
+ghost use Rattle.blocks.specs.Cuts.{CutsOff, IsNextBlock};
 
 use crate::block::Outbox;
-use crate::draft::{Draft, Handed};
+use crate::draft::{Draft, Handed, NextBlock};
 use calls::limits::MAX_BODY;
 use calls::{Call, Refusal, Reply};
 use record_format::{Record, call_len, encoded_len};
@@ -193,6 +193,22 @@ impl Pending {
         ensures { result ≡ self.now.handed.end + length (waiting self.now) }
     {
         self.handed.end + self.count as u64
+    }
+
+    /// The block that `cut` hands over next: how many records it has, and how many bytes spell them.
+    /// None where no record waits. It takes no memory.
+    pub fn next_block(&self) -> Option<NextBlock>
+        ensures none { IsNone result ↔ (waiting self.now ≡ []) }
+        ensures next { IfSome result (IsNextBlock (waiting self.now) (freezes self.now)
+            self.now.handed.end) }
+    {
+        if let Some(first) = self.full.front() {
+            return Some(first.draft.size());
+        }
+        if self.last.is_empty() {
+            return None;
+        }
+        Some(self.last.size())
     }
 
     /// Makes room for a block more, so that `seal` is not refused.

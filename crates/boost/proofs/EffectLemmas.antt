@@ -213,6 +213,7 @@ play_undone task script same (Err (Failure.Refused refusal)) is why = λ it. why
 play_undone task script same (Err (Failure.NotUnderstood line)) is why = (is, why.0, why.1)
 play_undone task script same (Err Failure.Unwritten) is why = tt
 play_undone task script same (Err (Failure.CannotOpen path error)) is why = absurd why
+play_undone task script same (Err (Failure.InUse path)) is why = absurd why
 
 -- a play ends with status 1 only where its script is understood, or nothing was touched
 pub refused_one : (task : Task) (script : List ℕ) (same : Type 0) (f : Failure) →
@@ -224,6 +225,7 @@ refused_one task script same (Failure.Refused refusal) one why is = elim (why is
 refused_one task script same (Failure.NotUnderstood line) one why is = absurd (omega (arith, one))
 refused_one task script same (Failure.CannotOpen path error) one why is =
     absurd (omega (arith, one))
+refused_one task script same (Failure.InUse path) one why is = absurd (omega (arith, one))
 refused_one task script same Failure.Unwritten one why is = absurd (omega (arith, one))
 
 -- the stored run's lines were played, whatever is shown behind them

@@ -16,6 +16,7 @@ abbrev pub status_of : Failure → ℕ
 status_of (Failure.Refused refusal) = 1
 status_of (Failure.NotUnderstood line) = 3
 status_of (Failure.CannotOpen path error) = 4
+status_of (Failure.InUse path) = 4
 status_of Failure.Unwritten = 4
 
 -- each line of the script says something, or is passed over
@@ -41,6 +42,7 @@ IsWhyUnplayed script same (Failure.NotUnderstood line) =
 IsWhyUnplayed script same (Failure.Refused refusal) = MayRefuse script same refusal
 IsWhyUnplayed script same Failure.Unwritten = Unit {0}
 IsWhyUnplayed script same (Failure.CannotOpen path error) = ⊥
+IsWhyUnplayed script same (Failure.InUse path) = ⊥
 
 -- why a command was not done: only a play fails by its script
 abbrev pub IsWhyUndone : Task → List ℕ → Type 0 → Failure → Type 0
@@ -50,6 +52,7 @@ IsWhyUndone task script same (Failure.Refused refusal) =
     IsPlay task → MayRefuse script same refusal
 IsWhyUndone task script same Failure.Unwritten = Unit {0}
 IsWhyUndone task script same (Failure.CannotOpen path error) = ⊥
+IsWhyUndone task script same (Failure.InUse path) = ⊥
 
 -- The script's line of this number is the first that is not understood.
 abbrev pub IsNotUnderstoodAt : List ℕ → ℕ → Type 0

@@ -5,11 +5,12 @@ ghost use Rattle.calls.specs.declared.refusal.Refusal.{Refusal};
 
 use crate::session::Session;
 use crate::transcript::Transcript;
-use background::{Signal, Work};
+use background::Work;
 use calls::Refusal;
 use crossbeam_channel::{Receiver, Sender, unbounded};
 use script::{Action, Line};
 use std::alloc::{AllocGlobal, Global};
+use std::rt::Clock;
 use std::sync::Wait;
 use store::{Client, Naming};
 
@@ -56,18 +57,17 @@ impl Work for Script<'_> {
     /// Runs the lines of a client (`Session::run`), and sends what it was told.
     ///
     /// NoMemory where the answers, or the channel, take more than there is.
-    fn work<J: Naming, R: Wait + AllocGlobal>(
+    fn work<J: Naming, R: Wait + Clock + AllocGlobal>(
         &self,
         rt: &R,
         client: &mut Client<'_, J>,
-        signal: &Signal,
         thread: usize,
     ) -> Result<(), Refusal> {
         let Some(number) = self.clients.get(thread) else {
             return Ok(());
         };
         let mut session = Session::new(client);
-        let transcript = session.run(rt, rt.alloc(), *number, self.lines, signal)?;
+        let transcript = session.run(rt, rt.alloc(), *number, self.lines)?;
         match self.sender.send(rt, transcript) {
             Ok(()) => Ok(()),
             Err(_) => Err(Refusal::NoMemory),

@@ -1,5 +1,5 @@
 // Serving a script: each of its clients runs in a thread of its own.
-ghost use Rattle.std.specs.Prelude.{◌≡◌, ◌⊎◌, ℕ, OnOk, IfErr};
+ghost use Rattle.std.specs.Prelude.{◌≡◌, ◌⊎◌, ℕ, OnOk, IfErr, None, false};
 ghost use Rattle.boost.specs.declared.commands.failure.Failure.{Failure};
 ghost use Rattle.boost.specs.Commands.{IsUnderstood, IsOfStore, IsWhyUnplayed, IsNotUnderstoodAt};
 ghost use Rattle.background.specs.Works.{IsLeftByWork};
@@ -7,13 +7,15 @@ ghost use Rattle.background.specs.Works.{IsLeftByWork};
 use crate::commands::{Failure, report};
 use crate::script_work::{Script, collect};
 use crate::transcript::Transcript;
-use background::{all_ended, run};
+use background::{Closed, all_ended, run};
 use calls::Refusal;
 use crossbeam_channel::Receiver;
 use disk_model::Disk;
+use player::Said;
 use script::{Line, parse};
 use std::alloc::{AllocGlobal, Global};
 use std::io::{BufWriter, Write};
+use std::rt::Clock;
 use std::sync::Wait;
 use std::thread::Threads;
 
@@ -30,10 +32,14 @@ use std::thread::Threads;
 /// run and for which the store is not opened; 1 for a refusal that answers no line, where the store
 /// is not opened, or a thread or memory is wanting; and 4, with no text, where output could not be
 /// written. What a disk's fault, or a full one, takes from a client its own lines say.
-pub fn serve<D: Disk + Drop + Send, R: Threads + Wait + AllocGlobal + Sync>(
+///
+/// Where `why` is set and keeping ended early, so that tickets are lost, a line of `err` says what
+/// ended it, whatever the status is.
+pub fn serve<D: Disk + Drop + Send, R: Threads + Wait + Clock + AllocGlobal + Sync>(
     rt: &R,
     disk: D,
     script: &[u8],
+    why: bool,
     out: &mut impl Write,
     err: &mut impl Write,
 ) -> (u8, D)
@@ -43,24 +49,47 @@ pub fn serve<D: Disk + Drop + Send, R: Threads + Wait + AllocGlobal + Sync>(
     ensures untouched { result.0 ≡ 3 → result.1 ≡ disk }
     ensures refused { result.0 ≡ 1 → IsUnderstood script.now ⊎ (result.1 ≡ disk) }
     ensures left { IsLeftByWork ⟦<D as Disk>⟧ disk result.1 0 }
-    ensures silent { (result.0 ≡ 0) ⊎ (result.0 ≡ 4) → err.new ≡ err.old }
+    ensures silent { why ≡ false → (result.0 ≡ 0) ⊎ (result.0 ≡ 4) → err.new ≡ err.old }
 {
     match serve_script(rt, disk, script, out) {
-        (Ok(()), disk) => (0, disk),
-        (Err(failure), disk) => (report(&failure, err), disk),
+        (Ok(()), closed) => (0, disk_told(closed, why, err)),
+        (Err(failure), closed) => (report(&failure, err), disk_told(closed, why, err)),
+    }
+}
+
+// The disk of a store that was closed. What ended keeping early is told, where that is asked.
+fn disk_told<D: Drop>(closed: Closed<D>, why: bool, err: &mut impl Write) -> D
+    ensures disk { result ≡ closed.disk }
+    ensures silent { (why ≡ false) ⊎ (closed.ended_by ≡ None) → err.new ≡ err.old }
+{
+    let Closed { disk, ended_by, .. } = closed;
+    if why {
+        tell_end(ended_by, err);
+    }
+    disk
+}
+
+// Writes a line that says what ended keeping early, if something did. Where the line cannot be
+// written, that changes nothing.
+fn tell_end(ended_by: Option<Refusal>, err: &mut impl Write)
+    ensures { ended_by ≡ None → err.new ≡ err.old }
+{
+    if let Some(refusal) = ended_by {
+        let _written = writeln!(err, "boost: keeping ended: {}", Said::Refused(refusal));
+        let _flushed = err.flush();
     }
 }
 
 // Serves a script on the store of a disk.
-fn serve_script<D: Disk + Drop + Send, R: Threads + Wait + AllocGlobal + Sync>(
+fn serve_script<D: Disk + Drop + Send, R: Threads + Wait + Clock + AllocGlobal + Sync>(
     rt: &R,
     disk: D,
     script: &[u8],
     out: &mut impl Write,
-) -> (Result<(), Failure<'static>>, D)
+) -> (Result<(), Failure<'static>>, Closed<D>)
     ensures understood { OnOk result.0 (IsUnderstood script.now) }
-    ensures why { IfErr result.0 (IsWhyUnplayed script.now (result.1 ≡ disk)) }
-    ensures left { IsLeftByWork ⟦<D as Disk>⟧ disk result.1 0 }
+    ensures why { IfErr result.0 (IsWhyUnplayed script.now (result.1.disk ≡ disk)) }
+    ensures left { IsLeftByWork ⟦<D as Disk>⟧ disk result.1.disk 0 }
 {
     match parse(rt.alloc(), script) {
         Ok(lines) => serve_lines(rt, disk, lines.as_slice(), out),
@@ -69,31 +98,35 @@ fn serve_script<D: Disk + Drop + Send, R: Threads + Wait + AllocGlobal + Sync>(
 }
 
 // Serves lines on the store of a disk.
-fn serve_lines<D: Disk + Drop + Send, R: Threads + Wait + AllocGlobal + Sync>(
+fn serve_lines<D: Disk + Drop + Send, R: Threads + Wait + Clock + AllocGlobal + Sync>(
     rt: &R,
     disk: D,
     lines: &[Line],
     out: &mut impl Write,
-) -> (Result<(), Failure<'static>>, D)
+) -> (Result<(), Failure<'static>>, Closed<D>)
     ensures why { IfErr result.0 IsOfStore }
-    ensures left { IsLeftByWork ⟦<D as Disk>⟧ disk result.1 0 }
+    ensures left { IsLeftByWork ⟦<D as Disk>⟧ disk result.1.disk 0 }
 {
     match Script::new(rt.alloc(), lines) {
         Ok((script, receiver)) => {
             let (ended, closed) = run(rt, disk, &script, script.threads());
             drop(script);
-            (print(rt, ended, receiver, out), closed.disk)
+            (print(rt, ended, receiver, out), closed)
         }
         Err(refusal) => (Err(Failure::Refused(refusal)), untouched(disk)),
     }
 }
 
-// The disk, of which a stop leaves the content, as nobody touched it.
-fn untouched<D: Disk>(disk: D) -> D
-    ensures same { result ≡ disk }
-    ensures left { IsLeftByWork ⟦<D as Disk>⟧ disk result 0 }
+// A disk whose store was not opened. A stop leaves the content, as nobody touched it.
+fn untouched<D: Disk>(disk: D) -> Closed<D>
+    ensures same { result.disk ≡ disk }
+    ensures left { IsLeftByWork ⟦<D as Disk>⟧ disk result.disk 0 }
 {
-    disk
+    Closed {
+        disk,
+        kept: 0,
+        ended_by: None,
+    }
 }
 
 // Prints what the clients were told, and answers whether each of them told it.

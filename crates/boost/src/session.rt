@@ -9,7 +9,6 @@ ghost use Rattle.boost.specs.Sessions.{Commits, Looks, Obeys, Answers, CarriesOu
 ghost use Rattle.boost.specs.Sessions.{ticket_after, IsRun, Says, Notes};
 
 use crate::transcript::{Answer, End, Transcript};
-use background::Signal;
 use calls::{Call, Kind, Name, Refusal, Reply};
 use player::{Said, said_of};
 use script::{Action, Line, Operation, Request};
@@ -46,8 +45,7 @@ impl<'c, 's, J: Naming> Session<'c, 's, J> {
     }
 
     /// Runs the lines that are requests of the client of this number, one after another, then waits
-    /// for its last ticket, and answers what it was told. Behind each commit or making it wakes the
-    /// committer.
+    /// for its last ticket, and answers what it was told.
     ///
     /// NoMemory where the answers take more than there is: then the lines behind are not run.
     pub fn run<R: Wait>(
@@ -56,12 +54,11 @@ impl<'c, 's, J: Naming> Session<'c, 's, J> {
         alloc: Global,
         client: u8,
         lines: &[Line],
-        signal: &Signal,
     ) -> Result<Transcript, Refusal>
         ensures run { IfOk result (IsRun ⟦<J as Naming>⟧ client self.old lines.now self.new) }
         ensures refused { IsOkUnless result Refusal.NoMemory }
     {
-        let answers = self.carry_out(rt, alloc, client, lines, signal)?;
+        let answers = self.carry_out(rt, alloc, client, lines)?;
         let end = self.end(rt);
         Ok(Transcript {
             client,
@@ -77,7 +74,6 @@ impl<'c, 's, J: Naming> Session<'c, 's, J> {
         alloc: Global,
         client: u8,
         lines: &[Line],
-        signal: &Signal,
     ) -> Result<Vec<Answer>, Refusal>
         ensures carried { IfOk result (λ answers.
             CarriesOut ⟦<J as Naming>⟧ client self.old lines.now answers.items self.new) }
@@ -85,7 +81,7 @@ impl<'c, 's, J: Naming> Session<'c, 's, J> {
     {
         let mut answers = Vec::new(alloc);
         for line in lines {
-            self.note(rt, client, line, signal, &mut answers)?;
+            self.note(rt, client, line, &mut answers)?;
         }
         Ok(answers)
     }
@@ -96,36 +92,27 @@ impl<'c, 's, J: Naming> Session<'c, 's, J> {
         rt: &R,
         client: u8,
         line: &Line,
-        signal: &Signal,
         answers: &mut Vec<Answer>,
     ) -> Result<(), Refusal>
         ensures noted { OnOk result (Notes ⟦<J as Naming>⟧ client self.old line.now
             answers.old.items answers.new.items self.new) }
         ensures refused { IsOkUnless result Refusal.NoMemory }
     {
-        match self.answer(rt, client, line, signal) {
+        match self.answer(rt, client, line) {
             Some(answer) => Ok(answers.push(answer)?),
             None => Ok(()),
         }
     }
 
     // What a line answers the client of this number, if it is one of its requests.
-    fn answer<R: Wait>(
-        &mut self,
-        rt: &R,
-        client: u8,
-        line: &Line,
-        signal: &Signal,
-    ) -> Option<Answer>
+    fn answer<R: Wait>(&mut self, rt: &R, client: u8, line: &Line) -> Option<Answer>
         ensures { Answers ⟦<J as Naming>⟧ client self.old line.now result self.new }
     {
         match &line.what {
             Action::Client(number, request) if *number == client => {
-                let said = self.say(rt, request);
-                wake_behind(&said, signal);
                 Some(Answer {
                     number: line.number,
-                    said,
+                    said: self.say(rt, request),
                 })
             }
             _ => None,
@@ -133,7 +120,7 @@ impl<'c, 's, J: Naming> Session<'c, 's, J> {
     }
 
     /// Carries a request out, and says what it is answered: a refusal of the store too. It waits
-    /// for the book's lock alone. It wakes no committer.
+    /// for the book's lock alone.
     pub fn say<R: Wait>(&mut self, rt: &R, request: &Request) -> Said
         ensures { Says ⟦<J as Naming>⟧ self.old request.now result self.new }
     {
@@ -262,13 +249,6 @@ impl<'c, 's, J: Naming> Session<'c, 's, J> {
             Ok(()) => End::Kept,
             Err(_) => End::Lost,
         }
-    }
-}
-
-// Wakes the committer where something was committed or made.
-fn wake_behind(said: &Said, signal: &Signal) {
-    if matches!(said, Said::Placed(_)) {
-        signal.wake();
     }
 }
 

@@ -8,7 +8,7 @@ use std::alloc::{AllocError, Global};
 use std::fs::File;
 use std::io::Write;
 use std::process::ExitCode;
-use std::rt::{Env, Files};
+use std::rt::{Clock, Env, Files};
 use std::sync::Wait;
 use std::thread::Threads;
 use std::{env, io};
@@ -19,7 +19,7 @@ fn read_words(alloc: Global, args: &Vec<String>) -> Result<Vec<&str>, AllocError
 }
 
 // Reads the command line and obeys it. Answers the status.
-fn start<R: Env + Files<File = File> + Threads + Wait + AllocGlobal + Sync>(
+fn start<R: Env + Files<File = File> + Threads + Wait + Clock + AllocGlobal + Sync>(
     rt: &R,
     out: &mut impl Write,
     err: &mut impl Write,

@@ -5,9 +5,9 @@
 // share COUNT transactions and begin none after SECONDS; the store's file lies in the folder DIR.
 // The workloads are those of `Workload`.
 //
-// The workloads whose names have `beside-images` in them take checkpoints in a thread of their own
-// for as long as the clients run, and tell how many: an image of a map each, which the store is
-// filled with before.
+// In the workloads whose names have `beside-images` in them the store has maps, which it is filled
+// with before, on areas with little room behind an image of them. So checkpoints are taken again
+// and again. How many were is told of each workload.
 //
 // `book WORKLOAD OTHERS COUNT SIZE DIR` measures a book by itself, on one thread and without a
 // disk: COUNT transactions on a collection of SIZE entries, beside OTHERS live transactions of
@@ -20,9 +20,9 @@ mod book_cost;
 mod calling;
 mod checking;
 mod committing;
+mod counting_disk;
 mod counts;
 mod filing;
-mod imaging;
 mod log;
 mod measuring;
 mod options;

@@ -8,25 +8,39 @@ use command_line::obey;
 use disk_model::{FileDisk, Unknown};
 use std::fs::{self, File};
 use std::io::{self, Seek, SeekFrom, Write};
-use std::rt::Files;
+use std::rt::{Clock, Files};
 use std::sync::Wait;
 use std::thread::Threads;
 
 /// Tells what the program answers to a command line.
 pub fn run_program(
-    rt: &(impl Files<File = File> + Threads + Wait + AllocGlobal + Sync),
+    rt: &(impl Files<File = File> + Threads + Wait + Clock + AllocGlobal + Sync),
+    bench: &mut Workbench,
     line: &str,
     told: &mut Told,
 ) -> io::Result<()> {
     let words = words(rt.alloc(), line)?;
     let ran = obeyed(rt, words.as_slice());
-    ran.tell(usize::MAX, told);
+    ran.tell(bench.take_last(), told);
     Ok(())
+}
+
+/// Tells what the program answers to a command line while another run has a file.
+pub fn run_beside(
+    rt: &(impl Files<File = File> + Threads + Wait + Clock + AllocGlobal + Sync),
+    bench: &mut Workbench,
+    line: &str,
+    told: &mut Told,
+) -> io::Result<()> {
+    let (path, words) = pair(line, " ")?;
+    let file = File::open(rt, path)?;
+    file.try_lock()?;
+    run_program(rt, bench, words, told)
 }
 
 // What the program answers to the words of a command line.
 fn obeyed(
-    rt: &(impl Files<File = File> + Threads + Wait + AllocGlobal + Sync),
+    rt: &(impl Files<File = File> + Threads + Wait + Clock + AllocGlobal + Sync),
     words: &[&str],
 ) -> Ran {
     let (mut out, mut err) = (Vec::new(rt.alloc()), Vec::new(rt.alloc()));

@@ -33,8 +33,10 @@ fn ask_of_threads(
     told: &mut Told,
 ) -> io::Result<()> {
     match word {
-        "boost" => files::run_program(rt, rest, told),
+        "boost" => files::run_program(rt, bench, rest, told),
+        "beside" => files::run_beside(rt, bench, rest, told),
         "serve" => runs::serve(rt, bench, told),
+        "serve_ends" => runs::serve_ends(rt, bench, told),
         "second_call_during_sync" => {
             second_call_during_sync::run(rt, told);
             Ok(())

@@ -8,6 +8,7 @@ use boost::{Task, command, run};
 use disk_model::MemDisk;
 use std::alloc::{AllocError, Global};
 use std::io::{self, ErrorKind, Write};
+use std::rt::Clock;
 use std::sync::Wait;
 use std::thread::Threads;
 
@@ -26,20 +27,40 @@ pub fn play_shared(
     Ok(())
 }
 
-/// Serves the script that was written: each of its clients runs in a thread of its own.
-pub fn serve(
-    rt: &(impl Threads + Wait + AllocGlobal + Sync),
+// Serves the script that was written: each of its clients runs in a thread of its own.
+fn served(
+    rt: &(impl Threads + Wait + Clock + AllocGlobal + Sync),
     bench: &mut Workbench,
-    told: &mut Told,
-) -> io::Result<()> {
+) -> io::Result<Ran> {
     let alloc = rt.alloc();
     let disk = bench.take_disk(alloc)?;
     let script = bench.take_script(alloc);
     let (mut out, mut err) = (Vec::new(alloc), Vec::new(alloc));
-    let (status, disk) = boost::serve(rt, disk, script.as_slice(), &mut out, &mut err);
+    let (status, disk) = boost::serve(rt, disk, script.as_slice(), false, &mut out, &mut err);
     bench.put_back(disk);
-    let ran = Ran { status, out, err };
+    Ok(Ran { status, out, err })
+}
+
+/// Serves the script that was written, and tells what that answered.
+pub fn serve(
+    rt: &(impl Threads + Wait + Clock + AllocGlobal + Sync),
+    bench: &mut Workbench,
+    told: &mut Told,
+) -> io::Result<()> {
+    let ran = served(rt, bench)?;
     ran.tell(bench.take_last(), told);
+    Ok(())
+}
+
+/// Serves the script that was written, and tells of what that answered the lines alone that are the
+/// same whatever the schedule: each client with its end, and what was refused Backlog, which is
+/// nothing.
+pub fn serve_ends(
+    rt: &(impl Threads + Wait + Clock + AllocGlobal + Sync),
+    bench: &mut Workbench,
+    told: &mut Told,
+) -> io::Result<()> {
+    served(rt, bench)?.tell_ends(told);
     Ok(())
 }
 

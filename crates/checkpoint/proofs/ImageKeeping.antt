@@ -27,6 +27,7 @@ use Rattle.checkpoint.specs.declared.stage.Ending.{Ending}
 use Rattle.checkpoint.specs.declared.stage.Stage.{Stage}
 use Rattle.checkpoint.specs.Imaging.{IsOther, IsBeingLaid, IsRooted, LeavesRoot, PicksWhole}
 use Rattle.checkpoint.specs.Imaging.{IsSameImage, IsAwaited, EndsThere, left_of, bodies_of}
+use Rattle.checkpoint.specs.Imaging.{given_up}
 use Rattle.checkpoint.specs.ImageAnswers.{IsStarted, HoldAnswers, BeginAnswers, PieceAnswers}
 use Rattle.checkpoint.specs.ImageAnswers.{FlipAnswers}
 use Rattle.checkpoint.specs.Keepers.{KeeperState, IsKeeper, IsOneOfTwo}
@@ -536,6 +537,19 @@ module _ {D : Type 0} (seen : D → List ℕ) (may_leave : D → List ℕ → Ty
 
 -- ---- what the calls answer and leave
 
+-- no image is being written any more: one that was awaited is given up
+pub stopped_keeps : {D : Type 0} (g : Ghosts D) (k : KeeperState D) →
+    ((c : List ℕ) → g.left_since k.disk (g.moment k.disk) c → g.may_leave k.disk c) →
+    ImageKeeps g k (record k { stage = Stage.Idle })
+stopped_keeps g k only_now start wear records now freezes images received had = (
+  on_disk g.seen g.may_leave start wear records now freezes images received k had k.disk k.failed
+      Stage.Idle had.stop had.in_use (λ fine e is. idle_awaited e _ is)
+      (λ fine v is. idle_laid v _ is),
+  still_kept g.seen g.may_leave start wear records now freezes images received k had g.moment
+      g.left_since
+      only_now,
+)
+
 module _ {D : Type 0} (g : Ghosts D) (k l : KeeperState D)
     (only_now : (c : List ℕ) → g.left_since k.disk (g.moment k.disk) c → g.may_leave k.disk c)
     (counts_now : (t : ℕ) (c : List ℕ) → t ≤ g.moment l.disk → g.may_leave l.disk c →
@@ -594,12 +608,8 @@ module _ {D : Type 0} (g : Ghosts D) (k l : KeeperState D)
             still,
           )
       begun_or (Err Refusal.Failed) a = subst (Both images) (sym a.1) (had, still)
-      begun_or (Err Refusal.Full) a = subst (Both images) (sym a.3) (
-        on_disk g.seen g.may_leave start wear records now freezes images received k had k.disk
-            k.failed Stage.Idle had.stop had.in_use (λ fine e is. idle_awaited e _ is)
-            (λ fine v is. idle_laid v _ is),
-        still,
-      )
+      begun_or (Err Refusal.Full) a = subst (Both images) (sym a.3)
+          (stopped_keeps g k only_now start wear records now freezes images received had)
       begun_or (Err e) a = subst (Both images) (sym a.2) (had, still)
 
   module _ (start : List Collection) (wear : ℕ) (records : List Record) (now : State)
@@ -826,3 +836,16 @@ image_still g k only_now start wear records now freezes images received had = (
       g.left_since
       only_now,
 )
+
+-- an image that is awaited is given up, if one is
+pub give_up_keeps : {D : Type 0} (g : Ghosts D) (k : KeeperState D) →
+    ((c : List ℕ) → g.left_since k.disk (g.moment k.disk) c → g.may_leave k.disk c) →
+    (stage : Stage) → stage ≡ given_up k.stage → ImageKeeps g k (record k { stage = stage })
+give_up_keeps g k only_now stage is =
+    subst (λ s. ImageKeeps g k (record k { stage = s })) (sym is) (given k.stage refl)
+  where
+    given : (s : Stage) → k.stage ≡ s → ImageKeeps g k (record k { stage = given_up s })
+    given (Stage.Laid w) laid = subst (λ s. ImageKeeps g k (record k { stage = s })) laid
+        (image_still g k only_now)
+    given (Stage.Awaited e) awaited = stopped_keeps g k only_now
+    given Stage.Idle idle = stopped_keeps g k only_now

@@ -10,7 +10,7 @@ ghost use Rattle.checkpoint.specs.declared.laying.Laying.{Laying};
 ghost use Rattle.checkpoint.specs.declared.stage.Stage.{Stage};
 ghost use Rattle.checkpoint.specs.Imaging.{IsLaidBeside, HasPiece, IsBeingLaid};
 ghost use Rattle.checkpoint.specs.Imaging.{IsRooted, LeavesRoot, PicksWhole, bodies_of, left_of};
-ghost use Rattle.checkpoint.specs.Imaging.{pieces_left};
+ghost use Rattle.checkpoint.specs.Imaging.{pieces_left, end_of, given_up};
 ghost use Rattle.gate_block.specs.Layout.{base_in_use};
 ghost use Rattle.checkpoint.specs.Keepers.{KeeperState, IsOneOfTwo, IsPast, OnKept, IsBrought};
 ghost use Rattle.checkpoint.specs.Keepers.{AppendAnswers, BringAnswers, TurnAnswers};
@@ -133,6 +133,21 @@ impl<D: Disk> Keeper<D> {
             Stage::Laid(laying) => Some(laying.image.blocks.len() as u64),
             Stage::Idle | Stage::Awaited(_) => None,
         }
+    }
+
+    /// The area in use.
+    pub fn area(&self) -> &Area
+        ensures { result.now ≡ self.now.area }
+    {
+        &self.area
+    }
+
+    /// The end of the image that is being written: the one that is held, or the image's. None where
+    /// none is being written.
+    pub fn image_end(&self) -> Option<u64>
+        ensures { result ≡ end_of self.now.stage }
+    {
+        self.stage.end()
     }
 
     // Appends a block to the area in use.
@@ -311,6 +326,18 @@ impl<D: Disk> Keeper<D> {
         }
         self.stage = Stage::Awaited(Ending { end, place });
         Ok(())
+    }
+
+    /// Gives up an image that is awaited and is not here yet: its end is no longer held, and no image
+    /// is being written. Where none is awaited, nothing changes. No device is called.
+    ///
+    /// A block that was held as it ends past the image stays held, and the next turn brings it.
+    pub fn give_up(&mut self)
+        ensures answer { self.new ≡ record self.old { stage = given_up self.old.stage } }
+        // What was received stays received, and a stop leaves what it left before.
+        ensures crash { ImageKeeps ⟦<D as Disk>⟧ self.old self.new }
+    {
+        self.stage.give_up();
     }
 
     /// Begins to write the image that is awaited, which has a block, into the area that is not in

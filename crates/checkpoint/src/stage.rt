@@ -1,6 +1,6 @@
 // How far the keeper is with an image.
 ghost use Rattle.std.specs.Prelude.{◌≡◌, ◌↔◌, [], IsTrue, IfSome, IfNone};
-ghost use Rattle.checkpoint.specs.Imaging.{EndsThere, IsWritten, left_of};
+ghost use Rattle.checkpoint.specs.Imaging.{EndsThere, IsWritten, left_of, end_of, given_up};
 ghost use Rattle.checkpoint.specs.Keepers.{IsPast};
 ghost use Rattle.checkpoint.specs.ImageAnswers.{AskAnswers};
 
@@ -47,6 +47,17 @@ impl Stage {
         }
     }
 
+    /// The end of the image that is being written. None where none is.
+    pub fn end(&self) -> Option<u64>
+        ensures { result ≡ end_of self.now }
+    {
+        match self {
+            Stage::Idle => None,
+            Stage::Awaited(ending) => Some(ending.end),
+            Stage::Laid(laying) => Some(laying.image.end),
+        }
+    }
+
     /// Whether a block that ends there is past the image that is being written.
     pub fn is_past(&self, end: u64) -> bool
         ensures { IsTrue result ↔ IsPast self.now end }
@@ -68,6 +79,15 @@ impl Stage {
             Stage::Laid(_) => Err(Refusal::Imaging),
             Stage::Awaited(ending) if ending.is_of(image) => Ok(()),
             Stage::Awaited(_) => Err(Refusal::BadArg),
+        }
+    }
+
+    /// Gives up an image that is awaited, so that none is being written. Else nothing changes.
+    pub fn give_up(&mut self)
+        ensures { self.new ≡ given_up self.old }
+    {
+        if let Stage::Awaited(_) = self {
+            *self = Stage::Idle;
         }
     }
 

@@ -26,6 +26,9 @@ use group_commit::{ClientSeat, Drawer, Watcher};
 use std::marker::Model;
 use std::sync::Wait;
 
+// How often a client that waits looks at most before it sleeps.
+const MOST_LOOKS: u64 = 4096;
+
 /// A client of a store, which one thread has at a time. It has one transaction, or none. Contracts
 /// see what it knows.
 pub struct Client<'s, J: Naming> {
@@ -191,8 +194,8 @@ impl<'s, J: Naming> Client<'s, J> {
 
     /// Commits the client's transaction, and gives its ticket. What was put off runs now, and the
     /// locks go. It is in effect for all at once, and kept through a stop a moment later: `kept`
-    /// and `wait` tell. Call it only of a client with a transaction. It takes the book's lock once,
-    /// and calls no device.
+    /// and `wait` tell. It wakes the store's committer. Call it only of a client with a
+    /// transaction. It takes the book's lock once, and calls no device.
     ///
     /// Falling where an abort was begun, Backlog, NoMemory. Of a transaction without a call also
     /// TooManyLive and Worn. The transaction stays open then, and can be committed again.
@@ -304,8 +307,8 @@ impl<'s, J: Naming> Client<'s, J> {
     }
 
     /// Waits until the commit or making of the ticket is kept through a stop. Some committer has to
-    /// take turns meanwhile. The thread backs off between two looks, and may wait for ever: nothing
-    /// is claimed of how long.
+    /// take turns meanwhile. The thread backs off between two looks, then sleeps until the mark
+    /// moves, and may wait for ever: nothing is claimed of how long.
     ///
     /// Lost where keeping failed: the disk had a fault, or a committer was told to stop. The ticket
     /// may be kept all the same. Open the disk again to find out.
@@ -316,12 +319,45 @@ impl<'s, J: Naming> Client<'s, J> {
     pub fn wait<R: Wait>(&mut self, rt: &R, ticket: &Ticket) -> Result<(), Refusal>
         ensures { Waits self.old ticket.now.place result self.new }
     {
+        match self.watch(ticket) {
+            Some(done) => done,
+            None => self.sleep(rt, ticket),
+        }
+    }
+
+    // Looks again and again, until the backoff says that it is time to sleep, and as often as it
+    // pays on the disk.
+    fn watch(&mut self, ticket: &Ticket) -> Option<Result<(), Refusal>>
+        ensures some { IfSome result (λ r. Waits self.old ticket.now.place r self.new) }
+        ensures none { IfNone result ((counts : List ℕ) × (flags : List Bool) ×
+            Hears self.old counts flags self.new) }
+    {
         let backoff = Backoff::new();
+        let patience = self.shared.signal.patience();
+        for looks in 0..MOST_LOOKS {
+            match self.look(ticket) {
+                Some(done) => return Some(done),
+                None => {}
+            }
+            if looks >= patience && backoff.is_completed() {
+                return None;
+            }
+            backoff.snooze();
+        }
+        None
+    }
+
+    // Sleeps until the mark moves, and looks then, until that decides.
+    fn sleep<R: Wait>(&mut self, rt: &R, ticket: &Ticket) -> Result<(), Refusal>
+        ensures { Waits self.old ticket.now.place result self.new }
+    {
+        let shared = self.shared;
         for _ in rt.forever() {
+            let moves = shared.mark.prepare_wait();
             if let Some(done) = self.look(ticket) {
                 return done;
             }
-            backoff.snooze();
+            moves.wait(rt);
         }
         unreachable!()
     }
@@ -335,14 +371,15 @@ impl<'s, J: Naming> Client<'s, J> {
         if self.kept(ticket) {
             return Some(Ok(()));
         }
-        if self.failed() {
+        if self.has_failed() {
             return Some(Err(Refusal::Lost));
         }
         None
     }
 
-    // Loads the mark's failed flag.
-    fn failed(&mut self) -> bool
+    /// Whether keeping failed: the disk had a fault, or a committer was told to stop. Once it has,
+    /// nothing more is kept, and who waits is told Lost. It takes no memory, and waits for nobody.
+    pub fn has_failed(&mut self) -> bool
         ensures { Hears self.old [] (result ∷ []) self.new }
     {
         self.shared.mark.failed(&mut self.watcher)

@@ -1,6 +1,6 @@
 // What lies under the book's lock.
 ghost use Rattle.std.specs.Prelude.{◌≡◌, ℕ, [], ◌∷◌, ◌++◌, Option, Some, None, IfOk, IfErr};
-ghost use Rattle.std.specs.Prelude.{IsOkUnless, OnOk};
+ghost use Rattle.std.specs.Prelude.{IsOkUnless, OnOk, ◌⊎◌, ◌≤◌};
 ghost use Rattle.calls.specs.Names.{IsName};
 ghost use Rattle.calls.specs.declared.refusal.Refusal.{Refusal};
 ghost use Rattle.catalog.specs.Making.{IsPlaceOf, FindRefused, names_of};
@@ -18,7 +18,10 @@ ghost use Rattle.clients.specs.Known.{Steps};
 ghost use Rattle.clients.specs.Notes.{found_of, IsSent};
 
 use crate::naming::Naming;
+use crate::room::Room;
 use crate::shared::Shared;
+use crate::signal::Signal;
+use blocks::NextBlock;
 use calls::{Call, Kind, Refusal, Reply};
 use catalog::Catalog;
 use group_commit::{
@@ -40,6 +43,8 @@ pub struct Desk<J: Naming> {
     pub near: Near,
     maker: DrawerMaker,
     watcher: Watcher,
+    // how many records the undoing takes, at most, of what was live behind the last block
+    undoing: u64,
     of: PhantomData<J>,
 }
 
@@ -53,6 +58,7 @@ impl<J: Naming> Drop for Desk<J> {
             near,
             maker,
             watcher,
+            undoing: _undoing,
             of: _of,
         } = self;
         drop(book);
@@ -100,6 +106,7 @@ impl<J: Naming> Desk<J> {
             near,
             maker,
             watcher,
+            undoing: 0,
             of: PhantomData,
         }
     }
@@ -118,6 +125,7 @@ impl<J: Naming> Desk<J> {
         let made = self.book.make(name, kind);
         self.book.upheld();
         note::<Brand, _>(&shared.line, &mut self.seat, me, &(name, kind, &made));
+        wake(&shared.signal, &self.book, made.is_ok());
         made
     }
 
@@ -134,6 +142,7 @@ impl<J: Naming> Desk<J> {
         let entered = self.book.enter(number);
         self.book.upheld();
         note::<Brand, _>(&shared.line, &mut self.seat, me, &(number, &entered));
+        wake(&shared.signal, &self.book, false);
         entered
     }
 
@@ -159,6 +168,7 @@ impl<J: Naming> Desk<J> {
             me,
             &(number, name, &found, call, &replied),
         );
+        wake(&shared.signal, &self.book, false);
         replied
     }
 
@@ -184,6 +194,7 @@ impl<J: Naming> Desk<J> {
             me,
             &(number, name, &found, call, &put_off),
         );
+        wake(&shared.signal, &self.book, false);
         put_off
     }
 
@@ -200,6 +211,7 @@ impl<J: Naming> Desk<J> {
         let committed = self.book.commit(number);
         self.book.upheld();
         note::<Brand, _>(&shared.line, &mut self.seat, me, &(number, &committed));
+        wake(&shared.signal, &self.book, committed.is_ok());
         committed
     }
 
@@ -216,6 +228,7 @@ impl<J: Naming> Desk<J> {
         let undone = self.book.back(number);
         self.book.upheld();
         note::<Brand, _>(&shared.line, &mut self.seat, me, &(number, &undone));
+        wake(&shared.signal, &self.book, false);
         undone
     }
 
@@ -232,6 +245,7 @@ impl<J: Naming> Desk<J> {
         let ended = self.book.ended(number);
         self.book.upheld();
         note::<Brand, _>(&shared.line, &mut self.seat, me, &(number, &ended));
+        wake(&shared.signal, &self.book, false);
         ended
     }
 
@@ -240,9 +254,39 @@ impl<J: Naming> Desk<J> {
         ensures { IsOkUnless result Refusal.NotNow }
     {
         let before = Snapshot::of(&self.book);
+        let records = self.book.next_block().map_or(0, |next| next.records);
         let cut = cut_into(rt, &shared.handoff, &mut self.book, &mut self.sender);
+        self.undoing = self.undoing.saturating_add(records);
         note_alone::<Brand, _>(&shared.line, &mut self.seat, &(&before, &self.book, &cut));
         cut
+    }
+
+    /// Hands a block over as `cut` does, where the area's image covers it, or where it fits into the
+    /// room, and behind it the undoing of all that is live then, in blocks of 64 records; none where
+    /// four are in transit. How many
+    /// records that takes is not told too small; it is counted anew, by a look at all that is live,
+    /// where what is known of it does not fit. It takes no memory.
+    ///
+    /// Imaging where the block is past the image that is being written, or does not fit while one
+    /// is; Full where it does not fit. Nothing is handed over then.
+    pub fn cut_within<R: Wait>(
+        &mut self,
+        rt: &R,
+        shared: &Shared<J>,
+        room: Room,
+    ) -> Result<(), Refusal>
+        ensures { IfErr result (λ e. (e ≡ Refusal.Imaging) ⊎ (e ≡ Refusal.Full)) }
+    {
+        let Some(next) = self.book.next_block() else {
+            return Ok(());
+        };
+        let Some(undoing) = undoing_within(&self.book, self.undoing, next, room) else {
+            return Err(refused_within(room));
+        };
+        if self.cut(rt, shared).is_ok() {
+            self.undoing = undoing;
+        }
+        Ok(())
     }
 
     /// The seats of a new client.
@@ -273,6 +317,7 @@ impl<J: Naming> Desk<J> {
             near,
             maker,
             watcher,
+            undoing: _undoing,
             of: _of,
         } = self;
         drop(near);
@@ -298,6 +343,49 @@ pub fn note_alone<W: OneStep, T>(line: &Line, seat: &mut BookSeat, parts: &T)
 {
     let _ = parts;
     line.tally_alone::<W>(seat);
+}
+
+// How many records the undoing takes, at most, of what is live behind the next block, where that
+// can be handed over: the image of the area covers it; or both fit into the room and it is not past
+// the image that is being written. `before` so many behind the last block. A record makes one more
+// to undo at most. Where the block has all that waits, they can be counted.
+fn undoing_within(book: &Book<Catalog>, before: u64, next: NextBlock, room: Room) -> Option<u64>
+    requires { next.body ≤ 65535 }
+{
+    let behind = (book.waiting() as u64).saturating_sub(next.records);
+    let end = book.position().saturating_sub(behind);
+    let most = before.saturating_add(next.records);
+    if room.covers(end) {
+        return Some(most);
+    }
+    if room.is_past_image(end) {
+        return None;
+    }
+    if room.fits(next.body, most) {
+        return Some(most);
+    }
+    let counted = if behind == 0 { book.undoing() } else { most };
+    room.fits(next.body, counted).then_some(counted)
+}
+
+// Why a block is not handed over.
+fn refused_within(room: Room) -> Refusal
+    ensures { (result ≡ Refusal.Imaging) ⊎ (result ≡ Refusal.Full) }
+{
+    match room.image_end {
+        Some(_) => Refusal::Imaging,
+        None => Refusal::Full,
+    }
+}
+
+// Wakes the committer behind a step of a client: one that committed or made something, and each one
+// behind which many records wait, also where it was refused for that.
+fn wake(signal: &Signal, book: &Book<Catalog>, is_placed: bool) {
+    if is_placed {
+        signal.committed();
+    } else {
+        signal.left(book.waiting());
+    }
 }
 
 // Hands a block of the book over at the sending end.

@@ -2,12 +2,13 @@
 ghost use Rattle.std.specs.Prelude.{◌≡◌};
 
 use crate::naming::Naming;
+use crate::signal::Signal;
 use group_commit::{Accord, Handoff, Line, Mark, Numbers};
 use std::marker::PhantomData;
 
 /// The parts that threads share by `&`, of the store's own name: the one history, the mark, the
-/// numbers, the hand-off of blocks, and the accords on what is gathered of the book and on the
-/// image that the keeper awaits.
+/// numbers, the hand-off of blocks, the accords on what is gathered of the book and on the image
+/// that the keeper awaits, and what wakes the committer.
 #[derive(Drop)]
 pub struct Shared<J: Naming> {
     pub line: Line,
@@ -16,6 +17,7 @@ pub struct Shared<J: Naming> {
     pub handoff: Handoff,
     pub gathering: Accord,
     pub awaited: Accord,
+    pub signal: Signal,
     pub of: PhantomData<J>,
     pub ghost line_is: { line ≡ J.line },
     pub ghost mark_is: { mark ≡ J.mark },

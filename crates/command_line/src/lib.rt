@@ -10,9 +10,9 @@ use calls::limits::{MAX_AREA, MIN_AREA};
 use clap::error::ErrorKind;
 use disk_model::{Disk, FileDisk, MemDisk, Unknown};
 use std::alloc::Global;
-use std::fs::File;
+use std::fs::{File, TryLockError};
 use std::io::Write;
-use std::rt::Files;
+use std::rt::{Clock, Files};
 use std::sync::Wait;
 use std::thread::Threads;
 use std::{fs, io};
@@ -42,38 +42,54 @@ fn check_area(area: u64) -> Result<(), Refusal>
     Ok(())
 }
 
-// Opens a file for this run alone. Refused as WouldBlock where another run has it.
-fn open_alone(rt: &impl Files<File = File>, path: &str, may_make: bool) -> io::Result<File> {
-    let file = File::options()
-        .read(true)
-        .write(true)
-        .create(may_make)
-        .open(rt, path)?;
-    file.try_lock()?;
-    Ok(file)
-}
-
-// Makes a file, or takes the one that is there, and gives it the size of a disk with two such
-// areas.
-fn make_disk(rt: &impl Files<File = File>, path: &str, area: u64) -> io::Result<StoredDisk>
-    requires { area ≤ MAX_AREA }
-{
-    let file = open_alone(rt, path, true)?;
-    file.set_len(AREAS_AT + 2 * area)?;
-    FileDisk::open(file)
-}
-
-// Opens a file that is there.
-fn open_disk(rt: &impl Files<File = File>, path: &str) -> io::Result<StoredDisk> {
-    FileDisk::open(open_alone(rt, path, false)?)
-}
-
 // What was opened or read, or that the file cannot be opened.
 fn opened<'a, T: Drop>(path: &'a str, found: io::Result<T>) -> Result<T, Failure<'a>> {
     match found {
         Ok(value) => Ok(value),
         Err(error) => Err(cannot_open(path, &error)),
     }
+}
+
+// Takes a file for this run alone, unless another run has it.
+fn take_alone<'a>(path: &'a str, file: File) -> Result<File, Failure<'a>> {
+    match file.try_lock() {
+        Ok(()) => Ok(file),
+        Err(TryLockError::WouldBlock) => Err(Failure::InUse(path)),
+        Err(TryLockError::Error(error)) => Err(cannot_open(path, &error)),
+    }
+}
+
+// Opens a file for this run alone.
+fn open_alone<'a>(
+    rt: &impl Files<File = File>,
+    path: &'a str,
+    may_make: bool,
+) -> Result<File, Failure<'a>> {
+    let file = File::options()
+        .read(true)
+        .write(true)
+        .create(may_make)
+        .open(rt, path);
+    take_alone(path, opened(path, file)?)
+}
+
+// Makes a file, or takes the one that is there, and gives it the size of a disk with two such
+// areas.
+fn make_disk<'a>(
+    rt: &impl Files<File = File>,
+    path: &'a str,
+    area: u64,
+) -> Result<StoredDisk, Failure<'a>>
+    requires { area ≤ MAX_AREA }
+{
+    let file = open_alone(rt, path, true)?;
+    opened(path, file.set_len(AREAS_AT + 2 * area))?;
+    opened(path, FileDisk::open(file))
+}
+
+// Opens a file that is there.
+fn open_disk<'a>(rt: &impl Files<File = File>, path: &'a str) -> Result<StoredDisk, Failure<'a>> {
+    opened(path, FileDisk::open(open_alone(rt, path, false)?))
 }
 
 // Carries a command out on a disk that was opened, and lets it go. Answers the status.
@@ -101,7 +117,7 @@ fn run_on_new<'a, R: Files<File = File> + AllocGlobal>(
     err: &mut impl Write,
 ) -> Result<u8, Failure<'a>> {
     check_area(area)?;
-    let disk = opened(path, make_disk(rt, path, area));
+    let disk = make_disk(rt, path, area);
     run_on(rt.alloc(), task, disk, &[], out, err)
 }
 
@@ -114,7 +130,7 @@ fn run_on_old<'a, R: Files<File = File> + AllocGlobal>(
     out: &mut impl Write,
     err: &mut impl Write,
 ) -> Result<u8, Failure<'a>> {
-    let disk = opened(path, open_disk(rt, path));
+    let disk = open_disk(rt, path);
     run_on(rt.alloc(), task, disk, script, out, err)
 }
 
@@ -131,17 +147,32 @@ fn run_with_script<'a, R: Files<File = File> + AllocGlobal>(
     run_on_old(rt, task, path, script.as_slice(), out, err)
 }
 
-// Reads a script, opens the file of a disk, and serves the script on it.
-fn serve_script<'a, R: Files<File = File> + Threads + Wait + AllocGlobal + Sync>(
+// Reads a script, opens the file of a disk, and serves the script on it. Where that is asked, what
+// the system says of the file is told behind it.
+fn serve_script<'a, R: Files<File = File> + Threads + Wait + Clock + AllocGlobal + Sync>(
     rt: &R,
     path: &'a str,
     script: &'a str,
+    why: bool,
     out: &mut impl Write,
     err: &mut impl Write,
 ) -> Result<u8, Failure<'a>> {
     let script = opened(script, fs::read(rt, script))?;
-    let disk = opened(path, open_disk(rt, path))?;
-    Ok(serve(rt, disk, script.as_slice(), out, err).0)
+    let disk = open_disk(rt, path)?;
+    let (status, disk) = serve(rt, disk, script.as_slice(), why, out, err);
+    if why {
+        tell_cause(&disk, err);
+    }
+    Ok(status)
+}
+
+// Writes a line with the system's words for the last call of the disk that failed, if one did.
+// Where it cannot be written, that changes nothing.
+fn tell_cause(disk: &StoredDisk, err: &mut impl Write) {
+    if let Some(error) = disk.last_error() {
+        let _written = writeln!(err, "boost: {error}");
+        let _flushed = err.flush();
+    }
 }
 
 // A disk in memory that holds nothing.
@@ -151,7 +182,7 @@ fn memory<'a>(alloc: Global) -> Result<MemDisk, Failure<'a>> {
 
 // Opens the files of a command and carries it out. Answers the status, unless a file is missing or
 // an argument is bad.
-fn carry_out<'a, R: Files<File = File> + Threads + Wait + AllocGlobal + Sync>(
+fn carry_out<'a, R: Files<File = File> + Threads + Wait + Clock + AllocGlobal + Sync>(
     rt: &R,
     asked: &'a Invocation,
     out: &mut impl Write,
@@ -159,8 +190,8 @@ fn carry_out<'a, R: Files<File = File> + Threads + Wait + AllocGlobal + Sync>(
 ) -> Result<u8, Failure<'a>> {
     match asked {
         Invocation::Run(task) => perform(rt, task, out, err),
-        Invocation::Serve { disk, script } => {
-            serve_script(rt, disk.as_str(), script.as_str(), out, err)
+        Invocation::Serve { disk, script, why } => {
+            serve_script(rt, disk.as_str(), script.as_str(), *why, out, err)
         }
     }
 }
@@ -185,7 +216,7 @@ fn perform<'a, R: Files<File = File> + AllocGlobal>(
 }
 
 // Carries a command out, and says why it was not. Answers the status.
-fn answer<R: Files<File = File> + Threads + Wait + AllocGlobal + Sync>(
+fn answer<R: Files<File = File> + Threads + Wait + Clock + AllocGlobal + Sync>(
     rt: &R,
     asked: &Invocation,
     out: &mut impl Write,
@@ -213,7 +244,7 @@ fn explain(error: &clap::Error, out: &mut impl Write, err: &mut impl Write) -> u
 }
 
 /// Understands the words of a command line and carries them out. Answers the status.
-pub fn obey<'a, R: Files<File = File> + Threads + Wait + AllocGlobal + Sync>(
+pub fn obey<'a, R: Files<File = File> + Threads + Wait + Clock + AllocGlobal + Sync>(
     rt: &R,
     words: &'a [&'a str],
     out: &mut impl Write,

@@ -1,5 +1,6 @@
 // A disk that is a file of the system.
-ghost use Rattle.std.specs.Prelude.{◌≡◌, ◌⊎◌, List, ℕ, [], length, true, false, not, IfOk};
+ghost use Rattle.std.specs.Prelude.{◌≡◌, ◌⊎◌, ◌↔◌, List, ℕ, [], length, IfOk, IfSome};
+ghost use Rattle.std.specs.Prelude.{MatchResult, IsNone, None, Some, Err};
 ghost use Rattle.std.proofs.Common.{inl};
 ghost use Rattle.disk_model.specs.Marks.{Leaves, leaves_seen, leaves_size, length-marks};
 ghost use Rattle.disk_model.specs.Events.{padded, seen_of, marks_of, moments_of, IsHonest};
@@ -7,6 +8,7 @@ ghost use Rattle.disk_model.specs.Events.{MightHaveLeft, only_since};
 ghost use Rattle.disk_model.specs.Disk.{IsAtRest};
 
 use crate::call::DeviceCall;
+use crate::faults::Faults;
 use crate::log::Log;
 use crate::{Disk, Fault};
 use std::fs::File;
@@ -40,8 +42,9 @@ impl Content for Unknown {
 pub struct FileDisk<S: Content> {
     file: File,
     size: u64,
-    faults: u64,
-    is_broken: bool,
+    faults: Faults,
+    // Why a sync failed, if one did.
+    broken_by: Option<io::Error>,
     log: Log,
     start: PhantomData<S>,
     ghost sized: { length (seen_of (padded S.Content.content size) log.events) ≡ size },
@@ -65,23 +68,35 @@ impl<S: Content> FileDisk<S> {
         Ok(FileDisk {
             file,
             size,
-            faults: 0,
-            is_broken: false,
+            faults: Faults::new(),
+            broken_by: None,
             log: Log::new(),
             start: PhantomData,
         })
     }
+
+    /// Why the last call of the disk that failed did; none where none failed. A sync behind one
+    /// that failed is not asked of the system, and fails for the same reason.
+    pub fn last_error(&self) -> Option<&io::Error>
+        ensures { IsNone result ↔ (⟦<FileDisk<S> as Disk>⟧.fault_count self.now ≡ 0) }
+    {
+        self.faults.last()
+    }
 }
 
-// Syncs the file, and answers whether it did. After a sync that failed, the system may answer the
-// next one well with nothing kept: none is asked again.
-fn sync_unless_broken(file: &File, is_broken: &mut bool) -> bool
-    ensures stays { is_broken.old ≡ true → result ≡ false }
-    ensures breaks { is_broken.new ≡ not result }
+// Syncs the file. After a sync that failed, the system may answer the next one well with nothing
+// kept: none is asked again, and each is refused for what broke that one.
+fn sync_unless_broken(file: &File, broken_by: &mut Option<io::Error>) -> io::Result<()>
+    ensures stays { IfSome broken_by.old (λ error. result ≡ Err error) }
+    ensures breaks { MatchResult result (λ _. broken_by.new ≡ None)
+        (λ error. broken_by.new ≡ Some error) }
 {
-    let ok = !*is_broken && file.sync_data().is_ok();
-    *is_broken = !ok;
-    ok
+    if let Some(error) = *broken_by {
+        return Err(error);
+    }
+    let done = file.sync_data();
+    *broken_by = done.err();
+    done
 }
 
 impl<S: Content> Disk for FileDisk<S> {
@@ -96,7 +111,7 @@ impl<S: Content> Disk for FileDisk<S> {
         (marks_of d.size d.log.events) c ⊎
         MightHaveLeft (padded S.Content.content d.size) d.size d.log.events t c };
 
-    ghost fault_count = { λ d. d.faults };
+    ghost fault_count = { λ d. d.faults.count };
 
     ghost is_honest = { λ d. IsHonest (padded S.Content.content d.size) d.log.events };
 
@@ -119,8 +134,8 @@ impl<S: Content> Disk for FileDisk<S> {
     }
 
     fn read_at(&mut self, at: u64, out: &mut [u8]) -> Result<(), Fault> {
-        if self.file.read_exact_at(out, at).is_err() {
-            self.faults = self.faults.saturating_add(1);
+        let ok = self.faults.is_done(self.file.read_exact_at(out, at));
+        if !ok {
             return Err(Fault);
         }
         self.log.note(&[DeviceCall::Read(at)], out);
@@ -128,26 +143,25 @@ impl<S: Content> Disk for FileDisk<S> {
     }
 
     fn write_at(&mut self, at: u64, bytes: &[u8]) -> Result<(), Fault> {
-        let ok = self.file.write_all_at(bytes, at).is_ok();
+        let ok = self.faults.is_done(self.file.write_all_at(bytes, at));
         self.log.note(&[DeviceCall::Write(at, ok)], bytes);
         if !ok {
-            self.faults = self.faults.saturating_add(1);
             return Err(Fault);
         }
         Ok(())
     }
 
     fn sync(&mut self) -> Result<(), Fault> {
-        let ok = sync_unless_broken(&self.file, &mut self.is_broken);
+        let done = sync_unless_broken(&self.file, &mut self.broken_by);
+        let ok = self.faults.is_done(done);
         self.log.note(&[DeviceCall::Sync(ok)], &[]);
         if !ok {
-            self.faults = self.faults.saturating_add(1);
             return Err(Fault);
         }
         Ok(())
     }
 
     fn faults(&self) -> u64 {
-        self.faults
+        self.faults.count()
     }
 }

@@ -5,6 +5,7 @@
 
 mod call;
 mod disk;
+mod faults;
 mod file_disk;
 mod log;
 mod mem_disk;

@@ -4,14 +4,14 @@
 //! This file is a whole example, to be copied: it uses nothing of the other modules, and a `main`
 //! has only to call `run`.
 
-use background::{Signal, Transaction, Work, all_ended, keep};
+use background::{Transaction, Work, all_ended, keep};
 use calls::limits::MIN_AREA;
 use calls::{Call, Kind, Refusal, Reply};
 use disk_model::{FileDisk, Unknown};
 use recovery::format;
 use std::alloc::{AllocGlobal, Global};
 use std::fs::File;
-use std::rt::Files;
+use std::rt::{Clock, Files};
 use std::sync::Wait;
 use std::thread::Threads;
 use store::{Client, Naming};
@@ -45,11 +45,10 @@ struct Making;
 impl Work for Making {
     type Output = Result<(), Refusal>;
 
-    fn work<J: Naming, R: Wait + AllocGlobal>(
+    fn work<J: Naming, R: Wait + Clock + AllocGlobal>(
         &self,
         rt: &R,
         client: &mut Client<'_, J>,
-        _signal: &Signal,
         _thread: usize,
     ) -> Result<(), Refusal> {
         client.make(rt, "ids", Kind::Pool)?;
@@ -63,16 +62,15 @@ struct Drawing;
 impl Work for Drawing {
     type Output = Result<Vec<u64>, Refusal>;
 
-    fn work<J: Naming, R: Wait + AllocGlobal>(
+    fn work<J: Naming, R: Wait + Clock + AllocGlobal>(
         &self,
         rt: &R,
         client: &mut Client<'_, J>,
-        signal: &Signal,
         _thread: usize,
     ) -> Result<Vec<u64>, Refusal> {
         let mut drawn = Vec::new(rt.alloc());
         for _ in 0..EACH {
-            let (id, _ticket) = keep(rt, client, signal, &Draw)?;
+            let (id, _ticket) = keep(rt, client, &Draw)?;
             drawn.push(id)?;
         }
         Ok(drawn)
@@ -96,7 +94,7 @@ fn count_different(ids: &mut Vec<u64>) -> Result<usize, Refusal> {
 }
 
 /// Draws identifiers, and more once the file was opened again. Prints how many are different.
-pub fn run<R: Threads + Wait + Files<File = File> + Print + AllocGlobal + Sync>(
+pub fn run<R: Threads + Wait + Clock + Files<File = File> + Print + AllocGlobal + Sync>(
     rt: &R,
 ) -> anyhow::Result<()> {
     let file = File::options()

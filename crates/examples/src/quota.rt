@@ -5,14 +5,14 @@
 //! This file is a whole example, to be copied: it uses nothing of the other modules, and a `main`
 //! has only to call `run`.
 
-use background::{Signal, Transaction, Work, all_ended, keep};
+use background::{Transaction, Work, all_ended, keep};
 use calls::limits::MIN_AREA;
 use calls::{Call, Kind, Refusal, Reply};
 use disk_model::{FileDisk, Unknown};
 use recovery::format;
 use std::alloc::AllocGlobal;
 use std::fs::File;
-use std::rt::Files;
+use std::rt::{Clock, Files};
 use std::sync::Wait;
 use std::thread::Threads;
 use store::{Client, Naming};
@@ -79,18 +79,17 @@ struct Filling {
 impl Work for Filling {
     type Output = Result<(), Refusal>;
 
-    fn work<J: Naming, R: Wait + AllocGlobal>(
+    fn work<J: Naming, R: Wait + Clock + AllocGlobal>(
         &self,
         rt: &R,
         client: &mut Client<'_, J>,
-        signal: &Signal,
         _thread: usize,
     ) -> Result<(), Refusal> {
         for account in ACCOUNTS {
             if self.are_new {
                 client.make(rt, account, Kind::Counter)?;
             }
-            let (_, _ticket) = keep(rt, client, signal, &Refill { account })?;
+            let (_, _ticket) = keep(rt, client, &Refill { account })?;
         }
         Ok(())
     }
@@ -105,11 +104,10 @@ struct Spending {
 impl Work for Spending {
     type Output = Result<usize, Refusal>;
 
-    fn work<J: Naming, R: Wait + AllocGlobal>(
+    fn work<J: Naming, R: Wait + Clock + AllocGlobal>(
         &self,
         rt: &R,
         client: &mut Client<'_, J>,
-        signal: &Signal,
         _thread: usize,
     ) -> Result<usize, Refusal> {
         let spend = Spend {
@@ -117,7 +115,7 @@ impl Work for Spending {
         };
         let mut granted = 0usize;
         for _ in 0..ASKS {
-            let (is_granted, _ticket) = keep(rt, client, signal, &spend)?;
+            let (is_granted, _ticket) = keep(rt, client, &spend)?;
             granted = granted.wrapping_add(usize::from(is_granted));
         }
         Ok(granted)
@@ -125,7 +123,7 @@ impl Work for Spending {
 }
 
 // Threads ask for money of both accounts. Prints how many asks were granted.
-fn spend_all<R: Threads + Wait + AllocGlobal + Print + Sync>(
+fn spend_all<R: Threads + Wait + Clock + AllocGlobal + Print + Sync>(
     rt: &R,
     disk: FileDisk<Unknown>,
 ) -> anyhow::Result<FileDisk<Unknown>> {
@@ -150,7 +148,7 @@ fn sum(granted: Vec<Result<usize, Refusal>>) -> Result<usize, Refusal> {
 
 /// Spends from the accounts, fills them up, and spends from them once the file was opened again.
 /// Prints how many asks were granted.
-pub fn run<R: Threads + Wait + Files<File = File> + Print + AllocGlobal + Sync>(
+pub fn run<R: Threads + Wait + Clock + Files<File = File> + Print + AllocGlobal + Sync>(
     rt: &R,
 ) -> anyhow::Result<()> {
     let file = File::options()

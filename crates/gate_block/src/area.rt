@@ -63,6 +63,13 @@ impl Area {
         self.size
     }
 
+    /// How many bytes the area has behind its blocks, with the next gate.
+    pub fn room(&self) -> u64
+        ensures { result + position_of self.now ≡ size_of self.now }
+    {
+        self.size - self.position
+    }
+
     // Whether a block has its place at the next gate: refused Failed and then Full, as `append`
     // says.
     fn check_place(&self, block: &[u8]) -> Result<(), Refusal>

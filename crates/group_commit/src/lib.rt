@@ -4,7 +4,8 @@
 //!   received, followed by what is in transit, in order, at most four. Both ends have noted the
 //!   same of what was frozen.
 //! - `Mark`: how many commits are kept. The count never falls, and is what the keeper's seat has
-//!   brought it to, which tells it to a watcher. A failed flag stays.
+//!   brought it to, which tells it to a watcher. A failed flag stays. A thread may sleep until the
+//!   mark moves.
 //! - `Line`: the one history of the book. What each client has seen is a beginning of it, with all
 //!   that the history has of the client.
 //! - `Numbers`: each number that was drawn was drawn once.

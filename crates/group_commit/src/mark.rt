@@ -6,6 +6,7 @@ ghost use Rattle.group_commit.specs.Marks.{AreReached, HasFailed};
 
 use atomic_table::{Join, Play, Seat, Split, Table, TableRule};
 use calls::Refusal;
+use crossbeam_utils::sync::{EventCount, Key};
 use std::alloc::Global;
 use std::collections::LinkedList;
 use std::marker::Model;
@@ -133,10 +134,12 @@ impl Join<Tide> for Show {
 }
 
 /// The count of commits that are kept, and a flag that says whether keeping failed. Threads share
-/// it by `&`. Contracts see which table it is.
+/// it by `&`, and may sleep until it moves. Contracts see which table it is.
 #[derive(Drop)]
 pub struct Mark {
     table: Table<(), Tide, (), Rising, Global>,
+    // on which those sleep who wait for the count or the flag
+    moves: EventCount,
 }
 
 impl Model for Mark {
@@ -217,7 +220,12 @@ impl Mark {
     {
         let (table, mut seat) = Table::of_words(alloc, &[0, 0], &())?;
         let other = table.shared.split_seat::<Watch>(&mut seat);
-        Ok((Mark { table }, KeeperSeat { seat }, Watcher { seat: other }))
+        let moves = EventCount::new();
+        Ok((
+            Mark { table, moves },
+            KeeperSeat { seat },
+            Watcher { seat: other },
+        ))
     }
 
     /// One more watcher, which has loaded nothing. It takes no memory.
@@ -230,7 +238,8 @@ impl Mark {
         Watcher { seat }
     }
 
-    /// All commits up to the place are kept: the count reaches it, unless it was past it.
+    /// All commits up to the place are kept: the count reaches it, unless it was past it. Who sleeps
+    /// until the mark moves is woken: one load where nobody does. It takes no memory.
     pub fn advance(&self, keeper: &mut KeeperSeat, place: u64)
         requires { keeper.old.table ≡ self.now }
         ensures table { keeper.new.table ≡ keeper.old.table }
@@ -239,6 +248,14 @@ impl Mark {
         self.table
             .shared
             .fetch_max::<Advance>(&mut keeper.seat, COUNT, place);
+        self.moves.notify_all();
+    }
+
+    /// Announces that a thread will wait until the mark moves. Call it first, then load the count
+    /// and the flag, and sleep by `Key::wait` only where neither decides: a move behind the
+    /// announcement ends the sleep. It takes no memory, and waits for nobody.
+    pub fn prepare_wait(&self) -> Key<'_> {
+        self.moves.prepare_wait()
     }
 
     /// The count now, which is at least each one that this watcher has loaded.
@@ -250,12 +267,13 @@ impl Mark {
         self.table.shared.load::<Load>(&mut watcher.seat, COUNT)
     }
 
-    /// Keeping failed: the flag is set, and stays so.
+    /// Keeping failed: the flag is set, and stays so. Who sleeps until the mark moves is woken.
     pub fn fail(&self, watcher: &mut Watcher)
         requires { watcher.old.table ≡ self.now }
         ensures { watcher.new ≡ with_flag watcher.old true }
     {
         self.table.shared.store::<Fail>(&mut watcher.seat, FLAG, 1);
+        self.moves.notify_all();
     }
 
     /// Whether keeping failed. Once this watcher has set the flag, or loaded it so, it stays so.

@@ -21,18 +21,14 @@ use disk_model::Disk;
 use gate_block::Area;
 use std::alloc::Global;
 use txn::Book;
-use undoing::{append_all, make_room};
+use undoing::{append_all, blocks_len, make_room};
 
 // Whether so many records of an undoing fit, in blocks, in so many bytes, with a gate behind them.
 fn fits(room: u64, count: usize) -> bool
     requires { room ≤ 2 ^ 30 }
     ensures { IsTrue result ↔ (blocks_len count < room) }
 {
-    let count = count as u64;
-    if count >= room {
-        return false;
-    }
-    9 * count + 5 * ((count + 63) / 64) < room
+    blocks_len(count as u64) < room
 }
 
 // Opens the store on a disk.

@@ -91,21 +91,39 @@ impl<'s, D: Disk, J: Naming> Checkpointer<'s, D, J> {
     pub fn turn<R: Wait>(&mut self, rt: &R) -> Result<Checkpoint, Refusal>
         ensures { CheckTells self.old result self.new }
     {
+        self.step(rt, false)
+    }
+
+    /// Takes the next step as `turn` does, but begins an image only where it leaves room in its
+    /// area: the undoing of all that was live at the freeze fits behind it, so that the disk can be
+    /// opened again once the image is the store.
+    ///
+    /// The refusals of `turn`. Full also where the image, with that undoing, does not fit.
+    pub fn turn_with_room<R: Wait>(&mut self, rt: &R) -> Result<Checkpoint, Refusal>
+        ensures { CheckTells self.old result self.new }
+    {
+        self.step(rt, true)
+    }
+
+    // Writes a piece of the image, or makes it the store; else takes the next step towards one.
+    fn step<R: Wait>(&mut self, rt: &R, leaves_room: bool) -> Result<Checkpoint, Refusal>
+        ensures { CheckTells self.old result self.new }
+    {
         let vault = self.vault;
         if let Some(done) = vault.lock(rt).lay(self.shared, &mut self.watcher) {
             return done;
         }
-        self.prepare(rt)
+        self.prepare(rt, leaves_room)
     }
 
     // Takes the next step towards an image.
-    fn prepare<R: Wait>(&mut self, rt: &R) -> Result<Checkpoint, Refusal>
+    fn prepare<R: Wait>(&mut self, rt: &R, leaves_room: bool) -> Result<Checkpoint, Refusal>
         ensures { CheckTells self.old result self.new }
     {
         let gatherer = self.gatherer;
         let prepared = gatherer
             .lock(rt)
-            .turn(rt, self.shared, self.desk, self.vault);
+            .turn(rt, self.shared, self.desk, self.vault, leaves_room);
         if let Err(refusal) = &prepared {
             note_failure(&self.shared.mark, &mut self.watcher, *refusal);
         }

@@ -69,6 +69,34 @@ impl<'s, D: Disk, J: Naming> Committer<'s, D, J> {
         vault.lock(rt).turn(rt, self.shared, &mut self.watcher)
     }
 
+    /// Takes one turn as `turn` does, but cuts a block only where it leaves room in the area: the
+    /// undoing of all that is live behind the block fits behind it, so that the disk can be opened
+    /// again. While an image is written no block past it is cut, and none that does not fit, as the
+    /// image may cover it: `Turn::Held`. The keeper's lock is held where the block is cut under the
+    /// book's.
+    ///
+    /// The refusals of `turn`. Full where the block, with that undoing, does not fit: it is not
+    /// cut, and is handed over once a checkpoint has made room.
+    pub fn turn_with_room<R: Wait>(&mut self, rt: &R) -> Result<Turn, Refusal>
+        ensures { TurnTells self.old result self.new }
+    {
+        let desk = self.desk;
+        let vault = self.vault;
+        let mut vault = vault.lock(rt);
+        let cut = desk.lock(rt).cut_within(rt, self.shared, vault.room());
+        match cut {
+            Ok(()) => vault.turn(rt, self.shared, &mut self.watcher),
+            Err(Refusal::Full) => Err(Refusal::Full),
+            Err(_) => Ok(Turn::Held),
+        }
+    }
+
+    /// How many bytes the area in use has behind its blocks. It takes the keeper's lock.
+    pub fn free<R: Wait>(&self, rt: &R) -> u64 {
+        let vault = self.vault;
+        vault.lock(rt).room().free
+    }
+
     /// Tells every client that waits for a ticket which is not kept yet, now or later, that it is
     /// Lost. For a committer that takes no more turns. It takes no memory, and waits for nobody.
     pub fn stop(&mut self)

@@ -14,7 +14,7 @@ use blocks::Image;
 use calls::Refusal;
 use catalog::{Catalog, NamedHolding};
 use checkpoint::Keeper;
-use clients::{Desk, DeskLock, Naming, Shared, note_alone};
+use clients::{Desk, DeskLock, Naming, Room, Shared, note_alone};
 use disk_model::Disk;
 use group_commit::{Accord, Far, Handoff, Near, OneGather, Receiver, Sender};
 use images::Gather;
@@ -34,6 +34,8 @@ pub(crate) struct Gatherer<J: Naming> {
     gather: Gather<NamedHolding>,
     // Whether the last gather left no collection to copy.
     is_whole: bool,
+    // How many records the undoing takes of what was live at the freeze.
+    undoing: u64,
     of_book: Far,
     of_keeper: Far,
     of: PhantomData<J>,
@@ -71,6 +73,7 @@ impl<J: Naming> Gatherer<J> {
             alloc,
             gather: Gather::new(alloc),
             is_whole: false,
+            undoing: 0,
             of_book,
             of_keeper,
             of: PhantomData,
@@ -81,19 +84,23 @@ impl<J: Naming> Gatherer<J> {
     /// freezes the book, where all collections are copied; else copies the next one.
     ///
     /// Of a copy Outrun, Worn, NoMemory; of a freeze Outrun, NoMemory, Failed, Imaging; of what is
-    /// packed NoMemory, Failed, Full. NoMemory leaves what is gathered, and the step can be taken
-    /// again. With each other refusal it is given up, and the next step begins anew.
+    /// packed NoMemory, Failed, Full; where it is to leave room, Full also where the undoing of what
+    /// was live at the freeze does not fit behind the image. NoMemory leaves what is gathered, and
+    /// the step can be taken again. With each other refusal it is given up, and the next step begins
+    /// anew.
     pub(crate) fn turn<D: Disk, R: Wait>(
         &mut self,
         rt: &R,
         shared: &Shared<J>,
         desk: &DeskLock<J>,
         vault: &Mutex<Vault<D, J>>,
+        leaves_room: bool,
     ) -> Result<Checkpoint, Refusal>
         ensures { IfOk result IsPrepared }
     {
         if self.gather.marks().is_some() {
-            return self.pack(rt, shared, vault);
+            let undoing = leaves_room.then_some(self.undoing);
+            return self.pack(rt, shared, vault, undoing);
         }
         if mem::replace(&mut self.is_whole, false) {
             match self.freeze(rt, shared, desk, vault) {
@@ -158,7 +165,10 @@ impl<J: Naming> Gatherer<J> {
             &mut self.of_keeper,
         );
         match frozen {
-            Ok(()) => Ok(Checkpoint::Frozen),
+            Ok(()) => {
+                self.undoing = desk.book.undoing();
+                Ok(Checkpoint::Frozen)
+            }
             Err(refusal) => {
                 give_up(self.alloc, refusal, &mut self.gather);
                 Err(refusal)
@@ -166,19 +176,27 @@ impl<J: Naming> Gatherer<J> {
         }
     }
 
-    // Packs what is frozen under no lock, and begins the image under the keeper's.
+    // Packs what is frozen under no lock, and begins the image under the keeper's, where so many
+    // records of an undoing, if that is asked for, fit behind it.
     fn pack<D: Disk, R: Wait>(
         &mut self,
         rt: &R,
         shared: &Shared<J>,
         vault: &Mutex<Vault<D, J>>,
+        undoing: Option<u64>,
     ) -> Result<Checkpoint, Refusal>
         requires { IsSome self.old.gather.frozen }
         ensures { IfOk result IsPrepared }
     {
         match mem::replace(&mut self.gather, Gather::new(self.alloc)).pack() {
             Ok(image) => {
-                begin(shared, &mut vault.lock(rt), &mut self.of_keeper, image)?;
+                begin_with_room(
+                    shared,
+                    &mut vault.lock(rt),
+                    &mut self.of_keeper,
+                    image,
+                    undoing,
+                )?;
                 Ok(Checkpoint::Packed)
             }
             Err((refusal, gather)) => {
@@ -271,6 +289,43 @@ fn freeze_book<D: Disk>(
         unreachable!();
     };
     keeper.hold(marks.end, marks.place)
+}
+
+// Begins the image that was packed, where so many records of an undoing, if that is asked for, fit
+// behind it: the refusals of `Keeper::begin_image`. Full also where they do not, and then no end is
+// held any more.
+fn begin_with_room<D: Disk, J: Naming>(
+    shared: &Shared<J>,
+    vault: &mut Vault<D, J>,
+    far: &mut Far,
+    image: Image,
+    undoing: Option<u64>,
+) -> Result<(), Refusal>
+    requires table { far.old.table ≡ J.awaited }
+    requires packs { Packs far.old.gather image }
+    ensures { far.new ≡ far.old }
+{
+    let size = vault.size();
+    if undoing.is_some_and(|records| !room_behind(&image, size).fits_undoing(records)) {
+        drop(image);
+        vault.give_up();
+        return Err(Refusal::Full);
+    }
+    begin(shared, vault, far, image)
+}
+
+// What an area of so many bytes has behind an image.
+fn room_behind(image: &Image, size: u64) -> Room {
+    let mut free = size;
+    for block in image.blocks.iter() {
+        // The closed gate of a block is the next one's.
+        free = free.saturating_sub(block.len() as u64 - 1);
+    }
+    Room {
+        free,
+        covered: 0,
+        image_end: None,
+    }
 }
 
 // Begins the image that was packed: the refusals of `Keeper::begin_image`.

@@ -49,7 +49,7 @@ mod store;
 mod vault;
 
 pub use checkpointing::{Checkpoint, Checkpointer};
-pub use clients::{Client, Naming, Phase, Seen, Ticket};
+pub use clients::{Client, Naming, Phase, Seen, Signal, Ticket};
 pub use committing::Committer;
 pub use opened::Opened;
 pub use store::Store;

@@ -15,7 +15,7 @@ use crate::vault::Vault;
 use calls::Refusal;
 use catalog::Catalog;
 use checkpoint::Keeper;
-use clients::{Desk, Naming, Shared};
+use clients::{Desk, Naming, Shared, Signal};
 use disk_model::Disk;
 use group_commit::{
     Accord, BookSeat, DrawerMaker, Far, Handoff, KeeperSeat, Line, Mark, Near, Numbers, Receiver,
@@ -243,6 +243,7 @@ impl<D: Disk> Opened<D> {
             handoff,
             gathering,
             awaited,
+            signal: Signal::new(),
             of: PhantomData,
         };
         Store::new(

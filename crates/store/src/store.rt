@@ -15,7 +15,7 @@ use crate::vault::Vault;
 use calls::Refusal;
 use catalog::Catalog;
 use checkpoint::Keeper;
-use clients::{Client, Desk, DeskLock, Naming, Seen, Shared};
+use clients::{Client, Desk, DeskLock, Naming, Seen, Shared, Signal};
 use disk_model::Disk;
 use std::sync::{Mutex, Wait};
 use txn::Book;
@@ -101,6 +101,11 @@ impl<D: Disk, J: Naming> Store<D, J> {
             &self.shared,
             watcher,
         )
+    }
+
+    /// What wakes the store's committer, and tells it when no more commits come.
+    pub fn signal(&self) -> &Signal {
+        &self.shared.signal
     }
 
     /// What two clients of this store had seen when they left, as one, for `close`: the longer of

@@ -8,7 +8,7 @@ ghost use Rattle.store.specs.Vaults.{ReceivesAny};
 use crate::checkpointing::Checkpoint;
 use calls::Refusal;
 use checkpoint::{Keeper, Turn};
-use clients::{Naming, Shared};
+use clients::{Naming, Room, Shared};
 use disk_model::Disk;
 use group_commit::{Handoff, Incoming, KeeperSeat, Mark, Near, Receiver, Watcher};
 use std::marker::{Model, PhantomData};
@@ -23,6 +23,8 @@ pub(crate) struct Vault<D: Disk, J: Naming> {
     pub(crate) receiver: Receiver,
     pub(crate) mark: KeeperSeat,
     pub(crate) near: Near,
+    // up to which record the image of the area in use reaches
+    covered: u64,
     of: PhantomData<J>,
 }
 
@@ -51,7 +53,22 @@ impl<D: Disk, J: Naming> Vault<D, J> {
             receiver,
             mark,
             near,
+            covered: 0,
             of: PhantomData,
+        }
+    }
+
+    /// How many bytes the area in use has; the other one has as many.
+    pub(crate) fn size(&self) -> u64 {
+        self.keeper.area().size()
+    }
+
+    /// Where the next block would go.
+    pub(crate) fn room(&self) -> Room {
+        Room {
+            free: self.keeper.area().room(),
+            covered: self.covered,
+            image_end: self.keeper.image_end(),
         }
     }
 
@@ -71,6 +88,11 @@ impl<D: Disk, J: Naming> Vault<D, J> {
         turned
     }
 
+    /// Gives up the image whose end is held, where it is not here yet.
+    pub(crate) fn give_up(&mut self) {
+        self.keeper.give_up();
+    }
+
     /// Goes on with the image in progress, by a piece or, where none is left, by the flip; the mark
     /// and the watcher as in a turn. None where no image is in progress.
     pub(crate) fn lay(
@@ -87,6 +109,7 @@ impl<D: Disk, J: Naming> Vault<D, J> {
             let laid = self.keeper.image_piece();
             return Some(piece_told(&shared.mark, watcher, &laid));
         }
+        self.covered = self.keeper.image_end().unwrap_or(self.covered);
         let flipped = self.keeper.flip();
         Some(flip_told(&shared.mark, &mut self.mark, watcher, &flipped))
     }

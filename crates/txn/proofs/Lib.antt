@@ -7,3 +7,4 @@ pub mod Takings
 pub mod Readings
 pub mod Goings
 pub mod Handings
+pub mod UndoCounts

@@ -4,3 +4,4 @@ pub mod Freezing
 pub mod Histories
 pub mod Handing
 pub mod Views
+pub mod Undoings

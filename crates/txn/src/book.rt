@@ -1,6 +1,7 @@
 // The book: transactions on shared collections, one step at a time.
 ghost use Rattle.std.specs.Prelude.{◌≡◌, ℕ, ◌<◌, ◌≤◌, ◌^◌, ◌+◌, [], ◌∷◌, ◌++◌, IfOk, IfErr};
 ghost use Rattle.std.specs.Prelude.{OnOk, OnErr, Ok, Err, IsOkUnless, length, true, false};
+ghost use Rattle.std.specs.Prelude.{◌↔◌, IsNone, IfSome};
 ghost use Rattle.calls.specs.Names.{IsName};
 ghost use Rattle.calls.specs.Transactions.{Whole, own};
 ghost use Rattle.undo_log.specs.Entries.{event_of};
@@ -16,6 +17,8 @@ ghost use Rattle.txn.specs.declared.steps.Target.{Target};
 ghost use Rattle.txn.specs.Rows.{later_record, IsOpen, IsFull, RunRefused, OpenRefused, CanEnter};
 ghost use Rattle.txn.specs.Rows.{EnterRefused, CallRefused, LaterRefused};
 ghost use Rattle.txn.specs.Books.{opened, position, standing, IsKept, Takes, GoesOn, CutAnswers};
+ghost use Rattle.txn.specs.Undoings.{undo_count};
+ghost use Rattle.blocks.specs.Cuts.{IsNextBlock};
 ghost use Rattle.txn.specs.Freezing.{IsGatheredOf, BookGathers, FreezeAnswers};
 ghost use Rattle.gathering.specs.Gatherings.{GoesAlong};
 ghost use Rattle.machine.specs.Transactions.{RunsWhole};
@@ -23,7 +26,8 @@ ghost use Rattle.machine.specs.Sound.{IsSound};
 ghost use Rattle.calls.specs.Rules.{need_of};
 ghost use Rattle.calls.specs.Reads.{reads};
 
-use blocks::{Outbox, Pending};
+use crate::undoing::count_journalled;
+use blocks::{NextBlock, Outbox, Pending};
 use calls::limits::{MAX_CALLS, MAX_LIVE, MAX_PENDING, NUMBER_END};
 use calls::{Call, Kind, Name, Refusal, Reply};
 use catalog::Parts;
@@ -129,6 +133,39 @@ impl<B: Parts + Coded> Book<B> {
         ensures { result ≡ self.now.next }
     {
         self.next
+    }
+
+    /// How many records wait to be handed over. This is no step.
+    pub fn waiting(&self) -> usize
+        ensures { result ≡ length self.now.pending }
+    {
+        self.pending.len()
+    }
+
+    /// The block that `cut` hands over next: how many records it has, and how many bytes spell them.
+    /// None where no record waits. It takes no memory, and is no step.
+    pub fn next_block(&self) -> Option<NextBlock>
+        ensures none { IsNone result ↔ (self.now.pending ≡ []) }
+        ensures next { IfSome result (IsNextBlock self.now.pending self.now.freezes self.now.end) }
+    {
+        self.pending.next_block()
+    }
+
+    /// The position behind the last record, counted since the book was opened: how many records were
+    /// handed over or wait. This is no step.
+    pub fn position(&self) -> u64
+        ensures { result ≡ position self.now }
+    {
+        self.pending.position()
+    }
+
+    /// How many records the undoing of all that is live takes: a Back for each live call that does
+    /// not only read, and an Ended for each live transaction. It looks at what each live
+    /// transaction asked for, takes no memory, and is no step.
+    pub fn undoing(&self) -> u64
+        ensures { result ≡ undo_count self.now.state }
+    {
+        count_journalled(self.machine.live()) + self.machine.count_live() as u64
     }
 
     /// What holds of every book: its records have a spelling, its counts and numbers are in range,
@@ -495,7 +532,8 @@ impl<B: Parts + Coded> Book<B> {
     fn next_position(&self) -> u64
         ensures { result ≡ position self.now + 1 }
     {
-        self.pending.position() + 1
+        self.upheld();
+        self.position() + 1
     }
 
     // Whether a record more may wait.

@@ -4,8 +4,9 @@
 mod book;
 mod history;
 mod steps;
+mod undoing;
 
-pub use blocks::{Block, Outbox};
+pub use blocks::{Block, NextBlock, Outbox};
 pub use book::Book;
 pub use history::{images, one_history};
 pub use loader::Loader;

@@ -1,6 +1,6 @@
 // The records of an undoing, written behind the blocks of an area.
 ghost use Rattle.std.specs.Prelude.{◌≡◌, ◌≤◌, ◌<◌, ◌+◌, ◌-◌, ◌*◌, ℕ, List, ◌++◌, ◌∷◌, [], length};
-ghost use Rattle.std.specs.Prelude.{drop, OnOk, IfOk, IfErr, false, vec_len, vec_capacity};
+ghost use Rattle.std.specs.Prelude.{drop, OnOk, IfOk, IfErr, false, vec_len, vec_capacity, min, ◌^◌};
 ghost use Rattle.std.specs.List.{AllByRecursion};
 ghost use Rattle.std.specs.Int.{w32, to_be_bytes};
 ghost use Rattle.disk_model.specs.Disk.{LeavesOnly, Rises, IsAtRest};
@@ -19,8 +19,23 @@ use std::alloc::Global;
 // So many records go into a block.
 const GROUP: usize = 64;
 
+// The bytes of a record of an undoing: its tag and the transaction's number.
+const RECORD_LEN: usize = 9;
+
 // The most bytes of a block, with the gate behind it.
-const BLOCK_LEN: usize = 582;
+const BLOCK_LEN: usize = BLOCK_HEAD + GROUP * RECORD_LEN + 1;
+
+/// How many bytes so many records of an undoing take in blocks of 64, the last with the rest: 9 a
+/// record, and 5 a block for its head. The gate behind the last block is not counted. Where they
+/// are more than a u64 can tell, it is the greatest one.
+pub fn blocks_len(count: u64) -> u64
+    ensures { result ≡ min (blocks_len count) (2 ^ 64 - 1) }
+{
+    let heads = BLOCK_HEAD as u64 * count.div_ceil(GROUP as u64);
+    count
+        .saturating_mul(RECORD_LEN as u64)
+        .saturating_add(heads)
+}
 
 /// Room for one block of the undoing's records.
 pub fn make_room(alloc: Global) -> Result<Vec<u8>, Refusal>

@@ -5,5 +5,5 @@
 mod appending;
 mod undoing;
 
-pub use appending::{append_all, make_room};
+pub use appending::{append_all, blocks_len, make_room};
 pub use undoing::undo_all;

@@ -20,9 +20,9 @@ returns c =
     let second_is = with_gives c.script_command.result app_of
     (λ command. (out-Command command).has_globals) _ _ _ _
     c.script_command.ensures c.in_ok-program-2.ensures first_is in
-    let third_is = with_gives c.script_command-2.result app_of
+    let third_is = with_gives c.serve_command.result app_of
     (λ command. (out-Command command).has_globals) _ _ _ _
-    c.script_command-2.ensures c.in_ok-program-3.ensures second_is in
+    c.serve_command.ensures c.in_ok-program-3.ensures second_is in
     let fourth_is = with_gives c.disk_command.result app_of
     (λ command. (out-Command command).has_globals) _ _ _ _
     c.disk_command.ensures c.in_ok-program-4.ensures third_is in

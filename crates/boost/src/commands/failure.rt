@@ -2,6 +2,7 @@
 ghost use Rattle.std.specs.Prelude.{◌≡◌};
 
 use calls::Refusal;
+use player::Said;
 use script::ScriptError;
 use std::alloc::AllocError;
 use std::{fmt, io};
@@ -17,6 +18,8 @@ pub enum Failure<'a> {
     /// The path of a file that cannot be opened, made or read, and what the system says of it. Its
     /// text has a line for each of the two.
     CannotOpen(&'a str, io::Error),
+    /// The path of a file that another run has.
+    InUse(&'a str),
     /// Output could not be written.
     Unwritten,
 }
@@ -32,7 +35,7 @@ impl Failure<'_> {
         match self {
             Failure::Refused(_) => 1,
             Failure::NotUnderstood(_) => 3,
-            Failure::CannotOpen(..) | Failure::Unwritten => 4,
+            Failure::CannotOpen(..) | Failure::InUse(_) | Failure::Unwritten => 4,
         }
     }
 }
@@ -40,13 +43,16 @@ impl Failure<'_> {
 impl fmt::Display for Failure<'_> {
     fn fmt<W: fmt::Write>(&self, f: &mut fmt::Formatter<W>) -> fmt::Result {
         match self {
-            Failure::Refused(refusal) => {
-                let number = refusal.number();
-                write!(f, "boost: refused {number} {refusal}")
-            }
+            Failure::Refused(refusal) => write!(f, "boost: {}", Said::Refused(*refusal)),
             Failure::NotUnderstood(line) => write!(f, "boost: line {line}: not understood"),
             Failure::CannotOpen(path, error) => {
                 write!(f, "boost: cannot open {path}\nboost: {error}")
+            }
+            Failure::InUse(path) => {
+                write!(
+                    f,
+                    "boost: cannot open {path}\nboost: another run has the file"
+                )
             }
             Failure::Unwritten => Ok(()),
         }

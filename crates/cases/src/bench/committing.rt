@@ -1,9 +1,10 @@
 // Transactions of the same call.
 use crate::bench::calling::Content;
-use background::{Signal, Transaction, transact};
+use background::{Transaction, transact};
 use calls::{Call, Refusal, Reply};
 use rand_pcg::Pcg32;
 use std::alloc::AllocGlobal;
+use std::rt::Clock;
 use std::sync::Wait;
 use store::{Client, Naming};
 
@@ -46,10 +47,9 @@ impl Transaction for SameCall {
 /// between them, and waits for the last one.
 ///
 /// The refusals of `transact`; Lost where the disk failed; NoMemory.
-pub fn commit_all<J: Naming, R: Wait + AllocGlobal>(
+pub fn commit_all<J: Naming, R: Wait + Clock + AllocGlobal>(
     rt: &R,
     client: &mut Client<'_, J>,
-    signal: &Signal,
     content: Content,
     count: u64,
 ) -> Result<(), Refusal> {
@@ -57,7 +57,7 @@ pub fn commit_all<J: Naming, R: Wait + AllocGlobal>(
     let mut last = None;
     for number in 0..count {
         let call = content.first_call(rt.alloc(), number, &mut numbers)?;
-        let (_, ticket) = transact(rt, client, signal, &SameCall::of(content, call))?;
+        let (_, ticket) = transact(rt, client, &SameCall::of(content, call))?;
         last = Some(ticket);
     }
     if let Some(ticket) = last {

@@ -1,4 +1,6 @@
 // The file of the store.
+ghost use Rattle.std.specs.Prelude.{◌<◌, ◌^◌};
+
 use crate::bench::trouble::Trouble;
 use crate::bench::workload::Workload;
 use disk_model::{FileDisk, Unknown};
@@ -11,13 +13,18 @@ use std::rt::Files;
 // The size of each of its two areas, in bytes.
 const AREA: u64 = 1 << 26;
 
-// The same, where each takes an image of a map of a million values.
-const LARGE_AREA: u64 = 1 << 28;
-
-/// The size of a store's file, in bytes, where no such image is written.
+/// The size of a store's file, in bytes, where no maps lie beside what clients call.
 pub const FILE_SIZE: u64 = 4096 + 2 * AREA;
 
-const LARGE_FILE_SIZE: u64 = 4096 + 2 * LARGE_AREA;
+// The size of an area that takes an image of a map of 1,000 values of 100 bytes, and has 150,000
+// bytes behind it.
+const SMALL_AREA: u64 = 1 << 18;
+
+// The same of a million values, with six million bytes behind it.
+const LARGE_AREA: u64 = 112 << 20;
+
+// The same, with one million bytes behind it, for clients that commit a thousand times a second.
+const TIGHT_AREA: u64 = 107 << 20;
 
 /// A file as a disk. What it holds is not known.
 pub type StoredDisk = FileDisk<Unknown>;
@@ -31,8 +38,8 @@ pub fn make_disk<R: Files<File = File> + AllocGlobal>(
 ) -> Result<StoredDisk, Trouble> {
     let path = path_in(rt.alloc(), folder)?;
     let file = options().create(true).truncate(true).open(rt, path)?;
-    let (area, size) = sizes(workload);
-    file.set_len(size)?;
+    let area = area_of(workload);
+    file.set_len(4096 + 2 * area)?;
     let mut disk = FileDisk::open(file)?;
     format(&mut disk, area)?;
     Ok(disk)
@@ -47,13 +54,17 @@ pub fn open_disk<R: Files<File = File> + AllocGlobal>(
     Ok(FileDisk::open(options().open(rt, path)?)?)
 }
 
-// The size of an area, and of the file, in bytes.
-fn sizes(workload: Workload) -> (u64, u64) {
+// The size of an area, in bytes.
+fn area_of(workload: Workload) -> u64
+    ensures { result < 2 ^ 30 }
+{
     match workload {
-        Workload::CounterBesideImagesMillion
-        | Workload::CounterAsyncBesideImagesMillion
-        | Workload::CounterAsyncBesideImagesOfEight => (LARGE_AREA, LARGE_FILE_SIZE),
-        _ => (AREA, FILE_SIZE),
+        Workload::CounterBesideImages | Workload::CounterAsyncBesideImages => SMALL_AREA,
+        Workload::CounterBesideImagesMillion => LARGE_AREA,
+        Workload::CounterAsyncBesideImagesMillion | Workload::CounterAsyncBesideImagesOfEight => {
+            TIGHT_AREA
+        }
+        _ => AREA,
     }
 }
 

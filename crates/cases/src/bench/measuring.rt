@@ -5,7 +5,7 @@ use crate::bench::log::Log;
 use crate::bench::trouble::Trouble;
 use crate::bench::window::Window;
 use crate::bench::workload::Workload;
-use background::{Signal, Work, keep, transact};
+use background::{Work, keep, transact};
 use calls::{Call, Kind, Reply};
 use rand_pcg::Pcg32;
 use std::alloc::AllocGlobal;
@@ -20,9 +20,9 @@ const PAUSE: u64 = 1;
 
 /// What the clients do that are measured, each in a thread.
 #[derive(Drop)]
-pub struct Measuring<'a, C> {
-    /// The clock, and where what is kept is told.
-    pub clock: &'a C,
+pub struct Measuring<'a, P> {
+    /// Where what is kept is told.
+    pub output: &'a P,
     /// Whether each transaction that is kept is told.
     pub is_told: bool,
     pub workload: Workload,
@@ -32,61 +32,58 @@ pub struct Measuring<'a, C> {
     pub window: Window,
 }
 
-impl<C: Clock + Print> Work for Measuring<'_, C> {
+impl<P: Print> Work for Measuring<'_, P> {
     type Output = Result<Log, Trouble>;
 
-    fn work<J: Naming, R: Wait + AllocGlobal>(
+    fn work<J: Naming, R: Wait + Clock + AllocGlobal>(
         &self,
         rt: &R,
         client: &mut Client<'_, J>,
-        signal: &Signal,
         thread: usize,
     ) -> Result<Log, Trouble> {
         match self.workload {
-            Workload::CounterAsync | Workload::OpenFill => self.fill(rt, client, signal),
+            Workload::CounterAsync | Workload::OpenFill => self.fill(rt, client),
             Workload::CounterAsyncBesideImages
             | Workload::CounterAsyncBesideImagesMillion
-            | Workload::CounterAsyncBesideImagesOfEight => self.pace(rt, client, signal),
-            _ => self.run(rt, client, signal, thread as u64),
+            | Workload::CounterAsyncBesideImagesOfEight => self.pace(rt, client),
+            _ => self.run(rt, client, thread as u64),
         }
     }
 }
 
-impl<C: Clock + Print> Measuring<'_, C> {
+impl<P: Print> Measuring<'_, P> {
     // Commits all transactions, and waits for the last one alone.
-    fn fill<J: Naming, R: Wait + AllocGlobal>(
+    fn fill<J: Naming, R: Wait + Clock + AllocGlobal>(
         &self,
         rt: &R,
         client: &mut Client<'_, J>,
-        signal: &Signal,
     ) -> Result<Log, Trouble> {
-        let mut log = Log::new(rt.alloc(), Instant::now(self.clock)?);
-        commit_all(rt, client, signal, Content::of(self.workload), self.count)?;
-        log.end = Instant::now(self.clock)?;
+        let mut log = Log::new(rt.alloc(), Instant::now(rt)?);
+        commit_all(rt, client, Content::of(self.workload), self.count)?;
+        log.end = Instant::now(rt)?;
         log.commits = self.count;
         Ok(log)
     }
 
     // Does what the client of this number does, each transaction kept before the next one begins,
     // until the window admits no more.
-    fn run<J: Naming, R: Wait + AllocGlobal>(
+    fn run<J: Naming, R: Wait + Clock + AllocGlobal>(
         &self,
         rt: &R,
         client: &mut Client<'_, J>,
-        signal: &Signal,
         number: u64,
     ) -> Result<Log, Trouble> {
         let content = Content::of(self.workload);
         let mut numbers = Pcg32::new(number, 1);
-        let mut log = Log::new(rt.alloc(), Instant::now(self.clock)?);
+        let mut log = Log::new(rt.alloc(), Instant::now(rt)?);
         for _ in rt.forever() {
             if !self.window.admits(&log) {
                 return Ok(log);
             }
             let call = content.next_call(rt.alloc(), number, &mut numbers, &mut log.put)?;
             let start = log.end;
-            let (reply, _) = keep(rt, client, signal, &SameCall::of(content, call))?;
-            self.note(reply, start, &mut log)?;
+            let (reply, _) = keep(rt, client, &SameCall::of(content, call))?;
+            self.note(rt, reply, start, &mut log)?;
             self.tell(number, &log)?;
         }
         unreachable!()
@@ -94,23 +91,22 @@ impl<C: Clock + Print> Measuring<'_, C> {
 
     // Commits a transaction after each pause, until the window admits no more, and waits for the
     // last one alone. What is timed is from its begin to its commit, and no pause.
-    fn pace<J: Naming, R: Wait + AllocGlobal>(
+    fn pace<J: Naming, R: Wait + Clock + AllocGlobal>(
         &self,
         rt: &R,
         client: &mut Client<'_, J>,
-        signal: &Signal,
     ) -> Result<Log, Trouble> {
         let bump = SameCall::of(Content::of(self.workload), Call::Bump(1));
-        let mut log = Log::new(rt.alloc(), Instant::now(self.clock)?);
+        let mut log = Log::new(rt.alloc(), Instant::now(rt)?);
         let mut last = None;
         for _ in rt.forever() {
             if !self.window.admits(&log) {
                 break;
             }
-            thread::sleep(self.clock, Duration::from_millis(PAUSE));
-            let start = Instant::now(self.clock)?;
-            let (reply, ticket) = transact(rt, client, signal, &bump)?;
-            self.note(reply, start, &mut log)?;
+            thread::sleep(rt, Duration::from_millis(PAUSE));
+            let start = Instant::now(rt)?;
+            let (reply, ticket) = transact(rt, client, &bump)?;
+            self.note(rt, reply, start, &mut log)?;
             last = Some(ticket);
         }
         if let Some(ticket) = last {
@@ -122,15 +118,21 @@ impl<C: Clock + Print> Measuring<'_, C> {
     // Tells how many of a client's transactions are kept.
     fn tell(&self, number: u64, log: &Log) -> Result<(), Trouble> {
         if self.is_told {
-            println!(self.clock; "{number} {}", log.commits)?;
+            println!(self.output; "{number} {}", log.commits)?;
         }
         Ok(())
     }
 
     // Notes what a transaction came to that ends now, and how long it took. One that found no job
     // is not counted.
-    fn note(&self, reply: Reply, start: Instant, log: &mut Log) -> Result<(), Trouble> {
-        log.end = Instant::now(self.clock)?;
+    fn note(
+        &self,
+        clock: &impl Clock,
+        reply: Reply,
+        start: Instant,
+        log: &mut Log,
+    ) -> Result<(), Trouble> {
+        log.end = Instant::now(clock)?;
         match reply {
             Reply::Nothing if self.workload.kind() == Kind::Queue => {
                 self.window.give_back();

@@ -10,8 +10,8 @@ pub struct Outcome {
     pub logs: Vec<Log>,
     /// What was counted of the system's calls meanwhile.
     pub counts: Counts,
-    /// How many checkpoints were taken meanwhile, where that was a thread's work.
-    pub checkpoints: Option<u64>,
+    /// How many checkpoints were taken meanwhile.
+    pub checkpoints: u64,
 }
 
 impl Outcome {

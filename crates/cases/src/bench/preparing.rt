@@ -2,9 +2,10 @@
 use crate::bench::calling::Content;
 use crate::bench::committing::commit_all;
 use crate::bench::workload::Workload;
-use background::{Signal, Work};
+use background::Work;
 use calls::Refusal;
 use std::alloc::AllocGlobal;
+use std::rt::Clock;
 use std::sync::Wait;
 use store::{Client, Naming};
 
@@ -18,14 +19,13 @@ pub struct Preparing {
 impl Work for Preparing {
     type Output = Result<(), Refusal>;
 
-    fn work<J: Naming, R: Wait + AllocGlobal>(
+    fn work<J: Naming, R: Wait + Clock + AllocGlobal>(
         &self,
         rt: &R,
         client: &mut Client<'_, J>,
-        signal: &Signal,
         _thread: usize,
     ) -> Result<(), Refusal> {
-        fill(rt, client, signal, Content::of(self.workload))?;
+        fill(rt, client, Content::of(self.workload))?;
         let maps = self.workload.maps();
         for collection in maps.names {
             let content = Content {
@@ -33,21 +33,19 @@ impl Work for Preparing {
                 collection,
                 size: maps.size,
             };
-            fill(rt, client, signal, content)?;
+            fill(rt, client, content)?;
         }
         Ok(())
     }
 }
 
 // Makes the collection of a content, and fills it.
-fn fill<J: Naming, R: Wait + AllocGlobal>(
+fn fill<J: Naming, R: Wait + Clock + AllocGlobal>(
     rt: &R,
     client: &mut Client<'_, J>,
-    signal: &Signal,
     content: Content,
 ) -> Result<(), Refusal> {
     let ticket = client.make(rt, content.collection, content.workload.kind())?;
-    signal.wake();
     client.wait(rt, &ticket)?;
-    commit_all(rt, client, signal, content, u64::from(content.size))
+    commit_all(rt, client, content, u64::from(content.size))
 }

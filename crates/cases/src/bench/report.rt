@@ -58,10 +58,7 @@ fn write_rates(outcome: &Outcome, out: &mut impl Write) -> io::Result<()> {
         nearest_u64_to_f64(bytes) / commits
     )?;
     write!(out, "\"client_min\":{least},\"client_max\":{most},")?;
-    match outcome.checkpoints {
-        Some(checkpoints) => write!(out, "\"checkpoints\":{checkpoints},"),
-        None => Ok(()),
-    }
+    write!(out, "\"checkpoints\":{},", outcome.checkpoints)
 }
 
 // The times that half of the transactions, 99 of a hundred and all are not above, in microseconds.

@@ -1,7 +1,7 @@
 // A run on a new store.
 use crate::bench::checking::is_right;
+use crate::bench::counting_disk::CountingDisk;
 use crate::bench::counts::Counts;
-use crate::bench::imaging::{Imaged, run_beside_images};
 use crate::bench::log::Log;
 use crate::bench::measuring::Measuring;
 use crate::bench::options::{Options, Variant};
@@ -39,7 +39,7 @@ pub fn measure<
 }
 
 // Makes what the clients find at the start.
-fn prepare<D: Disk + Drop + Send, R: Threads + Wait + AllocGlobal + Sync>(
+fn prepare<D: Disk + Drop + Send, R: Threads + Wait + Clock + AllocGlobal + Sync>(
     rt: &R,
     disk: D,
     workload: Workload,
@@ -50,29 +50,24 @@ fn prepare<D: Disk + Drop + Send, R: Threads + Wait + AllocGlobal + Sync>(
 }
 
 // Lets the clients run, each in a thread of its own. What they did, and how many checkpoints were
-// taken meanwhile, where that was a thread's work.
+// taken meanwhile.
 fn run_clients<D: Disk + Drop + Send, R: Threads + Wait + Clock + Print + AllocGlobal + Sync>(
     rt: &R,
     disk: D,
     options: &Options<'_>,
-) -> Result<(Vec<Log>, Option<u64>, D), Trouble> {
+) -> Result<(Vec<Log>, u64, D), Trouble> {
     let clients = Measuring {
-        clock: rt,
+        output: rt,
         is_told: options.variant == Variant::Told,
         workload: options.workload,
         count: options.count,
         window: Window::new(options),
     };
-    if options.workload.maps().names.is_empty() {
-        let (logs, closed) = run(rt, disk, &clients, options.threads());
-        return Ok((all_logs(rt.alloc(), logs?)?, None, closed.disk));
-    }
-    let Imaged {
-        answers,
-        checkpoints,
-        disk,
-    } = run_beside_images(rt, disk, &clients, options.threads())?;
-    Ok((all_logs(rt.alloc(), answers)?, Some(checkpoints), disk))
+    let disk = CountingDisk::new(disk);
+    let (logs, closed) = run(rt, disk, &clients, options.threads());
+    let logs = all_logs(rt.alloc(), logs?)?;
+    let (disk, checkpoints) = closed.disk.into_parts();
+    Ok((logs, checkpoints, disk))
 }
 
 // What each client did, where none met trouble.

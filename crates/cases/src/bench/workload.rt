@@ -20,8 +20,8 @@ pub enum Workload {
     Long,
     /// One adds 1 to the counter, again and again, and waits for the last time alone.
     CounterAsync,
-    /// As `Counter`, beside a map of 1,000 values of 100 bytes, while one checkpoint after another
-    /// is taken.
+    /// As `Counter`, beside a map of 1,000 values of 100 bytes, on areas that have little room
+    /// behind an image: so checkpoints are taken again and again.
     CounterBesideImages,
     /// The same, with a million values.
     CounterBesideImagesMillion,
@@ -38,8 +38,7 @@ pub enum Workload {
     Open,
 }
 
-/// The maps beside which clients run while checkpoints are taken. Where there is none, no
-/// checkpointer runs.
+/// The maps beside which clients run while checkpoints are taken.
 #[derive(Clone, Copy)]
 pub struct Maps {
     /// Their names.

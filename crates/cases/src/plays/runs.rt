@@ -26,10 +26,27 @@ impl Ran {
         told.tell_last(text(&self.err), usize::MAX, "! ");
     }
 
+    /// Tells its status, of what it printed each client, each client's end and each line that was
+    /// refused Backlog, and each line of its errors behind a mark.
+    pub fn tell_ends(&self, told: &mut Told) {
+        told.tell(format_args!("= {}", self.status));
+        for line in text(&self.out).lines() {
+            if is_of_end(line) {
+                told.tell(line);
+            }
+        }
+        told.tell_last(text(&self.err), usize::MAX, "! ");
+    }
+
     /// Whether another run ended alike: with the same status and errors.
     pub fn is_alike(&self, other: &Ran) -> bool {
         self.status == other.status && self.err == other.err
     }
+}
+
+// Whether a line that is printed names a client, tells its end, or was refused Backlog.
+fn is_of_end(line: &str) -> bool {
+    line.starts_with("c") || line.starts_with("end: ") || line.ends_with("Backlog")
 }
 
 /// What was printed, as a text.

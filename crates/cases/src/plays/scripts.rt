@@ -16,12 +16,14 @@ pub fn add_bytes(alloc: Global, bench: &mut Workbench, text: &str) -> io::Result
     Ok(bench.script.extend_from_slice(added.as_slice())?)
 }
 
-/// Adds a line for each number from the first to the end, which is left out; `#` in it stands for
-/// the number.
+/// Adds lines, with `; ` between each two, for each number from the first to the end, which is left
+/// out; `#` in a line stands for the number.
 pub fn repeat(bench: &mut Workbench, text: &str) -> io::Result<()> {
-    let (first, end, line) = three(text)?;
+    let (first, end, lines) = three(text)?;
     for n in number(first)?..number(end)? {
-        add_numbered(&mut bench.script, line, n)?;
+        for line in lines.split("; ") {
+            add_numbered(&mut bench.script, line, n)?;
+        }
     }
     Ok(())
 }

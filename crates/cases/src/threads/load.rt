@@ -13,7 +13,7 @@ use recovery::format;
 use std::alloc::{AllocGlobal, Global};
 use std::fs::File;
 use std::io;
-use std::rt::Files;
+use std::rt::{Clock, Files};
 use std::sync::Wait;
 use std::thread::Threads;
 use workers::{Looking, Making, Round, Running};
@@ -45,7 +45,7 @@ fn differences(plain: &mut Plain, rounds: &[Round]) -> Result<usize, Refusal> {
 // Works on a disk in so many threads, and compares what was committed. Tells what came of it.
 fn compare<
     W: Work<Output = Result<Vec<Round>, Refusal>> + Sync,
-    R: Threads + Wait + AllocGlobal + Sync,
+    R: Threads + Wait + Clock + AllocGlobal + Sync,
 >(
     rt: &R,
     disk: FileDisk<Unknown>,
@@ -65,7 +65,7 @@ fn compare<
 }
 
 // Makes a store on a disk, and serves eight clients there.
-fn serve<R: Threads + Wait + AllocGlobal + Sync>(
+fn serve<R: Threads + Wait + Clock + AllocGlobal + Sync>(
     rt: &R,
     disk: FileDisk<Unknown>,
     plain: &mut Plain,
@@ -79,7 +79,7 @@ fn serve<R: Threads + Wait + AllocGlobal + Sync>(
 }
 
 // Asks for all that the store of a disk holds.
-fn look<R: Threads + Wait + AllocGlobal + Sync>(
+fn look<R: Threads + Wait + Clock + AllocGlobal + Sync>(
     rt: &R,
     disk: FileDisk<Unknown>,
     plain: &mut Plain,
@@ -94,7 +94,7 @@ fn look<R: Threads + Wait + AllocGlobal + Sync>(
 /// transactions are run once more, whole, in the order of their places, on a plain store of one
 /// thread: each call must get the reply there that its client got. Last the file is opened again,
 /// and what it holds is asked for and compared. Tells how many replies differ.
-pub fn run<R: Threads + Wait + Files<File = File> + AllocGlobal + Sync>(
+pub fn run<R: Threads + Wait + Clock + Files<File = File> + AllocGlobal + Sync>(
     rt: &R,
     told: &mut Told,
 ) -> io::Result<()> {

@@ -6,8 +6,8 @@ use Rattle.background.specs.Works.{AreParts}
 use Rattle.background.proofs.WorkLemmas.{closed_with}
 use Rattle.background.proofs.running.run_opened.Goals as goal
 
-pub run_beside-requires-sync-S : goal.run_beside-requires-sync-S
-run_beside-requires-sync-S g c κs within =
+pub run_beside-ended-requires-sync-S : goal.run_beside-ended-requires-sync-S
+run_beside-ended-requires-sync-S g c κs within =
     let b = c.type_bounds in
     let store = store_sync (param 1 g.row.D) (param 0 g.row.J) g.J.Naming g.D.Disk b.send-D b.send-J
     b.sync-J in

@@ -1,8 +1,9 @@
 // What the clients do.
 use crate::threads::load::requests::{Asked, all_calls, calls_of};
-use background::{Signal, Transaction, Work, keep};
+use background::{Transaction, Work, keep};
 use calls::{Call, Kind, Refusal, Reply};
 use std::alloc::{AllocError, AllocGlobal, Global};
+use std::rt::Clock;
 use std::sync::Wait;
 use store::{Client, Naming};
 
@@ -70,11 +71,10 @@ pub struct Making;
 impl Work for Making {
     type Output = Result<Vec<Round>, Refusal>;
 
-    fn work<J: Naming, R: Wait + AllocGlobal>(
+    fn work<J: Naming, R: Wait + Clock + AllocGlobal>(
         &self,
         rt: &R,
         client: &mut Client<'_, J>,
-        _signal: &Signal,
         _thread: usize,
     ) -> Result<Vec<Round>, Refusal> {
         client.make(rt, "set", Kind::Set)?;
@@ -92,11 +92,10 @@ pub struct Running;
 impl Work for Running {
     type Output = Result<Vec<Round>, Refusal>;
 
-    fn work<J: Naming, R: Wait + AllocGlobal>(
+    fn work<J: Naming, R: Wait + Clock + AllocGlobal>(
         &self,
         rt: &R,
         client: &mut Client<'_, J>,
-        signal: &Signal,
         thread: usize,
     ) -> Result<Vec<Round>, Refusal> {
         let alloc = rt.alloc();
@@ -107,7 +106,7 @@ impl Work for Running {
             if number % 5 == 4 {
                 give_up(rt, client, &calls)?;
             } else {
-                rounds.push(commit(rt, client, signal, &calls)?)?;
+                rounds.push(commit(rt, client, &calls)?)?;
             }
         }
         Ok(rounds)
@@ -120,11 +119,10 @@ pub struct Looking;
 impl Work for Looking {
     type Output = Result<Vec<Round>, Refusal>;
 
-    fn work<J: Naming, R: Wait + AllocGlobal>(
+    fn work<J: Naming, R: Wait + Clock + AllocGlobal>(
         &self,
         rt: &R,
         client: &mut Client<'_, J>,
-        signal: &Signal,
         _thread: usize,
     ) -> Result<Vec<Round>, Refusal> {
         let alloc = rt.alloc();
@@ -133,19 +131,18 @@ impl Work for Looking {
             choice: Choice::All,
         };
         let mut rounds = Vec::new(alloc);
-        rounds.push(commit(rt, client, signal, &calls)?)?;
+        rounds.push(commit(rt, client, &calls)?)?;
         Ok(rounds)
     }
 }
 
 // Commits a transaction, and waits until it is kept.
-fn commit<J: Naming, R: Wait>(
+fn commit<J: Naming, R: Wait + Clock>(
     rt: &R,
     client: &mut Client<'_, J>,
-    signal: &Signal,
     calls: &Calls,
 ) -> Result<Round, Refusal> {
-    let (calls, ticket) = keep(rt, client, signal, calls)?;
+    let (calls, ticket) = keep(rt, client, calls)?;
     Ok(Round {
         place: ticket.place,
         calls,

@@ -8,12 +8,12 @@ use Rattle.clients.proofs.Seeing.{steps_one}
 use Rattle.clients.proofs.desk.Desk.call.Given.{Over}
 use Rattle.clients.proofs.desk.Desk.call.Goals as goal
 
-abbrev action : (g : Over) → goal.After-note g → Action
+abbrev action : (g : Over) → goal.After-wake g → Action
 action g c = Action.Call c.args.number
     (Target.Named c.args.name.now (found_of c.find-found.result)) c.args.call.now
     c.call_found-replied.result
 
-keeps : (g : Over) (c : goal.After-note g) →
+keeps : (g : Over) (c : goal.After-wake g) →
     IsDesk g.J.Naming c.call_found-replied.new.book c.note.new.seat c.self.inside.sender
     c.self.inside.near
 keeps g c =

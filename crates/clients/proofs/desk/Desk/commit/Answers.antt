@@ -6,10 +6,10 @@ use Rattle.clients.proofs.Seeing.{steps_one}
 use Rattle.clients.proofs.desk.Desk.commit.Given.{Over}
 use Rattle.clients.proofs.desk.Desk.commit.Goals as goal
 
-abbrev action : (g : Over) → goal.After-note g → Action
+abbrev action : (g : Over) → goal.After-wake g → Action
 action g c = Action.Commit c.args.number c.commit-committed.result
 
-keeps : (g : Over) (c : goal.After-note g) →
+keeps : (g : Over) (c : goal.After-wake g) →
     IsDesk g.J.Naming c.commit-committed.new.self c.note.new.seat c.self.inside.sender
     c.self.inside.near
 keeps g c =

@@ -6,10 +6,10 @@ use Rattle.clients.proofs.Seeing.{steps_one}
 use Rattle.clients.proofs.desk.Desk.make.Given.{Over}
 use Rattle.clients.proofs.desk.Desk.make.Goals as goal
 
-abbrev action : (g : Over) → goal.After-note g → Action
+abbrev action : (g : Over) → goal.After-wake g → Action
 action g c = Action.Make c.args.name.now c.args.kind c.make-made.result
 
-keeps : (g : Over) (c : goal.After-note g) →
+keeps : (g : Over) (c : goal.After-wake g) →
     IsDesk g.J.Naming c.make-made.new.self c.note.new.seat c.self.inside.sender c.self.inside.near
 keeps g c =
     desk_takes g.J.Naming c.self.inside.book c.self.inside.seat c.self.inside.sender

@@ -10,7 +10,7 @@ pub returns-clause-content : goal.returns-clause-content
 returns-clause-content g c =
     let n = c.len-size.result in
     let content = g.S.Content.content in
-    let opened = ap (λ (es : List Event). seen_of (padded content n) es) c.new.ensures in
+    let opened = ap (λ (es : List Event). seen_of (padded content n) es) c.new-2.ensures in
     opened ∙ ap (λ (k : ℕ). padded content k)
     (sym (ap length opened ∙ length-take-le n (content ++ replicate n 0)
     (omega (arith, length-append content (replicate n 0), length-replicate {A = ℕ} n 0))))
@@ -21,11 +21,11 @@ returns-clause-at_rest g c = λ d left.
     let content = g.S.Content.content in
     let now : Leaves (padded content n) (replicate n false) d =
     subst (λ (es : List Event). Leaves (seen_of (padded content n) es) (marks_of n es) d)
-    c.new.ensures left in
+    c.new-2.ensures left in
     leaves_only (padded content n) d (replicate n false) n refl
     (sym (length-take-le n (content ++ replicate n 0)
     (omega (arith, length-append content (replicate n 0), length-replicate {A = ℕ} n 0)))) now
-    ∙ sym (ap (λ (es : List Event). seen_of (padded content n) es) c.new.ensures)
+    ∙ sym (ap (λ (es : List Event). seen_of (padded content n) es) c.new-2.ensures)
 
 pub returns-clause-faults : goal.returns-clause-faults
 returns-clause-faults g c = search rules

@@ -14,8 +14,8 @@ returns-clause-stop g c =
     sync_adds_nothing (padded g.S.Content.content d.size) d.size d.log.events c.note.new.self.events
     d.sized d.marked _ c.note.ensures c.if-not-ok.false
 
-pub invariant_of-self-else-not-ok : goal.invariant_of-self-else-not-ok
-invariant_of-self-else-not-ok g c =
+pub invariant_of-self : goal.invariant_of-self
+invariant_of-self g c =
     let d = c.args.self.now in
     let sizes = sizes_after_sync (padded g.S.Content.content d.size) d.size d.log.events
     c.note.new.self.events d.sized d.marked _ c.note.ensures in

@@ -26,14 +26,6 @@ invariant_of-self g c =
     c.requires in
     record { sized = sizes.0; marked = sizes.1 }
 
-pub invariant_of-self-else-not-ok : goal.invariant_of-self-else-not-ok
-invariant_of-self-else-not-ok g c =
-    let d = c.args.self.now in
-    let sizes = sizes_after_write (padded g.S.Content.content d.size) d.size d.log.events
-    c.note.new.self.events d.sized d.marked c.args.at c.args.bytes.now _ c.note.ensures
-    c.requires in
-    record { sized = sizes.0; marked = sizes.1 }
-
 pub returns-clause-seen : goal.returns-clause-seen
 returns-clause-seen g c =
     let d = c.args.self.now in

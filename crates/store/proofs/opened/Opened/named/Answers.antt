@@ -4,8 +4,8 @@ use Rattle.store.specs.Vaults.{ReceivesAny}
 use Rattle.store.proofs.VaultSteps.{vault_opens}
 use Rattle.store.proofs.opened.Opened.named.Goals as goal
 
-pub new-requires-2-clause-received : goal.new-requires-2-clause-received
-new-requires-2-clause-received g c =
+pub new-requires-3-clause-received : goal.new-requires-3-clause-received
+new-requires-3-clause-received g c =
     let keeper = c.self.inside.keeper in
     let book = c.self.inside.book in
     let o : OpenedState _ = record { book = book; keeper = keeper; tables = c.self.inside.parts } in

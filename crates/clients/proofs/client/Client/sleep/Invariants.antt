@@ -1,6 +1,6 @@
 use Rattle.std.proofs.Common.{List, ℕ, Bool}
 use Rattle.clients.specs.Calls.{Hears}
-use Rattle.clients.proofs.client.Client.wait.Given as goal
+use Rattle.clients.proofs.client.Client.sleep.Given as goal
 
 -- counts and flags were loaded
 abbrev pub invariant-loop : goal.invariant-loop

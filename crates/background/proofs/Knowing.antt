@@ -1,0 +1,67 @@
+-- What a client knew it knows still.
+use Rattle.std.proofs.Common.{◌≡◌, ℕ, List, [], ◌++◌, Bool, Result, refl, sym, ap, subst}
+use Rattle.std.proofs.Common.{inl, inr, ◌∙◌}
+use Rattle.std.specs.Prelude.{Contains}
+use mathlib.Core.List.{IsPrefix}
+use Rattle.std.proofs.lemmas.List.{append-nil}
+use Rattle.std.proofs.lemmas.List.Elements.{Contains-append_left}
+use Rattle.calls.specs.declared.refusal.Refusal.{Refusal}
+use Rattle.txn.specs.declared.steps.Action.{Action}
+use Rattle.clients.specs.declared.naming.Naming.{Ghosts}
+use Rattle.clients.specs.declared.phase.Phase.{Phase}
+use Rattle.clients.specs.Calls.{Acts, Aborts, Hears}
+use Rattle.clients.specs.Known.{Known}
+use Rattle.background.specs.Works.{KnowsStill}
+use Rattle.background.proofs.WorkLemmas.{prefix_through}
+
+-- nothing was done
+pub knows_same : (known : Known) → KnowsStill known known
+knows_same known = record {
+  number = refl;
+  seen = ([], append-nil known.seen);
+  counts = λ count some. some;
+}
+
+-- one thing was done behind another
+pub knows_through : (old between new : Known) → KnowsStill old between → KnowsStill between new →
+    KnowsStill old new
+knows_through old between new one two = record {
+  number = two.number ∙ one.number;
+  seen = prefix_through old.seen between.seen new.seen one.seen two.seen;
+  counts = λ count some. two.counts count (one.counts count some);
+}
+
+-- counts and flags were loaded
+pub knows_heard : (old new : Known) (counts : List ℕ) (flags : List Bool) →
+    Hears old counts flags new → KnowsStill old new
+knows_heard old new counts flags hears =
+    subst (KnowsStill old) (sym hears) (record {
+      number = refl;
+      seen = ([], append-nil old.seen);
+      counts = λ count some. Contains-append_left old.counts counts count some;
+    })
+
+module _ {J : Type 0} (j : Ghosts J) where
+  -- steps were taken
+  pub knows_acted : (old new : Known) (firsts : List Action) (last : Action) →
+      Acts j old firsts last new → KnowsStill old new
+  knows_acted old new firsts last acts = record {
+    number = ap (λ (k : Known). k.number) acts.0;
+    seen = acts.1.grows.begins;
+    counts = λ count some. subst (λ l. Contains l count)
+        (sym (ap (λ (k : Known). k.counts) acts.0)) some;
+  }
+
+  -- a transaction was aborted, or that was refused
+  pub knows_aborted : (p : Phase) (old new : Known) (r : Result (Unit {0}) Refusal) →
+      Aborts j p old r new → KnowsStill old new
+  knows_aborted Phase.Closed old new r aborts = absurd aborts
+  knows_aborted (Phase.Drawn n) old new r aborts = subst (KnowsStill old) (sym aborts.1) (record {
+    number = refl;
+    seen = ([], append-nil old.seen);
+    counts = λ count some. some;
+  })
+  knows_aborted (Phase.Entered n) old new r aborts = elim aborts.1.1 [
+    | inl ended ↦ knows_acted old new _ _ ended
+    | inr undone ↦ knows_acted old new _ _ undone.2
+  ]
