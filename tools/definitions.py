@@ -1,11 +1,13 @@
 #!/usr/bin/env python3
-"""Writes docs/DEFINITIONS.md from docs/definitions.list and the spec files.
+"""Writes docs/DEFINITIONS.md and docs/THEOREMS.md from docs/definitions.list, docs/theorems.list, the spec files and the
+contracts.
 
-In the list a line `@ FILE` names the spec file of the entries behind it. An entry `+ NAME, NAME: SENTENCE`
+In a list a line `@ FILE` names the spec file of the entries behind it. An entry `+ NAME, NAME: SENTENCE`
 shows the definitions as their file has them, and `- NAME, NAME: SENTENCE` tells of them in words; an indented
-line goes on with its entry. A line `= CRATE` lists what the contracts of the crate's public items cite. All
-other lines are text, which is copied. A name that its file does not declare fails. With --check nothing is
-written, and a page that differs fails too.
+line goes on with its entry. `~ NAME, NAME` shows definitions with the comments that stand above them, in one piece. A line `= CRATE` lists what the contracts of the crate's public items cite. A line
+`* FILE FUNCTION: CLAUSE, CLAUSE` shows these clauses of a public function as its source has them. All other lines
+are text, which is copied. A name or a clause that its file does not have fails, and so does a definition that no
+contract reaches. With --check nothing is written, and a page that differs fails too.
 """
 import glob
 import os
@@ -15,12 +17,16 @@ import textwrap
 
 sys.dont_write_bytecode = True
 
-from cited import cited
+from cited import CALL, USE, cited, contract, text_of
 
 ROOT = os.path.dirname(os.path.dirname(os.path.abspath(__file__)))
-LIST, PAGE = 'docs/definitions.list', 'docs/DEFINITIONS.md'
+PAGES = {'docs/definitions.list': 'docs/DEFINITIONS.md', 'docs/theorems.list': 'docs/THEOREMS.md'}
 DECLARES = re.compile(r'^(\s*)(?:(?:pub|abbrev|unfoldable) )*(?:record |data )?(\S+)(?= :| \(| \{)')
 ENTRY = re.compile(r'([+-]) (\w+(?:, \w+)*): (.+)', re.S)
+PIECE = re.compile(r'~ (\w+(?:, \w+)*)')
+QUOTE = re.compile(r'\* (\S+\.rt) (\w+): (\w+(?:, \w+)*)')
+CLAUSE = re.compile(r'^ *(?:ensures|requires) (\w+) \{')
+WORD = re.compile(r'[^\W\d][\w-]*')
 
 
 def lines_of(path):
@@ -52,7 +58,7 @@ def declared(path):
 
 def blocks_of(text):
     """The list as blocks: a line that names a file or a crate, an entry, or text up to one of these."""
-    return re.split(r'\n+(?=[@=] |[+-] \w)|(?<=\n)\n(?=\S)', text)
+    return re.split(r'\n+(?=[@=*] |[+~-] \w)|(?<=\n)\n(?=\S)', text)
 
 
 def shown(block, path, names, gone):
@@ -75,6 +81,55 @@ def citations(crate, files):
         yield textwrap.fill(line, 118, subsequent_indent='  ', break_long_words=False, break_on_hyphens=False)
 
 
+def piece(block, path, names, gone):
+    """Definitions with the comments above them, as their file has them."""
+    code, lines = [], lines_of(path)
+    for word in PIECE.fullmatch(block)[1].split(', '):
+        if word not in names:
+            gone.append(f'{path} does not declare {word}')
+            continue
+        first = names[word].split('\n')[0]
+        place = next(place for place, line in enumerate(lines) if line.strip() == first)
+        begin = place
+        while lines[begin - 1].strip().startswith('--'):
+            begin -= 1
+        code.append('\n'.join([*map(str.strip, lines[begin:place]), names[word]]))
+    return '```\n' + '\n\n'.join(code) + '\n```'
+
+
+def quoted(block, gone):
+    """The clauses of a public function that are named, as its source has them."""
+    path, name, wanted = QUOTE.fullmatch(block).groups()
+    lines, clauses, clause = lines_of(path), {}, None
+    calls = [(place, match) for place, match in enumerate(map(CALL.match, lines)) if match and match[3] == name and match[2]]
+    for place, match in calls[:1]:
+        pad = match[1]
+        for line in contract(lines, place, pad).split('\n'):
+            begun = CLAUSE.match(line)
+            clause = begun[1] if begun else None if line.strip().startswith(('//', 'ensures', 'requires')) else clause
+            if clause:
+                clauses.setdefault(clause, []).append(line[len(pad) :])
+    gone += [f'{path}: {name} has no clause {word}' for word in wanted.split(', ') if word not in clauses]
+    code = textwrap.dedent('\n'.join('\n'.join(clauses.get(word, [])) for word in wanted.split(', ')))
+    return f'`{name}` in {path}:\n\n```\n{code}\n```'
+
+
+def reached(files):
+    """The names that contracts reach: those that sources take from spec files, and what their definitions have."""
+    texts, todo, found = {}, [], set()
+    for names in files.values():
+        for name, text in names.items():
+            texts.setdefault(name, []).append(text)
+    for path in glob.glob(os.path.join(ROOT, 'crates', '*', 'src', '**', '*.rt'), recursive=True):
+        todo += [name for _, _, names in USE.findall(text_of(path)) for name in WORD.findall(names)]
+    while todo:
+        name = todo.pop()
+        if name not in found and name in texts:
+            found.add(name)
+            todo += [word for text in texts[name] for word in WORD.findall(text)]
+    return found
+
+
 def page_of(text, files, gone):
     """The page, part by part. What is named and not declared is added to `gone`."""
     path, names = None, {}
@@ -85,6 +140,10 @@ def page_of(text, files, gone):
         elif block.startswith('@ '):
             path, names = block[2:], files.get(block[2:], {})
             yield f'### {path}'
+        elif PIECE.fullmatch(block):
+            yield piece(block, path, names, gone)
+        elif QUOTE.fullmatch(block):
+            yield quoted(block, gone)
         elif ENTRY.fullmatch(block):
             yield shown(block, path, names, gone)
         else:
@@ -101,21 +160,33 @@ def joined(parts):
     return page + '\n'
 
 
+def unreached(text, known):
+    """The names of a list's entries that no contract reaches."""
+    blocks = [block.strip('\n') for block in blocks_of(text.strip('\n'))]
+    entries = [ENTRY.fullmatch(block) for block in blocks] + [PIECE.fullmatch(block) for block in blocks]
+    listed = [name for entry in entries if entry for name in entry[2 if entry.re is ENTRY else 1].split(', ')]
+    return [name for name in listed if name not in known]
+
+
 def main():
     pattern = os.path.join(ROOT, 'crates', '*', 'specs', '**', '*.antt')
     paths = [os.path.relpath(path, ROOT) for path in sorted(glob.glob(pattern, recursive=True))]
     files = {path: declared(path) for path in paths}
-    gone = []
-    page = joined(page_of('\n'.join(lines_of(LIST)), files, gone))
-    for line in gone:
-        print(line)
-    is_same = page == '\n'.join(lines_of(PAGE))
-    if '--check' in sys.argv[1:] and not is_same:
-        print(f'{PAGE} is not what tools/definitions.py writes: run it')
-    elif not is_same:
-        with open(os.path.join(ROOT, PAGE), 'w', encoding='utf-8') as file:
-            file.write(page)
-    sys.exit(bool(gone) or '--check' in sys.argv[1:] and not is_same)
+    known, has_failed, is_check = reached(files), False, '--check' in sys.argv[1:]
+    for listed, path in PAGES.items():
+        gone, text = [], '\n'.join(lines_of(listed))
+        page = joined(page_of(text, files, gone))
+        gone += [f'{listed}: no contract reaches {name}' for name in unreached(text, known)]
+        for line in gone:
+            print(line)
+        is_same = os.path.exists(os.path.join(ROOT, path)) and page == '\n'.join(lines_of(path))
+        if is_check and not is_same:
+            print(f'{path} is not what tools/definitions.py writes: run it')
+        elif not is_same:
+            with open(os.path.join(ROOT, path), 'w', encoding='utf-8') as file:
+                file.write(page)
+        has_failed = has_failed or bool(gone) or is_check and not is_same
+    sys.exit(has_failed)
 
 
 main()

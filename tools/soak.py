@@ -14,8 +14,7 @@ order of the places, on a plain model: each reply must be the same, and behind e
 holds, with nothing unfinished.
 
 A shim that is preloaded makes the syncs of the disk slower: it sleeps in each for so many microseconds, which the variable
-PEERSYNC_DELAY_US tells it. There every other round may leave more records than wait for a disk at most, and a line of such a round
-may be refused Backlog; the other rounds leave fewer.
+PEERSYNC_DELAY_US tells it. Rounds leave more records than wait for a disk at most, faster than a slow disk takes them.
 
 It is no part of the gate. It ends at the first round that is wrong, tells why, and keeps the script and the disk. Else it
 prints what it did in numbers.
@@ -27,7 +26,6 @@ import random
 import re
 import shutil
 import subprocess
-import sys
 import tempfile
 import time
 
@@ -40,8 +38,6 @@ BOOST = os.path.join(TOP, "crates/boost_main/out/boost_main")
 NAMES = {"set": ["s", "t"], "map": ["m", "o"], "queue": ["q"], "counter": ["n", "k"], "pool": ["p"]}
 AREAS = [1 << 16, 1 << 20, 1 << 24]
 MOST_CALLS = 1024
-# So many records wait for a disk at most, and a bit.
-MOST_RECORDS = 16000
 # How long a round may take, in seconds.
 LIMIT = 300
 # The bytes that the record of a call takes at most, of a value of 16 bytes.
@@ -58,13 +54,12 @@ class Wrong(Exception):
 class Round:
     """The script of a round: what each of its clients does, on a disk with areas of so many bytes."""
 
-    def __init__(self, chance, area, model, most_records):
+    def __init__(self, chance, area, model):
         self.chance, self.area, self.model = chance, area, model
         self.clients = chance.choice([1, 2, 2, 4, 8, 8, 16, 64])
         # what is live must fit into an area beside what is held
         self.longest = max(1, min(MOST_CALLS, area // (4 * CALL_SIZE * self.clients)))
         self.keys = max(8, area >> 12) if area < 1 << 20 else 256
-        self.left = most_records
         self.lines = []
 
     def script(self):
@@ -81,22 +76,18 @@ class Round:
     def client(self, name, count):
         """The lines of a client, about so many, with a commit at the end or an open transaction."""
         lines = []
-        while len(lines) < count and self.left > 0:
+        while len(lines) < count:
             lines += [f"{name} {line}" for line in self.step()]
         if self.chance.random() < 0.8:
             lines += [f"{name} {line}" for line in ("abort", "begin", f"call n bump {self.chance.randrange(100)}", "commit")]
-            self.left -= 3
         elif self.chance.random() < 0.5:
             lines += [f"{name} {line}" for line in ("abort", "begin", f"call n bump {self.chance.randrange(100)}", "call q take")]
-            self.left -= 5
         return lines
 
     def step(self):
         """What a client does next."""
         kind = self.chance.choice(["short"] * 8 + ["long", "reads", "tries", "hold", "pause", "stray", "bumps"])
-        lines = getattr(self, kind)()
-        self.left -= sum(2 for line in lines if line.startswith(("call", "later"))) + 2
-        return lines
+        return getattr(self, kind)()
 
     def end(self):
         return self.chance.choice(["commit"] * 7 + ["abort"] * 2 + ["kept"])
@@ -110,8 +101,7 @@ class Round:
 
     def bumps(self):
         """A long transaction that is taken back whole."""
-        count = min(self.longest, max(1, self.left // 2))
-        return ["begin", *(f"call k bump {self.chance.randrange(-9, 9)}" for _ in range(count)), "abort"]
+        return ["begin", *(f"call k bump {self.chance.randrange(-9, 9)}" for _ in range(self.longest)), "abort"]
 
     def reads(self):
         count = self.chance.randrange(MOST_CALLS)
@@ -119,7 +109,7 @@ class Round:
 
     def tries(self):
         """A client that meets a lock, takes all back and tries again."""
-        count = min(self.chance.choice([1, 10, 100, 1000]), max(1, self.left // 4))
+        count = self.chance.choice([1, 10, 100, 1000])
         return ["begin", "call n bump 1", "call q take", "abort"] * count
 
     def hold(self):
@@ -273,7 +263,7 @@ class Soak:
             raise Wrong(f"{words[0]}: status {done.returncode}: {done.stderr.strip()}")
         return done.stdout
 
-    def serve(self, lines, may_wait):
+    def serve(self, lines):
         """Serves a script, and runs what was committed on the model."""
         with open(os.path.join(self.folder, "script"), "w") as file:
             file.write("".join(f"{line}\n" for line in lines))
@@ -286,7 +276,7 @@ class Soak:
         for client, answers in told.items():
             if answers["end"] not in ("kept", "no ticket"):
                 raise Wrong(f"{client} ended {answers['end']}")
-        if self.counts["Backlog"] > before and not may_wait:
+        if self.counts["Backlog"] > before:
             raise Wrong(f"{self.counts['Backlog'] - before} lines were refused Backlog")
         run_again(self.model, found)
 
@@ -304,14 +294,12 @@ class Soak:
         self.model = stories.Content()
         self.counts["disks"] += 1
         self.boost("format", self.disk, "--area", str(self.area))
-        self.serve([f"c1 make {kind} {name}" for kind, names in NAMES.items() for name in names], False)
+        self.serve([f"c1 make {kind} {name}" for kind, names in NAMES.items() for name in names])
 
     def round(self, number):
         if number % 20 == 0:
             self.make_disk()
-        may_wait = bool(self.asked.shim) and number % 2 == 1
-        most = MOST_RECORDS if self.asked.shim and not may_wait else sys.maxsize
-        self.serve(Round(self.chance, self.area, self.model, most).script(), may_wait)
+        self.serve(Round(self.chance, self.area, self.model).script())
         self.look()
         self.counts["rounds"] += 1
 

@@ -18,6 +18,7 @@ use Rattle.disk_model.specs.declared.disk.Disk.{Ghosts}
 use Rattle.group_commit.specs.Marks.{AreReached}
 use Rattle.recovery.specs.Openings.{KeepsContent}
 use Rattle.repetition.specs.Journals.{StandsFor}
+use Rattle.repetition.specs.Reading.{IsSound}
 use Rattle.clients.specs.Known.{SeenState}
 use Rattle.clients.specs.Known.{Known}
 use Rattle.clients.specs.declared.naming.Naming as namings
@@ -145,6 +146,19 @@ yields_fewer start all known bytes y = record {
   serial = y.serial;
 }
 
+-- of the transactions none
+yields_none : (content : List Collection) (all : List Transaction) (bytes : List ℕ) →
+    IsSound bytes × StandsFor bytes content → Yields content all [] bytes
+yields_none content all bytes kept = record {
+  sound = kept.0;
+  content = content;
+  stands = kept.1;
+  kept = [];
+  begins = (all, refl);
+  holds = ([], refl);
+  serial = refl;
+}
+
 module _ {D : Type 0} (g : Ghosts D) where
   -- A store that was opened under a name was worked on.
   pub was_opened : {J : Type 0} (j : namings.Ghosts J) (parts : List BookStep → List ℕ → Type 0)
@@ -152,22 +166,35 @@ module _ {D : Type 0} (g : Ghosts D) where
       (closed : IsClosed j g parts new kept) → told closed.closes.steps →
       (g.is_honest opened → KeepsContent g.seen g.may_leave g.moment g.left_since old opened) →
       (g.is_honest opened → IsAtRest g.seen g.may_leave old → j.sound) →
+      (g.is_honest opened → IsSound (g.seen old)) →
       ((content : List Collection) → StandsFor (g.seen old) content → g.is_honest opened →
-      j.start ≡ content) → WasOpened g told old new kept
-  was_opened j parts told old opened new kept closed told_of keeps sound content =
+      j.start ≡ content) → (j.opened_at ≡ g.moment opened) →
+      ((t : ℕ) (bytes : List ℕ) → j.left_since t bytes → g.left_since opened t bytes) →
+      WasOpened g told old new kept
+  was_opened j parts told old opened new kept closed told_of keeps sound whole start at was =
       let steps = closed.closes.steps in record {
         opened = opened;
         keeps = keeps;
-        worked = λ honest held rest stands. record {
+        worked = λ honest content rest stands. record {
           wear = j.wear;
           steps = steps;
           behind = standing closed.book;
           legal = subst (λ s. IsLegal catalog_meaning catalog_making (opening s j.wear) steps
-              (standing closed.book)) (content held stands honest) closed.closes.legal;
+              (standing closed.book)) (start content stands honest) closed.closes.legal;
           told_of = told_of;
+          any_moment = λ bytes left.
+              let opening = keeps honest content rest (whole honest) stands in
+              let since = closed.closes.any_moment (sound honest rest) in
+              elim (since.before (g.moment old) bytes (omega (arith, at, opening.later))
+              (subst (λ d. g.left_since d (g.moment old) bytes) closed.disk left)) [
+                | inl before ↦ yields_none content (committed_by steps) bytes
+                    (opening.each bytes (was (g.moment old) bytes before))
+                | inr now ↦ subst (λ s. Yields s (committed_by steps) [] bytes)
+                    (start content stands honest) now
+              ];
           stop = λ bytes left.
               subst (λ s. Yields s (committed_by steps) (take kept (committed_by steps)) bytes)
-              (content held stands honest)
+              (start content stands honest)
               (subst (λ n. Yields j.start (committed_by steps) (take n (committed_by steps)) bytes)
               (sym closed.mark) (closed.closes.stop (sound honest rest) bytes
               (subst (λ d. g.may_leave d bytes) closed.disk left)));
@@ -189,6 +216,7 @@ module _ {D : Type 0} (g : Ghosts D) where
             behind = w.behind;
             legal = w.legal;
             told_of = tt;
+            any_moment = w.any_moment;
             stop = λ bytes may. yields_fewer content (committed_by w.steps)
                 (take kept (committed_by w.steps)) bytes (w.stop bytes may);
           };

@@ -83,23 +83,27 @@ module _ {A : Type 0} (says : ℕ → A → Known → Type 0) where
 
 -- ---- what is left
 
--- Threads took the steps of a legal history from the content. Whatever a stop leaves of the disk
--- now is sound, and stands for a content that some beginning of the transactions gives that the
--- history commits, each run whole, one after another, with the replies that its client got; and
--- that beginning holds the first so many of them. told: what is known of the history.
+-- Threads took the steps of a legal history from the content. Whatever a stop at any moment since
+-- this one might have left of the disk is sound, and stands for a content that some beginning of the
+-- transactions gives that the history commits, each run whole, one after another, with the replies
+-- that its client got; and of what a stop leaves now that beginning holds the first so many of them.
+-- told: what is known of the history.
 pub record IsWorkedOn {D : Type 0} (g : Ghosts D) (told : List BookStep → Type 0)
-    (content : List Collection) (new : D) (kept : ℕ) : Type 0 where
+    (content : List Collection) (since : ℕ) (new : D) (kept : ℕ) : Type 0 where
   pub wear : ℕ
   pub steps : List BookStep
   pub behind : Standing (List Collection)
   pub legal : IsLegal catalog_meaning catalog_making (opening content wear) steps behind
   pub told_of : told steps
+  pub any_moment : (bytes : List ℕ) → g.left_since new since bytes →
+      Yields content (committed_by steps) [] bytes
   pub stop : (bytes : List ℕ) → g.may_leave new bytes →
       Yields content (committed_by steps) (take kept (committed_by steps)) bytes
 
 -- A store was opened, and worked on. Where the disk read true until it was open, a stop in the
 -- opening leaves the content; and where it was at rest and its bytes stood for a content, the work
--- went on from that.
+-- went on from that, and what is said of a stop at any moment is said of each since the opening
+-- began.
 pub record WasOpened {D : Type 0} (g : Ghosts D) (told : List BookStep → Type 0) (old new : D)
     (kept : ℕ) : Type 0 where
   pub opened : D
@@ -107,7 +111,7 @@ pub record WasOpened {D : Type 0} (g : Ghosts D) (told : List BookStep → Type 
       KeepsContent g.seen g.may_leave g.moment g.left_since old opened
   pub worked : g.is_honest opened → (content : List Collection) →
       IsAtRest g.seen g.may_leave old → StandsFor (g.seen old) content →
-      IsWorkedOn g told content new kept
+      IsWorkedOn g told content (g.moment old) new kept
 
 -- The opening was refused: a stop leaves the content. Or the store was opened and worked on.
 abbrev pub IsLeftByWork : {D : Type 0} (g : Ghosts D) → (old new : D) → (kept : ℕ) → Type 0

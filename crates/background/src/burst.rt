@@ -26,8 +26,12 @@ const PART: u32 = 4;
 
 const LONGEST_WAIT: u64 = 1000;
 
-// How often a client looks for its ticket before it sleeps, on a disk that is not slow.
+// How often a client looks for its ticket before it sleeps, on a disk that is not slow. From the
+// eighth look on it yields its processor between two.
 const LOOKS: u64 = 1000;
+
+// The same on a slow disk: it sleeps where it would begin to yield.
+const FEW_LOOKS: u64 = 7;
 
 // For how many commits the next block waits. A client whose commit was just kept is likely to come
 // back with its next one, so the block waits for as many as were kept, beside those that came
@@ -67,14 +71,14 @@ impl Burst {
     // The block was kept, and took so long: those whose commits it had may come back.
     pub(crate) fn release(&mut self, signal: &Signal, took: Duration) {
         let released = self.cut.wrapping_sub(self.before).min(MOST);
-        self.wanted = signal.commits().wrapping_add(released);
+        self.wanted = signal.before_wake().wrapping_add(released);
         let is_slow = took > Duration::from_micros(SLOW);
         self.longest = if is_slow {
             (took / PART).min(Duration::from_micros(LONGEST_WAIT))
         } else {
             Duration::ZERO
         };
-        signal.set_patience(if is_slow { 0 } else { LOOKS });
+        signal.set_patience(if is_slow { FEW_LOOKS } else { LOOKS });
     }
 
     // Nothing is pending: who comes next is not waited for long.
@@ -90,7 +94,7 @@ fn spin_for(signal: &Signal, wanted: u64) -> u64 {
     let mut commits = signal.commits();
     let mut idle = 0;
     for _ in 0..LONGEST {
-        if commits >= wanted || idle >= PATIENCE || signal.is_over() {
+        if commits >= wanted || idle >= PATIENCE || nobody_comes(signal) {
             break;
         }
         pause();
@@ -99,6 +103,11 @@ fn spin_for(signal: &Signal, wanted: u64) -> u64 {
         commits = now;
     }
     commits
+}
+
+// Whether no client commits before the next cut: all work is over, or clients wait for it.
+fn nobody_comes(signal: &Signal) -> bool {
+    signal.is_over() || signal.is_crowded()
 }
 
 // A few microseconds.
@@ -119,7 +128,7 @@ fn yield_for(clock: &impl Clock, signal: &Signal, wanted: u64, longest: Duration
         let is_late = start
             .elapsed(clock)
             .map_or(true, |waited| waited >= longest);
-        if commits >= wanted || is_late || signal.is_over() {
+        if commits >= wanted || is_late || nobody_comes(signal) {
             break;
         }
         thread::yield_now();

@@ -38,6 +38,9 @@ pub(crate) trait Commits {
     /// tried again later.
     fn checkpoint_all<R: Wait + Clock>(&self, rt: &R, checkpoints: &Checkpoints);
 
+    /// Clients are to wait for the committer where they leave records faster than it takes them.
+    fn begin(&self);
+
     /// No more commits come.
     fn end(&self);
 }
@@ -49,6 +52,7 @@ impl<D: Disk, J: Naming> Commits for Store<D, J> {
             checkpoints.end_by(refusal);
             committer.stop();
         }
+        self.signal().set_attended(false);
         checkpoints.end();
     }
 
@@ -64,6 +68,10 @@ impl<D: Disk, J: Naming> Commits for Store<D, J> {
             }
             checkpoints.answer(asked, made.is_ok());
         }
+    }
+
+    fn begin(&self) {
+        self.signal().set_attended(true);
     }
 
     fn end(&self) {
@@ -195,6 +203,7 @@ pub(crate) fn start<'s, E, S: Commits + Sync, R: Wait + Clock + Sync>(
     let Ok(checkpointer) = scope.spawn(move || store.checkpoint_all(rt, checkpoints)) else {
         return Err(Refusal::NoMemory);
     };
+    store.begin();
     match scope.spawn(move || store.commit_all(rt, checkpoints)) {
         Ok(committer) => Ok(Keeping {
             committer,

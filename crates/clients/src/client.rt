@@ -26,11 +26,12 @@ use group_commit::{ClientSeat, Drawer, Watcher};
 use std::marker::Model;
 use std::sync::Wait;
 
-// How often a client that waits looks at most before it sleeps.
-const MOST_LOOKS: u64 = 4096;
-
 /// A client of a store, which one thread has at a time. It has one transaction, or none. Contracts
 /// see what it knows.
+///
+/// Where clients leave records faster than the disk takes them, and a committer's thread is at work
+/// (`Signal::set_attended`), each step but `begin` sleeps first while 8,192 records wait. So a client
+/// is refused Backlog only where no committer is at work, or keeping has failed.
 pub struct Client<'s, J: Naming> {
     desk: &'s DeskLock<J>,
     shared: &'s Shared<J>,
@@ -137,6 +138,7 @@ impl<'s, J: Naming> Client<'s, J> {
             (Action.Make name.now kind (placed result)) self.new }
         ensures phase { self.new.phase ≡ self.old.phase }
     {
+        self.shared.signal.let_drain(rt);
         let desk = self.desk;
         let place = desk.lock(rt).make(self.shared, &mut self.line, name, kind)?;
         Ok(Ticket { place })
@@ -167,6 +169,7 @@ impl<'s, J: Naming> Client<'s, J> {
             (λ e. result ≡ Err e) Phase.Entered self.new }
         ensures open { IsOpen self.new.phase }
     {
+        self.shared.signal.let_drain(rt);
         let mutex = self.desk;
         let mut desk = mutex.lock(rt);
         let number = self.enter(&mut desk)?;
@@ -186,6 +189,7 @@ impl<'s, J: Naming> Client<'s, J> {
             (λ e. result ≡ Err e) Phase.Entered self.new }
         ensures open { IsOpen self.new.phase }
     {
+        self.shared.signal.let_drain(rt);
         let mutex = self.desk;
         let mut desk = mutex.lock(rt);
         let number = self.enter(&mut desk)?;
@@ -210,6 +214,7 @@ impl<'s, J: Naming> Client<'s, J> {
             self.new }
         ensures phase { IsEnded result self.new.phase }
     {
+        self.shared.signal.let_drain(rt);
         let mutex = self.desk;
         let mut desk = mutex.lock(rt);
         let number = self.enter(&mut desk)?;
@@ -253,6 +258,7 @@ impl<'s, J: Naming> Client<'s, J> {
         ensures phase { self.new.phase ≡ self.old.phase }
     {
         self.undo(rt, number)?;
+        self.shared.signal.let_drain(rt);
         let desk = self.desk;
         desk.lock(rt).ended(self.shared, &mut self.line, number)
     }
@@ -276,6 +282,7 @@ impl<'s, J: Naming> Client<'s, J> {
         ensures step { Acts ⟦<J as Naming>⟧ self.old [] (back number result) self.new }
         ensures phase { self.new.phase ≡ self.old.phase }
     {
+        self.shared.signal.let_drain(rt);
         let desk = self.desk;
         desk.lock(rt).back(self.shared, &mut self.line, number)
     }
@@ -325,24 +332,18 @@ impl<'s, J: Naming> Client<'s, J> {
         }
     }
 
-    // Looks again and again, until the backoff says that it is time to sleep, and as often as it
-    // pays on the disk.
+    // Looks as often as it pays on the disk, and backs off between two looks.
     fn watch(&mut self, ticket: &Ticket) -> Option<Result<(), Refusal>>
         ensures some { IfSome result (λ r. Waits self.old ticket.now.place r self.new) }
         ensures none { IfNone result ((counts : List ℕ) × (flags : List Bool) ×
             Hears self.old counts flags self.new) }
     {
         let backoff = Backoff::new();
-        let patience = self.shared.signal.patience();
-        for looks in 0..MOST_LOOKS {
+        for _ in 0..self.shared.signal.patience() {
             match self.look(ticket) {
                 Some(done) => return Some(done),
-                None => {}
+                None => backoff.snooze(),
             }
-            if looks >= patience && backoff.is_completed() {
-                return None;
-            }
-            backoff.snooze();
         }
         None
     }

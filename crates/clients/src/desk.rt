@@ -257,6 +257,7 @@ impl<J: Naming> Desk<J> {
         let records = self.book.next_block().map_or(0, |next| next.records);
         let cut = cut_into(rt, &shared.handoff, &mut self.book, &mut self.sender);
         self.undoing = self.undoing.saturating_add(records);
+        shared.signal.cut(self.book.waiting());
         note_alone::<Brand, _>(&shared.line, &mut self.seat, &(&before, &self.book, &cut));
         cut
     }
@@ -381,10 +382,9 @@ fn refused_within(room: Room) -> Refusal
 // Wakes the committer behind a step of a client: one that committed or made something, and each one
 // behind which many records wait, also where it was refused for that.
 fn wake(signal: &Signal, book: &Book<Catalog>, is_placed: bool) {
+    signal.left(book.waiting());
     if is_placed {
         signal.committed();
-    } else {
-        signal.left(book.waiting());
     }
 }
 

@@ -30,6 +30,12 @@ pub trait Naming {
 
     ghost next: { ℕ };
 
+    /// The moment of the disk at which it was open, and what a stop at a moment since an earlier one
+    /// might have left then.
+    ghost opened_at: { ℕ };
+
+    ghost left_since: { ℕ → List ℕ → Type 0 };
+
     /// What is taken for granted of the disk at the opening: the clauses on what a stop leaves
     /// stand under it.
     ghost sound: { Type 0 };
@@ -56,6 +62,10 @@ impl Naming for Brand {
     ghost wear = { 0 };
 
     ghost next = { 0 };
+
+    ghost opened_at = { 0 };
+
+    ghost left_since = { λ t bytes. ⊥ };
 
     ghost sound = { ⊥ };
 }

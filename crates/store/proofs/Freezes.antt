@@ -1,5 +1,5 @@
 -- A copy of a collection and a freeze keep what lies under the locks; what a closed store leaves.
-use Rattle.std.proofs.Common.{◌≡◌, inl, ℕ, ◌+◌, ◌≤◌, Bool, true, false, Some, None, Result, Ok}
+use Rattle.std.proofs.Common.{◌≡◌, inl, inr, ℕ, ◌+◌, ◌≤◌, Bool, true, false, Some, None, Result, Ok}
 use Rattle.std.proofs.Common.{Err, List}
 use Rattle.std.proofs.Common.{[], ◌∷◌, ◌++◌, length, refl, sym, ap, ◌∙◌, subst, arith}
 use Rattle.std.proofs.Common.{length-append, append_assoc}
@@ -31,10 +31,11 @@ use Rattle.txn.specs.declared.steps.BookStep.{BookStep}
 use Rattle.txn.specs.Books.{BookState, standing, position, IsKept}
 use Rattle.txn.specs.Freezing.{IsGatheredOf, IsImageOf, FreezeAnswers}
 use Rattle.txn.specs.Handing.{HasHanded}
-use Rattle.txn.specs.Histories.{records_by}
+use Rattle.txn.specs.Histories.{records_by, committed_by}
 use Rattle.txn.proofs.Handings.{records_by-push, gathers_on, frozen_not, freezes_gathered}
 use Rattle.txn.proofs.Handings.{freezes_nothing}
 use Rattle.catalog.specs.Meaning.{catalog_meaning, catalog_making}
+use Rattle.checkpoint.specs.Crash.{Yields, YieldsUpTo}
 use Rattle.checkpoint.specs.ImageAnswers.{HoldAnswers}
 use Rattle.checkpoint.specs.Keepers.{KeeperState}
 use Rattle.checkpoint.specs.Keeping.{BegunImage, IsApart, Uncrossed, HasReceived, HoldKeeps}
@@ -54,7 +55,8 @@ use Rattle.clients.specs.Desks.{AreRecorded, IsDesk, PacksImages, frozen_end, fr
 use Rattle.clients.specs.Notes.{alone}
 use Rattle.store.specs.Closing.{Closes}
 use Rattle.store.specs.Gatherers.{Froze}
-use Rattle.store.specs.Vaults.{IsVault}
+use Rattle.store.specs.Vaults.{LeavesSince, IsVault}
+use Rattle.store.proofs.VaultSteps.{leaves_on}
 
 abbrev Book : Type 0
 Book = BookState (List Collection)
@@ -167,8 +169,9 @@ module _ {J D : Type 0} (j : Ghosts J) (g : disks.Ghosts D) where
 
     -- the keeper has received it, and begun some images
     module _ (s : j.sound) where
-      received : (begun : List BegunImage) × HasReceived g.seen g.may_leave j.start j.wear
-          (records_by seat.all) (journalled book.state) ends begun receiver.received k
+      received : ((begun : List BegunImage) × HasReceived g.seen g.may_leave j.start j.wear
+          (records_by seat.all) (journalled book.state) ends begun receiver.received k)
+          × LeavesSince j g k.disk (YieldsUpTo j.start (records_by seat.all) 0)
       received =
           let had = vault.received s (records_by seat.all) (journalled book.state) parts.0
           (subst (AreRecorded j.start j.wear (records_by seat.all) (journalled book.state)) same
@@ -176,17 +179,26 @@ module _ {J D : Type 0} (j : Ghosts J) (g : disks.Ghosts D) where
           (subst (λ gs. Uncrossed (frozen_ends gs) parts.0) same
           (uncrossed_front ends parts.0 parts.1
           (subst (Uncrossed ends) parts.2
-          (none_crossed desk.groups book handed.end ends handed.between)))) in
-          subst (λ gs. (begun : List BegunImage) × HasReceived g.seen g.may_leave j.start j.wear
-          (records_by seat.all) (journalled book.state) (frozen_ends gs) begun receiver.received
-          k) (sym same) had
+          (none_crossed desk.groups book handed.end ends handed.between)))) in (
+            subst (λ gs. (begun : List BegunImage) × HasReceived g.seen g.may_leave j.start j.wear
+                (records_by seat.all) (journalled book.state) (frozen_ends gs) begun
+                receiver.received k) (sym same) had.0,
+            had.1,
+          )
 
       abbrev begun : List BegunImage
-      begun = received.0
+      begun = received.0.0
 
       keeps : HasReceived g.seen g.may_leave j.start j.wear (records_by seat.all)
           (journalled book.state) ends begun receiver.received k
-      keeps = received.1
+      keeps = received.0.1
+
+      -- what a stop since the opening left is what some beginning of the history gives
+      yields : (bytes : List ℕ) → YieldsUpTo j.start (records_by seat.all) 0 bytes →
+          Yields j.start (committed_by seat.all) [] bytes
+      yields bytes y =
+          history_yields j.start j.wear seat.all (standing book) handed.legal 0 (omega arith) bytes
+          y
 
     pub closes : (seen : List BookStep) (counts : List ℕ) → IsPrefix seen seat.all →
         AreReached counts mark.count → Closes j g seen counts book k
@@ -200,6 +212,14 @@ module _ {J D : Type 0} (j : Ghosts J) (g : disks.Ghosts D) where
           (mark_few g.seen g.may_leave j.start j.wear (records_by seat.all)
           (journalled book.state) ends (begun s) receiver.received k (keeps s)) bytes
           ((keeps s).stop bytes left);
+      any_moment = λ s. let since = (received s).1 in record {
+        later = since.later;
+        each = λ bytes left. yields s bytes (since.each bytes left);
+        before = λ t bytes early left. elim (since.before t bytes early left) [
+          | inl was ↦ inl was
+          | inr now ↦ inr (yields s bytes now)
+        ];
+      };
     }
 
     -- The book is frozen.
@@ -339,14 +359,18 @@ module _ {J D : Type 0} (j : Ghosts J) (g : disks.Ghosts D) where
             } in
             let had = vault.received s records state groups others carried begin
             (All-tail (λ p. IsApart 0 groups p) (frozen_end n.frozen)
-            (frozen_ends receiver.noted) apart) in (
-              had.0,
-              subst (λ p. HasReceived g.seen g.may_leave j.start j.wear records state
-                  (p ∷ frozen_ends receiver.noted) had.0 receiver.received l)
-                  (sym (ap frozen_end froze.1.is_frozen ∙
-                  ap (λ (v : Marks). v.end) froze.1.marks))
-                  (holds j.start j.wear records state (frozen_ends receiver.noted) had.0
-                  receiver.received groups carried begin room.0 room.1 had.1).0,
+            (frozen_ends receiver.noted) apart) in
+            let images = had.0.0 in
+            let kept = holds j.start j.wear records state (frozen_ends receiver.noted) images
+            receiver.received groups carried begin room.0 room.1 had.0.1 in (
+              (
+                images,
+                subst (λ p. HasReceived g.seen g.may_leave j.start j.wear records state
+                    (p ∷ frozen_ends receiver.noted) images receiver.received l)
+                    (sym (ap frozen_end froze.1.is_frozen ∙
+                    ap (λ (v : Marks). v.end) froze.1.marks)) kept.0,
+              ),
+              leaves_on g j records k l had.1 kept.1,
             );
       }
 

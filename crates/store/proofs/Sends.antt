@@ -1,6 +1,7 @@
 -- What a store is made of may go to another thread, or be shared.
 use denote.RattleType.{RattleType}
 use denote.Param.Send.{IsSend, IsSync, sendable, recorded_sync, struct_sync}
+use denote.Ref.{NamedLft}
 use denote.Struct.Declared.{shape}
 use Rattle.std.proofs.Crossing.{crosses}
 use Rattle.std.specs.contracts.sync.Mutex as mutex
@@ -25,6 +26,8 @@ use Rattle.group_commit.proofs.mark.Watcher.TheSendSync as watchers
 use Rattle.group_commit.proofs.numbers.Numbers.TheSendSync as numbers
 use Rattle.group_commit.proofs.numbers.Drawer.TheSendSync as drawers
 use Rattle.group_commit.proofs.numbers.DrawerMaker.TheSendSync as makers
+use Rattle.clients.proofs.signal.Signal.TheSendSync as signals
+use Rattle.clients.specs.contracts.client.Client as client
 use Rattle.clients.specs.declared.naming.Naming as namings
 use Rattle.clients.specs.contracts.desk_lock.DeskLock as desk_lock
 use Rattle.store.specs.contracts.gatherer.Gatherer as gatherer
@@ -60,24 +63,32 @@ pub ruleset parts = (
   numbers.the_sync,
   drawers.the_send,
   makers.the_send,
+  signals.the_sync,
 )
+
+-- What clients share of a store may be shared, and a client may be sent.
+module _ (J : RattleType) (n : namings.Ghosts J.Denot) (J_send : IsSend J) (J_sync : IsSync J) where
+  pub desk_sync : IsSync (desk_lock.the_field J n).row
+  desk_sync = struct_sync (shape (desk_lock.the_type J n)) (search parts depth 80 fits 100000)
+
+  pub shared_sync : IsSync (shared.the_field J n).row
+  shared_sync = struct_sync (shape (shared.the_type J n)) (search parts depth 80 fits 100000)
+
+  pub client_send : (ν : NamedLft) → IsSend (client.the_row ν J n)
+  client_send ν = search (parts, desk_sync, shared_sync) depth 80 fits 100000
 
 -- A store may be shared where its disk may be sent.
 module _ (D J : RattleType) (n : namings.Ghosts J.Denot) (d : disks.Ghosts D.Denot)
     (D_send : IsSend D) (J_send : IsSend J) (J_sync : IsSync J) where
-  desk_sync : IsSync (desk_lock.the_field J n).row
-  desk_sync = struct_sync (shape (desk_lock.the_type J n)) (search parts depth 80 fits 100000)
-
   vault_sync : IsSync (mutex.the_row (vault.the_row D J d n))
   vault_sync = search (parts, vaults.the_send) depth 80 fits 100000
 
   gatherer_sync : IsSync (mutex.the_row (gatherer.the_row J n))
   gatherer_sync = search (parts, gatherers.the_send) depth 80 fits 100000
 
-  shared_sync : IsSync (shared.the_field J n).row
-  shared_sync = struct_sync (shape (shared.the_type J n)) (search parts depth 80 fits 100000)
-
   pub store_sync : IsSync (store.the_row D J n d)
   store_sync = recorded_sync (store.the_field D J n d).row _ _ (store.the_type D J n d).to_one
-      (struct_sync (shape (store.the_type D J n d))
-      (desk_sync, (vault_sync, (gatherer_sync, (shared_sync, tt)))))
+      (struct_sync (shape (store.the_type D J n d)) (
+        desk_sync J n J_send J_sync,
+        (vault_sync, (gatherer_sync, (shared_sync J n J_send J_sync, tt))),
+      ))

@@ -1,5 +1,5 @@
 -- What a store leaves that is closed.
-use Rattle.std.specs.Prelude.{ℕ, List, take}
+use Rattle.std.specs.Prelude.{ℕ, List, [], take}
 use mathlib.Core.List.{IsPrefix}
 use Rattle.calls.specs.Contents.{Collection}
 use Rattle.disk_model.specs.declared.disk.Disk as disks
@@ -11,11 +11,13 @@ use Rattle.checkpoint.specs.Keepers.{KeeperState}
 use Rattle.group_commit.specs.Marks.{AreReached}
 use Rattle.clients.specs.declared.naming.Naming.{Ghosts}
 use Rattle.clients.specs.Known.{IsHistory}
+use Rattle.store.specs.Vaults.{LeavesSince}
 
 -- The book stands where a legal history from the opened content ends, which begins with what was
 -- seen. Whatever a stop leaves of the disk now is sound, and stands for a content that some
 -- beginning of the transactions gives that the history commits; that beginning holds all that the
--- mark tells, and each count that was loaded of it.
+-- mark tells, and each count that was loaded of it. And whatever a stop at any moment since the
+-- opening might have left is sound, and stands for a content that some such beginning gives.
 pub record Closes {J D : Type 0} (j : Ghosts J) (g : disks.Ghosts D) (seen : List BookStep)
     (counts : List ℕ) (book : BookState (List Collection)) (keeper : KeeperState D) :
     Type 0 where
@@ -25,3 +27,5 @@ pub record Closes {J D : Type 0} (j : Ghosts J) (g : disks.Ghosts D) (seen : Lis
   pub reached : AreReached counts keeper.mark
   pub stop : j.sound → (bytes : List ℕ) → g.may_leave keeper.disk bytes →
       Yields j.start (committed_by steps) (take keeper.mark (committed_by steps)) bytes
+  pub any_moment : j.sound →
+      LeavesSince j g keeper.disk (Yields j.start (committed_by steps) [])

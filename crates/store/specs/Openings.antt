@@ -42,10 +42,14 @@ pub record IsNamed {J D : Type 0} (j : Ghosts J) (g : disks.Ghosts D) (o : Opene
   pub start : o.book.state.now ≡ j.start
   pub wear : o.book.state.wear ≡ j.wear
   pub next : o.book.next ≡ j.next
+  pub opened_at : g.moment o.keeper.disk ≡ j.opened_at
+  pub left_since : (t : ℕ) (bytes : List ℕ) → g.left_since o.keeper.disk t bytes →
+      j.left_since t bytes
   pub sound : j.sound → IsSoundly g o
 
--- The name of the store: the tables of its parts, and what its book held. What is taken for granted
--- is that its bytes were opened, of a disk that read true and was at rest.
+-- The name of the store: the tables of its parts, what its book held, and what a stop might have
+-- left of its disk. What is taken for granted is that its bytes were opened, of a disk that read
+-- true and was at rest.
 abbrev pub naming_of : {J D : Type 0} → disks.Ghosts D → OpenedState D → Ghosts J
 naming_of g o = record {
   line = o.tables.line;
@@ -57,5 +61,7 @@ naming_of g o = record {
   start = o.book.state.now;
   wear = o.book.state.wear;
   next = o.book.next;
+  opened_at = g.moment o.keeper.disk;
+  left_since = g.left_since o.keeper.disk;
   sound = IsSoundly g o;
 }

@@ -1,5 +1,5 @@
 -- What a turn tells of the mark.
-use Rattle.std.specs.Prelude.{◌≡◌, ℕ, ◌≤◌, max, true, List, ◌++◌, Result, Ok, Err}
+use Rattle.std.specs.Prelude.{◌≡◌, ℕ, ◌≤◌, max, true, List, ◌++◌, Result, Ok, Err, IfErr}
 use Rattle.calls.specs.declared.refusal.Refusal.{Refusal}
 use Rattle.disk_model.specs.declared.disk.Disk as disks
 use Rattle.blocks.specs.declared.block.Block.{Block}
@@ -28,6 +28,13 @@ Fails old e new = new ≡ old
 -- The mark had reached the place, at a moment.
 abbrev pub Reaches : WatcherState → ℕ → WatcherState → Type 0
 Reaches old place new = (count : ℕ) × (place ≤ count) × (new ≡ with_count old count)
+
+-- Why a turn of a committer is refused: an earlier fault, no room for the block, a fault.
+abbrev pub IsTurnRefusal : Refusal → Type 0
+IsTurnRefusal Refusal.Failed = Unit {0}
+IsTurnRefusal Refusal.Full = Unit {0}
+IsTurnRefusal Refusal.Fault = Unit {0}
+IsTurnRefusal e = ⊥
 
 -- What a turn of a committer tells it: that the mark has reached what is kept.
 abbrev pub TurnTells : WatcherState → Result Turn Refusal → WatcherState → Type 0
@@ -62,3 +69,4 @@ pub record Brings {D : Type 0} (g : disks.Ghosts D) (k : KeeperState D) (receive
   pub keeps : TurnKeeps g (λ bs. IsReceived receiver bs after) k l
   pub rises : k.mark ≤ l.mark
   pub told : brought_to k.mark r ≤ l.mark
+  pub refused : IfErr r IsTurnRefusal

@@ -1,7 +1,6 @@
 -- What lies under the keeper's lock.
-use Rattle.std.specs.Prelude.{◌≡◌, ◌≢◌, ℕ, ◌≤◌, List, None}
+use Rattle.std.specs.Prelude.{◌≡◌, ◌≢◌, ◌⊎◌, ℕ, ◌≤◌, List, None}
 use mathlib.Core.List.{IsPrefix}
-use Rattle.calls.specs.Contents.{Collection}
 use Rattle.disk_model.specs.declared.disk.Disk as disks
 use Rattle.record_format.specs.declared.record.Record.{Record}
 use Rattle.blocks.specs.declared.block.Block.{Block}
@@ -9,6 +8,7 @@ use Rattle.blocks.specs.Carried.{Carries}
 use Rattle.images.specs.Gathers.{GatherState}
 use Rattle.repetition.specs.Journals.{records_in}
 use Rattle.repetition.specs.Steps.{State}
+use Rattle.checkpoint.specs.Crash.{YieldsUpTo}
 use Rattle.checkpoint.specs.Keepers.{KeeperState}
 use Rattle.checkpoint.specs.Keeping.{BegunImage, Uncrossed, HasReceived}
 use Rattle.group_commit.specs.Accords.{AccordState}
@@ -18,16 +18,27 @@ use Rattle.group_commit.specs.Marks.{KeeperMark}
 use Rattle.clients.specs.declared.naming.Naming.{Ghosts}
 use Rattle.clients.specs.Desks.{AreRecorded, frozen_ends}
 
+-- Whatever a stop at any moment since the opening might have left has P. Of a run that began earlier
+-- it might have left that already when the store was open.
+pub record LeavesSince {J D : Type 0} (j : Ghosts J) (g : disks.Ghosts D) (disk : D)
+    (P : List ℕ → Type 0) : Type 0 where
+  pub later : j.opened_at ≤ g.moment disk
+  pub each : (bytes : List ℕ) → g.left_since disk j.opened_at bytes → P bytes
+  pub before : (t : ℕ) (bytes : List ℕ) → t ≤ j.opened_at → g.left_since disk t bytes →
+      j.left_since t bytes ⊎ P bytes
+
 -- Whatever records a book of the store has made: where these blocks carry a beginning of them, and
--- this was noted as frozen, the keeper has received the blocks, and begun some images.
-abbrev pub ReceivesAny : {D : Type 0} → disks.Ghosts D → List Collection → ℕ → List GatherState →
+-- this was noted as frozen, the keeper has received the blocks, and begun some images; and a stop at
+-- any moment since the opening left what some beginning of what the records commit gives.
+abbrev pub ReceivesAny : {J D : Type 0} → Ghosts J → disks.Ghosts D → List GatherState →
     List Block → KeeperState D → Type 0
-ReceivesAny g start wear noted received keeper =
+ReceivesAny j g noted received keeper =
     (records : List Record) (now : State) (groups : List (List Record)) →
-    AreRecorded start wear records now noted → Carries 0 0 received groups →
+    AreRecorded j.start j.wear records now noted → Carries 0 0 received groups →
     IsPrefix (records_in groups) records → Uncrossed (frozen_ends noted) groups →
-    (begun : List BegunImage) ×
-    HasReceived g.seen g.may_leave start wear records now (frozen_ends noted) begun received keeper
+    ((begun : List BegunImage) × HasReceived g.seen g.may_leave j.start j.wear records now
+    (frozen_ends noted) begun received keeper)
+    × LeavesSince j g keeper.disk (YieldsUpTo j.start records 0)
 
 -- The mark is not past what the keeper has kept. What is known to be frozen was noted.
 pub record IsVault {J D : Type 0} (j : Ghosts J) (g : disks.Ghosts D) (keeper : KeeperState D)
@@ -37,5 +48,4 @@ pub record IsVault {J D : Type 0} (j : Ghosts J) (g : disks.Ghosts D) (keeper : 
   pub awaited : near.table ≡ j.awaited
   pub marked : seat.count ≤ keeper.mark
   pub noted : near.gather.frozen ≢ None → Among near.gather receiver.noted
-  pub received : j.sound →
-      ReceivesAny g j.start j.wear receiver.noted receiver.received keeper
+  pub received : j.sound → ReceivesAny j g receiver.noted receiver.received keeper

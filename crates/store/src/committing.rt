@@ -1,7 +1,7 @@
 // Committers of a store.
-ghost use Rattle.std.specs.Prelude.{◌≡◌, true};
+ghost use Rattle.std.specs.Prelude.{◌≡◌, true, IfErr};
 ghost use Rattle.group_commit.specs.Marks.{with_flag};
-ghost use Rattle.store.specs.Turns.{TurnTells};
+ghost use Rattle.store.specs.Turns.{TurnTells, IsTurnRefusal};
 
 use crate::vault::Vault;
 use calls::Refusal;
@@ -61,7 +61,8 @@ impl<'s, D: Disk, J: Naming> Committer<'s, D, J> {
     /// to the disk once a checkpoint has made room; Fault where the disk failed. After Fault and
     /// Failed each client that waits is told Lost, and the disk is to be opened again.
     pub fn turn<R: Wait>(&mut self, rt: &R) -> Result<Turn, Refusal>
-        ensures { TurnTells self.old result self.new }
+        ensures tells { TurnTells self.old result self.new }
+        ensures refused { IfErr result IsTurnRefusal }
     {
         let desk = self.desk;
         let vault = self.vault;
@@ -78,7 +79,8 @@ impl<'s, D: Disk, J: Naming> Committer<'s, D, J> {
     /// The refusals of `turn`. Full where the block, with that undoing, does not fit: it is not
     /// cut, and is handed over once a checkpoint has made room.
     pub fn turn_with_room<R: Wait>(&mut self, rt: &R) -> Result<Turn, Refusal>
-        ensures { TurnTells self.old result self.new }
+        ensures tells { TurnTells self.old result self.new }
+        ensures refused { IfErr result IsTurnRefusal }
     {
         let desk = self.desk;
         let vault = self.vault;

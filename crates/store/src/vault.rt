@@ -1,8 +1,8 @@
 // What lies under the keeper's lock.
-ghost use Rattle.std.specs.Prelude.{◌≡◌, max, [], IfSome, IfNone};
+ghost use Rattle.std.specs.Prelude.{◌≡◌, max, [], IfSome, IfNone, IfErr};
 ghost use Rattle.group_commit.specs.Accords.{nothing_gathered};
 ghost use Rattle.store.specs.Turns.{Brings, TurnTells, CheckTells, brought_to, flipped_to, Fails};
-ghost use Rattle.store.specs.Turns.{Reaches};
+ghost use Rattle.store.specs.Turns.{Reaches, IsTurnRefusal};
 ghost use Rattle.store.specs.Vaults.{ReceivesAny};
 
 use crate::checkpointing::Checkpoint;
@@ -46,7 +46,7 @@ impl<D: Disk, J: Naming> Vault<D, J> {
         requires mark { mark ≡ record { table = J.mark; count = 0 } }
         requires near { near ≡ record { table = J.awaited; gather = nothing_gathered } }
         requires received { J.sound →
-            ReceivesAny ⟦<D as Disk>⟧ J.start J.wear [] [] keeper }
+            ReceivesAny ⟦<J as Naming>⟧ ⟦<D as Disk>⟧ [] [] keeper }
     {
         Self {
             keeper,
@@ -81,9 +81,11 @@ impl<D: Disk, J: Naming> Vault<D, J> {
         watcher: &mut Watcher,
     ) -> Result<Turn, Refusal>
         requires { watcher.old.table ≡ J.mark }
-        ensures { TurnTells watcher.old result watcher.new }
+        ensures tells { TurnTells watcher.old result watcher.new }
+        ensures refused { IfErr result IsTurnRefusal }
     {
         let turned = bring(rt, &shared.handoff, &mut self.keeper, &mut self.receiver);
+        shared.signal.wakes();
         turn_told(&shared.mark, &mut self.mark, watcher, &turned);
         turned
     }

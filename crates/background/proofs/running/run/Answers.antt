@@ -1,5 +1,6 @@
-use Rattle.std.proofs.Common.{inl, inr, sym, subst}
+use Rattle.std.proofs.Common.{inl, inr, refl, sym, subst}
 use Rattle.group_commit.specs.Marks.{AreReached}
+use Rattle.recovery.proofs.Stores.{opened_sound}
 use Rattle.background.specs.Works.{AreTold}
 use Rattle.background.proofs.WorkLemmas.{ok_then, parts_told, was_opened}
 use Rattle.background.proofs.running.run.Goals as goal
@@ -21,7 +22,8 @@ returns-in-Ok-clause-opened g c =
       is_opened = opened.opened honest;
       ready = opened.ready honest rest;
     })
-    (λ content stands honest. opened.content content stands honest))
+    (λ honest. opened_sound (g.D.Disk.seen c.args.disk) _ _ _ (opened.opened honest))
+    (λ content stands honest. opened.content content stands honest) refl (λ t bytes was. was))
 
 pub returns-in-Ok-clause-left : goal.returns-in-Ok-clause-left
 returns-in-Ok-clause-left g c =
@@ -34,7 +36,8 @@ returns-in-Ok-clause-left g c =
       is_opened = opened.opened honest;
       ready = opened.ready honest rest;
     })
-    (λ content stands honest. opened.content content stands honest))
+    (λ honest. opened_sound (g.D.Disk.seen c.args.disk) _ _ _ (opened.opened honest))
+    (λ content stands honest. opened.content content stands honest) refl (λ t bytes was. was))
 
 pub returns-in-Err-clause-left : goal.returns-in-Err-clause-left
 returns-in-Err-clause-left g c = inl c.in-Err.ensures.kept_in_refusal

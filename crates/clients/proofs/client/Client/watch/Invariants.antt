@@ -3,6 +3,6 @@ use Rattle.clients.specs.Calls.{Hears}
 use Rattle.clients.proofs.client.Client.watch.Given as goal
 
 -- counts and flags were loaded
-abbrev pub invariant-loop-looks : goal.invariant-loop-looks
-invariant-loop-looks g l =
+abbrev pub invariant-loop : goal.invariant-loop
+invariant-loop g l =
     (counts : List ℕ) × (flags : List Bool) × Hears l.fn.self counts flags l.self
