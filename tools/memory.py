@@ -16,7 +16,7 @@ import tempfile
 
 TOP = os.path.dirname(os.path.dirname(os.path.realpath(__file__)))
 BOOST = os.path.join(TOP, "crates/boost_main/out/boost_main")
-SET, MAP, QUEUE, COUNTER, POOL = range(1, 6)
+SET, MAP, QUEUE, COUNTER, POOL, STOCK = range(1, 7)
 MARKS, NAME, ITEM, LIVE_CALL, LIVE_LATER, IMAGE_END, BEGIN = 11, 7, 8, 9, 10, 12, 13
 MAKE, CALL, COMMIT = 1, 2, 4
 BODY = 65535
@@ -56,8 +56,9 @@ def item(*parts):
 def names():
     """256 collections with names of 64 bytes."""
     for at in range(256):
-        yield named(NAME, 1 + at % 5, b"%064d" % at)
-        if 1 + at % 5 == COUNTER:
+        kind = 1 + at % 6
+        yield named(NAME, kind, b"%064d" % at)
+        if kind in (COUNTER, STOCK):
             yield item(b"\0" * 16)
 
 
@@ -87,9 +88,10 @@ def live_bumps(tag):
         yield found if isinstance(found, bytes) else called(tag, found[1], 0, bump, b"\0", back)
 
 
-def live_laters():
-    for found in live(1024, [named(NAME, COUNTER, b"n"), item(b"\0" * 16)]):
-        yield found if isinstance(found, bytes) else bytes([LIVE_LATER]) + u64(found[1]) + bytes([0, 12]) + u64(1)
+def live_laters(kind, code):
+    """Live transactions that put off a bump of a counter, or a filling of a stock, by 1."""
+    for found in live(1024, [named(NAME, kind, b"n"), item(b"\0" * 16)]):
+        yield found if isinstance(found, bytes) else bytes([LIVE_LATER]) + u64(found[1]) + bytes([0, code]) + u64(1)
 
 
 def live_puts():
@@ -139,7 +141,8 @@ SORTS = {
     "a map of values of 256 bytes": (lambda: items_of(MAP, lambda n: item(u64(n), value(256))), None),
     "a set of one element again and again": (lambda: items_of(SET, lambda n: item(u64(7))), None),
     "64 live transactions of 1,024 bumps": (lambda: live_bumps(LIVE_CALL), None),
-    "64 live transactions of 1,024 laters": (live_laters, None),
+    "64 live transactions of 1,024 laters": (lambda: live_laters(COUNTER, 12), None),
+    "64 live transactions of 1,024 fillings": (lambda: live_laters(STOCK, 19), None),
     "64 live transactions of 1,024 puts": (live_puts, None),
     "a journal of 64 live transactions of 1,024 bumps": (
         lambda: iter([named(NAME, COUNTER, b"n"), item(b"\0" * 16)]), lambda: live_bumps(CALL)),

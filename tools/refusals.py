@@ -47,6 +47,7 @@ READS = {
     "m": ["call m get 1", "call m get 2", "call m ceiling 0"],
     "q": ["call q least"],
     "n": ["call n read"],
+    "t": ["call t level"],
     "p": [f"call p release {key}" for key in (7, 8)],
 }
 
@@ -60,6 +61,8 @@ DONE = {
                     "call q add 1 4", "abort", "turn", "call q take", "call q take", "call q take", "commit"]),
     "counter": ("n", ["call n bump 5", "later n bump 70", "commit", "call n bump -200", "later n bump 3000", "abort",
                       "turn"]),
+    "stock": ("t", ["later t fill 70", "commit", "call t spend 5", "call t spend 100", "later t fill 3000", "abort",
+                    "call t spend 20", "later t fill 1", "commit", "turn"]),
     "pool": ("p", ["call p draw", "call p draw", "call p release 0", "commit", "call p draw", "abort", "turn",
                    "call p draw", "call p draw", "call p draw", "commit"]),
     "checkpoints": ("smqnp", ["call s add 1", "call m put 1 0a", "call q add 5 1", "checkpoint", "call n bump 5",
@@ -200,7 +203,7 @@ def read_back(names):
 def script_of(names, done):
     """A script that makes collections and does this, and reads all of them behind each line, in a transaction that is
     begun again once it has ended."""
-    lines = [f"c1 make {stories.KINDS[name]} {name}" for name in names] + ["c1 begin"]
+    lines = [f"c1 make {stories.SIX_KINDS[name]} {name}" for name in names] + ["c1 begin"]
     for line in done:
         lines.append(line if line in ("turn", "checkpoint") else f"c1 {line}")
         lines += ["c1 begin"] if line in ("commit", "abort") else []

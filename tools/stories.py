@@ -5,7 +5,7 @@
                               these shows after each place, into crates/cases/data
     tools/stories.py told     prints what the program must print of the stories
 
-The model knows what a store means, and nothing of how the program does it: five kinds of collections with a row for
+The model knows what a store means, and nothing of how the program does it: six kinds of collections with a row for
 each call and reply, needs that conflict, transactions that are live, what they put off, places, and which blocks a turn
 keeps. What is committed is run whole, one transaction after another, on a store beside, which has to give the same
 replies: what that holds after each place is what a stopped store may show. Only the standard library is used, and every
@@ -18,8 +18,10 @@ from pathlib import Path
 
 DATA = Path(__file__).resolve().parent.parent / "crates" / "cases" / "data"
 MAX = 2**64 - 1
+# The collections of the first stories, and of those behind them.
 KINDS = {"s": "set", "m": "map", "q": "queue", "n": "counter", "p": "pool"}
-READ, WRITE, ADD = "read", "write", "add"
+SIX_KINDS = KINDS | {"t": "stock"}
+READ, WRITE, ADD, TAKE, GIVE = "read", "write", "add", "take", "give"
 
 
 class Refused(Exception):
@@ -39,7 +41,7 @@ class Content:
 
     def make(self, name, kind):
         self.kinds[name] = kind
-        self.held[name] = {"set": set, "map": dict, "queue": list, "counter": int, "pool": set}[kind]()
+        self.held[name] = {"set": set, "map": dict, "queue": list, "counter": int, "pool": set, "stock": int}[kind]()
 
     def look(self, name, call):
         """The reply that a call gets now."""
@@ -58,7 +60,9 @@ class Content:
             return ("entry", keys[0], held[keys[0]]) if keys else ("nothing",)
         if what in ("take", "least"):
             return ("item", *held[0]) if held else ("nothing",)
-        return ("total", held) if what == "read" else ("done",)
+        if what == "spend":
+            return ("yes",) if args[0] <= held else ("no",)
+        return ("total", held) if what in ("read", "level") else ("done",)
 
     def run(self, name, call, reply):
         """Makes the change of a call with its reply."""
@@ -83,6 +87,10 @@ class Content:
             held.remove(tuple(args))
         elif what == "bump":
             self.held[name] = held + args[0]
+        elif what == "spend" and reply == ("yes",):
+            self.held[name] = held - args[0]
+        elif what == "fill":
+            self.held[name] = held + args[0]
 
     def shown(self):
         """What the program shows of it."""
@@ -90,7 +98,7 @@ class Content:
         for name, kind in self.kinds.items():
             held = self.held[name]
             text += f"{kind} {name}\n"
-            if kind == "counter":
+            if kind in ("counter", "stock"):
                 text += f"  {held}\n"
             elif kind == "map":
                 text += "".join(f"  {key} {hexed(held[key])}\n" for key in sorted(held))
@@ -104,6 +112,8 @@ class Content:
 def need(call, reply):
     """What a call with its reply needs: a span of keys, and how."""
     what, *args = call
+    if what in ("spend", "level", "fill"):
+        return (0, MAX, GIVE if what == "fill" else TAKE if reply == ("yes",) else READ)
     if what == "contains" or reply[0] in ("no", "absent") or what == "get":
         return (args[0], args[0], READ)
     if what == "ceiling":
@@ -139,6 +149,8 @@ def inverse(call, reply, kind):
         return ("add", *reply[1:]) if reply[0] == "item" else None
     if what == "bump":
         return ("bump", -args[0])
+    if what == "spend":
+        return ("fill", args[0]) if reply == ("yes",) else None
     return ("free", reply[1]) if what == "draw" else None
 
 
@@ -147,8 +159,13 @@ def written(call, reply):
     return need(call, reply)[2] != READ
 
 
+def compatible(one, other):
+    """Whether two may have the same keys in these modes."""
+    return one == other != WRITE or {one, other} == {TAKE, GIVE}
+
+
 def conflict(one, other):
-    return one[0] <= other[1] and other[0] <= one[1] and not (one[2] == other[2] and one[2] != WRITE)
+    return one[0] <= other[1] and other[0] <= one[1] and not compatible(one[2], other[2])
 
 
 class Transaction:
@@ -354,17 +371,18 @@ def wide():
     return Ground(lines, told, shown, 3, 2, 9)
 
 
-def call_line(chance):
-    """A call that looks like chance, of one of the five collections."""
+def call_line(chance, kinds):
+    """A call that looks like chance, of one of the collections."""
     key, by = chance.randrange(4), chance.randrange(256)
+    of_stock = [f"call t spend {key}", f"call t spend {by}", "call t level", f"later t fill {key}"]
     return chance.choice([
         f"call s contains {key}", f"call s add {key}", f"call s remove {key}", f"call m get {key}",
         f"call m put {key} {by:02x}", f"call m remove {key}", f"call m ceiling {key}", f"call q add {key} 0",
         "call q take", "call q least", f"call n bump {by}", "call n read", "call p draw", f"call p release {key}",
-        f"later n bump {by}"])
+        f"later n bump {by}", *(of_stock if "t" in kinds else [])])
 
 
-def story_line(chance, client, is_open):
+def story_line(chance, client, is_open, kinds):
     """A line of a client that looks like chance: one that has no transaction mostly begins one."""
     which = chance.randrange(26)
     if not is_open and which >= 9:
@@ -379,18 +397,18 @@ def story_line(chance, client, is_open):
         return "turn"
     if which == 7:
         return f"{client} kept"
-    return "checkpoint" if which == 8 else f"{client} {call_line(chance)}"
+    return "checkpoint" if which == 8 else f"{client} {call_line(chance, kinds)}"
 
 
-def story(seed, count):
-    """Five collections, two open transactions of which one has called, and so many lines behind them."""
+def story(seed, count, kinds=KINDS):
+    """A collection of each kind, two open transactions of which one has called, and so many lines behind them."""
     chance = random.Random(seed)
-    lines = [f"c1 make {kind} {name}" for name, kind in KINDS.items()]
+    lines = [f"c1 make {kind} {name}" for name, kind in kinds.items()]
     lines += ["c1 begin", "c2 begin", "c2 call n bump 3", "turn"]
     is_open = {"c1": True, "c2": True, "c64": False}
     for _ in range(count):
         client = chance.choice(["c1", "c2", "c64"])
-        line = story_line(chance, client, is_open[client])
+        line = story_line(chance, client, is_open[client], kinds)
         if line.endswith((" begin", " commit", " abort")):
             is_open[client] = line.endswith(" begin")
         lines.append(line)
@@ -450,6 +468,8 @@ SWEPT = {
     "covered": ["c1 make counter n", "c1 begin", "c1 call n bump 5", "checkpoint", "c2 begin", "c2 call n bump 2", "c2 commit",
                 "turn", "turn", "c2 kept"],
     "loser": ["c1 make counter n", "c1 begin", "c2 begin", "repeat 0 100 c1 call n bump 1", "c2 call n bump 2", "c2 commit", "turn"],
+    "spends": ["c1 make stock t", "c1 begin", "c1 later t fill 10", "c1 commit", "turn", "c1 begin", "c2 begin", "c1 call t spend 4",
+               "c2 call t spend 6", "c3 begin", "c3 call t spend 1", "c2 later t fill 5", "c1 abort", "c2 commit", "turn", "c2 kept"],
     "release": ["c1 make pool p", "c1 begin", "c1 call p draw", "c1 call p release 0", "c1 call p release 0", "c1 commit", "turn",
                 "c1 begin", "c1 call p draw", "c1 call p release 0", "turn", "c1 kept"],
     "room": ["c1 make map m", "c1 begin", f"repeat 0 100 c1 call m put # {ZEROS}", "c1 commit", "turn", "c1 begin", f"repeat 0 40 c1 call m put # {ZEROS}", "c1 commit", "turn",
@@ -508,16 +528,17 @@ def any_bytes(seed):
 
 def main():
     halted, cases, told = [], [], []
-    for ground, count, seeds in ((EMPTY, 40, (5, 6, 8)), (wide(), 20, (25, 38))):
+    for ground, count, seeds, kinds in ((EMPTY, 40, (5, 6, 8), KINDS), (wide(), 20, (25, 38), KINDS), (EMPTY, 60, (41,), SIX_KINDS)):
         for seed in seeds:
             file = f"story_{seed}.shown"
-            cased, printed, shown = stopped(f"story {seed} is stopped at each call", file, ground, story(seed, count))
+            cased, printed, shown = stopped(f"story {seed} is stopped at each call", file, ground, story(seed, count, kinds))
             halted, told = halted + cased, told + printed
             if sys.argv[1:] != ["told"]:
                 (DATA / file).write_text(shown)
-    for seed in range(100, 112):
-        cased, printed = whole(f"story {seed} is played whole", story(seed, 250))
-        cases, told = cases + cased, told + printed
+    for seeds, kinds in ((range(100, 112), KINDS), (range(112, 116), SIX_KINDS)):
+        for seed in seeds:
+            cased, printed = whole(f"story {seed} is played whole", story(seed, 250, kinds))
+            cases, told = cases + cased, told + printed
     if sys.argv[1:] == ["told"]:
         print("\n".join(told))
     else:

@@ -34,8 +34,8 @@ class Source:
         for crate, folder, module, names, alias in USE.findall(text):
             if alias:
                 self.aliases[alias] = file_of(crate, folder, module)
-            for name in re.findall(r'[^\W\d][\w-]*', names):
-                self.taken[name] = file_of(crate, folder, module)
+            for name, other in re.findall(r'([^\W\d][\w-]*)(?: as ([^\W\d][\w-]*))?', names):
+                self.taken[other or name] = file_of(crate, folder, module), name
         self.text = USE.sub('', text)
 
     def declarations(self):
@@ -67,7 +67,7 @@ class Source:
             if first in self.declared:
                 yield path, first
             elif first in self.taken:
-                yield self.taken[first], first
+                yield self.taken[first]
 
 
 def main():

@@ -1,12 +1,13 @@
 -- Bounds of more and more holds.
 use Rattle.std.proofs.Common.{◌≡◌, ◌∙◌, ℕ, ◌+◌, ◌<◌, ◌≤◌, List, [], ◌∷◌, ◌++◌, length, get_or, take}
-use Rattle.std.proofs.Common.{ap, arith, IsTrue}
+use Rattle.std.proofs.Common.{ap, arith}
 use Rattle.std.proofs.lemmas.List.{take_more, append-nil}
 use Rattle.std.proofs.lemmas.List.Concat.{flat_map-append}
 use Rattle.calls.specs.declared.need.Mode.{Mode}
+use Rattle.calls.specs.Modes.{Has}
 use Rattle.abstract_locks.specs.declared.bounds.Bounds.{Bounds}
 use Rattle.abstract_locks.specs.declared.table.Hold.{Hold}
-use Rattle.abstract_locks.specs.Bounds.{HasMode, Covers}
+use Rattle.abstract_locks.specs.Bounds.{Covers}
 use Rattle.abstract_locks.specs.Segments.{all_holds}
 
 -- The wide bounds leave more room in each respect.
@@ -16,15 +17,7 @@ pub record IsWider (wide narrow : Bounds) : Type 0 where
   pub widest : narrow.widest ≤ wide.widest
   pub first : wide.first_owner ≤ narrow.first_owner
   pub last : narrow.last_owner ≤ wide.last_owner
-  pub reads : IsTrue narrow.reads → IsTrue wide.reads
-  pub writes : IsTrue narrow.writes → IsTrue wide.writes
-  pub adds : IsTrue narrow.adds → IsTrue wide.adds
-
-more_modes : (wide narrow : Bounds) → IsWider wide narrow → (m : Mode) → HasMode narrow m →
-    HasMode wide m
-more_modes wide narrow wider Mode.Read = wider.reads
-more_modes wide narrow wider Mode.Write = wider.writes
-more_modes wide narrow wider Mode.Add = wider.adds
+  pub modes : (m : Mode) → Has narrow.modes m → Has wide.modes m
 
 pub wider_covers : (wide narrow : Bounds) → IsWider wide narrow → Covers wide narrow
 wider_covers wide narrow wider h within =
@@ -44,7 +37,7 @@ wider_covers wide narrow wider h within =
       span = omega arith;
       first = omega arith;
       last = omega arith;
-      mode = more_modes wide narrow wider h.need.mode within.mode;
+      mode = wider.modes h.need.mode within.mode;
     }
 
 -- the holds of one segment more

@@ -1,12 +1,12 @@
 -- Holds in several lists, which are together in one.
 use Rattle.std.proofs.Common.{◌≡◌, ◌≢◌, ℕ, zero, suc, ◌⊎◌, inl, inr, List, [], ◌∷◌, ◌++◌, get_or}
-use Rattle.std.proofs.Common.{sym, subst, ap, refl, ⊎_elim, arith}
+use Rattle.std.proofs.Common.{sym, subst, ap, ⊎_elim, arith}
 use Rattle.std.specs.List.{Contains, flat_map}
 use Rattle.std.proofs.lemmas.Bool.{cases_eq}
 use Rattle.std.proofs.lemmas.List.Elements.{Contains-append_left, Contains-append_right}
 use Rattle.std.proofs.lemmas.List.Elements.{Contains-append_cases, Contains-push}
 use Rattle.std.proofs.lemmas.List.Elements.{Contains-push_cases}
-use Rattle.calls.specs.declared.need.Mode.{Mode}
+use Rattle.calls.proofs.ModeLaws.{same_or_other}
 use Rattle.abstract_locks.specs.declared.table.Hold.{Hold}
 use Rattle.abstract_locks.specs.Holds.{IsAdded, IsGivenUp}
 
@@ -46,17 +46,6 @@ none_to_give_up xs owner none h = (λ there. (there, none h there), λ both. bot
 
 -- ---- whether a hold is in a list
 
-same_mode : (a b : Mode) → (a ≡ b) ⊎ (a ≢ b)
-same_mode Mode.Read Mode.Read = inl refl
-same_mode Mode.Read Mode.Write = inr (λ e. cc)
-same_mode Mode.Read Mode.Add = inr (λ e. cc)
-same_mode Mode.Write Mode.Read = inr (λ e. cc)
-same_mode Mode.Write Mode.Write = inl refl
-same_mode Mode.Write Mode.Add = inr (λ e. cc)
-same_mode Mode.Add Mode.Read = inr (λ e. cc)
-same_mode Mode.Add Mode.Write = inr (λ e. cc)
-same_mode Mode.Add Mode.Add = inl refl
-
 same_hold : (g h : Hold) → (g ≡ h) ⊎ (g ≢ h)
 same_hold g h =
     ⊎_elim
@@ -70,7 +59,7 @@ same_hold g h =
       need = record { low = low i; high = high i; mode = mode i };
     }))
     (λ other. inr (λ e. other (ap (λ (h : Hold). h.need.mode) e)))
-    (same_mode g.need.mode h.need.mode))
+    (same_or_other g.need.mode h.need.mode))
     (λ other. inr (λ e. other (ap (λ (h : Hold). h.need.high) e)))
     (cases_eq g.need.high h.need.high))
     (λ other. inr (λ e. other (ap (λ (h : Hold). h.need.low) e)))

@@ -10,9 +10,10 @@ use Rattle.std.specs.declared.cmp.Ordering.{Ordering}
 use Rattle.std.proofs.lemmas.List.{length-take, length-drop, get_or-take, get_or-drop}
 use Rattle.std.proofs.lemmas.List.Sorted.{searchable_from_sorted}
 use Rattle.std.proofs.lemmas.Map.Lookups.{exact_bytes}
-use Rattle.calls.specs.declared.need.Mode.{Mode}
+use Rattle.calls.specs.Modes.{rank}
+use Rattle.calls.proofs.ModeLaws.{same_mode}
 use Rattle.abstract_locks.specs.declared.table.Hold.{Hold}
-use Rattle.abstract_locks.specs.Order.{rank, key, compare, compare_rest}
+use Rattle.abstract_locks.specs.Order.{key, compare, compare_rest}
 use Rattle.abstract_locks.specs.Order.{Precedes, Rises, IsPlace}
 
 pub order : IsTotalOrder compare
@@ -51,17 +52,6 @@ precedes_itself h less = let tied = tied_itself order h in cc
 
 pub precedes_further : (a b c : Hold) → Precedes a b → Precedes b c → Precedes a c
 precedes_further a b c first then = order.trans a b c first then
-
-same_mode : (m n : Mode) → rank m ≡ rank n → m ≡ n
-same_mode Mode.Read Mode.Read e = refl
-same_mode Mode.Read Mode.Write e = absurd (omega arith)
-same_mode Mode.Read Mode.Add e = absurd (omega arith)
-same_mode Mode.Write Mode.Read e = absurd (omega arith)
-same_mode Mode.Write Mode.Write e = refl
-same_mode Mode.Write Mode.Add e = absurd (omega arith)
-same_mode Mode.Add Mode.Read e = absurd (omega arith)
-same_mode Mode.Add Mode.Write e = absurd (omega arith)
-same_mode Mode.Add Mode.Add e = refl
 
 pub same_hold : (h g : Hold) → compare h g ≡ Equal → h ≡ g
 unfolding compare

@@ -1,14 +1,8 @@
 -- What bounds tell of holds.
-use Rattle.std.specs.Prelude.{◌≤◌, ◌+◌, IsTrue}
-use Rattle.calls.specs.declared.need.Mode.{Mode}
+use Rattle.std.specs.Prelude.{◌≤◌, ◌+◌}
+use Rattle.calls.specs.Modes.{Has}
 use Rattle.abstract_locks.specs.declared.bounds.Bounds.{Bounds}
 use Rattle.abstract_locks.specs.declared.table.Hold.{Hold}
-
--- A hold of the mode may be within the bounds.
-abbrev pub HasMode : Bounds → Mode → Type 0
-HasMode b Mode.Read = IsTrue b.reads
-HasMode b Mode.Write = IsTrue b.writes
-HasMode b Mode.Add = IsTrue b.adds
 
 -- The hold is within the bounds: its keys are, how far they span, its owner and its mode.
 pub record IsWithin (b : Bounds) (h : Hold) : Type 0 where
@@ -17,7 +11,7 @@ pub record IsWithin (b : Bounds) (h : Hold) : Type 0 where
   pub span : h.need.high ≤ h.need.low + b.widest
   pub first : b.first_owner ≤ h.owner
   pub last : h.owner ≤ b.last_owner
-  pub mode : HasMode b h.need.mode
+  pub mode : Has b.modes h.need.mode
 
 -- What is within the narrow bounds is within the wide ones.
 abbrev pub Covers : (wide narrow : Bounds) → Type 0

@@ -4,13 +4,8 @@ use Rattle.std.specs.Prelude.{HoldsAt, MatchResult}
 use Rattle.std.specs.declared.cmp.Ordering.{Ordering}
 use Rattle.std.specs.Ordering.{nat_cmp}
 use Rattle.std.specs.Cmp.Lexicographic.{slice_cmp}
-use Rattle.calls.specs.declared.need.Mode.{Mode}
+use Rattle.calls.specs.Modes.{rank}
 use Rattle.abstract_locks.specs.declared.table.Hold.{Hold}
-
-abbrev pub rank : Mode → ℕ
-rank Mode.Read = 0
-rank Mode.Write = 1
-rank Mode.Add = 2
 
 -- What the holds are ordered by: the lowest key, then the owner and the rest.
 abbrev pub rest_of_key : Hold → List ℕ

@@ -1,13 +1,11 @@
 // Bounds of some holds, which tell that none of them is in the way.
 ghost use Rattle.std.specs.Prelude.{◌≡◌, ℕ, IsTrue};
-ghost use Rattle.calls.specs.declared.need.Mode.{Mode};
-ghost use Rattle.calls.specs.Rules.{Compatible};
 ghost use Rattle.abstract_locks.specs.declared.table.Hold.{Hold};
-ghost use Rattle.abstract_locks.specs.Bounds.{HasMode, IsWithin, Covers};
+ghost use Rattle.abstract_locks.specs.Bounds.{IsWithin, Covers};
 ghost use Rattle.abstract_locks.specs.Holds.{Blocks};
 
 use crate::table::Hold;
-use calls::{Mode, Need};
+use calls::{Modes, Need};
 
 /// Bounds of some holds: of their keys, of how far one spans, of their owners, and which modes they
 /// have.
@@ -19,9 +17,7 @@ pub struct Bounds {
     widest: u64,
     first_owner: u64,
     last_owner: u64,
-    reads: bool,
-    writes: bool,
-    adds: bool,
+    modes: Modes,
 }
 
 impl Bounds {
@@ -33,9 +29,7 @@ impl Bounds {
             widest: 0,
             first_owner: u64::MAX,
             last_owner: 0,
-            reads: false,
-            writes: false,
-            adds: false,
+            modes: Modes::none(),
         }
     }
 
@@ -49,9 +43,7 @@ impl Bounds {
             widest: hold.need.high.saturating_sub(hold.need.low),
             first_owner: hold.owner,
             last_owner: hold.owner,
-            reads: hold.need.mode == Mode::Read,
-            writes: hold.need.mode == Mode::Write,
-            adds: hold.need.mode == Mode::Add,
+            modes: Modes::only(hold.need.mode),
         }
     }
 
@@ -66,9 +58,7 @@ impl Bounds {
             widest: self.widest.max(other.widest),
             first_owner: self.first_owner.min(other.first_owner),
             last_owner: self.last_owner.max(other.last_owner),
-            reads: self.reads | other.reads,
-            writes: self.writes | other.writes,
-            adds: self.adds | other.adds,
+            modes: self.modes.with(&other.modes),
         }
     }
 
@@ -86,18 +76,7 @@ impl Bounds {
     {
         self.low <= need.high
             && need.low <= self.high
-            && self.may_conflict(need.mode)
+            && self.modes.conflict_with(need.mode)
             && (self.first_owner != owner || self.last_owner != owner)
-    }
-
-    // Whether a mode of the holds is not compatible with the one.
-    fn may_conflict(&self, mode: Mode) -> bool
-        ensures { (m : Mode) → HasMode self.now m → (Compatible m mode → ⊥) → IsTrue result }
-    {
-        match mode {
-            Mode::Read => self.writes || self.adds,
-            Mode::Write => true,
-            Mode::Add => self.reads || self.writes,
-        }
     }
 }

@@ -3,13 +3,13 @@ ghost use Rattle.std.specs.Prelude.{◌≡◌, ◌≢◌, ◌==◌, ◌↔◌, �
 ghost use Rattle.std.specs.Prelude.{IfOk, Contains, vec_capacity};
 ghost use Rattle.abstract_locks.specs.Bounds.{IsWithin};
 ghost use Rattle.abstract_locks.specs.Holds.{IsAdded, IsRemoved};
-ghost use Rattle.abstract_locks.specs.Order.{rank, compare, compare_rest, Rises, IsPlace};
+ghost use Rattle.abstract_locks.specs.Order.{compare, compare_rest, Rises, IsPlace};
 ghost use Rattle.abstract_locks.specs.Segments.{segment_size, begins_by, begins_to, IsLeast};
 ghost use Rattle.abstract_locks.specs.Segments.{lesser};
 
 use crate::bounds::Bounds;
 use crate::table::Hold;
-use calls::{Mode, Need};
+use calls::Need;
 use std::alloc::{AllocError, Global};
 use std::cmp::Ordering;
 use std::marker::Model;
@@ -245,17 +245,6 @@ fn compare_rest(one: &Hold, other: &Hold) -> Ordering
     one.owner
         .cmp(&other.owner)
         .then(one.need.high.cmp(&other.need.high))
-        .then(rank(one.need.mode).cmp(&rank(other.need.mode)))
+        .then(one.need.mode.rank().cmp(&other.need.mode.rank()))
         .then(one.at.cmp(&other.at))
-}
-
-// Where the mode stands among the others.
-fn rank(mode: Mode) -> u8
-    ensures { result ≡ rank mode }
-{
-    match mode {
-        Mode::Read => 0,
-        Mode::Write => 1,
-        Mode::Add => 2,
-    }
 }

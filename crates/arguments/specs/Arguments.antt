@@ -1,5 +1,6 @@
 -- The program's command line, and what it asks for.
 use Rattle.std.specs.Prelude.{◌≡◌, ◌↔◌, ℕ, ◌-◌, ◌^◌, List, Some, Ok, codes, string_bytes, true}
+use Rattle.std.specs.Option.{option_map}
 use Rattle.std.specs.Prelude.{IsSomeAnd, IsTrue}
 use Rattle.std.specs.Str.Parse.{ParsesUnsigned}
 use Rattle.std.specs.declared.num.ParseIntError.{ParseIntError}
@@ -28,6 +29,10 @@ area_rule = record (new_rule (codes "area")) {
 abbrev pub why_rule : Rule
 why_rule = record (new_rule (codes "why")) { long = Some (codes "why"); action = Some SetTrue }
 
+-- an argument that may be left out
+abbrev pub folder_rule : Rule
+folder_rule = record (new_rule (codes "FOLDER")) { action = Some Set }
+
 abbrev pub format_app : App
 format_app = with_rule (with_rule (new_app (codes "format")) (path_rule (codes "DISK"))) area_rule
 
@@ -45,6 +50,9 @@ play_app = script_app (codes "play")
 abbrev pub serve_app : App
 serve_app = with_rule (script_app (codes "serve")) why_rule
 
+abbrev pub listen_app : App
+listen_app = with_rule (disk_app (codes "listen")) folder_rule
+
 abbrev pub show_app : App
 show_app = disk_app (codes "show")
 
@@ -61,8 +69,8 @@ bare_app = let a = new_app (codes "boost") in
 abbrev pub program_app : App
 program_app =
     let plays = with_subcommand (with_subcommand bare_app format_app.top) play_app.top in
-    let on_disks = with_subcommand plays serve_app.top in
-    with_subcommand (with_subcommand (with_subcommand on_disks show_app.top) check_app.top)
+    let serves = with_subcommand (with_subcommand plays serve_app.top) listen_app.top in
+    with_subcommand (with_subcommand (with_subcommand serves show_app.top) check_app.top)
     demo_app.top
 
 -- ---- what is asked for
@@ -98,6 +106,9 @@ Asks (Invocation.Run task) found = AsksTask task found
 Asks (Invocation.Serve disk script why) found = (found.0 ≡ codes "serve") ×
     ArePaths (string_bytes disk) (string_bytes script) found.1 ×
     (IsTrue why ↔ IsGiven (codes "why") found.1)
+Asks (Invocation.Listen disk folder) found = (found.0 ≡ codes "listen") ×
+    (first_of (codes "DISK") found.1 ≡ Some (string_bytes disk)) ×
+    (first_of (codes "FOLDER") found.1 ≡ option_map string_bytes folder)
 
 -- The words ask for this: clap finds the command in them, with its paths and number.
 abbrev pub IsAskedBy : Invocation → List Text → Type 0

@@ -4,11 +4,12 @@
 ghost use Rattle.std.specs.Prelude.{◌≡◌, ◌↔◌, codes, false, true, map, IfOk, IfErr, Some, IfSome};
 ghost use Rattle.std.specs.Prelude.{IsSomeAnd, IsTrue, string_bytes};
 ghost use Rattle.std.specs.Result.{IsOkAnd};
+ghost use Rattle.std.specs.Option.{option_map};
 ghost use Rattle.clap.specs.declared.builder.command.Command.TheViews.{out-Command};
 ghost use Rattle.clap.specs.Words.{app_of, found_of, first_of, rows_of, rule_of};
 ghost use Rattle.clap.specs.Words.{subcommand_rows_of, with_subcommand};
-ghost use Rattle.arguments.specs.Arguments.{path_rule, area_rule, why_rule, disk_app};
-ghost use Rattle.arguments.specs.Arguments.{format_app, script_app, serve_app, IsGiven};
+ghost use Rattle.arguments.specs.Arguments.{path_rule, area_rule, why_rule, folder_rule, disk_app};
+ghost use Rattle.arguments.specs.Arguments.{format_app, script_app, serve_app, listen_app, IsGiven};
 ghost use Rattle.arguments.specs.Arguments.{program_app, ArePaths, Asks, AsksTask, IsNumberOf};
 ghost use Rattle.arguments.specs.Arguments.{IsAskedBy};
 
@@ -27,6 +28,12 @@ pub enum Invocation {
         disk: String,
         script: String,
         why: bool,
+    },
+    /// Keeps the store in the file open, and serves clients: those of the door of a folder, where
+    /// one is given, else those of its own input and output.
+    Listen {
+        disk: String,
+        folder: Option<String>,
     },
 }
 
@@ -81,6 +88,16 @@ fn why<'a>(alloc: Global) -> Arg<'a>
         .help("Tell what ended keeping early, where tickets were lost")
 }
 
+// The folder of the door, which may be left out.
+fn folder<'a>(alloc: Global) -> Arg<'a>
+    ensures rule { rule_of result ≡ folder_rule }
+    ensures alone { result.global ≡ false }
+{
+    Arg::new(alloc, "FOLDER").action(ArgAction::Set).help(
+        "The folder whose door clients come by; without one they share input and output",
+    )
+}
+
 // A command on a disk alone.
 fn disk_command<'a>(
     alloc: Global,
@@ -125,6 +142,13 @@ fn serve_command<'a>(alloc: Global, about: &'a str) -> Result<clap::Command<'a>,
     script_command(alloc, "serve", about)?.arg(why(alloc))
 }
 
+// The command that keeps a store open.
+fn listen_command<'a>(alloc: Global, about: &'a str) -> Result<clap::Command<'a>, AllocError>
+    ensures { IfOk result (λ c. (app_of c ≡ listen_app) × ((out-Command c).has_globals ≡ false)) }
+{
+    disk_command(alloc, "listen", about)?.arg(folder(alloc))
+}
+
 // The program with one command more, where that could be made.
 fn with<'a>(
     program: clap::Command<'a>,
@@ -145,10 +169,12 @@ fn program<'a>(alloc: Global) -> Result<clap::Command<'a>, AllocError>
         .subcommand_required(true);
     let play = "Run the lines of a script one after another";
     let serve = "Run the lines of a script, each client in a thread of its own";
+    let listen = "Keep the store open, and serve the clients that come";
     let demo = "Run a stored script on a disk in memory";
     let program = with(program, format_command(alloc))?;
     let program = with(program, script_command(alloc, "play", play))?;
     let program = with(program, serve_command(alloc, serve))?;
+    let program = with(program, listen_command(alloc, listen))?;
     let program = with(
         program,
         disk_command(alloc, "show", "Print what the store holds"),
@@ -161,8 +187,8 @@ fn program<'a>(alloc: Global) -> Result<clap::Command<'a>, AllocError>
 }
 
 fn text(alloc: Global, found: &ArgMatches<'_>, id: &str) -> Result<Option<String>, AllocError>
-    ensures { IfOk result (λ text. IfSome text
-        (λ t. first_of id.now (rows_of (found_of found.now)) ≡ Some (string_bytes t))) }
+    ensures { IfOk result (λ text. first_of id.now (rows_of (found_of found.now)) ≡
+        option_map string_bytes text) }
 {
     match found.get_str(id) {
         Some(text) => Ok(Some(String::from_str(alloc, text)?)),
@@ -215,6 +241,15 @@ fn named(
             Some((disk, script)) => {
                 let why = is_given(found, "why");
                 Ok(Some(Invocation::Serve { disk, script, why }))
+            }
+            None => Ok(None),
+        };
+    }
+    if name == "listen" {
+        return match text(alloc, found, "DISK")? {
+            Some(disk) => {
+                let folder = text(alloc, found, "FOLDER")?;
+                Ok(Some(Invocation::Listen { disk, folder }))
             }
             None => Ok(None),
         };

@@ -32,6 +32,11 @@ use Rattle.boost.specs.Effects.{Leaves, IsLeftByPlay}
 use Rattle.player.specs.declared.client.Client.{Client}
 use Rattle.script.specs.declared.line.Line.{Line}
 
+-- what holds anyway holds where the output was written
+pub done_of : {T E X : Type 0} (r : Result T E) → X → OnOk r X
+done_of (Ok v) x = x
+done_of (Err e) x = tt {0}
+
 -- bytes that stand for the content yield it, with nothing committed
 yields_none : (content : List Collection) (c : List ℕ) → IsSound c × StandsFor c content →
     Yields content (committed_in []) [] c

@@ -1,3 +1,2 @@
 pub mod OpenLemmas
 pub mod EffectLemmas
-pub mod SessionLemmas

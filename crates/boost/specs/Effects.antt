@@ -8,7 +8,10 @@ use Rattle.disk_model.specs.declared.disk.Disk.{Ghosts}
 use Rattle.repetition.specs.Journals.{StandsFor}
 use Rattle.repetition.specs.Reading.{IsSound}
 use Rattle.recovery.specs.Formats.{IsRoomFor, IsEmptyStore, IsFormatting}
-use Rattle.recovery.specs.Openings.{IsOpened, KeepsContent}
+use Rattle.recovery.specs.declared.report.Report.{Report}
+use Rattle.recovery.specs.Openings.{IsOpened, IsReport, KeepsContent}
+use Rattle.gate_block.specs.declared.area.Area.{Area}
+use Rattle.txn.specs.Books.{BookState}
 use Rattle.world.specs.Pasts.{Past, AreAnswered, committed_in}
 use Rattle.checkpoint.specs.Crash.{Yields}
 use Rattle.world.specs.Worlds.{HasPast}
@@ -87,15 +90,27 @@ abbrev pub IsFormatted : {D : Type 0} (g : Ghosts D) → ℕ → D → D → Typ
 IsFormatted g area old new = IsRoomFor area (length (g.seen old)) × IsEmptyStore (g.seen new) ×
     IsAtRest g.seen g.may_leave new
 
+-- A store was read and opened, and the disk is as the opening leaves it.
+pub record IsShown {D : Type 0} (g : Ghosts D) (old new : D) : Type 0 where
+  pub book : BookState (List Collection)
+  pub area : Area
+  pub opened : IsOpened (g.seen old) book area (g.seen new)
+
+-- A store was read, and so many things were counted of it.
+pub record IsCounted {D : Type 0} (g : Ghosts D) (disk : D) : Type 0 where
+  pub counts : Report
+  pub report : IsReport (g.seen disk) counts
+
 -- What holds where a command was done: a format made an empty store; a play understood each line of
--- its script, and carried them out on the store that was opened; and the stored run did what it
--- does on a disk of its own.
+-- its script, and carried them out on the store that was opened; a show opened a store, and a check
+-- counted one; and the stored run did what it does on a disk of its own.
 abbrev pub IsDone : {D : Type 0} (g : Ghosts D) → Type 0 → Task → List ℕ → D → D → Type 0
 IsDone g stored (Task.Format disk area) script old new = IsFormatted g area old new
 IsDone g stored (Task.Play disk name) script old new =
     IsUnderstood script × (g.is_honest new → IsPlayedOn g script old new)
+IsDone g stored (Task.Show disk) script old new = g.is_honest new → IsShown g old new
+IsDone g stored (Task.Check disk) script old new = g.is_honest new → IsCounted g old
 IsDone g stored Task.Demo script old new = stored
-IsDone g stored task script old new = Unit {0}
 
 -- What a command leaves on the disk, done or not, and what a stop at any moment of it might have
 -- left: a format the old bytes, no store or an empty one; a play what a beginning of the script's

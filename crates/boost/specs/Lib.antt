@@ -1,4 +1,3 @@
 pub mod Commands
 pub mod Failures
 pub mod Effects
-pub mod Sessions

@@ -6,7 +6,7 @@ ghost use Rattle.recovery.specs.Openings.{KeepsContent};
 ghost use Rattle.recovery.specs.Formats.{IsFormatting};
 ghost use Rattle.player.specs.Requests.{nobody};
 ghost use Rattle.boost.specs.Effects.{ArePlayedOn, IsPlayedOn, IsPlayedAnew, IsLeftByPlay};
-ghost use Rattle.boost.specs.Effects.{StartsFrom, IsFormatted, IsDone, Leaves};
+ghost use Rattle.boost.specs.Effects.{StartsFrom, IsFormatted, IsShown, IsCounted, IsDone, Leaves};
 ghost use Rattle.script.specs.Scripts.{IsScriptOf};
 ghost use Rattle.boost.specs.declared.commands.failure.Failure.{Failure};
 ghost use Rattle.boost.specs.Commands.{IsPlay, IsUnderstood, IsOfStore, IsWhyUnplayed};
@@ -53,6 +53,8 @@ use world::World;
 /// buffer is full.
 ///
 /// The status is 0 where the command was done; lines of the script that were refused count as done.
+/// Of a Show it says that a store was opened, and of a Check that one was counted, where the disk
+/// read true.
 /// Else it is 3 for a script with a line that is not understood: no line was run, and the disk is
 /// as it was. It is 1 where the store refused the command, or where memory was refused. `err` gets
 /// a text then, as `Failure` says. It is 4, with no text, where output could not be written. After
@@ -225,6 +227,7 @@ fn written(done: io::Result<()>) -> Result<(), Failure<'static>>
 // Prints the content of the store of a disk.
 fn show<D: Disk, O: Write>(alloc: Global, disk: D, out: &mut O) -> (Result<(), Failure<'static>>, D)
     ensures why { IfErr result.0 IsOfStore }
+    ensures done { OnOk result.0 (D.is_honest result.1 → IsShown ⟦<D as Disk>⟧ disk result.1) }
     ensures shown { D.is_honest result.1 →
         KeepsContent D.seen D.may_leave D.moment D.left_since disk result.1 }
 {
@@ -244,6 +247,7 @@ fn check<D: Disk, O: Write>(
     out: &mut O,
 ) -> (Result<(), Failure<'static>>, D)
     ensures why { IfErr result.0 IsOfStore }
+    ensures done { OnOk result.0 (D.is_honest result.1 → IsCounted ⟦<D as Disk>⟧ disk) }
     ensures only_read { ReadsOnly D.seen D.may_leave D.moment D.left_since disk result.1 }
 {
     let mut disk = disk;

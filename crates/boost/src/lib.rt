@@ -4,13 +4,10 @@
 mod commands;
 mod script_work;
 mod serving;
-mod session;
-mod transcript;
 
 pub use arguments::{Invocation, Task, command};
 pub use commands::{Failure, STORED_RUN, report, run};
 pub use player::Said;
 pub use script::{Action, Line, Operation, Request, ScriptError, Verb, parse};
 pub use serving::serve;
-pub use session::Session;
-pub use transcript::{Answer, End, Transcript};
+pub use sessions::{Answer, End, Session, Speaker, Transcript};

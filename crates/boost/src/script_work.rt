@@ -3,12 +3,11 @@ ghost use Rattle.std.specs.Prelude.{IsOkUnless, IfOk};
 ghost use Rattle.std.specs.List.Sorted.{IsNonDecreasingBy};
 ghost use Rattle.calls.specs.declared.refusal.Refusal.{Refusal};
 
-use crate::session::Session;
-use crate::transcript::Transcript;
 use background::Work;
 use calls::Refusal;
 use crossbeam_channel::{Receiver, Sender, unbounded};
 use script::{Action, Line};
+use sessions::{Session, Transcript};
 use std::alloc::{AllocGlobal, Global};
 use std::rt::Clock;
 use std::sync::Wait;

@@ -6,13 +6,13 @@ ghost use Rattle.background.specs.Works.{IsLeftByWork};
 
 use crate::commands::{Failure, report};
 use crate::script_work::{Script, collect};
-use crate::transcript::Transcript;
 use background::{Closed, all_ended, run};
 use calls::Refusal;
 use crossbeam_channel::Receiver;
 use disk_model::Disk;
 use player::Said;
 use script::{Line, parse};
+use sessions::Transcript;
 use std::alloc::{AllocGlobal, Global};
 use std::io::{BufWriter, Write};
 use std::rt::Clock;

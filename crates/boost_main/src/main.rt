@@ -3,10 +3,11 @@
 
 use boost::{Failure, report};
 use calls::Refusal;
-use command_line::obey;
+use command_line::{Fifos, SystemFifos, obey};
+use disk_model::Unknown;
 use std::alloc::{AllocError, Global};
 use std::fs::File;
-use std::io::Write;
+use std::io::{Read, Write};
 use std::process::ExitCode;
 use std::rt::{Clock, Env, Files};
 use std::sync::Wait;
@@ -19,20 +20,25 @@ fn read_words(alloc: Global, args: &Vec<String>) -> Result<Vec<&str>, AllocError
 }
 
 // Reads the command line and obeys it. Answers the status.
-fn start<R: Env + Files<File = File> + Threads + Wait + Clock + AllocGlobal + Sync>(
+fn start<
+    R: Env + Files<File = File> + Threads + Wait + Clock + AllocGlobal + Sync,
+    F: Fifos + Drop + Sync,
+>(
     rt: &R,
-    out: &mut impl Write,
+    input: impl Read + Drop + Send,
+    fifos: F,
+    out: &mut (impl Write + Send),
     err: &mut impl Write,
 ) -> io::Result<u8> {
     let alloc = rt.alloc();
     let args = env::args(rt)?.collect(alloc)?;
     let words = read_words(alloc, &args)?;
-    Ok(obey(rt, words.as_slice(), out, err))
+    Ok(obey::<Unknown, R, F>(rt, words.as_slice(), input, fifos, out, err))
 }
 
 fn main(rt: HostRuntime) -> ExitCode {
     let (mut out, mut err) = (rt.stdout(), rt.stderr());
-    let status = match start(&rt, &mut out, &mut err) {
+    let status = match start(&rt, rt.stdin(), SystemFifos(&rt), &mut out, &mut err) {
         Ok(status) => status,
         Err(error) if error.kind() == io::ErrorKind::OutOfMemory => {
             report(&Failure::Refused(Refusal::NoMemory), &mut err)

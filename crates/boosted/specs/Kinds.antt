@@ -7,29 +7,34 @@ use Rattle.calls.specs.declared.kind.Kind.{Kind}
 use Rattle.calls.specs.declared.call.Call.{Call}
 use Rattle.calls.specs.declared.reply.Reply.{Reply}
 use Rattle.calls.specs.declared.refusal.Refusal.{Refusal}
+use Rattle.calls.specs.declared.need.Mode.{Mode}
 use Rattle.calls.specs.Rules.{kind_of, left_by, inverse_of, Undoes, Apart, Askable, Deferrable}
-use Rattle.calls.specs.Rules.{Disposable}
+use Rattle.calls.specs.Rules.{Disposable, need_of}
 use Rattle.calls.specs.Bags.{Bag}
 use Rattle.calls.specs.Sets as sets
 use Rattle.calls.specs.Maps as maps
 use Rattle.calls.specs.Queues as queues
 use Rattle.calls.specs.Counters as counters
 use Rattle.calls.specs.Pools as pools
+use Rattle.calls.specs.Stocks as stocks
 use Rattle.boosted.specs.Meaning.{Meaning}
 use Rattle.std.proofs.Common.{ℤ, refl}
-use Rattle.calls.proofs.SetLaws.{set_back, set_back_only, set_commutes}
-use Rattle.calls.proofs.MapLaws.{map_back, map_back_only, map_commutes}
-use Rattle.calls.proofs.QueueLaws.{queue_back, queue_back_only, queue_commutes}
+use Rattle.calls.proofs.SetLaws.{set_back, set_back_only, set_commutes, set_reads}
+use Rattle.calls.proofs.MapLaws.{map_back, map_back_only, map_commutes, map_reads}
+use Rattle.calls.proofs.QueueLaws.{queue_back, queue_back_only, queue_commutes, queue_reads}
 use Rattle.calls.proofs.CounterLaws.{counter_back, counter_back_only, counter_commutes}
-use Rattle.calls.proofs.CounterLaws.{counter_within, counter_starts}
-use Rattle.calls.proofs.PoolLaws.{pool_back, pool_back_only, pool_commutes}
+use Rattle.calls.proofs.CounterLaws.{counter_within, counter_starts, counter_reads}
+use Rattle.calls.proofs.PoolLaws.{pool_back, pool_back_only, pool_commutes, pool_reads}
+use Rattle.calls.proofs.StockLaws.{stock_back, stock_back_only, stock_commutes, stock_reads}
+use Rattle.calls.proofs.StockLaws.{stock_within, stock_starts}
 use Rattle.calls.proofs.KindLaws.{set_answered, map_answered, queue_answered, counter_answered}
 use Rattle.calls.proofs.KindLaws.{pool_answered, deferrable_disposable, set_same, map_same}
 use Rattle.calls.proofs.KindLaws.{queue_same, counter_same, set_deferred, map_deferred}
 use Rattle.calls.proofs.KindLaws.{queue_deferred, counter_deferred, pool_deferred, set_leaves}
 use Rattle.calls.proofs.KindLaws.{map_leaves, queue_leaves, counter_leaves, pool_leaves}
 use Rattle.calls.proofs.KindLaws.{pool_deferred_stays, pool_past_call, pool_past_later}
-use Rattle.calls.proofs.KindLaws.{pool_past_undoing}
+use Rattle.calls.proofs.KindLaws.{pool_past_undoing, stock_answered, stock_same, stock_deferred}
+use Rattle.calls.proofs.KindLaws.{stock_leaves}
 use Rattle.boosted.specs.Laws.{BoostedLaws}
 
 abbrev pub IsOf : Kind → Call → Type 0
@@ -66,6 +71,9 @@ counter_meaning =
 abbrev pub pool_meaning : Meaning sets.NumberSet (Unit {0})
 pool_meaning = meaning_of Kind.Pool pools.Answers pools.after set.empty (λ s n. Unit {0})
 
+abbrev pub stock_meaning : Meaning ℕ (Unit {0})
+stock_meaning = meaning_of Kind.Stock stocks.Answers stocks.after 0 stocks.IsWithin
+
 -- The laws of one collection of a kind, from those of its calls.
 module _ {S : Type 0} (answers : S → Call → Reply → Type 0) (after : S → Call → Reply → S) where
   abbrev Does : S → Call → Reply → S → Type 0
@@ -81,7 +89,9 @@ module _ {S : Type 0} (answers : S → Call → Reply → Type 0) (after : S →
       (deferred : (s : S) (d : Call) → IsOf kind d → Deferrable d → answers s d Reply.Done)
       (leaves : (s : S) (c : Call) (r : Reply) → answers s c r →
       AllByRecursion (λ d. answers (after s c r) d Reply.Done) (left_by c r))
-      (commutes : (s m t : S) (a : Call) (ra : Reply) (b : Call) (rb : Reply) →
+      (reads : (s : S) (c : Call) (r : Reply) → (need_of c r).mode ≡ Mode.Read →
+      answers s c r → after s c r ≡ s)
+      (commutes : (s m t : S) (a : Call) (ra : Reply) (b : Call) (rb : Reply) → Askable a →
       Apart a ra b rb → Does s a ra m → Does m b rb t → (u : S) × Does s b rb u × Does u a ra t)
       (back : (s t : S) (c : Call) (r : Reply) → Askable c → Does s c r t → Back t c r s)
       (back_only : (s t u : S) (c : Call) (r : Reply) → Askable c → Does s c r t → Back t c r u →
@@ -101,8 +111,10 @@ module _ {S : Type 0} (answers : S → Call → Reply → Type 0) (after : S →
       starts_within = starts;
       holds = λ s. record {
         goes_back = λ t at c r ask d. (back s t c r ask d, λ u. back_only s t u c r ask d);
-        commutes = λ at bt a ra b rb ask also apart m t. commutes s m t a ra b rb (apart refl);
-        moves_left = λ at bt a ra b rb ask late apart m t. commutes s m t a ra b rb (apart refl);
+        commutes = λ at bt a ra b rb ask also apart m t. commutes s m t a ra b rb ask (apart refl);
+        moves_left = λ at bt a ra b rb ask late apart m t. commutes s m t a ra b rb ask
+            (apart refl);
+        reads_leave = λ at. reads s;
         answered_belongs = λ at. answered s;
         wears = λ n at. wears s n;
         deferred_is_ready = λ at. deferred s;
@@ -126,29 +138,36 @@ module _ {S : Type 0} (answers : S → Call → Reply → Type 0) (after : S →
 pub set_laws : BoostedLaws set_meaning
 set_laws =
     laws_where_same sets.Answers sets.after tt (λ s n c r w h. tt) set_answered set_deferred
-    set_leaves set_commutes (λ s t c r ask. set_back s t c r)
-    (λ s t u c r ask. set_back_only s t u c r) set_same
+    set_leaves set_reads (λ s m t a ra b rb ask. set_commutes s m t a ra b rb)
+    (λ s t c r ask. set_back s t c r) (λ s t u c r ask. set_back_only s t u c r) set_same
 
 pub map_laws : BoostedLaws map_meaning
 map_laws =
     laws_where_same maps.Answers maps.after tt (λ s n c r w h. tt) map_answered map_deferred
-    map_leaves map_commutes (λ s t c r ask. map_back s t c r)
-    (λ s t u c r ask. map_back_only s t u c r) map_same
+    map_leaves map_reads (λ s m t a ra b rb ask. map_commutes s m t a ra b rb)
+    (λ s t c r ask. map_back s t c r) (λ s t u c r ask. map_back_only s t u c r) map_same
 
 pub queue_laws : BoostedLaws queue_meaning
 queue_laws =
     laws_where_same queues.Answers queues.after tt (λ s n c r w h. tt) queue_answered
-    queue_deferred queue_leaves queue_commutes queue_back queue_back_only queue_same
+    queue_deferred queue_leaves queue_reads
+    (λ s m t a ra b rb ask. queue_commutes s m t a ra b rb) queue_back queue_back_only queue_same
 
 pub counter_laws : BoostedLaws counter_meaning
 counter_laws =
     laws_where_same counters.Answers counters.after counter_starts counter_within
-    counter_answered counter_deferred counter_leaves counter_commutes
+    counter_answered counter_deferred counter_leaves counter_reads
+    (λ s m t a ra b rb ask. counter_commutes s m t a ra b rb)
     (λ s t c r ask. counter_back s t c r)
     (λ s t u c r ask. counter_back_only s t u c r) counter_same
 
 pub pool_laws : BoostedLaws pool_meaning
 pool_laws =
     laws_of pools.Answers pools.after tt (λ s n c r w h. tt) pool_answered pool_deferred
-    pool_leaves pool_commutes pool_back pool_back_only pool_deferred_stays pool_past_call
-    pool_past_later pool_past_undoing
+    pool_leaves pool_reads (λ s m t a ra b rb ask. pool_commutes s m t a ra b rb) pool_back
+    pool_back_only pool_deferred_stays pool_past_call pool_past_later pool_past_undoing
+
+pub stock_laws : BoostedLaws stock_meaning
+stock_laws =
+    laws_where_same stocks.Answers stocks.after stock_starts stock_within stock_answered
+    stock_deferred stock_leaves stock_reads stock_commutes stock_back stock_back_only stock_same

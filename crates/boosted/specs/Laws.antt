@@ -3,6 +3,7 @@ use Rattle.std.specs.Prelude.{◌≡◌, ℕ, ◌+◌, ◌⊎◌}
 use Rattle.std.specs.List.{AllByRecursion}
 use Rattle.calls.specs.declared.call.Call.{Call}
 use Rattle.calls.specs.declared.reply.Reply.{Reply}
+use Rattle.calls.specs.declared.need.Mode.{Mode}
 use Rattle.calls.specs.Rules.{left_by, need_of, Conflict, Askable, Deferrable, Disposable}
 use Rattle.boosted.specs.Meaning.{Meaning, Apart, Does, Undoes}
 
@@ -25,6 +26,9 @@ module _ {S A : Type 0} (meaning : Meaning S A) where
     -- and a later moves left past a call that is apart from it.
     pub moves_left : (at bt : A) (a : Call) (ra : Reply) (b : Call) (rb : Reply) →
         Askable a → Disposable b → Apart at a ra bt b rb → ChangePlaces s at a ra bt b rb
+    -- A call that only reads, as its need says, changes nothing.
+    pub reads_leave : (at : A) (c : Call) (r : Reply) → (need_of c r).mode ≡ Mode.Read →
+        meaning.answers s at c r → meaning.leaves s at c r ≡ s
     -- What has been answered is a call of the place.
     pub answered_belongs : (at : A) (c : Call) (r : Reply) →
         meaning.answers s at c r → meaning.belongs s at c

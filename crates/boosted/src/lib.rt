@@ -21,6 +21,7 @@ mod map;
 mod pool;
 mod queue;
 mod set;
+mod stock;
 mod table;
 
 pub use table::{check_asked, check_deferred};
@@ -70,7 +71,7 @@ pub trait Boosted: Drop {
         ensures ok { IsOk result ↔ CanDefer meaning self.now at call.now }
         ensures err { IfErr result (DeferRefused meaning self.now at call.now) };
 
-    /// Whether the call may run in a commit: a Bump, or a Free.
+    /// Whether the call may run in a commit: a Bump, a Free, or a Fill.
     fn disposable(call: &Call) -> bool
         ensures { IsTrue result ↔ Disposable call.now }
     {
@@ -102,7 +103,7 @@ pub trait Boosted: Drop {
     }
 
     /// Calls are taken back by their inverses; those whose needs do not conflict commute, and a
-    /// later moves left past them; a run wears by one; what is put off or left to the commit can
-    /// run there.
+    /// later moves left past them; one that only reads changes nothing; a run wears by one; what is
+    /// put off or left to the commit can run there.
     ghost laws: { BoostedLaws meaning };
 }

@@ -3,65 +3,75 @@ use Rattle.std.proofs.Common.{◌≡◌, ℕ, zero, suc, ℤ, List, [], ◌∷�
 use Rattle.std.proofs.Common.{neg_ℤ, ◌<◌, Some, MatchOption, sym, arith}
 use Rattle.calls.specs.declared.call.Call.{Call}
 use Rattle.calls.specs.declared.reply.Reply.{Reply}
-use Rattle.calls.specs.Rules.{Apart, inverse_of, undone_by}
+use Rattle.calls.specs.Rules.{Apart, Askable, inverse_of, undone_by}
 use Rattle.calls.specs.Counters as counters
-use Rattle.calls.specs.Contents.{Content, InSet, InMap, InQueue, InCounter, InPool, Answers, after}
-use Rattle.calls.specs.Contents.{Collection, AnswersAt, after_at, does}
+use Rattle.calls.specs.Stocks as stocks
+use Rattle.calls.specs.Contents.{Content, InSet, InMap, InQueue, InCounter, InPool, InStock}
+use Rattle.calls.specs.Contents.{Answers, after, Collection, AnswersAt, after_at, does}
 use Rattle.calls.proofs.Local.{Swapped}
 use Rattle.calls.proofs.SetLaws.{set_swapped, add_remove, remove_add}
 use Rattle.calls.proofs.MapLaws.{map_swapped, put_back, put_remove, remove_put}
 use Rattle.calls.proofs.QueueLaws.{queue_swapped, add_take_out, take_out_add}
 use Rattle.calls.proofs.PoolLaws.{pool_swapped}
 use Rattle.calls.proofs.CounterLaws.{counter_commutes, back_again, neg_step}
+use Rattle.calls.proofs.StockLaws.{stock_commutes, spent_back, filled_back}
 use Rattle.std.proofs.lemmas.Int.{ints}
 use Rattle.calls.specs.Bags.{Bag, copies, add}
 use Rattle.calls.proofs.Points.{in_insert, in_remove, get_insert, get_remove}
 use Rattle.calls.proofs.BagPoints.{copies-add}
 
-counter_swapped : (s : ℤ) (a : Call) (ra : Reply) (b : Call) (rb : Reply) → Apart a ra b rb →
-    counters.Answers s a ra → counters.Answers (counters.after s a ra) b rb →
-    Swapped counters.Answers counters.after s a ra b rb
-counter_swapped s a ra b rb apart ha hb =
-    let w = counter_commutes s (counters.after s a ra) (counters.after (counters.after s a ra) b rb)
-    a ra b rb apart (ha, refl) (hb, refl) in (
-      w.1.0,
-      subst (λ v. counters.Answers v a ra) w.1.1 w.2.0,
-      w.2.1 ∙ ap (λ v. counters.after v a ra) w.1.1,
-    )
+-- Where b and then a lead to where a and then b did, both may change places.
+module _ {C : Type 0} (Answered : C → Call → Reply → Type 0) (left : C → Call → Reply → C) where
+  turned : (s t u : C) (a : Call) (ra : Reply) (b : Call) (rb : Reply) →
+      Answered s b rb × (u ≡ left s b rb) → Answered u a ra × (t ≡ left u a ra) →
+      left (left s a ra) b rb ≡ t → Swapped Answered left s a ra b rb
+  turned s t u a ra b rb db da is = (
+    db.0,
+    subst (λ v. Answered v a ra) db.1 da.0,
+    is ∙ da.1 ∙ ap (λ v. left v a ra) db.1,
+  )
 
-part_swapped : (s : Content) (a : Call) (ra : Reply) (b : Call) (rb : Reply) → Apart a ra b rb →
-    Answers s a ra → Answers (after s a ra) b rb → Swapped Answers after s a ra b rb
-part_swapped (InSet s) a ra b rb apart ha hb = let w = set_swapped s a ra b rb apart ha hb in
+part_swapped : (s : Content) (a : Call) (ra : Reply) (b : Call) (rb : Reply) → Askable a →
+    Apart a ra b rb → Answers s a ra → Answers (after s a ra) b rb →
+    Swapped Answers after s a ra b rb
+part_swapped (InSet s) a ra b rb ask apart ha hb = let w = set_swapped s a ra b rb apart ha hb in
     (w.0, w.1, ap InSet w.2)
-part_swapped (InMap s) a ra b rb apart ha hb = let w = map_swapped s a ra b rb apart ha hb in
+part_swapped (InMap s) a ra b rb ask apart ha hb = let w = map_swapped s a ra b rb apart ha hb in
     (w.0, w.1, ap InMap w.2)
-part_swapped (InQueue s) a ra b rb apart ha hb = let w = queue_swapped s a ra b rb apart ha hb in
-    (w.0, w.1, ap InQueue w.2)
-part_swapped (InCounter s) a ra b rb apart ha hb =
-    let w = counter_swapped s a ra b rb apart ha hb in (w.0, w.1, ap InCounter w.2)
-part_swapped (InPool s) a ra b rb apart ha hb = let w = pool_swapped s a ra b rb apart ha hb in
+part_swapped (InQueue s) a ra b rb ask apart ha hb =
+    let w = queue_swapped s a ra b rb apart ha hb in (w.0, w.1, ap InQueue w.2)
+part_swapped (InCounter s) a ra b rb ask apart ha hb =
+    let w = counter_commutes s _ _ a ra b rb apart (ha, refl) (hb, refl) in
+    let v = turned counters.Answers counters.after s _ w.0 a ra b rb w.1 w.2 refl in
+    (v.0, v.1, ap InCounter v.2)
+part_swapped (InPool s) a ra b rb ask apart ha hb = let w = pool_swapped s a ra b rb apart ha hb in
     (w.0, w.1, ap InPool w.2)
+part_swapped (InStock s) a ra b rb ask apart ha hb =
+    let w = stock_commutes s _ _ a ra b rb ask apart (ha, refl) (hb, refl) in
+    let v = turned stocks.Answers stocks.after s _ w.0 a ra b rb w.1 w.2 refl in
+    (v.0, v.1, ap InStock v.2)
 
 swapped_at : (s : List Collection) (i j : ℕ) (a : Call) (ra : Reply) (b : Call) (rb : Reply) →
-    (i ≡ j → Apart a ra b rb) → AnswersAt s i a ra → AnswersAt (after_at s i a ra) j b rb →
+    Askable a → (i ≡ j → Apart a ra b rb) → AnswersAt s i a ra →
+    AnswersAt (after_at s i a ra) j b rb →
     AnswersAt s j b rb × AnswersAt (after_at s j b rb) i a ra ×
     (after_at (after_at s i a ra) j b rb ≡ after_at (after_at s j b rb) i a ra)
-swapped_at [] i j a ra b rb apart ha hb = absurd ha
-swapped_at (x ∷ xs) zero zero a ra b rb apart ha hb =
-    let w = part_swapped x.content a ra b rb (apart refl) ha hb in
+swapped_at [] i j a ra b rb ask apart ha hb = absurd ha
+swapped_at (x ∷ xs) zero zero a ra b rb ask apart ha hb =
+    let w = part_swapped x.content a ra b rb ask (apart refl) ha hb in
     (w.0, w.1, ap (λ v. record { name = x.name; content = v } ∷ xs) w.2)
-swapped_at (x ∷ xs) zero (suc j) a ra b rb apart ha hb = (hb, ha, refl)
-swapped_at (x ∷ xs) (suc i) zero a ra b rb apart ha hb = (hb, ha, refl)
-swapped_at (x ∷ xs) (suc i) (suc j) a ra b rb apart ha hb =
-    let w = swapped_at xs i j a ra b rb (λ e. apart (ap suc e)) ha hb in
+swapped_at (x ∷ xs) zero (suc j) a ra b rb ask apart ha hb = (hb, ha, refl)
+swapped_at (x ∷ xs) (suc i) zero a ra b rb ask apart ha hb = (hb, ha, refl)
+swapped_at (x ∷ xs) (suc i) (suc j) a ra b rb ask apart ha hb =
+    let w = swapped_at xs i j a ra b rb ask (λ e. apart (ap suc e)) ha hb in
     (w.0, w.1, ap (λ v. x ∷ v) w.2)
 
--- Calls at two places, or whose needs do not conflict, commute.
+-- A call that a client can ask, and one at another place, or whose need does not conflict, commute.
 pub catalog_commutes : (s m t : List Collection) (i j : ℕ) (a : Call) (ra : Reply) (b : Call)
-    (rb : Reply) → (i ≡ j → Apart a ra b rb) → does s i a ra m → does m j b rb t →
+    (rb : Reply) → Askable a → (i ≡ j → Apart a ra b rb) → does s i a ra m → does m j b rb t →
     (u : List Collection) × does s j b rb u × does u i a ra t
-catalog_commutes s m t i j a ra b rb apart da db =
-    let w = swapped_at s i j a ra b rb apart da.0 (subst (λ v. AnswersAt v j b rb) da.1 db.0) in
+catalog_commutes s m t i j a ra b rb ask apart da db =
+    let w = swapped_at s i j a ra b rb ask apart da.0 (subst (λ v. AnswersAt v j b rb) da.1 db.0) in
     (after_at s j b rb, (w.0, refl), (w.1, db.1 ∙ ap (λ v. after_at v j b rb) da.1 ∙ w.2))
 
 on_again : (s n : ℤ) → s ≡ (s +ℤ neg_ℤ n) +ℤ n
@@ -116,6 +126,10 @@ part_undone (InPool s) Call.Draw (Reply.Id x) = (
   λ h. ap InPool (sym (remove_add s x h.1)),
   λ h. (((h.0.1, tt), in_insert s x x refl), ap InPool (sym (add_remove s x h.1))),
 )
+part_undone (InStock s) (Call.Spend n) Reply.Yes = (
+  λ h. ap InStock (sym (filled_back s n)),
+  λ h. (((h.0.0, tt), tt), ap InStock (sym (spent_back s n h.1))),
+)
 part_undone s (Call.SetAdd x) Reply.Yes = (λ h. absurd h.1, λ h. absurd h.1)
 part_undone s (Call.SetRemove x) Reply.Yes = (λ h. absurd h.1, λ h. absurd h.1)
 part_undone s (Call.Put k v) Reply.Nothing = (λ h. absurd h.1, λ h. absurd h.1)
@@ -125,6 +139,7 @@ part_undone s (Call.QueueAdd p g) Reply.Done = (λ h. absurd h.1, λ h. absurd h
 part_undone s Call.Take (Reply.Item p g) = (λ h. absurd h.1, λ h. absurd h.1)
 part_undone s (Call.Bump n) Reply.Done = (λ h. absurd h.1, λ h. absurd h.1)
 part_undone s Call.Draw (Reply.Id x) = (λ h. absurd h.1, λ h. absurd h.1)
+part_undone s (Call.Spend n) Reply.Yes = (λ h. absurd h.1, λ h. absurd h.1)
 part_undone s c r = tt
 
 -- the same of the collection at a place

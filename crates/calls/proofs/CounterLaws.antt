@@ -3,7 +3,8 @@ use Rattle.std.proofs.Common.{◌≡◌, ℕ, ℤ, pos, ◌+◌, ◌+ℤ◌, neg
 use Rattle.std.proofs.lemmas.Int.{ints}
 use Rattle.calls.specs.declared.call.Call.{Call}
 use Rattle.calls.specs.declared.reply.Reply.{Reply}
-use Rattle.calls.specs.Rules.{IsStep, Apart, inverse_of, Undoes}
+use Rattle.calls.specs.declared.need.Mode.{Mode}
+use Rattle.calls.specs.Rules.{IsStep, need_of, Apart, inverse_of, Undoes}
 use Rattle.calls.specs.Counters.{IsWithin, Answers, after, does}
 
 same_end : (s m n : ℤ) → (s +ℤ m) +ℤ n ≡ (s +ℤ n) +ℤ m
@@ -25,6 +26,13 @@ counter_within s n (Call.Bump k) Reply.Done w a =
 counter_within s n Call.Read (Reply.Total v) w a =
     record { low = omega (arith, ints); high = omega (arith, ints) }
 counter_within s n c r w a = absurd a.1
+
+-- A call that only reads changes nothing.
+pub counter_reads : (s : ℤ) (c : Call) (r : Reply) → (need_of c r).mode ≡ Mode.Read →
+    Answers s c r → after s c r ≡ s
+counter_reads s (Call.Bump n) Reply.Done m a = cc
+counter_reads s Call.Read (Reply.Total v) m a = refl
+counter_reads s c r m a = absurd a.1
 
 -- Calls of a counter whose needs do not conflict commute.
 pub counter_commutes : (s m t : ℤ) (a : Call) (ra : Reply) (b : Call) (rb : Reply) →

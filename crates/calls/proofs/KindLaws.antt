@@ -17,6 +17,7 @@ use Rattle.calls.specs.Maps as maps
 use Rattle.calls.specs.Queues as queues
 use Rattle.calls.specs.Counters as counters
 use Rattle.calls.specs.Pools as pools
+use Rattle.calls.specs.Stocks as stocks
 use Rattle.std.specs.List.{AllByRecursion}
 use Rattle.calls.proofs.Points.{in_remove_other}
 use Rattle.calls.proofs.PoolLaws.{free_kept, free_kept_past_free}
@@ -25,6 +26,7 @@ use Rattle.calls.proofs.PoolLaws.{free_kept, free_kept_past_free}
 pub disposable_takes_none : (c : Call) → Disposable c → TakesNoMemory c
 disposable_takes_none (Call.Bump n) late = tt
 disposable_takes_none (Call.Free x) late = tt
+disposable_takes_none (Call.Fill n) late = tt
 disposable_takes_none c late = absurd late
 
 -- A client can ask for the call, or it has a reply now.
@@ -82,6 +84,15 @@ pool_can_look s (Call.Free x) k h =
     w.1) h
 pool_can_look s c k h = cc
 
+pub stock_can_look : (s : ℕ) (c : Call) → kind_of c ≡ Kind.Stock → HasReply stocks.Answers s c →
+    stocks.CanLook s c
+stock_can_look s (Call.Spend n) k h =
+    ⊎_elim (λ a. a) (λ (w : (r : Reply) × stocks.Answers s (Call.Spend n) r). w.1.0.0) h
+stock_can_look s Call.Level k h = tt
+stock_can_look s (Call.Fill n) k h =
+    ⊎_elim (λ a. absurd a) (λ (w : (r : Reply) × stocks.Answers s (Call.Fill n) r). w.1.0.0) h
+stock_can_look s c k h = cc
+
 pub set_answered : (s : sets.NumberSet) (c : Call) (r : Reply) → sets.Answers s c r →
     kind_of c ≡ Kind.Set
 set_answered s (Call.Contains x) r h = refl
@@ -118,68 +129,98 @@ pool_answered s (Call.Release x) r h = refl
 pool_answered s (Call.Free x) r h = refl
 pool_answered s c r h = absurd h.1
 
+pub stock_answered : (s : ℕ) (c : Call) (r : Reply) → stocks.Answers s c r → kind_of c ≡ Kind.Stock
+stock_answered s (Call.Spend n) r h = refl
+stock_answered s Call.Level r h = refl
+stock_answered s (Call.Fill n) r h = refl
+stock_answered s c r h = absurd h.1
+
 pub deferrable_disposable : (d : Call) → Deferrable d → Disposable d
 deferrable_disposable (Call.Bump n) h = tt
+deferrable_disposable (Call.Fill n) h = tt
 deferrable_disposable d h = absurd h
 
 pub leaves_one : (c : Call) (r : Reply) → length (left_by c r) ≤ 1
 leaves_one (Call.Release x) Reply.Queued = omega arith
 leaves_one c r = omega arith
 
--- A later that a set, a map, a queue or a counter answers, it answers at every content.
+-- A later that a set, a map, a queue, a counter or a stock answers, it answers at every content.
 pub set_same : (s t : sets.NumberSet) (d : Call) → Disposable d → sets.Answers s d Reply.Done →
     sets.Answers t d Reply.Done
 set_same s t (Call.Bump n) l h = absurd h.1
 set_same s t (Call.Free x) l h = absurd h.1
+set_same s t (Call.Fill n) l h = absurd h.1
 set_same s t d l h = absurd l
 
 pub map_same : (s t : maps.Table) (d : Call) → Disposable d → maps.Answers s d Reply.Done →
     maps.Answers t d Reply.Done
 map_same s t (Call.Bump n) l h = absurd h.1
 map_same s t (Call.Free x) l h = absurd h.1
+map_same s t (Call.Fill n) l h = absurd h.1
 map_same s t d l h = absurd l
 
 pub queue_same : (s t : Bag) (d : Call) → Disposable d → queues.Answers s d Reply.Done →
     queues.Answers t d Reply.Done
 queue_same s t (Call.Bump n) l h = absurd h.1
 queue_same s t (Call.Free x) l h = absurd h.1
+queue_same s t (Call.Fill n) l h = absurd h.1
 queue_same s t d l h = absurd l
 
 pub counter_same : (s t : ℤ) (d : Call) → Disposable d → counters.Answers s d Reply.Done →
     counters.Answers t d Reply.Done
 counter_same s t (Call.Bump n) l h = h
 counter_same s t (Call.Free x) l h = absurd h.1
+counter_same s t (Call.Fill n) l h = absurd h.1
 counter_same s t d l h = absurd l
 
--- Only a bump can be put off, and only a counter has bumps.
+pub stock_same : (s t : ℕ) (d : Call) → Disposable d → stocks.Answers s d Reply.Done →
+    stocks.Answers t d Reply.Done
+stock_same s t (Call.Fill n) l h = h
+stock_same s t (Call.Bump n) l h = absurd h.1
+stock_same s t (Call.Free x) l h = absurd h.1
+stock_same s t d l h = absurd l
+
+-- Only a bump and a filling can be put off: a counter has bumps, and a stock has fillings.
 pub set_deferred : (s : sets.NumberSet) (d : Call) → kind_of d ≡ Kind.Set → Deferrable d →
     sets.Answers s d Reply.Done
 set_deferred s (Call.Bump n) k l = cc
+set_deferred s (Call.Fill n) k l = cc
 set_deferred s d k l = absurd l
 
 pub map_deferred : (s : maps.Table) (d : Call) → kind_of d ≡ Kind.Map → Deferrable d →
     maps.Answers s d Reply.Done
 map_deferred s (Call.Bump n) k l = cc
+map_deferred s (Call.Fill n) k l = cc
 map_deferred s d k l = absurd l
 
 pub queue_deferred : (s : Bag) (d : Call) → kind_of d ≡ Kind.Queue → Deferrable d →
     queues.Answers s d Reply.Done
 queue_deferred s (Call.Bump n) k l = cc
+queue_deferred s (Call.Fill n) k l = cc
 queue_deferred s d k l = absurd l
 
 pub counter_deferred : (s : ℤ) (d : Call) → kind_of d ≡ Kind.Counter → Deferrable d →
     counters.Answers s d Reply.Done
 counter_deferred s (Call.Bump n) k l = ((l, tt), tt)
+counter_deferred s (Call.Fill n) k l = cc
 counter_deferred s d k l = absurd l
 
 pub pool_deferred : (s : sets.NumberSet) (d : Call) → kind_of d ≡ Kind.Pool → Deferrable d →
     pools.Answers s d Reply.Done
 pool_deferred s (Call.Bump n) k l = cc
+pool_deferred s (Call.Fill n) k l = cc
 pool_deferred s d k l = absurd l
+
+pub stock_deferred : (s : ℕ) (d : Call) → kind_of d ≡ Kind.Stock → Deferrable d →
+    stocks.Answers s d Reply.Done
+stock_deferred s (Call.Bump n) k l = cc
+stock_deferred s (Call.Fill n) k l = ((l, tt), tt)
+stock_deferred s d k l = absurd l
 
 pub pool_deferred_stays : (s t : sets.NumberSet) (d : Call) → Deferrable d →
     pools.Answers s d Reply.Done → pools.Answers t d Reply.Done
 pool_deferred_stays s t (Call.Bump n) l h = absurd h.1
+pool_deferred_stays s t (Call.Fill n) l h = absurd h.1
 pool_deferred_stays s t d l h = absurd l
 
 -- A later of a pool stays ready past every call that a client can ask,
@@ -188,6 +229,7 @@ pub pool_past_call : (s : sets.NumberSet) (c : Call) (r : Reply) (d : Call) → 
     pools.Answers (pools.after s c r) d Reply.Done
 pool_past_call s c r (Call.Free x) k l h t = free_kept s x c r k h t
 pool_past_call s c r (Call.Bump n) k l h t = absurd t.1
+pool_past_call s c r (Call.Fill n) k l h t = absurd t.1
 pool_past_call s c r d k l h t = absurd l
 
 -- past another later, or one whose need does not conflict,
@@ -202,7 +244,9 @@ pool_past_later s (Call.Free y) (Call.Free x) m l other h t =
     ((omega arith, omega arith), λ n. n))
     other) t
 pool_past_later s (Call.Bump n) d m l other h t = absurd h.1
+pool_past_later s (Call.Fill n) d m l other h t = absurd h.1
 pool_past_later s (Call.Free y) (Call.Bump n) m l other h t = absurd t.1
+pool_past_later s (Call.Free y) (Call.Fill n) m l other h t = absurd t.1
 pool_past_later s (Call.Free y) d m l other h t = absurd l
 pool_past_later s b d m l other h t = absurd m
 
@@ -223,6 +267,7 @@ free_past_undoing s u (Call.MapRemove k) (Reply.Value o) x apart back t = absurd
 free_past_undoing s u (Call.QueueAdd p g) Reply.Done x apart back t = absurd back.1.0.1
 free_past_undoing s u Call.Take (Reply.Item p g) x apart back t = absurd back.1.0.1
 free_past_undoing s u (Call.Bump n) Reply.Done x apart back t = absurd back.1.0.1
+free_past_undoing s u (Call.Spend n) Reply.Yes x apart back t = absurd back.1.0.1
 free_past_undoing s u c r x apart back t =
     subst (λ v. pools.Answers v (Call.Free x) Reply.Done) (sym back) t
 
@@ -231,6 +276,7 @@ pub pool_past_undoing : (s u : sets.NumberSet) (c : Call) (r : Reply) (d : Call)
     pools.Answers u d Reply.Done
 pool_past_undoing s u c r (Call.Free x) l apart back t = free_past_undoing s u c r x apart back t
 pool_past_undoing s u c r (Call.Bump n) l apart back t = absurd t.1
+pool_past_undoing s u c r (Call.Fill n) l apart back t = absurd t.1
 pool_past_undoing s u c r d l apart back t = absurd l
 
 pub leaves_disposable : (c : Call) (r : Reply) → AllByRecursion Disposable (left_by c r)
@@ -243,12 +289,17 @@ leaves_need (Call.Release x) Reply.Queued = (refl, tt)
 leaves_need c r = tt
 
 -- What can be put off is another later than each that may run, or apart from it: a bump is apart
--- from every bump.
+-- from every bump, and a filling from every filling.
 pub deferred_is_other : (b d : Call) → Disposable b → Deferrable d →
     (b ≡ d → ⊥) ⊎ Apart b Reply.Done d Reply.Done
 deferred_is_other (Call.Bump n) (Call.Bump m) l k = inr (λ h. h.1 tt)
+deferred_is_other (Call.Fill n) (Call.Fill m) l k = inr (λ h. h.1 tt)
 deferred_is_other (Call.Free x) (Call.Bump m) l k = inl (λ e. cc)
+deferred_is_other (Call.Fill n) (Call.Bump m) l k = inl (λ e. cc)
+deferred_is_other (Call.Free x) (Call.Fill m) l k = inl (λ e. cc)
+deferred_is_other (Call.Bump n) (Call.Fill m) l k = inl (λ e. cc)
 deferred_is_other b (Call.Bump m) l k = absurd l
+deferred_is_other b (Call.Fill m) l k = absurd l
 deferred_is_other b d l k = absurd k
 
 -- What a call leaves is Done right after it. Only a pool answers a release.
@@ -276,6 +327,11 @@ pub pool_leaves : (s : sets.NumberSet) (c : Call) (r : Reply) → pools.Answers 
     AllByRecursion (λ d. pools.Answers (pools.after s c r) d Reply.Done) (left_by c r)
 pool_leaves s (Call.Release x) Reply.Queued h = (h, tt)
 pool_leaves s c r h = tt
+
+pub stock_leaves : (s : ℕ) (c : Call) (r : Reply) → stocks.Answers s c r →
+    AllByRecursion (λ d. stocks.Answers (stocks.after s c r) d Reply.Done) (left_by c r)
+stock_leaves s (Call.Release x) Reply.Queued h = absurd h.1
+stock_leaves s c r h = tt
 
 -- ---- names of kinds
 
@@ -310,3 +366,4 @@ kind_whole Kind.Map = whole_by_test (codes "map") refl
 kind_whole Kind.Queue = whole_by_test (codes "queue") refl
 kind_whole Kind.Counter = whole_by_test (codes "counter") refl
 kind_whole Kind.Pool = whole_by_test (codes "pool") refl
+kind_whole Kind.Stock = whole_by_test (codes "stock") refl

@@ -24,6 +24,12 @@ Swapped Answers after s a ra b rb =
     Answers s b rb × Answers (after s b rb) a ra ×
     (after (after s a ra) b rb ≡ after (after s b rb) a ra)
 
+-- Calls in such a mode change the same keys side by side.
+abbrev pub Joins : Mode → Type 0
+Joins Mode.Read = ⊥
+Joins Mode.Write = ⊥
+Joins m = Unit {0}
+
 -- A content is seen as a cell at each key.
 pub record IsLocal {C X : Type 0} (Answers : C → Call → Reply → Type 0)
     (after : C → Call → Reply → C) (cell : C → ℕ → X) : Type 0 where
@@ -40,10 +46,10 @@ pub record IsLocal {C X : Type 0} (Answers : C → Call → Reply → Type 0)
   -- a call that reads changes nothing
   pub reads : (s : C) (c : Call) (r : Reply) → (need_of c r).mode ≡ Mode.Read → Answers s c r →
       after s c r ≡ s
-  -- two that add may change places
-  pub adds : (s : C) (a : Call) (ra : Reply) (b : Call) (rb : Reply) →
-      (need_of a ra).mode ≡ Mode.Add → (need_of b rb).mode ≡ Mode.Add → Answers s a ra →
-      Answers (after s a ra) b rb → Swapped Answers after s a ra b rb
+  -- two that change the same keys side by side may change places
+  pub joins : (s : C) (a : Call) (ra : Reply) (b : Call) (rb : Reply) → Joins (need_of a ra).mode →
+      Joins (need_of b rb).mode → Answers s a ra → Answers (after s a ra) b rb →
+      Swapped Answers after s a ra b rb
 
 -- What is local stays so where only numbers in range are answered.
 pub ranged : {C X : Type 0} {Row : C → Call → Reply → Type 0} {after : C → Call → Reply → C}
@@ -55,7 +61,7 @@ ranged l = record {
   answers = λ s t c r e h. (h.0, l.answers s t c r e h.1);
   on = λ s t c r e h. l.on s t c r e h.1;
   reads = λ s c r m h. l.reads s c r m h.1;
-  adds = λ s a ra b rb ma mb ha hb. let w = l.adds s a ra b rb ma mb ha.1 hb.1 in
+  joins = λ s a ra b rb ma mb ha hb. let w = l.joins s a ra b rb ma mb ha.1 hb.1 in
       ((hb.0, w.0), (ha.0, w.1), w.2);
 }
 
@@ -77,21 +83,18 @@ off_other : (a b : Need) (p : ℕ) → Beside a b → a.low ≤ p → p ≤ a.hi
 off_other a b p d l h = ⊎_elim (λ k. inl (omega arith)) (λ k. inr (omega arith)) d
 
 compatible : (m n : Mode) → ((Compatible m n → ⊥) → ⊥) →
-    ((m ≡ Mode.Read) × (n ≡ Mode.Read)) ⊎ ((m ≡ Mode.Add) × (n ≡ Mode.Add))
+    ((m ≡ Mode.Read) × (n ≡ Mode.Read)) ⊎ (Joins m × Joins n)
 compatible Mode.Read Mode.Read h = inl (refl, refl)
-compatible Mode.Add Mode.Add h = inr (refl, refl)
-compatible Mode.Read Mode.Write h = absurd (h (λ x. x))
-compatible Mode.Read Mode.Add h = absurd (h (λ x. x))
-compatible Mode.Write Mode.Read h = absurd (h (λ x. x))
-compatible Mode.Write Mode.Write h = absurd (h (λ x. x))
-compatible Mode.Write Mode.Add h = absurd (h (λ x. x))
-compatible Mode.Add Mode.Read h = absurd (h (λ x. x))
-compatible Mode.Add Mode.Write h = absurd (h (λ x. x))
+compatible Mode.Add Mode.Add h = inr (tt, tt)
+compatible Mode.Take Mode.Take h = inr (tt, tt)
+compatible Mode.Take Mode.Give h = inr (tt, tt)
+compatible Mode.Give Mode.Take h = inr (tt, tt)
+compatible Mode.Give Mode.Give h = inr (tt, tt)
+compatible m n h = absurd (h (λ x. x))
 
--- Without a conflict the keys are beside each other, or both read, or both add.
+-- Without a conflict the keys are beside each other, or both read, or both change side by side.
 cases_apart : (a b : Need) → (Conflict a b → ⊥) →
-    Beside a b ⊎ (((a.mode ≡ Mode.Read) × (b.mode ≡ Mode.Read)) ⊎
-    ((a.mode ≡ Mode.Add) × (b.mode ≡ Mode.Add)))
+    Beside a b ⊎ (((a.mode ≡ Mode.Read) × (b.mode ≡ Mode.Read)) ⊎ (Joins a.mode × Joins b.mode))
 cases_apart a b h =
     ⊎_elim
     (λ (k : b.high < a.low). inl (inr k))
@@ -147,10 +150,10 @@ module _ {C X : Type 0} {Answers : C → Call → Reply → Type 0} {after : C �
       ⊎_elim
       (λ d. beside s a ra b rb d ha hb)
       (λ (modes : (((need_of a ra).mode ≡ Mode.Read) × ((need_of b rb).mode ≡ Mode.Read)) ⊎
-      (((need_of a ra).mode ≡ Mode.Add) × ((need_of b rb).mode ≡ Mode.Add))). ⊎_elim
+      (Joins (need_of a ra).mode × Joins (need_of b rb).mode)). ⊎_elim
       (λ (w : ((need_of a ra).mode ≡ Mode.Read) × ((need_of b rb).mode ≡ Mode.Read)). both_read
-      s a ra b rb w.0 w.1 ha hb) (λ (w : ((need_of a ra).mode ≡ Mode.Add) ×
-      ((need_of b rb).mode ≡ Mode.Add)). local.adds s a ra b rb w.0 w.1 ha hb) modes)
+      s a ra b rb w.0 w.1 ha hb) (λ (w : Joins (need_of a ra).mode × Joins (need_of b rb).mode).
+      local.joins s a ra b rb w.0 w.1 ha hb) modes)
       (cases_apart (need_of a ra) (need_of b rb) apart)
 
   -- The law: calls whose needs do not conflict commute.

@@ -9,7 +9,7 @@ use Rattle.calls.specs.declared.reply.Reply.{Reply}
 use Rattle.calls.specs.declared.need.Mode.{Mode}
 use Rattle.calls.specs.Rules.{need_of, Apart, inverse_of, Undoes}
 use Rattle.calls.specs.Maps.{Table, Row, Answers, after, does}
-use Rattle.calls.proofs.Local.{IsLocal, Agree, Swapped, ranged, commutes, swapped}
+use Rattle.calls.proofs.Local.{IsLocal, Agree, Swapped, Joins, ranged, commutes, swapped}
 use Rattle.calls.proofs.Points.{get_insert, get_insert_other, get_remove, get_remove_other}
 
 same : (s t : Table) → ((p : ℕ) → get s p ≡ get t p) → s ≡ t
@@ -81,14 +81,19 @@ reads s (Call.Get k) r m a = refl
 reads s (Call.Ceiling k) r m a = refl
 reads s c r m a = absurd a
 
-no_add : (s : Table) (c : Call) (r : Reply) → (need_of c r).mode ≡ Mode.Add → Row s c r → ⊥
-no_add s (Call.Put k v) r m a = cc
-no_add s (Call.MapRemove k) (Reply.Value o) m a = cc
-no_add s (Call.MapRemove k) Reply.Nothing m a = cc
-no_add s (Call.Get k) r m a = cc
-no_add s (Call.Ceiling k) (Reply.Entry j v) m a = cc
-no_add s (Call.Ceiling k) Reply.Nothing m a = cc
-no_add s c r m a = absurd a
+-- A call that only reads changes nothing.
+pub map_reads : (s : Table) (c : Call) (r : Reply) → (need_of c r).mode ≡ Mode.Read →
+    Answers s c r → after s c r ≡ s
+map_reads s c r m h = reads s c r m h.1
+
+no_join : (s : Table) (c : Call) (r : Reply) → Joins (need_of c r).mode → Row s c r → ⊥
+no_join s (Call.Put k v) r m a = m
+no_join s (Call.MapRemove k) (Reply.Value o) m a = m
+no_join s (Call.MapRemove k) Reply.Nothing m a = m
+no_join s (Call.Get k) r m a = m
+no_join s (Call.Ceiling k) (Reply.Entry j v) m a = m
+no_join s (Call.Ceiling k) Reply.Nothing m a = m
+no_join s c r m a = absurd a
 
 local : IsLocal Row after get
 local = record {
@@ -97,7 +102,7 @@ local = record {
   answers = answers;
   on = on;
   reads = reads;
-  adds = λ s a ra b rb ma mb ha hb. absurd (no_add s a ra ma ha);
+  joins = λ s a ra b rb ma mb ha hb. absurd (no_join s a ra ma ha);
 }
 
 pub map_commutes : (s m t : Table) (a : Call) (ra : Reply) (b : Call) (rb : Reply) →

@@ -7,7 +7,7 @@ use Rattle.calls.specs.declared.need.Mode.{Mode}
 use Rattle.calls.specs.Rules.{need_of, Apart, inverse_of, Undoes, Askable}
 use Rattle.calls.specs.Sets.{NumberSet}
 use Rattle.calls.specs.Pools.{Row, Answers, after, does}
-use Rattle.calls.proofs.Local.{IsLocal, Agree, Swapped, ranged, commutes, swapped}
+use Rattle.calls.proofs.Local.{IsLocal, Agree, Swapped, Joins, ranged, commutes, swapped}
 use Rattle.calls.proofs.Points.{in_insert, in_insert_other, in_remove, in_remove_other}
 use Rattle.calls.proofs.SetLaws.{same, add_remove}
 
@@ -46,12 +46,17 @@ reads s (Call.Free x) Reply.Done m h = cc
 reads s (Call.Release x) r m h = refl
 reads s c r m h = absurd h
 
-no_add : (s : NumberSet) (c : Call) (r : Reply) → (need_of c r).mode ≡ Mode.Add → Row s c r → ⊥
-no_add s Call.Draw (Reply.Id x) m h = cc
-no_add s (Call.Free x) Reply.Done m h = cc
-no_add s (Call.Release x) Reply.Queued m h = cc
-no_add s (Call.Release x) Reply.Absent m h = cc
-no_add s c r m h = absurd h
+-- A call that only reads changes nothing.
+pub pool_reads : (s : NumberSet) (c : Call) (r : Reply) → (need_of c r).mode ≡ Mode.Read →
+    Answers s c r → after s c r ≡ s
+pool_reads s c r m h = reads s c r m h.1
+
+no_join : (s : NumberSet) (c : Call) (r : Reply) → Joins (need_of c r).mode → Row s c r → ⊥
+no_join s Call.Draw (Reply.Id x) m h = m
+no_join s (Call.Free x) Reply.Done m h = m
+no_join s (Call.Release x) Reply.Queued m h = m
+no_join s (Call.Release x) Reply.Absent m h = m
+no_join s c r m h = absurd h
 
 local : IsLocal Row after contains
 local = record {
@@ -60,7 +65,7 @@ local = record {
   answers = answers;
   on = on;
   reads = reads;
-  adds = λ s a ra b rb ma mb ha hb. absurd (no_add s a ra ma ha);
+  joins = λ s a ra b rb ma mb ha hb. absurd (no_join s a ra ma ha);
 }
 
 pub pool_commutes : (s m t : NumberSet) (a : Call) (ra : Reply) (b : Call) (rb : Reply) →

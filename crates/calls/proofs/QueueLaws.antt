@@ -7,7 +7,7 @@ use Rattle.calls.specs.declared.need.Mode.{Mode}
 use Rattle.calls.specs.Rules.{need_of, Apart, inverse_of, Undoes, Askable}
 use Rattle.calls.specs.Bags.{Bag, copies, add, take_out}
 use Rattle.calls.specs.Queues.{IsLeast, IsEmpty, Row, Answers, after, does}
-use Rattle.calls.proofs.Local.{IsLocal, Agree, Swapped, ranged, commutes, swapped}
+use Rattle.calls.proofs.Local.{IsLocal, Agree, Swapped, Joins, ranged, commutes, swapped}
 use Rattle.calls.proofs.BagPoints.{pair_cases, copies-add, copies-add_other, copies-take_out}
 use Rattle.calls.proofs.BagPoints.{copies-take_out_other, same_bag}
 
@@ -125,29 +125,35 @@ reads s Call.Take Reply.Nothing m a = refl
 reads s Call.Least r m a = refl
 reads s c r m a = absurd a
 
-adds_next : (s : Bag) (p g : ℕ) (b : Call) (rb : Reply) → (need_of b rb).mode ≡ Mode.Add →
-    Row (add s (p, g)) b rb → Swapped Row after s (Call.QueueAdd p g) Reply.Done b rb
-adds_next s p g (Call.QueueAdd k h) Reply.Done m a = (tt, tt, add_add s (p, g) (k, h))
-adds_next s p g Call.Take (Reply.Item k h) m a = cc
-adds_next s p g (Call.Pluck k h) Reply.Done m a = cc
-adds_next s p g Call.Take Reply.Nothing m a = cc
-adds_next s p g Call.Least (Reply.Item k h) m a = cc
-adds_next s p g Call.Least Reply.Nothing m a = cc
-adds_next s p g b rb m a = absurd a
+-- A call that only reads changes nothing.
+pub queue_reads : (s : Bag) (c : Call) (r : Reply) → (need_of c r).mode ≡ Mode.Read →
+    Answers s c r → after s c r ≡ s
+queue_reads s c r m h = reads s c r m h.1
 
-adds : (s : Bag) (a : Call) (ra : Reply) (b : Call) (rb : Reply) → (need_of a ra).mode ≡ Mode.Add →
-    (need_of b rb).mode ≡ Mode.Add → Row s a ra → Row (after s a ra) b rb →
+-- only those that add join
+joins_next : (s : Bag) (p g : ℕ) (b : Call) (rb : Reply) → Joins (need_of b rb).mode →
+    Row (add s (p, g)) b rb → Swapped Row after s (Call.QueueAdd p g) Reply.Done b rb
+joins_next s p g (Call.QueueAdd k h) Reply.Done m a = (tt, tt, add_add s (p, g) (k, h))
+joins_next s p g Call.Take (Reply.Item k h) m a = absurd m
+joins_next s p g (Call.Pluck k h) Reply.Done m a = absurd m
+joins_next s p g Call.Take Reply.Nothing m a = absurd m
+joins_next s p g Call.Least (Reply.Item k h) m a = absurd m
+joins_next s p g Call.Least Reply.Nothing m a = absurd m
+joins_next s p g b rb m a = absurd a
+
+joins : (s : Bag) (a : Call) (ra : Reply) (b : Call) (rb : Reply) → Joins (need_of a ra).mode →
+    Joins (need_of b rb).mode → Row s a ra → Row (after s a ra) b rb →
     Swapped Row after s a ra b rb
-adds s (Call.QueueAdd p g) Reply.Done b rb ma mb ha hb = adds_next s p g b rb mb hb
-adds s Call.Take (Reply.Item k h) b rb ma mb ha hb = cc
-adds s (Call.Pluck k h) Reply.Done b rb ma mb ha hb = cc
-adds s Call.Take Reply.Nothing b rb ma mb ha hb = cc
-adds s Call.Least (Reply.Item k h) b rb ma mb ha hb = cc
-adds s Call.Least Reply.Nothing b rb ma mb ha hb = cc
-adds s a ra b rb ma mb ha hb = absurd ha
+joins s (Call.QueueAdd p g) Reply.Done b rb ma mb ha hb = joins_next s p g b rb mb hb
+joins s Call.Take (Reply.Item k h) b rb ma mb ha hb = absurd ma
+joins s (Call.Pluck k h) Reply.Done b rb ma mb ha hb = absurd ma
+joins s Call.Take Reply.Nothing b rb ma mb ha hb = absurd ma
+joins s Call.Least (Reply.Item k h) b rb ma mb ha hb = absurd ma
+joins s Call.Least Reply.Nothing b rb ma mb ha hb = absurd ma
+joins s a ra b rb ma mb ha hb = absurd ha
 
 local : IsLocal Row after cell
-local = record { same = same; off = off; answers = answers; on = on; reads = reads; adds = adds }
+local = record { same = same; off = off; answers = answers; on = on; reads = reads; joins = joins }
 
 -- Calls of a queue whose needs do not conflict commute.
 pub queue_commutes : (s m t : Bag) (a : Call) (ra : Reply) (b : Call) (rb : Reply) →

@@ -9,7 +9,7 @@ use Rattle.calls.specs.declared.reply.Reply.{Reply}
 use Rattle.calls.specs.declared.need.Mode.{Mode}
 use Rattle.calls.specs.Rules.{need_of, Apart, inverse_of, Undoes}
 use Rattle.calls.specs.Sets.{NumberSet, Row, Answers, after, does}
-use Rattle.calls.proofs.Local.{IsLocal, Agree, Swapped, ranged, commutes, swapped}
+use Rattle.calls.proofs.Local.{IsLocal, Agree, Swapped, Joins, ranged, commutes, swapped}
 use Rattle.calls.proofs.Points.{in_insert, in_insert_other, in_remove, in_remove_other}
 
 pub same : (s t : NumberSet) → ((p : ℕ) → contains s p ≡ contains t p) → s ≡ t
@@ -69,13 +69,18 @@ reads s (Call.SetRemove x) Reply.No m h = refl
 reads s (Call.Contains x) r m h = refl
 reads s c r m h = absurd h
 
-no_add : (s : NumberSet) (c : Call) (r : Reply) → (need_of c r).mode ≡ Mode.Add → Row s c r → ⊥
-no_add s (Call.SetAdd x) Reply.Yes m h = cc
-no_add s (Call.SetRemove x) Reply.Yes m h = cc
-no_add s (Call.SetAdd x) Reply.No m h = cc
-no_add s (Call.SetRemove x) Reply.No m h = cc
-no_add s (Call.Contains x) r m h = cc
-no_add s c r m h = absurd h
+-- A call that only reads changes nothing.
+pub set_reads : (s : NumberSet) (c : Call) (r : Reply) → (need_of c r).mode ≡ Mode.Read →
+    Answers s c r → after s c r ≡ s
+set_reads s c r m h = reads s c r m h.1
+
+no_join : (s : NumberSet) (c : Call) (r : Reply) → Joins (need_of c r).mode → Row s c r → ⊥
+no_join s (Call.SetAdd x) Reply.Yes m h = m
+no_join s (Call.SetRemove x) Reply.Yes m h = m
+no_join s (Call.SetAdd x) Reply.No m h = m
+no_join s (Call.SetRemove x) Reply.No m h = m
+no_join s (Call.Contains x) r m h = m
+no_join s c r m h = absurd h
 
 local : IsLocal Row after contains
 local = record {
@@ -84,7 +89,7 @@ local = record {
   answers = answers;
   on = on;
   reads = reads;
-  adds = λ s a ra b rb ma mb ha hb. absurd (no_add s a ra ma ha);
+  joins = λ s a ra b rb ma mb ha hb. absurd (no_join s a ra ma ha);
 }
 
 -- Calls of a set whose needs do not conflict commute.

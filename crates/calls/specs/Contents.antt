@@ -13,6 +13,7 @@ use Rattle.calls.specs.Bags as bags
 use Rattle.calls.specs.Queues as queues
 use Rattle.calls.specs.Counters as counters
 use Rattle.calls.specs.Pools as pools
+use Rattle.calls.specs.Stocks as stocks
 
 pub data Content : Type 0 where
   InSet : sets.NumberSet → Content
@@ -20,6 +21,7 @@ pub data Content : Type 0 where
   InQueue : bags.Bag → Content
   InCounter : ℤ → Content
   InPool : sets.NumberSet → Content
+  InStock : ℕ → Content
 
 -- The items of a collection, in their order: a queue's by priority and then tag, each as often as
 -- it is there.
@@ -30,6 +32,7 @@ items_of (InQueue q) = flat_map (λ e. replicate (suc e.1) (Item.Pair e.0.0 e.0.
     (maps_of.entries q)
 items_of (InCounter n) = Item.Number n ∷ []
 items_of (InPool s) = map Item.Element (sets_of.items s)
+items_of (InStock n) = Item.Number (pos n) ∷ []
 
 -- The kind of a content.
 abbrev pub kind_of_content : Content → Kind
@@ -38,6 +41,7 @@ kind_of_content (InMap m) = Kind.Map
 kind_of_content (InQueue q) = Kind.Queue
 kind_of_content (InCounter n) = Kind.Counter
 kind_of_content (InPool s) = Kind.Pool
+kind_of_content (InStock n) = Kind.Stock
 
 -- The name of a kind in scripts, and in what the program prints.
 abbrev pub kind_text : Kind → List ℕ
@@ -46,6 +50,7 @@ kind_text Kind.Map = codes "map"
 kind_text Kind.Queue = codes "queue"
 kind_text Kind.Counter = codes "counter"
 kind_text Kind.Pool = codes "pool"
+kind_text Kind.Stock = codes "stock"
 
 -- The item is one of a collection of the kind.
 abbrev pub IsItemOf : Kind → Item → Type 0
@@ -54,6 +59,7 @@ IsItemOf Kind.Map (Item.Entry k v) = Unit {0}
 IsItemOf Kind.Queue (Item.Pair p g) = Unit {0}
 IsItemOf Kind.Counter (Item.Number n) = Unit {0}
 IsItemOf Kind.Pool (Item.Element x) = Unit {0}
+IsItemOf Kind.Stock (Item.Number (pos n)) = Unit {0}
 IsItemOf kind i = ⊥
 
 -- what a collection holds when it is made
@@ -63,6 +69,7 @@ empty Kind.Map = InMap maps_of.empty
 empty Kind.Queue = InQueue maps_of.empty
 empty Kind.Counter = InCounter (pos 0)
 empty Kind.Pool = InPool sets_of.empty
+empty Kind.Stock = InStock 0
 
 abbrev pub Answers : Content → Call → Reply → Type 0
 Answers (InSet s) c r = sets.Answers s c r
@@ -70,6 +77,7 @@ Answers (InMap m) c r = maps.Answers m c r
 Answers (InQueue q) c r = queues.Answers q c r
 Answers (InCounter n) c r = counters.Answers n c r
 Answers (InPool s) c r = pools.Answers s c r
+Answers (InStock n) c r = stocks.Answers n c r
 
 abbrev pub after : Content → Call → Reply → Content
 after (InSet s) c r = InSet (sets.after s c r)
@@ -77,6 +85,7 @@ after (InMap m) c r = InMap (maps.after m c r)
 after (InQueue q) c r = InQueue (queues.after q c r)
 after (InCounter n) c r = InCounter (counters.after n c r)
 after (InPool s) c r = InPool (pools.after s c r)
+after (InStock n) c r = InStock (stocks.after n c r)
 
 pub record Collection : Type 0 where
   pub name : List ℕ

@@ -5,6 +5,8 @@ pub mod Bags
 pub mod Queues
 pub mod Counters
 pub mod Pools
+pub mod Stocks
+pub mod Modes
 pub mod Contents
 pub mod Transactions
 pub mod Reads

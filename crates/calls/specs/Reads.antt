@@ -9,8 +9,7 @@ use Rattle.calls.specs.Transactions.{Entry, Asked, PutOff, Transaction, Whole, M
 
 abbrev pub is_read : Mode → Bool
 is_read Mode.Read = true
-is_read Mode.Write = false
-is_read Mode.Add = false
+is_read m = false
 
 -- The call, answered so, only reads.
 abbrev pub reads : Call → Reply → Bool

@@ -18,6 +18,11 @@ pub record IsStep (n : ℤ) : Type 0 where
   pub above : negsuc (2 ^ 63 - 1) <ℤ n
   pub below : n <ℤ pos (2 ^ 63)
 
+-- At once less than 2 ^ 63 is taken out of a stock, or added to it, so that what few steps can
+-- reach is bounded as for a counter.
+abbrev pub IsAmount : ℕ → Type 0
+IsAmount n = n ≤ 2 ^ 63 - 1
+
 -- A value may be any list of bytes here: how long one may be is what a client is refused for, and
 -- no part of the meaning.
 abbrev pub CallInRange : Call → Type 0
@@ -37,6 +42,9 @@ CallInRange Call.Read = Unit {0}
 CallInRange Call.Draw = Unit {0}
 CallInRange (Call.Release x) = x ≤ top
 CallInRange (Call.Free x) = x ≤ top
+CallInRange (Call.Spend n) = IsAmount n
+CallInRange Call.Level = Unit {0}
+CallInRange (Call.Fill n) = IsAmount n
 
 abbrev pub ReplyInRange : Reply → Type 0
 ReplyInRange (Reply.Entry k v) = k ≤ top
@@ -65,23 +73,25 @@ kind_of Call.Read = Kind.Counter
 kind_of Call.Draw = Kind.Pool
 kind_of (Call.Release x) = Kind.Pool
 kind_of (Call.Free x) = Kind.Pool
+kind_of (Call.Spend n) = Kind.Stock
+kind_of Call.Level = Kind.Stock
+kind_of (Call.Fill n) = Kind.Stock
 
 -- A queued release leaves the freeing of its identifier.
 abbrev pub left_by : Call → Reply → List Call
 left_by (Call.Release x) Reply.Queued = Call.Free x ∷ []
 left_by c r = []
 
--- Two who read the same keys, or two who add at them, do not disturb each other.
+-- Two who read the same keys, or two who add at them, do not disturb each other; nor do those who
+-- take from a stock and those who give to it.
 abbrev pub Compatible : Mode → Mode → Type 0
 Compatible Mode.Read Mode.Read = Unit {0}
 Compatible Mode.Add Mode.Add = Unit {0}
-Compatible Mode.Read Mode.Write = ⊥
-Compatible Mode.Read Mode.Add = ⊥
-Compatible Mode.Write Mode.Read = ⊥
-Compatible Mode.Write Mode.Write = ⊥
-Compatible Mode.Write Mode.Add = ⊥
-Compatible Mode.Add Mode.Read = ⊥
-Compatible Mode.Add Mode.Write = ⊥
+Compatible Mode.Take Mode.Take = Unit {0}
+Compatible Mode.Take Mode.Give = Unit {0}
+Compatible Mode.Give Mode.Take = Unit {0}
+Compatible Mode.Give Mode.Give = Unit {0}
+Compatible m n = ⊥
 
 -- Some key is in both spans.
 abbrev pub Overlap : Need → Need → Type 0
@@ -99,6 +109,10 @@ write_at low high = record { low = low; high = high; mode = Mode.Write }
 
 abbrev add_at : ℕ → ℕ → Need
 add_at low high = record { low = low; high = high; mode = Mode.Add }
+
+-- A call of a stock uses all of it.
+abbrev whole_in : Mode → Need
+whole_in mode = record { low = 0; high = top; mode = mode }
 
 -- What a call with its reply needs.
 abbrev pub need_of : Call → Reply → Need
@@ -125,6 +139,10 @@ need_of (Call.Release x) Reply.Queued = write_at x x
 need_of (Call.Release x) Reply.Absent = read_at x x
 need_of (Call.Free x) r = write_at x x
 need_of (Call.Pluck p g) r = write_at p p
+need_of (Call.Spend n) Reply.Yes = whole_in Mode.Take
+need_of (Call.Spend n) Reply.No = whole_in Mode.Read
+need_of Call.Level r = whole_in Mode.Read
+need_of (Call.Fill n) r = whole_in Mode.Give
 -- no other reply is given
 need_of c r = write_at 0 top
 
@@ -143,6 +161,7 @@ inverse_of (Call.QueueAdd p g) Reply.Done = Some (Call.Pluck p g)
 inverse_of Call.Take (Reply.Item p g) = Some (Call.QueueAdd p g)
 inverse_of (Call.Bump n) Reply.Done = Some (Call.Bump (neg_ℤ n))
 inverse_of Call.Draw (Reply.Id x) = Some (Call.Free x)
+inverse_of (Call.Spend n) Reply.Yes = Some (Call.Fill n)
 inverse_of c r = None
 
 -- The inverse puts no value back.
@@ -170,6 +189,8 @@ abbrev pub Askable : Call → Type 0
 Askable (Call.Bump n) = IsStep n
 Askable (Call.Pluck p g) = ⊥
 Askable (Call.Free x) = ⊥
+Askable (Call.Spend n) = IsAmount n
+Askable (Call.Fill n) = ⊥
 Askable c = Unit {0}
 
 -- No value that a client puts is longer than 256 bytes.
@@ -187,6 +208,7 @@ CallRefused c r = ⊥
 abbrev pub Disposable : Call → Type 0
 Disposable (Call.Bump n) = Unit {0}
 Disposable (Call.Free x) = Unit {0}
+Disposable (Call.Fill n) = Unit {0}
 Disposable c = ⊥
 
 -- The call is made without memory: it puts nothing into a collection.
@@ -208,6 +230,7 @@ AsksForValue c = ⊥
 -- A client can put the call off to its commit.
 abbrev pub Deferrable : Call → Type 0
 Deferrable (Call.Bump n) = IsStep n
+Deferrable (Call.Fill n) = IsAmount n
 Deferrable c = ⊥
 
 -- The replies that a call has.
@@ -236,4 +259,7 @@ Pairs Call.Read (Reply.Total v) = Unit {0}
 Pairs Call.Draw (Reply.Id x) = Unit {0}
 Pairs (Call.Release x) Reply.Queued = Unit {0}
 Pairs (Call.Release x) Reply.Absent = Unit {0}
+Pairs (Call.Spend n) Reply.Yes = Unit {0}
+Pairs (Call.Spend n) Reply.No = Unit {0}
+Pairs Call.Level (Reply.Total v) = Unit {0}
 Pairs c r = ⊥

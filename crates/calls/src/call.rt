@@ -5,7 +5,7 @@ use crate::{Bytes, Kind};
 use std::alloc::AllocError;
 
 /// What a collection can be asked. Elements, keys, priorities, tags and identifiers are any u64. A
-/// client cannot ask `Pluck` and `Free`, which are inverses.
+/// client cannot ask `Pluck`, `Free` and `Fill`, which are inverses; a `Fill` it can put off.
 #[derive(Drop, Debug)]
 pub enum Call {
     /// Whether the element is in the set.
@@ -40,6 +40,12 @@ pub enum Call {
     Release(u64),
     /// Makes an identifier free.
     Free(u64),
+    /// Takes the amount out of the stock, if so much is there.
+    Spend(u64),
+    /// The stock's amount.
+    Level,
+    /// Adds the amount to the stock.
+    Fill(u64),
 }
 
 impl Call {
@@ -55,6 +61,7 @@ impl Call {
             Call::QueueAdd(_, _) | Call::Take | Call::Least | Call::Pluck(_, _) => Kind::Queue,
             Call::Bump(_) | Call::Read => Kind::Counter,
             Call::Draw | Call::Release(_) | Call::Free(_) => Kind::Pool,
+            Call::Spend(_) | Call::Level | Call::Fill(_) => Kind::Stock,
         }
     }
 
@@ -70,7 +77,9 @@ impl Call {
             | (Call::MapRemove(x), Call::MapRemove(y))
             | (Call::Ceiling(x), Call::Ceiling(y))
             | (Call::Release(x), Call::Release(y))
-            | (Call::Free(x), Call::Free(y)) => x == y,
+            | (Call::Free(x), Call::Free(y))
+            | (Call::Spend(x), Call::Spend(y))
+            | (Call::Fill(x), Call::Fill(y)) => x == y,
             (Call::QueueAdd(p, g), Call::QueueAdd(q, h)) | (Call::Pluck(p, g), Call::Pluck(q, h)) =>
                 p == q && g == h,
             (Call::Put(key, value), Call::Put(other_key, other_value)) => {
@@ -80,7 +89,8 @@ impl Call {
             (Call::Take, Call::Take)
             | (Call::Least, Call::Least)
             | (Call::Read, Call::Read)
-            | (Call::Draw, Call::Draw) => true,
+            | (Call::Draw, Call::Draw)
+            | (Call::Level, Call::Level) => true,
             _ => false,
         }
     }
@@ -107,6 +117,9 @@ impl Call {
             Call::Draw => Ok(Call::Draw),
             Call::Release(x) => Ok(Call::Release(*x)),
             Call::Free(x) => Ok(Call::Free(*x)),
+            Call::Spend(amount) => Ok(Call::Spend(*amount)),
+            Call::Level => Ok(Call::Level),
+            Call::Fill(amount) => Ok(Call::Fill(*amount)),
         }
     }
 }

@@ -2,7 +2,7 @@
 use crate::Bytes;
 
 /// A part of what a collection holds, by the collection's kind. A set, a map, a pool and a queue
-/// have any number of them; a counter has one.
+/// have any number of them; a counter and a stock have one.
 #[derive(Drop, Debug)]
 pub enum Item {
     /// An element of a set, or a taken identifier of a pool.
@@ -11,6 +11,6 @@ pub enum Item {
     Entry(u64, Bytes),
     /// A priority and a tag, in a queue.
     Pair(u64, u64),
-    /// The number of a counter.
+    /// The number of a counter, or the amount of a stock.
     Number(i128),
 }

@@ -18,10 +18,19 @@ pub enum Kind {
     Counter,
     /// A finite set of taken identifiers.
     Pool,
+    /// An amount that is never less than nothing, 0 when made.
+    Stock,
 }
 
 // Each kind.
-const KINDS: [Kind; 5] = [Kind::Set, Kind::Map, Kind::Queue, Kind::Counter, Kind::Pool];
+const KINDS: [Kind; 6] = [
+    Kind::Set,
+    Kind::Map,
+    Kind::Queue,
+    Kind::Counter,
+    Kind::Pool,
+    Kind::Stock,
+];
 
 impl Kind {
     /// The name of the kind in scripts, and in what the program prints.
@@ -34,6 +43,7 @@ impl Kind {
             Kind::Queue => "queue",
             Kind::Counter => "counter",
             Kind::Pool => "pool",
+            Kind::Stock => "stock",
         }
     }
 

@@ -6,6 +6,9 @@ pub const MAX_NAME: usize = 64;
 /// The most bytes of a value of a map.
 pub const MAX_VALUE: usize = 256;
 
+/// The most that is taken out of a stock, or added to it, at once: 2 to the 63, less one.
+pub const MAX_AMOUNT: u64 = 9_223_372_036_854_775_807;
+
 /// The most collections of a store.
 pub const MAX_COLLECTIONS: usize = 256;
 

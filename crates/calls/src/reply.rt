@@ -9,9 +9,9 @@ use std::alloc::AllocError;
 pub enum Reply {
     /// The change was made.
     Done,
-    /// The element was not there, or was there already.
+    /// The element was not there, or was there already; or there was less than the amount.
     No,
-    /// The element is there, or was put there, or was taken out.
+    /// The element is there, or was put there, or was taken out; or the amount was taken out.
     Yes,
     /// Nothing was there.
     Nothing,
@@ -21,7 +21,7 @@ pub enum Reply {
     Entry(u64, Bytes),
     /// A priority and a tag.
     Item(u64, u64),
-    /// The counter's number.
+    /// The counter's number, or the stock's amount.
     Total(i128),
     /// An identifier.
     Id(u64),

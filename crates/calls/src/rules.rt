@@ -9,7 +9,7 @@ ghost use Rattle.calls.specs.Rules.{need_of, inverse_of, undone_by, left_by, Pai
 ghost use Rattle.calls.specs.Rules.{PutsNothingBack, IsShort, CallRefused, Deferrable, Disposable};
 ghost use Rattle.calls.specs.Reads.{reads};
 
-use crate::limits::MAX_VALUE;
+use crate::limits::{MAX_AMOUNT, MAX_VALUE};
 use crate::{Bytes, Call, Mode, Need, Refusal, Reply};
 
 impl Call {
@@ -41,6 +41,10 @@ impl Call {
             (Call::Release(x), Reply::Absent) => at(*x, Mode::Read),
             (Call::Free(x), _) => at(*x, Mode::Write),
             (Call::Pluck(priority, _), _) => at(*priority, Mode::Write),
+            (Call::Spend(_), Reply::Yes) => over(0, u64::MAX, Mode::Take),
+            (Call::Spend(_), Reply::No) => over(0, u64::MAX, Mode::Read),
+            (Call::Level, _) => over(0, u64::MAX, Mode::Read),
+            (Call::Fill(_), _) => over(0, u64::MAX, Mode::Give),
             _ => over(0, u64::MAX, Mode::Write),
         }
     }
@@ -51,7 +55,7 @@ impl Call {
     {
         match self.need(reply).mode {
             Mode::Read => true,
-            Mode::Write | Mode::Add => false,
+            _ => false,
         }
     }
 
@@ -82,6 +86,7 @@ impl Call {
             (Call::Take, Reply::Item(priority, tag)) => Some(Call::QueueAdd(*priority, *tag)),
             (Call::Bump(by), Reply::Done) => Some(Call::Bump(-*by)),
             (Call::Draw, Reply::Id(x)) => Some(Call::Free(*x)),
+            (Call::Spend(amount), Reply::Yes) => Some(Call::Fill(*amount)),
             _ => None,
         }
     }
@@ -120,9 +125,10 @@ impl Call {
         ensures { IsTrue result ↔ Pairs self.now reply.now }
     {
         match (self, reply) {
-            (Call::Contains(_) | Call::SetAdd(_) | Call::SetRemove(_), Reply::Yes | Reply::No) => {
-                true
-            }
+            (
+                Call::Contains(_) | Call::SetAdd(_) | Call::SetRemove(_) | Call::Spend(_),
+                Reply::Yes | Reply::No,
+            ) => true,
             (
                 Call::Get(_) | Call::Put(_, _) | Call::MapRemove(_),
                 Reply::Value(_) | Reply::Nothing,
@@ -131,6 +137,7 @@ impl Call {
             (Call::Take | Call::Least, Reply::Item(_, _) | Reply::Nothing) => true,
             (Call::QueueAdd(_, _) | Call::Bump(_), Reply::Done) => true,
             (Call::Read, Reply::Total(_)) => true,
+            (Call::Level, Reply::Total(_)) => true,
             (Call::Draw, Reply::Id(_)) => true,
             (Call::Release(_), Reply::Queued | Reply::Absent) => true,
             _ => false,
@@ -147,20 +154,21 @@ impl Call {
         }
     }
 
-    /// Whether the call may run in a commit: a Bump, or a Free. It takes no memory.
+    /// Whether the call may run in a commit: a Bump, a Free, or a Fill. It takes no memory.
     pub fn is_disposable(&self) -> bool
         ensures { IsTrue result ↔ Disposable self.now }
     {
-        matches!(self, Call::Bump(_) | Call::Free(_))
+        matches!(self, Call::Bump(_) | Call::Free(_) | Call::Fill(_))
     }
 
     /// Whether a client can put the call off to its commit: a Bump, but not by -2^63, which has no
-    /// inverse. It takes no memory.
+    /// inverse; or a Fill by at most 2^63 - 1. It takes no memory.
     pub fn is_deferrable(&self) -> bool
         ensures { IsTrue result ↔ Deferrable self.now }
     {
         match self {
             Call::Bump(by) => *by > i64::MIN,
+            Call::Fill(amount) => *amount <= MAX_AMOUNT,
             _ => false,
         }
     }
@@ -168,14 +176,16 @@ impl Call {
 
 /// Whether a client can ask for the call. It takes no memory.
 ///
-/// BadArg for Pluck, for Free and for a Bump of -2^63, which has no inverse; TooLong for a value
-/// over 256 bytes.
+/// BadArg for Pluck, for Free, for Fill, for a Bump of -2^63, which has no inverse, and for a Spend
+/// of over 2^63 - 1; TooLong for a value over 256 bytes.
 pub fn check_call(call: &Call) -> Result<(), Refusal>
     ensures ok { IsOk result ↔ (Askable call.now × IsShort call.now) }
     ensures err { IfErr result (CallRefused call.now) }
 {
     match call {
-        Call::Pluck(_, _) | Call::Free(_) | Call::Bump(i64::MIN) => Err(Refusal::BadArg),
+        Call::Pluck(_, _) | Call::Free(_) | Call::Fill(_) => Err(Refusal::BadArg),
+        Call::Bump(i64::MIN) => Err(Refusal::BadArg),
+        Call::Spend(amount) if *amount > MAX_AMOUNT => Err(Refusal::BadArg),
         Call::Put(_, value) if value.as_slice().len() > MAX_VALUE => Err(Refusal::TooLong),
         _ => Ok(()),
     }

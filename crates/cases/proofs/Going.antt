@@ -1,25 +1,29 @@
 -- What is gathered goes along, whatever is done.
 use Rattle.std.proofs.Common.{◌≡◌, ℕ, ◌+◌, ◌<◌, ◌≤◌, ◌^◌, None, Some, List, [], ◌∷◌, ◌++◌}
 use Rattle.std.proofs.Common.{Result, Ok, Err, length, slice_get, refl, sym, ap, subst, arith}
-use Rattle.std.proofs.Common.{length-append}
+use Rattle.std.proofs.Common.{length-append, inl, inr}
 use Rattle.std.specs.Prelude.{Option, IfSome, OnOk, OnErr}
 use Rattle.std.specs.Option.{option_map}
 use Rattle.calls.specs.declared.kind.Kind.{Kind}
+use Rattle.calls.specs.declared.call.Call.{Call}
+use Rattle.calls.specs.declared.reply.Reply.{Reply}
 use Rattle.calls.specs.Rules.{IsShort}
 use Rattle.calls.specs.Contents.{Collection, AnswersAt, after_at, empty}
 use Rattle.calls.specs.Transactions.{Makes}
 use Rattle.boosted.proofs.Each.{each_append, weaker}
+use Rattle.boosted.specs.Meaning.{CanAsk, CanDefer}
+use Rattle.catalog.specs.Meaning.{catalog_meaning}
 use Rattle.catalog.specs.Laws.Catalogs.{catalog_laws, making_laws}
 use Rattle.catalog.specs.Places.{IsWithin}
 use Rattle.records.specs.Told.{tells_itself}
-use Rattle.records.proofs.Items.{short_after}
+use Rattle.records.proofs.Items.{short_after, short_deferrable}
 use Rattle.machine.proofs.BookLaws.{book_laws}
 use Rattle.images.specs.declared.effect.Effect.{Effect}
 use Rattle.images.specs.Gathers.{GatherState, Repeats, with_gathered}
 use Rattle.images.proofs.Following.{follows_run, follows_gathered, follows_repeated}
 use Rattle.images.proofs.Following.{came_run, came_gathered, came_repeated}
 use Rattle.images.proofs.Following.{length-after_at}
-use Rattle.cases.specs.Gatherings.{HasRun, Goes}
+use Rattle.cases.specs.Gatherings.{HasRun, CanRun, Goes}
 
 pub none_run : HasRun [] 0 0
 none_run = record { few = omega arith; short = tt; within = tt }
@@ -39,8 +43,21 @@ made_run most s t name kind run makes =
       within = making_laws.makes_keep_within s t name kind 0 makes run.within;
     }
 
+-- what can be asked can run, and so can what can be put off
+pub asked_runs : (xs : List Collection) (at : ℕ) (c : Call) → CanAsk catalog_meaning xs at c →
+    CanRun xs at c
+asked_runs xs at c can = record { belongs = can.0; reply = inl can.1; short = can.2 }
+
+pub deferred_runs : (xs : List Collection) (at : ℕ) (c : Call) → CanDefer catalog_meaning xs at c →
+    CanRun xs at c
+deferred_runs xs at c can = record {
+  belongs = can.0;
+  reply = inr (Reply.Done, (catalog_laws.holds xs).deferred_is_ready at c can.0 can.1);
+  short = short_deferrable c can.1;
+}
+
 -- nothing is gathered yet
-pub goes_new : (xs : List Collection) → HasRun xs 5 0 →
+pub goes_new : (xs : List Collection) → HasRun xs 6 0 →
     Goes xs (record { mark = 0; parts = []; effects = []; frozen = None }) [] 0
 goes_new xs run = record {
   has_run = run;

@@ -1,9 +1,12 @@
 -- Collections that are gathered while calls run on them.
 use Rattle.std.specs.Prelude.{ℕ, ◌≤◌, ◌^◌, List, length}
 use Rattle.std.specs.List.{AllByRecursion}
+use Rattle.calls.specs.declared.call.Call.{Call}
 use Rattle.calls.specs.Contents.{Collection}
 use Rattle.calls.specs.Rules.{IsShort}
-use Rattle.catalog.specs.Places.{IsWithin}
+use Rattle.boosted.specs.Meaning.{HasReply}
+use Rattle.catalog.specs.Meaning.{catalog_meaning}
+use Rattle.catalog.specs.Places.{Belongs, IsWithin}
 use Rattle.record_format.specs.Short.{AreShort}
 use Rattle.images.specs.declared.effect.Effect.{Effect}
 use Rattle.images.specs.Gathers.{GatherState}
@@ -16,10 +19,16 @@ pub record HasRun (xs : List Collection) (most position : ℕ) : Type 0 where
   pub short : AreShort xs
   pub within : IsWithin xs position
 
+-- The call has a reply at the place, and no long value.
+pub record CanRun (xs : List Collection) (at : ℕ) (c : Call) : Type 0 where
+  pub belongs : Belongs xs at c
+  pub reply : HasReply catalog_meaning xs at c
+  pub short : IsShort c
+
 -- What is gathered goes along with the collections, on which there is room for more calls.
 pub record Goes (xs : List Collection) (g : GatherState) (later : List Effect) (position : ℕ) :
     Type 0 where
-  pub has_run : HasRun xs 5 position
+  pub has_run : HasRun xs 6 position
   pub unworn : position ≤ 2 ^ 61
   pub follows : Follows g later xs
   pub came : CameBy g later position

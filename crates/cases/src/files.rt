@@ -4,8 +4,9 @@ use crate::plays::told::Told;
 use crate::plays::values::{bytes, not_understood, number, numbers, pair, three};
 use crate::plays::workbench::Workbench;
 use crate::runs::words;
-use command_line::obey;
+use command_line::{Fifos, Way, obey};
 use disk_model::{FileDisk, Unknown};
+use std::alloc::Global;
 use std::fs::{self, File};
 use std::io::{self, Seek, SeekFrom, Write};
 use std::rt::{Clock, Files};
@@ -38,13 +39,31 @@ pub fn run_beside(
     run_program(rt, bench, words, told)
 }
 
+// A system without FIFOs: no case's program has clients that come by a door.
+#[derive(Drop)]
+struct NoFifos;
+
+impl Fifos for NoFifos {
+    fn open_both(&self, _path: &str) -> io::Result<File> {
+        Err(io::Error::from(io::ErrorKind::NotFound))
+    }
+
+    fn open(&self, _alloc: Global, _path: &str, _way: Way) -> io::Result<File> {
+        Err(io::Error::from(io::ErrorKind::NotFound))
+    }
+
+    fn remove(&self, _path: &str) -> io::Result<()> {
+        Err(io::Error::from(io::ErrorKind::NotFound))
+    }
+}
+
 // What the program answers to the words of a command line.
-fn obeyed(
-    rt: &(impl Files<File = File> + Threads + Wait + Clock + AllocGlobal + Sync),
+fn obeyed<R: Files<File = File> + Threads + Wait + Clock + AllocGlobal + Sync>(
+    rt: &R,
     words: &[&str],
 ) -> Ran {
     let (mut out, mut err) = (Vec::new(rt.alloc()), Vec::new(rt.alloc()));
-    let status = obey(rt, words, &mut out, &mut err);
+    let status = obey::<Unknown, R, NoFifos>(rt, words, io::empty(), NoFifos, &mut out, &mut err);
     Ran { status, out, err }
 }
 

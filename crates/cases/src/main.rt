@@ -5,6 +5,7 @@
 //! With the word `bench` and the words of a measurement it measures the store instead.
 #![tactic(auto)]
 
+mod asking;
 mod bench;
 mod comparison;
 mod damage;

@@ -2,7 +2,7 @@
 use Rattle.std.proofs.Common.{◌≡◌, ◌↔◌, ◌-◌, length, get_or, take, drop, take-append-drop, ℕ, zero}
 use Rattle.std.proofs.Common.{suc, ◌<◌, ◌≤◌, ◌⊎◌, ◌&&◌, true, false, replicate, List, [], ◌∷◌, ◌++◌}
 use Rattle.std.proofs.Common.{map, refl, sym, ◌∙◌, ap, subst, inl, inr, ⊎_elim, arith, Ordering}
-use Rattle.std.proofs.Common.{Less, Equal, Greater, ◌+◌, Some, None, cond}
+use Rattle.std.proofs.Common.{Less, Equal, Greater, ◌+◌, Some, None, cond, pos}
 use Rattle.std.specs.Prelude.{T}
 use Rattle.std.specs.List.{AllByRecursion}
 use Rattle.std.specs.List.Sorted.{IsStrictlySortedBy}
@@ -19,8 +19,8 @@ use Rattle.std.proofs.Math.Dec.{ltb}
 use Rattle.calls.specs.declared.kind.Kind.{Kind}
 use Rattle.calls.specs.declared.item.Item.{Item}
 use Rattle.calls.specs.Bags.{pair_cmp, Bag, copies_of, copies, add}
-use Rattle.calls.specs.Contents.{Content, InSet, InMap, InQueue, InCounter, InPool, empty}
-use Rattle.calls.specs.Contents.{kind_of_content, IsItemOf}
+use Rattle.calls.specs.Contents.{Content, InSet, InMap, InQueue, InCounter, InPool, InStock}
+use Rattle.calls.specs.Contents.{empty, kind_of_content, IsItemOf}
 use Rattle.collections.specs.Items.{bag_from, IsRising}
 use Rattle.catalog.specs.Holdings.{ListsContent, pair_item, AreItems, Precedes, Rise, AreInOrder}
 use Rattle.catalog.specs.Holdings.{Follows, with_item, filled}
@@ -44,6 +44,7 @@ kind_with (InMap m) (Item.Entry k v) = refl
 kind_with (InQueue q) (Item.Pair p g) = refl
 kind_with (InCounter n) (Item.Number m) = refl
 kind_with (InPool s) (Item.Element x) = refl
+kind_with (InStock n) (Item.Number (pos m)) = refl
 kind_with k x = refl
 
 kind_empty : (kind : Kind) → kind_of_content (empty kind) ≡ kind
@@ -52,6 +53,7 @@ kind_empty Kind.Map = refl
 kind_empty Kind.Queue = refl
 kind_empty Kind.Counter = refl
 kind_empty Kind.Pool = refl
+kind_empty Kind.Stock = refl
 
 pub kind_filled : (kind : Kind) (items : List Item) →
     kind_of_content (filled (empty kind) items) ≡ kind
@@ -192,6 +194,7 @@ listed_in_order (InMap m) items l =
 listed_in_order (InQueue q) items l =
     subst (AreInOrder Kind.Queue) (sym l) (spread_in_order (maps.entries q) (maps.entries_sorted q))
 listed_in_order (InCounter n) items l = subst (AreInOrder Kind.Counter) (sym l) tt
+listed_in_order (InStock n) items l = subst (AreInOrder Kind.Stock) (sym l) tt
 listed_in_order (InPool s) items l =
     subst (AreInOrder Kind.Pool) (sym l.are) (taken_in_order l.numbers l.rising)
 
@@ -329,6 +332,9 @@ in_order_lists Kind.Queue (Item.Pair p g ∷ xs) h =
 in_order_lists Kind.Counter [] h = absurd h
 in_order_lists Kind.Counter (Item.Number n ∷ []) h = refl
 in_order_lists Kind.Counter (x ∷ (y ∷ ys)) h = absurd h.0
+in_order_lists Kind.Stock [] h = absurd h
+in_order_lists Kind.Stock (Item.Number (pos n) ∷ []) h = refl
+in_order_lists Kind.Stock (x ∷ (y ∷ ys)) h = absurd h.0
 in_order_lists Kind.Set (x ∷ []) h = absurd h
 in_order_lists Kind.Set (x ∷ (y ∷ ys)) h = absurd h.0
 in_order_lists Kind.Pool (x ∷ []) h = absurd h
@@ -338,6 +344,7 @@ in_order_lists Kind.Map (x ∷ (y ∷ ys)) h = absurd h.0
 in_order_lists Kind.Queue (x ∷ []) h = absurd h
 in_order_lists Kind.Queue (x ∷ (y ∷ ys)) h = absurd h.0
 in_order_lists Kind.Counter (x ∷ []) h = absurd h
+in_order_lists Kind.Stock (x ∷ []) h = absurd h
 
 -- ---- both ways
 
@@ -379,6 +386,7 @@ in_order_rise Kind.Map x xs h = h
 in_order_rise Kind.Queue x xs h = h
 in_order_rise Kind.Counter x xs h = h
 in_order_rise Kind.Pool x xs h = h
+in_order_rise Kind.Stock x xs h = h
 
 pub rise_in_order : (kind : Kind) (x : Item) (xs : List Item) → Rise kind x xs →
     AreInOrder kind (x ∷ xs)
@@ -387,6 +395,7 @@ rise_in_order Kind.Map x xs h = h
 rise_in_order Kind.Queue x xs h = h
 rise_in_order Kind.Counter x xs h = h
 rise_in_order Kind.Pool x xs h = h
+rise_in_order Kind.Stock x xs h = h
 
 -- Behind items in order one more is in order where it may stand behind the last.
 pub follows_last : (kind : Kind) (front : List Item) (last i : Item) →
@@ -521,6 +530,7 @@ what_items_fill (InQueue q) items l =
     ap (filled (InQueue maps.empty)) l ∙ filled_spread (maps.entries q) (maps.entries_sorted q) ∙
     ap InQueue (counts_again q)
 what_items_fill (InCounter n) items l = ap (filled (empty Kind.Counter)) l
+what_items_fill (InStock n) items l = ap (filled (empty Kind.Stock)) l
 what_items_fill (InPool s) items l =
     ap (filled (InPool sets.empty)) l.are ∙ filled_pool l.numbers ∙ ap InPool l.members
 

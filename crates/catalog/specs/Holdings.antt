@@ -1,7 +1,7 @@
 -- What a catalog holds: its code, what its entries stand for, what is shown of it, and how it is
 -- filled.
-use Rattle.std.specs.Prelude.{◌≡◌, ℕ, ℤ, List, ◌⊎◌, refl, map, string_bytes, ◌<◌, ◌≤◌, length, []}
-use Rattle.std.specs.Prelude.{◌∷◌, ◌++◌}
+use Rattle.std.specs.Prelude.{◌≡◌, ℕ, ℤ, pos, List, ◌⊎◌, refl, map, string_bytes, ◌<◌, ◌≤◌, length}
+use Rattle.std.specs.Prelude.{[], ◌∷◌, ◌++◌}
 use Rattle.std.proofs.Common.{inl, inr}
 use Rattle.std.specs.Coded.{Coded, code_by, coded×, coded⊎, coded_ℕ, coded_ℤ, coded_list}
 use Rattle.std.specs.FinSet as sets
@@ -9,8 +9,8 @@ use Rattle.std.specs.FinMap as maps
 use Rattle.calls.specs.Sets.{NumberSet}
 use Rattle.calls.specs.Maps.{Table}
 use Rattle.calls.specs.Bags.{Bag}
-use Rattle.calls.specs.Contents.{Content, InSet, InMap, InQueue, InCounter, InPool, Collection}
-use Rattle.calls.specs.Contents.{IsItemOf, items_of, kind_of_content}
+use Rattle.calls.specs.Contents.{Content, InSet, InMap, InQueue, InCounter, InPool, InStock}
+use Rattle.calls.specs.Contents.{Collection, IsItemOf, items_of, kind_of_content}
 use Rattle.std.specs.List.{AllByRecursion}
 use Rattle.std.specs.declared.string.String.{String}
 use Rattle.std.specs.declared.alloc.Global.{Global}
@@ -27,21 +27,23 @@ use Rattle.calls.specs.Bags as bags
 use Rattle.catalog.specs.Making.{IsNew, NewRefused}
 
 abbrev Shape : Type 0
-Shape = NumberSet ⊎ (Table ⊎ (Bag ⊎ (ℤ ⊎ NumberSet)))
+Shape = NumberSet ⊎ (Table ⊎ (Bag ⊎ (ℤ ⊎ (NumberSet ⊎ ℕ))))
 
 abbrev shape_of : Content → Shape
 shape_of (InSet s) = inl s
 shape_of (InMap m) = inr (inl m)
 shape_of (InQueue q) = inr (inr (inl q))
 shape_of (InCounter n) = inr (inr (inr (inl n)))
-shape_of (InPool s) = inr (inr (inr (inr s)))
+shape_of (InPool s) = inr (inr (inr (inr (inl s))))
+shape_of (InStock n) = inr (inr (inr (inr (inr n))))
 
 abbrev content_from : Shape → Content
 content_from (inl s) = InSet s
 content_from (inr (inl m)) = InMap m
 content_from (inr (inr (inl q))) = InQueue q
 content_from (inr (inr (inr (inl n)))) = InCounter n
-content_from (inr (inr (inr (inr s)))) = InPool s
+content_from (inr (inr (inr (inr (inl s))))) = InPool s
+content_from (inr (inr (inr (inr (inr n))))) = InStock n
 
 abbrev shape_gives : (c : Content) → content_from (shape_of c) ≡ c
 shape_gives (InSet s) = refl
@@ -49,12 +51,14 @@ shape_gives (InMap m) = refl
 shape_gives (InQueue q) = refl
 shape_gives (InCounter n) = refl
 shape_gives (InPool s) = refl
+shape_gives (InStock n) = refl
 
 abbrev content_code : Coded Content
 content_code =
     code_by Shape (coded⊎ (sets.code coded_ℕ)
     (coded⊎ (maps.code coded_ℕ (coded_list coded_ℕ))
-    (coded⊎ (maps.code (coded× coded_ℕ coded_ℕ) coded_ℕ) (coded⊎ coded_ℤ (sets.code coded_ℕ)))))
+    (coded⊎ (maps.code (coded× coded_ℕ coded_ℕ) coded_ℕ)
+    (coded⊎ coded_ℤ (coded⊎ (sets.code coded_ℕ) coded_ℕ)))))
     shape_of content_from shape_gives
 
 -- the code of a collection
@@ -73,6 +77,7 @@ content_of (Holding.Map m) = InMap m
 content_of (Holding.Queue q) = InQueue q
 content_of (Holding.Counter n) = InCounter n
 content_of (Holding.Pool s) = InPool s
+content_of (Holding.Stock n) = InStock n
 
 -- The collections that the entries stand for, in their order.
 abbrev pub collections_of : List (String Global × Holding) → List Collection
@@ -144,9 +149,10 @@ abbrev pub Rise : Kind → Item → List Item → Type 0
 Rise kind x [] = IsItemOf kind x
 Rise kind x (y ∷ ys) = Precedes kind x y × Rise kind y ys
 
--- The items are in the order of a collection of the kind; a counter has one.
+-- The items are in the order of a collection of the kind; a counter and a stock have one.
 abbrev pub AreInOrder : Kind → List Item → Type 0
 AreInOrder Kind.Counter [] = ⊥
+AreInOrder Kind.Stock [] = ⊥
 AreInOrder kind [] = Unit {0}
 AreInOrder kind (x ∷ xs) = Rise kind x xs
 
@@ -161,6 +167,7 @@ with_item (InMap m) (Item.Entry k v) = InMap (maps.insert m k v)
 with_item (InQueue q) (Item.Pair p g) = InQueue (bags.add q (p, g))
 with_item (InCounter n) (Item.Number m) = InCounter m
 with_item (InPool s) (Item.Element x) = InPool (sets.insert s x)
+with_item (InStock n) (Item.Number (pos m)) = InStock m
 with_item k i = k
 
 -- The content with all of the items put into it, the last one first.

@@ -14,7 +14,7 @@ ghost use Rattle.calls.specs.declared.item.Item.{Item};
 
 use boosted::Boosted;
 use calls::{Call, Item, Kind, Refusal, Reply};
-use collections::{CounterCol, MapCol, PoolCol, QueueCol, SetCol};
+use collections::{CounterCol, MapCol, PoolCol, QueueCol, SetCol, StockCol};
 use std::alloc::{AllocError, Global};
 use std::collections::btree_set::Iter;
 
@@ -26,6 +26,7 @@ pub enum Holding {
     Queue(QueueCol),
     Counter(CounterCol),
     Pool(PoolCol),
+    Stock(StockCol),
 }
 
 impl Holding {
@@ -39,6 +40,7 @@ impl Holding {
             Kind::Queue => Holding::Queue(QueueCol::new(alloc)),
             Kind::Counter => Holding::Counter(CounterCol::new()),
             Kind::Pool => Holding::Pool(PoolCol::new(alloc)),
+            Kind::Stock => Holding::Stock(StockCol::new()),
         }
     }
 
@@ -52,6 +54,7 @@ impl Holding {
             Holding::Queue(_) => Kind::Queue,
             Holding::Counter(_) => Kind::Counter,
             Holding::Pool(_) => Kind::Pool,
+            Holding::Stock(_) => Kind::Stock,
         }
     }
 
@@ -65,6 +68,7 @@ impl Holding {
             Holding::Queue(queue) => Ok(Holding::Queue(queue.copy()?)),
             Holding::Counter(counter) => Ok(Holding::Counter(counter.copy())),
             Holding::Pool(pool) => Ok(Holding::Pool(pool.copy()?)),
+            Holding::Stock(stock) => Ok(Holding::Stock(stock.copy())),
         }
     }
 
@@ -78,6 +82,7 @@ impl Holding {
             Holding::Queue(queue) => Boosted::fits(queue, (), call, reply),
             Holding::Counter(counter) => Boosted::fits(counter, (), call, reply),
             Holding::Pool(pool) => Boosted::fits(pool, (), call, reply),
+            Holding::Stock(stock) => Boosted::fits(stock, (), call, reply),
         }
     }
 
@@ -96,6 +101,7 @@ impl Holding {
             Holding::Queue(queue) => Boosted::look(queue, (), call),
             Holding::Counter(counter) => Boosted::look(counter, (), call),
             Holding::Pool(pool) => Boosted::look(pool, (), call),
+            Holding::Stock(stock) => Boosted::look(stock, (), call),
         }
     }
 
@@ -116,6 +122,7 @@ impl Holding {
             Holding::Queue(queue) => Boosted::run(queue, (), call, reply),
             Holding::Counter(counter) => Boosted::run(counter, (), call, reply),
             Holding::Pool(pool) => Boosted::run(pool, (), call, reply),
+            Holding::Stock(stock) => Boosted::run(stock, (), call, reply),
         }
     }
 }
@@ -129,8 +136,9 @@ impl Holding {
             Holding::Set(set) => elements_of(set.iter(), alloc),
             Holding::Map(map) => entries_of(map, alloc),
             Holding::Queue(queue) => pairs_of(queue, alloc),
-            Holding::Counter(counter) => number_of(counter, alloc),
+            Holding::Counter(counter) => one_number(counter.total(), alloc),
             Holding::Pool(pool) => elements_of(pool.iter(), alloc),
+            Holding::Stock(stock) => one_number(stock.level(), alloc),
         }
     }
 }
@@ -167,11 +175,11 @@ fn items_of_pairs(pairs: &[(u64, u64)], alloc: Global) -> Result<Vec<Item>, Allo
         .collect(alloc)
 }
 
-fn number_of(counter: &CounterCol, alloc: Global) -> Result<Vec<Item>, AllocError>
-    ensures { IfOk result (λ items. items.items ≡ Item.Number counter.now ∷ []) }
+fn one_number(number: i128, alloc: Global) -> Result<Vec<Item>, AllocError>
+    ensures { IfOk result (λ items. items.items ≡ Item.Number number ∷ []) }
 {
     let mut items = Vec::new(alloc);
-    items.push(Item::Number(counter.total()))?;
+    items.push(Item::Number(number))?;
     Ok(items)
 }
 
@@ -186,7 +194,7 @@ fn are_in_order(kind: Kind, items: &[Item]) -> bool
     ensures { IsTrue result ↔ AreInOrder kind items.now }
 {
     match (kind, items) {
-        (Kind::Counter, []) => false,
+        (Kind::Counter | Kind::Stock, []) => false,
         (_, []) => true,
         (_, [first, rest @ ..]) => rise(kind, first, rest),
     }
@@ -237,6 +245,7 @@ fn is_item_of(kind: Kind, item: &Item) -> bool
         (Kind::Map, Item::Entry(_, _)) => true,
         (Kind::Queue, Item::Pair(_, _)) => true,
         (Kind::Counter, Item::Number(_)) => true,
+        (Kind::Stock, Item::Number(n)) => *n >= 0,
         _ => false,
     }
 }
@@ -275,6 +284,10 @@ impl Holding {
                 Ok(())
             }
             (Holding::Pool(pool), Item::Element(x)) => pool.take(x),
+            (Holding::Stock(stock), Item::Number(n)) if n >= 0 => {
+                *stock = StockCol::with_amount(n as u128);
+                Ok(())
+            }
             _ => Ok(()),
         }
     }

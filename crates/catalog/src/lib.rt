@@ -1,4 +1,4 @@
-//! A catalog: named collections of the five kinds, whose calls can be undone.
+//! A catalog: named collections of the six kinds, whose calls can be undone.
 #![tactic(auto)]
 
 mod catalog;

@@ -14,24 +14,37 @@ use Rattle.gate_block.proofs.Facts.{ready}
 use Rattle.gate_block.proofs.Parts.{written_there}
 use Rattle.checkpoint.specs.declared.laying.Laying.{Laying}
 use Rattle.checkpoint.specs.declared.stage.Stage.{Stage}
-use Rattle.checkpoint.specs.Imaging.{IsBeingLaid, IsRooted, LeavesRoot, PicksWhole, bodies_of}
-use Rattle.checkpoint.specs.Imaging.{left_of}
+use Rattle.checkpoint.specs.Imaging.{HasPlainRoot, IsBeingLaid, IsRooted, LeavesRoot, PicksWhole}
+use Rattle.checkpoint.specs.Imaging.{bodies_of, left_of}
 use Rattle.gate_block.specs.Layout.{base_in_use}
 use Rattle.checkpoint.specs.Keepers.{KeeperState, IsKeeper}
 use Rattle.checkpoint.specs.ImageAnswers.{PickAnswers, FlipAnswers}
 use Rattle.checkpoint.proofs.Apart.{back, inside, behind_root, picks_one}
 use Rattle.checkpoint.proofs.Turning.{beside_is}
 
+-- the root byte that is written is the one that is read
+root_is : (root : ℕ) (s new : List ℕ) → 513 ≤ length s → Overwritten 512 (root ∷ []) s new →
+    get_or new 512 0 ≡ root
+root_is root s new long written =
+    let stands : take 1 (drop 512 new) ≡ root ∷ [] =
+    written_there 512 (root ∷ []) s new (omega (arith, long)) written in
+    sym (get_or-drop 512 new 0 0) ∙ sym (get_or-take 1 (drop 512 new) 0 0 (omega arith)) ∙
+    ap (λ (l : List ℕ). get_or l 0 0) stands
+
+-- the root byte that is written is 0 or 1, by where the area begins
+pub root_plain : (base root : ℕ) (s new : List ℕ) → 513 ≤ length s →
+    Overwritten 512 (root ∷ []) s new → (base ≡ 4096 → root ≡ 0) → ((base ≡ 4096 → ⊥) → root ≡ 1) →
+    HasPlainRoot base new
+root_plain base root s new long written first second =
+    let there : get_or new 512 0 ≡ root = root_is root s new long written in
+    record { first = λ here. there ∙ first here; second = λ not_here. there ∙ second not_here }
+
 -- the root byte that is written picks the area that begins there
 pub root_picks : (base root size : ℕ) (s new : List ℕ) → 513 ≤ length s →
     Overwritten 512 (root ∷ []) s new → (base ≡ 4096 → root ≡ 0) → ((base ≡ 4096 → ⊥) → root ≡ 1) →
     (base ≡ 4096) ⊎ (base ≡ 4096 + size) → base_in_use size new ≡ base
 root_picks base root size s new long written first second place =
-    let stands : take 1 (drop 512 new) ≡ root ∷ [] =
-    written_there 512 (root ∷ []) s new (omega (arith, long)) written in
-    let there : get_or new 512 0 ≡ root =
-    sym (get_or-drop 512 new 0 0) ∙ sym (get_or-take 1 (drop 512 new) 0 0 (omega arith)) ∙
-    ap (λ (l : List ℕ). get_or l 0 0) stands in
+    let there : get_or new 512 0 ≡ root = root_is root s new long written in
     elim (cases_eq base 4096) [
       | inl here ↦ ap (λ (b : ℕ). 4096 + size * (b % 2)) (there ∙ first here) ∙ omega (arith, here)
       | inr not_here ↦ ⊎_elim (λ here. absurd (not_here here))

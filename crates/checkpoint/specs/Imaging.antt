@@ -110,6 +110,11 @@ pub record IsRooted {D : Type 0} (seen : D → List ℕ) (may_leave : D → List
   pub root_at_rest : (c : List ℕ) → may_leave disk c → get_or c 512 0 ≡ get_or (seen disk) 512 0
   pub area_at_rest : (c : List ℕ) → may_leave disk c → bytes_of area c ≡ bytes_of area (seen disk)
 
+-- The root byte is 0 where the area that begins there is the first, and 1 where it is the second.
+pub record HasPlainRoot (base : ℕ) (bytes : List ℕ) : Type 0 where
+  pub first : base ≡ 4096 → get_or bytes 512 0 ≡ 0
+  pub second : (base ≡ 4096 → ⊥) → get_or bytes 512 0 ≡ 1
+
 -- a stop leaves what it might have left before, or what a read gave before, with any root byte
 abbrev pub LeavesRoot : (List ℕ → Type 0) → List ℕ → List ℕ → Type 0
 LeavesRoot before seen c = before c ⊎ Torn 512 1 seen c

@@ -9,7 +9,8 @@ ghost use Rattle.blocks.specs.declared.block.Block.{Block};
 ghost use Rattle.checkpoint.specs.declared.laying.Laying.{Laying};
 ghost use Rattle.checkpoint.specs.declared.stage.Stage.{Stage};
 ghost use Rattle.checkpoint.specs.Imaging.{IsLaidBeside, HasPiece, IsBeingLaid};
-ghost use Rattle.checkpoint.specs.Imaging.{IsRooted, LeavesRoot, PicksWhole, bodies_of, left_of};
+ghost use Rattle.checkpoint.specs.Imaging.{HasPlainRoot, IsRooted, LeavesRoot, PicksWhole};
+ghost use Rattle.checkpoint.specs.Imaging.{bodies_of, left_of};
 ghost use Rattle.checkpoint.specs.Imaging.{pieces_left, end_of, given_up};
 ghost use Rattle.gate_block.specs.Layout.{base_in_use};
 ghost use Rattle.checkpoint.specs.Keepers.{KeeperState, IsOneOfTwo, IsPast, OnKept, IsBrought};
@@ -440,6 +441,7 @@ impl<D: Disk> Keeper<D> {
             OnOk result (IsReady D.seen D.may_leave self.new.area self.new.disk bodies) }
         ensures picks { OnOk result (base_in_use (size_of self.new.area) (D.seen self.new.disk) ≡
             base_of self.new.area) }
+        ensures plain { OnOk result (HasPlainRoot (base_of self.new.area) (D.seen self.new.disk)) }
         ensures durable { OnOk result (IsAtRest D.seen D.may_leave self.new.disk) }
         // Nothing else changes.
         ensures root { Torn 512 1 (D.seen self.old.disk) (D.seen self.new.disk) }
@@ -474,6 +476,7 @@ impl<D: Disk> Keeper<D> {
             (Rises (D.fault_count self.old.disk) (D.fault_count self.new.disk)) self.new result }
         ensures picks { OnOk result (base_in_use (size_of self.new.area) (D.seen self.new.disk) ≡
             base_of self.new.area) }
+        ensures plain { OnOk result (HasPlainRoot (base_of self.new.area) (D.seen self.new.disk)) }
         ensures durable { OnOk result (IsAtRest D.seen D.may_leave self.new.disk) }
         ensures root { Torn 512 1 (D.seen self.old.disk) (D.seen self.new.disk) }
         ensures any_moment { LeavesOnly D.moment D.left_since self.old.disk self.new.disk

@@ -1,7 +1,7 @@
 // The root byte, which picks the area in use.
 ghost use Rattle.std.specs.Prelude.{◌≡◌, ◌≤◌, ◌⊎◌, ◌+◌, ℕ, length, OnOk};
 ghost use Rattle.disk_model.specs.Disk.{Torn, WasTorn, IsAtRest, LeavesOnly, HasCause};
-ghost use Rattle.checkpoint.specs.Imaging.{LeavesRoot};
+ghost use Rattle.checkpoint.specs.Imaging.{HasPlainRoot, LeavesRoot};
 ghost use Rattle.gate_block.specs.Layout.{base_in_use};
 
 use disk_model::{Disk, Fault, write_and_sync};
@@ -13,6 +13,7 @@ pub fn pick_area<D: Disk>(disk: &mut D, base: u64) -> Result<(), Fault>
     requires { 513 ≤ length (D.seen disk.old) }
     ensures picks { OnOk result ((size : ℕ) → (base ≡ 4096) ⊎ (base ≡ 4096 + size) →
         base_in_use size (D.seen disk.new) ≡ base) }
+    ensures plain { OnOk result (HasPlainRoot base (D.seen disk.new)) }
     ensures durable { OnOk result (IsAtRest D.seen D.may_leave disk.new) }
     ensures root { Torn 512 1 (D.seen disk.old) (D.seen disk.new) }
     ensures any_moment { LeavesOnly D.moment D.left_since disk.old disk.new
@@ -29,6 +30,7 @@ fn write_root<D: Disk>(disk: &mut D, base: u64) -> Result<(), Fault>
     requires { 513 ≤ length (D.seen disk.old) }
     ensures picks { OnOk result ((size : ℕ) → (base ≡ 4096) ⊎ (base ≡ 4096 + size) →
         base_in_use size (D.seen disk.new) ≡ base) }
+    ensures plain { OnOk result (HasPlainRoot base (D.seen disk.new)) }
     ensures durable { OnOk result (IsAtRest D.seen D.may_leave disk.new) }
     ensures root { Torn 512 1 (D.seen disk.old) (D.seen disk.new) }
     ensures any_moment { LeavesOnly D.moment D.left_since disk.old disk.new

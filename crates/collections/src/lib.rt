@@ -1,4 +1,4 @@
-//! The five kinds of collection: what each answers to a call, and what the call leaves.
+//! The six kinds of collection: what each answers to a call, and what the call leaves.
 #![tactic(auto)]
 
 mod counter;
@@ -7,9 +7,11 @@ mod map;
 mod pool;
 mod queue;
 mod set;
+mod stock;
 
 pub use counter::CounterCol;
 pub use map::MapCol;
 pub use pool::PoolCol;
 pub use queue::QueueCol;
 pub use set::SetCol;
+pub use stock::StockCol;

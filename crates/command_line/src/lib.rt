@@ -4,14 +4,18 @@
 
 ghost use Rattle.std.specs.Prelude.{◌≤◌, ◌↔◌, IsOk, IsOkUnless};
 
+mod listen;
+
 use boost::{Failure, Invocation, Task, command, report, run, serve};
 use calls::Refusal;
 use calls::limits::{MAX_AREA, MIN_AREA};
 use clap::error::ErrorKind;
-use disk_model::{Disk, FileDisk, MemDisk, Unknown};
+use disk_model::{Content, Disk, FileDisk, MemDisk};
+use listen::{listen_at_door, listen_to_input};
+pub use listening::{Fifos, SystemFifos, Way};
 use std::alloc::Global;
 use std::fs::{File, TryLockError};
-use std::io::Write;
+use std::io::{Read, Write};
 use std::rt::{Clock, Files};
 use std::sync::Wait;
 use std::thread::Threads;
@@ -19,9 +23,6 @@ use std::{fs, io};
 
 // How many bytes of a disk stand before its two areas.
 const AREAS_AT: u64 = 4096;
-
-// A file as a disk. What it holds is not known.
-type StoredDisk = FileDisk<Unknown>;
 
 // Why a file is not opened: for want of memory, or because it cannot be.
 fn cannot_open<'a>(path: &'a str, error: &io::Error) -> Failure<'a> {
@@ -75,11 +76,11 @@ fn open_alone<'a>(
 
 // Makes a file, or takes the one that is there, and gives it the size of a disk with two such
 // areas.
-fn make_disk<'a>(
+fn make_disk<'a, S: Content>(
     rt: &impl Files<File = File>,
     path: &'a str,
     area: u64,
-) -> Result<StoredDisk, Failure<'a>>
+) -> Result<FileDisk<S>, Failure<'a>>
     requires { area ≤ MAX_AREA }
 {
     let file = open_alone(rt, path, true)?;
@@ -88,7 +89,10 @@ fn make_disk<'a>(
 }
 
 // Opens a file that is there.
-fn open_disk<'a>(rt: &impl Files<File = File>, path: &'a str) -> Result<StoredDisk, Failure<'a>> {
+fn open_disk<'a, S: Content>(
+    rt: &impl Files<File = File>,
+    path: &'a str,
+) -> Result<FileDisk<S>, Failure<'a>> {
     opened(path, FileDisk::open(open_alone(rt, path, false)?))
 }
 
@@ -108,7 +112,7 @@ fn run_on<'a, D: Disk + Drop>(
 }
 
 // Makes the file of a disk with two such areas, and carries a command out on it.
-fn run_on_new<'a, R: Files<File = File> + AllocGlobal>(
+fn run_on_new<'a, S: Content, R: Files<File = File> + AllocGlobal>(
     rt: &R,
     task: &Task,
     path: &'a str,
@@ -117,12 +121,12 @@ fn run_on_new<'a, R: Files<File = File> + AllocGlobal>(
     err: &mut impl Write,
 ) -> Result<u8, Failure<'a>> {
     check_area(area)?;
-    let disk = make_disk(rt, path, area);
+    let disk = make_disk::<S>(rt, path, area);
     run_on(rt.alloc(), task, disk, &[], out, err)
 }
 
 // Opens the file of a disk, and carries a command out on it.
-fn run_on_old<'a, R: Files<File = File> + AllocGlobal>(
+fn run_on_old<'a, S: Content, R: Files<File = File> + AllocGlobal>(
     rt: &R,
     task: &Task,
     path: &'a str,
@@ -130,12 +134,12 @@ fn run_on_old<'a, R: Files<File = File> + AllocGlobal>(
     out: &mut impl Write,
     err: &mut impl Write,
 ) -> Result<u8, Failure<'a>> {
-    let disk = open_disk(rt, path);
+    let disk = open_disk::<S>(rt, path);
     run_on(rt.alloc(), task, disk, script, out, err)
 }
 
 // Reads a script, opens the file of a disk, and carries a command out on it.
-fn run_with_script<'a, R: Files<File = File> + AllocGlobal>(
+fn run_with_script<'a, S: Content, R: Files<File = File> + AllocGlobal>(
     rt: &R,
     task: &Task,
     path: &'a str,
@@ -144,12 +148,16 @@ fn run_with_script<'a, R: Files<File = File> + AllocGlobal>(
     err: &mut impl Write,
 ) -> Result<u8, Failure<'a>> {
     let script = opened(script, fs::read(rt, script))?;
-    run_on_old(rt, task, path, script.as_slice(), out, err)
+    run_on_old::<S, R>(rt, task, path, script.as_slice(), out, err)
 }
 
 // Reads a script, opens the file of a disk, and serves the script on it. Where that is asked, what
 // the system says of the file is told behind it.
-fn serve_script<'a, R: Files<File = File> + Threads + Wait + Clock + AllocGlobal + Sync>(
+fn serve_script<
+    'a,
+    S: Content + Send,
+    R: Files<File = File> + Threads + Wait + Clock + AllocGlobal + Sync,
+>(
     rt: &R,
     path: &'a str,
     script: &'a str,
@@ -158,7 +166,7 @@ fn serve_script<'a, R: Files<File = File> + Threads + Wait + Clock + AllocGlobal
     err: &mut impl Write,
 ) -> Result<u8, Failure<'a>> {
     let script = opened(script, fs::read(rt, script))?;
-    let disk = open_disk(rt, path)?;
+    let disk = open_disk::<S>(rt, path)?;
     let (status, disk) = serve(rt, disk, script.as_slice(), why, out, err);
     if why {
         tell_cause(&disk, err);
@@ -168,7 +176,7 @@ fn serve_script<'a, R: Files<File = File> + Threads + Wait + Clock + AllocGlobal
 
 // Writes a line with the system's words for the last call of the disk that failed, if one did.
 // Where it cannot be written, that changes nothing.
-fn tell_cause(disk: &StoredDisk, err: &mut impl Write) {
+fn tell_cause<S: Content>(disk: &FileDisk<S>, err: &mut impl Write) {
     if let Some(error) = disk.last_error() {
         let _written = writeln!(err, "boost: {error}");
         let _flushed = err.flush();
@@ -182,47 +190,69 @@ fn memory<'a>(alloc: Global) -> Result<MemDisk, Failure<'a>> {
 
 // Opens the files of a command and carries it out. Answers the status, unless a file is missing or
 // an argument is bad.
-fn carry_out<'a, R: Files<File = File> + Threads + Wait + Clock + AllocGlobal + Sync>(
+fn carry_out<
+    'a,
+    S: Content + Send,
+    R: Files<File = File> + Threads + Wait + Clock + AllocGlobal + Sync,
+    F: Fifos + Drop + Sync,
+>(
     rt: &R,
     asked: &'a Invocation,
-    out: &mut impl Write,
+    input: impl Read + Drop + Send,
+    fifos: F,
+    out: &mut (impl Write + Send),
     err: &mut impl Write,
 ) -> Result<u8, Failure<'a>> {
     match asked {
-        Invocation::Run(task) => perform(rt, task, out, err),
+        Invocation::Run(task) => perform::<S, R>(rt, task, out, err),
         Invocation::Serve { disk, script, why } => {
-            serve_script(rt, disk.as_str(), script.as_str(), *why, out, err)
+            serve_script::<S, R>(rt, disk.as_str(), script.as_str(), *why, out, err)
+        }
+        Invocation::Listen { disk, folder } => {
+            let disk = open_disk::<S>(rt, disk.as_str())?;
+            match folder {
+                Some(folder) => listen_at_door(rt, disk, fifos, folder.as_str(), err),
+                None => listen_to_input(rt, disk, input, out, err),
+            }
         }
     }
 }
 
 // Opens the files of a task and carries it out.
-fn perform<'a, R: Files<File = File> + AllocGlobal>(
+fn perform<'a, S: Content, R: Files<File = File> + AllocGlobal>(
     rt: &R,
     task: &'a Task,
     out: &mut impl Write,
     err: &mut impl Write,
 ) -> Result<u8, Failure<'a>> {
     match task {
-        Task::Format { disk, area } => run_on_new(rt, task, disk.as_str(), *area, out, err),
+        Task::Format { disk, area } => {
+            run_on_new::<S, R>(rt, task, disk.as_str(), *area, out, err)
+        }
         Task::Play { disk, script } => {
-            run_with_script(rt, task, disk.as_str(), script.as_str(), out, err)
+            run_with_script::<S, R>(rt, task, disk.as_str(), script.as_str(), out, err)
         }
         Task::Show { disk } | Task::Check { disk } => {
-            run_on_old(rt, task, disk.as_str(), &[], out, err)
+            run_on_old::<S, R>(rt, task, disk.as_str(), &[], out, err)
         }
         Task::Demo => run_on(rt.alloc(), task, memory(rt.alloc()), &[], out, err),
     }
 }
 
 // Carries a command out, and says why it was not. Answers the status.
-fn answer<R: Files<File = File> + Threads + Wait + Clock + AllocGlobal + Sync>(
+fn answer<
+    S: Content + Send,
+    R: Files<File = File> + Threads + Wait + Clock + AllocGlobal + Sync,
+    F: Fifos + Drop + Sync,
+>(
     rt: &R,
     asked: &Invocation,
-    out: &mut impl Write,
+    input: impl Read + Drop + Send,
+    fifos: F,
+    out: &mut (impl Write + Send),
     err: &mut impl Write,
 ) -> u8 {
-    match carry_out(rt, asked, out, err) {
+    match carry_out::<S, R, F>(rt, asked, input, fifos, out, err) {
         Ok(status) => status,
         Err(failure) => report(&failure, err),
     }
@@ -243,15 +273,27 @@ fn explain(error: &clap::Error, out: &mut impl Write, err: &mut impl Write) -> u
     }
 }
 
-/// Understands the words of a command line and carries them out. Answers the status.
-pub fn obey<'a, R: Files<File = File> + Threads + Wait + Clock + AllocGlobal + Sync>(
+/// Understands the words of a command line and carries them out. Answers the status. A listening
+/// store reads its clients' lines from `input`, or comes by a door of `fifos`; nothing else uses the
+/// two.
+///
+/// What the files hold is `S`: this is proved for any, so what the commands promise of a disk holds
+/// of the files that are there. A program names `Unknown`, in one place.
+pub fn obey<
+    'a,
+    S: Content + Send,
+    R: Files<File = File> + Threads + Wait + Clock + AllocGlobal + Sync,
+    F: Fifos + Drop + Sync,
+>(
     rt: &R,
     words: &'a [&'a str],
-    out: &mut impl Write,
+    input: impl Read + Drop + Send,
+    fifos: F,
+    out: &mut (impl Write + Send),
     err: &mut impl Write,
 ) -> u8 {
     match command(rt.alloc(), words) {
-        Ok(asked) => answer(rt, &asked, out, err),
+        Ok(asked) => answer::<S, R, F>(rt, &asked, input, fifos, out, err),
         Err(error) => explain(&error, out, err),
     }
 }

@@ -1,6 +1,7 @@
-//! A quota: four threads spend from two accounts that have a limit, in a store in a file. What an
-//! account has left never falls below zero; it is filled up at a commit, and is there once the
-//! store was closed and opened again.
+//! A quota: four threads spend from two accounts that have a limit, in a store in a file. Each
+//! account is a stock, so what it has left never falls below zero, and those who spend from it side
+//! by side don't wait for each other. It is filled up at a commit, and is there once the store was
+//! closed and opened again.
 //!
 //! This file is a whole example, to be copied: it uses nothing of the other modules, and a `main`
 //! has only to call `run`.
@@ -21,13 +22,16 @@ const ACCOUNTS: [&str; 2] = ["alice", "bob"];
 
 const THREADS: usize = 4;
 
-// How often each thread asks for ten from each account.
+// How often each thread asks each account for money.
 const ASKS: usize = 5;
 
 // What an account is given.
-const LIMIT: i64 = 100;
+const LIMIT: u64 = 100;
 
-// A transaction that spends ten from an account, where it has them: whether it did.
+// What is asked for at once.
+const ASKED: u64 = 10;
+
+// A transaction that spends from an account, where it has as much: whether it did.
 #[derive(Clone, Copy)]
 struct Spend<'a> {
     account: &'a str,
@@ -41,13 +45,8 @@ impl Transaction for Spend<'_> {
         rt: &R,
         client: &mut Client<'_, J>,
     ) -> Result<bool, Refusal> {
-        match client.call(rt, self.account, &Call::Read)? {
-            Reply::Total(left) if left >= 10 => {
-                client.call(rt, self.account, &Call::Bump(-10))?;
-                Ok(true)
-            }
-            _ => Ok(false),
-        }
+        let spent = client.call(rt, self.account, &Call::Spend(ASKED))?;
+        Ok(matches!(spent, Reply::Yes))
     }
 }
 
@@ -66,7 +65,7 @@ impl Transaction for Refill<'_> {
         rt: &R,
         client: &mut Client<'_, J>,
     ) -> Result<(), Refusal> {
-        client.later(rt, self.account, &Call::Bump(LIMIT))
+        client.later(rt, self.account, &Call::Fill(LIMIT))
     }
 }
 
@@ -87,7 +86,7 @@ impl Work for Filling {
     ) -> Result<(), Refusal> {
         for account in ACCOUNTS {
             if self.are_new {
-                client.make(rt, account, Kind::Counter)?;
+                client.make(rt, account, Kind::Stock)?;
             }
             let (_, _ticket) = keep(rt, client, &Refill { account })?;
         }

@@ -8,7 +8,7 @@ use Rattle.std.specs.Ordering.{nat_cmp}
 use Rattle.calls.specs.declared.kind.Kind.{Kind}
 use Rattle.calls.specs.declared.call.Call.{Call}
 use Rattle.calls.specs.declared.reply.Reply.{Reply}
-use Rattle.calls.specs.Rules.{IsShort, Disposable, inverse_of}
+use Rattle.calls.specs.Rules.{Disposable, inverse_of}
 use Rattle.calls.specs.Transactions.{Event, Entry, Asked, PutOff, Leads, laters_of, own}
 use Rattle.undo_log.specs.Logs.{Lives, fallen}
 use Rattle.undo_log.specs.Entries.{IsNewestCall}
@@ -16,6 +16,7 @@ use Rattle.boosted.specs.Meaning as shape
 use Rattle.boosted.specs.Meaning.{HasRoom, Meaning}
 use Rattle.boosted.proofs.Each.{weaker, each_append}
 use Rattle.record_format.specs.Records.{IsNumber}
+use Rattle.records.proofs.Items.{short_disposable}
 use Rattle.machine.specs.Machine.{State, Does, IsRunning, IsLeft, BeginRow, CommitRow, EndedRow}
 use Rattle.machine.specs.Machine.{FallRow, MakeRow, CallRow, LaterRow, BackRow}
 use Rattle.machine.specs.Machines.{resting, IsAskedEntry, IsUpheld, CanRun}
@@ -29,12 +30,6 @@ use Rattle.machine.proofs.Counting.{few_entries, own_and_others, few_laters}
 use Rattle.machine.proofs.Sizes.{len_begun, len_fallen, len_left, own_of_others, own_pushed}
 use Rattle.machine.proofs.Sizes.{own_of_rest, rest_length, pushed_length}
 use Rattle.catalog.specs.Making.{Making}
-
--- what can run in a commit puts no value
-disposable_short : (c : Call) → Disposable c → IsShort c
-disposable_short (Call.Bump n) late = tt
-disposable_short (Call.Free x) late = tt
-disposable_short c late = absurd late
 
 module _ {S : Type 0} (meaning : Meaning S ℕ) (making : Making S)
     (short : S → Type 0) (laws : BookLaws meaning making short) where
@@ -60,7 +55,7 @@ module _ {S : Type 0} (meaning : Meaning S ℕ) (making : Making S)
   laters_short (e ∷ es) s t late runs spells =
       laters_short es runs.0 t late.1 runs.2
       (subst short (sym runs.1.1) (laws.short_runs s e.at e.call e.reply spells runs.1.0
-      (disposable_short e.call late.0.0)))
+      (short_disposable e.call late.0.0)))
 
   module _ (s : State S) (upheld : Upheld s) where
     -- No more entries than 1024 for each of the 64 that may be live.

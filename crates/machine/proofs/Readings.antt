@@ -1,6 +1,6 @@
 -- Calls that only read leave the content, so they are steps of the machine but for the wear, and
 -- what a journal tells of a state settles where the state does.
-use Rattle.std.proofs.Common.{◌≡◌, ℕ, ◌+◌, ◌≤◌, Bool, true, false, not, cond, Option, None}
+use Rattle.std.proofs.Common.{◌≡◌, ℕ, ◌+◌, ◌≤◌, Bool, true, false, not, cond, Option}
 use Rattle.std.proofs.Common.{MatchOption, List, [], ◌∷◌, ◌++◌, map, refl, sym, ◌∙◌, ap, subst}
 use Rattle.std.proofs.Common.{arith}
 use Rattle.std.specs.List.{filter}
@@ -9,7 +9,7 @@ use Rattle.calls.specs.declared.reply.Reply.{Reply}
 use Rattle.calls.specs.Rules.{inverse_of}
 use Rattle.calls.specs.Reads.{reads, is_journalled}
 use Rattle.calls.specs.Transactions.{Event, Entry, Asked, PutOff, Leads, Act, Asks, calls_of}
-use Rattle.calls.proofs.Readings.{read_askable, read_inverse, read_leaves}
+use Rattle.calls.proofs.Readings.{read_mode, read_inverse, read_leaves}
 use Rattle.boosted.specs.Meaning as shape
 use Rattle.boosted.specs.Meaning.{Meaning}
 use Rattle.boosted.proofs.Each.{each_filter}
@@ -56,19 +56,11 @@ untold_reads : (b : Bool) → not b ≡ false → b ≡ true
 untold_reads true is = refl
 untold_reads false is = sym is
 
-undoes_none : {S : Type 0} (meaning : Meaning S ℕ) (s t : S) (at : ℕ) (o : Option Call) → o ≡ None →
-    MatchOption o (s ≡ t) (λ back. (reply : Reply) × shape.Does meaning t at back reply s) → s ≡ t
-undoes_none meaning s t at o none back =
-    subst (λ (p : Option Call). MatchOption p (s ≡ t)
-    (λ back. (reply : Reply) × shape.Does meaning t at back reply s)) none back
-
 module _ {S : Type 0} (meaning : Meaning S ℕ) (making : Making S)
     (laws : RuleLaws (collection_rules meaning making)) where
   -- a call that only reads leaves the content
   pub read_same : (s t : S) (e : Event) → reads e.call e.reply ≡ true → Does meaning s e t → s ≡ t
-  read_same s t e is does =
-      undoes_none meaning s t e.at (inverse_of e.call e.reply) (read_inverse e.call e.reply is)
-      (laws.calls.inverse (0, e) s t (read_askable e.call e.reply is) does)
+  read_same s t e is does = laws.reads_same (0, e) s t (read_mode e.call e.reply is) does
 
   -- Calls lead where they lead without those that only read.
   without_if : (b : Bool) (e : Event) (es : List Event) (s m t : S) →

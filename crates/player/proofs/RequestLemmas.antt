@@ -20,7 +20,7 @@ module _ {D : Type 0} (g : Ghosts D) where
   obeys_plays k l old new (Request.Make kind name) r obeys = (obeys.2.0, obeys.2.2)
   obeys_plays k l old new Request.Begin r obeys = (obeys.2.0, obeys.2.2)
   obeys_plays k l old new (Request.Call name operation) r obeys = (_, obeys.2.whole)
-  obeys_plays k l old new (Request.Later name by) r obeys = (_, obeys.2.whole)
+  obeys_plays k l old new (Request.Later name call) r obeys = (_, obeys.2.whole)
   obeys_plays k l old new Request.Commit r obeys = (obeys.2.0, obeys.2.2)
   obeys_plays k l old new Request.Abort r obeys = (obeys.2.0, obeys.2.2)
   obeys_plays k l old new Request.Kept r obeys = (obeys.3.0, obeys.3.2)

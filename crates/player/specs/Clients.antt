@@ -1,6 +1,6 @@
 -- What a script's client does on a world: the steps that it takes, the result, and the client
 -- behind them.
-use Rattle.std.specs.Prelude.{◌≡◌, ◌⊎◌, ◌↔◌, ℕ, ℤ, suc, zero, ◌<◌, ◌≤◌, Bool, true, false, IsTrue}
+use Rattle.std.specs.Prelude.{◌≡◌, ◌⊎◌, ◌↔◌, ℕ, suc, zero, ◌<◌, ◌≤◌, Bool, true, false, IsTrue}
 use Rattle.std.specs.Prelude.{List, [], ◌∷◌, ◌++◌, Option, None, Some, Result, Ok, Err}
 use Rattle.calls.specs.declared.call.Call.{Call}
 use Rattle.calls.specs.declared.kind.Kind.{Kind}
@@ -87,9 +87,9 @@ AsksFor operation s n at r steps =
     (call : Call) × AskedFor s at operation call ×
     Tries (Step.Call n at call) Answer.Replied r steps
 
--- it puts a bump off
-abbrev pub PutsOff : ℤ → Asking (Unit {0})
-PutsOff by s n at r steps = Tries (Step.Later n at (Call.Bump by)) (alone Answer.PutOff) r steps
+-- it puts the call off
+abbrev pub PutsOff : Call → Asking (Unit {0})
+PutsOff call s n at r steps = Tries (Step.Later n at call) (alone Answer.PutOff) r steps
 
 -- this is asked of the collection that was found, if one was
 abbrev pub CallsOn : {T : Type 0} → Asking T → List Collection → ℕ → Result ℕ Refusal →

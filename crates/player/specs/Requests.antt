@@ -39,9 +39,9 @@ Obeys g k old Request.Begin r l new =
 Obeys g k old (Request.Call name operation) r l new =
     (called : Result Reply Refusal) × (r ≡ telling Said.Replied called) ×
     Calls g k old name (AsksFor operation) called l new
-Obeys g k old (Request.Later name by) r l new =
+Obeys g k old (Request.Later name call) r l new =
     (put_off : Result (Unit {0}) Refusal) × (r ≡ telling (λ done. Said.PutOff) put_off) ×
-    Calls g k old name (PutsOff by) put_off l new
+    Calls g k old name (PutsOff call) put_off l new
 Obeys g k old Request.Commit r l new =
     (placed : Result ℕ Refusal) × (r ≡ telling Said.Placed placed) ×
     Runs g old (λ steps. Commits k placed steps l) new

@@ -111,7 +111,7 @@ impl Client {
         world.call(number, collection, &call)
     }
 
-    /// Puts a bump of the counter of the name off to the commit.
+    /// Puts the call on the collection of the name off to the commit.
     ///
     /// NoSuchTxn where no transaction is open; where the book does not know it yet, the refusals of
     /// `Book::enter`; then those of `Book::find`, and of `Book::later`. The transaction stays open.
@@ -119,14 +119,14 @@ impl Client {
         &mut self,
         world: &mut World<D>,
         name: &Name,
-        by: i64,
+        call: &Call,
     ) -> Result<(), Refusal>
-        ensures { Calls ⟦<D as Disk>⟧ self.old world.old name.now (PutsOff by) result self.new
+        ensures { Calls ⟦<D as Disk>⟧ self.old world.old name.now (PutsOff call.now) result self.new
             world.new }
     {
         let number = self.enter(world)?;
         let collection = world.book().find(name.as_str())?;
-        world.later(number, collection, &Call::Bump(by))
+        world.later(number, collection, call)
     }
 
     /// Commits the open transaction, which is none then. Its place is the client's ticket.

@@ -106,8 +106,8 @@ fn obey<D: Disk>(
         Request::Call(name, operation) => {
             Ok(Said::Replied(client.call(world, &name, operation)?))
         }
-        Request::Later(name, by) => {
-            client.later(world, &name, by)?;
+        Request::Later(name, call) => {
+            client.later(world, &name, &call)?;
             Ok(Said::PutOff)
         }
         Request::Commit => Ok(Said::Placed(client.commit(world)?)),

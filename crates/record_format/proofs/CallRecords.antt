@@ -13,8 +13,9 @@ use Rattle.calls.specs.Maps as maps
 use Rattle.calls.specs.Queues as queues
 use Rattle.calls.specs.Counters as counters
 use Rattle.calls.specs.Pools as pools
-use Rattle.calls.specs.Contents.{Content, InSet, InMap, InQueue, InCounter, InPool, Collection}
-use Rattle.calls.specs.Contents.{Answers, AnswersAt}
+use Rattle.calls.specs.Stocks as stocks
+use Rattle.calls.specs.Contents.{Content, InSet, InMap, InQueue, InCounter, InPool, InStock}
+use Rattle.calls.specs.Contents.{Collection, Answers, AnswersAt}
 use Rattle.record_format.specs.declared.record.Record.{Record}
 use Rattle.record_format.specs.Records.{record_of_call, FitsCall, FitsReply, IsNumber, IsRecord}
 
@@ -62,12 +63,20 @@ pool_pairs s (Call.Release x) Reply.Absent ask a = tt
 pool_pairs s (Call.Free x) r ask a = absurd ask
 pool_pairs s c r ask a = absurd a.1
 
+stock_pairs : (n : ℕ) (c : Call) (r : Reply) → Askable c → stocks.Answers n c r → Pairs c r
+stock_pairs n (Call.Spend k) Reply.Yes ask a = tt
+stock_pairs n (Call.Spend k) Reply.No ask a = tt
+stock_pairs n Call.Level (Reply.Total v) ask a = tt
+stock_pairs n (Call.Fill k) r ask a = absurd ask
+stock_pairs n c r ask a = absurd a.1
+
 content_pairs : (k : Content) (c : Call) (r : Reply) → Askable c → Answers k c r → Pairs c r
 content_pairs (InSet s) c r ask a = set_pairs s c r a
 content_pairs (InMap m) c r ask a = map_pairs m c r a
 content_pairs (InQueue q) c r ask a = queue_pairs q c r ask a
 content_pairs (InCounter n) c r ask a = counter_pairs n c r a
 content_pairs (InPool s) c r ask a = pool_pairs s c r ask a
+content_pairs (InStock n) c r ask a = stock_pairs n c r ask a
 
 -- What is answered is one of the replies that the call has.
 pub answered_pairs : (s : List Collection) (at : ℕ) (c : Call) (r : Reply) → Askable c →
@@ -95,6 +104,7 @@ inverse_fits (Call.QueueAdd p g) Reply.Done ask f h = f
 inverse_fits Call.Take (Reply.Item p g) ask f h = h
 inverse_fits (Call.Bump n) Reply.Done ask f g = back_fits n ask
 inverse_fits Call.Draw (Reply.Id x) ask f g = g
+inverse_fits (Call.Spend n) Reply.Yes ask f g = f
 inverse_fits c r ask f g = tt
 
 -- ---- records
@@ -123,6 +133,7 @@ call_is_record last n at s c r i l ask a f g = record {
 
 deferrable_fits : (c : Call) → Deferrable c → FitsCall c
 deferrable_fits (Call.Bump n) d = step_fits n d
+deferrable_fits (Call.Fill n) d = omega (arith, d)
 deferrable_fits c d = absurd d
 
 -- A call that was put off has one.

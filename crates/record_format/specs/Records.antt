@@ -40,6 +40,7 @@ kind_code Kind.Map = 2
 kind_code Kind.Queue = 3
 kind_code Kind.Counter = 4
 kind_code Kind.Pool = 5
+kind_code Kind.Stock = 6
 
 -- a kind and a name: the kind's code, the name's length, and its bytes
 abbrev pub named : Kind → List ℕ → List ℕ
@@ -62,6 +63,9 @@ call Call.Read = 13 ∷ []
 call Call.Draw = 14 ∷ []
 call (Call.Release x) = 15 ∷ number 8 x
 call (Call.Free x) = 16 ∷ number 8 x
+call (Call.Spend n) = 17 ∷ number 8 n
+call Call.Level = 18 ∷ []
+call (Call.Fill n) = 19 ∷ number 8 n
 
 abbrev pub reply : Reply → List ℕ
 reply Reply.Done = 0 ∷ []
@@ -155,6 +159,9 @@ FitsCall Call.Read = Unit {0}
 FitsCall Call.Draw = Unit {0}
 FitsCall (Call.Release x) = x < 2 ^ 64
 FitsCall (Call.Free x) = x < 2 ^ 64
+FitsCall (Call.Spend n) = n < 2 ^ 64
+FitsCall Call.Level = Unit {0}
+FitsCall (Call.Fill n) = n < 2 ^ 64
 
 abbrev pub FitsReply : Reply → Type 0
 FitsReply Reply.Done = Unit {0}

@@ -37,7 +37,8 @@ pub fn fits_call(call: &Call) -> bool
         Call::QueueAdd(_priority, _tag) | Call::Pluck(_priority, _tag) => true,
         Call::Bump(_by) => true,
         Call::Release(_x) | Call::Free(_x) => true,
-        Call::Take | Call::Least | Call::Read | Call::Draw => true,
+        Call::Spend(_amount) | Call::Fill(_amount) => true,
+        Call::Take | Call::Least | Call::Read | Call::Draw | Call::Level => true,
     }
 }
 
@@ -73,8 +74,8 @@ pub fn fits_item(item: &Item) -> bool
     }
 }
 
-/// Whether so many runs can reach the item: the number of a counter is at most `wear` times 2^63
-/// from 0, and other items have no bound.
+/// Whether so many runs can reach the item: the number of a counter or of a stock is at most
+/// `wear` times 2^63 from 0, and other items have no bound.
 pub fn is_reached(item: &Item, wear: u64) -> bool
     ensures { IsTrue result ↔ IsReached wear item.now }
 {

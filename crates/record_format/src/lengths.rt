@@ -34,10 +34,12 @@ fn asked_len(asked: &Call) -> usize
         | Call::Ceiling(_)
         | Call::Bump(_)
         | Call::Release(_)
-        | Call::Free(_) => 9,
+        | Call::Free(_)
+        | Call::Spend(_)
+        | Call::Fill(_) => 9,
         Call::Put(_, bytes) => 9 + value_len(bytes),
         Call::QueueAdd(_, _) | Call::Pluck(_, _) => 17,
-        Call::Take | Call::Least | Call::Read | Call::Draw => 1,
+        Call::Take | Call::Least | Call::Read | Call::Draw | Call::Level => 1,
     }
 }
 

@@ -22,7 +22,7 @@ pub struct LaterRecord {
     pub number: u64,
     /// The collection, from 0 in the order of making.
     pub collection: u8,
-    /// A Bump.
+    /// A Bump or a Fill.
     pub call: Call,
 }
 

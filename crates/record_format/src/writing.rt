@@ -104,6 +104,7 @@ fn code_of(kind: Kind) -> u8
         Kind::Queue => 3,
         Kind::Counter => 4,
         Kind::Pool => 5,
+        Kind::Stock => 6,
     }
 }
 
@@ -184,6 +185,9 @@ fn put_call(out: &mut Vec<u8>, asked: &Call)
         Call::Draw => put_byte(out, 14),
         Call::Release(x) => put_coded(out, 15, *x),
         Call::Free(x) => put_coded(out, 16, *x),
+        Call::Spend(amount) => put_coded(out, 17, *amount),
+        Call::Level => put_byte(out, 18),
+        Call::Fill(amount) => put_coded(out, 19, *amount),
     }
 }
 

@@ -1,5 +1,6 @@
 -- The two laws: a record that is read is spelled so, and what is spelled so is read.
-use Rattle.std.proofs.Common.{◌≡◌, ℕ, ◌^◌, ◌<◌, ◌≤◌, Bool, true, false, eqb, ltb, ℤ, List, [], ◌∷◌}
+use Rattle.std.proofs.Common.{◌≡◌, ℕ, ◌^◌, ◌<◌, ◌≤◌, Bool, true, false, eqb, ltb, ℤ, pos, negsuc}
+use Rattle.std.proofs.Common.{List, [], ◌∷◌}
 use Rattle.std.proofs.Common.{◌++◌, length, take, drop, Option, Some, None, refl, sym, ap, subst}
 use Rattle.std.proofs.Common.{◌∙◌, append_assoc, arith, inl, inr}
 use Rattle.std.specs.Prelude.{IfSome, IsTrue, ◌↔◌}
@@ -15,6 +16,7 @@ use Rattle.calls.specs.declared.call.Call.{Call}
 use Rattle.calls.specs.declared.reply.Reply.{Reply}
 use Rattle.calls.specs.declared.item.Item.{Item}
 use Rattle.calls.specs.Names.{IsName}
+use Rattle.calls.specs.Contents.{IsItemOf}
 use Rattle.record_format.specs.declared.record.Record.{Record}
 use Rattle.record_format.specs.declared.record.CallRecord.{CallRecord}
 use Rattle.record_format.specs.declared.record.LaterRecord.{LaterRecord}
@@ -22,7 +24,8 @@ use Rattle.record_format.specs.Records.{number, signed, wide, value, kind_code, 
 use Rattle.record_format.specs.Records.{inverse, called, put_off, item, spelled, IsValue, FitsCall}
 use Rattle.record_format.specs.Records.{FitsReply, FitsItem, FitsCalled, FitsPutOff, Fits, IsSound}
 use Rattle.record_format.specs.Records.{Suits, IsRecord, Begins}
-use Rattle.record_reading.specs.RecordReading.{byte_in, number_in, pair_in, value_in, entry_in}
+use Rattle.record_reading.specs.RecordReading.{byte_in, number_in, amount_from, amount_in}
+use Rattle.record_reading.specs.RecordReading.{pair_in, value_in, entry_in}
 use Rattle.record_reading.specs.RecordReading.{kind_of, is_good_name, name_in, named_in}
 use Rattle.record_reading.specs.RecordReading.{keyed_calls, keyed_call_behind, other_calls}
 use Rattle.record_reading.specs.RecordReading.{call_behind, call_in, replies, reply_behind}
@@ -135,6 +138,7 @@ kind_of-code Kind.Map = refl
 kind_of-code Kind.Queue = refl
 kind_of-code Kind.Counter = refl
 kind_of-code Kind.Pool = refl
+kind_of-code Kind.Stock = refl
 
 code_of-kind : (code : ℕ) (kind : Kind) → kind_of code ≡ Some kind → kind_code kind ≡ code
 code_of-kind code kind e = grind (arith, eqb-true)
@@ -237,7 +241,13 @@ keyed_call_takes code =
               (λ n h. (refl, h)),
               (
                 (λ n h. (refl, h)),
-                ((λ n h. (refl, h)), ((λ n h. (refl, h)), tt)),
+                (
+                  (λ n h. (refl, h)),
+                  (
+                    (λ n h. (refl, h)),
+                    ((λ n h. (refl, h)), ((λ n h. (refl, h)), tt)),
+                  ),
+                ),
               ),
             ),
           ),
@@ -269,7 +279,10 @@ call_takes code =
                     (λ n. Call.Bump (cast_signed w64 n)) bump_spelt signed_fits,
                 (
                   plain_behind call FitsCall 13 Call.Read refl tt,
-                  (plain_behind call FitsCall 14 Call.Draw refl tt, tt),
+                  (
+                    plain_behind call FitsCall 14 Call.Draw refl tt,
+                    (plain_behind call FitsCall 18 Call.Level refl tt, tt),
+                  ),
                 ),
               ),
             ),
@@ -302,6 +315,9 @@ call_again Call.Read rest fits = refl
 call_again Call.Draw rest fits = refl
 call_again (Call.Release x) rest fits = rw (number_again 8 x rest fits) refl
 call_again (Call.Free x) rest fits = rw (number_again 8 x rest fits) refl
+call_again (Call.Spend n) rest fits = rw (number_again 8 n rest fits) refl
+call_again Call.Level rest fits = refl
+call_again (Call.Fill n) rest fits = rw (number_again 8 n rest fits) refl
 
 call_in_takes : (bytes : List ℕ) (x : Call × List ℕ) → IsBytes bytes → call_in bytes ≡ Some x →
     IsTaken call FitsCall bytes x
@@ -438,6 +454,9 @@ inverse_again (Some Call.Read) rest fits = refl
 inverse_again (Some Call.Draw) rest fits = refl
 inverse_again (Some (Call.Release x)) rest fits = rw (number_again 8 x rest fits) refl
 inverse_again (Some (Call.Free x)) rest fits = rw (number_again 8 x rest fits) refl
+inverse_again (Some (Call.Spend n)) rest fits = rw (number_again 8 n rest fits) refl
+inverse_again (Some Call.Level) rest fits = refl
+inverse_again (Some (Call.Fill n)) rest fits = rw (number_again 8 n rest fits) refl
 
 -- ---- the record of a call
 
@@ -539,6 +558,40 @@ FitsAsItem last i = FitsItem i × Suits last (Record.Item i)
 number_spelt : (n : ℕ) → n < 256 ^ 16 → item (Item.Number (cast_signed w128 n)) ≡ number 16 n
 number_spelt n lt = ap (number 16) (of_z-to_z w128 n lt)
 
+-- a number of a stock: one that is not negative
+abbrev FitsAmount : ℤ → Type 0
+FitsAmount n = FitsSigned w128 n × IsItemOf Kind.Stock (Item.Number n)
+
+amount_is : (n : ℤ) (rest : List ℕ) (x : ℤ × List ℕ) → amount_from n rest ≡ Some x →
+    ((n, rest) ≡ x) × IsItemOf Kind.Stock (Item.Number n)
+amount_is (pos n) rest x e = (some_is (pos n, rest) x e, tt)
+amount_is (negsuc n) rest x e = absurd cc
+
+amount_takes : (bytes : List ℕ) (x : ℤ × List ℕ) → IsBytes bytes → amount_in bytes ≡ Some x →
+    IsTaken wide FitsAmount bytes x
+unfolding amount_in
+amount_takes bytes x f e =
+    let n = bound (number_in 16 bytes) _ x e in
+    let t = number_takes 16 bytes n.0 f n.1 in
+    let is = amount_is (cast_signed w128 n.0.0) n.0.1 x n.2 in
+    let whole : Takes bytes (wide (cast_signed w128 n.0.0)) n.0.1 =
+    subst (λ (k : ℕ). Takes bytes (number 16 k) n.0.1) (sym (of_z-to_z w128 n.0.0 t.1)) t.0 in
+    subst (IsTaken wide FitsAmount bytes) is.0 (whole, (wide_fits n.0.0 t.1, is.1))
+
+amount_from-again : (n : ℤ) (rest : List ℕ) → IsItemOf Kind.Stock (Item.Number n) →
+    amount_from n rest ≡ Some (n, rest)
+amount_from-again (pos n) rest h = refl
+amount_from-again (negsuc n) rest h = absurd h
+
+amount_again : (n : ℤ) (rest : List ℕ) → FitsAmount n →
+    amount_in (wide n ++ rest) ≡ Some (n, rest)
+unfolding amount_in
+amount_again n rest h =
+    rw (wide_again n rest h.0, to_z-of_z w128 n h.0) (amount_from-again n rest h.1)
+
+amount_reads : Reads wide FitsAmount amount_in
+amount_reads = record { takes = amount_takes; again = amount_again }
+
 item_takes : (last : Option Kind) (bytes : List ℕ) (x : Item × List ℕ) → IsBytes bytes →
     item_in last bytes ≡ Some x → IsTaken item (FitsAsItem last) bytes x
 unfolding item_in
@@ -558,6 +611,9 @@ item_takes (Some Kind.Counter) bytes x f e =
 item_takes (Some Kind.Pool) bytes x f e =
     made_taken _ _ _ (number_reads 8) item (FitsAsItem (Some Kind.Pool)) [] Item.Element
     (λ n h. refl) (λ n h. (h, tt)) bytes x f e
+item_takes (Some Kind.Stock) bytes x f e =
+    made_taken _ _ _ amount_reads item (FitsAsItem (Some Kind.Stock)) [] Item.Number (λ n h. refl)
+    (λ n h. h) bytes x f e
 
 item_again : (last : Option Kind) (i : Item) (rest : List ℕ) → FitsAsItem last i →
     item_in last (item i ++ rest) ≡ Some (i, rest)
@@ -572,6 +628,8 @@ item_again (Some Kind.Queue) (Item.Pair p g) rest h =
 item_again (Some Kind.Counter) (Item.Number n) rest h =
     rw (wide_again n rest h.0, to_z-of_z w128 n h.0) refl
 item_again (Some Kind.Pool) (Item.Element x) rest h = rw (number_again 8 x rest h.0) refl
+item_again (Some Kind.Stock) (Item.Number n) rest h =
+    made_again Item.Number amount_in (wide n ++ rest) n rest (amount_again n rest h)
 item_again last i rest h = absurd h.1
 
 item_reads : (last : Option Kind) → Reads item (FitsAsItem last) (item_in last)

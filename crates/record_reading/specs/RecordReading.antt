@@ -1,8 +1,9 @@
 -- What the functions of reading.rt return, one by one: the field at the front of the bytes, and the
 -- bytes behind it. No public contract cites this. That what is read so is what Records spells, and
 -- the other way round, is proved.
-use Rattle.std.specs.Prelude.{◌≡◌, ℕ, Bool, ◌&&◌, ◌||◌, List, [], ◌∷◌, length, take, drop, Option}
-use Rattle.std.specs.Prelude.{Some, None, Result, Ok, Err, nat_lt, nat_le, ◌==◌, if◌then◌else◌}
+use Rattle.std.specs.Prelude.{◌≡◌, ℕ, ℤ, pos, negsuc, Bool, ◌&&◌, ◌||◌, List, [], ◌∷◌, length, take}
+use Rattle.std.specs.Prelude.{drop, Option, Some, None, Result, Ok, Err, nat_lt, nat_le, ◌==◌}
+use Rattle.std.specs.Prelude.{if◌then◌else◌}
 use Rattle.std.specs.List.{list_all}
 use Rattle.std.specs.Int.{w64, w128, cast_signed}
 use Rattle.byteorder.specs.Endian.{big_number}
@@ -75,6 +76,14 @@ abbrev pub numbered : {X : Type 0} → List (ℕ × (ℕ → X)) → ℕ → Rea
 numbered table code bytes = number_in 8 bytes >>= λ n. entry_at table code >>= λ make. Some
     (make n.0, n.1)
 
+-- a signed number of 16 bytes, if it is not negative
+abbrev pub amount_from : ℤ → List ℕ → Option (ℤ × List ℕ)
+amount_from (pos n) rest = Some (pos n, rest)
+amount_from (negsuc n) rest = None
+
+unfoldable pub amount_in : Reader ℤ
+amount_in bytes = number_in 16 bytes >>= λ n. amount_from (cast_signed w128 n.0) n.1
+
 unfoldable pub pair_in : Reader (ℕ × ℕ)
 pair_in = both (number_in 8) (number_in 8)
 
@@ -88,7 +97,8 @@ entry_in = both (number_in 8) value_in
 -- ---- kinds and names
 
 abbrev kinds : List (ℕ × Kind)
-kinds = (1, Kind.Set) ∷ (2, Kind.Map) ∷ (3, Kind.Queue) ∷ (4, Kind.Counter) ∷ (5, Kind.Pool) ∷ []
+kinds = (1, Kind.Set) ∷ (2, Kind.Map) ∷ (3, Kind.Queue) ∷ (4, Kind.Counter) ∷ (5, Kind.Pool) ∷
+    (6, Kind.Stock) ∷ []
 
 abbrev pub kind_of : ℕ → Option Kind
 kind_of code = entry_at kinds code
@@ -119,7 +129,8 @@ named_in bytes = do
 
 abbrev pub keyed_calls : List (ℕ × (ℕ → Call))
 keyed_calls = (1, Call.Contains) ∷ (2, Call.SetAdd) ∷ (3, Call.SetRemove) ∷ (4, Call.Get) ∷
-    (6, Call.MapRemove) ∷ (7, Call.Ceiling) ∷ (15, Call.Release) ∷ (16, Call.Free) ∷ []
+    (6, Call.MapRemove) ∷ (7, Call.Ceiling) ∷ (15, Call.Release) ∷ (16, Call.Free) ∷
+    (17, Call.Spend) ∷ (19, Call.Fill) ∷ []
 
 unfoldable pub keyed_call_behind : ℕ → Reader Call
 keyed_call_behind code = numbered keyed_calls code
@@ -134,6 +145,7 @@ other_calls =
     ∷ (12, made (λ n. Call.Bump (cast_signed w64 n)) (number_in 8))
     ∷ (13, plain Call.Read)
     ∷ (14, plain Call.Draw)
+    ∷ (18, plain Call.Level)
     ∷ []
 
 -- a call behind its code
@@ -205,6 +217,7 @@ item_in (Some Kind.Queue) bytes = made (λ p. Item.Pair p.0 p.1) pair_in bytes
 item_in (Some Kind.Counter) bytes =
     made (λ n. Item.Number (cast_signed w128 n)) (number_in 16) bytes
 item_in (Some Kind.Pool) bytes = made Item.Element (number_in 8) bytes
+item_in (Some Kind.Stock) bytes = made Item.Number amount_in bytes
 
 abbrev pub made_named : (Kind → List ℕ → Record) → Reader Record
 made_named make bytes = named_in bytes >>= λ m. Some (make m.0 m.1, m.2)

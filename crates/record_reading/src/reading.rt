@@ -1,6 +1,7 @@
 // Bytes into the record that they begin with.
 ghost use Rattle.std.specs.Prelude.{◌≡◌, ◌+◌, ◌<◌, ◌≤◌, length, IfOk};
-ghost use Rattle.record_reading.specs.RecordReading.{Gives, byte_in, number_in, pair_in, value_in};
+ghost use Rattle.record_reading.specs.RecordReading.{Gives, byte_in, number_in, amount_in};
+ghost use Rattle.record_reading.specs.RecordReading.{pair_in, value_in};
 ghost use Rattle.record_reading.specs.RecordReading.{entry_in, kind_of, name_in, named_in};
 ghost use Rattle.record_reading.specs.RecordReading.{keyed_call_behind, call_behind, call_in};
 ghost use Rattle.record_reading.specs.RecordReading.{reply_behind, reply_in, inverse_in, called_in};
@@ -54,6 +55,19 @@ fn read_u128(bytes: &[u8]) -> Result<(u128, &[u8]), Unread>
     Ok((BigEndian::read_u128(bytes), &bytes[16..]))
 }
 
+// A number of 16 bytes that is not negative.
+#[tactic(auto, unfolding(crate::specs::RecordReading::amount_in))]
+fn read_amount(bytes: &[u8]) -> Result<(i128, &[u8]), Unread>
+    ensures { Gives (λ x. (x.0, x.1.now)) result (amount_in bytes.now) }
+{
+    let (n, rest) = read_u128(bytes)?;
+    let amount = n.cast_signed();
+    if amount < 0 {
+        return Err(Unread::Damage);
+    }
+    Ok((amount, rest))
+}
+
 #[tactic(auto, unfolding(crate::specs::RecordReading::pair_in))]
 fn read_pair(bytes: &[u8]) -> Result<(u64, u64, &[u8]), Unread>
     ensures { Gives (λ x. ((x.0, x.1), x.2.now)) result (pair_in bytes.now) }
@@ -94,6 +108,7 @@ fn kind_from(code: u8) -> Result<Kind, Unread>
         3 => Ok(Kind::Queue),
         4 => Ok(Kind::Counter),
         5 => Ok(Kind::Pool),
+        6 => Ok(Kind::Stock),
         _ => Err(Unread::Damage),
     }
 }
@@ -142,6 +157,8 @@ fn keyed_call_from(code: u8, bytes: &[u8]) -> Result<(Call, &[u8]), Unread>
         7 => Ok((Call::Ceiling(key), rest)),
         15 => Ok((Call::Release(key), rest)),
         16 => Ok((Call::Free(key), rest)),
+        17 => Ok((Call::Spend(key), rest)),
+        19 => Ok((Call::Fill(key), rest)),
         _ => Err(Unread::Damage),
     }
 }
@@ -172,6 +189,7 @@ fn call_from(alloc: Global, code: u8, bytes: &[u8]) -> Result<(Call, &[u8]), Unr
         }
         13 => Ok((Call::Read, bytes)),
         14 => Ok((Call::Draw, bytes)),
+        18 => Ok((Call::Level, bytes)),
         _ => keyed_call_from(code, bytes),
     }
 }
@@ -296,6 +314,10 @@ fn read_item(alloc: Global, last: Option<Kind>, bytes: &[u8]) -> Result<(Item, &
         Some(Kind::Counter) => {
             let (n, rest) = read_u128(bytes)?;
             Ok((Item::Number(n.cast_signed()), rest))
+        }
+        Some(Kind::Stock) => {
+            let (amount, rest) = read_amount(bytes)?;
+            Ok((Item::Number(amount), rest))
         }
     }
 }

@@ -1,7 +1,7 @@
 -- What holds of the items and the values of a content: none is too long to be spelled, and so many
 -- runs reach them.
-use Rattle.std.proofs.Common.{refl, ◌≡◌, ℕ, zero, suc, ◌≤◌, Bool, true, false, cond, Option, Some}
-use Rattle.std.proofs.Common.{None}
+use Rattle.std.proofs.Common.{refl, ◌≡◌, ℕ, zero, suc, pos, ◌≤◌, Bool, true, false, cond, Option}
+use Rattle.std.proofs.Common.{Some, None, arith}
 use Rattle.std.proofs.Common.{List, [], ◌∷◌, ◌++◌, map, length, sym, ◌∙◌, ap, subst}
 use Rattle.std.proofs.Common.{⊎_elim}
 use Rattle.std.specs.Prelude.{IfSome, T, replicate}
@@ -20,10 +20,12 @@ use Rattle.calls.specs.Maps as maps
 use Rattle.calls.specs.Queues as queues
 use Rattle.calls.specs.Counters as counters
 use Rattle.calls.specs.Pools as pools
+use Rattle.calls.specs.Stocks as stocks
 use Rattle.calls.specs.Rules.{inverse_of, IsShort, Disposable, Deferrable}
 use Rattle.calls.specs.Contents as contents
-use Rattle.calls.specs.Contents.{Content, InSet, InMap, InQueue, InCounter, InPool, Collection}
-use Rattle.calls.specs.Contents.{Answers, after, AnswersAt, after_at, kind_of_content, IsItemOf}
+use Rattle.calls.specs.Contents.{Content, InSet, InMap, InQueue, InCounter, InPool, InStock}
+use Rattle.calls.specs.Contents.{Collection, Answers, after, AnswersAt, after_at, kind_of_content}
+use Rattle.calls.specs.Contents.{IsItemOf}
 use Rattle.calls.specs.Transactions.{Makes}
 use Rattle.calls.proofs.BagPoints.{not_tied}
 use Rattle.catalog.specs.Holdings.{ListsContent, Loads}
@@ -34,6 +36,7 @@ use Rattle.catalog.specs.Laws.Makings.{within_more}
 use Rattle.record_format.specs.Reached.{IsReached}
 use Rattle.std.proofs.lemmas.Cmp.{tied_itself}
 use Rattle.std.proofs.lemmas.Bool.{cases_eq}
+use Rattle.std.proofs.lemmas.Int.{ints}
 use Rattle.std.specs.FinMap as finmaps
 use Rattle.std.specs.FinMap.Entries.{is_sorted, below_all}
 use Rattle.catalog.proofs.Orders.{is_less, first_of_both, second_of_both}
@@ -58,10 +61,12 @@ short_item i f = tt
 pub short_disposable : (c : Call) → Disposable c → IsShort c
 short_disposable (Call.Bump n) d = tt
 short_disposable (Call.Free x) d = tt
+short_disposable (Call.Fill n) d = tt
 short_disposable c d = absurd d
 
 pub short_deferrable : (c : Call) → Deferrable c → IsShort c
 short_deferrable (Call.Bump n) d = tt
+short_deferrable (Call.Fill n) d = tt
 short_deferrable c d = absurd d
 
 -- ---- replies
@@ -100,12 +105,19 @@ pool_short s c (Reply.Value v) a = absurd a.1
 pool_short s c (Reply.Entry k v) a = absurd a.1
 pool_short s c r a = tt
 
+stock_short : (n : ℕ) (c : Call) (r : Reply) → stocks.Answers n c r → IsShortReply r
+stock_short n (Call.Fill k) (Reply.Value v) a = absurd a.1
+stock_short n c (Reply.Value v) a = absurd a.1
+stock_short n c (Reply.Entry k v) a = absurd a.1
+stock_short n c r a = tt
+
 content_reply : (k : Content) (c : Call) (r : Reply) → HoldsShort k → Answers k c r → IsShortReply r
 content_reply (InSet s) c r h a = set_short s c r a
 content_reply (InMap m) c r h a = map_short m c r h a
 content_reply (InQueue q) c r h a = queue_short q c r a
 content_reply (InCounter n) c r h a = counter_short n c r a
 content_reply (InPool s) c r h a = pool_short s c r a
+content_reply (InStock n) c r h a = stock_short n c r a
 
 pub short_reply : (s : List Collection) (at : ℕ) (c : Call) (r : Reply) → AreShort s →
     AnswersAt s at c r → IsShortReply r
@@ -123,6 +135,7 @@ inverse_short (Call.QueueAdd p g) Reply.Done h = tt
 inverse_short Call.Take (Reply.Item p g) h = tt
 inverse_short (Call.Bump n) Reply.Done h = tt
 inverse_short Call.Draw (Reply.Id x) h = tt
+inverse_short (Call.Spend n) Reply.Yes h = tt
 inverse_short c r h = tt
 
 -- The call that takes back what was answered so is short.
@@ -162,6 +175,7 @@ content_after (InMap m) c r h l = map_after m c r h l
 content_after (InQueue q) c r h l = tt
 content_after (InCounter n) c r h l = tt
 content_after (InPool s) c r h l = tt
+content_after (InStock n) c r h l = tt
 
 pub short_after : (s : List Collection) (at : ℕ) (c : Call) (r : Reply) → AreShort s →
     AnswersAt s at c r → IsShort c → AreShort (after_at s at c r)
@@ -184,6 +198,7 @@ empty_short Kind.Map = none_short
 empty_short Kind.Queue = tt
 empty_short Kind.Counter = tt
 empty_short Kind.Pool = tt
+empty_short Kind.Stock = tt
 
 pub short_made : (s t : List Collection) (name : List ℕ) (kind : Kind) → Makes s name kind t →
     AreShort s → AreShort t
@@ -207,12 +222,20 @@ listed_short (InMap m) items l a =
 listed_short (InQueue q) items l a = tt
 listed_short (InCounter n) items l a = tt
 listed_short (InPool s) items l a = tt
+listed_short (InStock n) items l a = tt
 
 pub short_loaded : (s t : List Collection) (name : List ℕ) (kind : Kind) (items : List Item) →
     Loads s name kind items t → AllByRecursion IsShortItem items → AreShort s → AreShort t
 short_loaded s t name kind items m a h =
     subst AreShort (sym m.is) (short_more s (record { name = name; content = m.content })
     (listed_short m.content items m.lists a) h)
+
+-- So many runs reach a stock exactly where they reach its number.
+stock_within : (v n : ℕ) → counters.IsWithin (pos v) n → stocks.IsWithin v n
+stock_within v n w = let h = w.high in omega (arith, ints)
+
+number_within : (v n : ℕ) → stocks.IsWithin v n → counters.IsWithin (pos v) n
+number_within v n w = record { low = omega (arith, ints); high = omega (arith, ints) }
 
 listed_reached : (n : ℕ) (k : Content) (items : List Item) → ListsContent items k →
     AllByRecursion (IsReached n) items → Reaches k n
@@ -222,6 +245,9 @@ listed_reached n (InQueue q) items l a = tt
 listed_reached n (InCounter v) items l a = let all = subst (AllByRecursion (IsReached n)) l a in
     all.0
 listed_reached n (InPool s) items l a = tt
+listed_reached n (InStock v) items l a =
+    let all = subst (AllByRecursion (IsReached n)) l a in
+    stock_within v n all.0
 
 pub within_loaded : (n : ℕ) (s t : List Collection) (name : List ℕ) (kind : Kind)
     (items : List Item) → Loads s name kind items t → AllByRecursion (IsReached n) items →
@@ -264,6 +290,8 @@ items_reached n (InCounter v) items lists reached =
 items_reached n (InPool s) items lists reached =
     subst (AllByRecursion (IsReached n)) (sym lists.are)
     (none_bound n Item.Element (λ x. tt) lists.numbers)
+items_reached n (InStock v) items lists reached =
+    subst (AllByRecursion (IsReached n)) (sym lists) (number_within v n reached, tt)
 
 -- ---- the items of a content
 
@@ -341,3 +369,5 @@ content_items (InCounter n) items short lists =
     subst (AreItems Kind.Counter) (sym lists) ((tt, tt), tt)
 content_items (InPool s) items short lists =
     subst (AreItems Kind.Pool) (sym lists.are) (pool_are lists.numbers)
+content_items (InStock n) items short lists =
+    subst (AreItems Kind.Stock) (sym lists) ((tt, tt), tt)

@@ -1,4 +1,6 @@
+pub mod ScriptAddresses
 pub mod ScriptLines
 pub mod ScriptPhrases
 pub mod ScriptWords
 pub mod ScriptOperations
+pub mod WishLemmas

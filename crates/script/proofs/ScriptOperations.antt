@@ -59,6 +59,10 @@ said_has (Operation.Call Call.Draw) v args can same = absurd (one_of_two Verb.Dr
 said_has (Operation.Call (Call.Release x)) v args can same =
     fits Verb.Release v (decimal x) args same (x, can, refl)
 said_has (Operation.Call (Call.Free x)) v args can same = absurd can
+said_has (Operation.Call (Call.Spend n)) v args can same =
+    fits Verb.Spend v (decimal n) args same (n, can, refl)
+said_has (Operation.Call Call.Level) v args can same = absurd (one_of_two Verb.Level v args same)
+said_has (Operation.Call (Call.Fill n)) v args can same = absurd can
 
 -- the verbs that stand alone
 abbrev pub IsAlone : Verb → Type 0
@@ -66,6 +70,7 @@ IsAlone Verb.Take = Unit {0}
 IsAlone Verb.Least = Unit {0}
 IsAlone Verb.Read = Unit {0}
 IsAlone Verb.Draw = Unit {0}
+IsAlone Verb.Level = Unit {0}
 IsAlone v = ⊥
 
 lone : (v w : Verb) → ◌≡◌ {A = Option (Verb × Option (List ℕ))} (Some (v, None)) (Some (w, None)) →
@@ -100,6 +105,9 @@ said_alone (Operation.Call Call.Read) v can same = lone Verb.Read v same tt
 said_alone (Operation.Call Call.Draw) v can same = lone Verb.Draw v same tt
 said_alone (Operation.Call (Call.Release x)) v can same = absurd (two_of_one Verb.Release v _ same)
 said_alone (Operation.Call (Call.Free x)) v can same = absurd can
+said_alone (Operation.Call (Call.Spend n)) v can same = absurd (two_of_one Verb.Spend v _ same)
+said_alone (Operation.Call Call.Level) v can same = lone Verb.Level v same tt
+said_alone (Operation.Call (Call.Fill n)) v can same = absurd can
 
 -- ---- one key, and two words
 
@@ -118,6 +126,8 @@ keyed_has Verb.Bump text a p b has = absurd (b refl)
 keyed_has Verb.Read text a p b has = absurd has
 keyed_has Verb.Draw text a p b has = absurd has
 keyed_has Verb.Release text a p b has = (tt, has)
+keyed_has Verb.Spend text a p b has = (tt, has)
+keyed_has Verb.Level text a p b has = absurd has
 
 -- what is found of a key is found of the verb with it
 pub on_key_gives : (found : Option Operation) (v : Verb) (key : ℕ) (text : List ℕ) →
@@ -172,6 +182,8 @@ verb_whole Verb.Bump = whole_by_test (codes "bump") refl
 verb_whole Verb.Read = whole_by_test (codes "read") refl
 verb_whole Verb.Draw = whole_by_test (codes "draw") refl
 verb_whole Verb.Release = whole_by_test (codes "release") refl
+verb_whole Verb.Spend = whole_by_test (codes "spend") refl
+verb_whole Verb.Level = whole_by_test (codes "level") refl
 
 -- the verb that a text is: its first, second or third letter tells
 abbrev read_verb : List ℕ → Verb
@@ -180,6 +192,8 @@ read_verb t =
     else if get_or t 0 0 == 98 then Verb.Bump
     else if get_or t 0 0 == 100 then Verb.Draw
     else if get_or t 0 0 == 103 then Verb.Get
+    else if get_or t 0 0 == 115 then Verb.Spend
+    else if get_or t 2 0 == 118 then Verb.Level
     else if get_or t 0 0 == 108 then Verb.Least
     else if get_or t 0 0 == 112 then Verb.Put
     else if get_or t 0 0 == 116 then Verb.Take
@@ -202,6 +216,8 @@ read_back Verb.Bump = refl
 read_back Verb.Read = refl
 read_back Verb.Draw = refl
 read_back Verb.Release = refl
+read_back Verb.Spend = refl
+read_back Verb.Level = refl
 
 -- no two verbs are one text
 pub same_verb : (v w : Verb) → verb_text v ≡ verb_text w → v ≡ w
@@ -210,11 +226,12 @@ same_verb v w is = sym (read_back v) ∙ ap read_verb is ∙ read_back w
 -- each verb, in the order of the program's table
 abbrev pub verbs : List Verb
 verbs = Verb.Contains ∷ Verb.Add ∷ Verb.Remove ∷ Verb.Get ∷ Verb.Put ∷ Verb.Ceiling ∷
-    Verb.Take ∷ Verb.Least ∷ Verb.Bump ∷ Verb.Read ∷ Verb.Draw ∷ Verb.Release ∷ []
+    Verb.Take ∷ Verb.Least ∷ Verb.Bump ∷ Verb.Read ∷ Verb.Draw ∷ Verb.Release ∷
+    Verb.Spend ∷ Verb.Level ∷ []
 
 -- a text that is none of the table's verbs is no verb
 pub no_verb : (text : List ℕ) →
-    ((k : ℕ) → k < 12 → text ≡ verb_text (get_or verbs k Verb.Add) → ⊥) → (v : Verb) →
+    ((k : ℕ) → k < 14 → text ≡ verb_text (get_or verbs k Verb.Add) → ⊥) → (v : Verb) →
     text ≡ verb_text v → ⊥
 no_verb text none Verb.Contains = none 0 (omega arith)
 no_verb text none Verb.Add = none 1 (omega arith)
@@ -228,6 +245,8 @@ no_verb text none Verb.Bump = none 8 (omega arith)
 no_verb text none Verb.Read = none 9 (omega arith)
 no_verb text none Verb.Draw = none 10 (omega arith)
 no_verb text none Verb.Release = none 11 (omega arith)
+no_verb text none Verb.Spend = none 12 (omega arith)
+no_verb text none Verb.Level = none 13 (omega arith)
 
 -- what is found behind a verb is found behind the word
 pub word_gives : {E : Type 0} (r : Result (Option Operation) E) (v : Verb) (word rest : List ℕ) →
@@ -272,6 +291,9 @@ can_said (Operation.Call Call.Read) can e = cc
 can_said (Operation.Call Call.Draw) can e = cc
 can_said (Operation.Call (Call.Release x)) can e = cc
 can_said (Operation.Call (Call.Free x)) can e = can
+can_said (Operation.Call (Call.Spend n)) can e = cc
+can_said (Operation.Call Call.Level) can e = cc
+can_said (Operation.Call (Call.Fill n)) can e = can
 
 nothing_else : (word rest : List ℕ) → word ++ 32 ∷ rest ≡ [] → ⊥
 nothing_else [] rest e = cc

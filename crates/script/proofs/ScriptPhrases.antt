@@ -1,5 +1,5 @@
 -- What a text asks for is told by its first words.
-use Rattle.std.proofs.Common.{◌≡◌, ◌≢◌, ℕ, ◌+◌, ◌*◌, List, ◌∷◌, ◌++◌, get_or, All}
+use Rattle.std.proofs.Common.{◌≡◌, ◌≢◌, ℕ, ◌+◌, ◌*◌, ◌<◌, ◌^◌, List, ◌∷◌, ◌++◌, get_or, All}
 use Rattle.std.proofs.Common.{ℤ, sym, subst, ◌∙◌, ap, arith, codes, Option, Some, None, Result, Ok}
 use Rattle.std.proofs.Common.{Err, Bool, false}
 use Rattle.std.specs.Prelude.{IfOk, MatchOption, IsTrue, ◌↔◌}
@@ -14,7 +14,8 @@ use Rattle.script.specs.declared.action.Request.{Request}
 use Rattle.script.specs.declared.action.Action.{Action}
 use Rattle.calls.specs.Contents.{kind_text}
 use Rattle.calls.proofs.KindLaws.{kind_whole}
-use Rattle.script.specs.ScriptTexts.{IsWord, IsClient, CanBeDone, operation_text}
+use Rattle.script.specs.ScriptTexts.{IsWord, IsClient, CanBeDone, operation_text, CanBePutOff}
+use Rattle.script.specs.ScriptTexts.{later_text}
 use Rattle.script.specs.ScriptTexts.{request_text, IsRequestOf, IsMakeOf, IsCallOf, IsLaterOf}
 use Rattle.script.specs.ScriptTexts.{IsClientLine, IsLineOf}
 use Rattle.std.specs.Fmt.{decimal, signed_decimal}
@@ -43,43 +44,75 @@ call_is_back text front back (Request.Call name o) e first none is =
     none o is.1 (sym parts.1)
 call_is_back text front back r e first none is = is
 
--- ---- bumps that are put off
+-- ---- calls that are put off
 
-abbrev bump_of : ℤ → Operation
-bump_of n = Operation.Call (Call.Bump n)
+-- The first letter of a call that is put off, as a number: a bump and a fill have not the same.
+abbrev initial : List ℕ → ℕ
+initial t = get_or t 0 0
 
--- what is found behind the word bump is found in the whole text
-pub bump_gives : (found : Option ℤ) (text rest : List ℕ) → text ≡ codes "bump " ++ rest →
+-- behind the word bump stands a number, and behind the word fill
+bump_is_number : (text rest : List ℕ) (c : Call) → text ≡ codes "bump " ++ rest →
+    ((n : ℤ) → FitsSigned w64 n → rest ≡ signed_decimal n → ⊥) → CanBePutOff c →
+    text ≡ later_text c → ⊥
+bump_is_number text rest (Call.Bump n) e none can is =
+    none n can (append_cancel_left (codes "bump ") rest (signed_decimal n) (sym e ∙ is))
+bump_is_number text rest (Call.Fill n) e none can is =
+    let other = ap initial (sym e ∙ is) in absurd (omega arith)
+bump_is_number text rest c e none can is = can
+
+fill_is_number : (text rest : List ℕ) (c : Call) → text ≡ codes "fill " ++ rest →
+    ((n : ℕ) → n < 2 ^ 64 → rest ≡ decimal n → ⊥) → CanBePutOff c → text ≡ later_text c → ⊥
+fill_is_number text rest (Call.Bump n) e none can is =
+    let other = ap initial (sym e ∙ is) in absurd (omega arith)
+fill_is_number text rest (Call.Fill n) e none can is =
+    none n can (append_cancel_left (codes "fill ") rest (decimal n) (sym e ∙ is))
+fill_is_number text rest c e none can is = can
+
+-- what is found of the number is found of the whole text
+pub bump_gives : (found : Option Call) (text rest : List ℕ) → text ≡ codes "bump " ++ rest →
     MatchOption found ((n : ℤ) → FitsSigned w64 n → rest ≡ signed_decimal n → ⊥)
-    (λ n. FitsSigned w64 n × (rest ≡ signed_decimal n)) →
-    MatchOption found ((n : ℤ) → FitsSigned w64 n → text ≡ operation_text (bump_of n) → ⊥)
-    (λ n. FitsSigned w64 n × (text ≡ operation_text (bump_of n)))
-bump_gives None text rest e none =
-    λ n fits is. none n fits (append_cancel_left (codes "bump ") rest (signed_decimal n)
-    (sym e ∙ is))
-bump_gives (Some n) text rest e is = (is.0, e ∙ ap (λ (t : List ℕ). codes "bump " ++ t) is.1)
+    (λ c. CanBePutOff c × (later_text c ≡ codes "bump " ++ rest)) →
+    MatchOption found ((c : Call) → CanBePutOff c → text ≡ later_text c → ⊥)
+    (λ c. CanBePutOff c × (text ≡ later_text c))
+bump_gives None text rest e none = λ c. bump_is_number text rest c e none
+bump_gives (Some c) text rest e is = (is.0, e ∙ sym is.1)
 
--- what is put off is said as a call of the same bump is
+pub fill_gives : (found : Option Call) (text rest : List ℕ) → text ≡ codes "fill " ++ rest →
+    MatchOption found ((n : ℕ) → n < 2 ^ 64 → rest ≡ decimal n → ⊥)
+    (λ c. CanBePutOff c × (later_text c ≡ codes "fill " ++ rest)) →
+    MatchOption found ((c : Call) → CanBePutOff c → text ≡ later_text c → ⊥)
+    (λ c. CanBePutOff c × (text ≡ later_text c))
+fill_gives None text rest e none = λ c. fill_is_number text rest c e none
+fill_gives (Some c) text rest e is = (is.0, e ∙ sym is.1)
+
+-- a text of neither word puts nothing off
+pub no_later : (text : List ℕ) (c : Call) →
+    ((rest : List ℕ) → text ≡ codes "bump " ++ rest → ⊥) →
+    ((rest : List ℕ) → text ≡ codes "fill " ++ rest → ⊥) → CanBePutOff c → text ≡ later_text c → ⊥
+no_later text (Call.Bump n) b f can is = b (signed_decimal n) is
+no_later text (Call.Fill n) b f can is = f (decimal n) is
+no_later text c b f can is = can
+
 pub no_later_without_space : (text : List ℕ) (r : Request) → All (λ b. b ≢ 32) text →
     IsLaterOf r text → ⊥
-no_later_without_space text (Request.Later name n) whole is =
-    no_call_without_space text (Request.Call name (bump_of n)) whole is
+no_later_without_space text (Request.Later name c) whole is =
+    not_whole 32 text name (later_text c) is.2 whole
 no_later_without_space text r whole is = is
 
 pub later_name_is_front : (text front back : List ℕ) (r : Request) → text ≡ front ++ 32 ∷ back →
     All (λ b. b ≢ 32) front → IsLaterOf r text → IsWord front
-later_name_is_front text front back (Request.Later name n) e first is =
-    name_is_front text front back (Request.Call name (bump_of n)) e first is
+later_name_is_front text front back (Request.Later name c) e first is =
+    let parts = same_split 32 name (later_text c) front back (sym is.2 ∙ e) is.0.whole first in
+    subst IsWord parts.0 is.0
 later_name_is_front text front back r e first is = absurd is
 
-pub bump_is_back : (text front back : List ℕ) (r : Request) → text ≡ front ++ 32 ∷ back →
-    All (λ b. b ≢ 32) front → ((n : ℤ) → FitsSigned w64 n → back ≡ operation_text (bump_of n) → ⊥) →
+pub later_is_back : (text front back : List ℕ) (r : Request) → text ≡ front ++ 32 ∷ back →
+    All (λ b. b ≢ 32) front → ((c : Call) → CanBePutOff c → back ≡ later_text c → ⊥) →
     IsLaterOf r text → ⊥
-bump_is_back text front back (Request.Later name n) e first none is =
-    let parts = same_split 32 name (operation_text (bump_of n)) front back (sym is.2 ∙ e) is.0.whole
-    first in
-    none n is.1 (sym parts.1)
-bump_is_back text front back r e first none is = is
+later_is_back text front back (Request.Later name c) e first none is =
+    let parts = same_split 32 name (later_text c) front back (sym is.2 ∙ e) is.0.whole first in
+    none c is.1 (sym parts.1)
+later_is_back text front back r e first none is = is
 
 -- ---- makings
 
@@ -129,21 +162,21 @@ call_is_request text rest (Request.Call name o) e is =
     record { said = (is.0, is.1); is = e ∙ ap (λ (t : List ℕ). codes "call " ++ t) is.2 }
 call_is_request text rest r e is = absurd is
 
--- behind the word later stands a bump and nothing else
+-- behind the word later stands a call that is put off and nothing else
 request_is_later : (text rest : List ℕ) (r : Request) → text ≡ codes "later " ++ rest →
     IsRequestOf r text → IsLaterOf r rest
-request_is_later text rest (Request.Later name n) e is = (
+request_is_later text rest (Request.Later name c) e is = (
   is.said.0,
   is.said.1,
-  append_cancel_left (codes "later ") rest
-      (name ++ 32 ∷ operation_text (bump_of n)) (sym e ∙ is.is),
+  append_cancel_left (codes "later ") rest (name ++ 32 ∷ later_text c)
+      (sym e ∙ is.is),
 )
 request_is_later text rest r e is =
     let other = ap letters (sym e ∙ is.is) in absurd (omega arith)
 
 later_is_request : (text rest : List ℕ) (r : Request) → text ≡ codes "later " ++ rest →
     IsLaterOf r rest → IsRequestOf r text
-later_is_request text rest (Request.Later name n) e is =
+later_is_request text rest (Request.Later name c) e is =
     record { said = (is.0, is.1); is = e ∙ ap (λ (t : List ℕ). codes "later " ++ t) is.2 }
 later_is_request text rest r e is = absurd is
 
@@ -169,8 +202,8 @@ pub no_request : (text : List ℕ) (r : Request) → (text ≡ codes "begin" →
 no_request text (Request.Make kind name) b c a k l p m is = m (kind_text kind ++ 32 ∷ name) is.is
 no_request text Request.Begin b c a k l p m is = b is.is
 no_request text (Request.Call name o) b c a k l p m is = l (name ++ 32 ∷ operation_text o) is.is
-no_request text (Request.Later name n) b c a k l p m is =
-    p (name ++ 32 ∷ operation_text (bump_of n)) is.is
+no_request text (Request.Later name call) b c a k l p m is =
+    p (name ++ 32 ∷ later_text call) is.is
 no_request text Request.Commit b c a k l p m is = c is.is
 no_request text Request.Abort b c a k l p m is = a is.is
 no_request text Request.Kept b c a k l p m is = k is.is

@@ -1,2 +1,4 @@
+pub mod Addresses
 pub mod ScriptTexts
 pub mod Scripts
+pub mod Wishes

@@ -39,6 +39,8 @@ verb_text Verb.Bump = codes "bump"
 verb_text Verb.Read = codes "read"
 verb_text Verb.Draw = codes "draw"
 verb_text Verb.Release = codes "release"
+verb_text Verb.Spend = codes "spend"
+verb_text Verb.Level = codes "level"
 
 -- The verb of an operation, and what stands behind it, if anything. No other operation is said.
 abbrev pub said : Operation → Option (Verb × Option (List ℕ))
@@ -55,6 +57,8 @@ said (Operation.Call (Call.Bump n)) = Some (Verb.Bump, Some (signed_decimal n))
 said (Operation.Call Call.Read) = Some (Verb.Read, None)
 said (Operation.Call Call.Draw) = Some (Verb.Draw, None)
 said (Operation.Call (Call.Release x)) = Some (Verb.Release, Some (decimal x))
+said (Operation.Call (Call.Spend n)) = Some (Verb.Spend, Some (decimal n))
+said (Operation.Call Call.Level) = Some (Verb.Level, None)
 said (Operation.Call c) = None
 
 abbrev pub said_text : Option (Verb × Option (List ℕ)) → List ℕ
@@ -80,6 +84,8 @@ CanBeDone (Operation.Call (Call.Bump n)) = FitsSigned w64 n
 CanBeDone (Operation.Call Call.Read) = Unit {0}
 CanBeDone (Operation.Call Call.Draw) = Unit {0}
 CanBeDone (Operation.Call (Call.Release x)) = x < 2 ^ 64
+CanBeDone (Operation.Call (Call.Spend n)) = n < 2 ^ 64
+CanBeDone (Operation.Call Call.Level) = Unit {0}
 CanBeDone (Operation.Call c) = ⊥
 
 -- the text is a number of 64 bits
@@ -98,6 +104,7 @@ HasArguments Verb.Put text = (k : ℕ) × (v : List ℕ) × (k < 2 ^ 64) × All 
 HasArguments Verb.Ceiling text = IsKey text
 HasArguments Verb.Bump text = (n : ℤ) × FitsSigned w64 n × (text ≡ signed_decimal n)
 HasArguments Verb.Release text = IsKey text
+HasArguments Verb.Spend text = IsKey text
 HasArguments verb text = ⊥
 
 -- a verb behind which one key stands, and nothing else
@@ -107,7 +114,21 @@ IsKeyed Verb.Remove = Unit {0}
 IsKeyed Verb.Get = Unit {0}
 IsKeyed Verb.Ceiling = Unit {0}
 IsKeyed Verb.Release = Unit {0}
+IsKeyed Verb.Spend = Unit {0}
 IsKeyed verb = ⊥
+
+-- ---- calls that are put off
+
+-- a bump or a fill; no other call is put off
+abbrev pub later_text : Call → List ℕ
+later_text (Call.Bump n) = codes "bump " ++ signed_decimal n
+later_text (Call.Fill n) = codes "fill " ++ decimal n
+later_text c = []
+
+abbrev pub CanBePutOff : Call → Type 0
+CanBePutOff (Call.Bump n) = FitsSigned w64 n
+CanBePutOff (Call.Fill n) = n < 2 ^ 64
+CanBePutOff c = ⊥
 
 -- ---- requests
 
@@ -115,8 +136,7 @@ abbrev pub request_text : Request → List ℕ
 request_text (Request.Make kind name) = codes "make " ++ (kind_text kind ++ 32 ∷ name)
 request_text Request.Begin = codes "begin"
 request_text (Request.Call name o) = codes "call " ++ (name ++ 32 ∷ operation_text o)
-request_text (Request.Later name by) =
-    codes "later " ++ (name ++ 32 ∷ operation_text (Operation.Call (Call.Bump by)))
+request_text (Request.Later name c) = codes "later " ++ (name ++ 32 ∷ later_text c)
 request_text Request.Commit = codes "commit"
 request_text Request.Abort = codes "abort"
 request_text Request.Kept = codes "kept"
@@ -137,7 +157,7 @@ abbrev pub CanBeAsked : Request → Type 0
 CanBeAsked (Request.Make kind name) = IsWord name
 CanBeAsked Request.Begin = Unit {0}
 CanBeAsked (Request.Call name o) = IsWord name × CanBeDone o
-CanBeAsked (Request.Later name by) = IsWord name × FitsSigned w64 by
+CanBeAsked (Request.Later name c) = IsWord name × CanBePutOff c
 CanBeAsked Request.Commit = Unit {0}
 CanBeAsked Request.Abort = Unit {0}
 CanBeAsked Request.Kept = Unit {0}
@@ -163,11 +183,10 @@ IsCallOf (Request.Call name o) text =
     IsWord name × CanBeDone o × (text ≡ name ++ 32 ∷ operation_text o)
 IsCallOf r text = ⊥
 
--- the text, behind the word later, asks for this bump
+-- the text, behind the word later, asks for this call
 abbrev pub IsLaterOf : Request → List ℕ → Type 0
-IsLaterOf (Request.Later name by) text =
-    IsWord name × FitsSigned w64 by ×
-    (text ≡ name ++ 32 ∷ operation_text (Operation.Call (Call.Bump by)))
+IsLaterOf (Request.Later name c) text =
+    IsWord name × CanBePutOff c × (text ≡ name ++ 32 ∷ later_text c)
 IsLaterOf r text = ⊥
 
 -- the text, behind the letter c, asks for this

@@ -20,8 +20,8 @@ pub enum Request {
     Begin,
     /// An operation on the collection of the name.
     Call(Name, Operation),
-    /// A bump of the counter of the name is put off to the commit.
-    Later(Name, i64),
+    /// The call, a bump or a fill, on the collection of the name is put off to the commit.
+    Later(Name, Call),
     /// The transaction is committed.
     Commit,
     /// The transaction is taken back.

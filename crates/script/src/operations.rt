@@ -27,10 +27,12 @@ pub enum Verb {
     Read,
     Draw,
     Release,
+    Spend,
+    Level,
 }
 
 // Each verb.
-const VERBS: [Verb; 12] = [
+const VERBS: [Verb; 14] = [
     Verb::Contains,
     Verb::Add,
     Verb::Remove,
@@ -43,6 +45,8 @@ const VERBS: [Verb; 12] = [
     Verb::Read,
     Verb::Draw,
     Verb::Release,
+    Verb::Spend,
+    Verb::Level,
 ];
 
 impl Verb {
@@ -65,6 +69,8 @@ impl Verb {
             Verb::Read => "read",
             Verb::Draw => "draw",
             Verb::Release => "release",
+            Verb::Spend => "spend",
+            Verb::Level => "level",
         }
     }
 }
@@ -92,6 +98,7 @@ fn alone(verb: Verb) -> Option<Operation>
         Verb::Least => Some(Operation::Call(Call::Least)),
         Verb::Read => Some(Operation::Call(Call::Read)),
         Verb::Draw => Some(Operation::Call(Call::Draw)),
+        Verb::Level => Some(Operation::Call(Call::Level)),
         _ => None,
     }
 }
@@ -107,6 +114,7 @@ fn keyed(verb: Verb, key: u64) -> Option<Operation>
         Verb::Get => Some(Operation::Call(Call::Get(key))),
         Verb::Ceiling => Some(Operation::Call(Call::Ceiling(key))),
         Verb::Release => Some(Operation::Call(Call::Release(key))),
+        Verb::Spend => Some(Operation::Call(Call::Spend(key))),
         _ => None,
     }
 }

@@ -1,22 +1,22 @@
 // What a line asks for.
-ghost use Rattle.std.specs.Prelude.{◌≡◌, ℤ, IfOk, MatchOption};
+ghost use Rattle.std.specs.Prelude.{◌≡◌, ℕ, ◌<◌, ◌^◌, ℤ, ◌++◌, codes, IfOk, MatchOption};
 ghost use Rattle.std.specs.Int.{w64};
 ghost use Rattle.std.specs.Int.RustNames.{FitsSigned};
+ghost use Rattle.std.specs.Fmt.{decimal, signed_decimal};
 ghost use Rattle.calls.specs.declared.call.Call.{Call};
-ghost use Rattle.script.specs.declared.action.Operation.{Operation};
 ghost use Rattle.script.specs.declared.action.Request.{Request};
 ghost use Rattle.script.specs.declared.action.Action.{Action};
 ghost use Rattle.script.specs.ScriptTexts.{IsRequestOf, IsLineOf, IsClientLine, IsMakeOf, IsCallOf};
-ghost use Rattle.script.specs.ScriptTexts.{IsLaterOf, operation_text};
+ghost use Rattle.script.specs.ScriptTexts.{IsLaterOf, CanBePutOff, later_text};
 
 use crate::action::{Action, Request};
 use crate::operations::operation;
-use crate::words::{behind, client, number, same, split_at_byte, word};
-use calls::Kind;
+use crate::words::{behind, client, natural, number, same, split_at_byte, word};
+use calls::{Call, Kind};
 use std::alloc::{AllocError, Global};
 
 // What stands behind the word call.
-fn called(alloc: Global, text: &[u8]) -> Result<Option<Request>, AllocError>
+pub fn called(alloc: Global, text: &[u8]) -> Result<Option<Request>, AllocError>
     ensures { IfOk result (λ found. MatchOption found ((r : Request) → IsCallOf r text.now → ⊥)
         (λ r. IsCallOf r text.now)) }
 {
@@ -32,31 +32,55 @@ fn called(alloc: Global, text: &[u8]) -> Result<Option<Request>, AllocError>
     }
 }
 
-// By how much a bump is.
-fn bump(text: &[u8]) -> Option<i64>
-    ensures { MatchOption result
-        ((n : ℤ) → FitsSigned w64 n → text.now ≡ operation_text (Operation.Call (Call.Bump n)) → ⊥)
-        (λ n. FitsSigned w64 n × (text.now ≡ operation_text (Operation.Call (Call.Bump n)))) }
+// The bump of a number.
+fn bump(text: &[u8]) -> Option<Call>
+    ensures { MatchOption result ((n : ℤ) → FitsSigned w64 n → text.now ≡ signed_decimal n → ⊥)
+        (λ c. CanBePutOff c × (later_text c ≡ codes "bump " ++ text.now)) }
 {
-    match behind(text, b"bump ") {
-        Some(rest) => number(rest),
+    match number(text) {
+        Some(by) => Some(Call::Bump(by)),
+        None => None,
+    }
+}
+
+// The fill of a number.
+fn fill(text: &[u8]) -> Option<Call>
+    ensures { MatchOption result ((n : ℕ) → n < 2 ^ 64 → text.now ≡ decimal n → ⊥)
+        (λ c. CanBePutOff c × (later_text c ≡ codes "fill " ++ text.now)) }
+{
+    match natural(text) {
+        Some(amount) => Some(Call::Fill(amount)),
+        None => None,
+    }
+}
+
+// The call that the text puts off.
+fn deferred(text: &[u8]) -> Option<Call>
+    ensures { MatchOption result ((c : Call) → CanBePutOff c → text.now ≡ later_text c → ⊥)
+        (λ c. CanBePutOff c × (text.now ≡ later_text c)) }
+{
+    if let Some(rest) = behind(text, b"bump ") {
+        return bump(rest);
+    }
+    match behind(text, b"fill ") {
+        Some(rest) => fill(rest),
         None => None,
     }
 }
 
 // What stands behind the word later.
-fn put_off(alloc: Global, text: &[u8]) -> Result<Option<Request>, AllocError>
+pub fn put_off(alloc: Global, text: &[u8]) -> Result<Option<Request>, AllocError>
     ensures { IfOk result (λ found. MatchOption found ((r : Request) → IsLaterOf r text.now → ⊥)
         (λ r. IsLaterOf r text.now)) }
 {
     let Some((front, back)) = split_at_byte(text, b' ') else {
         return Ok(None);
     };
-    let Some(by) = bump(back) else {
+    let Some(call) = deferred(back) else {
         return Ok(None);
     };
     match word(alloc, front)? {
-        Some(name) => Ok(Some(Request::Later(name, by))),
+        Some(name) => Ok(Some(Request::Later(name, call))),
         None => Ok(None),
     }
 }
@@ -79,7 +103,7 @@ fn made(alloc: Global, text: &[u8]) -> Result<Option<Request>, AllocError>
 }
 
 // What a client asks for.
-fn request(alloc: Global, text: &[u8]) -> Result<Option<Request>, AllocError>
+pub fn request(alloc: Global, text: &[u8]) -> Result<Option<Request>, AllocError>
     ensures { IfOk result (λ found. MatchOption found ((r : Request) → IsRequestOf r text.now → ⊥)
         (λ r. IsRequestOf r text.now)) }
 {

@@ -23,14 +23,17 @@ returns c =
     let third_is = with_gives c.serve_command.result app_of
     (λ command. (out-Command command).has_globals) _ _ _ _
     c.serve_command.ensures c.in_ok-program-3.ensures second_is in
-    let fourth_is = with_gives c.disk_command.result app_of
+    let fourth_is = with_gives c.listen_command.result app_of
     (λ command. (out-Command command).has_globals) _ _ _ _
-    c.disk_command.ensures c.in_ok-program-4.ensures third_is in
-    let fifth_is = with_gives c.disk_command-2.result app_of
+    c.listen_command.ensures c.in_ok-program-4.ensures third_is in
+    let fifth_is = with_gives c.disk_command.result app_of
     (λ command. (out-Command command).has_globals) _ _ _ _
-    c.disk_command-2.ensures c.in_ok-program-5.ensures fourth_is in
+    c.disk_command.ensures c.in_ok-program-5.ensures fourth_is in
+    let sixth_is = with_gives c.disk_command-2.result app_of
+    (λ command. (out-Command command).has_globals) _ _ _ _
+    c.disk_command-2.ensures c.in_ok-program-6.ensures fifth_is in
     IfOk-weaker c.subcommand.result _ _
     (λ whole h. h.shape (ap (λ f. f.has_globals) c.about-2.ensures ∙ c.new-2.ensures.local) ∙
-    ap₂ with_subcommand fifth_is
+    ap₂ with_subcommand sixth_is
     (ap top (ap app_of_fields c.about-2.ensures ∙ c.new-2.ensures.app)))
     c.subcommand.ensures

@@ -161,12 +161,21 @@ impl BookBench {
     fn make_calls(&mut self, place: u8, call: &Call, times: u32) -> Result<(), Refusal> {
         self.book.enter(self.number)?;
         for _ in 0..times {
-            self.book.call(self.number, place, call)?;
+            self.ask(place, call)?;
             self.made = self.made.wrapping_add(1);
             if self.made % BETWEEN_CUTS == 0 {
                 self.let_go()?;
             }
         }
+        Ok(())
+    }
+
+    // Makes a call, or puts a fill off, on the collection of that place.
+    fn ask(&mut self, place: u8, call: &Call) -> Result<(), Refusal> {
+        if let Call::Fill(_) = call {
+            return self.book.later(self.number, place, call);
+        }
+        self.book.call(self.number, place, call)?;
         Ok(())
     }
 

@@ -1,5 +1,6 @@
 // The calls that clients make.
 use crate::bench::workload::Workload;
+use calls::limits::MAX_AMOUNT;
 use calls::{Bytes, Call, Kind};
 use rand_core::utils::NextWord;
 use rand_pcg::Pcg32;
@@ -18,7 +19,8 @@ pub struct Content {
     pub workload: Workload,
     /// The name of the collection.
     pub collection: &'static str,
-    /// How many calls made it, which is how many entries it has; of a counter it is its number.
+    /// How many calls made it, which is how many entries it has; of a counter it is its number, and
+    /// a stock is filled so often.
     pub size: u32,
 }
 
@@ -43,6 +45,7 @@ impl Content {
             Kind::Queue => Ok(Call::QueueAdd(priority(numbers), tag(u64::MAX, number))),
             Kind::Map => Ok(Call::Put(number, value(alloc, b'v')?)),
             Kind::Pool => Ok(Call::Draw),
+            Kind::Stock => Ok(Call::Fill(MAX_AMOUNT)),
             _ => Ok(Call::Bump(1)),
         }
     }
@@ -67,6 +70,7 @@ impl Content {
                 Ok(Call::Put(key, value(alloc, b'a')?))
             }
             Kind::Pool => Ok(Call::Draw),
+            Kind::Stock => Ok(Call::Spend(1)),
             _ => Ok(Call::Bump(1)),
         }
     }

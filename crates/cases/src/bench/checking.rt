@@ -2,6 +2,7 @@
 use crate::bench::log::Log;
 use crate::bench::outcome::Outcome;
 use crate::bench::workload::Workload;
+use calls::limits::MAX_AMOUNT;
 use calls::{Item, Kind, Refusal};
 use catalog::Catalog;
 use std::alloc::{AllocError, Global};
@@ -9,7 +10,7 @@ use std::alloc::{AllocError, Global};
 /// Whether the content of a store is what its clients were told: the counter's number is the count
 /// of calls; no identifier was drawn twice, and all that were drawn are taken; no job was taken
 /// twice, and those are left that were put and not taken; all keys are there, of the maps beside
-/// which images were written too.
+/// which images were written too; of a stock there is left what was not spent.
 pub fn is_right(
     alloc: Global,
     catalog: &Catalog,
@@ -27,6 +28,10 @@ pub fn is_right(
             Ok(are_once && count.wrapping_add(taken) == outcome.put().wrapping_add(first))
         }
         Kind::Map => Ok(count == first),
+        Kind::Stock => {
+            let left = i128::from(MAX_AMOUNT) - i128::from(outcome.commits());
+            Ok(total(items) == Some(left))
+        }
         _ => {
             let calls = outcome.commits().wrapping_mul(u64::from(workload.calls()));
             Ok(total(items) == Some(i128::from(calls)) && has_all_keys(catalog, workload)?)
@@ -45,7 +50,7 @@ fn has_all_keys(catalog: &Catalog, workload: Workload) -> Result<bool, Refusal> 
     Ok(true)
 }
 
-/// The number of the counter that these are the items of.
+/// The number of the counter, or of the stock, that these are the items of.
 pub fn total(items: &[Item]) -> Option<i128> {
     match items {
         [Item::Number(total)] => Some(*total),

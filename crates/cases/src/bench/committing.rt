@@ -1,4 +1,5 @@
 // Transactions of the same call.
+use crate::asking::ask;
 use crate::bench::calling::Content;
 use background::{Transaction, transact};
 use calls::{Call, Refusal, Reply};
@@ -37,9 +38,9 @@ impl Transaction for SameCall {
         client: &mut Client<'_, J>,
     ) -> Result<Reply, Refusal> {
         for _ in 1..self.count {
-            client.call(rt, self.collection, &self.call)?;
+            ask(rt, client, self.collection, &self.call)?;
         }
-        client.call(rt, self.collection, &self.call)
+        ask(rt, client, self.collection, &self.call)
     }
 }
 

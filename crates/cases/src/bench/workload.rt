@@ -16,6 +16,8 @@ pub enum Workload {
     IdsMillion,
     /// Each puts a value of 100 bytes at a random key of 100,000, all of which are there.
     Map,
+    /// Each spends 1 of the one stock, in which there are 2^63 - 1 at the start.
+    Stock,
     /// Each adds 1 to the one counter 1,024 times in a transaction.
     Long,
     /// One adds 1 to the counter, again and again, and waits for the last time alone.
@@ -53,13 +55,14 @@ const MAP_NAMES: [&str; 8] = [
 ];
 
 // Each with the word for it.
-const WORDS: [(Workload, &str); 15] = [
+const WORDS: [(Workload, &str); 16] = [
     (Workload::Counter, "counter"),
     (Workload::JobQueue, "jobqueue"),
     (Workload::JobQueueMillion, "jobqueue-million"),
     (Workload::Ids, "ids"),
     (Workload::IdsMillion, "ids-million"),
     (Workload::Map, "map"),
+    (Workload::Stock, "stock"),
     (Workload::Long, "long"),
     (Workload::CounterAsync, "counter-async"),
     (Workload::CounterBesideImages, "counter-beside-images"),
@@ -99,6 +102,7 @@ impl Workload {
             Workload::Ids => "ids",
             Workload::IdsMillion => "ids-million",
             Workload::Map => "map",
+            Workload::Stock => "stock",
             Workload::Long => "long",
             Workload::CounterAsync => "counter-async",
             Workload::CounterBesideImages => "counter-beside-images",
@@ -117,6 +121,7 @@ impl Workload {
             Kind::Queue => "jobs",
             Kind::Pool => "ids",
             Kind::Map => "map",
+            Kind::Stock => "stock",
             _ => "hits",
         }
     }
@@ -127,16 +132,18 @@ impl Workload {
             Workload::JobQueue | Workload::JobQueueMillion => Kind::Queue,
             Workload::Ids | Workload::IdsMillion => Kind::Pool,
             Workload::Map => Kind::Map,
+            Workload::Stock => Kind::Stock,
             _ => Kind::Counter,
         }
     }
 
-    /// How many entries that collection has at the start.
+    /// How many calls make what that collection holds at the start.
     pub fn first_count(self) -> u32 {
         match self {
             Workload::JobQueue => 1000,
             Workload::JobQueueMillion | Workload::IdsMillion => 1_000_000,
             Workload::Map => 100_000,
+            Workload::Stock => 1,
             _ => 0,
         }
     }

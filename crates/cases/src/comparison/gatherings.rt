@@ -1,8 +1,9 @@
 // Images of what was gathered beside images taken at once.
-ghost use Rattle.std.specs.Prelude.{◌≡◌, ◌+◌, ◌<◌, ◌^◌, Some, IfOk, IfSome, length, slice_get};
+ghost use Rattle.std.specs.Prelude.{◌≡◌, ◌+◌, ◌<◌, ◌^◌, Some, IfOk, IfSome, IsTrue, length};
+ghost use Rattle.std.specs.Prelude.{slice_get};
 ghost use Rattle.calls.specs.Contents.{AnswersAt};
 ghost use Rattle.calls.specs.Rules.{IsShort};
-ghost use Rattle.cases.specs.Gatherings.{IsGoing, HasRun};
+ghost use Rattle.cases.specs.Gatherings.{IsGoing, HasRun, CanRun};
 
 use crate::comparison::sequence::Sequence;
 use boosted::Boosted;
@@ -27,7 +28,7 @@ const CALLS: u32 = 40;
 // How many keys, elements, priorities and tags there are: few, so that calls meet often.
 const KEYS: u32 = 12;
 
-// Five collections, copies of the first of them, and the calls that were run and not handed over.
+// Six collections, copies of the first of them, and the calls that were run and not handed over.
 #[derive(Drop)]
 struct Gathering {
     catalog: Catalog,
@@ -37,9 +38,9 @@ struct Gathering {
     position: u64,
 }
 
-// Five collections, one of each kind.
-fn five_collections(alloc: Global) -> Result<Catalog, Refusal>
-    ensures { IfOk result (λ catalog. HasRun catalog 5 0) }
+// Six collections, one of each kind.
+fn six_collections(alloc: Global) -> Result<Catalog, Refusal>
+    ensures { IfOk result (λ catalog. HasRun catalog 6 0) }
 {
     let mut catalog = Catalog::new(alloc);
     Parts::make(&mut catalog, "set", Kind::Set)?;
@@ -47,28 +48,36 @@ fn five_collections(alloc: Global) -> Result<Catalog, Refusal>
     Parts::make(&mut catalog, "queue", Kind::Queue)?;
     Parts::make(&mut catalog, "counter", Kind::Counter)?;
     Parts::make(&mut catalog, "pool", Kind::Pool)?;
+    Parts::make(&mut catalog, "stock", Kind::Stock)?;
     Ok(catalog)
 }
 
 impl Gathering {
-    // Nothing is gathered of five collections.
+    // Nothing is gathered of six collections.
     fn new(alloc: Global) -> Result<Self, Refusal>
         ensures { IfOk result IsGoing }
     {
         Ok(Self {
-            catalog: five_collections(alloc)?,
+            catalog: six_collections(alloc)?,
             gather: Gather::new(alloc),
             effects: VecDeque::new(alloc),
             position: 0,
         })
     }
 
-    // Runs the call, if it can be asked.
+    // Whether the call can be asked or put off.
+    fn can_run(&self, at: u8, call: &Call) -> bool
+        ensures { IsTrue result → CanRun self.now.catalog at call.now }
+    {
+        self.catalog.askable(at, call).is_ok() || self.catalog.deferrable(at, call).is_ok()
+    }
+
+    // Runs the call, if it can be asked or put off.
     fn call(&mut self, at: u8, call: Call) -> Result<(), Refusal>
         requires { IsGoing self.old }
         ensures { IsGoing self.new }
     {
-        if self.position >= NUMBER_END || self.catalog.askable(at, &call).is_err() {
+        if self.position >= NUMBER_END || !self.can_run(at, &call) {
             return Ok(());
         }
         let reply = self.catalog.look(at, &call)?;
@@ -143,7 +152,7 @@ impl Gathering {
             next: 1,
             wear: position,
             end: position,
-            place: 5,
+            place: 6,
         };
         gather.freeze(marks, machine.live(), &mut effects)?;
         match gather.pack() {
@@ -157,7 +166,7 @@ impl Gathering {
 fn next_call(sequence: &mut Sequence, alloc: Global) -> Result<(u8, Call), Refusal> {
     let key = u64::from(sequence.below(KEYS));
     let other = u64::from(sequence.below(KEYS));
-    Ok(match sequence.below(12) {
+    Ok(match sequence.below(15) {
         0..=1 => (0, Call::SetAdd(key)),
         2 => (0, Call::SetRemove(key)),
         3..=4 => (
@@ -169,7 +178,9 @@ fn next_call(sequence: &mut Sequence, alloc: Global) -> Result<(u8, Call), Refus
         8 => (2, Call::Take),
         9 => (3, Call::Bump(key as i64 - 6)),
         10 => (4, Call::Draw),
-        _ => (4, Call::Release(key)),
+        11 => (4, Call::Release(key)),
+        12 => (5, Call::Fill(key)),
+        _ => (5, Call::Spend(other)),
     })
 }
 
@@ -196,7 +207,7 @@ fn gather_once(sequence: &mut Sequence, alloc: Global) -> Result<Gathering, Refu
     ensures { IfOk result IsGoing }
 {
     let mut gathering = Gathering::new(alloc)?;
-    for _ in 0..6 {
+    for _ in 0..7 {
         run_some(&mut gathering, sequence, alloc)?;
         gathering.copy_next()?;
         if sequence.below(2) == 0 {

@@ -50,10 +50,12 @@ impl PlainTable {
 // The next need of the sequence: a key, a few keys, or all.
 fn next_need(sequence: &mut Sequence) -> Need {
     let low = u64::from(sequence.below(KEYS));
-    let mode = match sequence.below(3) {
+    let mode = match sequence.below(5) {
         0 => Mode::Read,
         1 => Mode::Write,
-        _ => Mode::Add,
+        2 => Mode::Add,
+        3 => Mode::Take,
+        _ => Mode::Give,
     };
     match sequence.below(20) {
         0 => Need {

@@ -2,7 +2,7 @@
 ghost use Rattle.store.specs.Openings.{IsNamed};
 
 use crate::plays::runs::Ran;
-use boost::{Action, End, Failure, Line, Request, Said, Session, parse, report};
+use boost::{Action, End, Failure, Line, Request, Said, Session, Speaker, parse, report};
 use calls::Refusal;
 use disk_model::Disk;
 use std::alloc::{AllocError, Global};

@@ -4,15 +4,16 @@ use Rattle.std.proofs.Common.{sym, ap, subst}
 use Rattle.std.specs.List.{AllByRecursion}
 use Rattle.calls.specs.declared.call.Call.{Call}
 use Rattle.calls.specs.declared.reply.Reply.{Reply}
+use Rattle.calls.specs.declared.need.Mode.{Mode}
 use Rattle.calls.specs.Rules.{left_by, Apart as CallsApart, inverse_of, Askable, Deferrable}
-use Rattle.calls.specs.Rules.{Disposable}
+use Rattle.calls.specs.Rules.{Disposable, need_of}
 use Rattle.calls.specs.Contents.{Content, Answers, after, Collection, AnswersAt, after_at, does}
 use Rattle.boosted.specs.Meaning.{Apart}
 use Rattle.catalog.specs.Places.{Belongs, IsWithin}
 use Rattle.catalog.specs.Laws.OneContent.{part_answered, part_rests, part_wears, part_deferred}
 use Rattle.catalog.specs.Laws.OneContent.{part_deferred_stays, part_leaves, part_past_call}
 use Rattle.catalog.specs.Laws.OneContent.{part_past_later, part_past_inverse, By, ByOnly}
-use Rattle.catalog.specs.Laws.OneContent.{whole_back, part_back}
+use Rattle.catalog.specs.Laws.OneContent.{whole_back, part_back, part_reads}
 
 -- A law P of a list, at a place where the call is answered: it holds at the first place by the law
 -- of one content, and goes on to the next place as it is.
@@ -40,6 +41,12 @@ pub answered_belongs : (s : List Collection) (at : ℕ) (c : Call) (r : Reply) �
     Belongs s at c
 answered_belongs s at c r = by_place c r (λ t i. Belongs t i c)
     (λ x xs h. part_answered x.content c r h) (λ x xs i h. h) s at
+
+pub reads_leave : (s : List Collection) (at : ℕ) (c : Call) (r : Reply) →
+    (need_of c r).mode ≡ Mode.Read → AnswersAt s at c r → after_at s at c r ≡ s
+reads_leave s at c r m = by_place c r (λ t i. after_at t i c r ≡ t)
+    (λ x xs h. ap (λ v. record { name = x.name; content = v } ∷ xs) (part_reads x.content c r m h))
+    (λ x xs i e. ap (λ l. x ∷ l) e) s at
 
 pub leaves_ready : (s : List Collection) (at : ℕ) (c : Call) (r : Reply) → AnswersAt s at c r →
     AllByRecursion (λ d. AnswersAt (after_at s at c r) at d Reply.Done) (left_by c r)

@@ -5,7 +5,8 @@ use Rattle.calls.proofs.ContentLaws.{catalog_commutes}
 use Rattle.boosted.specs.Laws.{ContentLaws, BoostedLaws}
 use Rattle.catalog.specs.Making.{MakingLaws}
 use Rattle.catalog.specs.Meaning.{catalog_meaning, catalog_making}
-use Rattle.catalog.specs.Laws.ByPlace.{answered_belongs, leaves_ready, wears, taken_back}
+use Rattle.catalog.specs.Laws.ByPlace.{answered_belongs, reads_leave, leaves_ready, wears}
+use Rattle.catalog.specs.Laws.ByPlace.{taken_back}
 use Rattle.catalog.specs.Laws.ByPlace.{taken_back_only, deferred_ready, deferred_stays}
 use Rattle.catalog.specs.Laws.ByPlace.{stays_past_call, stays_past_later, stays_past_undoing}
 use Rattle.catalog.specs.Laws.Makings.{names_kept, makes_one, makes_named, makes_before}
@@ -18,8 +19,11 @@ catalog_content s = record {
     taken_back s t at c r ask d,
     λ u. taken_back_only s t u at c r ask d,
   );
-  commutes = λ at bt a ra b rb ask also apart m t. catalog_commutes s m t at bt a ra b rb apart;
-  moves_left = λ at bt a ra b rb ask late apart m t. catalog_commutes s m t at bt a ra b rb apart;
+  commutes = λ at bt a ra b rb ask also apart m t. catalog_commutes s m t at bt a ra b rb ask
+      apart;
+  moves_left = λ at bt a ra b rb ask late apart m t. catalog_commutes s m t at bt a ra b rb ask
+      apart;
+  reads_leave = λ at c r. reads_leave s at c r;
   answered_belongs = λ at c r. answered_belongs s at c r;
   wears = λ n at c r. wears s n at c r;
   deferred_is_ready = λ at d. deferred_ready s at d;

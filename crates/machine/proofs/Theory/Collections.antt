@@ -159,6 +159,8 @@ module _ {S : Type 0} {meaning : Meaning S ℕ} {making : Making S}
           a.1.reply b.1.call b.1.reply ask late.0 apart m t;
     };
     exact = λ e s t u d k. d.1 ∙ sym k.1;
+    reads_same = λ e s t is step. sym
+        (step.1 ∙ (laws.holds s).reads_leave e.1.at e.1.call e.1.reply is step.0);
     made_exact = λ k s t u d e. makings.makes_one s t u k.0 k.1 d e;
     made_left = λ a k s t u ask step made. makings.makes_before_calls s t u k.0 k.1 a.1.at a.1.call
         a.1.reply step made;

@@ -3,6 +3,7 @@ use Rattle.std.specs.Prelude.{◌≡◌, ℕ, List, map}
 use Rattle.calls.specs.declared.kind.Kind.{Kind}
 use Rattle.calls.specs.declared.call.Call.{Call}
 use Rattle.calls.specs.declared.reply.Reply.{Reply}
+use Rattle.calls.specs.declared.need.Mode.{Mode}
 use Rattle.calls.specs.Rules.{left_by, Conflict, Askable, Deferrable, Disposable, need_of}
 use Rattle.calls.specs.Transactions.{Event}
 use Rattle.abstract_locks.specs.declared.table.Hold.{Hold}
@@ -27,6 +28,7 @@ module _ {S : Type 0} (meaning : Meaning S ℕ) (making : Making S) where
     asked = λ e. Askable e.1.call;
     put_off = λ e. Deferrable e.1.call × (e.1.reply ≡ Reply.Done);
     late = λ e. Disposable e.1.call × (e.1.reply ≡ Reply.Done);
+    reads = λ e. (need_of e.1.call e.1.reply).mode ≡ Mode.Read;
     owner = λ e. e.0;
     need = λ e. hold e.0 e.1.at (need_of e.1.call e.1.reply);
     holder = λ h. h.owner;

@@ -34,6 +34,8 @@ pub record Rules (S E M N : Type 0) : Type 1 where
   pub put_off : E → Type 0
   -- it can run in a commit
   pub late : E → Type 0
+  -- it only reads
+  pub reads : E → Type 0
   -- ---- whose calls and needs are, and which needs stand side by side
   pub owner : E → ℕ
   pub need : E → N
@@ -51,6 +53,8 @@ pub record RuleLaws {S E M N : Type 0} (rules : Rules S E M N) : Type 0 where
   pub calls : Laws rules.does rules.undoes (Apart rules) rules.asked rules.late
   -- the end state is exact
   pub exact : (e : E) (s t u : S) → rules.does s e t → rules.does s e u → t ≡ u
+  -- what only reads changes nothing
+  pub reads_same : (e : E) (s t : S) → rules.reads e → rules.does s e t → s ≡ t
   pub made_exact : (k : M) (s t u : S) → rules.makes s k t → rules.makes s k u → t ≡ u
   -- making moves left past each call
   pub made_left : (a : E) (k : M) (s t u : S) → rules.asked a → rules.does s a t →

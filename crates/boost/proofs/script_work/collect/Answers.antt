@@ -1,6 +1,6 @@
 use Rattle.std.proofs.Common.{rules}
 use Rattle.std.proofs.lemmas.List.Sorted.{IsNonDecreasingBy-from_sort_by_key}
-use Rattle.boost.specs.declared.transcript.Transcript.{Transcript}
+use Rattle.sessions.specs.declared.transcript.Transcript.{Transcript}
 use Rattle.boost.proofs.script_work.collect.Goals as goal
 
 pub returns-clause-rising : goal.returns-clause-rising

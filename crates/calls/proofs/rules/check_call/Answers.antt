@@ -1,5 +1,5 @@
 use Rattle.std.proofs.Common.{rules}
 use Rattle.calls.proofs.rules.check_call.Goals as goal
 
-pub returns-in_default-3 : goal.returns-in_default-3
-returns-in_default-3 c = search rules
+pub returns-in_default-4 : goal.returns-in_default-4
+returns-in_default-4 c = search rules

@@ -3,7 +3,7 @@ use calls::{Bytes, Call, Refusal, Reply};
 use std::alloc::Global;
 use std::collections::{BTreeMap, BTreeSet};
 
-/// A store of one thread: a set, a map, a queue, a counter and a pool.
+/// A store of one thread: a set, a map, a queue, a counter, a pool and a stock.
 #[derive(Drop)]
 pub struct Plain {
     set: BTreeSet<u64>,
@@ -11,6 +11,7 @@ pub struct Plain {
     queue: Vec<(u64, u64)>,
     counter: i128,
     taken: BTreeSet<u64>,
+    stock: u64,
 }
 
 impl Plain {
@@ -22,6 +23,7 @@ impl Plain {
             queue: Vec::new(alloc),
             counter: 0,
             taken: BTreeSet::new(alloc),
+            stock: 0,
         }
     }
 
@@ -34,15 +36,21 @@ impl Plain {
                 count = count.wrapping_add(1);
             }
         }
-        self.free(calls);
+        self.run_laters(calls);
         Ok(count)
     }
 
-    // Frees the identifiers that a transaction gave back, as it is committed.
-    fn free(&mut self, calls: &[(Call, Reply)]) {
+    // Frees the identifiers that a transaction gave back, and fills the stock, as it is committed.
+    fn run_laters(&mut self, calls: &[(Call, Reply)]) {
         for (call, reply) in calls {
-            if let (Call::Release(id), Reply::Queued) = (call, reply) {
-                let _was_taken = self.taken.remove(id);
+            match (call, reply) {
+                (Call::Release(id), Reply::Queued) => {
+                    let _was_taken = self.taken.remove(id);
+                }
+                (Call::Fill(amount), Reply::Done) => {
+                    self.stock = self.stock.wrapping_add(*amount);
+                }
+                _ => {}
             }
         }
     }
@@ -71,7 +79,24 @@ impl Plain {
                 Reply::Absent => !self.taken.contains(id),
                 _ => false,
             }),
+            Call::Spend(_) | Call::Level | Call::Fill(_) => Ok(self.answers_of_stock(call, reply)),
             _ => Ok(false),
+        }
+    }
+
+    fn answers_of_stock(&mut self, call: &Call, reply: &Reply) -> bool {
+        match call {
+            Call::Spend(amount) => match self.stock.checked_sub(*amount) {
+                Some(left) => {
+                    self.stock = left;
+                    is_yes(reply, true)
+                }
+                None => is_yes(reply, false),
+            },
+            Call::Level => {
+                matches!(reply, Reply::Total(total) if *total == i128::from(self.stock))
+            }
+            _ => matches!(reply, Reply::Done),
         }
     }
 

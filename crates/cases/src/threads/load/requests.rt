@@ -33,6 +33,7 @@ pub fn all_calls(alloc: Global) -> Result<Vec<Asked>, AllocError> {
         calls.push(call_on("pool", Call::Release(key)))?;
     }
     calls.push(call_on("counter", Call::Read))?;
+    calls.push(call_on("stock", Call::Level))?;
     for _ in 0..200u32 {
         calls.push(call_on("queue", Call::Take))?;
     }
@@ -46,7 +47,7 @@ fn call_on(name: &'static str, call: Call) -> Asked {
 // Any call.
 fn any_call(alloc: Global, numbers: &mut Pcg32) -> Result<Asked, AllocError> {
     let key = u64::from(numbers.next_word()) % KEYS;
-    Ok(match numbers.next_word() % 15 {
+    Ok(match numbers.next_word() % 19 {
         0 => call_on("set", Call::Contains(key)),
         1 => call_on("set", Call::SetAdd(key)),
         2 => call_on("set", Call::SetRemove(key)),
@@ -62,7 +63,10 @@ fn any_call(alloc: Global, numbers: &mut Pcg32) -> Result<Asked, AllocError> {
         11 => call_on("queue", Call::Least),
         12 => call_on("counter", Call::Bump(7)),
         13 => call_on("pool", Call::Draw),
-        _ => call_on("pool", Call::Release(key)),
+        14 => call_on("pool", Call::Release(key)),
+        15 | 16 => call_on("stock", Call::Fill(key)),
+        17 => call_on("stock", Call::Level),
+        _ => call_on("stock", Call::Spend(key)),
     })
 }
 

@@ -1,4 +1,5 @@
 // What the clients do.
+use crate::asking::ask;
 use crate::threads::load::requests::{Asked, all_calls, calls_of};
 use background::{Transaction, Work, keep};
 use calls::{Call, Kind, Refusal, Reply};
@@ -54,7 +55,7 @@ impl Transaction for Calls {
     ) -> Result<Vec<(Call, Reply)>, Refusal> {
         let mut made = Vec::new(self.alloc);
         for Asked { name, call } in self.asked()? {
-            match client.call(rt, name, &call) {
+            match ask(rt, client, name, &call) {
                 Ok(reply) => made.push((call, reply))?,
                 // It has released the identifier already.
                 Err(Refusal::AlreadyGoing) => {}
@@ -82,6 +83,7 @@ impl Work for Making {
         client.make(rt, "queue", Kind::Queue)?;
         client.make(rt, "counter", Kind::Counter)?;
         client.make(rt, "pool", Kind::Pool)?;
+        client.make(rt, "stock", Kind::Stock)?;
         Ok(Vec::new(rt.alloc()))
     }
 }

@@ -1,5 +1,6 @@
 use Rattle.std.proofs.Common.{sym, ◌∙◌, subst}
-use Rattle.abstract_locks.specs.Holds.{hold, IsAdded}
+use Rattle.calls.specs.Rules.{need_of}
+use Rattle.abstract_locks.specs.Holds.{hold, IsAdded, IsClear}
 use Rattle.undo_log.specs.Entries.{event_of}
 use Rattle.machine.specs.Machine.{State}
 use Rattle.loader.specs.Loading.{IsLast, CanHoldCall, HeldCallRow}
@@ -16,6 +17,16 @@ use Rattle.loader.proofs.loader.Loader.note_call.Goals as goal
 laws : (g : Over) → BookLaws g.B.Boosted.meaning g.B.Parts.making
     (λ s. AreShort (g.B.Parts.collections s))
 laws g = book_laws g.met.B.Boosted.laws g.met.B.Parts.laws g.met.B.Coded.told
+
+pub note_call-requires-clause-clear : goal.note_call-requires-clause-clear
+note_call-requires-clause-clear g c =
+    let n = c.args.number in
+    let e = event_of c.args.asked in
+    let can = subst (λ (s : State _). CanHoldCall g.B.Boosted.meaning s n e) (sym c.self.view_is)
+    c.requires.can in
+    subst (IsClear c.reserve.new.self.holds n e.at) (sym c.need-need.ensures)
+    (subst (λ h. IsClear h n e.at (need_of e.call e.reply)) (sym c.in_ok-reserve.ensures.holds)
+    can.clear)
 
 -- what was noted
 step : (g : Over) (c : goal.After-note_call g) → let i = c.self.inside in

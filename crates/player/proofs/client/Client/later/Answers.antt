@@ -1,13 +1,9 @@
-use Rattle.std.specs.Int.{w64}
-use Rattle.std.proofs.lemmas.Int.{to_z-of_z}
 use Rattle.std.proofs.lemmas.Result.{err_from_is_err_and}
-use Rattle.calls.specs.declared.call.Call.{Call}
 use Rattle.calls.specs.Names.{IsName}
 use Rattle.catalog.specs.Making.{names_of, IsPlaceOf, FindRefused}
 use Rattle.world.specs.declared.steps.Step.{Step}
 use Rattle.world.specs.declared.steps.Answer.{Answer}
-use Rattle.world.specs.Pasts.{alone, outcome}
-use Rattle.world.specs.OneStep.{TakesStep}
+use Rattle.world.specs.Pasts.{alone}
 use Rattle.player.proofs.Stepping.{asked}
 use Rattle.player.specs.Clients.{PutsOff}
 use Rattle.player.proofs.ClientLemmas.{call_not_entered, call_not_found, call_asked}
@@ -17,7 +13,7 @@ pub returns-in_err-number : goal.returns-in_err-number
 returns-in_err-number g c =
     let p = err_from_is_err_and c.from_residual.result c.from_residual.ensures.1 in
     rw (p.1, p.2) (call_not_entered g.D.Disk c.args.self.now c.args.world.now c.args.name.now
-    (PutsOff c.args.by) c.enter.new.self c.enter.new.world c.in_err-number.field-0.0
+    (PutsOff c.args.call.now) c.enter.new.self c.enter.new.world c.in_err-number.field-0.0
     c.in_err-number.ensures)
 
 pub returns-in_err-collection : goal.returns-in_err-collection
@@ -28,7 +24,7 @@ returns-in_err-collection g c =
     c.in_err-collection.field-0.0 =
     rw (c.as_str.ensures, c.book.ensures) at c.in_err-collection.ensures.err in
     rw (p.1, p.2) (call_not_found g.D.Disk c.args.self.now c.args.world.now c.args.name.now
-    (PutsOff c.args.by) c.enter.new.self c.enter.new.world c.in_ok-number.number
+    (PutsOff c.args.call.now) c.enter.new.self c.enter.new.world c.in_ok-number.number
     c.in_err-collection.field-0.0 c.in_ok-number.ensures refused)
 
 pub returns : goal.returns
@@ -37,14 +33,9 @@ returns g c =
     IsPlaceOf (names_of c.enter.new.world.book.state.now) c.args.name.now
     c.in_ok-collection.collection =
     rw (c.as_str.ensures, c.book.ensures) at c.in_ok-collection.ensures.ok in
-    let taken : TakesStep g.D.Disk c.enter.new.world (
-      Step.Later c.in_ok-number.number c.in_ok-collection.collection (Call.Bump c.args.by),
-      outcome (alone Answer.PutOff) c.later.result,
-    ) c.later.new.self =
-    rw (to_z-of_z w64 c.args.by c.ranges.by) at c.later.ensures in
     let ran = asked g.D.Disk c.enter.new.world c.later.new.self
-    (Step.Later c.in_ok-number.number c.in_ok-collection.collection (Call.Bump c.args.by))
-    (alone Answer.PutOff) c.later.result taken in
-    call_asked g.D.Disk c.args.self.now c.args.world.now c.args.name.now (PutsOff c.args.by)
+    (Step.Later c.in_ok-number.number c.in_ok-collection.collection c.args.call.now)
+    (alone Answer.PutOff) c.later.result c.later.ensures in
+    call_asked g.D.Disk c.args.self.now c.args.world.now c.args.name.now (PutsOff c.args.call.now)
     c.enter.new.self c.enter.new.world c.in_ok-number.number c.in_ok-collection.collection
     c.later.result c.later.new.self c.in_ok-number.ensures found ran

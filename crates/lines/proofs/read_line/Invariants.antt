@@ -1,0 +1,8 @@
+use Rattle.std.proofs.Common.{◌≡◌, ◌≢◌, ℕ, List, All, take}
+use Rattle.std.specs.Io.KnownBytes.{Consumes}
+use Rattle.lines.proofs.read_line.Given as goal
+
+-- bytes of a line were taken, and kept as far as a line may be long
+abbrev pub invariant-loop : goal.invariant-loop
+invariant-loop g l = (done : List ℕ) × All (λ b. b ≢ 10) done × (l.line.items ≡ take 4096 done)
+    × Consumes (g.B.Read.remaining l.initial.reader) (g.B.Read.remaining l.reader) done

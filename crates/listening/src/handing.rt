@@ -1,0 +1,113 @@
+// Lines of many clients, which are handed out to each.
+use crossbeam_channel::Sender;
+use lines::{Found, read_line};
+use script::addressed;
+use std::alloc::{AllocError, Global};
+use std::io::{self, BufReader, Read, Write};
+use std::mem;
+use std::sync::{Mutex, Wait};
+
+// How many bytes one read takes at most.
+const READ_SIZE: usize = 65_536;
+
+/// Hands lines out to their clients, batch by batch: those that follow one another and are one
+/// client's, of what one read brought, go together.
+#[derive(Drop)]
+pub struct Handing<'a, O, R: Wait> {
+    rt: &'a R,
+    alloc: Global,
+    output: &'a Mutex<O>,
+    senders: Vec<Sender<Vec<u8>>>,
+    // The client of the lines that are gathered, from 0 on, and the lines.
+    of: usize,
+    batch: Vec<u8>,
+}
+
+impl<'a, O: Write, R: Wait> Handing<'a, O, R> {
+    /// Hands lines out to these channels, the first of which is client 1's.
+    pub fn new(
+        rt: &'a R,
+        alloc: Global,
+        output: &'a Mutex<O>,
+        senders: Vec<Sender<Vec<u8>>>,
+    ) -> Self {
+        Self {
+            rt,
+            alloc,
+            output,
+            senders,
+            of: 0,
+            batch: Vec::new(alloc),
+        }
+    }
+
+    /// Hands out all lines of an input, up to its end or to the line `end`. Whose line is no
+    /// client's, or is too long, is told so.
+    ///
+    /// Refused where the input or the output is, and for want of memory.
+    pub fn hand_out_all<I: Read + Drop>(&mut self, input: I) -> io::Result<()> {
+        let mut reader = BufReader::with_capacity(self.alloc, READ_SIZE, input)?;
+        let mut line = Vec::new(self.alloc);
+        for _ in self.rt.forever() {
+            if !reader.buffer().contains(&b'\n') {
+                self.send()?;
+            }
+            let goes_on = match read_line(&mut reader, &mut line)? {
+                Found::Line => self.hand_out(line.as_slice())?,
+                Found::TooLong => self.tell(b"- error LineTooLong\n")?,
+                Found::Cut | Found::End => false,
+            };
+            if !goes_on {
+                break;
+            }
+        }
+        Ok(self.send()?)
+    }
+
+    // Hands a line out. Whether more are to come: not behind `end`.
+    fn hand_out(&mut self, line: &[u8]) -> io::Result<bool> {
+        match line.strip_suffix(b"\r").unwrap_or(line) {
+            b"end" => Ok(false),
+            [] | [b'#', ..] => Ok(true),
+            line => match addressed(line) {
+                Some((client, rest)) => {
+                    self.gather(usize::from(client).saturating_sub(1), rest)?;
+                    Ok(true)
+                }
+                None => self.tell(b"- error NoClient\n"),
+            },
+        }
+    }
+
+    // Writes a line that is no client's.
+    fn tell(&self, line: &[u8]) -> io::Result<bool> {
+        let mut output = self.output.lock(self.rt);
+        output.write_all(line)?;
+        output.flush()?;
+        Ok(true)
+    }
+
+    // Puts a line behind those that are gathered, which are sent first where they are another
+    // client's.
+    fn gather(&mut self, client: usize, line: &[u8]) -> Result<(), AllocError> {
+        if client != self.of {
+            self.send()?;
+            self.of = client;
+        }
+        self.batch.extend_from_slice(line)?;
+        self.batch.push(b'\n')?;
+        Ok(())
+    }
+
+    // Sends the lines that are gathered to their client.
+    fn send(&mut self) -> Result<(), AllocError> {
+        if self.batch.is_empty() {
+            return Ok(());
+        }
+        let lines = mem::replace(&mut self.batch, Vec::new(self.alloc));
+        if let Some(sender) = self.senders.get(self.of) {
+            let _sent = sender.send(self.rt, lines);
+        }
+        Ok(())
+    }
+}

@@ -1,0 +1,47 @@
+// The output that clients share, for the lines of one of them.
+use std::io::{self, Write};
+use std::sync::{Mutex, Wait};
+
+/// A shared output as a writer of one client: each line begins with `c`, the client's number and a
+/// space. What is written at once goes out at once, and nothing of others comes between. Call it
+/// with whole lines.
+#[derive(Drop)]
+pub struct Tagged<'a, O, R: Wait> {
+    rt: &'a R,
+    output: &'a Mutex<O>,
+    client: usize,
+    text: Vec<u8>,
+}
+
+impl<'a, O, R: Wait> Tagged<'a, O, R> {
+    /// The output for the client of this number. `text` is empty, and holds what is written.
+    pub fn new(rt: &'a R, output: &'a Mutex<O>, client: usize, text: Vec<u8>) -> Self {
+        Self {
+            rt,
+            output,
+            client,
+            text,
+        }
+    }
+}
+
+impl<O: Write, R: Wait> Write for Tagged<'_, O, R> {
+    fn write(&mut self, buf: &[u8]) -> io::Result<usize> {
+        self.text.clear();
+        for line in buf.split(|byte| *byte == b'\n') {
+            if !line.is_empty() {
+                write!(self.text, "c{} ", self.client)?;
+                self.text.extend_from_slice(line)?;
+                self.text.push(b'\n')?;
+            }
+        }
+        let mut output = self.output.lock(self.rt);
+        output.write_all(self.text.as_slice())?;
+        output.flush()?;
+        Ok(buf.len())
+    }
+
+    fn flush(&mut self) -> io::Result<()> {
+        Ok(())
+    }
+}

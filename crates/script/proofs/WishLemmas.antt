@@ -1,0 +1,194 @@
+-- Lines of several calls, and what the first letters of a line tell.
+use Rattle.std.proofs.Common.{◌≡◌, ◌≢◌, inl, inr, ℕ, ◌+◌, ◌*◌, List, [], ◌∷◌, ◌++◌, get_or}
+use Rattle.std.proofs.Common.{All}
+use Rattle.std.proofs.Common.{refl, sym, subst, ◌∙◌, ap, arith, codes, append_assoc}
+use Rattle.std.proofs.Common.{Option, Some, None, Result, Ok, Err}
+use Rattle.std.specs.Prelude.{IfOk, MatchOption}
+use Rattle.std.proofs.lemmas.List.{append_cancel_left}
+use Rattle.script.specs.declared.action.Request.{Request}
+use Rattle.script.specs.declared.wishes.Wish.{Wish}
+use Rattle.script.specs.ScriptTexts.{IsRequestOf, IsCallOf, IsLaterOf, IsPassedOver, request_text}
+use Rattle.script.specs.Wishes.{IsPart, IsLaterPart, AreCallsOf, IsWishOf}
+use Rattle.script.proofs.ScriptWords.{not_whole, same_split}
+
+-- ---- calls that are put off
+
+-- what is found behind the word later is found in the whole text
+pub later_gives : {E : Type 0} (r : Result (Option Request) E) (text rest : List ℕ) →
+    text ≡ codes "later " ++ rest
+    → IfOk r (λ found. MatchOption found ((q : Request) → IsLaterOf q rest → ⊥)
+    (λ q. IsLaterOf q rest))
+    → IfOk r (λ found. MatchOption found ((q : Request) → IsLaterPart q text → ⊥)
+    (λ q. IsLaterPart q text))
+later_gives (Ok None) text rest e none = λ q is.
+    none q (subst (IsLaterOf q) (append_cancel_left (codes "later ") is.0 rest (sym is.1 ∙ e)) is.2)
+later_gives (Ok (Some q)) text rest e is = (rest, e, is)
+later_gives (Err why) text rest e h = tt
+
+-- neither put off nor made at once
+pub no_part : {E : Type 0} (r : Result (Option Request) E) (text : List ℕ) →
+    ((q : Request) → IsLaterPart q text → ⊥)
+    → IfOk r (λ found. MatchOption found ((q : Request) → IsCallOf q text → ⊥)
+    (λ q. IsCallOf q text))
+    → IfOk r (λ found. MatchOption found ((q : Request) → IsPart q text → ⊥) (λ q. IsPart q text))
+no_part (Ok None) text later none =
+    λ q is. elim is [ inl put ↦ later q put | inr call ↦ none q call ]
+no_part (Ok (Some q)) text later is = inr is
+no_part (Err why) text later h = tt
+
+-- ---- lines of several calls
+
+-- The calls so far, with those behind them, are those of the text; and if the text has calls at
+-- all, so has what is left.
+pub record AreRead (text : List ℕ) (before : List Request) (rest : List ℕ) : Type 0 where
+  pub whole : (rs : List Request) → AreCallsOf rs rest → AreCallsOf (before ++ rs) text
+  pub left : (rs : List Request) → AreCallsOf rs text → (more : List Request) × AreCallsOf more rest
+
+pub nothing_read : (text : List ℕ) → AreRead text [] text
+nothing_read text = record { whole = λ rs are. are; left = λ rs are. (rs, are) }
+
+-- what the calls of a text with a semicolon begin with
+first_of : (text front back : List ℕ) (rs : List Request) → text ≡ front ++ 59 ∷ back →
+    All (λ b. b ≢ 59) front → AreCallsOf rs text →
+    (r : Request) × (more : List Request) × (next : List ℕ) × IsPart r front ×
+    (back ≡ 32 ∷ next) × AreCallsOf more next
+first_of text front back [] e whole are = absurd are
+first_of text front back (r ∷ rs) e whole (inl last) =
+    absurd (not_whole 59 text front back e last.1.1)
+first_of text front back (r ∷ rs) e whole (inr more) =
+    let parts = same_split 59 more.0 (32 ∷ more.1) front back (sym more.2 ∙ e) more.3.1 whole in
+    (r, rs, more.1, subst (IsPart r) parts.0 more.3.0, sym parts.1, more.4)
+
+-- a call more
+pub reads_on : (text rest front back next : List ℕ) (before : List Request) (r : Request) →
+    rest ≡ front ++ 59 ∷ back → All (λ b. b ≢ 59) front → IsPart r front →
+    back ≡ codes " " ++ next → AreRead text before rest → AreRead text (before ++ r ∷ []) next
+reads_on text rest front back next before r e whole is space read = record {
+  whole = λ rs are.
+      subst (λ l. AreCallsOf l text) (sym (append_assoc before (r ∷ []) rs))
+      (read.whole (r ∷ rs) (inr (
+        front,
+        next,
+        e ∙ ap (λ b. front ++ 59 ∷ b) space,
+        (is, whole),
+        are,
+      )));
+  left = λ rs are.
+      let some = read.left rs are in
+      let first = first_of rest front back some.0 e whole some.1 in
+      let same : first.2 ≡ next = ap tail (sym first.4 ∙ space) in
+      (first.1, subst (AreCallsOf first.1) same first.5);
+}
+  where
+    tail : List ℕ → List ℕ
+    tail [] = []
+    tail (x ∷ xs) = xs
+
+-- what is no call, or has no space behind it, is no call of several
+pub no_first : (text rest front back : List ℕ) (before rs : List Request) →
+    rest ≡ front ++ 59 ∷ back → All (λ b. b ≢ 59) front →
+    ((r : Request) → IsPart r front → ⊥) → AreRead text before rest → AreCallsOf rs text → ⊥
+no_first text rest front back before rs e whole none read are =
+    let some = read.left rs are in
+    let first = first_of rest front back some.0 e whole some.1 in
+    none first.0 first.3
+
+pub no_space : (text rest front back : List ℕ) (before rs : List Request) →
+    rest ≡ front ++ 59 ∷ back → All (λ b. b ≢ 59) front →
+    ((next : List ℕ) → back ≡ codes " " ++ next → ⊥) → AreRead text before rest →
+    AreCallsOf rs text → ⊥
+no_space text rest front back before rs e whole none read are =
+    let some = read.left rs are in
+    let first = first_of rest front back some.0 e whole some.1 in
+    none first.2 first.4
+
+-- the last call
+pub reads_last : (text rest : List ℕ) (before : List Request) (r : Request) →
+    All (λ b. b ≢ 59) rest → IsPart r rest → AreRead text before rest →
+    AreCallsOf (before ++ r ∷ []) text
+reads_last text rest before r whole is read = read.whole (r ∷ []) (inl (refl, (is, whole)))
+
+pub no_last : (text rest : List ℕ) (before rs : List Request) → All (λ b. b ≢ 59) rest →
+    ((r : Request) → IsPart r rest → ⊥) → AreRead text before rest → AreCallsOf rs text → ⊥
+no_last text rest before rs whole none read are =
+    let some = read.left rs are in at some.0 some.1
+  where
+    at : (more : List Request) → AreCallsOf more rest → ⊥
+    at [] are = are
+    at (r ∷ more) (inl last) = none r last.1.0
+    at (r ∷ more) (inr others) = not_whole 59 rest others.0 (32 ∷ others.1) others.2 whole
+
+-- ---- wishes
+
+-- the first letter, and the first, third and fifth as one number
+abbrev letter : List ℕ → ℕ
+letter t = get_or t 0 35
+
+abbrev letters : List ℕ → ℕ
+letters t = (get_or t 0 0 * 256 + get_or t 2 0) * 256 + get_or t 4 0
+
+passed_letter : (line : List ℕ) → IsPassedOver line → letter line ≡ 35
+passed_letter [] is = refl
+passed_letter (b ∷ line) is = is
+
+asked_letter : (r : Request) → letter (request_text r) ≡ 100 → ⊥
+asked_letter (Request.Make kind name) is = omega (arith, is)
+asked_letter Request.Begin is = omega (arith, is)
+asked_letter (Request.Call name o) is = omega (arith, is)
+asked_letter (Request.Later name n) is = omega (arith, is)
+asked_letter Request.Commit is = omega (arith, is)
+asked_letter Request.Abort is = omega (arith, is)
+asked_letter Request.Kept is = omega (arith, is)
+
+asked_letters : (r : Request) → letters (request_text r) ≡ letters (codes "keep ") → ⊥
+asked_letters (Request.Make kind name) is = omega (arith, is)
+asked_letters Request.Begin is = omega (arith, is)
+asked_letters (Request.Call name o) is = omega (arith, is)
+asked_letters (Request.Later name n) is = omega (arith, is)
+asked_letters Request.Commit is = omega (arith, is)
+asked_letters Request.Abort is = omega (arith, is)
+asked_letters Request.Kept is = omega (arith, is)
+
+-- behind the word do stand calls and nothing else
+pub wish_is_do : (line rest : List ℕ) (w : Wish) → line ≡ codes "do " ++ rest → IsWishOf w line →
+    (rs : List Request) × AreCallsOf rs rest
+wish_is_do line rest Wish.Nothing e is =
+    let other : 100 ≡ 35 = ap letter (sym e) ∙ passed_letter line is in
+    absurd (omega (arith, other))
+wish_is_do line rest (Wish.Ask r) e is = absurd (asked_letter r (ap letter (sym is.is ∙ e)))
+wish_is_do line rest (Wish.Do calls) e is =
+    let same = append_cancel_left (codes "do ") rest is.0 (sym e ∙ is.1) in
+    (calls.items, subst (AreCallsOf calls.items) (sym same) is.2)
+wish_is_do line rest (Wish.DoAndKeep calls) e is =
+    let other = ap letter (sym e ∙ is.1) in absurd (omega (arith, other))
+wish_is_do line rest w e is =
+    let other = ap letter (sym e ∙ is) in absurd (omega (arith, other))
+
+-- behind the word keep and a space stand calls and nothing else
+pub wish_is_keep : (line rest : List ℕ) (w : Wish) → line ≡ codes "keep " ++ rest →
+    IsWishOf w line → (rs : List Request) × AreCallsOf rs rest
+wish_is_keep line rest Wish.Nothing e is =
+    let other : 107 ≡ 35 = ap letter (sym e) ∙ passed_letter line is in
+    absurd (omega (arith, other))
+wish_is_keep line rest (Wish.Ask r) e is = absurd (asked_letters r (ap letters (sym is.is ∙ e)))
+wish_is_keep line rest (Wish.Do calls) e is =
+    let other = ap letter (sym e ∙ is.1) in absurd (omega (arith, other))
+wish_is_keep line rest (Wish.DoAndKeep calls) e is =
+    let same = append_cancel_left (codes "keep ") rest is.0 (sym e ∙ is.1) in
+    (calls.items, subst (AreCallsOf calls.items) (sym same) is.2)
+wish_is_keep line rest w e is =
+    let other = ap letters (sym e ∙ is) in absurd (omega (arith, other))
+
+-- a line that none of the words begins
+pub no_wish : (line : List ℕ) (w : Wish) → (IsPassedOver line → ⊥) → (line ≡ codes "wait" → ⊥) →
+    (line ≡ codes "keep" → ⊥) → (line ≡ codes "bye" → ⊥)
+    → ((rest : List ℕ) → line ≡ codes "do " ++ rest → ⊥)
+    → ((rest : List ℕ) → line ≡ codes "keep " ++ rest → ⊥) →
+    ((r : Request) → IsRequestOf r line → ⊥) → IsWishOf w line → ⊥
+no_wish line Wish.Nothing n w k b d a r is = n is
+no_wish line (Wish.Ask q) n w k b d a r is = r q is
+no_wish line Wish.Wait n w k b d a r is = w is
+no_wish line Wish.Keep n w k b d a r is = k is
+no_wish line (Wish.Do calls) n w k b d a r is = d is.0 is.1
+no_wish line (Wish.DoAndKeep calls) n w k b d a r is = a is.0 is.1
+no_wish line Wish.Bye n w k b d a r is = b is

@@ -1,0 +1,187 @@
+-- What the lines of a script do that are one client's, and what each is answered.
+use Rattle.std.specs.Prelude.{◌≡◌, ◌≢◌, ◌⊎◌, ℕ, ◌<◌, ◌≤◌, ◌^◌, Bool, true, false, List, []}
+use Rattle.std.specs.Prelude.{◌∷◌, ◌++◌, Option, None, Some, Result, Ok, Err}
+use Rattle.calls.specs.declared.call.Call.{Call}
+use Rattle.calls.specs.declared.kind.Kind.{Kind}
+use Rattle.calls.specs.declared.reply.Reply.{Reply}
+use Rattle.calls.specs.declared.refusal.Refusal.{Refusal}
+use Rattle.txn.specs.declared.steps.Action.{Action}
+use Rattle.txn.specs.declared.steps.Target.{Target}
+use Rattle.clients.specs.declared.naming.Naming.{Ghosts}
+use Rattle.clients.specs.declared.phase.Phase.{Phase}
+use Rattle.clients.specs.declared.ticket.Ticket.{Ticket}
+use Rattle.clients.specs.Known.{Known}
+use Rattle.clients.specs.Calls as calls
+use Rattle.player.specs.Requests.{telling, saying, said_kept}
+use Rattle.player.specs.declared.texts.Said.{Said}
+use Rattle.script.specs.declared.action.Action as actions
+use Rattle.script.specs.declared.action.Operation.{Operation}
+use Rattle.script.specs.declared.action.Request.{Request}
+use Rattle.script.specs.declared.line.Line.{Line}
+use Rattle.sessions.specs.declared.transcript.Answer.{Answer}
+use Rattle.talks.specs.declared.speaking.End.{End}
+use Rattle.sessions.specs.declared.transcript.Transcript.{Transcript}
+
+-- what a script's client knows of the store, and the ticket of what it last committed or made
+pub record SessionState : Type 0 where
+  pub known : Known
+  pub ticket : Option Ticket
+
+-- the ticket behind a commit or a making
+abbrev pub ticket_after : Option Ticket → Result Ticket Refusal → Option Ticket
+ticket_after ticket (Ok given) = Some given
+ticket_after ticket (Err e) = ticket
+
+abbrev pub IsClosed : Known → Type 0
+IsClosed known = known.phase ≡ Phase.Closed
+
+-- the mark's count reaches the place, or does not
+abbrev pub Reaches : ℕ → ℕ → Bool → Type 0
+Reaches place count true = place ≤ count
+Reaches place count false = count < place
+
+-- what is said of a ticket that is given
+abbrev pub said_placed : Ticket → Said
+said_placed ticket = Said.Placed ticket.place
+
+-- the place that an answer tells, if it tells one
+abbrev pub said_place : Said → Option ℕ
+said_place (Said.Placed place) = Some place
+said_place said = None
+
+abbrev pub IsRefusal : Said → Type 0
+IsRefusal (Said.Refused e) = Unit {0}
+IsRefusal said = ⊥
+
+abbrev pub answers_of : Option Answer → List Answer
+answers_of None = []
+answers_of (Some answer) = answer ∷ []
+
+module _ {J : Type 0} (j : Ghosts J) where
+  -- A collection is made. Its place is the ticket then.
+  pub record Makes (old : SessionState) (name : List ℕ) (kind : Kind) (r : Result Ticket Refusal)
+      (new : SessionState) : Type 0 where
+    pub acts : calls.Acts j old.known [] (Action.Make name kind (calls.placed r)) new.known
+    pub phase : new.known.phase ≡ old.known.phase
+    pub ticket : new.ticket ≡ ticket_after old.ticket r
+
+  -- A transaction begins under a number that is drawn, unless one is open.
+  abbrev pub Begins : SessionState → Result ℕ Refusal → SessionState → Type 0
+  Begins old (Ok n) new = IsClosed old.known × (n < 2 ^ 61) ×
+      calls.Draws j.next old.known n new.known ×
+      (new.known.phase ≡ Phase.Drawn n) × (new.ticket ≡ old.ticket)
+  Begins old (Err e) new =
+      (calls.IsOpen old.known.phase × (e ≡ Refusal.AlreadyLive) × (new ≡ old))
+      ⊎ (IsClosed old.known × (e ≡ Refusal.Worn) × calls.IsWorn j.next old.known new.known ×
+      (new.ticket ≡ old.ticket))
+
+  -- Without an open transaction nothing is done, and NoSuchTxn is answered; in one it does this.
+  abbrev pub InOpen : {T : Type 0} → SessionState → Result T Refusal → SessionState → Type 0 →
+      Type 0
+  InOpen old r new does =
+      (IsClosed old.known × (r ≡ Err Refusal.NoSuchTxn) × (new ≡ old))
+      ⊎ (calls.IsOpen old.known.phase × does)
+
+  -- the transaction makes a call on the collection of a name
+  abbrev pub Asks : List ℕ → Call → Known → Result Reply Refusal → Known → Type 0
+  Asks name call old r new = calls.Does j old.phase old
+      (λ n a. (found : Option ℕ) × (a ≡ Action.Call n (Target.Named name found) call r))
+      (λ e. r ≡ Err e) Phase.Entered new
+
+  -- It asks for an operation: a removal is tried as one of a map, and where the collection is none
+  -- as one of a set.
+  abbrev pub AsksFor : List ℕ → Operation → Known → Result Reply Refusal → Known → Type 0
+  AsksFor name (Operation.Call call) old r new = Asks name call old r new
+  AsksFor name (Operation.Remove key) old r new =
+      (first : Result Reply Refusal) × (mid : Known) ×
+      Asks name (Call.MapRemove key) old first mid ×
+      (((first ≢ Err Refusal.WrongKind) × (r ≡ first) × (new ≡ mid))
+      ⊎ ((first ≡ Err Refusal.WrongKind) × Asks name (Call.SetRemove key) mid r new))
+
+  -- it puts a call off to the commit
+  abbrev pub PutsOff : List ℕ → Call → Known → Result (Unit {0}) Refusal → Known → Type 0
+  PutsOff name call old r new = calls.Does j old.phase old
+      (λ n a. (found : Option ℕ) × (a ≡ Action.Later n (Target.Named name found) call r))
+      (λ e. r ≡ Err e) Phase.Entered new
+
+  -- it commits
+  abbrev pub Commits : Known → Result Ticket Refusal → Known → Type 0
+  Commits old r new = calls.Does j old.phase old (λ n a. a ≡ Action.Commit n (calls.placed r))
+      (λ e. r ≡ Err e) (calls.ended_by r) new
+
+  -- The client is told whether its last ticket is kept: the mark is loaded where it has one.
+  abbrev pub Looks : SessionState → Option Bool → SessionState → Type 0
+  Looks old None new = (old.ticket ≡ None) × (new ≡ old)
+  Looks old (Some kept) new = (ticket : Ticket) × (count : ℕ) × (old.ticket ≡ Some ticket) ×
+      calls.Loads old.known count new.known × (new.ticket ≡ old.ticket) ×
+      Reaches ticket.place count kept
+
+  -- A request is carried out, and its result is said.
+  abbrev pub Obeys : SessionState → Request → Result Said Refusal → SessionState → Type 0
+  Obeys old (Request.Make kind name) r new =
+      (made : Result Ticket Refusal) × (r ≡ telling said_placed made) × Makes old name kind made new
+  Obeys old Request.Begin r new =
+      (begun : Result ℕ Refusal) × (r ≡ telling Said.Begun begun) × Begins old begun new
+  Obeys old (Request.Call name operation) r new =
+      (called : Result Reply Refusal) × (r ≡ telling Said.Replied called) ×
+      InOpen old called new (AsksFor name operation old.known called new.known ×
+      (new.ticket ≡ old.ticket))
+  Obeys old (Request.Later name call) r new =
+      (put_off : Result (Unit {0}) Refusal) × (r ≡ telling (λ done. Said.PutOff) put_off) ×
+      InOpen old put_off new (PutsOff name call old.known put_off new.known ×
+      (new.ticket ≡ old.ticket))
+  Obeys old Request.Commit r new =
+      (placed : Result Ticket Refusal) × (r ≡ telling said_placed placed) ×
+      InOpen old placed new (Commits old.known placed new.known ×
+      (new.ticket ≡ ticket_after old.ticket placed))
+  Obeys old Request.Abort r new =
+      (aborted : Result (Unit {0}) Refusal) × (r ≡ telling (λ done. Said.Aborted) aborted) ×
+      InOpen old aborted new (calls.Aborts j old.known.phase old.known aborted new.known ×
+      (new.ticket ≡ old.ticket))
+  Obeys old Request.Kept r new =
+      (kept : Option Bool) × (r ≡ Ok (said_kept kept)) × Looks old kept new
+
+  -- A line that is a request of the client of this number is answered, and each other one is passed
+  -- over.
+  abbrev pub Answers : ℕ → SessionState → Line → Option Answer → SessionState → Type 0
+  Answers k old line None new =
+      ((request : Request) → line.what ≡ actions.Action.Client k request → ⊥) × (new ≡ old)
+  Answers k old line (Some answer) new =
+      (request : Request) × (r : Result Said Refusal) ×
+      (line.what ≡ actions.Action.Client k request) × (answer.number ≡ line.number) ×
+      (answer.said ≡ saying r) × Obeys old request r new
+
+  -- So is the answer noted behind those before.
+  abbrev pub Notes : ℕ → SessionState → Line → List Answer → List Answer → SessionState → Type 0
+  Notes k old line before after new =
+      (more : Option Answer) × (after ≡ before ++ answers_of more) × Answers k old line more new
+
+  -- So are the lines, one after another.
+  abbrev pub CarriesOut : ℕ → SessionState → List Line → List Answer → SessionState → Type 0
+  CarriesOut k old [] answers new = (answers ≡ []) × (new ≡ old)
+  CarriesOut k old (line ∷ lines) answers new =
+      (first : Option Answer) × (rest : List Answer) × (mid : SessionState) ×
+      (answers ≡ answers_of first ++ rest) × Answers k old line first mid ×
+      CarriesOut k mid lines rest new
+
+-- The client waits for its last ticket, and is told how that ended.
+abbrev pub Ends : SessionState → End → SessionState → Type 0
+Ends old End.NoTicket new = (old.ticket ≡ None) × (new ≡ old)
+Ends old End.Kept new = (ticket : Ticket) × (old.ticket ≡ Some ticket) ×
+    calls.Waits old.known ticket.place (Ok tt) new.known × (new.ticket ≡ old.ticket)
+Ends old End.Lost new = (ticket : Ticket) × (old.ticket ≡ Some ticket) ×
+    calls.Waits old.known ticket.place (Err Refusal.Lost) new.known × (new.ticket ≡ old.ticket)
+
+module _ {J : Type 0} (j : Ghosts J) where
+  -- what a request is answered
+  abbrev pub Says : SessionState → Request → Said → SessionState → Type 0
+  Says old request said new = (r : Result Said Refusal) × (said ≡ saying r) ×
+      Obeys j old request r new
+
+  -- The transcript tells what the client's lines were answered, and how its wait ended.
+  pub record IsRun (k : ℕ) (old : SessionState) (lines : List Line) (new : SessionState)
+      (t : Transcript) : Type 0 where
+    pub client : t.client ≡ k
+    pub behind : SessionState
+    pub carried : CarriesOut j k old lines t.answers.items behind
+    pub ended : Ends behind t.end new

@@ -1,0 +1,10 @@
+//! Sessions: what a client of a script, or of a program that talks with an open store, does on a
+//! store that threads share, and what it is told.
+#![tactic(auto)]
+
+mod session;
+mod transcript;
+
+pub use session::Session;
+pub use talks::{End, Speaker};
+pub use transcript::{Answer, Transcript};

@@ -1,0 +1,22 @@
+-- What is heard of what a client is told.
+use Rattle.std.specs.Prelude.{◌≡◌, ◌⊎◌, List, [], ◌∷◌, ◌++◌, ⊤, Option, None, Some}
+use Rattle.talks.specs.declared.told.Told.{Told}
+use Rattle.talks.specs.declared.why.Why.{Why}
+
+-- what was heard, where it is known, goes on with these and no more
+abbrev pub Hears : {S : Type 0} → Option (List (Told S)) → Option (List (Told S)) →
+    List (Told S) → Type 0
+Hears None new more = ⊤
+Hears (Some xs) None more = ⊥
+Hears (Some xs) (Some ys) more = ys ≡ xs ++ more
+
+-- what is told, if something is
+abbrev pub tolds_of : {S : Type 0} → Option (Told S) → List (Told S)
+tolds_of None = []
+tolds_of (Some told) = told ∷ []
+
+-- What is told is heard, or the talk is broken.
+abbrev pub IsHeard : {S : Type 0} → Option (List (Told S)) → Option (List (Told S)) →
+    Option (Told S) → Option Why → Option Why → Type 0
+IsHeard old new told next result =
+    ((result ≡ next) × Hears old new (tolds_of told)) ⊎ (result ≡ Some Why.Broken)

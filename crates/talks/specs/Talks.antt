@@ -1,0 +1,213 @@
+-- What a talk with a client does: the lines that come, and what the client is told of each.
+use Rattle.std.specs.Prelude.{◌≡◌, ◌⊎◌, ℕ, Bool, true, false, List, [], ◌∷◌, ◌++◌}
+use Rattle.std.specs.Prelude.{Option, None, Some}
+use Rattle.std.specs.Io.BufRead.{strip_last}
+use Rattle.std.specs.Io.KnownBytes.{Consumes}
+use Rattle.calls.specs.declared.refusal.Refusal.{Refusal}
+use Rattle.lines.specs.declared.Found.{Found}
+use Rattle.lines.specs.Lines.{Brings}
+use Rattle.script.specs.declared.action.Request.{Request}
+use Rattle.script.specs.declared.wishes.Wish.{Wish}
+use Rattle.script.specs.Wishes.{IsWishOf}
+use Rattle.talks.specs.declared.speaking.End.{End}
+use Rattle.talks.specs.declared.speaking.Speaker.{Ghosts}
+use Rattle.talks.specs.declared.told.Told.{Told}
+use Rattle.talks.specs.declared.transacting.Outcome.{Outcome}
+use Rattle.talks.specs.declared.why.Why.{Why}
+use Rattle.talks.specs.Hearing.{Hears, tolds_of}
+
+-- ---- what is told
+
+-- of a wait
+abbrev pub told_end : {A : Type 0} → End → Told A
+told_end End.Kept = Told.Waited End.Kept
+told_end End.NoTicket = Told.Waited End.NoTicket
+told_end End.Lost = Told.Refused Refusal.Lost
+
+-- of a commit that was waited for
+abbrev pub told_kept : {A : Type 0} → Told A → End → Told A
+told_kept told End.Kept = told
+told_kept told end = Told.Refused Refusal.Lost
+
+-- Why the talk ends behind this, if it does.
+abbrev pub next_behind : {A : Type 0} → Told A → Option Why
+next_behind (Told.Refused Refusal.Lost) = Some Why.Lost
+next_behind Told.Bye = Some Why.Bye
+next_behind told = None
+
+abbrev pub telling : {A : Type 0} → Told A → Option (Told A) × Option Why
+telling told = (Some told, next_behind told)
+
+-- Of a transaction of one line: the talk ends where it could not be taken back.
+abbrev pub told_outcome : {A : Type 0} → Outcome A → Option (Told A) × Option Why
+told_outcome (Outcome.Committed saids place) = (Some (Told.Done saids place), None)
+told_outcome (Outcome.Refused told true) = (Some told, None)
+told_outcome (Outcome.Refused told false) = (Some told, Some Why.Broken)
+
+-- the line, whose carriage return at the end is no part of it, asks for this
+abbrev pub IsWished : List ℕ → Wish → Type 0
+IsWished line wish = IsWishOf wish (strip_last 13 line)
+
+-- what is told of a line that asks for nothing, or whose wish takes more memory than there is
+abbrev pub IsUnwished : {A : Type 0} → List ℕ → Told A → Type 0
+IsUnwished line Told.NotUnderstood = (wish : Wish) → IsWished line wish → ⊥
+IsUnwished line (Told.Refused Refusal.NoMemory) = Unit {0}
+IsUnwished line told = ⊥
+
+module _ {S A : Type 0} (s : Ghosts S A) where
+  -- ---- one line with a transaction
+
+  -- Requests to take the open transaction back were made, until none was open or no more was tried.
+  abbrev pub AreTried : S → List A → S → Type 0
+  AreTried old [] new = new ≡ old
+  AreTried old (said ∷ saids) new =
+      (mid : S) × s.says old Request.Abort said mid × AreTried mid saids new
+
+  -- whether it is taken back
+  abbrev pub IsTakenBack : S → Bool → S → Type 0
+  IsTakenBack old back new =
+      ((saids : List A) × AreTried old saids new) × (back ≡ true → s.is_open new → ⊥)
+
+  -- Calls were made one after another, none of which was refused.
+  abbrev pub RunsCalls : S → List Request → List A → S → Type 0
+  RunsCalls old [] saids new = (saids ≡ []) × (new ≡ old)
+  RunsCalls old (r ∷ rs) saids new =
+      (said : A) × (rest : List A) × (mid : S) × (saids ≡ said ∷ rest) × s.says old r said mid ×
+      (s.refuses said → ⊥) × RunsCalls mid rs rest new
+
+  -- what is told of a call that ends a transaction: that it is refused, or that its answer takes
+  -- more memory than there is
+  abbrev pub IsStop : A → Told A → Type 0
+  IsStop said (Told.Said told) = (told ≡ said) × s.refuses said
+  IsStop said (Told.Refused Refusal.NoMemory) = Unit {0}
+  IsStop said told = ⊥
+
+  -- Calls were made up to one that ends the transaction.
+  abbrev pub Stops : S → List Request → Told A → S → Type 0
+  Stops old rs told new =
+      (front : List Request) × (r : Request) × (back : List Request) × (saids : List A) ×
+      (mid : S) × (said : A) × (rs ≡ front ++ r ∷ back) × RunsCalls old front saids mid ×
+      s.says mid r said new × IsStop said told
+
+  -- The open transaction, whose calls were answered so, is committed; or it is taken back, as far
+  -- as that can be.
+  abbrev pub Commits : S → List A → Outcome A → S → Type 0
+  Commits old saids (Outcome.Committed told place) new =
+      (said : A) × s.says old Request.Commit said new × (s.placed said ≡ Some place) ×
+      (told.items ≡ saids)
+  Commits old saids (Outcome.Refused (Told.Said said) back) new =
+      (mid : S) × s.says old Request.Commit said mid × (s.placed said ≡ None) ×
+      IsTakenBack mid back new
+  Commits old saids outcome new = ⊥
+
+  -- A transaction of these calls alone: all of them are made, and committed as one; or it is not
+  -- begun, or is taken back at the first refusal, as far as that can be.
+  abbrev pub Transacts : S → List Request → Outcome A → S → Type 0
+  Transacts old rs outcome new =
+      ((said : A) × s.says old Request.Begin said new × s.refuses said ×
+      (outcome ≡ Outcome.Refused (Told.Said said) true))
+      ⊎ ((begun : A) × (opened : S) × s.says old Request.Begin begun opened ×
+      (s.refuses begun → ⊥) ×
+      (((saids : List A) × (mid : S) × RunsCalls opened rs saids mid ×
+      Commits mid saids outcome new)
+      ⊎ ((told : Told A) × (back : Bool) × (mid : S) × (outcome ≡ Outcome.Refused told back) ×
+      Stops opened rs told mid × IsTakenBack mid back new)))
+
+  -- ---- lines
+
+  -- A commit of the open transaction, and a wait until it is kept.
+  abbrev pub KeepsOpen : S → Told A → S → Type 0
+  KeepsOpen old told new = (said : A) × (mid : S) × s.says old Request.Commit said mid ×
+      (((s.placed said ≡ None) × (told ≡ Told.Said said) × (new ≡ mid))
+      ⊎ ((place : ℕ) × (end : End) × (s.placed said ≡ Some place) × s.ends mid end new ×
+      (told ≡ told_kept (Told.Kept place) end)))
+
+  -- A wait for the transaction of one line, where it is committed.
+  abbrev pub KeepsOutcome : S → Outcome A → Option (Told A) → Option Why → S → Type 0
+  KeepsOutcome old (Outcome.Committed saids place) told next new =
+      (end : End) × s.ends old end new ×
+      ((told, next) ≡ telling (told_kept (Told.DoneAndKept saids place) end))
+  KeepsOutcome old (Outcome.Refused refused back) told next new =
+      ((told, next) ≡ told_outcome (Outcome.Refused refused back)) × (new ≡ old)
+
+  -- What a wish does, what the client is told, and whether the talk ends.
+  abbrev pub Exchanges : S → Wish → Option (Told A) → Option Why → S → Type 0
+  Exchanges old Wish.Nothing told next new = (told ≡ None) × (next ≡ None) × (new ≡ old)
+  Exchanges old (Wish.Ask r) told next new =
+      (said : A) × s.says old r said new × (told ≡ Some (Told.Said said)) × (next ≡ None)
+  Exchanges old Wish.Wait told next new =
+      (end : End) × s.ends old end new × ((told, next) ≡ telling (told_end end))
+  Exchanges old Wish.Keep told next new =
+      (kept : Told A) × KeepsOpen old kept new × ((told, next) ≡ telling kept)
+  Exchanges old (Wish.Do calls) told next new =
+      (outcome : Outcome A) × Transacts old calls.items outcome new ×
+      ((told, next) ≡ told_outcome outcome)
+  Exchanges old (Wish.DoAndKeep calls) told next new =
+      (outcome : Outcome A) × (mid : S) × Transacts old calls.items outcome mid ×
+      KeepsOutcome mid outcome told next new
+  Exchanges old Wish.Bye told next new =
+      ((told, next) ≡ telling Told.Bye) × (new ≡ old)
+
+  -- A line is answered.
+  abbrev pub IsLineAnswered : S → List ℕ → Option (Told A) → Option Why → S → Type 0
+  IsLineAnswered old line told next new =
+      ((wish : Wish) × IsWished line wish × Exchanges old wish told next new)
+      ⊎ ((unwished : Told A) × IsUnwished line unwished × (told ≡ Some unwished) ×
+      (next ≡ None) × (new ≡ old))
+
+  -- So is what was found in place of a line.
+  abbrev pub IsAnswered : Found → S → List ℕ → Option (Told A) → Option Why → S → Type 0
+  IsAnswered Found.Line old line told next new = IsLineAnswered old line told next new
+  IsAnswered Found.TooLong old line told next new =
+      (told ≡ Some Told.TooLong) × (next ≡ None) × (new ≡ old)
+  IsAnswered Found.Cut old line told next new =
+      (told ≡ None) × (next ≡ Some Why.Gone) × (new ≡ old)
+  IsAnswered Found.End old line told next new =
+      (told ≡ None) × (next ≡ Some Why.Gone) × (new ≡ old)
+
+  -- ---- talks
+
+  -- These bytes were taken, and answered so.
+  abbrev pub IsRound : S → List ℕ → Option (Told A) → Option Why → S → Type 0
+  IsRound old bs told next new = (found : Found) × (line : List ℕ) × Brings 4095 bs found line ×
+      IsAnswered found old line told next new
+
+  -- Bytes were taken line by line, each of which was answered, and what was told of them was heard;
+  -- no line but perhaps the last one ended the talk.
+  abbrev pub AreRounds : S → List (List ℕ × Option (Told A)) → S → Type 0
+  AreRounds old [] new = new ≡ old
+  AreRounds old ((bs, told) ∷ rounds) new =
+      (mid : S) × IsRound old bs told None mid × AreRounds mid rounds new
+
+  abbrev pub bytes_of : List (List ℕ × Option (Told A)) → List ℕ
+  bytes_of [] = []
+  bytes_of ((bs, told) ∷ rounds) = bs ++ bytes_of rounds
+
+  abbrev pub told_of : List (List ℕ × Option (Told A)) → List (Told A)
+  told_of [] = []
+  told_of ((bs, told) ∷ rounds) = tolds_of told ++ told_of rounds
+
+  -- How a talk ended: by a line that says so, or by the end of the lines; or it broke, in the
+  -- middle of an exchange perhaps.
+  abbrev pub IsLast : (r t : Option (List ℕ)) → (h k : Option (List (Told A))) → S → Why → S →
+      Type 0
+  IsLast r t h k old Why.Broken new = (new ≡ old)
+      ⊎ ((bs : List ℕ) × (told : Option (Told A)) × (next : Option Why) ×
+      IsRound old bs told next new)
+  IsLast r t h k old why new = (bs : List ℕ) × (told : Option (Told A)) ×
+      IsRound old bs told (Some why) new × Consumes r t bs × Hears h k (tolds_of told)
+
+  -- One turn: a line is read and answered, or the talk ends.
+  abbrev pub Turns : (r t : Option (List ℕ)) → (h k : Option (List (Told A))) → S → Option Why → S →
+      Type 0
+  Turns r t h k old None new = (bs : List ℕ) × (told : Option (Told A)) ×
+      IsRound old bs told None new × Consumes r t bs × Hears h k (tolds_of told)
+  Turns r t h k old (Some why) new = IsLast r t h k old why new
+
+  -- A talk: turns one after another, up to the last.
+  abbrev pub TalksOn : (r t : Option (List ℕ)) → (h k : Option (List (Told A))) → S → Why → S →
+      Type 0
+  TalksOn r t h k old why new =
+      (rounds : List (List ℕ × Option (Told A))) × (q : Option (List ℕ)) ×
+      (i : Option (List (Told A))) × (mid : S) × AreRounds old rounds mid ×
+      Consumes r q (bytes_of rounds) × Hears h i (told_of rounds) × IsLast q t i k mid why new

@@ -1,0 +1,160 @@
+// What is done behind a line.
+ghost use Rattle.std.specs.Prelude.{◌≡◌, [], MatchResult};
+ghost use Rattle.std.specs.Io.BufRead.{strip_last};
+ghost use Rattle.script.specs.declared.wishes.Wish.{Wish};
+ghost use Rattle.talks.specs.declared.told.Told.{Told};
+ghost use Rattle.talks.specs.declared.why.Why.{Why};
+ghost use Rattle.talks.specs.declared.speaking.End.{End};
+ghost use Rattle.talks.specs.declared.transacting.Outcome.{Outcome};
+ghost use Rattle.talks.specs.Hearing.{Hears};
+ghost use Rattle.talks.specs.Talks.{Exchanges, KeepsOpen, KeepsOutcome, IsWished, IsUnwished};
+ghost use Rattle.talks.specs.Talks.{told_end, told_kept, told_outcome};
+ghost use Rattle.talks.specs.Talks.{telling};
+
+use crate::hearing::Hearer;
+use crate::speaking::{End, Speaker};
+use crate::told::Told;
+use crate::transacting::{Outcome, transact};
+use crate::why::Why;
+use calls::Refusal;
+use script::{Request, Wish, wish_of};
+use std::alloc::{AllocGlobal, Global};
+use std::sync::Wait;
+
+// A line without the carriage return at its end, if one is there.
+fn without_return(line: &[u8]) -> &[u8]
+    ensures { result.now ≡ strip_last 13 line.now }
+{
+    match line.last() {
+        Some(b'\r') => &line[..line.len() - 1],
+        _ => line,
+    }
+}
+
+// What a line asks for, or what is told of a line that asks for nothing.
+pub fn wish_in<S>(alloc: Global, line: &[u8]) -> Result<Wish, Told<S>>
+    ensures { MatchResult result (IsWished line.now) (IsUnwished line.now) }
+{
+    match wish_of(alloc, without_return(line)) {
+        Ok(Some(wish)) => Ok(wish),
+        Ok(None) => Err(Told::NotUnderstood),
+        Err(_) => Err(Told::Refused(Refusal::NoMemory)),
+    }
+}
+
+// Does what a line asks for. Answers what the client is told, and why the talk ends, if it does.
+pub fn exchange<R: Wait + AllocGlobal, S: Speaker, H: Hearer<S::Said>>(
+    rt: &R,
+    speaker: &mut S,
+    hearer: &mut H,
+    wish: &Wish,
+) -> (Option<Told<S::Said>>, Option<Why>)
+    ensures done { Exchanges ⟦<S as Speaker>⟧ speaker.old wish.now result.0 result.1 speaker.new }
+    ensures still { Hears (H.heard hearer.old) (H.heard hearer.new) [] }
+{
+    match wish {
+        Wish::Nothing => (None, None),
+        Wish::Ask(request) => (Some(Told::Said(speaker.say(rt, request))), None),
+        Wish::Wait => with_next(wait(rt, speaker, hearer)),
+        Wish::Keep => with_next(keep(rt, speaker, hearer)),
+        Wish::Do(calls) => told_of(transact(rt, rt.alloc(), speaker, calls.as_slice())),
+        Wish::DoAndKeep(calls) => {
+            let outcome = transact(rt, rt.alloc(), speaker, calls.as_slice());
+            keep_outcome(rt, speaker, hearer, outcome)
+        }
+        Wish::Bye => with_next(Told::Bye),
+    }
+}
+
+// What is told behind a wait or at the end, and why the talk ends, if it does.
+fn with_next<S>(told: Told<S>) -> (Option<Told<S>>, Option<Why>)
+    ensures { result ≡ telling told }
+{
+    let next = match &told {
+        Told::Refused(Refusal::Lost) => Some(Why::Lost),
+        Told::Bye => Some(Why::Bye),
+        _ => None,
+    };
+    (Some(told), next)
+}
+
+// Waits until what was last committed or made is kept. What was told before is sent on first.
+fn end<R: Wait, S: Speaker, H: Hearer<S::Said>>(rt: &R, speaker: &mut S, hearer: &mut H) -> End
+    ensures done { S.ends speaker.old result speaker.new }
+    ensures still { Hears (H.heard hearer.old) (H.heard hearer.new) [] }
+{
+    // who does not hear is met at the next line
+    let _sent = hearer.send();
+    speaker.end(rt)
+}
+
+// A wait.
+fn wait<R: Wait, S: Speaker, H: Hearer<S::Said>>(
+    rt: &R,
+    speaker: &mut S,
+    hearer: &mut H,
+) -> Told<S::Said>
+    ensures done { (end : End) × S.ends speaker.old end speaker.new × (result ≡ told_end end) }
+    ensures still { Hears (H.heard hearer.old) (H.heard hearer.new) [] }
+{
+    match end(rt, speaker, hearer) {
+        End::Lost => Told::Refused(Refusal::Lost),
+        end => Told::Waited(end),
+    }
+}
+
+// A commit of the open transaction, and a wait until it is kept.
+fn keep<R: Wait, S: Speaker, H: Hearer<S::Said>>(
+    rt: &R,
+    speaker: &mut S,
+    hearer: &mut H,
+) -> Told<S::Said>
+    ensures done { KeepsOpen ⟦<S as Speaker>⟧ speaker.old result speaker.new }
+    ensures still { Hears (H.heard hearer.old) (H.heard hearer.new) [] }
+{
+    let said = speaker.say(rt, &Request::Commit);
+    let Some(place) = S::place(&said) else {
+        return Told::Said(said);
+    };
+    drop(said);
+    kept(end(rt, speaker, hearer), Told::Kept(place))
+}
+
+// What is told of a commit that was waited for.
+fn kept<S: Drop>(end: End, told: Told<S>) -> Told<S>
+    ensures { result ≡ told_kept told end }
+{
+    match end {
+        End::Kept => told,
+        End::Lost | End::NoTicket => Told::Refused(Refusal::Lost),
+    }
+}
+
+// What is told of a transaction of one line.
+fn told_of<S>(outcome: Outcome<S>) -> (Option<Told<S>>, Option<Why>)
+    ensures { result ≡ told_outcome outcome }
+{
+    match outcome {
+        Outcome::Committed(saids, place) => (Some(Told::Done(saids, place)), None),
+        Outcome::Refused(told, true) => (Some(told), None),
+        Outcome::Refused(told, false) => (Some(told), Some(Why::Broken)),
+    }
+}
+
+// What is told of a transaction of one line once it is kept.
+fn keep_outcome<R: Wait, S: Speaker, H: Hearer<S::Said>>(
+    rt: &R,
+    speaker: &mut S,
+    hearer: &mut H,
+    outcome: Outcome<S::Said>,
+) -> (Option<Told<S::Said>>, Option<Why>)
+    ensures done { KeepsOutcome ⟦<S as Speaker>⟧ speaker.old outcome result.0 result.1 speaker.new }
+    ensures still { Hears (H.heard hearer.old) (H.heard hearer.new) [] }
+{
+    match outcome {
+        Outcome::Committed(saids, place) => {
+            with_next(kept(end(rt, speaker, hearer), Told::DoneAndKept(saids, place)))
+        }
+        refused => told_of(refused),
+    }
+}

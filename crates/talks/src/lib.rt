@@ -1,0 +1,21 @@
+//! Talks: a client sends lines, each of which asks for something, and is told what became of them,
+//! line by line. Behind the last line what it left open is taken back.
+//!
+//! Who carries requests out, on a store, is any `Speaker`; who is told is any `Hearer`.
+#![tactic(auto)]
+
+mod answering;
+mod hearing;
+mod printing;
+mod speaking;
+mod talking;
+mod told;
+mod transacting;
+mod why;
+
+pub use hearing::Hearer;
+pub use printing::Printer;
+pub use speaking::{End, Speaker};
+pub use talking::{Ended, Lines, talk};
+pub use told::Told;
+pub use why::Why;

@@ -1,0 +1,58 @@
+// Who writes what a client is told.
+ghost use Rattle.std.specs.Prelude.{[], ◌∷◌, None, OnOk};
+ghost use Rattle.talks.specs.Hearing.{Hears};
+
+use crate::hearing::Hearer;
+use crate::told::Told;
+use std::alloc::Global;
+use std::fmt::Display;
+use std::io::{self, Write};
+
+// How many bytes are kept back at most.
+const MOST_BACK: usize = 65_536;
+
+/// Writes what a client is told, a line each, to an output. Lines are kept back until they are
+/// asked for, or are many; each write has whole lines.
+#[derive(Drop)]
+pub struct Printer<O> {
+    text: Vec<u8>,
+    output: O,
+}
+
+impl<O: Write + Drop> Printer<O> {
+    /// A printer that has written nothing yet.
+    pub fn new(alloc: Global, output: O) -> Self {
+        Self {
+            text: Vec::new(alloc),
+            output,
+        }
+    }
+
+    fn write_out(&mut self) -> io::Result<()> {
+        if self.text.is_empty() {
+            return Ok(());
+        }
+        self.output.write_all(self.text.as_slice())?;
+        self.output.flush()?;
+        self.text.clear();
+        Ok(())
+    }
+}
+
+impl<S: Display + Drop, O: Write + Drop> Hearer<S> for Printer<O> {
+    fn hear(&mut self, told: Told<S>) -> io::Result<()>
+        ensures { OnOk result (Hears {S = S} None None (told ∷ [])) }
+    {
+        writeln!(self.text, "{told}")?;
+        if self.text.len() > MOST_BACK {
+            self.write_out()?;
+        }
+        Ok(())
+    }
+
+    fn send(&mut self) -> io::Result<()>
+        ensures { Hears {S = S} None None [] }
+    {
+        self.write_out()
+    }
+}

@@ -1,0 +1,69 @@
+// Who carries requests out.
+use script::Request;
+use std::fmt;
+use std::sync::Wait;
+
+/// What a client was told of its last ticket.
+#[derive(Clone, Copy)]
+pub enum End {
+    Kept,
+    /// Keeping failed, which does not say that the ticket is not kept.
+    Lost,
+    /// It has none.
+    NoTicket,
+}
+
+impl fmt::Display for End {
+    fn fmt<W: fmt::Write>(&self, f: &mut fmt::Formatter<W>) -> fmt::Result {
+        f.write_str(match self {
+            End::Kept => "kept",
+            End::Lost => "lost",
+            End::NoTicket => "no ticket",
+        })
+    }
+}
+
+/// Who carries a client's requests out, one after another.
+pub trait Speaker {
+    ghost use Rattle.std.specs.Prelude.{ℕ, Option, IsTrue, ◌↔◌, ◌≡◌};
+    ghost use Rattle.script.specs.declared.action.Request.{Request};
+    ghost use Rattle.talks.specs.declared.speaking.End.{End};
+
+    /// What a request is answered.
+    type Said: fmt::Display + Drop;
+
+    /// A request is carried out, and answered so.
+    ghost says: { Self → Request → Self.Said → Self → Type 0 };
+
+    /// A wait for what was last committed or made ends so.
+    ghost ends: { Self → End → Self → Type 0 };
+
+    /// A transaction is open.
+    ghost is_open: { Self → Type 0 };
+
+    /// The place that an answer tells, which that of a commit does where it is accepted.
+    ghost placed: { Self.Said → Option ℕ };
+
+    /// An answer is a refusal.
+    ghost refuses: { Self.Said → Type 0 };
+
+    /// Carries a request out.
+    fn say<R: Wait>(&mut self, rt: &R, request: &Request) -> Self::Said
+        ensures { says self.old request.now result self.new };
+
+    /// Waits until what was last committed or made is kept.
+    fn end<R: Wait>(&mut self, rt: &R) -> End
+        ensures { ends self.old result self.new };
+
+    /// Whether a transaction is open.
+    fn is_open(&self) -> bool
+        ensures { IsTrue result ↔ is_open self.now };
+
+    /// The place that an answer tells, if it tells one.
+    fn place(said: &Self::Said) -> Option<u64>
+        ensures { result ≡ placed said.now };
+
+    /// Whether an answer is a refusal.
+    fn is_refusal(said: &Self::Said) -> bool
+        ensures { IsTrue result ↔ refuses said.now };
+}

@@ -1,0 +1,61 @@
+// What a client is told.
+use crate::speaking::End;
+use calls::Refusal;
+use std::fmt;
+
+/// What a client is told behind a line.
+#[derive(Drop)]
+pub enum Told<S> {
+    /// What its request was answered, or the call or commit at which all of a line was refused.
+    Said(S),
+    /// Why all that the line asked for was refused; or Lost, where keeping failed.
+    Refused(Refusal),
+    /// How its wait ended.
+    Waited(End),
+    /// The commit of this place is kept.
+    Kept(u64),
+    /// What the calls of a transaction were answered, and the place of its commit.
+    Done(Vec<S>, u64),
+    /// The same, and the commit is kept.
+    DoneAndKept(Vec<S>, u64),
+    /// The line asks for nothing that is known.
+    NotUnderstood,
+    /// The line is longer than may be.
+    TooLong,
+    /// The talk ends.
+    Bye,
+}
+
+/// One line, without its line feed.
+impl<S: fmt::Display> fmt::Display for Told<S> {
+    fn fmt<W: fmt::Write>(&self, f: &mut fmt::Formatter<W>) -> fmt::Result {
+        match self {
+            Told::Said(said) => write!(f, "{said}"),
+            Told::Refused(refusal) => write!(f, "refused {} {refusal}", refusal.number()),
+            Told::Waited(end) => write!(f, "{end}"),
+            Told::Kept(place) => write!(f, "kept {place}"),
+            Told::Done(saids, place) => {
+                write_all(f, saids.as_slice())?;
+                write!(f, "place {place}")
+            }
+            Told::DoneAndKept(saids, place) => {
+                write_all(f, saids.as_slice())?;
+                write!(f, "kept {place}")
+            }
+            Told::NotUnderstood => f.write_str("error NotUnderstood"),
+            Told::TooLong => f.write_str("error LineTooLong"),
+            Told::Bye => f.write_str("bye"),
+        }
+    }
+}
+
+// What each call was answered, with a semicolon behind it.
+fn write_all<S: fmt::Display, W: fmt::Write>(
+    f: &mut fmt::Formatter<W>,
+    saids: &[S],
+) -> fmt::Result {
+    for said in saids {
+        write!(f, "{said}; ")?;
+    }
+    Ok(())
+}

@@ -1,0 +1,98 @@
+// A transaction of calls that stand in one line.
+ghost use Rattle.std.specs.Prelude.{◌≡◌, List, [], IsTrue, ◌↔◌, true, Some, MatchOption};
+ghost use Rattle.calls.specs.declared.refusal.Refusal.{Refusal};
+ghost use Rattle.talks.specs.declared.told.Told.{Told};
+ghost use Rattle.talks.specs.declared.transacting.Outcome.{Outcome};
+ghost use Rattle.talks.specs.Talks.{Transacts, Commits, Stops, RunsCalls, IsTakenBack};
+
+use crate::speaking::Speaker;
+use crate::told::Told;
+use calls::Refusal;
+use crossbeam_utils::Backoff;
+use script::Request;
+use std::alloc::Global;
+use std::sync::Wait;
+
+// How often a taking back is tried.
+const TRIES: u32 = 100_000;
+
+// What became of a transaction.
+#[derive(Drop)]
+pub enum Outcome<S> {
+    // It is committed: what its calls were answered, and the place.
+    Committed(Vec<S>, u64),
+    // It is not: what the client is told, and whether all of it is taken back.
+    Refused(Told<S>, bool),
+}
+
+// Runs calls in a transaction of their own, and commits it. What is refused takes all of it back.
+pub fn transact<R: Wait, S: Speaker>(
+    rt: &R,
+    alloc: Global,
+    speaker: &mut S,
+    calls: &[Request],
+) -> Outcome<S::Said>
+    ensures { Transacts ⟦<S as Speaker>⟧ speaker.old calls.now result speaker.new }
+{
+    let begun = speaker.say(rt, &Request::Begin);
+    if S::is_refusal(&begun) {
+        return Outcome::Refused(Told::Said(begun), true);
+    }
+    drop(begun);
+    let mut saids = Vec::new(alloc);
+    match run_calls(rt, speaker, calls, &mut saids) {
+        None => commit(rt, speaker, saids),
+        Some(told) => Outcome::Refused(told, take_back(rt, speaker)),
+    }
+}
+
+// Commits the open transaction, whose calls were answered so.
+fn commit<R: Wait, S: Speaker>(rt: &R, speaker: &mut S, saids: Vec<S::Said>) -> Outcome<S::Said>
+    ensures { Commits ⟦<S as Speaker>⟧ speaker.old saids.items result speaker.new }
+{
+    let said = speaker.say(rt, &Request::Commit);
+    match S::place(&said) {
+        Some(place) => Outcome::Committed(saids, place),
+        None => Outcome::Refused(Told::Said(said), take_back(rt, speaker)),
+    }
+}
+
+// Runs calls in the open transaction up to the first that is refused, and answers what is told of
+// that one.
+fn run_calls<R: Wait, S: Speaker>(
+    rt: &R,
+    speaker: &mut S,
+    calls: &[Request],
+    saids: &mut Vec<S::Said>,
+) -> Option<Told<S::Said>>
+    requires { saids.old.items ≡ [] }
+    ensures { MatchOption result
+        (RunsCalls ⟦<S as Speaker>⟧ speaker.old calls.now saids.new.items speaker.new)
+        (λ told. Stops ⟦<S as Speaker>⟧ speaker.old calls.now told speaker.new) }
+{
+    for call in calls {
+        let said = speaker.say(rt, call);
+        if S::is_refusal(&said) {
+            return Some(Told::Said(said));
+        }
+        let Ok(()) = saids.push(said) else {
+            return Some(Told::Refused(Refusal::NoMemory));
+        };
+    }
+    None
+}
+
+// Takes the open transaction back, if there is one. Whether there is none any more.
+pub fn take_back<R: Wait, S: Speaker>(rt: &R, speaker: &mut S) -> bool
+    ensures taken { IsTakenBack ⟦<S as Speaker>⟧ speaker.old result speaker.new }
+{
+    let backoff = Backoff::new();
+    for _ in 0..TRIES {
+        if !speaker.is_open() {
+            return true;
+        }
+        let _said = speaker.say(rt, &Request::Abort);
+        backoff.snooze();
+    }
+    !speaker.is_open()
+}
