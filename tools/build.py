@@ -1,7 +1,8 @@
 #!/usr/bin/env python3
 """Builds the program for the script `boost`: `build.py proved`, with a line that tells how far it is, or
 `build.py unproved`, as the toolchain builds it for a try. What the toolchain prints goes into a log beside
-the program. The status is 0, or 5 where nothing was built."""
+the program. `build.py unproved CRATE [WORD ..]` does that for the program of another crate, which is run once
+with these words, and prints where the program is kept. The status is 0, or 5 where nothing was built."""
 import errno
 import glob
 import os
@@ -61,6 +62,47 @@ def build_unproved():
             os.close(end)
         tried.wait()
         return bool(end is not None and found)
+
+
+def keep_tried(room, tried, kept):
+    """Links the program of a try as soon as it is there, and once more where another file takes its place, until
+    the try has ended: a link stays when the try takes its own away."""
+    linked = None
+    while True:
+        has_ended = tried.poll() is not None
+        for path in glob.glob(os.path.join(room, '**', 'program'), recursive=True):
+            try:
+                number = os.stat(path).st_ino
+                if number != linked:
+                    if linked is not None:
+                        os.unlink(kept)
+                    os.link(path, kept)
+                    linked = number
+            except FileNotFoundError:
+                pass
+        if has_ended:
+            return linked is not None
+        time.sleep(0.005)
+
+
+def build_unproved_of(crate, words):
+    """Keeps the program of a crate as `out/unproved`."""
+    folder = os.path.join(TOP, 'crates', crate)
+    out = os.path.join(folder, 'out')
+    if not os.path.isdir(folder):
+        fail(f'no crate {crate}')
+    os.makedirs(out, exist_ok=True)
+    log_path = os.path.join(out, 'build.log')
+    with tempfile.TemporaryDirectory(prefix='try-', dir=out) as room, open(log_path, 'w', encoding='utf-8') as log:
+        kept = os.path.join(room, 'kept')
+        environment = {**os.environ, 'TMPDIR': room}
+        how = {'stdin': subprocess.DEVNULL, 'stdout': log, 'stderr': log}
+        tried = subprocess.Popen(['rt', 'try', '--', *words], cwd=folder, env=environment, **how)
+        if not keep_tried(room, tried, kept):
+            fail(f'the program was not built: see {os.path.relpath(log_path)}')
+        os.chmod(kept, 0o755)
+        os.replace(kept, os.path.join(out, 'unproved'))
+    print(os.path.relpath(os.path.join(out, 'unproved')))
 
 
 # ---- with a proof
@@ -139,6 +181,9 @@ def build_proved():
 def main():
     os.makedirs(OUT, exist_ok=True)
     try:
+        if sys.argv[1:2] == ['unproved'] and len(sys.argv) > 2:
+            build_unproved_of(sys.argv[2], sys.argv[3:])
+            return
         is_built = build_proved() if sys.argv[1:] == ['proved'] else build_unproved()
     except FileNotFoundError as error:
         if error.filename != 'rt':

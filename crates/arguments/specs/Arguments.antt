@@ -1,5 +1,6 @@
 -- The program's command line, and what it asks for.
-use Rattle.std.specs.Prelude.{◌≡◌, ◌↔◌, ℕ, ◌-◌, ◌^◌, List, Some, Ok, codes, string_bytes, true}
+use Rattle.std.specs.Prelude.{◌≡◌, ◌↔◌, ℕ, ◌-◌, ◌^◌, List, Some, Ok, codes, true}
+use Rattle.std.specs.Prelude.{string_bytes}
 use Rattle.std.specs.Option.{option_map}
 use Rattle.std.specs.Prelude.{IsSomeAnd, IsTrue}
 use Rattle.std.specs.Str.Parse.{ParsesUnsigned}
@@ -26,19 +27,20 @@ area_rule = record (new_rule (codes "area")) {
   parser = Some (parsers.Unsigned 0 (2 ^ 64 - 1));
 }
 
-abbrev pub why_rule : Rule
-why_rule = record (new_rule (codes "why")) { long = Some (codes "why"); action = Some SetTrue }
+-- a flag, which is written with its name
+abbrev pub flag_rule : Text → Rule
+flag_rule name = record (new_rule name) { long = Some name; action = Some SetTrue }
 
 -- an argument that may be left out
 abbrev pub folder_rule : Rule
 folder_rule = record (new_rule (codes "FOLDER")) { action = Some Set }
 
-abbrev pub format_app : App
-format_app = with_rule (with_rule (new_app (codes "format")) (path_rule (codes "DISK"))) area_rule
-
 -- a command on a disk alone
 abbrev pub disk_app : Text → App
 disk_app name = with_rule (new_app name) (path_rule (codes "DISK"))
+
+abbrev pub format_app : App
+format_app = with_rule (disk_app (codes "format")) area_rule
 
 -- a command on a disk that runs a script
 abbrev pub script_app : Text → App
@@ -48,7 +50,7 @@ abbrev pub play_app : App
 play_app = script_app (codes "play")
 
 abbrev pub serve_app : App
-serve_app = with_rule (script_app (codes "serve")) why_rule
+serve_app = with_rule (script_app (codes "serve")) (flag_rule (codes "why"))
 
 abbrev pub listen_app : App
 listen_app = with_rule (disk_app (codes "listen")) folder_rule
@@ -59,19 +61,23 @@ show_app = disk_app (codes "show")
 abbrev pub check_app : App
 check_app = disk_app (codes "check")
 
+abbrev pub lint_app : App
+lint_app = with_rule (new_app (codes "lint")) (path_rule (codes "SCRIPT"))
+
 abbrev pub demo_app : App
 demo_app = new_app (codes "demo")
 
 abbrev pub bare_app : App
 bare_app = let a = new_app (codes "boost") in
-    record a { top = record a.top { subcommand_required = true } }
+    record a { top = record a.top { has_version = true; subcommand_required = true } }
 
+-- the program with its commands, in the order in which help shows them
 abbrev pub program_app : App
 program_app =
-    let plays = with_subcommand (with_subcommand bare_app format_app.top) play_app.top in
-    let serves = with_subcommand (with_subcommand plays serve_app.top) listen_app.top in
-    with_subcommand (with_subcommand (with_subcommand serves show_app.top) check_app.top)
-    demo_app.top
+    let first = with_subcommand (with_subcommand bare_app format_app.top) play_app.top in
+    let served = with_subcommand (with_subcommand first serve_app.top) listen_app.top in
+    let seen = with_subcommand (with_subcommand served show_app.top) check_app.top in
+    with_subcommand (with_subcommand seen lint_app.top) demo_app.top
 
 -- ---- what is asked for
 
@@ -79,35 +85,40 @@ program_app =
 pub record IsNumberOf (n : ℕ) (text : Text) : Type 0 where
   pub parsed : ParsesUnsigned {E = ParseIntError} 64 10 text (Ok n)
 
--- the arguments are the paths of a disk and of a script
-abbrev pub ArePaths : (disk script : Text) → List Row → Type 0
-ArePaths disk script rows = (first_of (codes "DISK") rows ≡ Some disk) ×
-    (first_of (codes "SCRIPT") rows ≡ Some script)
-
 -- the flag stands on the command line
 abbrev pub IsGiven : Text → List Row → Type 0
 IsGiven flag rows = first_of flag rows ≡ Some (codes "true")
 
+-- the path stands under its name
+abbrev pub IsPath : Text → Text → List Row → Type 0
+IsPath name path rows = first_of name rows ≡ Some path
+
+-- the arguments are the paths of a disk and of a script
+abbrev pub ArePaths : (disk script : Text) → List Row → Type 0
+ArePaths disk script rows = IsPath (codes "DISK") disk rows × IsPath (codes "SCRIPT") script rows
+
 -- the subcommand that was found, with its arguments
 abbrev pub AsksTask : Task → Text × List Row → Type 0
-AsksTask (Task.Format disk area) found =
-    (found.0 ≡ codes "format") × (first_of (codes "DISK") found.1 ≡ Some (string_bytes disk)) ×
+AsksTask (Task.Format disk area) found = (found.0 ≡ codes "format") ×
+    IsPath (codes "DISK") (string_bytes disk) found.1 ×
     IsSomeAnd (first_of (codes "area") found.1) (IsNumberOf area)
 AsksTask (Task.Play disk script) found = (found.0 ≡ codes "play") ×
     ArePaths (string_bytes disk) (string_bytes script) found.1
 AsksTask (Task.Show disk) found = (found.0 ≡ codes "show") ×
-    (first_of (codes "DISK") found.1 ≡ Some (string_bytes disk))
+    IsPath (codes "DISK") (string_bytes disk) found.1
 AsksTask (Task.Check disk) found = (found.0 ≡ codes "check") ×
-    (first_of (codes "DISK") found.1 ≡ Some (string_bytes disk))
+    IsPath (codes "DISK") (string_bytes disk) found.1
 AsksTask Task.Demo found = found.0 ≡ codes "demo"
 
 abbrev pub Asks : Invocation → Text × List Row → Type 0
 Asks (Invocation.Run task) found = AsksTask task found
+Asks (Invocation.Lint script) found = (found.0 ≡ codes "lint") ×
+    IsPath (codes "SCRIPT") (string_bytes script) found.1
 Asks (Invocation.Serve disk script why) found = (found.0 ≡ codes "serve") ×
     ArePaths (string_bytes disk) (string_bytes script) found.1 ×
     (IsTrue why ↔ IsGiven (codes "why") found.1)
 Asks (Invocation.Listen disk folder) found = (found.0 ≡ codes "listen") ×
-    (first_of (codes "DISK") found.1 ≡ Some (string_bytes disk)) ×
+    IsPath (codes "DISK") (string_bytes disk) found.1 ×
     (first_of (codes "FOLDER") found.1 ≡ option_map string_bytes folder)
 
 -- The words ask for this: clap finds the command in them, with its paths and number.

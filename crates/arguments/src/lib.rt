@@ -8,8 +8,9 @@ ghost use Rattle.std.specs.Option.{option_map};
 ghost use Rattle.clap.specs.declared.builder.command.Command.TheViews.{out-Command};
 ghost use Rattle.clap.specs.Words.{app_of, found_of, first_of, rows_of, rule_of};
 ghost use Rattle.clap.specs.Words.{subcommand_rows_of, with_subcommand};
-ghost use Rattle.arguments.specs.Arguments.{path_rule, area_rule, why_rule, folder_rule, disk_app};
-ghost use Rattle.arguments.specs.Arguments.{format_app, script_app, serve_app, listen_app, IsGiven};
+ghost use Rattle.arguments.specs.Arguments.{path_rule, area_rule, flag_rule, folder_rule};
+ghost use Rattle.arguments.specs.Arguments.{disk_app, script_app, serve_app, listen_app};
+ghost use Rattle.arguments.specs.Arguments.{format_app, lint_app, IsGiven, bare_app};
 ghost use Rattle.arguments.specs.Arguments.{program_app, ArePaths, Asks, AsksTask, IsNumberOf};
 ghost use Rattle.arguments.specs.Arguments.{IsAskedBy};
 
@@ -17,11 +18,18 @@ use clap::error::ErrorKind;
 use clap::{Arg, ArgAction, ArgMatches, Error, value_parser};
 use std::alloc::{AllocError, Global};
 
+/// The version of the program, as `boost --version` prints it.
+pub const VERSION: &str = "1.0.0";
+
 /// What the program is asked to do, with the paths as they were written.
 #[derive(Drop, Debug)]
 pub enum Invocation {
-    /// A task of one thread.
+    /// A task of one thread on one disk.
     Run(Task),
+    /// Tells the lines of a script that are not understood. No disk is opened.
+    Lint {
+        script: String,
+    },
     /// Runs the clients of a script on the store in the file, each in a thread of its own. `why`
     /// asks to be told what ended keeping early.
     Serve {
@@ -37,7 +45,7 @@ pub enum Invocation {
     },
 }
 
-/// What the program does on one thread, with the paths as they were written.
+/// What the program does on one thread with one disk, with the paths as they were written.
 #[derive(Drop, Debug)]
 pub enum Task {
     /// Makes the file, or sets its size, and formats it with two areas of so many bytes.
@@ -77,15 +85,15 @@ fn area<'a>(alloc: Global) -> Arg<'a>
         .help("The bytes of each of its two areas, from 65536 to 1073741824")
 }
 
-// The flag that asks what ended keeping early.
-fn why<'a>(alloc: Global) -> Arg<'a>
-    ensures rule { rule_of result ≡ why_rule }
+// A flag, which is off where it does not stand on the command line.
+fn flag<'a>(alloc: Global, name: &'a str, help: &'a str) -> Arg<'a>
+    ensures rule { rule_of result ≡ flag_rule name.entry.now }
     ensures alone { result.global ≡ false }
 {
-    Arg::new(alloc, "why")
-        .long("why")
+    Arg::new(alloc, name)
+        .long(name)
         .action(ArgAction::SetTrue)
-        .help("Tell what ended keeping early, where tickets were lost")
+        .help(help)
 }
 
 // The folder of the door, which may be left out.
@@ -113,10 +121,10 @@ fn disk_command<'a>(
 }
 
 // The command that formats a disk.
-fn format_command<'a>(alloc: Global) -> Result<clap::Command<'a>, AllocError>
+fn format_command<'a>(alloc: Global, about: &'a str) -> Result<clap::Command<'a>, AllocError>
     ensures { IfOk result (λ c. (app_of c ≡ format_app) × ((out-Command c).has_globals ≡ false)) }
 {
-    disk_command(alloc, "format", "Make an empty store in a file")?.arg(area(alloc))
+    disk_command(alloc, "format", about)?.arg(area(alloc))
 }
 
 // A command on a disk that runs a script.
@@ -139,7 +147,8 @@ fn script_command<'a>(
 fn serve_command<'a>(alloc: Global, about: &'a str) -> Result<clap::Command<'a>, AllocError>
     ensures { IfOk result (λ c. (app_of c ≡ serve_app) × ((out-Command c).has_globals ≡ false)) }
 {
-    script_command(alloc, "serve", about)?.arg(why(alloc))
+    let why = "Tell what ended keeping early, where tickets were lost";
+    script_command(alloc, "serve", about)?.arg(flag(alloc, "why", why))
 }
 
 // The command that keeps a store open.
@@ -147,6 +156,15 @@ fn listen_command<'a>(alloc: Global, about: &'a str) -> Result<clap::Command<'a>
     ensures { IfOk result (λ c. (app_of c ≡ listen_app) × ((out-Command c).has_globals ≡ false)) }
 {
     disk_command(alloc, "listen", about)?.arg(folder(alloc))
+}
+
+// The command that reads a script alone.
+fn lint_command<'a>(alloc: Global, about: &'a str) -> Result<clap::Command<'a>, AllocError>
+    ensures { IfOk result (λ c. (app_of c ≡ lint_app) × ((out-Command c).has_globals ≡ false)) }
+{
+    clap::Command::new(alloc, "lint")
+        .about(about)
+        .arg(path(alloc, "SCRIPT", "The file that holds the lines"))
 }
 
 // The program with one command more, where that could be made.
@@ -160,30 +178,42 @@ fn with<'a>(
     program.subcommand(made?)
 }
 
+// The program without its commands.
+fn bare_program<'a>(alloc: Global) -> clap::Command<'a>
+    ensures { app_of result ≡ bare_app }
+{
+    clap::Command::new(alloc, "boost")
+        .about("A store of named collections that is kept through crashes")
+        .version(VERSION)
+        .subcommand_required(true)
+}
+
 // The command lines that are understood.
 fn program<'a>(alloc: Global) -> Result<clap::Command<'a>, AllocError>
     ensures { IfOk result (λ c. app_of c ≡ program_app) }
 {
-    let program = clap::Command::new(alloc, "boost")
-        .about("A store of named collections that is kept through crashes")
-        .subcommand_required(true);
-    let play = "Run the lines of a script one after another";
-    let serve = "Run the lines of a script, each client in a thread of its own";
-    let listen = "Keep the store open, and serve the clients that come";
-    let demo = "Run a stored script on a disk in memory";
-    let program = with(program, format_command(alloc))?;
-    let program = with(program, script_command(alloc, "play", play))?;
-    let program = with(program, serve_command(alloc, serve))?;
-    let program = with(program, listen_command(alloc, listen))?;
-    let program = with(
-        program,
-        disk_command(alloc, "show", "Print what the store holds"),
-    )?;
-    let program = with(
-        program,
-        disk_command(alloc, "check", "Count what the store holds"),
-    )?;
-    program.subcommand(clap::Command::new(alloc, "demo").about(demo))
+    let format = format_command(alloc, "Make an empty store in a file");
+    let play = script_command(alloc, "play", "Run the lines of a script one after another");
+    let serve = serve_command(
+        alloc,
+        "Run the clients of a script, each in a thread of its own",
+    );
+    let listen = listen_command(
+        alloc,
+        "Keep the store open, and serve the clients that come",
+    );
+    let show = disk_command(alloc, "show", "Print what the store holds");
+    let check = disk_command(alloc, "check", "Count what the store holds");
+    let lint = lint_command(alloc, "Tell the lines of a script that are not understood");
+    let demo = clap::Command::new(alloc, "demo").about("Run a stored script on a disk in memory");
+    let program = with(bare_program(alloc), format)?;
+    let program = with(program, play)?;
+    let program = with(program, serve)?;
+    let program = with(program, listen)?;
+    let program = with(program, show)?;
+    let program = with(program, check)?;
+    let program = with(program, lint)?;
+    with(program, Ok(demo))
 }
 
 fn text(alloc: Global, found: &ArgMatches<'_>, id: &str) -> Result<Option<String>, AllocError>
@@ -227,6 +257,30 @@ fn paths(alloc: Global, found: &ArgMatches<'_>) -> Result<Option<(String, String
     }
 }
 
+// What serving a script asks for.
+fn serve_asked(alloc: Global, found: &ArgMatches<'_>) -> Result<Option<Invocation>, AllocError>
+    ensures { IfOk result (λ asked. IfSome asked
+        (λ a. Asks a (codes "serve", rows_of (found_of found.now)))) }
+{
+    let Some((disk, script)) = paths(alloc, found)? else {
+        return Ok(None);
+    };
+    let why = is_given(found, "why");
+    Ok(Some(Invocation::Serve { disk, script, why }))
+}
+
+// What keeping a store open asks for.
+fn listen_asked(alloc: Global, found: &ArgMatches<'_>) -> Result<Option<Invocation>, AllocError>
+    ensures { IfOk result (λ asked. IfSome asked
+        (λ a. Asks a (codes "listen", rows_of (found_of found.now)))) }
+{
+    let Some(disk) = text(alloc, found, "DISK")? else {
+        return Ok(None);
+    };
+    let folder = text(alloc, found, "FOLDER")?;
+    Ok(Some(Invocation::Listen { disk, folder }))
+}
+
 // What the command of the name asks for.
 fn named(
     alloc: Global,
@@ -236,26 +290,30 @@ fn named(
     ensures { IfOk result (λ command. IfSome command
         (λ c. Asks c (name.now, rows_of (found_of found.now)))) }
 {
-    if name == "serve" {
-        return match paths(alloc, found)? {
-            Some((disk, script)) => {
-                let why = is_given(found, "why");
-                Ok(Some(Invocation::Serve { disk, script, why }))
-            }
+    match name {
+        "serve" => serve_asked(alloc, found),
+        "listen" => listen_asked(alloc, found),
+        "lint" => match text(alloc, found, "SCRIPT")? {
+            Some(script) => Ok(Some(Invocation::Lint { script })),
             None => Ok(None),
-        };
-    }
-    if name == "listen" {
-        return match text(alloc, found, "DISK")? {
-            Some(disk) => {
-                let folder = text(alloc, found, "FOLDER")?;
-                Ok(Some(Invocation::Listen { disk, folder }))
-            }
+        },
+        _ => match task_of(alloc, name, found)? {
+            Some(task) => Ok(Some(Invocation::Run(task))),
             None => Ok(None),
-        };
+        },
     }
-    match task_of(alloc, name, found)? {
-        Some(task) => Ok(Some(Invocation::Run(task))),
+}
+
+// What formatting a disk asks for.
+fn format_asked(alloc: Global, found: &ArgMatches<'_>) -> Result<Option<Task>, AllocError>
+    ensures { IfOk result (λ asked. IfSome asked
+        (λ a. AsksTask a (codes "format", rows_of (found_of found.now)))) }
+{
+    let Some(area) = number(found, "area") else {
+        return Ok(None);
+    };
+    match text(alloc, found, "DISK")? {
+        Some(disk) => Ok(Some(Task::Format { disk, area })),
         None => Ok(None),
     }
 }
@@ -266,15 +324,7 @@ fn task_of(alloc: Global, name: &str, found: &ArgMatches<'_>) -> Result<Option<T
         (λ t. AsksTask t (name.now, rows_of (found_of found.now)))) }
 {
     match name {
-        "format" => {
-            let Some(area) = number(found, "area") else {
-                return Ok(None);
-            };
-            match text(alloc, found, "DISK")? {
-                Some(disk) => Ok(Some(Task::Format { disk, area })),
-                None => Ok(None),
-            }
-        }
+        "format" => format_asked(alloc, found),
         "play" => match paths(alloc, found)? {
             Some((disk, script)) => Ok(Some(Task::Play { disk, script })),
             None => Ok(None),

@@ -1,12 +1,12 @@
 -- What a client knew it knows still.
-use Rattle.std.proofs.Common.{◌≡◌, ℕ, List, [], ◌++◌, Bool, Result, refl, sym, ap, subst}
+use Rattle.std.proofs.Common.{List, [], Bool, Result, refl, sym, ap, subst}
 use Rattle.std.proofs.Common.{inl, inr, ◌∙◌}
 use Rattle.std.specs.Prelude.{Contains}
-use mathlib.Core.List.{IsPrefix}
 use Rattle.std.proofs.lemmas.List.{append-nil}
 use Rattle.std.proofs.lemmas.List.Elements.{Contains-append_left}
 use Rattle.calls.specs.declared.refusal.Refusal.{Refusal}
 use Rattle.txn.specs.declared.steps.Action.{Action}
+use Rattle.group_commit.specs.declared.mark.Raised.{Raised}
 use Rattle.clients.specs.declared.naming.Naming.{Ghosts}
 use Rattle.clients.specs.declared.phase.Phase.{Phase}
 use Rattle.clients.specs.Calls.{Acts, Aborts, Hears}
@@ -32,7 +32,7 @@ knows_through old between new one two = record {
 }
 
 -- counts and flags were loaded
-pub knows_heard : (old new : Known) (counts : List ℕ) (flags : List Bool) →
+pub knows_heard : (old new : Known) (counts : List Raised) (flags : List Bool) →
     Hears old counts flags new → KnowsStill old new
 knows_heard old new counts flags hears =
     subst (KnowsStill old) (sym hears) (record {

@@ -1,3 +1,4 @@
 pub mod Knowing
 pub mod TicketLemmas
+pub mod Trying
 pub mod WorkLemmas

@@ -15,6 +15,7 @@ use Rattle.catalog.specs.Meaning.{catalog_meaning, catalog_making}
 use Rattle.checkpoint.specs.Crash.{Yields}
 use Rattle.disk_model.specs.Disk.{IsAtRest}
 use Rattle.disk_model.specs.declared.disk.Disk.{Ghosts}
+use Rattle.group_commit.specs.declared.mark.Raised.{Raised}
 use Rattle.group_commit.specs.Marks.{AreReached}
 use Rattle.recovery.specs.Openings.{KeepsContent}
 use Rattle.repetition.specs.Journals.{StandsFor}
@@ -26,8 +27,9 @@ use Rattle.txn.specs.Books.{standing}
 use Rattle.txn.specs.declared.steps.BookStep.{BookStep}
 use Rattle.txn.specs.Histories.{IsLegal, committed_by}
 use Rattle.txn.specs.Rows.{opening}
+use Rattle.store.specs.Closing.{WasKept}
 use Rattle.background.specs.Works.{IsSaid, AreSaid, AreParts, AreTold}
-use Rattle.background.specs.Works.{IsClosed, WasOpened, IsLeftByWork}
+use Rattle.background.specs.Works.{IsClosed, WasOpened}
 
 -- what holds of an answer, and what follows from it
 pub ok_then : {X E : Type 0} (r : Result X E) (P Q : X → Type 0) → IfOk r P →
@@ -75,7 +77,7 @@ module _ {A : Type 0} (says : ℕ → A → Known → Type 0) where
       (sym at ∙ ok) (are k x within)
 
   -- the answer of one thread more
-  pub parts_more : (answers : List A) (seen more : List BookStep) (counts loaded : List ℕ)
+  pub parts_more : (answers : List A) (seen more : List BookStep) (counts loaded : List Raised)
       (answer : A) (left : SeenState) → AreParts says answers seen counts →
       IsSaid says (length answers) answer left → IsPrefix seen more → IsPrefix left.seen more →
       loaded ≡ counts ++ left.counts → AreParts says (answers ++ answer ∷ []) more loaded
@@ -100,27 +102,30 @@ module _ {A : Type 0} (says : ℕ → A → Known → Type 0) where
       ]
 
   -- the history begins with all of it, and the mark has reached all of it
-  pub parts_told : (answers : List A) (seen steps : List BookStep) (counts : List ℕ)
+  pub parts_told : (answers : List A) (seen steps : List BookStep) (counts : List Raised)
       (kept : ℕ) → AreParts says answers seen counts → IsPrefix seen steps →
-      AreReached counts kept → AreTold says answers kept steps
-  parts_told answers seen steps counts kept are begins reached thread answer at =
+      AreReached counts kept → (was_kept : Raised → Type 0) →
+      ((x : Raised) → Contains counts x → 0 < x.count → was_kept x) →
+      AreTold says answers kept steps was_kept
+  parts_told answers seen steps counts kept are begins reached was_kept all thread answer at =
       let part = are thread answer at in
       let loaded = part.known.counts in record {
         known = part.known;
         said = part.said;
         begins = prefix_through part.known.seen seen steps part.begins begins;
-        reached = All-weaker (Contains loaded) (λ x. x ≤ kept)
-            (λ x some. All-contains (λ y. y ≤ kept) counts x reached (part.loaded x some)) loaded
-            (All-contains_itself loaded);
+        reached = All-weaker (Contains loaded) (λ x. x.count ≤ kept)
+            (λ x there. All-contains (λ y. y.count ≤ kept) counts x reached
+            (part.loaded x there)) loaded (All-contains_itself loaded);
+        since = λ x there told. all x (part.loaded x there) told;
       }
 
 -- ---- what is left
 
 -- more is known of the parts
 pub closed_with : {J D : Type 0} (j : namings.Ghosts J) (g : Ghosts D)
-    (some more : List BookStep → List ℕ → Type 0) (new : D) (kept : ℕ) →
+    (some more : List BookStep → List Raised → Type 0) (new : D) (kept : ℕ) →
     IsClosed j g some new kept →
-    ((seen : List BookStep) (counts : List ℕ) → some seen counts → more seen counts) →
+    ((seen : List BookStep) (counts : List Raised) → some seen counts → more seen counts) →
     IsClosed j g more new kept
 closed_with j g some more new kept closed then = record {
   seen = closed.seen;
@@ -131,19 +136,6 @@ closed_with j g some more new kept closed then = record {
   disk = closed.disk;
   mark = closed.mark;
   parts_of = then closed.seen closed.counts closed.parts_of;
-}
-
--- fewer of the transactions are known
-yields_fewer : (start : List Collection) (all known : List Transaction) (bytes : List ℕ) →
-    Yields start all known bytes → Yields start all [] bytes
-yields_fewer start all known bytes y = record {
-  sound = y.sound;
-  content = y.content;
-  stands = y.stands;
-  kept = y.kept;
-  begins = y.begins;
-  holds = (y.kept, refl);
-  serial = y.serial;
 }
 
 -- of the transactions none
@@ -161,9 +153,12 @@ yields_none content all bytes kept = record {
 
 module _ {D : Type 0} (g : Ghosts D) where
   -- A store that was opened under a name was worked on.
-  pub was_opened : {J : Type 0} (j : namings.Ghosts J) (parts : List BookStep → List ℕ → Type 0)
-      (told : List BookStep → Type 0) (old opened new : D) (kept : ℕ) →
-      (closed : IsClosed j g parts new kept) → told closed.closes.steps →
+  pub was_opened : {J : Type 0} (j : namings.Ghosts J) (parts : List BookStep → List Raised → Type 0)
+      (told : List BookStep → (Raised → Type 0) → Type 0) (old opened new : D) (kept : ℕ) →
+      (closed : IsClosed j g parts new kept) →
+      ((was_kept : Raised → Type 0) →
+      ((x : Raised) → Contains closed.counts x → 0 < x.count → was_kept x) →
+      told closed.closes.steps was_kept) →
       (g.is_honest opened → KeepsContent g.seen g.may_leave g.moment g.left_since old opened) →
       (g.is_honest opened → IsAtRest g.seen g.may_leave old → j.sound) →
       (g.is_honest opened → IsSound (g.seen old)) →
@@ -181,7 +176,18 @@ module _ {D : Type 0} (g : Ghosts D) where
           behind = standing closed.book;
           legal = subst (λ s. IsLegal catalog_meaning catalog_making (opening s j.wear) steps
               (standing closed.book)) (start content stands honest) closed.closes.legal;
-          told_of = told_of;
+          told_of = told_of (WasKept g new content (committed_by steps) (g.moment old))
+              (λ x there told.
+              let opening = keeps honest content rest (whole honest) stands in
+              let since = closed.closes.since_told (sound honest rest) x there told in record {
+                later = omega (arith, since.later, at, opening.later);
+                past = subst (λ d. x.moment ≤ g.moment d) (sym closed.disk) since.past;
+                each = λ bytes left.
+                    subst (λ s. Yields s (committed_by steps)
+                    (take x.count (committed_by steps)) bytes) (start content stands honest)
+                    (since.each bytes
+                    (subst (λ d. g.left_since d x.moment bytes) closed.disk left));
+              });
           any_moment = λ bytes left.
               let opening = keeps honest content rest (whole honest) stands in
               let since = closed.closes.any_moment (sound honest rest) in
@@ -200,25 +206,3 @@ module _ {D : Type 0} (g : Ghosts D) where
               (subst (λ d. g.may_leave d bytes) closed.disk left)));
         };
       }
-
-  -- Less is said where it is not told how much is kept.
-  pub left_by_any : (old new : D) (kept : ℕ) → IsLeftByWork g old new kept →
-      IsLeftByWork g old new 0
-  left_by_any old new kept left = elim left [
-    | inl refused ↦ inl refused
-    | inr worked ↦ inr (record {
-      opened = worked.opened;
-      keeps = worked.keeps;
-      worked = λ honest content rest stands.
-          let w = worked.worked honest content rest stands in record {
-            wear = w.wear;
-            steps = w.steps;
-            behind = w.behind;
-            legal = w.legal;
-            told_of = tt;
-            any_moment = w.any_moment;
-            stop = λ bytes may. yields_fewer content (committed_by w.steps)
-                (take kept (committed_by w.steps)) bytes (w.stop bytes may);
-          };
-    })
-  ]

@@ -8,12 +8,13 @@ use Rattle.catalog.specs.Meaning.{catalog_meaning, catalog_making}
 use Rattle.checkpoint.specs.Crash.{Yields}
 use Rattle.disk_model.specs.Disk.{IsAtRest}
 use Rattle.disk_model.specs.declared.disk.Disk.{Ghosts}
+use Rattle.group_commit.specs.declared.mark.Raised.{Raised}
 use Rattle.group_commit.specs.Marks.{AreReached}
 use Rattle.checkpoint.specs.Keepers.{KeeperState}
 use Rattle.recovery.specs.Openings.{KeepsContent}
 use Rattle.repetition.specs.Journals.{StandsFor}
 use Rattle.clients.specs.Known.{SeenState}
-use Rattle.store.specs.Closing.{Closes}
+use Rattle.store.specs.Closing.{Closes, WasKept}
 use Rattle.clients.specs.Known.{Known, step_of}
 use Rattle.clients.specs.declared.naming.Naming as namings
 use Rattle.txn.specs.Books.{BookState}
@@ -33,35 +34,38 @@ pub record HasCommitted (known : Known) (place : ℕ) : Type 0 where
 
 -- the client was told that all commits and makings up to the place are kept
 abbrev pub WasToldKept : Known → ℕ → Type 0
-WasToldKept known place = (count : ℕ) × Contains known.counts count × (place ≤ count)
+WasToldKept known place = (x : Raised) × Contains known.counts x × (place ≤ x.count)
 
 -- What the client knew it knows still: it is the same one, it has seen as much and more, and no
 -- count that it had loaded is gone.
 pub record KnowsStill (old new : Known) : Type 0 where
   pub number : new.number ≡ old.number
   pub seen : IsPrefix old.seen new.seen
-  pub counts : (count : ℕ) → Contains old.counts count → Contains new.counts count
+  pub counts : (x : Raised) → Contains old.counts x → Contains new.counts x
 
 module _ {A : Type 0} (says : ℕ → A → Known → Type 0) where
   -- A thread's answer says so of what its client knew at the end. The history begins with what the
-  -- client had seen, and what it was told as kept is kept.
-  pub record IsTold (steps : List BookStep) (kept : ℕ) (thread : ℕ) (answer : A) : Type 0 where
+  -- client had seen, and what it was told as kept is kept, and was from the moment on at which the mark
+  -- was brought there.
+  pub record IsTold (steps : List BookStep) (kept : ℕ) (was_kept : Raised → Type 0) (thread : ℕ)
+      (answer : A) : Type 0 where
     pub known : Known
     pub said : says thread answer known
     pub begins : IsPrefix known.seen steps
     pub reached : AreReached known.counts kept
+    pub since : (x : Raised) → Contains known.counts x → 0 < x.count → was_kept x
 
   -- so it is with the answer of each thread
-  abbrev pub AreTold : List A → ℕ → List BookStep → Type 0
-  AreTold answers kept steps = (thread : ℕ) (answer : A) →
-      slice_get answers thread ≡ Some answer → IsTold steps kept thread answer
+  abbrev pub AreTold : List A → ℕ → List BookStep → (Raised → Type 0) → Type 0
+  AreTold answers kept steps was_kept = (thread : ℕ) (answer : A) →
+      slice_get answers thread ≡ Some answer → IsTold steps kept was_kept thread answer
 
   -- A thread's answer says so of what its client knew, which was part of what it left.
   pub record IsSaid (thread : ℕ) (answer : A) (left : SeenState) : Type 0 where
     pub known : Known
     pub said : says thread answer known
     pub seen : IsPrefix known.seen left.seen
-    pub loaded : (count : ℕ) → Contains known.counts count → Contains left.counts count
+    pub loaded : (x : Raised) → Contains known.counts x → Contains left.counts x
 
   -- so it is with the answers of so many threads, unless one was refused a client
   abbrev pub AreSaid : List (Result (A × SeenState) Refusal) → ℕ → Type 0
@@ -69,15 +73,15 @@ module _ {A : Type 0} (says : ℕ → A → Known → Type 0) where
       IfOk (slice_index_or ended thread d) (λ e. IsSaid thread e.0 e.1)
 
   -- So it is, and what the client had seen and loaded is part of this.
-  pub record IsPart (seen : List BookStep) (counts : List ℕ) (thread : ℕ) (answer : A) :
+  pub record IsPart (seen : List BookStep) (counts : List Raised) (thread : ℕ) (answer : A) :
       Type 0 where
     pub known : Known
     pub said : says thread answer known
     pub begins : IsPrefix known.seen seen
-    pub loaded : (count : ℕ) → Contains known.counts count → Contains counts count
+    pub loaded : (x : Raised) → Contains known.counts x → Contains counts x
 
   -- so it is with the answer of each thread
-  abbrev pub AreParts : List A → List BookStep → List ℕ → Type 0
+  abbrev pub AreParts : List A → List BookStep → List Raised → Type 0
   AreParts answers seen counts = (thread : ℕ) (answer : A) →
       slice_get answers thread ≡ Some answer → IsPart seen counts thread answer
 
@@ -87,14 +91,15 @@ module _ {A : Type 0} (says : ℕ → A → Known → Type 0) where
 -- this one might have left of the disk is sound, and stands for a content that some beginning of the
 -- transactions gives that the history commits, each run whole, one after another, with the replies
 -- that its client got; and of what a stop leaves now that beginning holds the first so many of them.
--- told: what is known of the history.
-pub record IsWorkedOn {D : Type 0} (g : Ghosts D) (told : List BookStep → Type 0)
+-- told: what is known of the history, and of the counts that were kept from a moment on.
+pub record IsWorkedOn {D : Type 0} (g : Ghosts D)
+    (told : List BookStep → (Raised → Type 0) → Type 0)
     (content : List Collection) (since : ℕ) (new : D) (kept : ℕ) : Type 0 where
   pub wear : ℕ
   pub steps : List BookStep
   pub behind : Standing (List Collection)
   pub legal : IsLegal catalog_meaning catalog_making (opening content wear) steps behind
-  pub told_of : told steps
+  pub told_of : told steps (WasKept g new content (committed_by steps) since)
   pub any_moment : (bytes : List ℕ) → g.left_since new since bytes →
       Yields content (committed_by steps) [] bytes
   pub stop : (bytes : List ℕ) → g.may_leave new bytes →
@@ -104,8 +109,8 @@ pub record IsWorkedOn {D : Type 0} (g : Ghosts D) (told : List BookStep → Type
 -- opening leaves the content; and where it was at rest and its bytes stood for a content, the work
 -- went on from that, and what is said of a stop at any moment is said of each since the opening
 -- began.
-pub record WasOpened {D : Type 0} (g : Ghosts D) (told : List BookStep → Type 0) (old new : D)
-    (kept : ℕ) : Type 0 where
+pub record WasOpened {D : Type 0} (g : Ghosts D)
+    (told : List BookStep → (Raised → Type 0) → Type 0) (old new : D) (kept : ℕ) : Type 0 where
   pub opened : D
   pub keeps : g.is_honest opened →
       KeepsContent g.seen g.may_leave g.moment g.left_since old opened
@@ -117,14 +122,14 @@ pub record WasOpened {D : Type 0} (g : Ghosts D) (told : List BookStep → Type 
 abbrev pub IsLeftByWork : {D : Type 0} (g : Ghosts D) → (old new : D) → (kept : ℕ) → Type 0
 IsLeftByWork g old new kept =
     (g.is_honest new → KeepsContent g.seen g.may_leave g.moment g.left_since old new)
-    ⊎ WasOpened g (λ steps. Unit {0}) old new kept
+    ⊎ WasOpened g (λ steps was_kept. Unit {0}) old new kept
 
 -- A store was closed, and this is its disk, and its keeper's mark. parts: of what the clients had
 -- seen and loaded that was compared.
 pub record IsClosed {J D : Type 0} (j : namings.Ghosts J) (g : Ghosts D)
-    (parts : List BookStep → List ℕ → Type 0) (new : D) (kept : ℕ) : Type 0 where
+    (parts : List BookStep → List Raised → Type 0) (new : D) (kept : ℕ) : Type 0 where
   pub seen : List BookStep
-  pub counts : List ℕ
+  pub counts : List Raised
   pub book : BookState (List Collection)
   pub keeper : KeeperState D
   pub closes : Closes j g seen counts book keeper

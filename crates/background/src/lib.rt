@@ -37,4 +37,5 @@ mod running;
 mod transacting;
 
 pub use running::{Closed, Work, all_ended, run};
-pub use transacting::{Transaction, keep, transact};
+pub use store::{Attempt, Transaction};
+pub use transacting::{keep, keep_within, transact, transact_within};

@@ -89,9 +89,11 @@ type Ended<O, J> = Result<(O, Seen<J>), Refusal>;
 ///
 /// On a disk at rest that reads true until it is open, and whose bytes stand for a content, a stop
 /// in the opening leaves the content, and one behind the call a beginning of what was committed,
-/// which has all commits up to `kept`. What a thread's client has seen begins the history of these
-/// commits, and no count of kept commits that it was told is past `kept`: so a commit that a thread
-/// was told is kept is there. Each answer says of its client what `Work::says` says.
+/// which has all commits up to `kept`. One at any moment since the opening began leaves a beginning
+/// too, and from the moment on at which a thread could be told that so many commits are kept, it has
+/// them. What a thread's client has seen begins the history of these commits, and no count of kept
+/// commits that it was told is past `kept`: so a commit that a thread was told is kept is there, from
+/// then on. Each answer says of its client what `Work::says` says.
 ///
 /// The refusals of `Opened::open`, and NoMemory where the committer's thread or the checkpointer's
 /// cannot be started: no work is begun then. NoMemory also where the answers take more than there is, and Worn where a

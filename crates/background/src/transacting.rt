@@ -1,40 +1,32 @@
 // Transactions that are tried until they go through.
-ghost use Rattle.std.specs.Prelude.{◌≡◌, IfOk, OnOk};
+ghost use Rattle.std.specs.Prelude.{◌≡◌, List, IfOk, OnOk};
+ghost use Rattle.txn.specs.declared.steps.Action.{Action};
 ghost use Rattle.clients.specs.declared.phase.Phase.{Phase};
-ghost use Rattle.clients.specs.Calls.{IsOpen};
+ghost use Rattle.clients.specs.Attempts.{IsBegun};
+ghost use Rattle.background.specs.Transactions.{Tried, Transacts, Keeps};
 ghost use Rattle.background.specs.Works.{HasCommitted, WasToldKept, KnowsStill};
 
 use crate::pause::Pause;
 use calls::Refusal;
 use std::rt::Clock;
 use std::sync::Wait;
-use store::{Client, Naming, Ticket};
+use store::{Client, Naming, Ticket, Transaction};
 
-/// The calls of a transaction.
-pub trait Transaction {
-    type Output: Drop;
-
-    /// Makes the calls in the client's open transaction, and answers what they gave. At a refusal
-    /// the transaction is taken back.
-    fn make_calls<J: Naming, R: Wait>(
-        &self,
-        rt: &R,
-        client: &mut Client<'_, J>,
-    ) -> Result<Self::Output, Refusal>
-        requires { IsOpen client.old.phase }
-        ensures { IsOpen client.new.phase };
-}
-
-/// Begins a transaction, makes its calls and commits it. Answers what the calls gave, and the ticket
-/// of the commit. Where another transaction is in the way (Busy), where too many are live
-/// (TooManyLive), or too many records wait for the disk (Backlog), it is taken back and tried
-/// again, after a pause that grows up to 10 milliseconds, in which the thread sleeps. One that the
-/// client had open is taken back first, and so is one whose taking back found too many records
-/// waiting.
+/// Begins a transaction, makes its calls in an attempt and commits it. Answers what the calls gave,
+/// and the ticket of the commit. Where another transaction is in the way (Busy), where too many are
+/// live (TooManyLive), or too many records wait for the disk (Backlog), the attempt is taken back
+/// and another is made, after a pause that grows up to 10 milliseconds, in which the thread sleeps.
+/// A transaction that the client had open is taken back first, and so is one whose taking back
+/// found too many records waiting.
+///
+/// Of the client's own steps behind the call, exactly one more transaction is committed, and its
+/// calls are those of the attempt that went through, of which the output says what
+/// `Transaction::says` says. Each attempt before it was ended by an abort.
 ///
 /// Lost where it is to be tried again and keeping has failed: nothing that would be committed could
 /// be kept. Each other refusal of a call, of the begin or of the commit takes the transaction back
-/// and is answered; and so are those of `Client::abort`, which leave it open.
+/// and is answered; and so are those of `Client::abort`, which leave it open. No refusal leaves
+/// anything committed.
 pub fn transact<T: Transaction, J: Naming, R: Wait + Clock>(
     rt: &R,
     client: &mut Client<'_, J>,
@@ -42,24 +34,40 @@ pub fn transact<T: Transaction, J: Naming, R: Wait + Clock>(
 ) -> Result<(T::Output, Ticket), Refusal>
     ensures closed { OnOk result (client.new.phase ≡ Phase.Closed) }
     ensures committed { IfOk result (λ done. HasCommitted client.new done.1.place) }
+    ensures transacts { Transacts ⟦<J as Naming>⟧ (T.says transaction.now) client.old result
+        client.new }
 {
+    transact_within(rt, client, transaction, u32::MAX)
+}
+
+/// Runs a transaction as `transact` does, and makes no more than so many attempts, at least one.
+///
+/// The refusals of `transact`, and of the last attempt also those behind which another would be
+/// made: Busy, TooManyLive, Backlog.
+pub fn transact_within<T: Transaction, J: Naming, R: Wait + Clock>(
+    rt: &R,
+    client: &mut Client<'_, J>,
+    transaction: &T,
+    attempts: u32,
+) -> Result<(T::Output, Ticket), Refusal>
+    ensures closed { OnOk result (client.new.phase ≡ Phase.Closed) }
+    ensures committed { IfOk result (λ done. HasCommitted client.new done.1.place) }
+    ensures transacts { Transacts ⟦<J as Naming>⟧ (T.says transaction.now) client.old result
+        client.new }
+{
+    client.upheld();
     let mut pause = Pause::new();
-    for _ in rt.forever() {
-        match attempt(rt, client, transaction) {
-            Ok(done) => return Ok(done),
-            Err(refusal) => {
-                let refusal = take_back(rt, client).err().unwrap_or(refusal);
-                if !is_passing(refusal) {
-                    return Err(refusal);
-                }
-            }
+    for _ in 1..attempts {
+        match try_once(rt, client, transaction) {
+            Err(refusal) if is_passing(refusal) => {}
+            ended => return ended,
         }
         if client.has_failed() {
             return Err(Refusal::Lost);
         }
         pause.pause(rt);
     }
-    unreachable!()
+    try_once(rt, client, transaction)
 }
 
 /// Commits a transaction as `transact` does, and waits until it is kept.
@@ -73,8 +81,26 @@ pub fn keep<T: Transaction, J: Naming, R: Wait + Clock>(
     ensures closed { OnOk result (client.new.phase ≡ Phase.Closed) }
     ensures committed { IfOk result (λ done. HasCommitted client.new done.1.place) }
     ensures kept { IfOk result (λ done. WasToldKept client.new done.1.place) }
+    ensures keeps { Keeps ⟦<J as Naming>⟧ (T.says transaction.now) client.old result client.new }
 {
-    let (output, ticket) = transact(rt, client, transaction)?;
+    keep_within(rt, client, transaction, u32::MAX)
+}
+
+/// Keeps a transaction as `keep` does, and makes no more than so many attempts, at least one.
+///
+/// The refusals of `keep`, and those of the last attempt, as at `transact_within`.
+pub fn keep_within<T: Transaction, J: Naming, R: Wait + Clock>(
+    rt: &R,
+    client: &mut Client<'_, J>,
+    transaction: &T,
+    attempts: u32,
+) -> Result<(T::Output, Ticket), Refusal>
+    ensures closed { OnOk result (client.new.phase ≡ Phase.Closed) }
+    ensures committed { IfOk result (λ done. HasCommitted client.new done.1.place) }
+    ensures kept { IfOk result (λ done. WasToldKept client.new done.1.place) }
+    ensures keeps { Keeps ⟦<J as Naming>⟧ (T.says transaction.now) client.old result client.new }
+{
+    let (output, ticket) = transact_within(rt, client, transaction, attempts)?;
     client.wait(rt, &ticket)?;
     Ok((output, ticket))
 }
@@ -127,24 +153,42 @@ fn is_passing(refusal: Refusal) -> bool {
     )
 }
 
-// Runs a transaction once. At a refusal it may be open.
-fn attempt<T: Transaction, J: Naming, R: Wait>(
+// Runs a transaction once, and takes it back at a refusal. Where that is refused, it may be open.
+fn try_once<T: Transaction, J: Naming, R: Wait>(
     rt: &R,
     client: &mut Client<'_, J>,
     transaction: &T,
 ) -> Result<(T::Output, Ticket), Refusal>
-    ensures closed { OnOk result (client.new.phase ≡ Phase.Closed) }
     ensures committed { IfOk result (λ done. HasCommitted client.new done.1.place) }
+    ensures transacts { Transacts ⟦<J as Naming>⟧ (T.says transaction.now) client.old result
+        client.new }
+{
+    match go_through(rt, client, transaction) {
+        Ok(done) => Ok(done),
+        Err(refusal) => Err(take_back(rt, client).err().unwrap_or(refusal)),
+    }
+}
+
+// Runs a transaction once. At a refusal it may be open.
+fn go_through<T: Transaction, J: Naming, R: Wait>(
+    rt: &R,
+    client: &mut Client<'_, J>,
+    transaction: &T,
+) -> Result<(T::Output, Ticket), Refusal>
+    ensures committed { IfOk result (λ done. HasCommitted client.new done.1.place) }
+    ensures transacts { Transacts ⟦<J as Naming>⟧ (T.says transaction.now) client.old result
+        client.new }
 {
     begin(rt, client)?;
-    let output = transaction.make_calls(rt, client)?;
+    let output = client.attempt(rt, transaction)?;
     let ticket = client.commit(rt)?;
     Ok((output, ticket))
 }
 
 // Begins a transaction. One that is open is taken back first.
 fn begin<J: Naming, R: Wait>(rt: &R, client: &mut Client<'_, J>) -> Result<(), Refusal>
-    ensures { OnOk result (IsOpen client.new.phase) }
+    ensures begun { OnOk result (IsBegun client.new.phase) }
+    ensures tried { (tried : List Action) × Tried ⟦<J as Naming>⟧ client.old tried client.new }
 {
     take_back(rt, client)?;
     let _number = client.begin()?;
@@ -154,8 +198,9 @@ fn begin<J: Naming, R: Wait>(rt: &R, client: &mut Client<'_, J>) -> Result<(), R
 // Takes the open transaction back, if there is one.
 fn take_back<J: Naming, R: Wait>(rt: &R, client: &mut Client<'_, J>) -> Result<(), Refusal>
     ensures closed { OnOk result (client.new.phase ≡ Phase.Closed) }
-    ensures knows { KnowsStill client.old client.new }
+    ensures tried { (tried : List Action) × Tried ⟦<J as Naming>⟧ client.old tried client.new }
 {
+    client.upheld();
     if client.is_open() {
         client.abort(rt)
     } else {

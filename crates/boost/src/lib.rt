@@ -1,4 +1,17 @@
-//! The store as a program: the commands, and the scripts that its clients play.
+//! The store as a program: the commands, and the scripts that its clients play. It opens no file
+//! and reads no words: `command_line` does, and hands a disk and a task on.
+//!
+//! **What it promises.** What status 0 of each command says is one definition by command
+//! (`specs/Commands`, `IsDone`), and what a command leaves on the disk, done or not, at any moment
+//! of it, another (`specs/Effects`, `Leaves`). Texts have no clause: the cases show them.
+//!
+//! **Where its argument stands.** A play is carried out by `player` over a `World`, whose theorem
+//! is the crash theorem on one thread; `serve` is a `Work` of `background`, whose clients are
+//! `sessions`.
+//!
+//! **To change it.** A new command is a `Task` of `arguments`, a case of `IsDone` and `Leaves`, a
+//! function in `commands.rt`, and what opens its files in `command_line`. A status or a text of a
+//! failure is in `commands/failure.rt`.
 #![tactic(auto)]
 
 mod commands;

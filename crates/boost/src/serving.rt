@@ -22,10 +22,12 @@ use std::thread::Threads;
 /// Opens the store of a disk, runs each client of a script in a thread of its own, beside a thread
 /// that brings what they commit to the disk, and prints, once all have ended, each client's number,
 /// the number and the answer of each of its lines, and whether its last ticket is kept. Lines
-/// without a client are passed over. Answers the status of the program with the disk.
+/// without a client are passed over. Answers the status of the program with the disk, how much of
+/// what the clients committed is kept there, and what ended keeping early, if something did.
 ///
 /// On a disk at rest that reads true until it is open, and whose bytes are sound, a stop in the
-/// opening leaves the content, and one behind the call a beginning of what the clients committed.
+/// opening leaves the content, and one behind the call a beginning of what the clients committed,
+/// which has all that is kept.
 ///
 /// The status is 0 where all were served, lines that were refused among them; else a text goes to
 /// `err`, as `Failure` says: 3 for a script with a line that is not understood, of which no line is
@@ -42,31 +44,24 @@ pub fn serve<D: Disk + Drop + Send, R: Threads + Wait + Clock + AllocGlobal + Sy
     why: bool,
     out: &mut impl Write,
     err: &mut impl Write,
-) -> (u8, D)
+) -> (u8, Closed<D>)
     ensures status { (result.0 ≡ 0) ⊎ ((result.0 ≡ 1) ⊎ ((result.0 ≡ 3) ⊎ (result.0 ≡ 4))) }
     ensures understood { result.0 ≡ 0 → IsUnderstood script.now }
     ensures not_understood { result.0 ≡ 3 → (line : ℕ) × IsNotUnderstoodAt script.now line }
-    ensures untouched { result.0 ≡ 3 → result.1 ≡ disk }
-    ensures refused { result.0 ≡ 1 → IsUnderstood script.now ⊎ (result.1 ≡ disk) }
-    ensures left { IsLeftByWork ⟦<D as Disk>⟧ disk result.1 0 }
+    ensures untouched { result.0 ≡ 3 → result.1.disk ≡ disk }
+    ensures refused { result.0 ≡ 1 → IsUnderstood script.now ⊎ (result.1.disk ≡ disk) }
+    ensures left { IsLeftByWork ⟦<D as Disk>⟧ disk result.1.disk result.1.kept }
     ensures silent { why ≡ false → (result.0 ≡ 0) ⊎ (result.0 ≡ 4) → err.new ≡ err.old }
 {
-    match serve_script(rt, disk, script, out) {
-        (Ok(()), closed) => (0, disk_told(closed, why, err)),
-        (Err(failure), closed) => (report(&failure, err), disk_told(closed, why, err)),
-    }
-}
-
-// The disk of a store that was closed. What ended keeping early is told, where that is asked.
-fn disk_told<D: Drop>(closed: Closed<D>, why: bool, err: &mut impl Write) -> D
-    ensures disk { result ≡ closed.disk }
-    ensures silent { (why ≡ false) ⊎ (closed.ended_by ≡ None) → err.new ≡ err.old }
-{
-    let Closed { disk, ended_by, .. } = closed;
+    let (served, closed) = serve_script(rt, disk, script, out);
+    let status = match served {
+        Ok(()) => 0,
+        Err(failure) => report(&failure, err),
+    };
     if why {
-        tell_end(ended_by, err);
+        tell_end(closed.ended_by, err);
     }
-    disk
+    (status, closed)
 }
 
 // Writes a line that says what ended keeping early, if something did. Where the line cannot be
@@ -89,7 +84,7 @@ fn serve_script<D: Disk + Drop + Send, R: Threads + Wait + Clock + AllocGlobal +
 ) -> (Result<(), Failure<'static>>, Closed<D>)
     ensures understood { OnOk result.0 (IsUnderstood script.now) }
     ensures why { IfErr result.0 (IsWhyUnplayed script.now (result.1.disk ≡ disk)) }
-    ensures left { IsLeftByWork ⟦<D as Disk>⟧ disk result.1.disk 0 }
+    ensures left { IsLeftByWork ⟦<D as Disk>⟧ disk result.1.disk result.1.kept }
 {
     match parse(rt.alloc(), script) {
         Ok(lines) => serve_lines(rt, disk, lines.as_slice(), out),
@@ -105,7 +100,7 @@ fn serve_lines<D: Disk + Drop + Send, R: Threads + Wait + Clock + AllocGlobal + 
     out: &mut impl Write,
 ) -> (Result<(), Failure<'static>>, Closed<D>)
     ensures why { IfErr result.0 IsOfStore }
-    ensures left { IsLeftByWork ⟦<D as Disk>⟧ disk result.1.disk 0 }
+    ensures left { IsLeftByWork ⟦<D as Disk>⟧ disk result.1.disk result.1.kept }
 {
     match Script::new(rt.alloc(), lines) {
         Ok((script, receiver)) => {
@@ -120,7 +115,7 @@ fn serve_lines<D: Disk + Drop + Send, R: Threads + Wait + Clock + AllocGlobal + 
 // A disk whose store was not opened. A stop leaves the content, as nobody touched it.
 fn untouched<D: Disk>(disk: D) -> Closed<D>
     ensures same { result.disk ≡ disk }
-    ensures left { IsLeftByWork ⟦<D as Disk>⟧ disk result.disk 0 }
+    ensures left { IsLeftByWork ⟦<D as Disk>⟧ disk result.disk result.kept }
 {
     Closed {
         disk,

@@ -1,28 +1,17 @@
-// Calls of a client, whether they are made at once or put off.
-ghost use Rattle.clients.specs.Calls.{IsOpen};
-
+// Calls of an attempt, whether they are made at once or put off.
 use calls::{Call, Refusal, Reply};
-use std::sync::Wait;
-use store::{Client, Naming};
+use store::Attempt;
 
-/// Makes a call on the collection of the name, in the client's open transaction. A fill, which no
-/// client makes at once, is put off to the commit and answered Done.
+/// Makes a call on the collection of the name, in an attempt at a transaction. A fill, which no
+/// attempt makes at once, is put off to the commit and answered Done.
 ///
-/// The refusals of `Client::call`, or of `Client::later`.
-pub fn ask<J: Naming, R: Wait>(
-    rt: &R,
-    client: &mut Client<'_, J>,
-    name: &str,
-    call: &Call,
-) -> Result<Reply, Refusal>
-    requires { IsOpen client.old.phase }
-    ensures { IsOpen client.new.phase }
-{
+/// The refusals of `Attempt::call`, or of `Attempt::later`.
+pub fn ask<A: Attempt>(attempt: &mut A, name: &str, call: &Call) -> Result<Reply, Refusal> {
     match call {
         Call::Fill(_) => {
-            client.later(rt, name, call)?;
+            attempt.later(name, call)?;
             Ok(Reply::Done)
         }
-        _ => client.call(rt, name, call),
+        _ => attempt.call(name, call),
     }
 }

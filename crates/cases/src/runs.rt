@@ -36,8 +36,8 @@ fn served(
     let disk = bench.take_disk(alloc)?;
     let script = bench.take_script(alloc);
     let (mut out, mut err) = (Vec::new(alloc), Vec::new(alloc));
-    let (status, disk) = boost::serve(rt, disk, script.as_slice(), false, &mut out, &mut err);
-    bench.put_back(disk);
+    let (status, closed) = boost::serve(rt, disk, script.as_slice(), false, &mut out, &mut err);
+    bench.put_back(closed.disk);
     Ok(Ran { status, out, err })
 }
 

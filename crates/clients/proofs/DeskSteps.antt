@@ -178,9 +178,3 @@ cut_weaker b P Q f full (Ok false) c cut =
 cut_weaker b P Q f full (Err Refusal.NotNow) c cut =
     ((cut.0.0, f [] cut.0.1, cut.0.2, cut.0.3, cut.0.4, cut.0.5, cut.0.6), cut.1)
 cut_weaker b P Q f full (Err e) c cut = absurd cut.0
-
--- a cut is refused only where the outbox was full
-pub cut_refused : (b : Book) (P : List Block → Type 0) (full : Type 0) (e : Refusal) (c : Book) →
-    CutAnswers b P full (Err e) c → e ≡ Refusal.NotNow
-cut_refused b P full Refusal.NotNow c cut = refl
-cut_refused b P full e c cut = absurd cut.0

@@ -1,3 +1,4 @@
+pub mod Attempting
 pub mod Ends
 pub mod Recording
 pub mod Gathered

@@ -16,6 +16,7 @@ use Rattle.group_commit.specs.Accords.{AccordState}
 use Rattle.group_commit.specs.Marks.{WatcherState}
 use Rattle.group_commit.specs.Numbers.{DrawerState}
 use Rattle.group_commit.specs.Orders.{SenderState}
+use Rattle.group_commit.specs.declared.mark.Raised.{Raised}
 use Rattle.clients.specs.declared.naming.Naming.{Ghosts}
 use Rattle.clients.specs.Desks.{IsDesk}
 use Rattle.clients.specs.declared.phase.Phase.{Phase}
@@ -67,7 +68,7 @@ module _ {J : Type 0} (j : Ghosts J) where
     legal = legal;
   }
 
-  grows_then : (n : ℕ) (xs ys zs : List BookStep) (us vs : List Action) →
+  pub grows_then : (n : ℕ) (xs ys zs : List BookStep) (us vs : List Action) →
       Grows j n xs us ys → Grows j n ys vs zs → Grows j n xs (us ++ vs) zs
   grows_then n xs ys zs us vs one two = record {
     begins = (
@@ -203,7 +204,7 @@ hears_none a = sym ((λ i. record a {
   flags = append-nil a.flags i;
 }))
 
-pub hears_then : (a b c : Known) (xs ys : List ℕ) (us vs : List Bool) → Hears a xs us b →
+pub hears_then : (a b c : Known) (xs ys : List Raised) (us vs : List Bool) → Hears a xs us b →
     Hears b ys vs c → Hears a (xs ++ ys) (us ++ vs) c
 hears_then a b c xs ys us vs one two =
     two ∙ ap (λ (k : Known). record k { counts = k.counts ++ ys; flags = k.flags ++ vs }) one ∙
@@ -212,13 +213,13 @@ hears_then a b c xs ys us vs one two =
       flags = append_assoc a.flags us vs i;
     })
 
-decides_more : (place : ℕ) (xs ys : List ℕ) (us vs : List Bool) (r : Result (Unit {0}) Refusal) →
+decides_more : (place : ℕ) (xs ys : List Raised) (us vs : List Bool) (r : Result (Unit {0}) Refusal) →
     Decides place ys vs r → Decides place (xs ++ ys) (us ++ vs) r
 decides_more place xs ys us vs (Ok done) d = (d.0, Contains-append_right xs ys d.0 d.1, d.2)
 decides_more place xs ys us vs (Err Refusal.Lost) d = Contains-append_right us vs true d
 decides_more place xs ys us vs (Err e) d = absurd d
 
-pub waits_then : (a b c : Known) (place : ℕ) (r : Result (Unit {0}) Refusal) (xs : List ℕ)
+pub waits_then : (a b c : Known) (place : ℕ) (r : Result (Unit {0}) Refusal) (xs : List Raised)
     (us : List Bool) → Hears a xs us b → Waits b place r c → Waits a place r c
 waits_then a b c place r xs us hears waits = record {
   counts = xs ++ waits.counts;

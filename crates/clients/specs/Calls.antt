@@ -1,11 +1,12 @@
 -- What each call of a client does to what the client knows.
 use Rattle.std.specs.Prelude.{◌≡◌, ℕ, ◌<◌, ◌≤◌, ◌^◌, ◌⊎◌, Bool, true, false, List, [], ◌∷◌}
 use Rattle.std.specs.Prelude.{◌++◌}
-use Rattle.std.specs.Prelude.{length, replicate, Contains, All, Result, Ok, Err}
+use Rattle.std.specs.Prelude.{length, replicate, Contains, Result, Ok, Err}
 use Rattle.calls.specs.declared.refusal.Refusal.{Refusal}
 use Rattle.txn.specs.declared.steps.Action.{Action}
 use Rattle.group_commit.specs.Lines.{ClientState}
-use Rattle.group_commit.specs.Marks.{WatcherState}
+use Rattle.group_commit.specs.declared.mark.Raised.{Raised}
+use Rattle.group_commit.specs.Marks.{WatcherState, AreReached}
 use Rattle.group_commit.specs.Numbers.{DrawerState}
 use Rattle.clients.specs.declared.naming.Naming.{Ghosts}
 use Rattle.clients.specs.declared.phase.Phase.{Phase}
@@ -118,27 +119,29 @@ module _ {J : Type 0} (j : Ghosts J) where
 -- ---- the mark
 
 -- these counts and flags were loaded, and nothing else changed
-abbrev pub Hears : Known → List ℕ → List Bool → Known → Type 0
+abbrev pub Hears : Known → List Raised → List Bool → Known → Type 0
 Hears old counts flags new = new ≡ record old {
   counts = old.counts ++ counts;
   flags = old.flags ++ flags;
 }
 
--- One count was loaded, which is at least each one before.
+-- One count was loaded, to which the mark was brought at a moment, and which is at least each one
+-- before.
 pub record Loads (old : Known) (count : ℕ) (new : Known) : Type 0 where
-  pub rises : All (λ (x : ℕ). x ≤ count) old.counts
-  pub hears : Hears old (count ∷ []) [] new
+  pub moment : ℕ
+  pub rises : AreReached old.counts count
+  pub hears : Hears old (record { count = count; moment = moment } ∷ []) [] new
 
 -- why a wait ends: one of the counts reached the place, or one of the flags was set
-abbrev pub Decides : ℕ → List ℕ → List Bool → Result (Unit {0}) Refusal → Type 0
-Decides place counts flags (Ok done) = (count : ℕ) × Contains counts count × (place ≤ count)
+abbrev pub Decides : ℕ → List Raised → List Bool → Result (Unit {0}) Refusal → Type 0
+Decides place counts flags (Ok done) = (x : Raised) × Contains counts x × (place ≤ x.count)
 Decides place counts flags (Err Refusal.Lost) = Contains flags true
 Decides place counts flags (Err e) = ⊥
 
 -- Counts and flags were loaded until one decided.
 pub record Waits (old : Known) (place : ℕ) (r : Result (Unit {0}) Refusal) (new : Known) :
     Type 0 where
-  pub counts : List ℕ
+  pub counts : List Raised
   pub flags : List Bool
   pub hears : Hears old counts flags new
   pub decides : Decides place counts flags r

@@ -7,6 +7,7 @@ use Rattle.txn.specs.declared.steps.BookStep.{BookStep}
 use Rattle.txn.specs.Rows.{Standing, opening}
 use Rattle.txn.specs.Histories.{IsLegal}
 use Rattle.catalog.specs.Meaning.{catalog_meaning, catalog_making}
+use Rattle.group_commit.specs.declared.mark.Raised.{Raised}
 use Rattle.group_commit.specs.Lines.{ClientState, steps_of, seeing}
 use Rattle.group_commit.specs.Marks.{WatcherState}
 use Rattle.group_commit.specs.Numbers.{DrawerState}
@@ -17,12 +18,13 @@ use Rattle.clients.specs.declared.phase.Phase.{Phase}
 abbrev pub step_of : ℕ → Action → BookStep
 step_of n action = record { client = Some n; action = action }
 
--- a client: its number; the history up to some step; the counts that it loaded of the mark, and the
--- failed flag, each time that it loaded it; the numbers that it drew; and its transaction
+-- a client: its number; the history up to some step; the counts that it loaded of the mark, each
+-- with the moment at which the mark was brought there; the failed flag, each time that it loaded it;
+-- the numbers that it drew; and its transaction
 pub record Known : Type 0 where
   pub number : ℕ
   pub seen : List BookStep
-  pub counts : List ℕ
+  pub counts : List Raised
   pub flags : List Bool
   pub drawn : List ℕ
   pub phase : Phase
@@ -53,13 +55,13 @@ known_of line watcher drawer phase = record {
 pub record SeenState : Type 0 where
   pub number : ℕ
   pub seen : List BookStep
-  pub counts : List ℕ
+  pub counts : List Raised
 
 abbrev pub seen_of : Option SeenState → List BookStep
 seen_of None = []
 seen_of (Some s) = s.seen
 
-abbrev pub counts_of : Option SeenState → List ℕ
+abbrev pub counts_of : Option SeenState → List Raised
 counts_of None = []
 counts_of (Some s) = s.counts
 

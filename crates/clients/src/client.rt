@@ -7,6 +7,7 @@ ghost use Rattle.txn.specs.declared.steps.Action.{Action};
 ghost use Rattle.txn.specs.declared.steps.Target.{Target};
 ghost use Rattle.group_commit.specs.Lines.{IsLonger, steps_of};
 ghost use Rattle.group_commit.specs.Numbers.{AreApart};
+ghost use Rattle.group_commit.specs.declared.mark.Raised.{Raised};
 ghost use Rattle.clients.specs.declared.phase.Phase.{Phase};
 ghost use Rattle.clients.specs.Known.{Known, IsSeen, newcomer};
 ghost use Rattle.clients.specs.Calls.{IsOpen, IsEnded, IsWorn, Draws, Acts, Does, Enters, Undoes};
@@ -335,7 +336,7 @@ impl<'s, J: Naming> Client<'s, J> {
     // Looks as often as it pays on the disk, and backs off between two looks.
     fn watch(&mut self, ticket: &Ticket) -> Option<Result<(), Refusal>>
         ensures some { IfSome result (λ r. Waits self.old ticket.now.place r self.new) }
-        ensures none { IfNone result ((counts : List ℕ) × (flags : List Bool) ×
+        ensures none { IfNone result ((counts : List Raised) × (flags : List Bool) ×
             Hears self.old counts flags self.new) }
     {
         let backoff = Backoff::new();
@@ -366,7 +367,7 @@ impl<'s, J: Naming> Client<'s, J> {
     // Loads the count, and then the flag where that did not decide.
     fn look(&mut self, ticket: &Ticket) -> Option<Result<(), Refusal>>
         ensures some { IfSome result (λ r. Waits self.old ticket.now.place r self.new) }
-        ensures none { IfNone result ((counts : List ℕ) × (flags : List Bool) ×
+        ensures none { IfNone result ((counts : List Raised) × (flags : List Bool) ×
             Hears self.old counts flags self.new) }
     {
         if self.kept(ticket) {

@@ -2,99 +2,27 @@
 //! out.
 #![tactic(auto)]
 
-ghost use Rattle.std.specs.Prelude.{◌≤◌, ◌↔◌, IsOk, IsOkUnless};
-
+mod files;
+mod lint;
 mod listen;
 
 use boost::{Failure, Invocation, Task, command, report, run, serve};
 use calls::Refusal;
-use calls::limits::{MAX_AREA, MIN_AREA};
 use clap::error::ErrorKind;
 use disk_model::{Content, Disk, FileDisk, MemDisk};
+use files::{Access, check_area, make_disk, open_disk, opened};
+use lint::{lint, tell_first_unclear};
 use listen::{listen_at_door, listen_to_input};
 pub use listening::{Fifos, SystemFifos, Way};
 use std::alloc::Global;
-use std::fs::{File, TryLockError};
+use std::fs::{self, File};
 use std::io::{Read, Write};
 use std::rt::{Clock, Files};
 use std::sync::Wait;
 use std::thread::Threads;
-use std::{fs, io};
 
-// How many bytes of a disk stand before its two areas.
-const AREAS_AT: u64 = 4096;
-
-// Why a file is not opened: for want of memory, or because it cannot be.
-fn cannot_open<'a>(path: &'a str, error: &io::Error) -> Failure<'a> {
-    match error.kind() {
-        io::ErrorKind::OutOfMemory => Failure::Refused(Refusal::NoMemory),
-        _ => Failure::CannotOpen(path, *error),
-    }
-}
-
-// Whether a disk can have areas of so many bytes.
-fn check_area(area: u64) -> Result<(), Refusal>
-    ensures ok { IsOk result ↔ ((MIN_AREA ≤ area) × (area ≤ MAX_AREA)) }
-    ensures err { IsOkUnless result Refusal.BadArg }
-{
-    if area < MIN_AREA || area > MAX_AREA {
-        return Err(Refusal::BadArg);
-    }
-    Ok(())
-}
-
-// What was opened or read, or that the file cannot be opened.
-fn opened<'a, T: Drop>(path: &'a str, found: io::Result<T>) -> Result<T, Failure<'a>> {
-    match found {
-        Ok(value) => Ok(value),
-        Err(error) => Err(cannot_open(path, &error)),
-    }
-}
-
-// Takes a file for this run alone, unless another run has it.
-fn take_alone<'a>(path: &'a str, file: File) -> Result<File, Failure<'a>> {
-    match file.try_lock() {
-        Ok(()) => Ok(file),
-        Err(TryLockError::WouldBlock) => Err(Failure::InUse(path)),
-        Err(TryLockError::Error(error)) => Err(cannot_open(path, &error)),
-    }
-}
-
-// Opens a file for this run alone.
-fn open_alone<'a>(
-    rt: &impl Files<File = File>,
-    path: &'a str,
-    may_make: bool,
-) -> Result<File, Failure<'a>> {
-    let file = File::options()
-        .read(true)
-        .write(true)
-        .create(may_make)
-        .open(rt, path);
-    take_alone(path, opened(path, file)?)
-}
-
-// Makes a file, or takes the one that is there, and gives it the size of a disk with two such
-// areas.
-fn make_disk<'a, S: Content>(
-    rt: &impl Files<File = File>,
-    path: &'a str,
-    area: u64,
-) -> Result<FileDisk<S>, Failure<'a>>
-    requires { area ≤ MAX_AREA }
-{
-    let file = open_alone(rt, path, true)?;
-    opened(path, file.set_len(AREAS_AT + 2 * area))?;
-    opened(path, FileDisk::open(file))
-}
-
-// Opens a file that is there.
-fn open_disk<'a, S: Content>(
-    rt: &impl Files<File = File>,
-    path: &'a str,
-) -> Result<FileDisk<S>, Failure<'a>> {
-    opened(path, FileDisk::open(open_alone(rt, path, false)?))
-}
+// The status where a line of a script is not understood.
+const NOT_UNDERSTOOD: u8 = 3;
 
 // Carries a command out on a disk that was opened, and lets it go. Answers the status.
 fn run_on<'a, D: Disk + Drop>(
@@ -130,11 +58,12 @@ fn run_on_old<'a, S: Content, R: Files<File = File> + AllocGlobal>(
     rt: &R,
     task: &Task,
     path: &'a str,
+    access: Access,
     script: &[u8],
     out: &mut impl Write,
     err: &mut impl Write,
 ) -> Result<u8, Failure<'a>> {
-    let disk = open_disk::<S>(rt, path);
+    let disk = open_disk::<S>(rt, path, access);
     run_on(rt.alloc(), task, disk, script, out, err)
 }
 
@@ -147,8 +76,23 @@ fn run_with_script<'a, S: Content, R: Files<File = File> + AllocGlobal>(
     out: &mut impl Write,
     err: &mut impl Write,
 ) -> Result<u8, Failure<'a>> {
-    let script = opened(script, fs::read(rt, script))?;
-    run_on_old::<S, R>(rt, task, path, script.as_slice(), out, err)
+    let text = opened(script, fs::read(rt, script))?;
+    let status = run_on_old::<S, R>(rt, task, path, Access::Writes, text.as_slice(), out, err)?;
+    if status == NOT_UNDERSTOOD {
+        tell_first_unclear(rt.alloc(), text.as_slice(), err);
+    }
+    Ok(status)
+}
+
+// Tells the lines of a script that are not understood.
+fn lint_script<'a, R: Files<File = File> + AllocGlobal>(
+    rt: &R,
+    script: &'a str,
+    out: &mut impl Write,
+    err: &mut impl Write,
+) -> Result<u8, Failure<'a>> {
+    let text = opened(script, fs::read(rt, script))?;
+    Ok(lint(rt.alloc(), text.as_slice(), out, err)?)
 }
 
 // Reads a script, opens the file of a disk, and serves the script on it. Where that is asked, what
@@ -165,11 +109,14 @@ fn serve_script<
     out: &mut impl Write,
     err: &mut impl Write,
 ) -> Result<u8, Failure<'a>> {
-    let script = opened(script, fs::read(rt, script))?;
-    let disk = open_disk::<S>(rt, path)?;
-    let (status, disk) = serve(rt, disk, script.as_slice(), why, out, err);
+    let text = opened(script, fs::read(rt, script))?;
+    let disk = open_disk::<S>(rt, path, Access::Writes)?;
+    let (status, closed) = serve(rt, disk, text.as_slice(), why, out, err);
+    if status == NOT_UNDERSTOOD {
+        tell_first_unclear(rt.alloc(), text.as_slice(), err);
+    }
     if why {
-        tell_cause(&disk, err);
+        tell_cause(&closed.disk, err);
     }
     Ok(status)
 }
@@ -205,11 +152,12 @@ fn carry_out<
 ) -> Result<u8, Failure<'a>> {
     match asked {
         Invocation::Run(task) => perform::<S, R>(rt, task, out, err),
+        Invocation::Lint { script } => lint_script(rt, script.as_str(), out, err),
         Invocation::Serve { disk, script, why } => {
             serve_script::<S, R>(rt, disk.as_str(), script.as_str(), *why, out, err)
         }
         Invocation::Listen { disk, folder } => {
-            let disk = open_disk::<S>(rt, disk.as_str())?;
+            let disk = open_disk::<S>(rt, disk.as_str(), Access::Writes)?;
             match folder {
                 Some(folder) => listen_at_door(rt, disk, fifos, folder.as_str(), err),
                 None => listen_to_input(rt, disk, input, out, err),
@@ -232,8 +180,11 @@ fn perform<'a, S: Content, R: Files<File = File> + AllocGlobal>(
         Task::Play { disk, script } => {
             run_with_script::<S, R>(rt, task, disk.as_str(), script.as_str(), out, err)
         }
-        Task::Show { disk } | Task::Check { disk } => {
-            run_on_old::<S, R>(rt, task, disk.as_str(), &[], out, err)
+        Task::Show { disk } => {
+            run_on_old::<S, R>(rt, task, disk.as_str(), Access::Writes, &[], out, err)
+        }
+        Task::Check { disk } => {
+            run_on_old::<S, R>(rt, task, disk.as_str(), Access::Reads, &[], out, err)
         }
         Task::Demo => run_on(rt.alloc(), task, memory(rt.alloc()), &[], out, err),
     }

@@ -1,5 +1,6 @@
 // Keeping a store open for clients that come and go.
-use crate::{cannot_open, tell_cause};
+use crate::files::cannot_open;
+use crate::tell_cause;
 use background::{Closed, run};
 use boost::{Failure, report};
 use calls::Refusal;

@@ -1,24 +1,17 @@
 //! An id service: four threads draw identifiers from the pool of a store in a file, which is then
 //! closed, opened again and drawn from once more. No identifier is given twice.
 //!
-//! This file is a whole example, to be copied: it uses nothing of the other modules, and a `main`
-//! has only to call `run`.
+//! This file is a whole example, to be copied: it uses nothing of the other modules.
 
-use background::{Transaction, Work, all_ended, keep};
-use calls::limits::MIN_AREA;
-use calls::{Call, Kind, Refusal, Reply};
-use disk_model::{FileDisk, Unknown};
-use recovery::format;
-use std::alloc::{AllocGlobal, Global};
+use fizgaloms::{
+    AllocGlobal, Attempt, Call, Client, Clock, Kind, MIN_AREA, Naming, Refusal, Reply, StoreFile,
+    Transaction, Wait, Work, keep, open_or_format, open_or_make,
+};
 use std::fs::File;
-use std::rt::{Clock, Files};
-use std::sync::Wait;
+use std::rt::Files;
 use std::thread::Threads;
-use store::{Client, Naming};
 
-const THREADS: usize = 4;
-
-// How many identifiers each thread draws.
+// How many identifiers each of the four threads draws.
 const EACH: usize = 25;
 
 // A transaction that draws one identifier.
@@ -27,32 +20,11 @@ struct Draw;
 impl Transaction for Draw {
     type Output = u64;
 
-    fn make_calls<J: Naming, R: Wait>(
-        &self,
-        rt: &R,
-        client: &mut Client<'_, J>,
-    ) -> Result<u64, Refusal> {
-        match client.call(rt, "ids", &Call::Draw)? {
+    fn make_calls<A: Attempt>(&self, attempt: &mut A) -> Result<u64, Refusal> {
+        match attempt.call("ids", &Call::Draw)? {
             Reply::Id(id) => Ok(id),
             _ => Err(Refusal::WrongKind),
         }
-    }
-}
-
-// Makes the pool.
-struct Making;
-
-impl Work for Making {
-    type Output = Result<(), Refusal>;
-
-    fn work<J: Naming, R: Wait + Clock + AllocGlobal>(
-        &self,
-        rt: &R,
-        client: &mut Client<'_, J>,
-        _thread: usize,
-    ) -> Result<(), Refusal> {
-        client.make(rt, "ids", Kind::Pool)?;
-        Ok(())
     }
 }
 
@@ -68,6 +40,7 @@ impl Work for Drawing {
         client: &mut Client<'_, J>,
         _thread: usize,
     ) -> Result<Vec<u64>, Refusal> {
+        open_or_make(rt, client, "ids", Kind::Pool)?;
         let mut drawn = Vec::new(rt.alloc());
         for _ in 0..EACH {
             let (id, _ticket) = keep(rt, client, &Draw)?;
@@ -77,47 +50,34 @@ impl Work for Drawing {
     }
 }
 
-// What the threads drew.
-fn all(alloc: Global, drawn: Vec<Result<Vec<u64>, Refusal>>) -> Result<Vec<u64>, Refusal> {
-    let mut all = Vec::new(alloc);
-    for ids in drawn {
-        all.extend_from_slice(ids?.as_slice())?;
+// Opens the file, draws identifiers by four threads, and adds them to these.
+fn draw_more<R: Threads + Wait + Clock + Files<File = File> + AllocGlobal + Sync>(
+    rt: &R,
+    ids: &mut Vec<u64>,
+) -> anyhow::Result<()> {
+    let disk: StoreFile = open_or_format(rt, "ids.disk", MIN_AREA)?;
+    let (drawn, _closed) = fizgaloms::run(rt, disk, &Drawing, 4);
+    for some in drawn? {
+        ids.extend_from_slice(some?.as_slice())?;
     }
-    Ok(all)
-}
-
-// How many different identifiers there are.
-fn count_different(ids: &mut Vec<u64>) -> Result<usize, Refusal> {
-    ids.sort()?;
-    ids.dedup();
-    Ok(ids.len())
+    Ok(())
 }
 
 /// Draws identifiers, and more once the file was opened again. Prints how many are different.
 pub fn run<R: Threads + Wait + Clock + Files<File = File> + Print + AllocGlobal + Sync>(
     rt: &R,
 ) -> anyhow::Result<()> {
-    let file = File::options()
-        .read(true)
-        .write(true)
-        .create(true)
-        .open(rt, "ids.disk")?;
-    file.set_len(4096 + 2 * MIN_AREA)?;
-    let mut disk: FileDisk<Unknown> = FileDisk::open(file)?;
-    format(&mut disk, MIN_AREA)?;
-    let (made, closed) = background::run(rt, disk, &Making, 1);
-    all_ended(made?.as_slice())?;
-    let (drawn, closed) = background::run(rt, closed.disk, &Drawing, THREADS);
-    let mut ids = all(rt.alloc(), drawn?)?;
-    drop(closed);
+    let mut ids = Vec::new(rt.alloc());
+    draw_more(rt, &mut ids)?;
     println!(rt; "drew {} identifiers", ids.len())?;
-
-    let file = File::options().read(true).write(true).open(rt, "ids.disk")?;
-    let disk: FileDisk<Unknown> = FileDisk::open(file)?;
-    let (drawn, _closed) = background::run(rt, disk, &Drawing, THREADS);
-    let more = all(rt.alloc(), drawn?)?;
-    println!(rt; "drew {} more once the file was opened again", more.len())?;
-    ids.extend_from_slice(more.as_slice())?;
-    println!(rt; "{} of them are different", count_different(&mut ids)?)?;
+    let before = ids.len();
+    draw_more(rt, &mut ids)?;
+    println!(rt;
+        "drew {} more once the file was opened again",
+        ids.len().saturating_sub(before)
+    )?;
+    ids.sort()?;
+    ids.dedup();
+    println!(rt; "{} of them are different", ids.len())?;
     Ok(())
 }

@@ -196,9 +196,6 @@ begins = record {
       ((λ is. (refl, refl, refl)), sitting.nobody_sits number_of (Agrees 0 []) (λ n. 0) 0);
 }
 
-parties_of : View → List Party
-parties_of v = v.parties
-
 module _ (views : List View) (k : Kept views) (id : ℕ) (v : View)
     (at : get_elem? views id ≡ some v) where
   -- the parties have other seats

@@ -1,17 +1,27 @@
 -- How far commits are kept, as those who keep and those who watch know it.
-use Rattle.std.specs.Prelude.{◌≤◌, ℕ, Bool, true, List, [], ◌∷◌, ◌++◌, All, Contains}
+use Rattle.std.specs.Prelude.{◌≡◌, ◌⊎◌, ℕ, ◌≤◌, Bool, true, List, [], ◌∷◌, ◌++◌, All, Contains}
 use Rattle.atomic_table.specs.Seated.{TableId}
+use Rattle.group_commit.specs.declared.mark.Raised.{Raised}
 
--- the count that the keeper's seat has brought a mark to
+-- a mark that nobody has raised
+abbrev pub unraised : Raised
+unraised = record { count = 0; moment = 0 }
+
+-- where a mark is that was raised so, the last time first
+abbrev pub top : List Raised → Raised
+top [] = unraised
+top (x ∷ xs) = x
+
+-- all that the keeper's seat has brought a mark to, the last time first
 pub record KeeperMark : Type 0 where
   pub table : TableId
-  pub count : ℕ
+  pub raised : List Raised
 
--- what a watcher of a mark knows: the counts that it loaded or was told, in order, and the failed
--- flag, each time that it loaded or set it
+-- what a watcher of a mark knows: the counts that it loaded or was told, in order, each with the
+-- moment at which the mark was brought there, and the failed flag, each time that it loaded or set it
 pub record WatcherState : Type 0 where
   pub table : TableId
-  pub counts : List ℕ
+  pub counts : List Raised
   pub flags : List Bool
 
 -- a watcher that knows nothing
@@ -19,8 +29,8 @@ abbrev pub new_watcher : TableId → WatcherState
 new_watcher table = record { table = table; counts = []; flags = [] }
 
 -- one more count was loaded, or told
-abbrev pub with_count : WatcherState → ℕ → WatcherState
-with_count w count = record { table = w.table; counts = w.counts ++ count ∷ []; flags = w.flags }
+abbrev pub with_count : WatcherState → Raised → WatcherState
+with_count w x = record { table = w.table; counts = w.counts ++ x ∷ []; flags = w.flags }
 
 -- the flag was loaded, or set, once more
 abbrev pub with_flag : WatcherState → Bool → WatcherState
@@ -32,8 +42,17 @@ informed w other =
     record { table = w.table; counts = w.counts ++ other.counts; flags = w.flags ++ other.flags }
 
 -- each of the counts was reached by this one
-abbrev pub AreReached : List ℕ → ℕ → Type 0
-AreReached counts count = All (λ (x : ℕ). x ≤ count) counts
+abbrev pub AreReached : List Raised → ℕ → Type 0
+AreReached counts count = All (λ (x : Raised). x.count ≤ count) counts
+
+-- A mark that was raised so has come to this count, which is one of those, or as it begins.
+pub record HasCome (raised : List Raised) (x : Raised) : Type 0 where
+  pub within : x.count ≤ (top raised).count
+  pub noted : (x ≡ unraised) ⊎ Contains raised x
+
+-- so it is with each of the counts
+abbrev pub AreNoted : List Raised → List Raised → Type 0
+AreNoted counts raised = All (HasCome raised) counts
 
 -- the flag is among those that were loaded or set
 abbrev pub HasFailed : List Bool → Type 0

@@ -4,49 +4,59 @@ use Rattle.std.specs.Prelude.{◌≡◌, ℕ, ◌==◌, max, Bool, true, false, 
 use mathlib.Core.Option.{some}
 use lib.ListN.{get_elem?}
 use Rattle.atomic_table.specs.Table.{Me}
+use Rattle.group_commit.specs.declared.mark.Raised.{Raised}
 use Rattle.group_commit.specs.declared.mark.Tide.{Tide}
-use Rattle.group_commit.specs.Marks.{AreReached, HasFailed}
+use Rattle.group_commit.specs.Marks.{AreReached, AreNoted, HasFailed, top}
 
 -- the keeper's seat, that was shown these counts
-abbrev pub shown : ℕ → List ℕ → Tide
-shown kept counts = record { keeps = true; kept = kept; counts = counts; flags = [] }
+abbrev pub shown : List Raised → List Raised → Tide
+shown raised counts = record { keeps = true; raised = raised; counts = counts; flags = [] }
 
-abbrev pub keeper : ℕ → Tide
-keeper kept = shown kept []
+abbrev pub keeper : List Raised → Tide
+keeper raised = shown raised []
 
-abbrev pub watcher : List ℕ → List Bool → Tide
-watcher counts flags = record { keeps = false; kept = 0; counts = counts; flags = flags }
+abbrev pub watcher : List Raised → List Bool → Tide
+watcher counts flags = record { keeps = false; raised = []; counts = counts; flags = flags }
 
 abbrev pub nobody : Tide
 nobody = watcher [] []
 
--- the keeper's seat is the one that keeps, and knows the count; what a watcher knows was reached,
--- and once it knows of the flag, that is set
-pub record Fits (keeping count flag seat : ℕ) (v : Tide) : Type 0 where
-  pub whole : v.keeps ≡ true → (seat ≡ keeping) × (v.kept ≡ count)
-  pub reached : AreReached v.counts count
+-- the keeper's seat is the one that keeps, and knows how the mark was raised; what a watcher knows was
+-- reached, and once it knows of the flag, that is set
+pub record Fits (keeping : ℕ) (raised : List Raised) (flag seat : ℕ) (v : Tide) : Type 0 where
+  pub whole : v.keeps ≡ true → (seat ≡ keeping) × (v.raised ≡ raised)
+  pub noted : AreNoted v.counts raised
   pub failed : HasFailed v.flags → flag ≡ 1
 
 pub record Marked (words : List ℕ) (views : List Tide) : Type 0 where
   pub keeping : ℕ
-  pub count : ℕ
+  pub raised : List Raised
   pub flag : ℕ
-  pub words_are : words ≡ count ∷ flag ∷ []
-  pub fits : (seat : ℕ) (v : Tide) → get_elem? views seat ≡ some v → Fits keeping count flag seat v
+  pub words_are : words ≡ (top raised).count ∷ flag ∷ []
+  pub fits : (seat : ℕ) (v : Tide) → get_elem? views seat ≡ some v → Fits keeping raised flag seat v
 
 -- what the steps tell: of the seat before, the number found, and the seat after
 abbrev pub Seat : Type 0
 Seat = Me (Unit {0}) Tide
 
-abbrev pub Advances : ℕ → Seat → Seat → Type 0
-Advances place m n = (n.0 ≡ keeper (max m.0.kept place)) × (n.1 ≡ m.1)
+-- how a mark was raised that is brought to this place at this moment, unless it was past it
+abbrev pub raised_to : ℕ → ℕ → List Raised → List Raised
+raised_to place moment raised =
+    record { count = max (top raised).count place; moment = moment } ∷ raised
+
+abbrev pub Advances : ℕ → ℕ → Seat → Seat → Type 0
+Advances place moment m n = (n.0 ≡ keeper (raised_to place moment m.0.raised)) × (n.1 ≡ m.1)
 
 abbrev pub Fails : Seat → Seat → Type 0
 Fails m n = (n.0 ≡ watcher m.0.counts (m.0.flags ++ true ∷ [])) × (n.1 ≡ m.1)
 
-abbrev pub Loads : Seat → ℕ → Seat → Type 0
-Loads m count n =
-    (n.0 ≡ watcher (m.0.counts ++ count ∷ []) m.0.flags) × AreReached m.0.counts count × (n.1 ≡ m.1)
+-- the count was brought there at some moment
+pub record Loads (m : Seat) (count : ℕ) (n : Seat) : Type 0 where
+  pub moment : ℕ
+  pub loaded : n.0 ≡
+      watcher (m.0.counts ++ record { count = count; moment = moment } ∷ []) m.0.flags
+  pub rises : AreReached m.0.counts count
+  pub rest : n.1 ≡ m.1
 
 abbrev pub LoadsFlag : Seat → ℕ → Seat → Type 0
 LoadsFlag m flag n =
@@ -55,4 +65,4 @@ LoadsFlag m flag n =
 
 -- the keeper's seat learns that what it was shown was reached
 abbrev pub Compares : Seat → Seat → Type 0
-Compares m n = (n.0 ≡ keeper m.0.kept) × AreReached m.0.counts m.0.kept × (n.1 ≡ m.1)
+Compares m n = (n.0 ≡ keeper m.0.raised) × AreNoted m.0.counts m.0.raised × (n.1 ≡ m.1)

@@ -44,6 +44,6 @@ pub use accord::{Accord, Far, Near, OneGather};
 pub use ends::{Incoming, Outgoing};
 pub use handoff::{Handoff, Receiver, Sender};
 pub use line::{BookSeat, ClientSeat, Line};
-pub use mark::{KeeperSeat, Mark, Watcher};
+pub use mark::{KeeperSeat, Mark, OneMoment, Raised, Watcher};
 pub use numbers::{Drawer, DrawerMaker, Numbers};
 pub use view::OneStep;

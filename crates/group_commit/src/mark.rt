@@ -1,28 +1,36 @@
 // How far commits are kept, and whether keeping failed.
-ghost use Rattle.std.specs.Prelude.{◌≡◌, max, true, IsTrue, IfOk, IsOkUnless};
+ghost use Rattle.std.specs.Prelude.{◌≡◌, ℕ, [], true, IsTrue, IfOk, IsOkUnless};
 ghost use Rattle.calls.specs.declared.refusal.Refusal.{Refusal};
-ghost use Rattle.group_commit.specs.Marks.{new_watcher, with_count, with_flag, informed};
-ghost use Rattle.group_commit.specs.Marks.{AreReached, HasFailed};
+ghost use Rattle.group_commit.specs.Marks.{new_watcher, with_count, with_flag, informed, top};
+ghost use Rattle.group_commit.specs.Marks.{AreReached, AreNoted, HasFailed};
+ghost use Rattle.group_commit.specs.Rising.{raised_to};
 
 use atomic_table::{Join, Play, Seat, Split, Table, TableRule};
 use calls::Refusal;
 use crossbeam_utils::sync::{EventCount, Key};
 use std::alloc::Global;
 use std::collections::LinkedList;
-use std::marker::Model;
+use std::marker::{Brand, Model, PhantomData};
 
 // The words of the table.
 const COUNT: usize = 0;
 
 const FLAG: usize = 1;
 
-// What a seat knows: the keeper's the count that it has kept, each other one the counts that it
-// loaded or was told, and the failed flag each time that it loaded or set it. No value of it is
+/// The count that a mark was brought to, and the moment of the disk at which it was. No value of it
+/// is made: contracts speak of it.
+pub struct Raised {
+    pub count: u64,
+    pub moment: u64,
+}
+
+// What a seat knows: the keeper's all that it has brought the mark to, each other one the counts that
+// it loaded or was told, and the failed flag each time that it loaded or set it. No value of it is
 // made.
 pub(crate) struct Tide {
     keeps: bool,
-    kept: u64,
-    counts: LinkedList<u64>,
+    raised: LinkedList<Raised>,
+    counts: LinkedList<Raised>,
     flags: LinkedList<bool>,
 }
 
@@ -30,19 +38,35 @@ pub(crate) struct Tide {
 pub(crate) struct Rising;
 
 impl TableRule<(), Tide, ()> for Rising {
+    ghost use Rattle.std.specs.Prelude.{[]};
     ghost use Rattle.group_commit.specs.Rising.{Marked, keeper};
 
     ghost holds = { λ _ s. Marked s.words s.views };
 
-    ghost first = { λ _. keeper 0 };
+    ghost first = { λ _. keeper [] };
 }
 
-struct Advance;
+/// At which moment of the disk a mark is raised. Each call picks it, by passing `Brand`, so that no
+/// moment is stored: it exists in the proofs alone.
+pub trait OneMoment {
+    ghost use Rattle.std.specs.Prelude.{ℕ};
 
-impl Play<(), Tide> for Advance {
+    ghost moment: { ℕ };
+}
+
+impl OneMoment for Brand {
+    ghost moment = { 0 };
+}
+
+// The mark is raised at a moment.
+struct Advance<W> {
+    of: PhantomData<W>,
+}
+
+impl<W: OneMoment> Play<(), Tide> for Advance<W> {
     ghost use Rattle.group_commit.specs.Rising.{Advances};
 
-    ghost then = { λ step me _ after. Advances step.first me after };
+    ghost then = { λ step me _ after. Advances step.first W.moment me after };
 }
 
 struct Fail;
@@ -115,11 +139,12 @@ struct Report;
 
 impl Split<Tide> for Report {
     ghost use Rattle.std.specs.Prelude.{[], ◌∷◌};
+    ghost use Rattle.group_commit.specs.Marks.{top};
     ghost use Rattle.group_commit.specs.Rising.{watcher};
 
     ghost left = { λ v. v };
 
-    ghost right = { λ v. watcher (v.kept ∷ []) [] };
+    ghost right = { λ v. watcher (top v.raised ∷ []) [] };
 }
 
 // The keeper's seat is shown what a watcher loaded.
@@ -128,7 +153,7 @@ struct Show;
 impl Join<Tide> for Show {
     ghost use Rattle.group_commit.specs.Rising.{shown, nobody};
 
-    ghost both = { λ v w. shown v.kept w.counts };
+    ghost both = { λ v w. shown v.raised w.counts };
 
     ghost spent = { nobody };
 }
@@ -153,8 +178,8 @@ impl Model for Mark {
     ghost invariant = { λ m. m.table.shared.table_id.words ≡ 2 };
 }
 
-/// The one seat of a mark that brings it on: the keeper's. It has no bytes. Contracts see how far
-/// it has brought the count.
+/// The one seat of a mark that brings it on: the keeper's. It has no bytes. Contracts see to which
+/// counts it has brought it, and when.
 pub struct KeeperSeat {
     seat: Seat<(), Tide>,
 }
@@ -174,9 +199,9 @@ impl Model for KeeperSeat {
 
     ghost use Rattle.group_commit.specs.Rising.{keeper};
 
-    ghost view = { λ k. record { table = k.seat.table_id; count = k.seat.me.0.kept } };
+    ghost view = { λ k. record { table = k.seat.table_id; raised = k.seat.me.0.raised } };
 
-    ghost invariant = { λ k. k.seat.me ≡ (keeper k.seat.me.0.kept, []) };
+    ghost invariant = { λ k. k.seat.me ≡ (keeper k.seat.me.0.raised, []) };
 }
 
 /// A seat from which a mark is watched: of a client, a committer or a checkpointer. It has no
@@ -214,7 +239,7 @@ impl Mark {
     ///
     /// NoMemory for the two words.
     pub fn new(alloc: Global) -> Result<(Mark, KeeperSeat, Watcher), Refusal>
-        ensures keeper { IfOk result (λ made. made.1 ≡ record { table = made.0; count = 0 }) }
+        ensures keeper { IfOk result (λ made. made.1 ≡ record { table = made.0; raised = [] }) }
         ensures watcher { IfOk result (λ made. made.2 ≡ new_watcher made.0) }
         ensures refusal { IsOkUnless result Refusal.NoMemory }
     {
@@ -238,16 +263,17 @@ impl Mark {
         Watcher { seat }
     }
 
-    /// All commits up to the place are kept: the count reaches it, unless it was past it. Who sleeps
-    /// until the mark moves is woken: one load where nobody does. It takes no memory.
-    pub fn advance(&self, keeper: &mut KeeperSeat, place: u64)
+    /// All commits up to the place are kept, from the moment on that `W` names: the count reaches it,
+    /// unless it was past it. Who sleeps until the mark moves is woken: one load where nobody does. It
+    /// takes no memory.
+    pub fn advance<W: OneMoment>(&self, keeper: &mut KeeperSeat, place: u64)
         requires { keeper.old.table ≡ self.now }
         ensures table { keeper.new.table ≡ keeper.old.table }
-        ensures count { keeper.new.count ≡ max keeper.old.count place }
+        ensures raised { keeper.new.raised ≡ raised_to place W.moment keeper.old.raised }
     {
         self.table
             .shared
-            .fetch_max::<Advance>(&mut keeper.seat, COUNT, place);
+            .fetch_max::<Advance<W>>(&mut keeper.seat, COUNT, place);
         self.moves.notify_all();
     }
 
@@ -261,7 +287,8 @@ impl Mark {
     /// The count now, which is at least each one that this watcher has loaded.
     pub fn load(&self, watcher: &mut Watcher) -> u64
         requires { watcher.old.table ≡ self.now }
-        ensures loaded { watcher.new ≡ with_count watcher.old result }
+        ensures loaded { (moment : ℕ) × watcher.new ≡
+            with_count watcher.old (record { count = result; moment = moment }) }
         ensures rises { AreReached watcher.old.counts result }
     {
         self.table.shared.load::<Load>(&mut watcher.seat, COUNT)
@@ -304,21 +331,22 @@ impl Mark {
         requires keeper { keeper.old.table ≡ self.now }
         requires watcher { watcher.old.table ≡ self.now }
         ensures keeper { keeper.new ≡ keeper.old }
-        ensures watcher { watcher.new ≡ with_count watcher.old keeper.old.count }
-        ensures rises { AreReached watcher.old.counts keeper.old.count }
+        ensures watcher { watcher.new ≡ with_count watcher.old (top keeper.old.raised) }
+        ensures rises { AreNoted watcher.old.counts keeper.old.raised }
     {
         self.compare(keeper, watcher);
         let told = self.table.shared.split_seat::<Report>(&mut keeper.seat);
         self.table.shared.join_seat::<Tell>(&mut watcher.seat, told);
     }
 
-    /// Each count that the watcher knows was reached by the keeper's seat. It changes nothing.
+    /// Each count that the watcher knows is one to which the keeper's seat has brought the mark, at the
+    /// moment that the watcher knows, or 0. It changes nothing.
     pub fn compare(&self, keeper: &mut KeeperSeat, watcher: &mut Watcher)
         requires keeper { keeper.old.table ≡ self.now }
         requires watcher { watcher.old.table ≡ self.now }
         ensures keeper { keeper.new ≡ keeper.old }
         ensures watcher { watcher.new ≡ watcher.old }
-        ensures reached { AreReached watcher.old.counts keeper.old.count }
+        ensures noted { AreNoted watcher.old.counts keeper.old.raised }
     {
         let told = self.table.shared.split_seat::<Tell>(&mut watcher.seat);
         self.table.shared.join_seat::<Show>(&mut keeper.seat, told);

@@ -93,6 +93,7 @@ impl<I: Read + Drop, O: Write + Drop> Multiplex<I, O> {
         }
         match served? {
             Why::Broken => Err(io::Error::from(ErrorKind::BrokenPipe)),
+            Why::NoMemory => Err(io::Error::from(ErrorKind::OutOfMemory)),
             Why::Bye | Why::Gone | Why::Lost => Ok(()),
         }
     }

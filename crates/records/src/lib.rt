@@ -1,5 +1,18 @@
 //! What a journal and a checkpoint image say, record by record, the one spelling of each record,
 //! and collections that records tell of.
+//!
+//! **What it promises.** `decode` reads a body to the one list of records that it spells, or says
+//! that it spells none (`one_spelling`, `one_list`). `Coded` is what the layers above ask of
+//! collections that images tell of: their items, in an order from which they are loaded again.
+//!
+//! **Where its argument stands.** The grammar is `record_format` (`specs/Records`), which writes;
+//! `record_reading` reads, and has the laws that each spelling is read back. Here is what ties
+//! records to contents (`specs/Told`, `specs/Images`), and which replies and inverses a record may
+//! pair with its call (`sound.rt`).
+//!
+//! **To change it.** A new record has a tag and a spelling in `record_format` (`Records`,
+//! `writing`, `lengths`), a reader in `record_reading`, and a row in `machine`. A call of a new
+//! kind has the same three places, and `fitting`.
 #![tactic(auto)]
 
 mod coded;

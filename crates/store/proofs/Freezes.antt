@@ -3,11 +3,12 @@ use Rattle.std.proofs.Common.{◌≡◌, inl, inr, ℕ, ◌+◌, ◌≤◌, Bool
 use Rattle.std.proofs.Common.{Err, List}
 use Rattle.std.proofs.Common.{[], ◌∷◌, ◌++◌, length, refl, sym, ap, ◌∙◌, subst, arith}
 use Rattle.std.proofs.Common.{length-append, append_assoc}
-use Rattle.std.proofs.Common.{Option}
+use Rattle.std.proofs.Common.{Option, ◌⊎◌, ◌<◌}
+use Rattle.std.specs.Prelude.{All, Contains}
 use Rattle.std.specs.Option.{option_map}
 use mathlib.Core.List.{IsPrefix}
 use Rattle.std.proofs.lemmas.List.{append-nil}
-use Rattle.std.proofs.lemmas.List.Elements.{All-tail}
+use Rattle.std.proofs.lemmas.List.Elements.{All-tail, All-contains}
 use Rattle.calls.specs.Contents.{Collection}
 use Rattle.calls.specs.declared.refusal.Refusal.{Refusal}
 use Rattle.disk_model.specs.declared.disk.Disk as disks
@@ -35,7 +36,7 @@ use Rattle.txn.specs.Histories.{records_by, committed_by}
 use Rattle.txn.proofs.Handings.{records_by-push, gathers_on, frozen_not, freezes_gathered}
 use Rattle.txn.proofs.Handings.{freezes_nothing}
 use Rattle.catalog.specs.Meaning.{catalog_meaning, catalog_making}
-use Rattle.checkpoint.specs.Crash.{Yields, YieldsUpTo}
+use Rattle.checkpoint.specs.Crash.{Yields, YieldsUpTo, committed_of}
 use Rattle.checkpoint.specs.ImageAnswers.{HoldAnswers}
 use Rattle.checkpoint.specs.Keepers.{KeeperState}
 use Rattle.checkpoint.specs.Keeping.{BegunImage, IsApart, Uncrossed, HasReceived, HoldKeeps}
@@ -48,15 +49,17 @@ use Rattle.world.proofs.Readings.{history_yields}
 use Rattle.group_commit.specs.Accords.{AccordState}
 use Rattle.group_commit.specs.Lines as lines
 use Rattle.group_commit.specs.Lines.{stepped}
-use Rattle.group_commit.specs.Marks.{KeeperMark, AreReached}
+use Rattle.group_commit.specs.declared.mark.Raised.{Raised}
+use Rattle.group_commit.specs.Marks.{KeeperMark, AreReached, AreNoted, HasCome, top, unraised}
+use Rattle.group_commit.proofs.Marking.{noted_reached}
 use Rattle.group_commit.specs.Orders.{SenderState, ReceiverState, AreInTransit, noting, noting_too}
 use Rattle.clients.specs.declared.naming.Naming.{Ghosts}
 use Rattle.clients.specs.Desks.{AreRecorded, IsDesk, PacksImages, frozen_end, frozen_ends}
 use Rattle.clients.specs.Notes.{alone}
 use Rattle.store.specs.Closing.{Closes}
 use Rattle.store.specs.Gatherers.{Froze}
-use Rattle.store.specs.Vaults.{LeavesSince, IsVault}
-use Rattle.store.proofs.VaultSteps.{leaves_on}
+use Rattle.store.specs.Vaults.{LeavesSince, IsVault, IsKeptSince}
+use Rattle.store.proofs.VaultSteps.{leaves_on, kept_on}
 
 abbrev Book : Type 0
 Book = BookState (List Collection)
@@ -82,7 +85,7 @@ carried_length end place (x ∷ bs) (g ∷ gs) (h ∷ hs) a b =
           (subst (λ n. Carries (end + length h) n bs hs) (ap (λ n. place + n) (sym same)) b.1)),
     )
 
-reached_more : (counts : List ℕ) (m n : ℕ) → m ≤ n → AreReached counts m → AreReached counts n
+reached_more : (counts : List Raised) (m n : ℕ) → m ≤ n → AreReached counts m → AreReached counts n
 reached_more counts m n less all k x at = let one = all k x at in omega (arith, less, one)
 
 -- ---- the book
@@ -172,6 +175,7 @@ module _ {J D : Type 0} (j : Ghosts J) (g : disks.Ghosts D) where
       received : ((begun : List BegunImage) × HasReceived g.seen g.may_leave j.start j.wear
           (records_by seat.all) (journalled book.state) ends begun receiver.received k)
           × LeavesSince j g k.disk (YieldsUpTo j.start (records_by seat.all) 0)
+          × All (IsKeptSince j g k (YieldsUpTo j.start (records_by seat.all))) mark.raised
       received =
           let had = vault.received s (records_by seat.all) (journalled book.state) parts.0
           (subst (AreRecorded j.start j.wear (records_by seat.all) (journalled book.state)) same
@@ -184,6 +188,7 @@ module _ {J D : Type 0} (j : Ghosts J) (g : disks.Ghosts D) where
                 (records_by seat.all) (journalled book.state) (frozen_ends gs) begun
                 receiver.received k) (sym same) had.0,
             had.1,
+            had.2,
           )
 
       abbrev begun : List BegunImage
@@ -200,13 +205,14 @@ module _ {J D : Type 0} (j : Ghosts J) (g : disks.Ghosts D) where
           history_yields j.start j.wear seat.all (standing book) handed.legal 0 (omega arith) bytes
           y
 
-    pub closes : (seen : List BookStep) (counts : List ℕ) → IsPrefix seen seat.all →
-        AreReached counts mark.count → Closes j g seen counts book k
-    closes seen counts begins reached = record {
+    pub closes : (seen : List BookStep) (counts : List Raised) → IsPrefix seen seat.all →
+        AreNoted counts mark.raised → Closes j g seen counts book k
+    closes seen counts begins noted = record {
       steps = seat.all;
       legal = handed.legal;
       begins = begins;
-      reached = reached_more counts mark.count k.mark vault.marked reached;
+      reached = reached_more counts (top mark.raised).count k.mark vault.marked
+          (noted_reached counts mark.raised noted);
       stop = λ s bytes left.
           history_yields j.start j.wear seat.all (standing book) handed.legal k.mark
           (mark_few g.seen g.may_leave j.start j.wear (records_by seat.all)
@@ -220,7 +226,31 @@ module _ {J D : Type 0} (j : Ghosts J) (g : disks.Ghosts D) where
           | inr now ↦ inr (yields s bytes now)
         ];
       };
+      since_told = λ s x some told.
+          let come = All-contains (HasCome mark.raised) counts x noted some in
+          let since = All-contains (IsKeptSince j g k (YieldsUpTo j.start (records_by seat.all)))
+          mark.raised x (received s).2 (raised_some x mark.raised told come.noted) in record {
+            later = since.opened;
+            past = since.past;
+            each = λ bytes left.
+                history_yields j.start j.wear seat.all (standing book) handed.legal x.count
+                (few s x.count since.within) bytes (since.each bytes left);
+          };
     }
+      where
+        -- no more than were committed
+        few : (s : j.sound) (n : ℕ) → n ≤ k.mark → n ≤ length (committed_of (records_by seat.all))
+        few s n le =
+            let all = mark_few g.seen g.may_leave j.start j.wear (records_by seat.all)
+            (journalled book.state) ends (begun s) receiver.received k (keeps s) in
+            omega (arith, le, all)
+
+        raised_some : (x : Raised) (raised : List Raised) → 0 < x.count →
+            (x ≡ unraised) ⊎ Contains raised x → Contains raised x
+        raised_some x raised told (inl first) =
+            let none : x.count ≡ 0 = ap (λ (y : Raised). y.count) first in
+            absurd (omega (arith, told, none))
+        raised_some x raised told (inr there) = there
 
     -- The book is frozen.
     module _ (kept : IsKept catalog_meaning catalog_making AreShort
@@ -371,6 +401,8 @@ module _ {J D : Type 0} (j : Ghosts J) (g : disks.Ghosts D) where
                     ap (λ (v : Marks). v.end) froze.1.marks)) kept.0,
               ),
               leaves_on g j records k l had.1 kept.1,
+              kept_on g j records k l mark.raised had.2 kept.1
+                  (omega (arith, (held_same k _ l (Ok tt) answers).1)),
             );
       }
 

@@ -1,7 +1,9 @@
 -- Each step of the keeper keeps what lies under its lock.
 use Rattle.std.proofs.Common.{◌≡◌, ◌≢◌, inl, inr, ℕ, ◌+◌, ◌≤◌, Some, None, Result, Ok, Err, List}
-use Rattle.std.proofs.Common.{[], ◌∷◌, ◌++◌, length, refl, sym, ap, ◌∙◌, subst, arith}
-use Rattle.std.proofs.Common.{append_assoc, ◌<◌}
+use Rattle.std.proofs.Common.{[], ◌∷◌, ◌++◌, length, sym, ap, ◌∙◌, subst, arith}
+use Rattle.std.proofs.Common.{append_assoc, ◌<◌, max, take}
+use Rattle.std.specs.Prelude.{All}
+use Rattle.std.proofs.lemmas.List.Elements.{All-nil, All-push, All-append, All-weaker}
 use Rattle.std.specs.Borrow.{MutBor}
 use Rattle.std.specs.Prelude.{IfErr}
 use Rattle.std.specs.List.{AllByRecursion}
@@ -26,7 +28,7 @@ use Rattle.checkpoint.specs.Imaging.{given_up}
 use Rattle.checkpoint.specs.Keepers.{KeeperState, IsFresh, IsPast, TurnAnswers}
 use Rattle.checkpoint.specs.Keeping.{Uncrossed, HasReceived, TurnKeeps, ImageKeeps, BeginKeeps}
 use Rattle.checkpoint.specs.Keeping.{begun_with, LeavesKept}
-use Rattle.checkpoint.specs.Crash.{YieldsUpTo}
+use Rattle.checkpoint.specs.Crash.{YieldsUpTo, committed_of}
 use Rattle.checkpoint.specs.DiskHeads.{IsInUse}
 use Rattle.checkpoint.specs.Stored.{AreReadTo}
 use Rattle.checkpoint.proofs.GroupLemmas.{uncrossed_front}
@@ -35,17 +37,20 @@ use Rattle.world.specs.Pasts.{mark_behind, mark_flipped}
 use Rattle.world.proofs.Begins as begins
 use Rattle.world.proofs.GatherLemmas.{begun_same}
 use Rattle.world.proofs.KeeperSteps.{mark_rises, mark_is, some_received}
+use Rattle.world.proofs.PastLemmas.{prefix_take, yields_fewer}
 use Rattle.group_commit.specs.Accords.{AccordState}
 use Rattle.group_commit.specs.Ends.{Receives, WasEmptyAt}
-use Rattle.group_commit.specs.Marks.{KeeperMark}
+use Rattle.group_commit.specs.declared.mark.Raised.{Raised}
+use Rattle.group_commit.specs.Marks.{KeeperMark, top}
+use Rattle.group_commit.specs.Rising.{raised_to}
 use Rattle.group_commit.specs.Orders.{ReceiverState}
 use Rattle.group_commit.specs.Parties.{Among}
 use Rattle.clients.specs.declared.naming.Naming.{Ghosts}
 use Rattle.clients.specs.Desks.{AreRecorded, PacksImages, frozen_ends}
 use Rattle.clients.proofs.Recording.{opened_stands}
 use Rattle.store.specs.Openings.{OpenedState, IsNamed}
-use Rattle.store.specs.Turns.{Brings, IsTurnRefusal, brought_to, flipped_to}
-use Rattle.store.specs.Vaults.{LeavesSince, ReceivesAny, IsVault}
+use Rattle.store.specs.Turns.{Brings, IsTurnRefusal, IsWithin, brought_to, flipped_to}
+use Rattle.store.specs.Vaults.{LeavesSince, ReceivesAny, IsVault, IsKeptSince}
 use Rattle.store.proofs.Ends.{received_back, received_there}
 
 abbrev Book : Type 0
@@ -69,17 +74,25 @@ pub given_up_mark : {D : Type 0} (k l : KeeperState D) →
 given_up_mark k l is = ap (λ (s : KeeperState _). s.mark) is
 
 -- fewer of the transactions are known
+yields_less : (start : List Collection) (records : List Record) (count less : ℕ)
+    (bytes : List ℕ) → less ≤ count → YieldsUpTo start records count bytes →
+    YieldsUpTo start records less bytes
+yields_less start records count less bytes le y =
+    yields_fewer start (committed_of records) (take count (committed_of records))
+    (take less (committed_of records)) bytes (prefix_take (committed_of records) less count le) y
+
 yields_some : (start : List Collection) (records : List Record) (count : ℕ) (bytes : List ℕ) →
     YieldsUpTo start records count bytes → YieldsUpTo start records 0 bytes
-yields_some start records count bytes y = record {
-  sound = y.sound;
-  content = y.content;
-  stands = y.stands;
-  kept = y.kept;
-  begins = y.begins;
-  holds = (y.kept, refl);
-  serial = y.serial;
-}
+yields_some start records count bytes y =
+    yields_less start records count 0 bytes (omega arith) y
+
+-- a mark that is not past what was kept is not so behind a turn
+brought_within : (raised : List Raised) (moment n : ℕ) (r : Result Turn Refusal) →
+    (top raised).count ≤ n → IsWithin r n → (top (brought_to raised moment r)).count ≤ n
+brought_within raised moment n (Ok (Turn.Kept place)) less told = omega (arith, less, told)
+brought_within raised moment n (Ok Turn.Idle) less told = less
+brought_within raised moment n (Ok Turn.Held) less told = less
+brought_within raised moment n (Err e) less told = less
 
 module _ {D : Type 0} (g : disks.Ghosts D) where
   -- a stop since this moment leaves what one now does
@@ -102,7 +115,7 @@ module _ {D : Type 0} (g : disks.Ghosts D) where
   module _ {J : Type 0} (j : Ghosts J) where
     -- nothing was received of a store that was opened
     pub vault_opens : (o : OpenedState D) → IsNamed j g o → j.sound → IsFresh o.keeper →
-        Since o.keeper.disk → ReceivesAny j g [] [] o.keeper
+        Since o.keeper.disk → ReceivesAny j g [] [] [] o.keeper
     vault_opens o named s fresh only_now records now groups recorded carried begin apart =
         let sound = named.sound s in
         let told = sound.is_opened in
@@ -124,6 +137,7 @@ module _ {D : Type 0} (g : disks.Ghosts D) where
                 (subst (λ t. g.left_since o.keeper.disk t bytes) (sym named.opened_at) left)));
             before = λ t bytes early left. inl (named.left_since t bytes left);
           },
+          All-nil (IsKeptSince j g o.keeper (YieldsUpTo j.start records)),
         )
 
     -- A call of the keeper goes on so: what a stop since the opening left stays what it was.
@@ -143,17 +157,62 @@ module _ {D : Type 0} (g : disks.Ghosts D) where
           ];
     }
 
+    -- And what one left since the mark was raised.
+    pub kept_on : (records : List Record) (k l : KeeperState D) (raised : List Raised) →
+        All (IsKeptSince j g k (YieldsUpTo j.start records)) raised →
+        LeavesKept g j.start records k l → k.mark ≤ l.mark →
+        All (IsKeptSince j g l (YieldsUpTo j.start records)) raised
+    kept_on records k l raised all kept rises =
+        All-weaker (IsKeptSince j g k (YieldsUpTo j.start records))
+        (IsKeptSince j g l (YieldsUpTo j.start records)) (λ x is. record {
+          opened = is.opened;
+          past = omega (arith, is.past, kept.later);
+          within = omega (arith, is.within, rises);
+          each = λ bytes left. elim (kept.before x.moment bytes is.past left) [
+            | inl before ↦ is.each bytes before
+            | inr yields ↦
+                yields_less j.start records k.mark x.count bytes is.within yields
+          ];
+        }) raised all
+
+    -- The mark is raised now, to what is kept.
+    kept_now : (records : List Record) (l : KeeperState D) (raised : List Raised) (place : ℕ) →
+        j.opened_at ≤ g.moment l.disk → place ≤ l.mark → (top raised).count ≤ l.mark →
+        Since l.disk →
+        ((bytes : List ℕ) → g.may_leave l.disk bytes → YieldsUpTo j.start records l.mark bytes) →
+        All (IsKeptSince j g l (YieldsUpTo j.start records)) raised →
+        All (IsKeptSince j g l (YieldsUpTo j.start records))
+        (raised_to place (g.moment l.disk) raised)
+    kept_now records l raised place opened within below only_now stop all =
+        let P : Raised → Type 0 = IsKeptSince j g l (YieldsUpTo j.start records) in
+        let x : Raised =
+        record { count = max (top raised).count place; moment = g.moment l.disk } in
+        let now : P x = record {
+          opened = opened;
+          past = omega arith;
+          within = omega (arith, within, below);
+          each = λ bytes left. yields_less j.start records l.mark x.count bytes
+              (omega (arith, within, below)) (stop bytes (only_now bytes left));
+        } in
+        All-append P (x ∷ []) raised (All-push P [] x (All-nil P) now) all
+
     -- ---- turns
 
     pub vault_turns : (k : KeeperState D) (receiver : ReceiverState) (seat : KeeperMark)
         (near : AccordState) → IsVault j g k receiver seat near → (r : _) (l : KeeperState D)
         (after : ReceiverState) (now : KeeperMark) → Brings g k receiver r l after →
-        now.table ≡ seat.table → now.count ≤ l.mark → IsVault j g l after now near
-    vault_turns k receiver seat near is r l after now brings table marked = record {
+        Since l.disk →
+        now ≡ record {
+          table = seat.table;
+          raised = brought_to seat.raised (g.moment l.disk) r;
+        } → IsVault j g l after now near
+    vault_turns k receiver seat near is r l after now brings only_now now_is = record {
       handoff = brings.receives.table ∙ is.handoff;
-      mark = table ∙ is.mark;
+      mark = ap (λ (m : KeeperMark). m.table) now_is ∙ is.mark;
       awaited = is.awaited;
-      marked = marked;
+      marked = subst (λ (m : KeeperMark). (top m.raised).count ≤ l.mark) (sym now_is)
+          (brought_within seat.raised (g.moment l.disk) l.mark r
+          (omega (arith, is.marked, brings.rises)) brings.told);
       noted = λ some. subst (Among near.gather) (sym brings.receives.noted)
           (is.noted some);
       received = λ s records state groups recorded carried begin apart.
@@ -186,26 +245,78 @@ module _ {D : Type 0} (g : disks.Ghosts D) where
                   (sym brings.receives.noted) kept.0),
             ),
             leaves_on records k l had.1 kept.1,
+            subst (λ (m : KeeperMark).
+                All (IsKeptSince j g l (YieldsUpTo j.start records)) m.raised) (sym now_is)
+                (kept_brought records l seat.raised r
+                (omega (arith, had.1.later, kept.1.later)) brings.told
+                (omega (arith, is.marked, brings.rises)) only_now kept.0.stop
+                (kept_on records k l seat.raised had.2 kept.1 brings.rises)),
           );
     }
+      where
+        kept_brought : (records : List Record) (l : KeeperState D) (raised : List Raised)
+            (r : Result Turn Refusal) → j.opened_at ≤ g.moment l.disk → IsWithin r l.mark →
+            (top raised).count ≤ l.mark → Since l.disk →
+            ((bytes : List ℕ) → g.may_leave l.disk bytes →
+            YieldsUpTo j.start records l.mark bytes) →
+            All (IsKeptSince j g l (YieldsUpTo j.start records)) raised →
+            All (IsKeptSince j g l (YieldsUpTo j.start records))
+            (brought_to raised (g.moment l.disk) r)
+        kept_brought records l raised (Ok (Turn.Kept place)) opened told below only_now stop all =
+            kept_now records l raised place opened told below only_now stop all
+        kept_brought records l raised (Ok Turn.Idle) opened told below only_now stop all = all
+        kept_brought records l raised (Ok Turn.Held) opened told below only_now stop all = all
+        kept_brought records l raised (Err e) opened told below only_now stop all = all
 
-    -- a piece of an image, or a flip
+    -- a piece of an image
     pub vault_images : (k : KeeperState D) (receiver : ReceiverState) (seat : KeeperMark)
-        (near : AccordState) → IsVault j g k receiver seat near → (l : KeeperState D)
-        (now : KeeperMark) → ImageKeeps g k l → now.table ≡ seat.table → now.count ≤ l.mark →
-        IsVault j g l receiver now near
-    vault_images k receiver seat near is l now keeps table marked = record {
+        (near : AccordState) → IsVault j g k receiver seat near → (l : KeeperState D) →
+        ImageKeeps g k l → k.mark ≤ l.mark → IsVault j g l receiver seat near
+    vault_images k receiver seat near is l keeps rises = record {
       handoff = is.handoff;
-      mark = table ∙ is.mark;
+      mark = is.mark;
       awaited = is.awaited;
-      marked = marked;
+      marked = omega (arith, is.marked, rises);
       noted = is.noted;
       received = λ s records state groups recorded carried begin apart.
           let had = is.received s records state groups recorded carried begin apart in
           let kept = keeps j.start j.wear records state (frozen_ends receiver.noted) had.0.0
-          receiver.received had.0.1 in
-          ((had.0.0, kept.0), leaves_on records k l had.1 kept.1);
+          receiver.received had.0.1 in (
+            (had.0.0, kept.0),
+            leaves_on records k l had.1 kept.1,
+            kept_on records k l seat.raised had.2 kept.1 rises,
+          );
     }
+
+    -- and a flip, which tells the mark what is kept
+    pub vault_flips : (k : KeeperState D) (receiver : ReceiverState) (seat : KeeperMark)
+        (near : AccordState) → IsVault j g k receiver seat near → (r : Result ℕ Refusal)
+        (l : KeeperState D) (now : KeeperMark) → ImageKeeps g k l → k.mark ≤ l.mark →
+        mark_flipped k.mark r ≡ l.mark → Since l.disk →
+        now ≡ record {
+          table = seat.table;
+          raised = flipped_to seat.raised (g.moment l.disk) r;
+        } → IsVault j g l receiver now near
+    vault_flips k receiver seat near is (Err e) l now keeps rises flipped only_now now_is =
+        subst (λ (m : KeeperMark). IsVault j g l receiver m near) (sym now_is)
+        (vault_images k receiver seat near is l keeps rises)
+    vault_flips k receiver seat near is (Ok place) l now keeps rises flipped only_now now_is =
+        let laid = vault_images k receiver seat near is l keeps rises in
+        subst (λ (m : KeeperMark). IsVault j g l receiver m near) (sym now_is) (record {
+          handoff = is.handoff;
+          mark = is.mark;
+          awaited = is.awaited;
+          marked = omega (arith, is.marked, rises, flipped);
+          noted = is.noted;
+          received = λ s records state groups recorded carried begin apart.
+              let had = laid.received s records state groups recorded carried begin apart in (
+                had.0,
+                had.1,
+                kept_now records l seat.raised place had.1.later
+                    (omega (arith, rises, flipped)) (omega (arith, is.marked, rises)) only_now
+                    had.0.1.stop had.2,
+              );
+        })
 
     -- an image that was packed of what is known to be frozen is begun, or refused
     pub vault_begins : (k : KeeperState D) (receiver : ReceiverState) (seat : KeeperMark)
@@ -225,7 +336,11 @@ module _ {D : Type 0} (g : disks.Ghosts D) where
           recorded.stand there image packs in
           let kept = keeps j.start j.wear records state (frozen_ends receiver.noted) had.0.0
           receiver.received of.begun of.is_for of.stands had.0.1 in
-          ((begun_with of.begun had.0.0 r, kept.0), leaves_on records k l had.1 kept.1);
+          let same = (begun_same k image l r answers).1 in (
+            (begun_with of.begun had.0.0 r, kept.0),
+            leaves_on records k l had.1 kept.1,
+            kept_on records k l seat.raised had.2 kept.1 (omega (arith, same)),
+          );
     }
 
 -- ---- a turn over the hand-off
@@ -250,23 +365,11 @@ turn_refused g k l before after (Err Refusal.Fault) a = tt
 turn_refused g k l before after (Err e) a = absurd a.1.2.2
 
 brought_mark : (m n : ℕ) (r : Result Turn Refusal) → mark_behind m r ≡ n → m ≤ n →
-    brought_to m r ≤ n
+    IsWithin r n
 brought_mark m n (Ok (Turn.Kept place)) is rises = omega (arith, is, rises)
-brought_mark m n (Ok Turn.Idle) is rises = rises
-brought_mark m n (Ok Turn.Held) is rises = rises
-brought_mark m n (Err e) is rises = rises
-
--- a mark that is not past what was kept is not so behind a turn or a flip
-pub brought_least : (c m : ℕ) (r : Result Turn Refusal) → c ≤ m → brought_to c r ≤ brought_to m r
-brought_least c m (Ok (Turn.Kept place)) less = omega (arith, less)
-brought_least c m (Ok Turn.Idle) less = less
-brought_least c m (Ok Turn.Held) less = less
-brought_least c m (Err e) less = less
-
-pub flipped_within : (c m n : ℕ) (r : Result ℕ Refusal) → c ≤ m → mark_flipped m r ≡ n →
-    m ≤ mark_flipped m r → flipped_to c r ≤ n
-flipped_within c m n (Ok place) less is rises = omega (arith, less, is, rises)
-flipped_within c m n (Err e) less is rises = omega (arith, less, is)
+brought_mark m n (Ok Turn.Idle) is rises = tt
+brought_mark m n (Ok Turn.Held) is rises = tt
+brought_mark m n (Err e) is rises = tt
 
 pub turn_brings : {D : Type 0} (g : disks.Ghosts D) (k l : KeeperState D)
     (before after : MutBor ReceiverState) (left : ReceiverState) →

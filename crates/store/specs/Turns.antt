@@ -1,5 +1,5 @@
 -- What a turn tells of the mark.
-use Rattle.std.specs.Prelude.{◌≡◌, ℕ, ◌≤◌, max, true, List, ◌++◌, Result, Ok, Err, IfErr}
+use Rattle.std.specs.Prelude.{◌≡◌, ℕ, ◌≤◌, true, List, ◌++◌, Result, Ok, Err, IfErr}
 use Rattle.calls.specs.declared.refusal.Refusal.{Refusal}
 use Rattle.disk_model.specs.declared.disk.Disk as disks
 use Rattle.blocks.specs.declared.block.Block.{Block}
@@ -7,17 +7,24 @@ use Rattle.checkpoint.specs.declared.turn.Turn.{Turn}
 use Rattle.checkpoint.specs.Keepers.{KeeperState}
 use Rattle.checkpoint.specs.Keeping.{TurnKeeps}
 use Rattle.group_commit.specs.Orders.{ReceiverState}
+use Rattle.group_commit.specs.declared.mark.Raised.{Raised}
 use Rattle.group_commit.specs.Marks.{WatcherState, with_count, with_flag}
+use Rattle.group_commit.specs.Rising.{raised_to}
 use Rattle.store.specs.declared.checkpointing.Checkpoint.{Checkpoint}
 
--- the count of a mark once it was brought on to this place
-abbrev pub brought_to : ℕ → Result Turn Refusal → ℕ
-brought_to count (Ok (Turn.Kept place)) = max count place
-brought_to count r = count
+-- how a mark was raised that is brought on to what is kept, at this moment
+abbrev pub brought_to : List Raised → ℕ → Result Turn Refusal → List Raised
+brought_to raised moment (Ok (Turn.Kept place)) = raised_to place moment raised
+brought_to raised moment r = raised
 
-abbrev pub flipped_to : ℕ → Result ℕ Refusal → ℕ
-flipped_to count (Ok place) = max count place
-flipped_to count (Err e) = count
+abbrev pub flipped_to : List Raised → ℕ → Result ℕ Refusal → List Raised
+flipped_to raised moment (Ok place) = raised_to place moment raised
+flipped_to raised moment (Err e) = raised
+
+-- what a turn tells is kept is not past the keeper's mark
+abbrev pub IsWithin : Result Turn Refusal → ℕ → Type 0
+IsWithin (Ok (Turn.Kept place)) mark = place ≤ mark
+IsWithin r mark = Unit {0}
 
 -- A keeper that met a fault sets the failed flag.
 abbrev pub Fails : WatcherState → Refusal → WatcherState → Type 0
@@ -27,7 +34,7 @@ Fails old e new = new ≡ old
 
 -- The mark had reached the place, at a moment.
 abbrev pub Reaches : WatcherState → ℕ → WatcherState → Type 0
-Reaches old place new = (count : ℕ) × (place ≤ count) × (new ≡ with_count old count)
+Reaches old place new = (x : Raised) × (place ≤ x.count) × (new ≡ with_count old x)
 
 -- Why a turn of a committer is refused: an earlier fault, no room for the block, a fault.
 abbrev pub IsTurnRefusal : Refusal → Type 0
@@ -68,5 +75,5 @@ pub record Brings {D : Type 0} (g : disks.Ghosts D) (k : KeeperState D) (receive
   pub receives : IsReceived receiver more after
   pub keeps : TurnKeeps g (λ bs. IsReceived receiver bs after) k l
   pub rises : k.mark ≤ l.mark
-  pub told : brought_to k.mark r ≤ l.mark
+  pub told : IsWithin r l.mark
   pub refused : IfErr r IsTurnRefusal

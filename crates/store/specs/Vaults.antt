@@ -1,5 +1,5 @@
 -- What lies under the keeper's lock.
-use Rattle.std.specs.Prelude.{◌≡◌, ◌≢◌, ◌⊎◌, ℕ, ◌≤◌, List, None}
+use Rattle.std.specs.Prelude.{◌≡◌, ◌≢◌, ◌⊎◌, ℕ, ◌≤◌, List, None, All}
 use mathlib.Core.List.{IsPrefix}
 use Rattle.disk_model.specs.declared.disk.Disk as disks
 use Rattle.record_format.specs.declared.record.Record.{Record}
@@ -14,7 +14,8 @@ use Rattle.checkpoint.specs.Keeping.{BegunImage, Uncrossed, HasReceived}
 use Rattle.group_commit.specs.Accords.{AccordState}
 use Rattle.group_commit.specs.Parties.{Among}
 use Rattle.group_commit.specs.Orders.{ReceiverState}
-use Rattle.group_commit.specs.Marks.{KeeperMark}
+use Rattle.group_commit.specs.declared.mark.Raised.{Raised}
+use Rattle.group_commit.specs.Marks.{KeeperMark, top}
 use Rattle.clients.specs.declared.naming.Naming.{Ghosts}
 use Rattle.clients.specs.Desks.{AreRecorded, frozen_ends}
 
@@ -27,18 +28,29 @@ pub record LeavesSince {J D : Type 0} (j : Ghosts J) (g : disks.Ghosts D) (disk 
   pub before : (t : ℕ) (bytes : List ℕ) → t ≤ j.opened_at → g.left_since disk t bytes →
       j.left_since t bytes ⊎ P bytes
 
+-- The mark was brought to a count that the keeper's is not below, at a moment since the opening.
+-- Whatever a stop since that moment might have left has P of the count.
+pub record IsKeptSince {J D : Type 0} (j : Ghosts J) (g : disks.Ghosts D) (keeper : KeeperState D)
+    (P : ℕ → List ℕ → Type 0) (x : Raised) : Type 0 where
+  pub opened : j.opened_at ≤ x.moment
+  pub past : x.moment ≤ g.moment keeper.disk
+  pub within : x.count ≤ keeper.mark
+  pub each : (bytes : List ℕ) → g.left_since keeper.disk x.moment bytes → P x.count bytes
+
 -- Whatever records a book of the store has made: where these blocks carry a beginning of them, and
 -- this was noted as frozen, the keeper has received the blocks, and begun some images; and a stop at
--- any moment since the opening left what some beginning of what the records commit gives.
+-- any moment since the opening left what some beginning of what the records commit gives. Since each
+-- moment at which the mark was raised that beginning has all that the mark told.
 abbrev pub ReceivesAny : {J D : Type 0} → Ghosts J → disks.Ghosts D → List GatherState →
-    List Block → KeeperState D → Type 0
-ReceivesAny j g noted received keeper =
+    List Block → List Raised → KeeperState D → Type 0
+ReceivesAny j g noted received raised keeper =
     (records : List Record) (now : State) (groups : List (List Record)) →
     AreRecorded j.start j.wear records now noted → Carries 0 0 received groups →
     IsPrefix (records_in groups) records → Uncrossed (frozen_ends noted) groups →
     ((begun : List BegunImage) × HasReceived g.seen g.may_leave j.start j.wear records now
     (frozen_ends noted) begun received keeper)
     × LeavesSince j g keeper.disk (YieldsUpTo j.start records 0)
+    × All (IsKeptSince j g keeper (YieldsUpTo j.start records)) raised
 
 -- The mark is not past what the keeper has kept. What is known to be frozen was noted.
 pub record IsVault {J D : Type 0} (j : Ghosts J) (g : disks.Ghosts D) (keeper : KeeperState D)
@@ -46,6 +58,6 @@ pub record IsVault {J D : Type 0} (j : Ghosts J) (g : disks.Ghosts D) (keeper : 
   pub handoff : receiver.table ≡ j.handoff
   pub mark : seat.table ≡ j.mark
   pub awaited : near.table ≡ j.awaited
-  pub marked : seat.count ≤ keeper.mark
+  pub marked : (top seat.raised).count ≤ keeper.mark
   pub noted : near.gather.frozen ≢ None → Among near.gather receiver.noted
-  pub received : j.sound → ReceivesAny j g receiver.noted receiver.received keeper
+  pub received : j.sound → ReceivesAny j g receiver.noted receiver.received seat.raised keeper

@@ -1,7 +1,7 @@
 // The end of a store.
 ghost use Rattle.std.specs.Prelude.{◌≡◌};
 ghost use mathlib.Core.List.{IsPrefix};
-ghost use Rattle.group_commit.specs.Marks.{AreReached};
+ghost use Rattle.group_commit.specs.Marks.{AreNoted};
 ghost use Rattle.clients.specs.Known.{seen_of, counts_of};
 ghost use Rattle.store.specs.Closing.{Closes};
 
@@ -35,7 +35,7 @@ pub(crate) fn close<D: Disk, J: Naming>(
     (book, keeper)
 }
 
-// What the last client had seen begins the history, and the mark reached what it had loaded.
+// What the last client had seen begins the history, and the mark was brought to what it had loaded.
 fn look_back<J: Naming>(
     shared: &Shared<J>,
     seat: &mut BookSeat,
@@ -45,7 +45,7 @@ fn look_back<J: Naming>(
     requires seat { seat.old.table ≡ J.line }
     requires mark { mark.old.table ≡ J.mark }
     ensures seen { IsPrefix (seen_of last) seat.old.all }
-    ensures reached { AreReached (counts_of last) mark.old.count }
+    ensures noted { AreNoted (counts_of last) mark.old.raised }
 {
     match last {
         Some(mut last) => {

@@ -37,6 +37,17 @@
 //! abbrev pub ghosts-serve : goal.ghosts-serve
 //! ghosts-serve g a = naming_of g.D.Disk a.opened
 //! ```
+//!
+//! **Where its argument stands.** Under the book's lock is a `Desk` (crate `clients`), under the
+//! keeper's a vault (`specs/Vaults`): for every history of a book that sent those blocks, the
+//! keeper has received them, and a stop at any moment since the opening leaves a beginning of what
+//! it commits, with all that the mark had told by then. `proofs/VaultSteps` keeps that over each
+//! step of the keeper, `proofs/Freezes` over a freeze, which has both locks; there `Closes` is
+//! proved. What threads share beside the locks are tables of `group_commit`.
+//!
+//! **To change it.** A step of the committer or the checkpointer is a method of the vault or of the
+//! gatherer. What lies under a lock is known by its type's invariant alone, so a new field has its
+//! law there.
 #![tactic(auto)]
 
 mod checkpointing;
@@ -49,7 +60,7 @@ mod store;
 mod vault;
 
 pub use checkpointing::{Checkpoint, Checkpointer};
-pub use clients::{Client, Naming, Phase, Seen, Signal, Ticket};
+pub use clients::{Attempt, Client, Naming, Phase, Seen, Signal, Ticket, Transaction};
 pub use committing::Committer;
 pub use opened::Opened;
 pub use store::Store;

@@ -92,7 +92,7 @@ impl Model for Parts {
     } };
 
     ghost invariant = { λ p. (p.seat ≡ record { table = p.line; all = []; clients = 0 })
-        × (p.kept ≡ record { table = p.mark; count = 0 })
+        × (p.kept ≡ record { table = p.mark; raised = [] })
         × (p.watcher ≡ new_watcher p.mark)
         × (p.maker ≡ record { table = p.numbers; from = p.maker.from; made = 0 })
         × (p.sender ≡ record { table = p.handoff; sent = []; noted = [] })

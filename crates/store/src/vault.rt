@@ -1,17 +1,18 @@
 // What lies under the keeper's lock.
-ghost use Rattle.std.specs.Prelude.{◌≡◌, max, [], IfSome, IfNone, IfErr};
+ghost use Rattle.std.specs.Prelude.{◌≡◌, [], IfSome, IfNone, IfErr};
 ghost use Rattle.group_commit.specs.Accords.{nothing_gathered};
 ghost use Rattle.store.specs.Turns.{Brings, TurnTells, CheckTells, brought_to, flipped_to, Fails};
 ghost use Rattle.store.specs.Turns.{Reaches, IsTurnRefusal};
 ghost use Rattle.store.specs.Vaults.{ReceivesAny};
+ghost use Rattle.group_commit.specs.Rising.{raised_to};
 
 use crate::checkpointing::Checkpoint;
 use calls::Refusal;
 use checkpoint::{Keeper, Turn};
 use clients::{Naming, Room, Shared};
 use disk_model::Disk;
-use group_commit::{Handoff, Incoming, KeeperSeat, Mark, Near, Receiver, Watcher};
-use std::marker::{Model, PhantomData};
+use group_commit::{Handoff, Incoming, KeeperSeat, Mark, Near, OneMoment, Receiver, Watcher};
+use std::marker::{Brand, Model, PhantomData};
 use std::sync::Wait;
 
 /// The keeper, with the receiving end of the hand-off, the seat that brings the mark on, and what
@@ -43,10 +44,10 @@ impl<D: Disk, J: Naming> Vault<D, J> {
     /// The vault of a keeper that was just opened.
     pub(crate) fn new(keeper: Keeper<D>, receiver: Receiver, mark: KeeperSeat, near: Near) -> Self
         requires receiver { receiver ≡ record { table = J.handoff; received = []; noted = [] } }
-        requires mark { mark ≡ record { table = J.mark; count = 0 } }
+        requires mark { mark ≡ record { table = J.mark; raised = [] } }
         requires near { near ≡ record { table = J.awaited; gather = nothing_gathered } }
         requires received { J.sound →
-            ReceivesAny ⟦<J as Naming>⟧ ⟦<D as Disk>⟧ [] [] keeper }
+            ReceivesAny ⟦<J as Naming>⟧ ⟦<D as Disk>⟧ [] [] [] keeper }
     {
         Self {
             keeper,
@@ -86,7 +87,7 @@ impl<D: Disk, J: Naming> Vault<D, J> {
     {
         let turned = bring(rt, &shared.handoff, &mut self.keeper, &mut self.receiver);
         shared.signal.wakes();
-        turn_told(&shared.mark, &mut self.mark, watcher, &turned);
+        turn_told::<Brand, _>(&shared.mark, &mut self.mark, watcher, &turned, &self.keeper);
         turned
     }
 
@@ -113,7 +114,13 @@ impl<D: Disk, J: Naming> Vault<D, J> {
         }
         self.covered = self.keeper.image_end().unwrap_or(self.covered);
         let flipped = self.keeper.flip();
-        Some(flip_told(&shared.mark, &mut self.mark, watcher, &flipped))
+        Some(flip_told::<Brand, _>(
+            &shared.mark,
+            &mut self.mark,
+            watcher,
+            &flipped,
+            &self.keeper,
+        ))
     }
 }
 
@@ -135,14 +142,17 @@ fn bring<D: Disk, R: Wait>(
     keeper.turn(&mut inbox)
 }
 
-// The mark reaches the place, and the watcher is told of it.
-fn reach(mark: &Mark, seat: &mut KeeperSeat, watcher: &mut Watcher, place: u64)
+// The mark reaches the place at the moment that W names, and the watcher is told of it.
+fn reach<W: OneMoment>(mark: &Mark, seat: &mut KeeperSeat, watcher: &mut Watcher, place: u64)
     requires seat { seat.old.table ≡ mark.now }
     requires watcher { watcher.old.table ≡ mark.now }
-    ensures seat { seat.new ≡ record { table = seat.old.table; count = max seat.old.count place } }
+    ensures seat { seat.new ≡ record {
+      table = seat.old.table;
+      raised = raised_to place W.moment seat.old.raised;
+    } }
     ensures watcher { Reaches watcher.old place watcher.new }
 {
-    mark.advance(seat, place);
+    mark.advance::<W>(seat, place);
     mark.tell(seat, watcher);
 }
 
@@ -157,21 +167,26 @@ pub(crate) fn note_failure(mark: &Mark, watcher: &mut Watcher, refusal: Refusal)
     }
 }
 
-// What a turn answered is told to the mark and to the watcher.
-fn turn_told(
+// What a turn answered is told to the mark and to the watcher, at the moment that W names. The keeper
+// is there for who picks W.
+fn turn_told<W: OneMoment, D: Disk>(
     mark: &Mark,
     seat: &mut KeeperSeat,
     watcher: &mut Watcher,
     turned: &Result<Turn, Refusal>,
+    keeper: &Keeper<D>,
 )
     requires seat { seat.old.table ≡ mark.now }
     requires watcher { watcher.old.table ≡ mark.now }
-    ensures seat { seat.new ≡
-        record { table = seat.old.table; count = brought_to seat.old.count turned.now } }
+    ensures seat { seat.new ≡ record {
+      table = seat.old.table;
+      raised = brought_to seat.old.raised W.moment turned.now;
+    } }
     ensures watcher { TurnTells watcher.old turned.now watcher.new }
 {
+    let _ = keeper;
     match turned {
-        Ok(Turn::Kept(place)) => reach(mark, seat, watcher, *place),
+        Ok(Turn::Kept(place)) => reach::<W>(mark, seat, watcher, *place),
         Ok(_) => {}
         Err(refusal) => note_failure(mark, watcher, *refusal),
     }
@@ -195,22 +210,26 @@ fn piece_told(
     }
 }
 
-// What a flip answered is told to the mark and to the watcher.
-fn flip_told(
+// What a flip answered is told to the mark and to the watcher, as what a turn answered is.
+fn flip_told<W: OneMoment, D: Disk>(
     mark: &Mark,
     seat: &mut KeeperSeat,
     watcher: &mut Watcher,
     flipped: &Result<u64, Refusal>,
+    keeper: &Keeper<D>,
 ) -> Result<Checkpoint, Refusal>
     requires seat { seat.old.table ≡ mark.now }
     requires watcher { watcher.old.table ≡ mark.now }
-    ensures seat { seat.new ≡
-        record { table = seat.old.table; count = flipped_to seat.old.count flipped.now } }
+    ensures seat { seat.new ≡ record {
+      table = seat.old.table;
+      raised = flipped_to seat.old.raised W.moment flipped.now;
+    } }
     ensures watcher { CheckTells watcher.old result watcher.new }
 {
+    let _ = keeper;
     match flipped {
         Ok(place) => {
-            reach(mark, seat, watcher, *place);
+            reach::<W>(mark, seat, watcher, *place);
             Ok(Checkpoint::Flipped(*place))
         }
         Err(refusal) => {

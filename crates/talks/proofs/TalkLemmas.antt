@@ -104,6 +104,7 @@ module _ {S A : Type 0} (s : Ghosts S A) where
   last_sent : (r t : Option (List ℕ)) (h k l : Option (List (Told A))) (old new : S) (why : Why) →
       IsLast s r t h k old why new → Hears k l [] → IsLast s r t h l old why new
   last_sent r t h k l old new Why.Broken last sent = last
+  last_sent r t h k l old new Why.NoMemory last sent = last
   last_sent r t h k l old new Why.Bye last sent =
       (last.0, last.1, last.2, last.3, heard_before h k l (tolds_of last.1) last.4 sent)
   last_sent r t h k l old new Why.Gone last sent =

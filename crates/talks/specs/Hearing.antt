@@ -1,5 +1,5 @@
 -- What is heard of what a client is told.
-use Rattle.std.specs.Prelude.{◌≡◌, ◌⊎◌, List, [], ◌∷◌, ◌++◌, ⊤, Option, None, Some}
+use Rattle.std.specs.Prelude.{◌≡◌, ◌⊎◌, List, [], ◌∷◌, ◌++◌, ⊤, Option, None, Some, IsSomeAnd}
 use Rattle.talks.specs.declared.told.Told.{Told}
 use Rattle.talks.specs.declared.why.Why.{Why}
 
@@ -15,8 +15,14 @@ abbrev pub tolds_of : {S : Type 0} → Option (Told S) → List (Told S)
 tolds_of None = []
 tolds_of (Some told) = told ∷ []
 
--- What is told is heard, or the talk is broken.
+-- The talk is broken off, in the middle of an exchange perhaps.
+abbrev pub IsBreak : Why → Type 0
+IsBreak Why.Broken = ⊤
+IsBreak Why.NoMemory = ⊤
+IsBreak why = ⊥
+
+-- What is told is heard, or the talk is broken off.
 abbrev pub IsHeard : {S : Type 0} → Option (List (Told S)) → Option (List (Told S)) →
     Option (Told S) → Option Why → Option Why → Type 0
 IsHeard old new told next result =
-    ((result ≡ next) × Hears old new (tolds_of told)) ⊎ (result ≡ Some Why.Broken)
+    ((result ≡ next) × Hears old new (tolds_of told)) ⊎ IsSomeAnd result IsBreak

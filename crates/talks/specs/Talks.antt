@@ -187,13 +187,18 @@ module _ {S A : Type 0} (s : Ghosts S A) where
   told_of [] = []
   told_of ((bs, told) ∷ rounds) = tolds_of told ++ told_of rounds
 
-  -- How a talk ended: by a line that says so, or by the end of the lines; or it broke, in the
-  -- middle of an exchange perhaps.
-  abbrev pub IsLast : (r t : Option (List ℕ)) → (h k : Option (List (Told A))) → S → Why → S →
-      Type 0
-  IsLast r t h k old Why.Broken new = (new ≡ old)
+  -- A talk was broken off: before a line was read, or behind one, of which it is not known whether it
+  -- was told.
+  abbrev pub BreaksOff : S → S → Type 0
+  BreaksOff old new = (new ≡ old)
       ⊎ ((bs : List ℕ) × (told : Option (Told A)) × (next : Option Why) ×
       IsRound old bs told next new)
+
+  -- How a talk ended: by a line that says so, or by the end of the lines; or it was broken off.
+  abbrev pub IsLast : (r t : Option (List ℕ)) → (h k : Option (List (Told A))) → S → Why → S →
+      Type 0
+  IsLast r t h k old Why.Broken new = BreaksOff old new
+  IsLast r t h k old Why.NoMemory new = BreaksOff old new
   IsLast r t h k old why new = (bs : List ℕ) × (told : Option (Told A)) ×
       IsRound old bs told (Some why) new × Consumes r t bs × Hears h k (tolds_of told)
 

@@ -99,13 +99,15 @@ fn turn<R: Wait + AllocGlobal, S: Speaker, I: Lines, H: Hearer<S::Said>>(
     ensures { Turns ⟦<S as Speaker>⟧ (I.remaining lines.old) (I.remaining lines.new)
         (H.heard hearer.old) (H.heard hearer.new) speaker.old result speaker.new }
 {
-    if !lines.has_line() && hearer.send().is_err() {
-        return Some(Why::Broken);
+    if !lines.has_line() {
+        if let Err(error) = hearer.send() {
+            return Some(Why::of(&error));
+        }
     }
-    let Ok(found) = read_line(lines, line) else {
-        return Some(Why::Broken);
-    };
-    answer(rt, speaker, found, line.as_slice(), hearer)
+    match read_line(lines, line) {
+        Ok(found) => answer(rt, speaker, found, line.as_slice(), hearer),
+        Err(error) => Some(Why::of(&error)),
+    }
 }
 
 // Answers what was found, and says why the talk ends, if it does.
@@ -156,6 +158,6 @@ fn tell<S, H: Hearer<S>>(hearer: &mut H, told: Option<Told<S>>, next: Option<Why
     };
     match hearer.hear(told) {
         Ok(()) => next,
-        Err(_) => Some(Why::Broken),
+        Err(error) => Some(Why::of(&error)),
     }
 }

@@ -1,39 +1,28 @@
-use Rattle.std.proofs.Common.{ap, ap₂, ◌≡◌, ◌∙◌, true}
-use Rattle.std.proofs.lemmas.Result.{IfOk-weaker}
-use Rattle.clap.specs.declared.builder.command.Command.TheViews.{out-Command}
+use Rattle.std.proofs.Common.{ap, ap₂, ◌∙◌}
 use Rattle.clap.specs.Simple.{app_of_fields}
-use Rattle.clap.specs.Words.{App, app_of, with_subcommand}
-use Rattle.arguments.specs.Arguments.{bare_app}
+use Rattle.clap.specs.Words.{App, with_subcommand}
+use Rattle.std.proofs.lemmas.Result.{IfOk-weaker}
 use Rattle.arguments.proofs.ArgumentCommands.{with_gives}
 use Rattle.arguments.proofs.program.Goals as goal
 
 pub returns : goal.returns
 returns c =
-    let top = λ (a : App). a.top in
-    let bare_is : app_of c.subcommand_required-program.result ≡ bare_app =
-    rw c.subcommand_required-program.ensures
-    (ap (λ (a : App). record a { top = record a.top { subcommand_required = true } })
-    (ap app_of_fields c.about.ensures ∙ c.new.ensures.app)) in
-    let first_is = with_gives c.format_command.result app_of
-    (λ command. (out-Command command).has_globals) _ _ _ _
-    c.format_command.ensures c.in_ok-program.ensures bare_is in
-    let second_is = with_gives c.script_command.result app_of
-    (λ command. (out-Command command).has_globals) _ _ _ _
-    c.script_command.ensures c.in_ok-program-2.ensures first_is in
-    let third_is = with_gives c.serve_command.result app_of
-    (λ command. (out-Command command).has_globals) _ _ _ _
-    c.serve_command.ensures c.in_ok-program-3.ensures second_is in
-    let fourth_is = with_gives c.listen_command.result app_of
-    (λ command. (out-Command command).has_globals) _ _ _ _
-    c.listen_command.ensures c.in_ok-program-4.ensures third_is in
-    let fifth_is = with_gives c.disk_command.result app_of
-    (λ command. (out-Command command).has_globals) _ _ _ _
-    c.disk_command.ensures c.in_ok-program-5.ensures fourth_is in
-    let sixth_is = with_gives c.disk_command-2.result app_of
-    (λ command. (out-Command command).has_globals) _ _ _ _
-    c.disk_command-2.ensures c.in_ok-program-6.ensures fifth_is in
-    IfOk-weaker c.subcommand.result _ _
-    (λ whole h. h.shape (ap (λ f. f.has_globals) c.about-2.ensures ∙ c.new-2.ensures.local) ∙
-    ap₂ with_subcommand sixth_is
-    (ap top (ap app_of_fields c.about-2.ensures ∙ c.new-2.ensures.app)))
-    c.subcommand.ensures
+    let is_1 = with_gives c.format_command-format.result _ _ _ _
+    c.format_command-format.ensures c.in_ok-program.ensures c.bare_program.ensures in
+    let is_2 = with_gives c.script_command-play.result _ _ _ _
+    c.script_command-play.ensures c.in_ok-program-2.ensures is_1 in
+    let is_3 = with_gives c.serve_command-serve.result _ _ _ _
+    c.serve_command-serve.ensures c.in_ok-program-3.ensures is_2 in
+    let is_4 = with_gives c.listen_command-listen.result _ _ _ _
+    c.listen_command-listen.ensures c.in_ok-program-4.ensures is_3 in
+    let is_5 = with_gives c.disk_command-show.result _ _ _ _
+    c.disk_command-show.ensures c.in_ok-program-5.ensures is_4 in
+    let is_6 = with_gives c.disk_command-check.result _ _ _ _
+    c.disk_command-check.ensures c.in_ok-program-6.ensures is_5 in
+    let is_7 = with_gives c.lint_command-lint.result _ _ _ _
+    c.lint_command-lint.ensures c.in_ok-program-7.ensures is_6 in
+    IfOk-weaker c.with-8.result _ _
+    (λ whole h. h (ap (λ f. f.has_globals) c.about-demo.ensures ∙ c.new.ensures.local) ∙
+    ap₂ with_subcommand is_7
+    (ap (λ (a : App). a.top) (ap app_of_fields c.about-demo.ensures ∙ c.new.ensures.app)))
+    c.with-8.ensures

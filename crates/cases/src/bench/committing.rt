@@ -1,7 +1,7 @@
 // Transactions of the same call.
 use crate::asking::ask;
 use crate::bench::calling::Content;
-use background::{Transaction, transact};
+use background::{Attempt, Transaction, transact};
 use calls::{Call, Refusal, Reply};
 use rand_pcg::Pcg32;
 use std::alloc::AllocGlobal;
@@ -32,15 +32,11 @@ impl SameCall {
 impl Transaction for SameCall {
     type Output = Reply;
 
-    fn make_calls<J: Naming, R: Wait>(
-        &self,
-        rt: &R,
-        client: &mut Client<'_, J>,
-    ) -> Result<Reply, Refusal> {
+    fn make_calls<A: Attempt>(&self, attempt: &mut A) -> Result<Reply, Refusal> {
         for _ in 1..self.count {
-            ask(rt, client, self.collection, &self.call)?;
+            ask(attempt, self.collection, &self.call)?;
         }
-        ask(rt, client, self.collection, &self.call)
+        ask(attempt, self.collection, &self.call)
     }
 }
 

@@ -14,9 +14,9 @@ returns-in-Ok-clause-opened g c =
     ok_then result.0 _ _ closed.parts_of (λ answers are.
     was_opened g.D.Disk _ _ (AreTold says answers.items result.1.kept) c.args.disk
     c.in-Ok.opened.keeper.disk result.1.disk result.1.kept closed
-    (parts_told says answers.items closed.seen closed.closes.steps closed.counts
+    (λ was_kept all. parts_told says answers.items closed.seen closed.closes.steps closed.counts
     result.1.kept are closed.closes.begins
-    (subst (AreReached closed.counts) (sym closed.mark) closed.closes.reached))
+    (subst (AreReached closed.counts) (sym closed.mark) closed.closes.reached) was_kept all)
     opened.kept (λ honest rest. record {
       bytes = g.D.Disk.seen c.args.disk;
       is_opened = opened.opened honest;
@@ -29,8 +29,9 @@ pub returns-in-Ok-clause-left : goal.returns-in-Ok-clause-left
 returns-in-Ok-clause-left g c =
     let opened = c.in-Ok.ensures in
     let result = c.run_opened.result in
-    inr (was_opened g.D.Disk _ _ (λ steps. Unit {0}) c.args.disk c.in-Ok.opened.keeper.disk
-    result.1.disk result.1.kept c.run_opened.ensures.closed tt opened.kept
+    inr (was_opened g.D.Disk _ _ (λ steps was_kept. Unit {0}) c.args.disk
+    c.in-Ok.opened.keeper.disk result.1.disk result.1.kept c.run_opened.ensures.closed
+    (λ was_kept all. tt) opened.kept
     (λ honest rest. record {
       bytes = g.D.Disk.seen c.args.disk;
       is_opened = opened.opened honest;

@@ -1,10 +1,12 @@
-use Rattle.background.proofs.Knowing.{knows_same, knows_aborted}
+use Rattle.std.proofs.Common.{[], refl}
+use Rattle.background.proofs.Trying.{tried_aborted, tried_none}
 use Rattle.background.proofs.transacting.take_back.Goals as goal
 
-pub returns-then-is_open-clause-knows : goal.returns-then-is_open-clause-knows
-returns-then-is_open-clause-knows g c =
-    knows_aborted g.J.Naming c.args.client.now.phase c.args.client.now c.abort.new.self
-    c.abort.result c.abort.ensures.step
+pub returns-then-is_open-clause-tried : goal.returns-then-is_open-clause-tried
+returns-then-is_open-clause-tried g c =
+    tried_aborted g.J.Naming c.args.client.now.phase c.args.client.now c.abort.new.self
+    c.abort.result refl c.upheld.ensures c.abort.ensures.step
 
-pub returns-else-is_open-clause-knows : goal.returns-else-is_open-clause-knows
-returns-else-is_open-clause-knows g c = knows_same c.args.client.now
+pub returns-else-is_open-clause-tried : goal.returns-else-is_open-clause-tried
+returns-else-is_open-clause-tried g c =
+    ([], tried_none g.J.Naming c.args.client.now c.upheld.ensures)

@@ -1,7 +1,7 @@
 // What the clients do.
 use crate::asking::ask;
 use crate::threads::load::requests::{Asked, all_calls, calls_of};
-use background::{Transaction, Work, keep};
+use background::{Attempt, Transaction, Work, keep};
 use calls::{Call, Kind, Refusal, Reply};
 use std::alloc::{AllocError, AllocGlobal, Global};
 use std::rt::Clock;
@@ -48,14 +48,10 @@ impl Calls {
 impl Transaction for Calls {
     type Output = Vec<(Call, Reply)>;
 
-    fn make_calls<J: Naming, R: Wait>(
-        &self,
-        rt: &R,
-        client: &mut Client<'_, J>,
-    ) -> Result<Vec<(Call, Reply)>, Refusal> {
+    fn make_calls<A: Attempt>(&self, attempt: &mut A) -> Result<Vec<(Call, Reply)>, Refusal> {
         let mut made = Vec::new(self.alloc);
         for Asked { name, call } in self.asked()? {
-            match ask(rt, client, name, &call) {
+            match ask(attempt, name, &call) {
                 Ok(reply) => made.push((call, reply))?,
                 // It has released the identifier already.
                 Err(Refusal::AlreadyGoing) => {}
@@ -161,6 +157,6 @@ fn give_up<J: Naming, R: Wait>(
         return Err(Refusal::AlreadyLive);
     }
     client.begin()?;
-    let _made = calls.make_calls(rt, client);
+    let _made = client.attempt(rt, calls);
     client.abort(rt)
 }

@@ -9,4 +9,4 @@ returns g c =
     c.vault.inside.keeper c.vault.inside.receiver c.vault.inside.mark c.vault.inside.near
     c.vault.invariant c.compare.ensures.order.0 c.compare.ensures.order.1 c.compare.ensures.noted
     (seen_of c.args.last) (counts_of c.args.last) c.look_back.ensures.seen
-    c.look_back.ensures.reached
+    c.look_back.ensures.noted

@@ -1,8 +1,8 @@
-use Rattle.std.proofs.Common.{refl, ap, arith}
+use Rattle.std.proofs.Common.{arith, subst}
+use Rattle.std.specs.Prelude.{◌≤◌}
 use Rattle.disk_model.specs.Disk.{Rises}
 use Rattle.world.proofs.KeeperSteps.{piece_mark, flip_mark_is, flip_mark_rises}
-use Rattle.group_commit.specs.Marks.{KeeperMark}
-use Rattle.store.proofs.VaultSteps.{vault_images, flipped_within}
+use Rattle.store.proofs.VaultSteps.{vault_images, vault_flips}
 use Rattle.store.proofs.vault.Vault.lay.Goals as goal
 
 pub invariant_of-self : goal.invariant_of-self
@@ -11,9 +11,7 @@ invariant_of-self g c =
     let l = c.image_piece-laid.new.self in
     let same = piece_mark k l _ c.image_piece-laid.result c.image_piece-laid.ensures.answer in
     vault_images g.D.Disk g.J.Naming k c.self.inside.receiver c.self.inside.mark
-    c.self.inside.near c.self.invariant l
-    c.self.inside.mark c.image_piece-laid.ensures.crash refl
-    (omega (arith, c.self.invariant.marked, same))
+    c.self.inside.near c.self.invariant l c.image_piece-laid.ensures.crash (omega (arith, same))
 
 pub invariant_of-self-2 : goal.invariant_of-self-2
 invariant_of-self-2 g c =
@@ -25,10 +23,7 @@ invariant_of-self-2 g c =
     let rises = flip_mark_rises k l
     (Rises (g.D.Disk.fault_count k.disk) (g.D.Disk.fault_count l.disk)) r
     c.flip-flipped.ensures.answer in
-    let within = flipped_within c.self.inside.mark.count k.mark l.mark r c.self.invariant.marked is
-    rises in
-    vault_images g.D.Disk g.J.Naming k c.self.inside.receiver c.self.inside.mark
-    c.self.inside.near c.self.invariant l
-    c.flip_told.new.seat c.flip-flipped.ensures.crash
-    (ap (λ (m : KeeperMark). m.table) c.flip_told.ensures.seat)
-    (omega (arith, within, ap (λ (m : KeeperMark). m.count) c.flip_told.ensures.seat))
+    vault_flips g.D.Disk g.J.Naming k c.self.inside.receiver c.self.inside.mark
+    c.self.inside.near c.self.invariant r l c.flip_told.new.seat c.flip-flipped.ensures.crash
+    (subst (λ n. k.mark ≤ n) is rises) is (g.met.D.Disk.only_now l.disk)
+    c.flip_told.ensures.seat

@@ -1,0 +1,154 @@
+-- An attempt goes on with each call.
+use Rattle.std.proofs.Common.{◌≡◌, inl, inr, ℕ, List, [], ◌∷◌, ◌++◌, map, drop, length}
+use Rattle.std.proofs.Common.{Result, Ok, Err, refl, sym, ap, ◌∙◌, subst}
+use Rattle.std.specs.List.{AllByRecursion}
+use Rattle.calls.specs.declared.refusal.Refusal.{Refusal}
+use Rattle.group_commit.specs.Lines.{steps_of}
+use Rattle.txn.specs.declared.steps.Action.{Action}
+use Rattle.txn.specs.declared.steps.BookStep.{BookStep}
+use Rattle.clients.specs.declared.naming.Naming.{Ghosts}
+use Rattle.clients.specs.declared.phase.Phase.{Phase}
+use Rattle.clients.specs.Attempts.{done_since, IsOfCalls, IsRefusedEntry, IsOpenUnder, Attempts}
+use Rattle.clients.specs.Attempts.{IsAttempt, IsCalled, Adds, IsBegun, number_of}
+use Rattle.clients.specs.Calls.{IsOpen, Acts, Does}
+use Rattle.clients.specs.Known.{Known, IsSeen, Grows, step_of}
+use Rattle.boosted.proofs.Each.{each_append}
+use Rattle.clients.proofs.Seeing.{grows_none, grows_then, moves_then}
+
+-- ---- what was done since
+
+drop_front : {A : Type 0} (xs ys : List A) → drop (length xs) (xs ++ ys) ≡ ys
+drop_front [] ys = refl
+drop_front (x ∷ xs) ys = drop_front xs ys
+
+actions_same : (n : ℕ) (actions : List Action) →
+    map (λ (x : BookStep). x.action) (map (step_of n) actions) ≡ actions
+actions_same n [] = refl
+actions_same n (a ∷ actions) = ap (λ l. a ∷ l) (actions_same n actions)
+
+-- an action that is another one
+pub fits_as : (n : ℕ) (a b : Action) → a ≡ b → IsOfCalls n b → IsOfCalls n a
+fits_as n a b same fits = subst (IsOfCalls n) (sym same) fits
+
+module _ {J : Type 0} (j : Ghosts J) where
+  -- it is what the client did
+  done_is : (old new : Known) (made : List Action) → Grows j old.number old.seen made new.seen →
+      done_since old new ≡ made
+  done_is old new made grows =
+      ap (λ l. map (λ (x : BookStep). x.action) (drop (length (steps_of old.number old.seen)) l))
+      grows.mine ∙
+      ap (λ l. map (λ (x : BookStep). x.action) l)
+      (drop_front (steps_of old.number old.seen) (map (step_of old.number) made)) ∙
+      actions_same old.number made
+
+  -- ---- the beginning
+
+  drawn_is : (p : Phase) → IsBegun p → p ≡ Phase.Drawn (number_of p)
+  drawn_is Phase.Closed begun = absurd begun
+  drawn_is (Phase.Drawn n) begun = refl
+  drawn_is (Phase.Entered n) begun = absurd begun
+
+  begun_open : (p : Phase) → IsBegun p → IsOpenUnder (number_of p) [] p
+  begun_open Phase.Closed begun = absurd begun
+  begun_open (Phase.Drawn n) begun = (refl, tt)
+  begun_open (Phase.Entered n) begun = absurd begun
+
+  attempts_none : (old : Known) → IsSeen j old.seen → IsBegun old.phase →
+      Attempts j (number_of old.phase) old [] old
+  attempts_none old legal begun = record {
+    moves = refl;
+    grows = grows_none j old.number old.seen legal;
+    are_calls = tt;
+    is_open = begun_open old.phase begun;
+  }
+
+  -- an attempt that was just begun
+  pub going_begins : (old : Known) → IsSeen j old.seen → IsBegun old.phase →
+      Attempts j (number_of old.phase) old (done_since old old) old
+  going_begins old legal begun =
+      subst (λ l. Attempts j (number_of old.phase) old l old)
+      (sym (done_is old old [] (grows_none j old.number old.seen legal)))
+      (attempts_none old legal begun)
+
+  pub nothing_done : (old : Known) → IsSeen j old.seen → done_since old old ≡ []
+  nothing_done old legal = done_is old old [] (grows_none j old.number old.seen legal)
+
+  -- ---- a call
+
+  -- steps of the client behind those of an attempt
+  behind : (n : ℕ) (old now new : Known) (made firsts : List Action) (last : Action) →
+      Attempts j n old made now → Acts j now firsts last new →
+      AllByRecursion (IsOfCalls n) (firsts ++ last ∷ []) →
+      IsOpenUnder n (made ++ (firsts ++ last ∷ [])) new.phase →
+      Attempts j n old (made ++ (firsts ++ last ∷ [])) new
+  behind n old now new made firsts last is acts calls opened =
+      let same : now.number ≡ old.number = ap (λ (k : Known). k.number) is.moves in record {
+        moves = moves_then j old now new is.moves acts.0;
+        grows = grows_then j old.number old.seen now.seen new.seen made (firsts ++ last ∷ [])
+            is.grows
+            (subst (λ k. Grows j k now.seen (firsts ++ last ∷ []) new.seen) same acts.1.grows);
+        are_calls = each_append (IsOfCalls n) made (firsts ++ last ∷ []) is.are_calls calls;
+        is_open = opened;
+      }
+
+  module _ (own : ℕ → Action → Type 0) (refused : Refusal → Type 0)
+      (fits : (n : ℕ) (a : Action) → own n a → IsOfCalls n a) where
+    goes_on : (n : ℕ) (old now new : Known) (made : List Action) (p : Phase) →
+        Attempts j n old made now → IsOpenUnder n made p →
+        Does j p now own refused (λ m. Phase.Entered m) new →
+        (more : List Action) × (Attempts j n old (made ++ more) new × IsCalled own refused n more)
+    goes_on n old now new made Phase.Closed is opened does = absurd opened
+    goes_on n old now new made (Phase.Entered m) is opened does =
+        let mine : own n does.0 = subst (λ k. own k does.0) opened does.1 in (
+          does.0 ∷ [],
+          (
+            behind n old now new made [] does.0 is does.2 (fits n does.0 mine, tt)
+                (subst (IsOpenUnder n (made ++ does.0 ∷ [])) (sym does.3) opened),
+            inl (does.0, mine, refl),
+          ),
+        )
+    goes_on n old now new made (Phase.Drawn m) is opened does = elim does [
+      | inl done ↦
+          let mine : own n done.0 = subst (λ k. own k done.0) opened.0 done.1 in
+          let enter = Action.Enter m (Ok tt) in (
+            enter ∷ done.0 ∷ [],
+            (
+              behind n old now new made (enter ∷ []) done.0 is done.2
+                  (opened.0, (fits n done.0 mine, tt))
+                  (subst (IsOpenUnder n (made ++ enter ∷ done.0 ∷ [])) (sym done.3) opened.0),
+              inr (inl (done.0, mine, ap (λ k. Action.Enter k (Ok tt) ∷ done.0 ∷ []) opened.0)),
+            ),
+          )
+      | inr none ↦
+          let enter = Action.Enter m (Err none.0) in (
+            enter ∷ [],
+            (
+              behind n old now new made [] enter is none.2 (opened.0, tt)
+                  (subst (IsOpenUnder n (made ++ enter ∷ [])) (sym none.3)
+                  (opened.0, each_append IsRefusedEntry made (enter ∷ []) opened.1 (tt, tt))),
+              inr (inr (none.0, none.1, ap (λ k. Action.Enter k (Err none.0) ∷ []) opened.0)),
+            ),
+          )
+    ]
+
+    -- one call more
+    pub going_on : (n : ℕ) (old now new : Known) → Attempts j n old (done_since old now) now →
+        Does j now.phase now own refused (λ m. Phase.Entered m) new →
+        Attempts j n old (done_since old new) new ×
+        Adds own refused (done_since old now) (done_since old new)
+    going_on n old now new is does =
+        let next = goes_on n old now new (done_since old now) now.phase is is.is_open does in
+        let made = done_is old new (done_since old now ++ next.0) next.1.0.grows in (
+          subst (λ l. Attempts j n old l new) (sym made) next.1.0,
+          (n, next.0, next.1.1, made),
+        )
+
+  -- an attempt leaves it open
+  open_under : (n : ℕ) (made : List Action) (p : Phase) → IsOpenUnder n made p → IsOpen p
+  open_under n made Phase.Closed opened = absurd opened
+  open_under n made (Phase.Drawn m) opened = tt
+  open_under n made (Phase.Entered m) opened = tt
+
+  pub attempt_open : {A : Type 0} (says : A → List Action → Type 0) (n : ℕ) (old new : Known)
+      (r : Result A Refusal) → IsAttempt j says n old r new → IsOpen new.phase
+  attempt_open says n old new r is = open_under n is.0 new.phase is.1.is_open

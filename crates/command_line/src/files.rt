@@ -1,0 +1,112 @@
+// Opening the files that a command names.
+ghost use Rattle.std.specs.Prelude.{◌≤◌, ◌↔◌, IsOk, IsOkUnless};
+
+use boost::Failure;
+use calls::Refusal;
+use calls::limits::{MAX_AREA, MIN_AREA};
+use disk_model::{Content, FileDisk};
+use std::fs::{File, TryLockError};
+use std::io;
+use std::rt::Files;
+
+// How many bytes of a disk stand before its two areas.
+const AREAS_AT: u64 = 4096;
+
+/// What a command does with the file of a disk.
+#[derive(Clone, Copy)]
+pub enum Access {
+    /// It reads, and others may read beside it.
+    Reads,
+    /// It reads and writes, alone.
+    Writes,
+    /// It reads and writes, alone, and the file is made where it is not there.
+    Makes,
+}
+
+/// Why a file is not opened: for want of memory, or because it cannot be.
+pub fn cannot_open<'a>(path: &'a str, error: &io::Error) -> Failure<'a> {
+    match error.kind() {
+        io::ErrorKind::OutOfMemory => Failure::Refused(Refusal::NoMemory),
+        _ => Failure::CannotOpen(path, *error),
+    }
+}
+
+/// What was opened or read, or that the file cannot be opened.
+pub fn opened<'a, T: Drop>(path: &'a str, found: io::Result<T>) -> Result<T, Failure<'a>> {
+    match found {
+        Ok(value) => Ok(value),
+        Err(error) => Err(cannot_open(path, &error)),
+    }
+}
+
+/// Refuses BadArg where no disk has areas of so many bytes.
+pub fn check_area(area: u64) -> Result<(), Refusal>
+    ensures ok { IsOk result ↔ ((MIN_AREA ≤ area) × (area ≤ MAX_AREA)) }
+    ensures err { IsOkUnless result Refusal.BadArg }
+{
+    if area < MIN_AREA || area > MAX_AREA {
+        return Err(Refusal::BadArg);
+    }
+    Ok(())
+}
+
+// Takes the lock of a file that is to be read, which keeps out who writes. A file system that locks no
+// file that is open for reading alone goes without.
+fn lock_to_read<'a>(path: &'a str, file: File) -> Result<File, Failure<'a>> {
+    match file.try_lock_shared() {
+        Err(TryLockError::WouldBlock) => Err(Failure::InUse(path)),
+        _ => Ok(file),
+    }
+}
+
+// Takes a file for this run alone, unless another run has it.
+fn lock_alone<'a>(path: &'a str, file: File) -> Result<File, Failure<'a>> {
+    match file.try_lock() {
+        Ok(()) => Ok(file),
+        Err(TryLockError::WouldBlock) => Err(Failure::InUse(path)),
+        Err(TryLockError::Error(error)) => Err(cannot_open(path, &error)),
+    }
+}
+
+// Opens a file and takes its lock.
+fn open_file<'a>(
+    rt: &impl Files<File = File>,
+    path: &'a str,
+    access: Access,
+) -> Result<File, Failure<'a>> {
+    let may_write = !matches!(access, Access::Reads);
+    let file = File::options()
+        .read(true)
+        .write(may_write)
+        .create(matches!(access, Access::Makes))
+        .open(rt, path);
+    let file = opened(path, file)?;
+    if may_write {
+        lock_alone(path, file)
+    } else {
+        lock_to_read(path, file)
+    }
+}
+
+/// Makes a file, or takes the one that is there, and gives it the size of a disk with two such
+/// areas.
+pub fn make_disk<'a, S: Content>(
+    rt: &impl Files<File = File>,
+    path: &'a str,
+    area: u64,
+) -> Result<FileDisk<S>, Failure<'a>>
+    requires { area ≤ MAX_AREA }
+{
+    let file = open_file(rt, path, Access::Makes)?;
+    opened(path, file.set_len(AREAS_AT + 2 * area))?;
+    opened(path, FileDisk::open(file))
+}
+
+/// Opens the file of a disk that is there.
+pub fn open_disk<'a, S: Content>(
+    rt: &impl Files<File = File>,
+    path: &'a str,
+    access: Access,
+) -> Result<FileDisk<S>, Failure<'a>> {
+    opened(path, FileDisk::open(open_file(rt, path, access)?))
+}

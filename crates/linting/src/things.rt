@@ -1,0 +1,56 @@
+// What stands in a line of a script.
+use std::fmt::{self, Display, Formatter};
+
+/// What may stand at a place of a line.
+#[derive(Clone, Copy)]
+pub enum Thing {
+    Action,
+    Request,
+    Kind,
+    Name,
+    Call,
+    PutOffCall,
+    Natural,
+    Number,
+    Value,
+}
+
+impl Display for Thing {
+    fn fmt<W: fmt::Write>(&self, f: &mut Formatter<W>) -> fmt::Result {
+        f.write_str(match self {
+            Thing::Action => "turn, checkpoint or client, c1 to c64",
+            Thing::Request => "request: make, begin, call, later, commit, abort or kept",
+            Thing::Kind => "kind: set, map, queue, counter, pool or stock",
+            Thing::Name => "name",
+            Thing::Call => "call of a collection",
+            Thing::PutOffCall => "call that can be put off: bump or fill",
+            Thing::Natural => "number from 0 to 2^64 - 1 as it is printed",
+            Thing::Number => "number from -2^63 to 2^63 - 1 as it is printed",
+            Thing::Value => "value: pairs of small hexadecimal digits, or - for none",
+        })
+    }
+}
+
+impl Thing {
+    /// Whether a word is such a number or value; a word of another kind is taken for any.
+    pub fn is(self, word: &str) -> bool {
+        match self {
+            Thing::Natural => is_spelled_so(word) && word.parse::<u64>().is_ok(),
+            Thing::Number => {
+                is_spelled_so(word.strip_prefix("-").unwrap_or(word)) && word.parse::<i64>().is_ok()
+            }
+            Thing::Value => word == "-" || are_pairs(word.as_bytes()),
+            _ => true,
+        }
+    }
+}
+
+// Whether digits have no sign and no zero too many.
+fn is_spelled_so(digits: &str) -> bool {
+    digits == "0" || !digits.starts_with('0') && !digits.starts_with('+')
+}
+
+// Whether a text is pairs of small hexadecimal digits.
+fn are_pairs(text: &[u8]) -> bool {
+    text.len() % 2 == 0 && text.iter().all(|&b| matches!(b, b'0'..=b'9' | b'a'..=b'f'))
+}
