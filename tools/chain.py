@@ -1,9 +1,9 @@
 #!/usr/bin/env python3
 """chain.py JOBS [CRATE..]: `rt check` in one crate after another, or in those that are named, each once those below it stand.
 
-So many run side by side. A line tells of each crate whether it is proved, and how long it took; what a check printed goes into
-out/chain.log of the crate. Crates above one that is not proved are skipped. It has no quick pass over all crates, as `rt all`
-has. It gives no verdict: `rt ci` does.
+So many run side by side. A library is built as soon as it is proved, so that crates above it share it. A line tells of each
+crate whether it is proved, and how long it took; what a check printed goes into out/chain.log of the crate. Crates above one
+that is not proved are skipped. It has no quick pass over all crates, as `rt all` has. It gives no verdict: `rt ci` does.
 """
 import os
 import subprocess
@@ -22,15 +22,25 @@ def needs_of_all():
     return {name.strip(): [below for below in text.split() if below in names] for name, text in rows}
 
 
+def run(verb, folder, log):
+    """Runs a command of rt in a crate's folder."""
+    words = [sys.executable, os.path.join(TOP, 'tools', 'remembering_rt.py'), verb]
+    subprocess.run(words, cwd=folder, stdout=log, stderr=log, env={**os.environ, 'RT_JOBS': '2'}, check=False)
+
+
 def check(crate):
     """Checks a crate, and says whether it is proved."""
     folder = os.path.join(TOP, 'crates', crate)
     os.makedirs(os.path.join(folder, 'out'), exist_ok=True)
     path = os.path.join(folder, 'out', 'chain.log')
     with open(path, 'w', encoding='utf-8') as log:
-        subprocess.run(['rt', 'check'], cwd=folder, stdout=log, stderr=log, env={**os.environ, 'RT_JOBS': '1'}, check=False)
+        run('check', folder, log)
     with open(path, encoding='utf-8') as log:
-        return 'logic=proved' in log.read()
+        is_proved = 'logic=proved' in log.read()
+    if is_proved and os.path.isfile(os.path.join(folder, 'src', 'lib.rt')):
+        with open(path, 'a', encoding='utf-8') as log:
+            run('lib', folder, log)
+    return is_proved
 
 
 class Chain:

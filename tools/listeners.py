@@ -1,14 +1,16 @@
 #!/usr/bin/env python3
-"""listeners.py [PROGRAM] [TIMES]: clients of `boost listen` that die, lie, do not read and come in crowds.
+"""listeners.py [PROGRAM] [TIMES] [CHECK..]: clients of `boost listen` that die, lie, do not read and come in crowds.
 
 Each check is a function below, and says what it is for. The program is crates/boost_main/out/boost_main, proved and built, unless
-another one is named. It is no part of the gate. It prints a line for each check, and ends with status 1 at the first that fails.
+another one is named; all checks are run, unless some are named. It is no part of the gate. It prints a line for each check, and
+ends with status 1 at the first that fails.
 """
 import atexit
 import doctest
 import multiprocessing
 import os
 import random
+import resource
 import signal
 import subprocess
 import sys
@@ -24,6 +26,7 @@ import boost  # noqa: E402
 PROGRAM = sys.argv[1] if len(sys.argv) > 1 else os.path.join(TOP, 'crates/boost_main/out/boost_main')
 TIMES = int(sys.argv[2]) if len(sys.argv) > 2 else 20
 AREA = 1 << 22
+ATTACH = os.path.join(TOP, 'clients/shell/boost-attach')
 
 
 def run(*words):
@@ -42,8 +45,8 @@ class Place:
         os.mkfifo(os.path.join(self.door, 'door'), 0o600)
         self.server = None
 
-    def serve(self):
-        self.server = subprocess.Popen([PROGRAM, 'listen', self.disk, self.door])
+    def serve(self, *options, **how):
+        self.server = subprocess.Popen([PROGRAM, 'listen', self.disk, self.door, *options], **how)
         atexit.register(self.server.kill)
         while True:
             try:
@@ -174,8 +177,7 @@ def goodbye_behind_lines():
     with boost.join(place.door) as store:
         asked = ['make counter hits', 'begin', 'call hits bump 1', 'keep', 'do hits read', 'bye']
         assert store.session().lines(asked) == ['place 1', 'begun 1', 'done', 'kept 2', 'total 1; place 3', 'bye']
-    attach = os.path.join(TOP, 'clients/shell/boost-attach')
-    told = subprocess.run([attach, place.door], input='kept\ndo hits read\nbye\n', stdout=subprocess.PIPE, text=True)
+    told = subprocess.run([ATTACH, place.door], input='kept\ndo hits read\nbye\n', stdout=subprocess.PIPE, text=True)
     assert told.stdout == 'hello boost 1\nno ticket\ntotal 1; place 4\nbye\n', told.stdout
     place.end()
     return '9 lines'
@@ -184,7 +186,7 @@ def goodbye_behind_lines():
 def hostile_at_the_door():
     """Hellos of nobody, of dead FIFOs, of plain files, of paths and of too many bytes leave the others served."""
     place = Place()
-    place.serve()
+    place.serve(stderr=subprocess.DEVNULL)
     store = boost.join(place.door)
     store.make('counter', 'hits')
     inside = lambda name: os.path.join(place.door, name)  # noqa: E731
@@ -226,6 +228,200 @@ def deaf_at_the_door():
     deaf.close()
     place.end()
     return f'{written} bytes were taken of it'
+
+
+COMES_LATE = '''
+#include <errno.h>
+#include "boost.h"
+int main(int count, char **words)
+{
+    return count == 2 && boost_join_within(words[1], 1) == 0 && errno == ETIMEDOUT ? 0 : 1;
+}
+'''
+
+
+class Hidden(boost.Pipes):
+    """A client whose FIFOs have lost their names before the server hears of them."""
+
+    def ask_door(self, text):
+        for path in self.paths:
+            if os.path.exists(path):
+                os.unlink(path)
+        super().ask_door(text)
+
+
+def is_late(store, patience):
+    """Whether a server does not serve a client in time, and says so when that is."""
+    began = time.monotonic()
+    try:
+        store.session()
+    except boost.NotServed:
+        return patience <= time.monotonic() - began < patience + 2
+    return False
+
+
+def passed_over():
+    """A program whose FIFOs the server cannot open, and one behind 64 others, are not kept waiting. The server says which it was."""
+    place = Place()
+    place.serve(stderr=subprocess.PIPE)
+    with boost.join(place.door) as store:
+        store.make('counter', 'hits')
+    word = 'py-%d-%d-' % (os.getpid(), next(boost.Pipes.numbers) + 1)
+    assert is_late(boost.Store(lambda: Hidden(place.door, 1), lambda: 0), 1)
+    stores = [boost.join(place.door) for _ in range(64)]
+    for store in stores:
+        store.session()
+    assert is_late(boost.join(place.door, 1.5), 1.5)
+    attach = [ATTACH, place.door, '1']
+    assert subprocess.run(attach, stdin=subprocess.DEVNULL, stderr=subprocess.DEVNULL, check=False).returncode == 1
+    comes_late = os.path.join(place.room.name, 'comes_late')
+    subprocess.run(['cc', '-x', 'c', '-o', comes_late, '-I', os.path.join(TOP, 'clients/c'), '-', os.path.join(TOP, 'clients/c/boost.c')],
+                   input=COMES_LATE, text=True, check=True)
+    assert subprocess.run([comes_late, place.door], check=False).returncode == 0
+    for store in stores:
+        store.close()
+    with boost.join(place.door, 20) as store:
+        assert store.do(('hits', 'read')) == [0]
+    place.end()
+    told = place.server.stderr.read().decode()
+    place.server.stderr.close()
+    assert f'boost: passed over {word}' in told, told
+    assert subprocess.run(attach, stdin=subprocess.DEVNULL, stderr=subprocess.DEVNULL, check=False).returncode == 1
+    assert os.listdir(place.door) == ['door']
+    return '5 clients'
+
+
+def idle_ones(of):
+    """What one client's silence does to another: of(number) is a session of its own."""
+    idle, other, quiet = of(0), of(1), of(2)
+    idle.line('make counter hits')
+    assert quiet.line('kept') is None
+    idle.line('begin')
+    idle.line('call hits bump 1000')
+    began = time.monotonic()
+    assert other.lines(['do hits read'])[0].startswith('refused 9 Busy')
+    while True:
+        told = other.lines(['do hits bump 1; hits read'])[0]
+        if told.startswith('done; total 1; place '):
+            break
+        assert told.startswith('refused 9 Busy') and time.monotonic() < began + 10, told
+        time.sleep(0.02)
+    assert 0.9 < time.monotonic() - began < 2.5, time.monotonic() - began
+    asked = ['# a remark', '', 'call hits bump 1000', 'call hits bump 1000', 'commit', 'do hits read']
+    idle.connection.send('\n'.join(asked) + '\n')
+    told = [idle.connection.receive() for _ in range(4)]
+    assert told[:3] == ['error Idle', 'refused 10 NoSuchTxn', 'refused 10 NoSuchTxn'] and told[3].startswith('total 1; '), told
+    idle.line('begin')
+    idle.line('call hits bump 1')
+    time.sleep(0.6)
+    assert idle.lines(['call hits bump 1'])[0] == 'done'
+    time.sleep(0.6)
+    idle.line('commit')
+    time.sleep(1.5)
+    assert [text.split(';')[0] for text in idle.lines(['kept', 'do hits read'])] == ['kept', 'total 3']
+    assert quiet.lines(['do hits read'])[0].startswith('total 3; ')
+
+
+def idle_over_input():
+    """A client of a parent that is silent with a transaction open has it undone, and is told so at its next line."""
+    place = Place()
+    with boost.start(PROGRAM, place.disk, '--idle', '1') as store:
+        sessions = [boost.Session(store._connect()) for _ in range(3)]
+        idle_ones(sessions.__getitem__)
+    assert place.count() == 3
+    return 'one undone'
+
+
+def idle_at_the_door():
+    """So has one that came by the door; one that is silent in the middle of a line too."""
+    place = Place()
+    place.serve('--idle', '1')
+    stores = [boost.join(place.door) for _ in range(4)]
+    idle_ones(lambda number: stores[number].session())
+    halved = stores[3].session()
+    halved.line('begin')
+    halved.connection.send('call hits bu')
+    time.sleep(2)
+    halved.connection.send('mp 1\nkept\n')
+    assert [halved.connection.receive() for _ in range(2)] == ['error Idle', 'no ticket']
+    for store in stores:
+        store.close()
+    place.end()
+    assert place.count() == 3
+    return 'two undone'
+
+
+def slow_lines():
+    """Lines that come in parts, with silences about as long as the idle time between them, are each answered as if at once. Each
+    reader is woken in the middle of lines, also as a part comes, and no byte is lost or added."""
+    place = Place()
+    place.serve('--idle', '1')
+    with boost.join(place.door) as store:
+        store.make('counter', 'hits')
+    told, woken = [], []
+
+    def says(number):
+        chance = random.Random(number)
+        with boost.join(place.door) as store:
+            connection = store.session().connection
+            for turn in range(max(2, TIMES // 4)):
+                line = 'do hits bump 1; hits bump 10\n'
+                at = chance.randrange(1, len(line))
+                connection.send(line[:at])
+                time.sleep(chance.uniform(0.99, 1.01) * chance.choice((1, 1.25, 1.5)))
+                connection.send(line[at:])
+                told.append(connection.receive().startswith('done; done; place '))
+                store.session().line('begin')
+                time.sleep(chance.choice((0, chance.uniform(0.99, 1.3))))
+                connection.send('call hits ')
+                connection.send('bump 1\nabort\n')
+                answers = [connection.receive(), connection.receive()]
+                assert answers in (['done', 'aborted'], ['error Idle', 'refused 10 NoSuchTxn']), answers
+                woken.append(answers[0] != 'done')
+    threads = [threading.Thread(target=says, args=(number,)) for number in range(60)]
+    for thread in threads:
+        thread.start()
+    for thread in threads:
+        thread.join()
+    assert len(told) == 60 * max(2, TIMES // 4) and all(told)
+    place.end()
+    assert place.count() == 11 * len(told)
+    return f'{len(told)} lines, {sum(woken)} transactions undone'
+
+
+def woken_as_lines_come():
+    """Readers that are woken at the moment at which the rest of a line comes. The server is stopped just before it would look at who
+    is idle, and goes on once the rest of each line is there: so both bytes that wake and bytes of a client are in one read, or the
+    former come behind the latter. Each line is answered as if it had come at once."""
+    place = Place()
+    place.serve('--idle', '1')
+    stores = [boost.join(place.door) for _ in range(60)]
+    stores[0].make('counter', 'hits')
+    sessions = [store.session() for store in stores]
+    undone, rounds = 0, max(2, TIMES // 4)
+    for turn in range(rounds):
+        asked = [['begin', 'call hits bump 1', 'abort'] if number % 2 else ['do hits bump 1'] for number in range(60)]
+        for session, lines in zip(sessions, asked):
+            text = '\n'.join(lines)
+            session.connection.send(text[:-4])
+        time.sleep(0.98)
+        place.server.send_signal(signal.SIGSTOP)
+        for session, lines in zip(sessions, asked):
+            session.connection.send(lines[-1][-4:] + '\n')
+        time.sleep(0.3)
+        place.server.send_signal(signal.SIGCONT)
+        for session, lines in zip(sessions, asked):
+            told = [session.connection.receive() for _ in lines]
+            if len(lines) == 1:
+                assert told[0].startswith('done; place '), told
+            else:
+                assert told[0].startswith('begun ') and told[1] == 'done' and told[2] in ('aborted', 'error Idle'), told
+                undone += told[2] == 'error Idle'
+    for store in stores:
+        store.close()
+    place.end()
+    assert place.count() == 30 * rounds
+    return f'{60 * rounds} lines, {undone} transactions undone'
 
 
 def a_crowd():
@@ -345,6 +541,66 @@ def deaf_parent():
     return f'{answers} answers were read late'
 
 
+def keeping_fails():
+    """Where the disk takes no more writes, who waits is told Lost, and the server ends at once with status 1 and the cause, over a
+    pipe while no more input comes, and at the door."""
+    place = Place()
+    no_writes = (resource.RLIMIT_FSIZE, (0, 0))
+    how = {'stderr': subprocess.PIPE, 'restore_signals': False}      # SIGXFSZ stays ignored, so that a write fails
+    server = subprocess.Popen([PROGRAM, 'listen', place.disk], stdin=subprocess.PIPE, stdout=subprocess.PIPE, bufsize=0, **how)
+    server.stdin.write(b'c1 make counter hits\nc1 wait\nc2 begin\nc2 call hits bump 1\n')
+    assert sum(len(server.stdout.readline()) > 0 for _ in range(5)) == 5
+    resource.prlimit(server.pid, *no_writes)
+    server.stdin.write(b'c1 keep hits bump 1\n')
+    assert server.stdout.readline() == b'c1 refused 23 Lost\n'
+    assert server.wait(20) == 1 and server.stdout.read() == b''
+    assert b'too large' in server.stderr.read()
+    place.serve(**how)
+    with boost.join(place.door) as store:
+        store.wait()
+        resource.prlimit(place.server.pid, *no_writes)
+        try:
+            store.keep(lambda t: t.call('hits', 'bump', 1))
+            raise AssertionError('a commit is told kept')
+        except boost.Lost:
+            pass
+        assert place.server.wait(20) == 1
+    assert b'too large' in place.server.stderr.read()
+    for pipe in (server.stdin, server.stdout, server.stderr, place.server.stderr):
+        pipe.close()
+    assert place.count() == 0
+    return '2 servers'
+
+
+def a_shell():
+    """A person at a terminal needs no clients, and is shown a prompt."""
+    place = Place()
+    shell = subprocess.Popen([PROGRAM, 'listen', place.disk, '--shell'], stdin=subprocess.PIPE, stdout=subprocess.PIPE, bufsize=0)
+
+    def shown():
+        text = b''
+        while not text.endswith(b'> '):
+            more = shell.stdout.read(1)
+            assert more, text
+            text += more
+        return text[:-2]
+    assert shown().startswith(b'boost 1. `help`')
+    for line, answer in ((b'make counter hits', b'place 1\n'), (b'do hits bump 1; hits read', b'done; total 1; place 2\n'),
+                         (b'', b''), (b'# a remark', b''), (b'hits bump 1', b'error NotUnderstood\n'),
+                         (b'c2 begin', b'c2 begun 2\n'), (b'c1 kept', None), (b'bye', b'bye\n'), (b'keep', b'refused 10 NoSuchTxn\n')):
+        shell.stdin.write(line + b'\n')
+        told = shown()
+        assert answer is None or told == answer, (line, told)
+    shell.stdin.write(b'help\n')
+    assert shown().count(b'\n') > 15
+    shell.stdin.write(b'end\n')
+    assert shell.stdout.read() == b'' and shell.wait(20) == 0
+    shell.stdin.close()
+    shell.stdout.close()
+    assert place.count() == 1
+    return '12 lines'
+
+
 def said(*words):
     """What a program prints, which has to end with status 0."""
     return subprocess.run(words, check=True, stdout=subprocess.PIPE, stderr=subprocess.DEVNULL, text=True).stdout
@@ -381,9 +637,11 @@ def the_examples_in_c():
 
 def main():
     for check in (the_docs_of_the_client, threads_of_one_program, programs_that_come_and_go, killed_in_a_transaction,
-                  killed_in_a_line, goodbye_behind_lines, hostile_at_the_door, deaf_at_the_door, a_crowd, ended_with_clients, killed_servers,
-                  deaf_parent, the_examples_in_python, the_examples_in_c):
-        print(f'{check.__name__}: {check()}', flush=True)
+                  killed_in_a_line, goodbye_behind_lines, hostile_at_the_door, deaf_at_the_door, passed_over, idle_over_input,
+                  idle_at_the_door, slow_lines, woken_as_lines_come, a_crowd, ended_with_clients, killed_servers, deaf_parent,
+                  keeping_fails, a_shell, the_examples_in_python, the_examples_in_c):
+        if not sys.argv[3:] or check.__name__ in sys.argv[3:]:
+            print(f'{check.__name__}: {check()}', flush=True)
 
 
 main()

@@ -1,9 +1,12 @@
 #!/usr/bin/env python3
-"""remembering_rt.py WORD..: the toolchain's rt, which remembers the sum of each crate's files within one command.
+"""remembering_rt.py WORD..: the toolchain's rt, which remembers the sum of each crate's files within one command, and shares
+the crates below one that is checked, where they are all built, with other checks.
 
 rt of kit 13b sums the files below a crate anew for each path in the graph of crates, some minutes for a crate high up. With
-this a check of one crate takes what its proof does. Edit nothing while it runs. It is no gate: .ci/run calls rt itself.
+this a check of one crate takes what its proof does. And rt has one check at a time over a crate below; with this, many. Edit
+nothing while it runs. It is no gate: .ci/run calls rt itself.
 """
+import fcntl
 import importlib.machinery
 import importlib.util
 import os
@@ -31,7 +34,20 @@ def main():
             sums[crate.folder] = summed(crate)
         return sums[crate.folder]
 
+    locked = rt.rtlib.lock
+
+    def lock(crates):
+        """Holds the last crate alone, and those before it together with others, where they are built."""
+        if sys.argv[1] == 'all' or not all(crate.is_built() for crate in crates[:-1]):
+            return locked(crates)
+        held = [os.open(os.path.realpath(crate.folder), os.O_RDONLY) for crate in crates]
+        for folder in held[:-1]:
+            fcntl.flock(folder, fcntl.LOCK_SH)
+        fcntl.flock(held[-1], fcntl.LOCK_EX)
+        return held
+
     rt.rtlib.Crate.stamp = stamp
+    rt.rtlib.lock = lock
     sys.exit(rt.main(sys.argv[1:]))
 
 

@@ -200,25 +200,32 @@ static int ask_door(const char *folder, const char *text)
     return written;
 }
 
-/* Says hello, and waits for the answer: once a second it looks whether a server is there still. */
-static int say_hello(const char *folder, const char *word, int from)
+/* Says hello, and waits so many seconds for the answer: once a second it looks whether a server is there still. */
+static int say_hello(const char *folder, const char *word, int from, int seconds)
 {
     char hello[80];
     struct pollfd answer = { .fd = from, .events = POLLIN };
+    double end = now() + seconds;
     snprintf(hello, sizeof hello, "hello %s\n", word);
-    for (int asked = ask_door(folder, hello); asked == 0; asked = ask_door(folder, ""))
-        if (poll(&answer, 1, 1000) > 0)
+    for (int asked = ask_door(folder, hello); asked == 0; asked = ask_door(folder, "")) {
+        double left = end - now();
+        if (poll(&answer, 1, left > 1 ? 1000 : left > 0 ? (int)(left * 1000) : 0) > 0)
             return 0;
+        if (now() >= end) {
+            errno = ETIMEDOUT;
+            return -1;
+        }
+    }
     return -1;
 }
 
 /* Comes in over two FIFOs that are there. What is opened for both ways does not wait for the other side, and holds a FIFO open
  * until its other end is. */
-static struct boost *come_in(const char *folder, const char *word, const char *to_path, const char *from_path)
+static struct boost *come_in(const char *folder, const char *word, const char *to_path, const char *from_path, int seconds)
 {
     int held = open(to_path, O_RDWR | O_CLOEXEC), guard = open(from_path, O_RDWR | O_CLOEXEC);
     int to = open(to_path, O_WRONLY | O_CLOEXEC), from = open(from_path, O_RDONLY | O_CLOEXEC);
-    int here = held >= 0 && guard >= 0 && to >= 0 && from >= 0 && say_hello(folder, word, from) == 0;
+    int here = held >= 0 && guard >= 0 && to >= 0 && from >= 0 && say_hello(folder, word, from, seconds) == 0;
     int why = errno;
     close(held), close(guard);
     if (!here) {
@@ -236,7 +243,7 @@ static struct boost *come_in(const char *folder, const char *word, const char *t
     return NULL;
 }
 
-struct boost *boost_join(const char *folder)
+struct boost *boost_join_within(const char *folder, int seconds)
 {
     static unsigned count;
     unsigned chance = 0;
@@ -248,11 +255,16 @@ struct boost *boost_join(const char *folder)
     snprintf(from, sizeof from, "%s/%s.from", folder, word);
     struct boost *store = NULL;
     if (mkfifo(to, 0600) == 0 && mkfifo(from, 0600) == 0)
-        store = come_in(folder, word, to, from);
+        store = come_in(folder, word, to, from, seconds);
     int why = errno;
     unlink(to), unlink(from);                 /* the server has removed them, unless it never came */
     errno = why;
     return store;
+}
+
+struct boost *boost_join(const char *folder)
+{
+    return boost_join_within(folder, BOOST_PATIENCE);
 }
 
 int boost_close(struct boost *store)

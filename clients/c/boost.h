@@ -15,9 +15,13 @@ struct boost;
  * ECHILD then where it ended without a hello. */
 struct boost *boost_start(const char *program, const char *disk);
 
-/* Comes by the door of a folder: `boost listen DISK FOLDER`. Where 64 clients are served it waits until one goes. NULL where it
- * cannot: errno is ENXIO or ENOENT then where no server is there. */
+/* Comes by the door of a folder: `boost listen DISK FOLDER`. Where 64 clients are served it waits until one goes, BOOST_PATIENCE
+ * seconds, or the seconds that are given. NULL where it cannot: errno is ENXIO or ENOENT then where no server is there, and
+ * ETIMEDOUT where the server did not come to it in time: it has 64 clients, or it could not open the FIFOs, and then its standard
+ * error says why. */
+enum { BOOST_PATIENCE = 60 };
 struct boost *boost_join(const char *folder);
+struct boost *boost_join_within(const char *folder, int seconds);
 
 /* Sends a line, as printf writes it, and gives its answer without the line feed, which stays until the next call. NULL where the
  * server is gone: what was committed and not told kept may be kept or not. A line of over 4,095 bytes is answered
@@ -27,7 +31,8 @@ const char *boost_ask(struct boost *store, const char *format, ...) __attribute_
 /* Asks again while another transaction is in the way, for so many seconds: for a `do` or a `keep` with calls. The last answer. */
 const char *boost_try(struct boost *store, int seconds, const char *format, ...) __attribute__((format(printf, 3, 4)));
 
-/* The number of the refusal that an answer tells, -1 where the line was not understood or too long, and 0 else. */
+/* The number of the refusal that an answer tells; -1 where the line was not understood or too long, or is the first one behind a
+ * silence in which the server took the open transaction back (`error Idle`), and was not carried out; and 0 else. */
 int boost_refusal(const char *answer);
 
 /* Whether the refusal passes by itself: another transaction is in the way, too many are live, or too many records wait. */

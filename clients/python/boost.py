@@ -40,7 +40,8 @@ import threading
 import time
 from typing import Any, Callable, Iterator, List, Optional, Tuple, TypeVar, Union
 
-__all__ = ['start', 'join', 'Store', 'Session', 'Transaction', 'Refused', 'Busy', 'Lost', 'Misunderstood', 'Gone']
+__all__ = ['start', 'join', 'Store', 'Session', 'Transaction', 'Refused', 'Busy', 'Lost', 'Misunderstood', 'Idle', 'Gone',
+           'NotServed']
 
 T = TypeVar('T')
 Argument = Union[int, str, bytes]
@@ -73,8 +74,17 @@ class Misunderstood(Exception):
     """The server did not understand the line, or the line was too long. Nothing was done."""
 
 
+class Idle(Exception):
+    """This client said nothing for so long that its transaction was taken back. The line was not carried out."""
+
+
 class Gone(Exception):
     """The server went away. What was committed and not told kept may be kept or not."""
+
+
+class NotServed(Exception):
+    """A server is at the door, and did not come to this client in time: all its clients are taken, or it could not open the
+    FIFOs. In that case its standard error says why."""
 
 
 PASSING = {'Busy', 'TooManyLive', 'Backlog'}
@@ -92,7 +102,7 @@ def reply_of(line: str) -> Reply:
         refused = Refused(line)
         raise Busy(line) if refused.name in PASSING else Lost(line) if refused.name == 'Lost' else refused
     if word == 'error':
-        raise Misunderstood(rest)
+        raise Idle(line) if rest == 'Idle' else Misunderstood(rest)
     if line in WORDS:
         return WORDS[line]
     if word == 'item':
@@ -133,10 +143,10 @@ def write_all(number: int, text: str) -> None:
 
 
 class Pipes:
-    """A client with a pair of FIFOs of its own, in a folder with the FIFO `door`."""
+    """A client with a pair of FIFOs of its own, in a folder with the FIFO `door`. It waits so many seconds to be served."""
     numbers = itertools.count()
 
-    def __init__(self, folder: str) -> None:
+    def __init__(self, folder: str, patience: float) -> None:
         word = 'py-%d-%d-%08x' % (os.getpid(), next(self.numbers), random.getrandbits(32))
         self.folder = folder
         self.paths = [os.path.join(folder, word + end) for end in ('.to', '.from')]
@@ -144,7 +154,7 @@ class Pipes:
         try:
             for path in self.paths:
                 os.mkfifo(path, 0o600)
-            self.come_in(word)
+            self.come_in(word, patience)
         except BaseException:
             for number in self.open:
                 os.close(number)
@@ -169,15 +179,18 @@ class Pipes:
         finally:
             os.close(door)
 
-    def come_in(self, word: str) -> None:
+    def come_in(self, word: str, patience: float) -> None:
         """Opens both FIFOs, says hello, and waits for the answer. What is opened for both ways first does not wait for the
         other side, and a FIFO that no writer ever had reads as ended: so one is held until the hello has come."""
         held = [self.take(path, os.O_RDWR) for path in self.paths]
         self.to = self.take(self.paths[0], os.O_WRONLY)
         answers = self.take(self.paths[1], os.O_RDONLY)
         self.ask_door(b'hello %s\n' % word.encode())
-        while not select.select([answers], [], [], 1)[0]:          # all clients are taken, or the server has died
-            self.ask_door(b'')
+        end = time.monotonic() + patience
+        while not select.select([answers], [], [], min(1, max(0, end - time.monotonic())))[0]:
+            self.ask_door(b'')                                      # all clients are taken, or the server has died
+            if time.monotonic() >= end:
+                raise NotServed('the server at %s did not serve this client within %g seconds' % (self.folder, patience))
         for number in held:
             self.open.remove(number)
             os.close(number)
@@ -307,8 +320,11 @@ class Transaction:
     def __exit__(self, kind: Any, error: Any, trace: Any) -> None:
         if kind is None:
             self.commit()
-        elif not issubclass(kind, Gone):
-            self.session.line('abort')
+        elif not issubclass(kind, (Gone, Idle)):
+            try:
+                self.session.line('abort')
+            except Idle:                           # it is taken back already
+                pass
 
     def commit(self) -> None:
         try:
@@ -417,12 +433,14 @@ def pauses() -> Iterator[float]:
         yield random.random() * min(0.05, 0.0002 * 2 ** min(turn, 10))
 
 
-def start(program: str, disk: str) -> Store:
-    """Starts a server as a child, which keeps the store in the file `disk` open until `Store.close`."""
-    child = Child([program, 'listen', disk])
+def start(program: str, disk: str, *options: str) -> Store:
+    """Starts a server as a child, which keeps the store in the file `disk` open until `Store.close`. The options are words of
+    its command line, as `'--idle', '30'`."""
+    child = Child([program, 'listen', disk, *options])
     return Store(child.connect, child.close)
 
 
-def join(folder: str) -> Store:
-    """Joins the server of a folder: `boost listen DISK FOLDER`."""
-    return Store(lambda: Pipes(folder), lambda: 0)
+def join(folder: str, patience: float = 60) -> Store:
+    """Joins the server of a folder: `boost listen DISK FOLDER`. The first call of a thread raises `NotServed` where the server
+    does not serve it within so many seconds."""
+    return Store(lambda: Pipes(folder, patience), lambda: 0)

@@ -1,5 +1,5 @@
 -- The program's command line, and what it asks for.
-use Rattle.std.specs.Prelude.{◌≡◌, ◌↔◌, ℕ, ◌-◌, ◌^◌, List, Some, Ok, codes, true}
+use Rattle.std.specs.Prelude.{◌≡◌, ◌↔◌, ℕ, ◌-◌, ◌^◌, List, Option, Some, None, Ok, codes, true}
 use Rattle.std.specs.Prelude.{string_bytes}
 use Rattle.std.specs.Option.{option_map}
 use Rattle.std.specs.Prelude.{IsSomeAnd, IsTrue}
@@ -35,12 +35,26 @@ flag_rule name = record (new_rule name) { long = Some name; action = Some SetTru
 abbrev pub folder_rule : Rule
 folder_rule = record (new_rule (codes "FOLDER")) { action = Some Set }
 
+-- a number from 1 on, which may be left out
+abbrev pub idle_rule : Rule
+idle_rule = record (new_rule (codes "idle")) {
+  long = Some (codes "idle");
+  value_names = 1;
+  action = Some Set;
+  parser = Some (parsers.Unsigned 1 (2 ^ 64 - 1));
+}
+
 -- a command on a disk alone
 abbrev pub disk_app : Text → App
 disk_app name = with_rule (new_app name) (path_rule (codes "DISK"))
 
 abbrev pub format_app : App
-format_app = with_rule (disk_app (codes "format")) area_rule
+format_app = with_rule (with_rule (disk_app (codes "format")) area_rule)
+    (flag_rule (codes "reserve"))
+
+-- a command on a disk with a flag
+abbrev pub flagged_app : (name flag : Text) → App
+flagged_app name flag = with_rule (disk_app name) (flag_rule flag)
 
 -- a command on a disk that runs a script
 abbrev pub script_app : Text → App
@@ -53,13 +67,24 @@ abbrev pub serve_app : App
 serve_app = with_rule (script_app (codes "serve")) (flag_rule (codes "why"))
 
 abbrev pub listen_app : App
-listen_app = with_rule (disk_app (codes "listen")) folder_rule
+listen_app =
+    let timed = with_rule (with_rule (disk_app (codes "listen")) folder_rule) idle_rule in
+    with_rule timed (flag_rule (codes "shell"))
 
 abbrev pub show_app : App
-show_app = disk_app (codes "show")
+show_app = flagged_app (codes "show") (codes "read-only")
 
 abbrev pub check_app : App
 check_app = disk_app (codes "check")
+
+abbrev pub stat_app : App
+stat_app = flagged_app (codes "stat") (codes "json")
+
+abbrev pub copy_app : App
+copy_app =
+    let files = with_rule (with_rule (new_app (codes "copy")) (path_rule (codes "OLD")))
+    (path_rule (codes "NEW")) in
+    with_rule files area_rule
 
 abbrev pub lint_app : App
 lint_app = with_rule (new_app (codes "lint")) (path_rule (codes "SCRIPT"))
@@ -77,7 +102,8 @@ program_app =
     let first = with_subcommand (with_subcommand bare_app format_app.top) play_app.top in
     let served = with_subcommand (with_subcommand first serve_app.top) listen_app.top in
     let seen = with_subcommand (with_subcommand served show_app.top) check_app.top in
-    with_subcommand (with_subcommand seen lint_app.top) demo_app.top
+    let looked = with_subcommand (with_subcommand seen stat_app.top) copy_app.top in
+    with_subcommand (with_subcommand looked lint_app.top) demo_app.top
 
 -- ---- what is asked for
 
@@ -89,6 +115,11 @@ pub record IsNumberOf (n : ℕ) (text : Text) : Type 0 where
 abbrev pub IsGiven : Text → List Row → Type 0
 IsGiven flag rows = first_of flag rows ≡ Some (codes "true")
 
+-- the number stands there, or none does and none is asked for
+abbrev pub IsIdle : Option ℕ → List Row → Type 0
+IsIdle (Some n) rows = IsSomeAnd (first_of (codes "idle") rows) (IsNumberOf n)
+IsIdle None rows = first_of (codes "idle") rows ≡ None
+
 -- the path stands under its name
 abbrev pub IsPath : Text → Text → List Row → Type 0
 IsPath name path rows = first_of name rows ≡ Some path
@@ -99,27 +130,37 @@ ArePaths disk script rows = IsPath (codes "DISK") disk rows × IsPath (codes "SC
 
 -- the subcommand that was found, with its arguments
 abbrev pub AsksTask : Task → Text × List Row → Type 0
-AsksTask (Task.Format disk area) found = (found.0 ≡ codes "format") ×
+AsksTask (Task.Format disk area reserve) found = (found.0 ≡ codes "format") ×
     IsPath (codes "DISK") (string_bytes disk) found.1 ×
-    IsSomeAnd (first_of (codes "area") found.1) (IsNumberOf area)
+    IsSomeAnd (first_of (codes "area") found.1) (IsNumberOf area) ×
+    (IsTrue reserve ↔ IsGiven (codes "reserve") found.1)
 AsksTask (Task.Play disk script) found = (found.0 ≡ codes "play") ×
     ArePaths (string_bytes disk) (string_bytes script) found.1
-AsksTask (Task.Show disk) found = (found.0 ≡ codes "show") ×
-    IsPath (codes "DISK") (string_bytes disk) found.1
+AsksTask (Task.Show disk read_only) found = (found.0 ≡ codes "show") ×
+    IsPath (codes "DISK") (string_bytes disk) found.1 ×
+    (IsTrue read_only ↔ IsGiven (codes "read-only") found.1)
 AsksTask (Task.Check disk) found = (found.0 ≡ codes "check") ×
     IsPath (codes "DISK") (string_bytes disk) found.1
+AsksTask (Task.Stat disk json) found = (found.0 ≡ codes "stat") ×
+    IsPath (codes "DISK") (string_bytes disk) found.1 ×
+    (IsTrue json ↔ IsGiven (codes "json") found.1)
 AsksTask Task.Demo found = found.0 ≡ codes "demo"
 
 abbrev pub Asks : Invocation → Text × List Row → Type 0
 Asks (Invocation.Run task) found = AsksTask task found
+Asks (Invocation.Copy old new area) found = (found.0 ≡ codes "copy") ×
+    IsPath (codes "OLD") (string_bytes old) found.1 ×
+    IsPath (codes "NEW") (string_bytes new) found.1 ×
+    IsSomeAnd (first_of (codes "area") found.1) (IsNumberOf area)
 Asks (Invocation.Lint script) found = (found.0 ≡ codes "lint") ×
     IsPath (codes "SCRIPT") (string_bytes script) found.1
 Asks (Invocation.Serve disk script why) found = (found.0 ≡ codes "serve") ×
     ArePaths (string_bytes disk) (string_bytes script) found.1 ×
     (IsTrue why ↔ IsGiven (codes "why") found.1)
-Asks (Invocation.Listen disk folder) found = (found.0 ≡ codes "listen") ×
+Asks (Invocation.Listen disk folder idle shell) found = (found.0 ≡ codes "listen") ×
     IsPath (codes "DISK") (string_bytes disk) found.1 ×
-    (first_of (codes "FOLDER") found.1 ≡ option_map string_bytes folder)
+    (first_of (codes "FOLDER") found.1 ≡ option_map string_bytes folder) ×
+    IsIdle idle found.1 × (IsTrue shell ↔ IsGiven (codes "shell") found.1)
 
 -- The words ask for this: clap finds the command in them, with its paths and number.
 abbrev pub IsAskedBy : Invocation → List Text → Type 0

@@ -9,14 +9,16 @@ ghost use Rattle.clap.specs.declared.builder.command.Command.TheViews.{out-Comma
 ghost use Rattle.clap.specs.Words.{app_of, found_of, first_of, rows_of, rule_of};
 ghost use Rattle.clap.specs.Words.{subcommand_rows_of, with_subcommand};
 ghost use Rattle.arguments.specs.Arguments.{path_rule, area_rule, flag_rule, folder_rule};
-ghost use Rattle.arguments.specs.Arguments.{disk_app, script_app, serve_app, listen_app};
-ghost use Rattle.arguments.specs.Arguments.{format_app, lint_app, IsGiven, bare_app};
-ghost use Rattle.arguments.specs.Arguments.{program_app, ArePaths, Asks, AsksTask, IsNumberOf};
+ghost use Rattle.arguments.specs.Arguments.{idle_rule, disk_app, script_app, serve_app};
+ghost use Rattle.arguments.specs.Arguments.{listen_app, format_app, lint_app, copy_app};
+ghost use Rattle.arguments.specs.Arguments.{flagged_app, IsGiven, bare_app, program_app};
+ghost use Rattle.arguments.specs.Arguments.{ArePaths, Asks, AsksTask, IsNumberOf, IsIdle};
 ghost use Rattle.arguments.specs.Arguments.{IsAskedBy};
 
 use clap::error::ErrorKind;
 use clap::{Arg, ArgAction, ArgMatches, Error, value_parser};
 use std::alloc::{AllocError, Global};
+use std::num::ParseIntError;
 
 /// The version of the program, as `boost --version` prints it.
 pub const VERSION: &str = "1.0.0";
@@ -26,6 +28,12 @@ pub const VERSION: &str = "1.0.0";
 pub enum Invocation {
     /// A task of one thread on one disk.
     Run(Task),
+    /// Copies the store in a file to another file, with two areas of so many bytes.
+    Copy {
+        old: String,
+        new: String,
+        area: u64,
+    },
     /// Tells the lines of a script that are not understood. No disk is opened.
     Lint {
         script: String,
@@ -38,24 +46,47 @@ pub enum Invocation {
         why: bool,
     },
     /// Keeps the store in the file open, and serves clients: those of the door of a folder, where
-    /// one is given, else those of its own input and output.
+    /// one is given, else those of its own input and output. A client that is silent for `idle`
+    /// seconds, from 1 on, has its transaction undone; none where that is not given. `shell` asks
+    /// that its own input and output are a person's, who is shown a prompt and help.
     Listen {
         disk: String,
         folder: Option<String>,
+        idle: Option<u64>,
+        shell: bool,
     },
 }
 
 /// What the program does on one thread with one disk, with the paths as they were written.
 #[derive(Drop, Debug)]
 pub enum Task {
-    /// Makes the file, or sets its size, and formats it with two areas of so many bytes.
-    Format { disk: String, area: u64 },
+    /// Makes the file, or sets its size, and formats it with two areas of so many bytes. `reserve`
+    /// asks for the file's space at once.
+    Format {
+        disk: String,
+        area: u64,
+        reserve: bool,
+    },
     /// Runs a script on the store in the file.
-    Play { disk: String, script: String },
-    /// Prints the content of the store in the file.
-    Show { disk: String },
+    Play {
+        disk: String,
+        script: String,
+    },
+    /// Prints the content of the store in the file. `read_only` asks that nothing is written.
+    Show {
+        disk: String,
+        read_only: bool,
+    },
     /// Counts what the store in the file holds, and writes nothing.
-    Check { disk: String },
+    Check {
+        disk: String,
+    },
+    /// Tells what room the store in the file takes and has, and what it counts, and writes nothing:
+    /// in lines, or where `json` is set as an object.
+    Stat {
+        disk: String,
+        json: bool,
+    },
     /// Runs the stored run.
     Demo,
 }
@@ -106,6 +137,19 @@ fn folder<'a>(alloc: Global) -> Arg<'a>
     )
 }
 
+// After how many seconds a silent client loses its transaction, which may be left out.
+fn idle<'a>(alloc: Global) -> Arg<'a>
+    ensures rule { rule_of result ≡ idle_rule }
+    ensures alone { result.global ≡ false }
+{
+    Arg::new(alloc, "idle")
+        .long("idle")
+        .value_name("SECONDS")
+        .action(ArgAction::Set)
+        .value_parser(value_parser!(u64).range(1..))
+        .help("Undo the transaction of a client that is silent for so long; never without it")
+}
+
 // A command on a disk alone.
 fn disk_command<'a>(
     alloc: Global,
@@ -124,7 +168,24 @@ fn disk_command<'a>(
 fn format_command<'a>(alloc: Global, about: &'a str) -> Result<clap::Command<'a>, AllocError>
     ensures { IfOk result (λ c. (app_of c ≡ format_app) × ((out-Command c).has_globals ≡ false)) }
 {
-    disk_command(alloc, "format", about)?.arg(area(alloc))
+    let reserve = "Take the file's space at once, by writing zeros over all of it";
+    disk_command(alloc, "format", about)?
+        .arg(area(alloc))?
+        .arg(flag(alloc, "reserve", reserve))
+}
+
+// A command on a disk with a flag.
+fn flagged_command<'a>(
+    alloc: Global,
+    name: &'a str,
+    about: &'a str,
+    flag_name: &'a str,
+    help: &'a str,
+) -> Result<clap::Command<'a>, AllocError>
+    ensures { IfOk result (λ c. (app_of c ≡ flagged_app name.entry.now flag_name.entry.now) ×
+        ((out-Command c).has_globals ≡ false)) }
+{
+    disk_command(alloc, name, about)?.arg(flag(alloc, flag_name, help))
 }
 
 // A command on a disk that runs a script.
@@ -155,7 +216,27 @@ fn serve_command<'a>(alloc: Global, about: &'a str) -> Result<clap::Command<'a>,
 fn listen_command<'a>(alloc: Global, about: &'a str) -> Result<clap::Command<'a>, AllocError>
     ensures { IfOk result (λ c. (app_of c ≡ listen_app) × ((out-Command c).has_globals ≡ false)) }
 {
-    disk_command(alloc, "listen", about)?.arg(folder(alloc))
+    let shell = "Speak with a person: show a prompt, take lines without a client, know help";
+    disk_command(alloc, "listen", about)?
+        .arg(folder(alloc))?
+        .arg(idle(alloc))?
+        .arg(flag(alloc, "shell", shell))
+}
+
+// The command that copies a store.
+fn copy_command<'a>(alloc: Global, about: &'a str) -> Result<clap::Command<'a>, AllocError>
+    ensures { IfOk result (λ c. (app_of c ≡ copy_app) × ((out-Command c).has_globals ≡ false)) }
+{
+    let new = "The file that gets the copy; what it held is lost";
+    clap::Command::new(alloc, "copy")
+        .about(about)
+        .arg(path(
+            alloc,
+            "OLD",
+            "The file that holds the store, which is only read",
+        ))?
+        .arg(path(alloc, "NEW", new))?
+        .arg(area(alloc))
 }
 
 // The command that reads a script alone.
@@ -202,8 +283,25 @@ fn program<'a>(alloc: Global) -> Result<clap::Command<'a>, AllocError>
         alloc,
         "Keep the store open, and serve the clients that come",
     );
-    let show = disk_command(alloc, "show", "Print what the store holds");
+    let show = flagged_command(
+        alloc,
+        "show",
+        "Print what the store holds",
+        "read-only",
+        "Undo in memory alone what is unfinished, and write nothing",
+    );
     let check = disk_command(alloc, "check", "Count what the store holds");
+    let stat = flagged_command(
+        alloc,
+        "stat",
+        "Tell what room the store takes and has",
+        "json",
+        "Print one JSON object in place of lines",
+    );
+    let copy = copy_command(
+        alloc,
+        "Copy the store to another file, as with larger areas",
+    );
     let lint = lint_command(alloc, "Tell the lines of a script that are not understood");
     let demo = clap::Command::new(alloc, "demo").about("Run a stored script on a disk in memory");
     let program = with(bare_program(alloc), format)?;
@@ -212,6 +310,8 @@ fn program<'a>(alloc: Global) -> Result<clap::Command<'a>, AllocError>
     let program = with(program, listen)?;
     let program = with(program, show)?;
     let program = with(program, check)?;
+    let program = with(program, stat)?;
+    let program = with(program, copy)?;
     let program = with(program, lint)?;
     with(program, Ok(demo))
 }
@@ -278,7 +378,43 @@ fn listen_asked(alloc: Global, found: &ArgMatches<'_>) -> Result<Option<Invocati
         return Ok(None);
     };
     let folder = text(alloc, found, "FOLDER")?;
-    Ok(Some(Invocation::Listen { disk, folder }))
+    let shell = is_given(found, "shell");
+    match idle_asked(found) {
+        Ok(idle) => Ok(Some(Invocation::Listen {
+            disk,
+            folder,
+            idle,
+            shell,
+        })),
+        Err(_) => Ok(None),
+    }
+}
+
+// After how many seconds a silent client is to lose its transaction, if that is given.
+fn idle_asked(found: &ArgMatches<'_>) -> Result<Option<u64>, ParseIntError>
+    ensures { IfOk result (λ idle. IsIdle idle (rows_of (found_of found.now))) }
+{
+    match found.get_str("idle") {
+        Some(text) => Ok(Some(text.parse()?)),
+        None => Ok(None),
+    }
+}
+
+// What copying a store asks for.
+fn copy_asked(alloc: Global, found: &ArgMatches<'_>) -> Result<Option<Invocation>, AllocError>
+    ensures { IfOk result (λ asked. IfSome asked
+        (λ a. Asks a (codes "copy", rows_of (found_of found.now)))) }
+{
+    let Some(area) = number(found, "area") else {
+        return Ok(None);
+    };
+    let Some(old) = text(alloc, found, "OLD")? else {
+        return Ok(None);
+    };
+    match text(alloc, found, "NEW")? {
+        Some(new) => Ok(Some(Invocation::Copy { old, new, area })),
+        None => Ok(None),
+    }
 }
 
 // What the command of the name asks for.
@@ -293,6 +429,7 @@ fn named(
     match name {
         "serve" => serve_asked(alloc, found),
         "listen" => listen_asked(alloc, found),
+        "copy" => copy_asked(alloc, found),
         "lint" => match text(alloc, found, "SCRIPT")? {
             Some(script) => Ok(Some(Invocation::Lint { script })),
             None => Ok(None),
@@ -312,8 +449,37 @@ fn format_asked(alloc: Global, found: &ArgMatches<'_>) -> Result<Option<Task>, A
     let Some(area) = number(found, "area") else {
         return Ok(None);
     };
+    let reserve = is_given(found, "reserve");
     match text(alloc, found, "DISK")? {
-        Some(disk) => Ok(Some(Task::Format { disk, area })),
+        Some(disk) => Ok(Some(Task::Format {
+            disk,
+            area,
+            reserve,
+        })),
+        None => Ok(None),
+    }
+}
+
+// What showing a store asks for.
+fn show_asked(alloc: Global, found: &ArgMatches<'_>) -> Result<Option<Task>, AllocError>
+    ensures { IfOk result (λ asked. IfSome asked
+        (λ a. AsksTask a (codes "show", rows_of (found_of found.now)))) }
+{
+    let read_only = is_given(found, "read-only");
+    match text(alloc, found, "DISK")? {
+        Some(disk) => Ok(Some(Task::Show { disk, read_only })),
+        None => Ok(None),
+    }
+}
+
+// What telling of a store asks for.
+fn stat_asked(alloc: Global, found: &ArgMatches<'_>) -> Result<Option<Task>, AllocError>
+    ensures { IfOk result (λ asked. IfSome asked
+        (λ a. AsksTask a (codes "stat", rows_of (found_of found.now)))) }
+{
+    let json = is_given(found, "json");
+    match text(alloc, found, "DISK")? {
+        Some(disk) => Ok(Some(Task::Stat { disk, json })),
         None => Ok(None),
     }
 }
@@ -329,10 +495,8 @@ fn task_of(alloc: Global, name: &str, found: &ArgMatches<'_>) -> Result<Option<T
             Some((disk, script)) => Ok(Some(Task::Play { disk, script })),
             None => Ok(None),
         },
-        "show" => match text(alloc, found, "DISK")? {
-            Some(disk) => Ok(Some(Task::Show { disk })),
-            None => Ok(None),
-        },
+        "show" => show_asked(alloc, found),
+        "stat" => stat_asked(alloc, found),
         "check" => match text(alloc, found, "DISK")? {
             Some(disk) => Ok(Some(Task::Check { disk })),
             None => Ok(None),

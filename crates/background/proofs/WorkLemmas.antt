@@ -175,7 +175,8 @@ module _ {D : Type 0} (g : Ghosts D) where
           steps = steps;
           behind = standing closed.book;
           legal = subst (λ s. IsLegal catalog_meaning catalog_making (opening s j.wear) steps
-              (standing closed.book)) (start content stands honest) closed.closes.legal;
+              (standing closed.book)) (start content stands honest) closed.closes.legal.legal;
+          owned = closed.closes.legal.owned;
           told_of = told_of (WasKept g new content (committed_by steps) (g.moment old))
               (λ x there told.
               let opening = keeps honest content rest (whole honest) stands in

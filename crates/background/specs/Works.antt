@@ -15,7 +15,7 @@ use Rattle.recovery.specs.Openings.{KeepsContent}
 use Rattle.repetition.specs.Journals.{StandsFor}
 use Rattle.clients.specs.Known.{SeenState}
 use Rattle.store.specs.Closing.{Closes, WasKept}
-use Rattle.clients.specs.Known.{Known, step_of}
+use Rattle.clients.specs.Known.{Known, step_of, AreOwned}
 use Rattle.clients.specs.declared.naming.Naming as namings
 use Rattle.txn.specs.Books.{BookState}
 use Rattle.txn.specs.declared.steps.Action.{Action}
@@ -87,7 +87,8 @@ module _ {A : Type 0} (says : ℕ → A → Known → Type 0) where
 
 -- ---- what is left
 
--- Threads took the steps of a legal history from the content. Whatever a stop at any moment since
+-- Threads took the steps of a legal history from the content, each thread's client its own, and the
+-- committer and the checkpointer those of no client. Whatever a stop at any moment since
 -- this one might have left of the disk is sound, and stands for a content that some beginning of the
 -- transactions gives that the history commits, each run whole, one after another, with the replies
 -- that its client got; and of what a stop leaves now that beginning holds the first so many of them.
@@ -99,6 +100,7 @@ pub record IsWorkedOn {D : Type 0} (g : Ghosts D)
   pub steps : List BookStep
   pub behind : Standing (List Collection)
   pub legal : IsLegal catalog_meaning catalog_making (opening content wear) steps behind
+  pub owned : AreOwned steps
   pub told_of : told steps (WasKept g new content (committed_by steps) since)
   pub any_moment : (bytes : List ℕ) → g.left_since new since bytes →
       Yields content (committed_by steps) [] bytes

@@ -1,6 +1,6 @@
 -- What a command leaves on a disk.
 use Rattle.std.proofs.Common.{◌≡◌, ◌⊎◌, inl, inr, ℕ, List, [], Result, Ok, Err, OnOk, replicate}
-use Rattle.std.proofs.Common.{refl}
+use Rattle.std.proofs.Common.{refl, true, false}
 use Rattle.std.proofs.Common.{sym, subst, take, length, arith}
 use Rattle.std.proofs.lemmas.List.{take_all}
 use Rattle.std.specs.Prelude.{MatchResult, IfErr}
@@ -99,14 +99,18 @@ module _ {D : Type 0} (g : Ghosts D) (old : D) where
   -- a command that did not touch its disk
   pub untouched_leaves : ((c : List ℕ) → g.left_since old (g.moment old) c → g.may_leave old c) →
       (task : Task) (script : List ℕ) → Leaves g task script old old
-  untouched_leaves only_now (Task.Format disk area) script =
+  untouched_leaves only_now (Task.Format disk area reserve) script =
       untouched_format g.seen g.may_leave g.moment g.left_since old only_now
   untouched_leaves only_now (Task.Play disk name) script = λ honest.
       unplayed_leaves script old
       (untouched_keeps g.seen g.may_leave g.moment g.left_since old only_now)
-  untouched_leaves only_now (Task.Show disk) script = λ honest.
+  untouched_leaves only_now (Task.Show disk false) script = λ honest.
       untouched_keeps g.seen g.may_leave g.moment g.left_since old only_now
+  untouched_leaves only_now (Task.Show disk true) script =
+      untouched_reads g.seen g.may_leave g.moment g.left_since old only_now
   untouched_leaves only_now (Task.Check disk) script =
+      untouched_reads g.seen g.may_leave g.moment g.left_since old only_now
+  untouched_leaves only_now (Task.Stat disk json) script =
       untouched_reads g.seen g.may_leave g.moment g.left_since old only_now
   untouched_leaves only_now Task.Demo script = refl
 

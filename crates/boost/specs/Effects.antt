@@ -1,15 +1,23 @@
 -- What a command leaves on a disk, and what a stop at any moment of it might have left.
-use Rattle.std.specs.Prelude.{◌≡◌, ◌⊎◌, ℕ, List, [], length, replicate, take}
+use Rattle.std.specs.Prelude.{◌≡◌, ◌⊎◌, ℕ, List, [], length, replicate, take, Bool, true, false, Err}
 use Rattle.arguments.specs.declared.Task.{Task}
 use Rattle.boost.specs.Commands.{IsUnderstood}
 use Rattle.calls.specs.Contents.{Collection}
-use Rattle.disk_model.specs.Disk.{ReadsOnly, IsAtRest, LeavesOnly}
+use Rattle.calls.specs.declared.refusal.Refusal.{Refusal}
+use Rattle.disk_model.specs.Disk.{ReadsOnly, IsAtRest, LeavesOnly, Rises}
 use Rattle.disk_model.specs.declared.disk.Disk.{Ghosts}
 use Rattle.repetition.specs.Journals.{StandsFor}
 use Rattle.repetition.specs.Reading.{IsSound}
 use Rattle.recovery.specs.Formats.{IsRoomFor, IsEmptyStore, IsFormatting}
+use Rattle.record_format.specs.declared.record.Record.{Record}
 use Rattle.recovery.specs.declared.report.Report.{Report}
-use Rattle.recovery.specs.Openings.{IsOpened, IsReport, KeepsContent}
+use Rattle.recovery.specs.declared.report.Survey.{Survey}
+use Rattle.recovery.specs.Heads.{HasNoHeader}
+use Rattle.recovery.specs.Openings.{IsOpened, IsReport, IsDamagedAt, KeepsContent}
+use Rattle.recovery.specs.Finding.{IsFound}
+use Rattle.recovery.specs.Surveys.{IsSurvey}
+use Rattle.recovery.specs.Copies.{IsCopyOf, IsTooLarge, IsCopyAnswer}
+use Rattle.repetition.specs.Steps.{State}
 use Rattle.gate_block.specs.declared.area.Area.{Area}
 use Rattle.txn.specs.Books.{BookState}
 use Rattle.world.specs.Pasts.{Past, AreAnswered, committed_in}
@@ -96,32 +104,84 @@ pub record IsShown {D : Type 0} (g : Ghosts D) (old new : D) : Type 0 where
   pub area : Area
   pub opened : IsOpened (g.seen old) book area (g.seen new)
 
+-- A store was found: what its area in use holds, with what was live in it undone in memory.
+pub record IsSeen {D : Type 0} (g : Ghosts D) (old new : D) : Type 0 where
+  pub area : Area
+  pub room : ℕ
+  pub undone : State
+  pub next : ℕ
+  pub undoing : List Record
+  pub report : Report
+  pub found : IsFound (g.is_honest new) (g.seen old) area room undone next undoing report
+
+-- A store was found, and this is what room it takes and has.
+pub record IsSurveyed {D : Type 0} (g : Ghosts D) (old new : D) : Type 0 where
+  pub seen : IsSeen g old new
+  pub survey : Survey
+  pub is_survey : IsSurvey seen.area seen.undone seen.next seen.undoing seen.report survey
+
+-- A show opened the store, or found it where nothing is to be written.
+abbrev pub IsShownAs : {D : Type 0} (g : Ghosts D) → (read_only : Bool) → D → D → Type 0
+IsShownAs g false old new = g.is_honest new → IsShown g old new
+IsShownAs g true old new = IsSeen g old new
+
+-- What it leaves then: the content, or all as it was.
+abbrev pub ShowLeaves : {D : Type 0} (g : Ghosts D) → (read_only : Bool) → D → D → Type 0
+ShowLeaves g false old new = g.is_honest new →
+    KeepsContent g.seen g.may_leave g.moment g.left_since old new
+ShowLeaves g true old new = ReadsOnly g.seen g.may_leave g.moment g.left_since old new
+
 -- A store was read, and so many things were counted of it.
 pub record IsCounted {D : Type 0} (g : Ghosts D) (disk : D) : Type 0 where
   pub counts : Report
   pub report : IsReport (g.seen disk) counts
 
 -- What holds where a command was done: a format made an empty store; a play understood each line of
--- its script, and carried them out on the store that was opened; a show opened a store, and a check
--- counted one; and the stored run did what it does on a disk of its own.
+-- its script, and carried them out on the store that was opened; a show opened a store or found one,
+-- a check counted one, and a stat what room it takes; and the stored run did what it does on a disk
+-- of its own.
 abbrev pub IsDone : {D : Type 0} (g : Ghosts D) → Type 0 → Task → List ℕ → D → D → Type 0
-IsDone g stored (Task.Format disk area) script old new = IsFormatted g area old new
+IsDone g stored (Task.Format disk area reserve) script old new = IsFormatted g area old new
 IsDone g stored (Task.Play disk name) script old new =
     IsUnderstood script × (g.is_honest new → IsPlayedOn g script old new)
-IsDone g stored (Task.Show disk) script old new = g.is_honest new → IsShown g old new
+IsDone g stored (Task.Show disk read_only) script old new = IsShownAs g read_only old new
 IsDone g stored (Task.Check disk) script old new = g.is_honest new → IsCounted g old
+IsDone g stored (Task.Stat disk json) script old new = IsSurveyed g old new
 IsDone g stored Task.Demo script old new = stored
 
 -- What a command leaves on the disk, done or not, and what a stop at any moment of it might have
 -- left: a format the old bytes, no store or an empty one; a play what a beginning of the script's
--- lines leaves, and a beginning of what its steps committed; a show the content; a check only
--- reads; and the stored run does not touch the disk.
+-- lines leaves, and a beginning of what its steps committed; a show the content, or all where
+-- nothing is to be written; a check and a stat only read; and the stored run does not touch the disk.
 abbrev pub Leaves : {D : Type 0} (g : Ghosts D) → Task → (script : List ℕ) → D → D → Type 0
-Leaves g (Task.Format disk area) script old new = IsAtRest g.seen g.may_leave old →
+Leaves g (Task.Format disk area reserve) script old new = IsAtRest g.seen g.may_leave old →
     LeavesOnly g.moment g.left_since old new (IsFormatting (g.seen old))
 Leaves g (Task.Play disk name) script old new = g.is_honest new → IsLeftByPlay g script old new
-Leaves g (Task.Show disk) script old new = g.is_honest new →
-    KeepsContent g.seen g.may_leave g.moment g.left_since old new
+Leaves g (Task.Show disk read_only) script old new = ShowLeaves g read_only old new
 Leaves g (Task.Check disk) script old new =
     ReadsOnly g.seen g.may_leave g.moment g.left_since old new
+Leaves g (Task.Stat disk json) script old new =
+    ReadsOnly g.seen g.may_leave g.moment g.left_since old new
 Leaves g Task.Demo script old new = new ≡ old
+
+-- ---- a copy, from the two disks as they were to the two as they are
+
+-- The new disk has room for two areas of this size, and is a copy of the old one, at rest.
+pub record IsCopied {D N : Type 0} (g : Ghosts D) (h : Ghosts N) (area : ℕ) (before after : D × N) :
+    Type 0 where
+  pub room : IsRoomFor area (length (h.seen before.1))
+  pub copy : g.is_honest after.0 → IsCopyOf (g.seen before.0) area (h.seen after.1)
+  pub at_rest : IsAtRest h.seen h.may_leave after.1
+
+-- Why a store was not copied; and the new disk is as it was, unless it failed.
+pub record IsCopyRefused {D N : Type 0} (g : Ghosts D) (h : Ghosts N) (area : ℕ)
+    (before after : D × N) : Type 0 where
+  pub refusal : Refusal
+  pub why : IsCopyAnswer (IsRoomFor area (length (h.seen before.1)))
+      (Rises (g.fault_count before.0) (g.fault_count after.0) ⊎
+      Rises (h.fault_count before.1) (h.fault_count after.1))
+      (g.is_honest after.0 → HasNoHeader (g.seen before.0))
+      (λ place. g.is_honest after.0 → IsDamagedAt (g.seen before.0) place)
+      (g.is_honest after.0 → IsTooLarge (g.seen before.0) area) (Err refusal)
+  pub unwritten : (after.1 ≡ before.1) ⊎
+      ((refusal ≡ Refusal.Fault) × Rises (h.fault_count before.1) (h.fault_count after.1))

@@ -7,27 +7,32 @@ ghost use Rattle.recovery.specs.Formats.{IsFormatting};
 ghost use Rattle.player.specs.Requests.{nobody};
 ghost use Rattle.boost.specs.Effects.{ArePlayedOn, IsPlayedOn, IsPlayedAnew, IsLeftByPlay};
 ghost use Rattle.boost.specs.Effects.{StartsFrom, IsFormatted, IsShown, IsCounted, IsDone, Leaves};
+ghost use Rattle.boost.specs.Effects.{IsShownAs, ShowLeaves, IsSeen, IsSurveyed};
 ghost use Rattle.script.specs.Scripts.{IsScriptOf};
 ghost use Rattle.boost.specs.declared.commands.failure.Failure.{Failure};
 ghost use Rattle.boost.specs.Commands.{IsPlay, IsUnderstood, IsOfStore, IsWhyUnplayed};
 ghost use Rattle.boost.specs.Commands.{IsWhyUndone, IsNotUnderstoodAt, status_of};
 
+mod copying;
 mod failure;
 mod showing;
 mod stored_run;
+mod surveying;
 
 use arguments::Task;
 use calls::Refusal;
+pub use copying::run_copy;
 use disk_model::{Disk, MemDisk};
 pub use failure::Failure;
 use player::Player;
-use recovery::{format, inspect, open};
+use recovery::{find, format, inspect, open};
 use script::{Line, parse};
 use showing::{show_collections, show_counts};
 use std::alloc::Global;
 use std::io::{self, BufWriter, Write};
 pub use stored_run::STORED_RUN;
 use stored_run::demo;
+use surveying::tell_survey;
 use world::World;
 
 /// Carries a command out on a disk, and answers the status of the program with the disk. Play runs
@@ -37,15 +42,18 @@ use world::World;
 /// - Play opens the store and runs the script. For each line that is not passed over it prints the
 ///   line's number and its answer.
 /// - Show opens the store. For each collection, in the order of making, it prints a line with its
-///   kind and name, and then each item in a line of its own, after two spaces.
+///   kind and name, and then each item in a line of its own, after two spaces. Where the task asks
+///   that nothing is written, what is unfinished is undone in memory alone.
 /// - Check prints how many collections, unfinished transactions and journal records the store has.
 ///   It writes nothing.
+/// - Stat prints what room the store takes and has, what it counts, and of each collection how many
+///   items it holds, in lines or as a JSON object. It writes nothing.
 /// - Demo runs a stored script on a disk in memory of its own. It prints what Play does, and then
 ///   what Show does. It leaves `disk` alone.
 ///
 /// To open a store is to undo the transactions that have not ended, which is written to the disk.
 /// The memory that it takes is bounded by the bytes of the area in use, as `recovery::open` says.
-/// Show holds the items of one collection at a time beside it.
+/// Show and Stat hold the items of one collection at a time beside it, and Stat an image.
 ///
 /// What a stop leaves, of a disk at rest that reads true and whose bytes are sound: of a Show the
 /// content; of a Play the content that a beginning of what its steps committed gives; of a Format
@@ -53,8 +61,8 @@ use world::World;
 /// buffer is full.
 ///
 /// The status is 0 where the command was done; lines of the script that were refused count as done.
-/// Of a Show it says that a store was opened, and of a Check that one was counted, where the disk
-/// read true.
+/// Of a Show it says that a store was opened, or found where nothing is to be written, and of a
+/// Check and a Stat that one was counted, where the disk read true.
 /// Else it is 3 for a script with a line that is not understood: no line was run, and the disk is
 /// as it was. It is 1 where the store refused the command, or where memory was refused. `err` gets
 /// a text then, as `Failure` says. It is 4, with no text, where output could not be written. After
@@ -136,8 +144,9 @@ fn perform<D: Disk, O: Write>(
     match task {
         Task::Format { area, .. } => format_disk(disk, *area),
         Task::Play { .. } => play_script(alloc, disk, script, out),
-        Task::Show { .. } => show(alloc, disk, out),
+        Task::Show { read_only, .. } => show(alloc, disk, *read_only, out),
         Task::Check { .. } => check(alloc, disk, out),
+        Task::Stat { json, .. } => stat(alloc, disk, *json, out),
         Task::Demo => (demo(alloc, out), disk),
     }
 }
@@ -224,8 +233,30 @@ fn written(done: io::Result<()>) -> Result<(), Failure<'static>>
     }
 }
 
-// Prints the content of the store of a disk.
-fn show<D: Disk, O: Write>(alloc: Global, disk: D, out: &mut O) -> (Result<(), Failure<'static>>, D)
+// Prints the content of the store of a disk, which is opened where it may be written.
+fn show<D: Disk, O: Write>(
+    alloc: Global,
+    disk: D,
+    read_only: bool,
+    out: &mut O,
+) -> (Result<(), Failure<'static>>, D)
+    ensures why { IfErr result.0 IsOfStore }
+    ensures done { OnOk result.0 (IsShownAs ⟦<D as Disk>⟧ read_only disk result.1) }
+    ensures shown { ShowLeaves ⟦<D as Disk>⟧ read_only disk result.1 }
+{
+    if read_only {
+        show_as_it_is(alloc, disk, out)
+    } else {
+        show_opened(alloc, disk, out)
+    }
+}
+
+// Opens the store of a disk, and prints its content.
+fn show_opened<D: Disk, O: Write>(
+    alloc: Global,
+    disk: D,
+    out: &mut O,
+) -> (Result<(), Failure<'static>>, D)
     ensures why { IfErr result.0 IsOfStore }
     ensures done { OnOk result.0 (D.is_honest result.1 → IsShown ⟦<D as Disk>⟧ disk result.1) }
     ensures shown { D.is_honest result.1 →
@@ -237,6 +268,23 @@ fn show<D: Disk, O: Write>(alloc: Global, disk: D, out: &mut O) -> (Result<(), F
             (done, keeper.into_disk())
         }
         Err((refusal, disk)) => (Err(Failure::Refused(refusal)), disk),
+    }
+}
+
+// Prints the content of the store of a disk, and writes nothing to the disk.
+fn show_as_it_is<D: Disk, O: Write>(
+    alloc: Global,
+    disk: D,
+    out: &mut O,
+) -> (Result<(), Failure<'static>>, D)
+    ensures why { IfErr result.0 IsOfStore }
+    ensures done { OnOk result.0 (IsSeen ⟦<D as Disk>⟧ disk result.1) }
+    ensures only_read { ReadsOnly D.seen D.may_leave D.moment D.left_since disk result.1 }
+{
+    let mut disk = disk;
+    match find(alloc, &mut disk) {
+        Ok(found) => (show_collections(found.collections(), out), disk),
+        Err(refusal) => (Err(Failure::Refused(refusal)), disk),
     }
 }
 
@@ -253,6 +301,27 @@ fn check<D: Disk, O: Write>(
     let mut disk = disk;
     match inspect(alloc, &mut disk) {
         Ok(counts) => (show_counts(&counts, out), disk),
+        Err(refusal) => (Err(Failure::Refused(refusal)), disk),
+    }
+}
+
+// Tells what room the store of a disk takes and has, and writes nothing to the disk.
+fn stat<D: Disk, O: Write>(
+    alloc: Global,
+    disk: D,
+    json: bool,
+    out: &mut O,
+) -> (Result<(), Failure<'static>>, D)
+    ensures why { IfErr result.0 IsOfStore }
+    ensures done { OnOk result.0 (IsSurveyed ⟦<D as Disk>⟧ disk result.1) }
+    ensures only_read { ReadsOnly D.seen D.may_leave D.moment D.left_since disk result.1 }
+{
+    let mut disk = disk;
+    match find(alloc, &mut disk) {
+        Ok(found) => match found.survey(alloc) {
+            Ok(survey) => (tell_survey(&survey, found.collections(), json, out), disk),
+            Err(refusal) => (Err(Failure::Refused(refusal)), disk),
+        },
         Err(refusal) => (Err(Failure::Refused(refusal)), disk),
     }
 }

@@ -19,7 +19,7 @@ mod script_work;
 mod serving;
 
 pub use arguments::{Invocation, Task, command};
-pub use commands::{Failure, STORED_RUN, report, run};
+pub use commands::{Failure, STORED_RUN, report, run, run_copy};
 pub use player::Said;
 pub use script::{Action, Line, Operation, Request, ScriptError, Verb, parse};
 pub use serving::serve;

@@ -28,7 +28,7 @@ fn start<
     input: impl Read + Drop + Send,
     fifos: F,
     out: &mut (impl Write + Send),
-    err: &mut impl Write,
+    err: &mut (impl Write + Send),
 ) -> io::Result<u8> {
     let alloc = rt.alloc();
     let args = env::args(rt)?.collect(alloc)?;

@@ -19,6 +19,7 @@ mod sweeps;
 mod system;
 mod texts;
 mod threads;
+mod watched;
 
 use plays::told::Told;
 use plays::workbench::Workbench;

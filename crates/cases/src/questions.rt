@@ -2,10 +2,10 @@
 use crate::plays::questions;
 use crate::plays::told::Told;
 use crate::plays::workbench::Workbench;
-use crate::sweeps::{any_areas, stops, sweeping};
+use crate::sweeps::{any_areas, copies, stops, sweeping};
 use crate::system::System;
 use crate::threads::{load, second_call_during_sync};
-use crate::{bench, comparison, damage, files, image_bytes, runs, spellings, texts};
+use crate::{bench, comparison, damage, files, image_bytes, runs, spellings, texts, watched};
 use std::fs::{self, File};
 use std::io;
 use std::rt::Files;
@@ -81,6 +81,7 @@ fn ask_of_sweeps(
     match word {
         "stops" => stops::stop_story(rt, bench, rest, told),
         "stop_opening" => stops::stop_opening(rt.alloc(), bench, told),
+        "stop_copy" => copies::stop_copy(rt.alloc(), bench, rest, told),
         "stop_format" => stops::stop_format(rt.alloc(), bench, rest, told),
         "sweep" => sweeping::sweep(rt, bench, rest, told),
         "areas" => any_areas::open_all(rt, bench, rest, told),
@@ -98,6 +99,8 @@ fn ask_of_stores(
 ) -> io::Result<()> {
     match word {
         "line" => runs::play_line(rt, bench, rest, told),
+        "watch" => watched::watch(rt.alloc(), bench, told),
+        "watch_failures" => watched::watch_failures(rt.alloc(), bench, told),
         "play_shared" => runs::play_shared(rt, bench, told),
         "area" => damage::tell_area(rt, rest, told),
         "change" => damage::change_each(rt, bench, rest, told),

@@ -1,6 +1,6 @@
 pub mod Apart
 mod Beginning
-mod Blocks
+pub mod Blocks
 mod Flipping
 mod Turning
 pub mod StandLemmas

@@ -52,6 +52,7 @@ impl Laying {
         ensures elsewhere { SameOutside (base_of self.old.area) (size_of self.old.area)
             (D.seen disk.old) (D.seen disk.new) }
         ensures honest { D.is_honest disk.new → D.is_honest disk.old }
+        ensures faults { D.fault_count disk.old ≤ D.fault_count disk.new }
     {
         let image = &mut self.image;
         self.area.lay(disk, image.blocks[0].as_slice())?;

@@ -25,4 +25,5 @@ mod turn;
 
 pub use inbox::Inbox;
 pub use keeper::Keeper;
+pub use laying::{Laying, is_too_long};
 pub use turn::Turn;

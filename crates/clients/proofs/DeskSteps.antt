@@ -4,7 +4,7 @@ use Rattle.std.proofs.Common.{Result, Ok, Err, List, [], ◌∷◌, ◌++◌, re
 use Rattle.std.proofs.Common.{subst, arith}
 use Rattle.std.specs.List.{AllByRecursion}
 use Rattle.std.proofs.lemmas.List.{append-nil}
-use Rattle.boosted.proofs.Each.{each_back}
+use Rattle.boosted.proofs.Each.{each_append, each_back}
 use Rattle.calls.specs.Contents.{Collection}
 use Rattle.calls.specs.declared.refusal.Refusal.{Refusal}
 use Rattle.record_format.specs.declared.record.Record.{Record}
@@ -27,6 +27,7 @@ use Rattle.group_commit.specs.Lines.{stepped, with_client}
 use Rattle.group_commit.specs.Orders.{SenderState}
 use Rattle.clients.specs.declared.naming.Naming.{Ghosts}
 use Rattle.clients.specs.Desks.{AreRecorded, IsDesk, frozen_ends}
+use Rattle.clients.specs.Known.{IsOwned, AreOwned, MayTake}
 use Rattle.clients.specs.Notes.{handed_count}
 use Rattle.clients.specs.Notes.{IsSent}
 use Rattle.clients.proofs.Gathered.{Goes, gathered_takes, gathered_cut, gathered_none}
@@ -34,6 +35,11 @@ use Rattle.clients.proofs.Recording.{recorded_none, recorded_leads, recorded_unh
 
 abbrev Book : Type 0
 Book = BookState (List Collection)
+
+-- one step more, of who may take it
+pub owned_then : (steps : List BookStep) (step : BookStep) → AreOwned steps → IsOwned step →
+    AreOwned (steps ++ step ∷ [])
+owned_then steps step owned may = each_append IsOwned steps (step ∷ []) owned (may, tt)
 
 module _ {J : Type 0} (j : Ghosts J) where
   -- a book that was just opened
@@ -51,6 +57,7 @@ module _ {J : Type 0} (j : Ghosts J) where
         gathered = gathered_none (opened j.start j.next j.wear);
         groups = [];
         handed = opens catalog_meaning catalog_making (λ v. v) j.start j.wear j.next;
+        owned = tt;
         recorded = λ s. recorded_none j.start j.wear;
       })
 
@@ -65,6 +72,7 @@ module _ {J : Type 0} (j : Ghosts J) where
     gathered = is.gathered;
     groups = is.groups;
     handed = is.handed;
+    owned = is.owned;
     recorded = is.recorded;
   }
 
@@ -75,10 +83,10 @@ module _ {J : Type 0} (j : Ghosts J) where
 
     -- a step that hands nothing over
     pub desk_takes : (action : Action) (after : Book) (now : lines.BookState) →
-        Takes catalog_meaning catalog_making book action after →
+        MayTake client action → Takes catalog_meaning catalog_making book action after →
         AllByRecursion (IsRecord None) after.pending → Goes book action after →
         now ≡ stepped seat (step action) → IsDesk j after now sender near
-    desk_takes action after now took good goes now_is =
+    desk_takes action after now may took good goes now_is =
         let rs = records_then seat.all action in
         let left = taken_left catalog_meaning catalog_making (λ v. v) j.start j.wear seat.all book
         after sender.sent is.groups (frozen_ends sender.noted) [] is.handed client action took in
@@ -93,6 +101,7 @@ module _ {J : Type 0} (j : Ghosts J) where
           handed = takes_on catalog_meaning catalog_making (λ v. v) j.start j.wear seat.all book
               after sender.sent is.groups (frozen_ends sender.noted) [] is.handed client action took
               good;
+          owned = owned_then seat.all (step action) is.owned may;
           recorded = λ s.
               let old = is.recorded s in
               subst (λ l. AreRecorded j.start j.wear l (journalled after.state) sender.noted)
@@ -158,6 +167,7 @@ module _ {J : Type 0} (j : Ghosts J) where
             (subst (λ n. Handed (seat.all ++ record { client = None; action = Action.Cut n a } ∷ [])
             after (sender.sent ++ on.1) (is.groups ++ on.2) (frozen_ends sender.noted)) count
             on.4));
+        owned = owned_then seat.all step is.owned refl;
         recorded = λ s.
             subst (λ l. AreRecorded j.start j.wear (records_by (seat.all ++ step ∷ []))
             (journalled after.state) l) (sym on.3.noted)

@@ -52,7 +52,8 @@ module _ {J : Type 0} (j : Ghosts J) where
             legal = (
               standing book,
               subst (λ l. IsHistory j l (standing book))
-                  (sym (ap (λ (c : ClientState). c.seen) new_is)) is.handed.legal,
+                  (sym (ap (λ (c : ClientState). c.seen) new_is))
+                  (record { legal = is.handed.legal; owned = is.owned }),
             );
           };
           before = seat.all;

@@ -21,6 +21,7 @@ use Rattle.group_commit.specs.Accords.{AccordState}
 use Rattle.group_commit.specs.Lines as lines
 use Rattle.group_commit.specs.Orders.{SenderState}
 use Rattle.clients.specs.declared.naming.Naming.{Ghosts}
+use Rattle.clients.specs.Known.{AreOwned}
 
 -- how many records came before a freeze
 abbrev pub frozen_end : Option FrozenState → ℕ
@@ -53,8 +54,8 @@ module _ (start : List Collection) (wear : ℕ) (records : List Record) (now : S
     pub trails : Lags trail now
     pub stand : AllByRecursion PacksImages noted
 
--- The book stands where its history led. Its first records were sent in blocks, and the others are
--- pending. No block crosses where it was frozen. What the near end of the accord knows to be
+-- The book stands where its history led, each step of which was taken by who may take it. Its first
+-- records were sent in blocks, and the others are pending. No block crosses where it was frozen. What the near end of the accord knows to be
 -- gathered is of the book.
 pub record IsDesk {J : Type 0} (j : Ghosts J) (book : BookState (List Collection))
     (seat : lines.BookState) (sender : SenderState) (near : AccordState) : Type 0 where
@@ -65,5 +66,6 @@ pub record IsDesk {J : Type 0} (j : Ghosts J) (book : BookState (List Collection
   pub groups : List (List Record)
   pub handed : HasHanded catalog_meaning catalog_making (λ v. v) j.start j.wear seat.all book
       sender.sent groups (frozen_ends sender.noted) []
+  pub owned : AreOwned seat.all
   pub recorded : j.sound →
       AreRecorded j.start j.wear (records_by seat.all) (journalled book.state) sender.noted

@@ -1,5 +1,6 @@
 -- What a client of a store knows, and how that grows.
-use Rattle.std.specs.Prelude.{◌≡◌, ℕ, Bool, List, [], ◌∷◌, ◌++◌, map, Option, Some, None}
+use Rattle.std.specs.Prelude.{◌≡◌, ℕ, Bool, List, [], ◌∷◌, ◌++◌, map, Option, Some, None, IsSome}
+use Rattle.std.specs.List.{AllByRecursion}
 use mathlib.Core.List.{IsPrefix}
 use Rattle.calls.specs.Contents.{Collection}
 use Rattle.txn.specs.declared.steps.Action.{Action}
@@ -65,10 +66,24 @@ abbrev pub counts_of : Option SeenState → List Raised
 counts_of None = []
 counts_of (Some s) = s.counts
 
+-- Who may take a step: a cut, a gathering and a freeze are of no client, every other step is of one.
+abbrev pub MayTake : Option ℕ → Action → Type 0
+MayTake client (Action.Cut count a) = client ≡ None
+MayTake client (Action.Gather a) = client ≡ None
+MayTake client (Action.Freeze a) = client ≡ None
+MayTake client action = IsSome client
+
+abbrev pub IsOwned : BookStep → Type 0
+IsOwned step = MayTake step.client step.action
+
+abbrev pub AreOwned : List BookStep → Type 0
+AreOwned steps = AllByRecursion IsOwned steps
+
 module _ {J : Type 0} (j : Ghosts J) where
-  -- The steps lead the opened book there.
-  abbrev pub IsHistory : List BookStep → Standing (List Collection) → Type 0
-  IsHistory steps s = IsLegal catalog_meaning catalog_making (opening j.start j.wear) steps s
+  -- The steps lead the opened book there, each of who may take it.
+  pub record IsHistory (steps : List BookStep) (s : Standing (List Collection)) : Type 0 where
+    pub legal : IsLegal catalog_meaning catalog_making (opening j.start j.wear) steps s
+    pub owned : AreOwned steps
 
   -- The steps are a legal history of the opened book.
   abbrev pub IsSeen : List BookStep → Type 0

@@ -6,7 +6,7 @@ use calls::Refusal;
 use calls::limits::{MAX_AREA, MIN_AREA};
 use disk_model::{Content, FileDisk};
 use std::fs::{File, TryLockError};
-use std::io;
+use std::io::{self, Read};
 use std::rt::Files;
 
 // How many bytes of a disk stand before its two areas.
@@ -88,17 +88,41 @@ fn open_file<'a>(
     }
 }
 
+// Gives a file so many bytes, all of them zeros that are written, so that the system has taken its
+// space. Where it can't, the file is left empty.
+fn reserve(file: &File, size: u64) -> io::Result<()> {
+    file.set_len(0)?;
+    let done = fill_with_zeros(file, size);
+    if done.is_err() {
+        file.set_len(0)?;
+    }
+    done
+}
+
+// Writes so many zeros to a file, and syncs them.
+fn fill_with_zeros(file: &File, size: u64) -> io::Result<()> {
+    let mut file = file;
+    io::copy(&mut io::repeat(0).take(size), &mut file)?;
+    file.sync_all()
+}
+
 /// Makes a file, or takes the one that is there, and gives it the size of a disk with two such
-/// areas.
+/// areas; where `is_reserved` is set, by zeros that are written over all of it.
 pub fn make_disk<'a, S: Content>(
     rt: &impl Files<File = File>,
     path: &'a str,
     area: u64,
+    is_reserved: bool,
 ) -> Result<FileDisk<S>, Failure<'a>>
     requires { area ≤ MAX_AREA }
 {
     let file = open_file(rt, path, Access::Makes)?;
-    opened(path, file.set_len(AREAS_AT + 2 * area))?;
+    let size = AREAS_AT + 2 * area;
+    if is_reserved {
+        opened(path, reserve(&file, size))?;
+    } else {
+        opened(path, file.set_len(size))?;
+    }
     opened(path, FileDisk::open(file))
 }
 

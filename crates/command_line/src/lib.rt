@@ -6,13 +6,14 @@ mod files;
 mod lint;
 mod listen;
 
-use boost::{Failure, Invocation, Task, command, report, run, serve};
+use boost::{Failure, Invocation, Task, command, report, run, run_copy, serve};
 use calls::Refusal;
 use clap::error::ErrorKind;
 use disk_model::{Content, Disk, FileDisk, MemDisk};
 use files::{Access, check_area, make_disk, open_disk, opened};
 use lint::{lint, tell_first_unclear};
 use listen::{listen_at_door, listen_to_input};
+use listening::Multiplex;
 pub use listening::{Fifos, SystemFifos, Way};
 use std::alloc::Global;
 use std::fs::{self, File};
@@ -20,6 +21,7 @@ use std::io::{Read, Write};
 use std::rt::{Clock, Files};
 use std::sync::Wait;
 use std::thread::Threads;
+use std::time::Duration;
 
 // The status where a line of a script is not understood.
 const NOT_UNDERSTOOD: u8 = 3;
@@ -45,12 +47,32 @@ fn run_on_new<'a, S: Content, R: Files<File = File> + AllocGlobal>(
     task: &Task,
     path: &'a str,
     area: u64,
+    is_reserved: bool,
     out: &mut impl Write,
     err: &mut impl Write,
 ) -> Result<u8, Failure<'a>> {
     check_area(area)?;
-    let disk = make_disk::<S>(rt, path, area);
+    let disk = make_disk::<S>(rt, path, area, is_reserved);
     run_on(rt.alloc(), task, disk, &[], out, err)
+}
+
+// Copies the store in a file to another file, with two such areas. Refused BadArg where the two
+// paths are one, before a file is touched; the same file under two names is refused by its lock.
+fn copy_store<'a, S: Content, R: Files<File = File> + AllocGlobal>(
+    rt: &R,
+    old: &'a str,
+    new: &'a str,
+    area: u64,
+    out: &mut impl Write,
+    err: &mut impl Write,
+) -> Result<u8, Failure<'a>> {
+    check_area(area)?;
+    if old == new {
+        return Err(Failure::Refused(Refusal::BadArg));
+    }
+    let from = open_disk::<S>(rt, old, Access::Reads)?;
+    let to = make_disk::<S>(rt, new, area, false)?;
+    Ok(run_copy(rt.alloc(), from, to, area, out, err).0)
 }
 
 // Opens the file of a disk, and carries a command out on it.
@@ -148,20 +170,36 @@ fn carry_out<
     input: impl Read + Drop + Send,
     fifos: F,
     out: &mut (impl Write + Send),
-    err: &mut impl Write,
+    err: &mut (impl Write + Send),
 ) -> Result<u8, Failure<'a>> {
     match asked {
         Invocation::Run(task) => perform::<S, R>(rt, task, out, err),
+        Invocation::Copy { old, new, area } => {
+            copy_store::<S, R>(rt, old.as_str(), new.as_str(), *area, out, err)
+        }
         Invocation::Lint { script } => lint_script(rt, script.as_str(), out, err),
         Invocation::Serve { disk, script, why } => {
             serve_script::<S, R>(rt, disk.as_str(), script.as_str(), *why, out, err)
         }
-        Invocation::Listen { disk, folder } => {
+        Invocation::Listen {
+            folder: Some(_),
+            shell: true,
+            ..
+        } => Err(Failure::Refused(Refusal::BadArg)),
+        Invocation::Listen {
+            disk,
+            folder,
+            idle,
+            shell,
+        } => {
             let disk = open_disk::<S>(rt, disk.as_str(), Access::Writes)?;
-            match folder {
-                Some(folder) => listen_at_door(rt, disk, fifos, folder.as_str(), err),
-                None => listen_to_input(rt, disk, input, out, err),
+            let idle = idle.map(Duration::from_secs);
+            if let Some(folder) = folder {
+                return listen_at_door(rt, disk, fifos, folder.as_str(), idle, err);
             }
+            let clients = Multiplex::new(rt.alloc(), fifos, input, out, idle)?;
+            let clients = if *shell { clients.as_shell() } else { clients };
+            listen_to_input(rt, disk, &clients, err)
         }
     }
 }
@@ -174,16 +212,19 @@ fn perform<'a, S: Content, R: Files<File = File> + AllocGlobal>(
     err: &mut impl Write,
 ) -> Result<u8, Failure<'a>> {
     match task {
-        Task::Format { disk, area } => {
-            run_on_new::<S, R>(rt, task, disk.as_str(), *area, out, err)
-        }
+        Task::Format {
+            disk,
+            area,
+            reserve,
+        } => run_on_new::<S, R>(rt, task, disk.as_str(), *area, *reserve, out, err),
         Task::Play { disk, script } => {
             run_with_script::<S, R>(rt, task, disk.as_str(), script.as_str(), out, err)
         }
-        Task::Show { disk } => {
-            run_on_old::<S, R>(rt, task, disk.as_str(), Access::Writes, &[], out, err)
-        }
-        Task::Check { disk } => {
+        Task::Show {
+            disk,
+            read_only: false,
+        } => run_on_old::<S, R>(rt, task, disk.as_str(), Access::Writes, &[], out, err),
+        Task::Show { disk, .. } | Task::Check { disk } | Task::Stat { disk, .. } => {
             run_on_old::<S, R>(rt, task, disk.as_str(), Access::Reads, &[], out, err)
         }
         Task::Demo => run_on(rt.alloc(), task, memory(rt.alloc()), &[], out, err),
@@ -201,7 +242,7 @@ fn answer<
     input: impl Read + Drop + Send,
     fifos: F,
     out: &mut (impl Write + Send),
-    err: &mut impl Write,
+    err: &mut (impl Write + Send),
 ) -> u8 {
     match carry_out::<S, R, F>(rt, asked, input, fifos, out, err) {
         Ok(status) => status,
@@ -241,7 +282,7 @@ pub fn obey<
     input: impl Read + Drop + Send,
     fifos: F,
     out: &mut (impl Write + Send),
-    err: &mut impl Write,
+    err: &mut (impl Write + Send),
 ) -> u8 {
     match command(rt.alloc(), words) {
         Ok(asked) => answer::<S, R, F>(rt, &asked, input, fifos, out, err),

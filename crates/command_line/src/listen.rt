@@ -11,27 +11,35 @@ use std::io::{self, Read, Write};
 use std::rt::Clock;
 use std::sync::Wait;
 use std::thread::Threads;
+use std::time::Duration;
 
-/// Keeps the store of a disk open, and serves the clients that share an input and an output.
-/// Answers the status: 0 at the end of the input, once all that was committed is kept.
+/// Keeps the store of a disk open, and serves the clients that share an input and an output. Answers
+/// the status: 0 at the end of the input, once all that was committed is kept.
 ///
 /// Else it is 1 where the store could not be opened, where keeping ended early, and where memory or
 /// a thread is wanting; and 4 where the input could not be read or the output not be written.
-pub fn listen_to_input<'a, S: Content + Send, R: Threads + Wait + Clock + AllocGlobal + Sync>(
+pub fn listen_to_input<
+    'a,
+    S: Content + Send,
+    R: Threads + Wait + Clock + AllocGlobal + Sync,
+    F: Fifos + Drop + Sync,
+    I: Read + Drop + Send,
+    O: Write + Drop + Send,
+>(
     rt: &R,
     disk: FileDisk<S>,
-    input: impl Read + Drop + Send,
-    out: &mut (impl Write + Send),
+    clients: &Multiplex<F, I, O>,
     err: &mut impl Write,
 ) -> Result<u8, Failure<'a>> {
-    let clients = Multiplex::new(rt.alloc(), input, out)?;
-    let (served, closed) = run(rt, disk, &clients, clients.threads());
+    let (served, closed) = run(rt, disk, clients, clients.threads());
     let failure = first_error(served)?.map(|error| unusable(&error));
     Ok(status_of(closed, failure, err))
 }
 
-/// Keeps the store of a disk open, and serves the clients that come by the door of a folder.
-/// Answers the status: 0 at the line `end` there, once all that was committed is kept.
+/// Keeps the store of a disk open, and serves the clients that come by the door of a folder. One that
+/// is silent for the time `idle`, where that is given, has its transaction undone. What is passed
+/// over there is told. Answers the status: 0 at the line `end` there, once all that was committed is
+/// kept.
 ///
 /// Else it is as `listen_to_input` answers it, with 4 where the door cannot be read.
 pub fn listen_at_door<
@@ -44,10 +52,12 @@ pub fn listen_at_door<
     disk: FileDisk<S>,
     fifos: F,
     folder: &'a str,
-    err: &mut impl Write,
+    idle: Option<Duration>,
+    err: &mut (impl Write + Send),
 ) -> Result<u8, Failure<'a>> {
-    let clients = Doorway::new(rt.alloc(), fifos, folder)?;
+    let clients = Doorway::new(rt.alloc(), fifos, folder, idle, &mut *err)?;
     let (served, closed) = run(rt, disk, &clients, clients.threads());
+    drop(clients);
     let failure = first_error(served)?.map(|error| cannot_open(folder, &error));
     Ok(status_of(closed, failure, err))
 }

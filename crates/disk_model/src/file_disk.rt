@@ -30,6 +30,47 @@ impl Content for Unknown {
     ghost content = { [] };
 }
 
+/// What a disk asks of the file that it is: a file of the system, or one that a case watches. No
+/// contract can say what such a call does; each one fails with the cause.
+pub trait DeviceFile {
+    /// How many bytes the file has.
+    fn len(&self) -> io::Result<u64>;
+
+    /// Reads as many bytes as `out` has, from `at` on.
+    fn read_at(&mut self, at: u64, out: &mut [u8]) -> io::Result<()>;
+
+    /// Writes all of the bytes, from `at` on.
+    fn write_at(&mut self, at: u64, bytes: &[u8]) -> io::Result<()>;
+
+    /// Brings the bytes that were written to the device.
+    fn sync(&mut self) -> io::Result<()>;
+
+    /// Brings all that the system holds of the file to the device, its length too.
+    fn sync_all(&mut self) -> io::Result<()>;
+}
+
+impl DeviceFile for File {
+    fn len(&self) -> io::Result<u64> {
+        Ok(self.metadata()?.len())
+    }
+
+    fn read_at(&mut self, at: u64, out: &mut [u8]) -> io::Result<()> {
+        self.read_exact_at(out, at)
+    }
+
+    fn write_at(&mut self, at: u64, bytes: &[u8]) -> io::Result<()> {
+        self.write_all_at(bytes, at)
+    }
+
+    fn sync(&mut self) -> io::Result<()> {
+        self.sync_data()
+    }
+
+    fn sync_all(&mut self) -> io::Result<()> {
+        File::sync_all(self)
+    }
+}
+
 /// A disk that is a file, which held what `S` says. What a read gives and what a stop may leave is
 /// read off a record of the calls, which only clauses read.
 ///
@@ -39,8 +80,8 @@ impl Content for Unknown {
 /// written, or were to be, since the last sync that succeeded. `is_honest` says the part of it that
 /// reads can show.
 #[derive(Drop)]
-pub struct FileDisk<S: Content> {
-    file: File,
+pub struct FileDisk<S: Content, F: DeviceFile + Drop = File> {
+    file: F,
     size: u64,
     faults: Faults,
     // Why a sync failed, if one did.
@@ -51,19 +92,19 @@ pub struct FileDisk<S: Content> {
     ghost marked: { length (marks_of size log.events) ≡ size },
 }
 
-impl<S: Content> FileDisk<S> {
+impl<S: Content, F: DeviceFile + Drop> FileDisk<S, F> {
     /// Takes a file as a disk of the file's length, and syncs it first. The file is open for
     /// reading and writing, and the caller has given it its size, as by `set_len`. Refused where
     /// the file's length or the sync is.
-    pub fn open(file: File) -> io::Result<FileDisk<S>>
-        ensures content { IfOk result (λ disk. ⟦<FileDisk<S> as Disk>⟧.seen disk ≡
-            padded S.Content.content (length (⟦<FileDisk<S> as Disk>⟧.seen disk))) }
+    pub fn open(mut file: F) -> io::Result<FileDisk<S, F>>
+        ensures content { IfOk result (λ disk. ⟦<FileDisk<S, F> as Disk>⟧.seen disk ≡
+            padded S.Content.content (length (⟦<FileDisk<S, F> as Disk>⟧.seen disk))) }
         ensures at_rest { IfOk result (λ disk.
-            IsAtRest ⟦<FileDisk<S> as Disk>⟧.seen ⟦<FileDisk<S> as Disk>⟧.may_leave disk) }
-        ensures honest { IfOk result (λ disk. ⟦<FileDisk<S> as Disk>⟧.is_honest disk) }
-        ensures faults { IfOk result (λ disk. ⟦<FileDisk<S> as Disk>⟧.fault_count disk ≡ 0) }
+            IsAtRest ⟦<FileDisk<S, F> as Disk>⟧.seen ⟦<FileDisk<S, F> as Disk>⟧.may_leave disk) }
+        ensures honest { IfOk result (λ disk. ⟦<FileDisk<S, F> as Disk>⟧.is_honest disk) }
+        ensures faults { IfOk result (λ disk. ⟦<FileDisk<S, F> as Disk>⟧.fault_count disk ≡ 0) }
     {
-        let size = file.metadata()?.len();
+        let size = file.len()?;
         file.sync_all()?;
         Ok(FileDisk {
             file,
@@ -78,7 +119,7 @@ impl<S: Content> FileDisk<S> {
     /// Why the last call of the disk that failed did; none where none failed. A sync behind one
     /// that failed is not asked of the system, and fails for the same reason.
     pub fn last_error(&self) -> Option<&io::Error>
-        ensures { IsNone result ↔ (⟦<FileDisk<S> as Disk>⟧.fault_count self.now ≡ 0) }
+        ensures { IsNone result ↔ (⟦<FileDisk<S, F> as Disk>⟧.fault_count self.now ≡ 0) }
     {
         self.faults.last()
     }
@@ -86,7 +127,10 @@ impl<S: Content> FileDisk<S> {
 
 // Syncs the file. After a sync that failed, the system may answer the next one well with nothing
 // kept: none is asked again, and each is refused for what broke that one.
-fn sync_unless_broken(file: &File, broken_by: &mut Option<io::Error>) -> io::Result<()>
+fn sync_unless_broken<F: DeviceFile>(
+    file: &mut F,
+    broken_by: &mut Option<io::Error>,
+) -> io::Result<()>
     ensures stays { IfSome broken_by.old (λ error. result ≡ Err error) }
     ensures breaks { MatchResult result (λ _. broken_by.new ≡ None)
         (λ error. broken_by.new ≡ Some error) }
@@ -94,12 +138,12 @@ fn sync_unless_broken(file: &File, broken_by: &mut Option<io::Error>) -> io::Res
     if let Some(error) = *broken_by {
         return Err(error);
     }
-    let done = file.sync_data();
+    let done = file.sync();
     *broken_by = done.err();
     done
 }
 
-impl<S: Content> Disk for FileDisk<S> {
+impl<S: Content, F: DeviceFile + Drop> Disk for FileDisk<S, F> {
     ghost seen = { λ d. seen_of (padded S.Content.content d.size) d.log.events };
 
     ghost may_leave = { λ d c. Leaves (seen_of (padded S.Content.content d.size) d.log.events)
@@ -134,7 +178,7 @@ impl<S: Content> Disk for FileDisk<S> {
     }
 
     fn read_at(&mut self, at: u64, out: &mut [u8]) -> Result<(), Fault> {
-        let ok = self.faults.is_done(self.file.read_exact_at(out, at));
+        let ok = self.faults.is_done(self.file.read_at(at, out));
         if !ok {
             return Err(Fault);
         }
@@ -143,7 +187,7 @@ impl<S: Content> Disk for FileDisk<S> {
     }
 
     fn write_at(&mut self, at: u64, bytes: &[u8]) -> Result<(), Fault> {
-        let ok = self.faults.is_done(self.file.write_all_at(bytes, at));
+        let ok = self.faults.is_done(self.file.write_at(at, bytes));
         self.log.note(&[DeviceCall::Write(at, ok)], bytes);
         if !ok {
             return Err(Fault);
@@ -152,7 +196,7 @@ impl<S: Content> Disk for FileDisk<S> {
     }
 
     fn sync(&mut self) -> Result<(), Fault> {
-        let done = sync_unless_broken(&self.file, &mut self.broken_by);
+        let done = sync_unless_broken(&mut self.file, &mut self.broken_by);
         let ok = self.faults.is_done(done);
         self.log.note(&[DeviceCall::Sync(ok)], &[]);
         if !ok {

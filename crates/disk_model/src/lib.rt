@@ -24,7 +24,7 @@ mod past;
 mod through;
 
 pub use disk::{Disk, Fault};
-pub use file_disk::{Content, FileDisk, Unknown};
+pub use file_disk::{Content, DeviceFile, FileDisk, Unknown};
 pub use mem_disk::MemDisk;
 pub use past::Past;
 pub use through::{read, write_and_sync};

@@ -10,7 +10,8 @@ use Rattle.std.specs.Io.KnownBytes.{Consumes}
 use Rattle.std.proofs.KnownBytes.{Consumes-trans}
 use Rattle.lines.specs.declared.Found.{Found}
 use Rattle.lines.specs.declared.Piece.{Piece}
-use Rattle.lines.specs.Lines.{Finds, Takes, Ends, IsPiece, IsLast, feed_of, HasEnded}
+use Rattle.lines.specs.Lines.{Finds, Brings, IsWhere, Takes, Ends, IsPiece, IsEmpty, IsLast}
+use Rattle.lines.specs.Lines.{HasEnded, feed_of}
 
 -- the first bytes of what stands behind others
 take_least : (n m : ℕ) (ys : List ℕ) → m ≡ min (length ys) n → take m ys ≡ take n ys
@@ -46,6 +47,7 @@ shown_parts shown front taken Piece.Whole is within feed piece =
     let all : taken ≡ front + 1 = omega arith in
     ap (λ n. take n shown) all ∙ take_more shown front 0 piece
     ∙ ap (λ b. take front shown ++ b ∷ []) (feed piece)
+shown_parts shown front taken Piece.Silence is within feed piece = absurd piece
 shown_parts shown front taken Piece.Last is within feed piece =
     take_all taken shown (omega arith) ∙ sym (take_all front shown (omega arith))
     ∙ sym (append-nil (take front shown))
@@ -59,62 +61,83 @@ none_of : (xs : List ℕ) → length xs ≡ 0 → xs ≡ []
 none_of [] none = refl
 none_of (x ∷ xs) none = absurd (omega arith)
 
--- the last piece behind others
-pub finds : (most : ℕ) (a b c : Option (List ℕ)) (done bs kept : List ℕ) (piece : Piece)
-    (found : Found) (line : List ℕ) → All (λ x. x ≢ 10) done → All (λ x. x ≢ 10) bs →
-    kept ≡ take (most + 1) (done ++ bs) → Consumes a b done → Takes b c bs piece →
-    Ends most piece kept found line → Finds most a c found line
-finds most a b c done bs kept Piece.Whole Found.Line line whole more is before takes ends =
-    let n = length-take (most + 1) (done ++ bs) in
-    let short : length (done ++ bs) ≤ most + 1 = omega (arith, n, ap length is, ends.1) in
-    let all : line ≡ done ++ bs = ends.0 ∙ is ∙ take_all (most + 1) (done ++ bs) short in (
-      done ++ (bs ++ 10 ∷ []),
-      Consumes-trans a b c done (bs ++ 10 ∷ []) before takes.0,
+-- what the last piece brings behind others
+brings : (most : ℕ) (text bs kept : List ℕ) (piece : Piece) (found : Found) (line : List ℕ) →
+    All (λ x. x ≢ 10) text → All (λ x. x ≢ 10) bs → kept ≡ take (most + 1) (text ++ bs) →
+    Ends most piece kept found line → Brings most (text ++ (bs ++ feed_of piece)) found line
+brings most text bs kept Piece.Whole Found.Line line whole more is ends =
+    let n = length-take (most + 1) (text ++ bs) in
+    let short : length (text ++ bs) ≤ most + 1 = omega (arith, n, ap length is, ends.1) in
+    let all : line ≡ text ++ bs = ends.0 ∙ is ∙ take_all (most + 1) (text ++ bs) short in (
+      sym (append_assoc text bs (10 ∷ [])) ∙ ap (λ l. l ++ 10 ∷ []) (sym all),
+      subst (All (λ x. x ≢ 10)) (sym all) (All-append (λ x. x ≢ 10) text bs whole more),
+      subst (λ l. length l ≤ most) (sym ends.0) ends.1,
+    )
+brings most text bs kept Piece.Whole Found.TooLong line whole more is ends =
+    let n = length-take (most + 1) (text ++ bs) in (
+      ends.0,
       (
-        sym (append_assoc done bs (10 ∷ [])) ∙ ap (λ l. l ++ 10 ∷ []) (sym all),
-        subst (All (λ x. x ≢ 10)) (sym all) (All-append (λ x. x ≢ 10) done bs whole more),
-        subst (λ l. length l ≤ most) (sym ends.0) ends.1,
+        text ++ bs,
+        sym (append_assoc text bs (10 ∷ [])),
+        All-append (λ x. x ≢ 10) text bs whole more,
+        omega (arith, n, ap length is, ends.1),
       ),
-      tt,
     )
-finds most a b c done bs kept Piece.Whole Found.TooLong line whole more is before takes ends =
-    let n = length-take (most + 1) (done ++ bs) in (
-      done ++ (bs ++ 10 ∷ []),
-      Consumes-trans a b c done (bs ++ 10 ∷ []) before takes.0,
-      (
-        ends.0,
-        (
-          done ++ bs,
-          sym (append_assoc done bs (10 ∷ [])),
-          All-append (λ x. x ≢ 10) done bs whole more,
-          omega (arith, n, ap length is, ends.1),
-        ),
-      ),
-      tt,
+brings most text bs kept Piece.Last Found.End line whole more is ends =
+    let n = length-take (most + 1) (text ++ bs) in
+    let none : text ++ bs ≡ [] = none_of (text ++ bs)
+    (omega (arith, n, ap length is, ap length ends.1)) in
+    (ends.0, sym (append_assoc text bs []) ∙ append-nil (text ++ bs) ∙ none)
+brings most text bs kept Piece.Last Found.Cut line whole more is ends =
+    let n = length-take (most + 1) (text ++ bs) in
+    let all : text ++ (bs ++ []) ≡ text ++ bs =
+    sym (append_assoc text bs []) ∙ append-nil (text ++ bs) in (
+      ends.0,
+      subst (All (λ x. x ≢ 10)) (sym all) (All-append (λ x. x ≢ 10) text bs whole more),
+      omega (arith, n, ap length is, ends.1, ap length all),
     )
-finds most a b c done bs kept Piece.Last Found.End line whole more is before takes ends =
-    let n = length-take (most + 1) (done ++ bs) in
-    let none : done ++ bs ≡ [] = none_of (done ++ bs)
-    (omega (arith, n, ap length is, ap length ends.1)) in (
-      done ++ (bs ++ []),
-      Consumes-trans a b c done (bs ++ []) before takes.0,
-      (ends.0, sym (append_assoc done bs []) ∙ append-nil (done ++ bs) ∙ none),
-      ended_too a b c done before takes.1.1,
+brings most text bs kept Piece.Silence Found.Silence line whole more is ends =
+    let all : text ++ (bs ++ []) ≡ text ++ bs =
+    sym (append_assoc text bs []) ∙ append-nil (text ++ bs) in (
+      subst (All (λ x. x ≢ 10)) (sym all) (All-append (λ x. x ≢ 10) text bs whole more),
+      ends ∙ is ∙ ap (take (most + 1)) (sym all),
     )
-finds most a b c done bs kept Piece.Last Found.Cut line whole more is before takes ends =
-    let n = length-take (most + 1) (done ++ bs) in
-    let all : done ++ (bs ++ []) ≡ done ++ bs =
-    sym (append_assoc done bs []) ∙ append-nil (done ++ bs) in (
-      done ++ (bs ++ []),
-      Consumes-trans a b c done (bs ++ []) before takes.0,
-      (
-        ends.0,
-        subst (All (λ x. x ≢ 10)) (sym all) (All-append (λ x. x ≢ 10) done bs whole more),
-        omega (arith, n, ap length is, ends.1, ap length all),
-      ),
-      ended_too a b c done before takes.1.1,
-    )
-finds most a b c done bs kept piece found line whole more is before takes ends = absurd ends
+brings most text bs kept piece found line whole more is ends = absurd ends
+
+-- where the input ended, if it did
+where_ended : (most : ℕ) (a b c : Option (List ℕ)) (done bs kept : List ℕ) (piece : Piece)
+    (found : Found) (line : List ℕ) → Consumes a b done → Takes b c bs piece →
+    Ends most piece kept found line → IsWhere found a c
+where_ended most a b c done bs kept piece Found.Line line before takes ends = tt
+where_ended most a b c done bs kept piece Found.TooLong line before takes ends = tt
+where_ended most a b c done bs kept piece Found.Silence line before takes ends = tt
+where_ended most a b c done bs kept Piece.Last Found.Cut line before takes ends =
+    ended_too a b c done before takes.1.1
+where_ended most a b c done bs kept Piece.Last Found.End line before takes ends =
+    ended_too a b c done before takes.1.1
+where_ended most a b c done bs kept piece found line before takes ends = absurd ends
+
+-- the last piece behind others, and behind the bytes with which the line began
+pub finds : (most : ℕ) (a b c : Option (List ℕ)) (begun done bs kept : List ℕ) (piece : Piece)
+    (found : Found) (line : List ℕ) → All (λ x. x ≢ 10) begun → All (λ x. x ≢ 10) done →
+    All (λ x. x ≢ 10) bs → kept ≡ take (most + 1) (begun ++ (done ++ bs)) → Consumes a b done →
+    Takes b c bs piece → Ends most piece kept found line → Finds most begun a c found line
+finds most a b c begun done bs kept piece found line whole part more is before takes ends = (
+  done ++ (bs ++ feed_of piece),
+  Consumes-trans a b c done (bs ++ feed_of piece) before takes.0,
+  subst (λ l. Brings most l found line) (append_assoc begun done (bs ++ feed_of piece))
+      (brings most (begun ++ done) bs kept piece found line
+      (All-append (λ x. x ≢ 10) begun done whole part) more
+      (is ∙ ap (take (most + 1)) (sym (append_assoc begun done bs))) ends),
+  where_ended most a b c done bs kept piece found line before takes ends,
+)
+
+-- a piece of no bytes takes none
+pub takes_nothing : (a b : Option (List ℕ)) (piece : Piece) → IsEmpty piece → Consumes a b [] →
+    Takes a b [] piece
+takes_nothing a b Piece.Part empty took = (took, tt)
+takes_nothing a b Piece.Silence empty took = (took, refl)
+takes_nothing a b piece empty took = absurd empty
 
 -- the last piece of all brings nothing
 pub last_piece : (a c : Option (List ℕ)) (shown bs : List ℕ) (piece : Piece) →
@@ -122,4 +145,5 @@ pub last_piece : (a c : Option (List ℕ)) (shown bs : List ℕ) (piece : Piece)
     (length shown ≡ 0 → HasEnded a c) → IsLast piece bs a c
 last_piece a c shown bs Piece.Part is within end = tt
 last_piece a c shown bs Piece.Whole is within end = tt
+last_piece a c shown bs Piece.Silence is within end = absurd is
 last_piece a c shown bs Piece.Last is within end = (none_of bs (omega arith), end is)

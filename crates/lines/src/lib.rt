@@ -3,10 +3,9 @@
 
 ghost use Rattle.std.specs.Prelude.{◌≡◌, ◌≢◌, ◌≤◌, ◌+◌, ◌<◌, ◌++◌, List, ℕ, All, IfOk, OnOk};
 ghost use Rattle.std.specs.Prelude.{length};
-ghost use Rattle.std.specs.Prelude.{take, get_or, IsTrue, ◌↔◌, IfSome, IfNone};
-ghost use Rattle.std.specs.IoError.{error_kind};
+ghost use Rattle.std.specs.Prelude.{take, get_or, IfSome, IfNone};
 ghost use Rattle.lines.specs.declared.Piece.{Piece};
-ghost use Rattle.lines.specs.Lines.{Finds, Takes, Ends, IsPiece};
+ghost use Rattle.lines.specs.Lines.{Begins, Finds, Takes, Ends, IsPiece, IsEmpty, piece_without};
 
 use std::io::{self, BufRead, ErrorKind};
 
@@ -24,6 +23,9 @@ pub enum Found {
     Cut,
     /// The input ended.
     End,
+    /// Nothing came for as long as the reader waits, whose error is `TimedOut`. What has come of
+    /// the line is kept: the next call goes on with it.
+    Silence,
 }
 
 // What one look at a reader brought of a line.
@@ -35,19 +37,25 @@ enum Piece {
     Whole,
     // Nothing, as the input ended.
     Last,
+    // Nothing, as the reader waits no longer.
+    Silence,
 }
 
 /// Reads the next line of a reader into `line`, which holds that line alone then, and nothing where
 /// none was found. Of bytes that are known it takes the line with its line feed, and no more.
 ///
-/// Refused as the reader refuses, and for want of memory: `line` holds a beginning of the line
-/// then, which the reader has lost. It takes the memory of a line of `LONGEST` bytes, whatever
-/// comes.
+/// What `line` holds already is the beginning of the line: nothing, so the caller clears it behind
+/// a line; or what a call kept that found a silence.
+///
+/// Refused as the reader refuses, but for `TimedOut`, and for want of memory: `line` holds a
+/// beginning of the line then, which the reader has lost. It takes the memory of a line of
+/// `LONGEST` bytes, whatever comes.
 pub fn read_line<B: BufRead>(reader: &mut B, line: &mut Vec<u8>) -> io::Result<Found>
-    ensures { IfOk result (λ found. Finds LONGEST (B.remaining reader.old) (B.remaining reader.new)
-        found line.new.items) }
+    ensures { IfOk result (λ found. (begun : List ℕ) → Begins LONGEST begun line.old.items →
+        Finds LONGEST begun (B.remaining reader.old) (B.remaining reader.new) found
+        line.new.items) }
 {
-    line.clear();
+    line.truncate(LONGEST + 1);
     for _ in 0..u64::MAX {
         if let Some(found) = found_behind(take_piece(reader, line)?, line) {
             return Ok(found);
@@ -56,7 +64,8 @@ pub fn read_line<B: BufRead>(reader: &mut B, line: &mut Vec<u8>) -> io::Result<F
     Err(io::Error::from(ErrorKind::Other))
 }
 
-// What was found, if this piece is the last one. Only a line stays.
+// What was found, if this piece is the last one. Only a line stays, and the beginning of one behind
+// which nothing came.
 fn found_behind(piece: Piece, line: &mut Vec<u8>) -> Option<Found>
     ensures some { IfSome result (λ found.
         Ends LONGEST piece line.old.items found line.new.items) }
@@ -67,6 +76,7 @@ fn found_behind(piece: Piece, line: &mut Vec<u8>) -> Option<Found>
         Piece::Part => return None,
         Piece::Whole if length <= LONGEST => return Some(Found::Line),
         Piece::Whole => Found::TooLong,
+        Piece::Silence => return Some(Found::Silence),
         Piece::Last if length == 0 => Found::End,
         Piece::Last => Found::Cut,
     };
@@ -84,11 +94,10 @@ fn take_piece<B: BufRead>(reader: &mut B, line: &mut Vec<u8>) -> io::Result<Piec
 {
     let available = match reader.fill_buf() {
         Ok(available) => available,
-        Err(e) => {
-            return if is_interrupted(&e) {
-                Ok(Piece::Part)
-            } else {
-                Err(e)
+        Err(error) => {
+            return match without_bytes(error.kind()) {
+                Some(piece) => Ok(piece),
+                None => Err(error),
             };
         }
     };
@@ -138,8 +147,14 @@ fn len_of_front(bytes: &[u8]) -> usize
     bytes.len()
 }
 
-fn is_interrupted(e: &io::Error) -> bool
-    ensures { IsTrue result ↔ (error_kind e.now ≡ ErrorKind.Interrupted) }
+// The piece that a reader gives which fails so, if it may be read on.
+fn without_bytes(kind: ErrorKind) -> Option<Piece>
+    ensures kind { result ≡ piece_without kind }
+    ensures empty { IfSome result IsEmpty }
 {
-    e.kind() == ErrorKind::Interrupted
+    match kind {
+        ErrorKind::Interrupted => Some(Piece::Part),
+        ErrorKind::TimedOut => Some(Piece::Silence),
+        _ => None,
+    }
 }

@@ -1,9 +1,10 @@
 // Clients that come by a door, a FIFO: each with a pair of FIFOs of its own.
-use crate::fifos::{Fifos, Way, path_of};
+use crate::fifos::{Fifos, Way};
+use crate::seat::Seat;
 use crate::until::Until;
 use background::Work;
 use calls::limits::MAX_LIVE;
-use crossbeam_channel::{Receiver, Sender, unbounded};
+use crossbeam_channel::{Receiver, RecvTimeoutError, Sender, bounded, unbounded};
 use lines::{Found, read_line};
 use sessions::Session;
 use std::alloc::{AllocError, AllocGlobal, Global};
@@ -11,8 +12,9 @@ use std::fs::File;
 use std::io::{self, BufReader, Write};
 use std::os::fd::AsRawFd;
 use std::rt::Clock;
-use std::sync::atomic::{AtomicBool, Ordering};
+use std::sync::atomic::{AtomicBool, AtomicU64, Ordering};
 use std::sync::{Mutex, Wait};
+use std::time::Duration;
 use store::{Client, Naming};
 use talks::{Ended, Printer, Why, talk};
 
@@ -22,54 +24,81 @@ const MAX_WORD: usize = 64;
 // How many bytes one read takes at most.
 const READ_SIZE: usize = 65_536;
 
-/// Clients that come by a door: the FIFO `door` of a folder. A client makes two FIFOs in the folder,
-/// `WORD.to` for its lines and `WORD.from` for its answers, opens both, and writes the line
+// How many looks at the clients the time has after which one is idle.
+const LOOKS: u32 = 4;
+
+/// Clients that come by a door: the FIFO `door` of a folder. A client makes two FIFOs in the
+/// folder, `WORD.to` for its lines and `WORD.from` for its answers, opens both, and writes the line
 /// `hello WORD` into the door. It is told `hello boost 1` once it is served, and the names of its
-/// FIFOs are gone then. Up to 64 are served at once, and others wait. The line `end` at the door ends
-/// all of them.
+/// FIFOs are gone then. Up to 64 are served at once, and others wait. The line `end` at the door
+/// ends all of them.
 ///
 /// A word has 1 to 64 bytes, each a small letter, a digit, `-` or `_`. Another line at the door is
-/// passed over, and so is a client whose FIFOs cannot be opened. Where a client is told that keeping
-/// has failed, all of them are ended.
+/// passed over. So is a client whose FIFOs cannot be opened: it hears nothing, and the notes have a
+/// line with its word and why. Where a client is told that keeping has failed, all of them are
+/// ended.
+///
+/// Where a time is set, what a client has open is taken back once it has said nothing for so long,
+/// or up to half as long again.
 #[derive(Drop)]
-pub struct Doorway<'a, F> {
+pub struct Doorway<'a, F, E> {
     fifos: F,
     folder: &'a str,
+    idle: Option<Duration>,
+    notes: Mutex<E>,
     receiver: Receiver<String>,
     sender: Mutex<Option<Sender<String>>>,
-    // The number of the file that each thread reads, if it reads one.
-    reading: Mutex<Vec<Option<i32>>>,
+    // What each thread reads.
+    seats: Vec<Seat>,
+    // How many looks were taken at who waits.
+    looks: AtomicU64,
     is_over: AtomicBool,
+    // Who looks waits for the end of these, which have no message.
+    ended: Receiver<()>,
+    going_on: Mutex<Option<Sender<()>>>,
 }
 
-impl<'a, F: Fifos + Drop> Doorway<'a, F> {
+impl<'a, F: Fifos + Drop, E: Write + Drop> Doorway<'a, F, E> {
     /// The door of a folder, which is not opened yet. Refused only for want of memory.
-    pub fn new(alloc: Global, fifos: F, folder: &'a str) -> Result<Self, AllocError> {
+    pub fn new(
+        alloc: Global,
+        fifos: F,
+        folder: &'a str,
+        idle: Option<Duration>,
+        notes: E,
+    ) -> Result<Self, AllocError> {
         let (sender, receiver) = unbounded(alloc)?;
-        let mut reading = Vec::new(alloc);
+        let (going_on, ended) = bounded(alloc, 1)?;
+        let mut seats = Vec::new(alloc);
         for _ in 0..MAX_LIVE {
-            reading.push(None)?;
+            seats.push(Seat::new())?;
         }
         Ok(Self {
             fifos,
             folder,
+            idle,
+            notes: Mutex::new(notes),
             receiver,
             sender: Mutex::new(Some(sender)),
-            reading: Mutex::new(reading),
+            seats,
+            looks: AtomicU64::new(0),
             is_over: AtomicBool::new(false),
+            ended,
+            going_on: Mutex::new(Some(going_on)),
         })
     }
 
-    /// How many threads serve the clients: one at the door, and one for each client.
+    /// How many threads serve the clients: one at the door, one for each client, and one that looks
+    /// for idle ones where a time is set.
     pub fn threads(&self) -> usize {
-        MAX_LIVE + 1
+        MAX_LIVE + 1 + usize::from(self.idle.is_some())
     }
 
     // Reads the door up to `end`, and then ends all clients. They are ended also where the door
     // cannot be read.
     fn watch<R: Wait + AllocGlobal>(&self, rt: &R) -> io::Result<()> {
         let watched = self.watch_door(rt);
-        self.end_all(rt)?;
+        self.end_all(rt);
         watched
     }
 
@@ -91,7 +120,9 @@ impl<'a, F: Fifos + Drop> Doorway<'a, F> {
                 }
                 Found::TooLong => {}
                 Found::Cut | Found::End => break,
+                Found::Silence => continue,
             }
+            line.clear();
         }
         Ok(())
     }
@@ -108,37 +139,31 @@ impl<'a, F: Fifos + Drop> Doorway<'a, F> {
     }
 
     // Has each reader of a client's lines end, and wakes those that wait for some.
-    fn end_all<R: Wait + AllocGlobal>(&self, rt: &R) -> io::Result<()> {
+    fn end_all<R: Wait + AllocGlobal>(&self, rt: &R) {
         self.is_over.store(true, Ordering::SeqCst);
-        for of in 0..MAX_LIVE {
-            if let Some(number) = self.read_by(rt, of) {
-                self.wake(rt.alloc(), number)?;
+        drop(self.going_on.lock(rt).take());
+        self.wake_since(rt, u64::MAX);
+    }
+
+    // Wakes each reader that has waited since that look or an earlier one.
+    fn wake_since<R: Wait + AllocGlobal>(&self, rt: &R, look: u64) {
+        for seat in &self.seats {
+            seat.wake(rt, rt.alloc(), &self.fifos, look);
+        }
+    }
+
+    // Looks at the clients again and again, up to the end of all, and wakes the readers of those
+    // that are idle.
+    fn look<R: Wait + Clock + AllocGlobal>(&self, rt: &R, idle: Duration) {
+        for _ in rt.forever() {
+            match self.ended.recv_timeout(rt, idle / LOOKS) {
+                Err(RecvTimeoutError::Timeout) => {}
+                Ok(()) | Err(RecvTimeoutError::Disconnected) => return,
             }
-        }
-        Ok(())
-    }
-
-    // The number of the file that a thread reads, if it reads one.
-    fn read_by<R: Wait>(&self, rt: &R, of: usize) -> Option<i32> {
-        match self.reading.lock(rt).get(of) {
-            Some(Some(number)) => Some(*number),
-            _ => None,
-        }
-    }
-
-    // Wakes the reader of a FIFO by an empty line. Where the FIFO is gone, nobody reads it.
-    fn wake(&self, alloc: Global, number: i32) -> io::Result<()> {
-        let path = path_of(alloc, number)?;
-        if let Ok(mut both) = self.fifos.open_both(path.as_str()) {
-            let _woken = both.write(b"\n");
-        }
-        Ok(())
-    }
-
-    // Notes which file a thread reads.
-    fn note<R: Wait>(&self, rt: &R, of: usize, number: Option<i32>) {
-        if let Some(place) = self.reading.lock(rt).get_mut(of) {
-            *place = number;
+            let before = self.looks.fetch_add(1, Ordering::SeqCst);
+            if let Some(since) = before.checked_sub(u64::from(LOOKS)) {
+                self.wake_since(rt, since);
+            }
         }
     }
 
@@ -148,17 +173,20 @@ impl<'a, F: Fifos + Drop> Doorway<'a, F> {
         rt: &R,
         client: &mut Client<'_, J>,
         word: &str,
-        of: usize,
+        seat: &Seat,
     ) -> io::Result<Ended> {
         let alloc = rt.alloc();
         let (reader, mut writer) = self.meet(alloc, word)?;
-        self.note(rt, of, Some(reader.as_raw_fd()));
         writer.write_all(b"hello boost 1\n")?;
-        let reader = Until::new(reader, &self.is_over);
+        let number = reader.as_raw_fd();
+        let reader = Until::new(rt, reader, seat, &self.looks, &self.is_over);
         let mut lines = BufReader::with_capacity(alloc, READ_SIZE, reader)?;
         let mut session = Session::new(client);
         let mut printer = Printer::new(alloc, writer);
-        Ok(talk(rt, &mut session, &mut lines, &mut printer))
+        seat.take(rt, number);
+        let ended = talk(rt, &mut session, &mut lines, &mut printer);
+        seat.leave(rt);
+        Ok(ended)
     }
 
     // Opens the two FIFOs of a word, and takes their names away.
@@ -179,12 +207,10 @@ impl<'a, F: Fifos + Drop> Doorway<'a, F> {
         &self,
         rt: &R,
         client: &mut Client<'_, J>,
-        of: usize,
+        seat: &Seat,
     ) {
         for word in self.receiver.iter(rt) {
-            let served = self.serve(rt, client, word.as_str(), of);
-            self.note(rt, of, None);
-            match served {
+            match self.serve(rt, client, word.as_str(), seat) {
                 Ok(Ended { why: Why::Lost, .. }) => {
                     let _asked = self.ask_to_end(rt.alloc());
                 }
@@ -194,16 +220,25 @@ impl<'a, F: Fifos + Drop> Doorway<'a, F> {
                         ..
                     },
                 ) => return,
-                _ => {}
+                Ok(_) => {}
+                Err(error) => self.note(rt, word.as_str(), &error),
             }
         }
     }
+
+    // Notes who is passed over. Where it cannot be written, that changes nothing.
+    fn note<R: Wait>(&self, rt: &R, word: &str, error: &io::Error) {
+        let mut notes = self.notes.lock(rt);
+        let _written = writeln!(notes, "boost: passed over {word}: {error}");
+        let _flushed = notes.flush();
+    }
 }
 
-impl<F: Fifos + Drop> Work for Doorway<'_, F> {
+impl<F: Fifos + Drop, E: Write + Drop> Work for Doorway<'_, F, E> {
     type Output = io::Result<()>;
 
-    /// The first thread reads the door, and each other one serves clients.
+    /// The first thread reads the door, and each other one serves clients. One more looks for idle
+    /// ones.
     ///
     /// Refused where the door cannot be read, and where it has no memory for who comes.
     fn work<J: Naming, R: Wait + Clock + AllocGlobal>(
@@ -212,13 +247,15 @@ impl<F: Fifos + Drop> Work for Doorway<'_, F> {
         client: &mut Client<'_, J>,
         thread: usize,
     ) -> io::Result<()> {
-        match thread.checked_sub(1) {
-            Some(of) => {
-                self.serve_all(rt, client, of);
-                Ok(())
-            }
-            None => self.watch(rt),
+        let Some(of) = thread.checked_sub(1) else {
+            return self.watch(rt);
+        };
+        match (self.seats.get(of), self.idle) {
+            (Some(seat), _) => self.serve_all(rt, client, seat),
+            (None, Some(idle)) => self.look(rt, idle),
+            (None, None) => {}
         }
+        Ok(())
     }
 }
 

@@ -21,8 +21,8 @@ pub trait Fifos {
     /// file that is none.
     fn open_both(&self, path: &str) -> io::Result<File>;
 
-    /// Opens a FIFO for one way, without waiting for the other side. InvalidInput for a file that is
-    /// none.
+    /// Opens a FIFO for one way, without waiting for the other side. InvalidInput for a file that
+    /// is none.
     fn open(&self, alloc: Global, path: &str, way: Way) -> io::Result<File>;
 
     /// Takes the name away. Who has the FIFO open has it still.

@@ -1,4 +1,5 @@
 // Lines of many clients, which are handed out to each.
+use crate::shell::{HELP, Manner, PROMPT, WELCOME};
 use crossbeam_channel::Sender;
 use lines::{Found, read_line};
 use script::addressed;
@@ -17,6 +18,7 @@ pub struct Handing<'a, O, R: Wait> {
     rt: &'a R,
     alloc: Global,
     output: &'a Mutex<O>,
+    manner: Manner,
     senders: Vec<Sender<Vec<u8>>>,
     // The client of the lines that are gathered, from 0 on, and the lines.
     of: usize,
@@ -29,16 +31,26 @@ impl<'a, O: Write, R: Wait> Handing<'a, O, R> {
         rt: &'a R,
         alloc: Global,
         output: &'a Mutex<O>,
+        manner: Manner,
         senders: Vec<Sender<Vec<u8>>>,
     ) -> Self {
         Self {
             rt,
             alloc,
             output,
+            manner,
             senders,
             of: 0,
             batch: Vec::new(alloc),
         }
+    }
+
+    /// Says hello.
+    pub fn say_hello(&self) -> io::Result<()> {
+        self.tell(match self.manner {
+            Manner::Tagged => b"- hello boost 1\n",
+            Manner::Shell => WELCOME,
+        })
     }
 
     /// Hands out all lines of an input, up to its end or to the line `end`. Whose line is no
@@ -53,38 +65,49 @@ impl<'a, O: Write, R: Wait> Handing<'a, O, R> {
                 self.send()?;
             }
             let goes_on = match read_line(&mut reader, &mut line)? {
+                Found::Silence => continue,
                 Found::Line => self.hand_out(line.as_slice())?,
-                Found::TooLong => self.tell(b"- error LineTooLong\n")?,
+                Found::TooLong => {
+                    self.tell(b"- error LineTooLong\n")?;
+                    true
+                }
                 Found::Cut | Found::End => false,
             };
             if !goes_on {
                 break;
             }
+            line.clear();
         }
         Ok(self.send()?)
     }
 
     // Hands a line out. Whether more are to come: not behind `end`.
     fn hand_out(&mut self, line: &[u8]) -> io::Result<bool> {
-        match line.strip_suffix(b"\r").unwrap_or(line) {
-            b"end" => Ok(false),
-            [] | [b'#', ..] => Ok(true),
-            line => match addressed(line) {
-                Some((client, rest)) => {
+        let line = line.strip_suffix(b"\r").unwrap_or(line);
+        match line {
+            b"end" => return Ok(false),
+            [] | [b'#', ..] if self.manner == Manner::Tagged => {}
+            [] | [b'#', ..] => self.tell(b"")?,
+            b"help" if self.manner == Manner::Shell => self.tell(HELP)?,
+            _ => match (addressed(line), self.manner) {
+                (Some((client, rest)), _) => {
                     self.gather(usize::from(client).saturating_sub(1), rest)?;
-                    Ok(true)
                 }
-                None => self.tell(b"- error NoClient\n"),
+                (None, Manner::Shell) => self.gather(0, line)?,
+                (None, Manner::Tagged) => self.tell(b"- error NoClient\n")?,
             },
         }
+        Ok(true)
     }
 
-    // Writes a line that is no client's.
-    fn tell(&self, line: &[u8]) -> io::Result<bool> {
+    // Writes lines that are no client's, and in a shell a prompt behind them.
+    fn tell(&self, lines: &[u8]) -> io::Result<()> {
         let mut output = self.output.lock(self.rt);
-        output.write_all(line)?;
-        output.flush()?;
-        Ok(true)
+        output.write_all(lines)?;
+        if self.manner == Manner::Shell {
+            output.write_all(PROMPT)?;
+        }
+        output.flush()
     }
 
     // Puts a line behind those that are gathered, which are sent first where they are another

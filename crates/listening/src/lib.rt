@@ -8,6 +8,8 @@ mod doorway;
 mod fifos;
 mod handing;
 mod multiplex;
+mod seat;
+mod shell;
 mod tagged;
 mod until;
 

@@ -1,7 +1,11 @@
 // Clients that share one input and one output.
 use crate::coming::Coming;
+use crate::fifos::Fifos;
 use crate::handing::Handing;
+use crate::seat::Seat;
+use crate::shell::Manner;
 use crate::tagged::Tagged;
+use crate::until::Until;
 use background::Work;
 use calls::limits::MAX_LIVE;
 use crossbeam_channel::{Receiver, Sender, bounded};
@@ -9,7 +13,9 @@ use sessions::Session;
 use std::alloc::{AllocError, AllocGlobal, Global};
 use std::io::{self, BufReader, ErrorKind, Read, Write};
 use std::rt::Clock;
+use std::sync::atomic::{AtomicBool, AtomicU64, Ordering};
 use std::sync::{Mutex, Wait};
+use std::time::Duration;
 use store::{Client, Naming};
 use talks::{Ended, Printer, Why, talk};
 
@@ -19,25 +25,46 @@ const MAX_BATCHES: usize = 64;
 // How many bytes of a client's lines one look takes at most.
 const READ_SIZE: usize = 65_536;
 
-/// Clients that share an input and an output. Each line of the input begins with its client, `c1 `
-/// to `c64 `, and so does each answer. The lines of one client are carried out in their order, and
-/// those of different ones side by side. A line of no client is answered `- error NoClient`, and
-/// one that is too long `- error LineTooLong`. The end of the input, or the line `end`, ends all
-/// clients, once the lines before it are answered.
+// The number of the file of standard input.
+const STANDARD_INPUT: i32 = 0;
+
+/// Clients that share standard input and an output. Each line of the input begins with its client,
+/// `c1 ` to `c64 `, and so does each answer. The lines of one client are carried out in their
+/// order, and those of different ones side by side. A line of no client is answered
+/// `- error NoClient`, and one that is too long `- error LineTooLong`. The end of the input, or the
+/// line `end`, ends all clients, once the lines before it are answered.
 ///
-/// Where 64 batches of lines wait for one client, no more input is read. So the parent reads answers
-/// while it writes lines, or has few of them outstanding.
+/// Where 64 batches of lines wait for one client, no more input is read. So the parent reads
+/// answers while it writes lines, or has few of them outstanding.
+///
+/// Where a time is set, what a client has open is taken back once no line has come for it for so
+/// long. Where a client was told that keeping has failed, no more input is read, which ends all
+/// clients: at once where the input is a pipe, and else behind what comes next.
 #[derive(Drop)]
-pub struct Multiplex<I, O> {
+pub struct Multiplex<F, I, O> {
+    fifos: F,
+    idle: Option<Duration>,
+    manner: Manner,
+    // Who reads the input.
+    seat: Seat,
+    // No looks are taken at it.
+    looks: AtomicU64,
+    is_lost: AtomicBool,
     input: Mutex<Option<I>>,
     output: Mutex<O>,
     senders: Mutex<Option<Vec<Sender<Vec<u8>>>>>,
     receivers: Vec<Receiver<Vec<u8>>>,
 }
 
-impl<I: Read + Drop, O: Write + Drop> Multiplex<I, O> {
+impl<F: Fifos + Drop, I: Read + Drop, O: Write + Drop> Multiplex<F, I, O> {
     /// Clients that were not heard yet. Refused only for want of memory.
-    pub fn new(alloc: Global, input: I, output: O) -> Result<Self, AllocError> {
+    pub fn new(
+        alloc: Global,
+        fifos: F,
+        input: I,
+        output: O,
+        idle: Option<Duration>,
+    ) -> Result<Self, AllocError> {
         let mut senders = Vec::new(alloc);
         let mut receivers = Vec::new(alloc);
         for _ in 0..MAX_LIVE {
@@ -46,11 +73,27 @@ impl<I: Read + Drop, O: Write + Drop> Multiplex<I, O> {
             receivers.push(receiver)?;
         }
         Ok(Self {
+            fifos,
+            idle,
+            manner: Manner::Tagged,
+            seat: Seat::new(),
+            looks: AtomicU64::new(0),
+            is_lost: AtomicBool::new(false),
             input: Mutex::new(Some(input)),
             output: Mutex::new(output),
             senders: Mutex::new(Some(senders)),
             receivers,
         })
+    }
+
+    /// The same for a person at a terminal. A line that names no client is client 1's, whose
+    /// answers begin with no client then; `help` is answered what may be asked, and a prompt stands
+    /// behind what was answered.
+    pub fn as_shell(self) -> Self {
+        Self {
+            manner: Manner::Shell,
+            ..self
+        }
     }
 
     /// How many threads serve them: one that reads, and one for each client.
@@ -65,15 +108,13 @@ impl<I: Read + Drop, O: Write + Drop> Multiplex<I, O> {
         let (Some(input), Some(senders)) = (input, senders) else {
             return Ok(());
         };
-        self.say_hello(rt)?;
-        Handing::new(rt, rt.alloc(), &self.output, senders).hand_out_all(input)
-    }
-
-    // The first line of the output.
-    fn say_hello<R: Wait>(&self, rt: &R) -> io::Result<()> {
-        let mut output = self.output.lock(rt);
-        output.write_all(b"- hello boost 1\n")?;
-        output.flush()
+        let mut handing = Handing::new(rt, rt.alloc(), &self.output, self.manner, senders);
+        handing.say_hello()?;
+        self.seat.take(rt, STANDARD_INPUT);
+        let input = Until::new(rt, input, &self.seat, &self.looks, &self.is_lost);
+        let handed_out = handing.hand_out_all(input);
+        self.seat.leave(rt);
+        handed_out
     }
 
     // Serves the client of this number, from 0 on. Where it cannot be told its answers, what still
@@ -88,6 +129,10 @@ impl<I: Read + Drop, O: Write + Drop> Multiplex<I, O> {
             return Ok(());
         };
         let served = self.talk_on(rt, client, batches, of);
+        if let Ok(Why::Lost) = served {
+            self.is_lost.store(true, Ordering::SeqCst);
+            self.seat.wake(rt, rt.alloc(), &self.fifos, u64::MAX);
+        }
         for batch in batches.iter(rt) {
             drop(batch);
         }
@@ -108,10 +153,10 @@ impl<I: Read + Drop, O: Write + Drop> Multiplex<I, O> {
         of: usize,
     ) -> io::Result<Why> {
         let alloc = rt.alloc();
-        let coming = Coming::new(rt, batches, Vec::new(alloc));
+        let coming = Coming::new(rt, batches, self.idle, Vec::new(alloc));
         let mut lines = BufReader::with_capacity(alloc, READ_SIZE, coming)?;
         let number = of.saturating_add(1);
-        let output = Tagged::new(rt, &self.output, number, Vec::new(alloc));
+        let output = Tagged::new(rt, &self.output, number, self.manner, Vec::new(alloc));
         let mut printer = Printer::new(alloc, output);
         for _ in rt.forever() {
             let mut session = Session::new(client);
@@ -127,7 +172,7 @@ impl<I: Read + Drop, O: Write + Drop> Multiplex<I, O> {
     }
 }
 
-impl<I: Read + Drop, O: Write + Drop> Work for Multiplex<I, O> {
+impl<F: Fifos + Drop, I: Read + Drop, O: Write + Drop> Work for Multiplex<F, I, O> {
     type Output = io::Result<()>;
 
     /// The first thread hands the lines out, and each other one talks with its client.

@@ -1,27 +1,47 @@
 // The output that clients share, for the lines of one of them.
+use crate::shell::{Manner, PROMPT};
 use std::io::{self, Write};
 use std::sync::{Mutex, Wait};
 
 /// A shared output as a writer of one client: each line begins with `c`, the client's number and a
 /// space. What is written at once goes out at once, and nothing of others comes between. Call it
-/// with whole lines.
+/// with whole lines. In a shell the lines of client 1 have nothing before them, and a prompt stands
+/// behind the last one.
 #[derive(Drop)]
 pub struct Tagged<'a, O, R: Wait> {
     rt: &'a R,
     output: &'a Mutex<O>,
     client: usize,
+    manner: Manner,
     text: Vec<u8>,
 }
 
 impl<'a, O, R: Wait> Tagged<'a, O, R> {
     /// The output for the client of this number. `text` is empty, and holds what is written.
-    pub fn new(rt: &'a R, output: &'a Mutex<O>, client: usize, text: Vec<u8>) -> Self {
+    pub fn new(
+        rt: &'a R,
+        output: &'a Mutex<O>,
+        client: usize,
+        manner: Manner,
+        text: Vec<u8>,
+    ) -> Self {
         Self {
             rt,
             output,
             client,
+            manner,
             text,
         }
+    }
+
+    // Puts a line behind the text.
+    fn put(&mut self, line: &[u8]) -> io::Result<()> {
+        if self.manner == Manner::Tagged || self.client > 1 {
+            write!(self.text, "c{} ", self.client)?;
+        }
+        self.text.extend_from_slice(line)?;
+        self.text.push(b'\n')?;
+        Ok(())
     }
 }
 
@@ -30,10 +50,11 @@ impl<O: Write, R: Wait> Write for Tagged<'_, O, R> {
         self.text.clear();
         for line in buf.split(|byte| *byte == b'\n') {
             if !line.is_empty() {
-                write!(self.text, "c{} ", self.client)?;
-                self.text.extend_from_slice(line)?;
-                self.text.push(b'\n')?;
+                self.put(line)?;
             }
+        }
+        if self.manner == Manner::Shell {
+            self.text.extend_from_slice(PROMPT)?;
         }
         let mut output = self.output.lock(self.rt);
         output.write_all(self.text.as_slice())?;

@@ -1,30 +1,92 @@
-// A client's FIFO, up to the end of all.
-use std::fs::File;
-use std::io::{self, Read};
-use std::sync::atomic::{AtomicBool, Ordering};
+// A FIFO, up to the end of all.
+use crate::seat::{Seat, WAKE};
+use std::io::{self, ErrorKind, Read};
+use std::sync::Wait;
+use std::sync::atomic::{AtomicBool, AtomicU64, Ordering};
 
-/// A reader of a FIFO that ends once all is over. Who waits in a read is woken by a byte.
+/// A reader of a FIFO that ends once all is over. Another thread may wake it by its seat, at the
+/// end or where nothing came for too long; then it answers `TimedOut`, and may be read on.
+///
+/// Who wakes it says so in the seat first, and writes one `WAKE`. So as many of these bytes are
+/// taken out as were written, wherever they stand between those of the client.
 #[derive(Drop)]
-pub struct Until<'a> {
-    reader: File,
+pub struct Until<'a, I, R: Wait> {
+    rt: &'a R,
+    reader: I,
+    seat: &'a Seat,
+    looks: &'a AtomicU64,
     is_over: &'a AtomicBool,
+    // How many bytes that woke it are still to come.
+    wakes: usize,
 }
 
-impl<'a> Until<'a> {
-    pub fn new(reader: File, is_over: &'a AtomicBool) -> Self {
-        Self { reader, is_over }
+impl<'a, I: Read, R: Wait> Until<'a, I, R> {
+    /// A reader of which nothing was read, and which nobody has woken. The seat is that of its
+    /// file.
+    pub fn new(
+        rt: &'a R,
+        reader: I,
+        seat: &'a Seat,
+        looks: &'a AtomicU64,
+        is_over: &'a AtomicBool,
+    ) -> Self {
+        Self {
+            rt,
+            reader,
+            seat,
+            looks,
+            is_over,
+            wakes: 0,
+        }
+    }
+
+    // Takes the bytes out that woke it. How many are left of the others, which stand in front.
+    fn without_wakes(&mut self, bytes: &mut [u8]) -> usize {
+        if self.wakes == 0 {
+            return bytes.len();
+        }
+        let mut left = 0;
+        for at in 0..bytes.len() {
+            let byte = bytes[at];
+            if byte == WAKE && self.wakes > 0 {
+                self.wakes -= 1;
+            } else if let Some(place) = bytes.get_mut(left) {
+                *place = byte;
+                left += 1;
+            }
+        }
+        left
+    }
+
+    // Waits for bytes. How many came, none at the end; and whether it was woken.
+    fn wait(&mut self, buf: &mut [u8]) -> io::Result<(usize, bool)> {
+        self.seat.begin(self.rt, self.looks.load(Ordering::SeqCst));
+        if self.is_over.load(Ordering::SeqCst) {
+            return Ok((0, false));
+        }
+        let read = self.reader.read(buf);
+        let is_woken = self.seat.end(self.rt);
+        self.wakes = self.wakes.saturating_add(usize::from(is_woken));
+        if self.is_over.load(Ordering::SeqCst) {
+            return Ok((0, false));
+        }
+        Ok((read?, is_woken))
     }
 }
 
-impl Read for Until<'_> {
+impl<I: Read, R: Wait> Read for Until<'_, I, R> {
     fn read(&mut self, buf: &mut [u8]) -> io::Result<usize> {
-        if self.is_over.load(Ordering::SeqCst) {
-            return Ok(0);
+        for _ in self.rt.forever() {
+            let (count, is_woken) = self.wait(buf)?;
+            let came = count.min(buf.len());
+            let left = self.without_wakes(&mut buf[..came]).min(came);
+            if left > 0 || count == 0 {
+                return Ok(left);
+            }
+            if is_woken {
+                return Err(io::Error::from(ErrorKind::TimedOut));
+            }
         }
-        let count = self.reader.read(buf)?;
-        if self.is_over.load(Ordering::SeqCst) {
-            return Ok(0);
-        }
-        Ok(count)
+        Ok(0)
     }
 }

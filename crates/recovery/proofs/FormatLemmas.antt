@@ -22,7 +22,8 @@ use Rattle.gate_block.specs.Layout.{base_in_use, area_in_use}
 use Rattle.repetition.specs.Steps.{empty_state}
 use Rattle.repetition.specs.Reading.{InCollections, InJournal, AreAccepted}
 use Rattle.recovery.specs.Heads.{HasNoHeader}
-use Rattle.recovery.specs.Formats.{empty_area, IsFilled, IsEmptyStore, IsRoomFor, IsFormatting}
+use Rattle.recovery.specs.Formats.{empty_area, IsHeadOf, IsFilled, IsEmptyStore, IsRoomFor}
+use Rattle.recovery.specs.Formats.{IsMaking, IsShut}
 
 -- ---- parts that a write leaves
 
@@ -73,77 +74,105 @@ image_length : length (spelling (Record.Marks 1 0 ∷ (Record.ImageEnd ∷ [])))
 unfolding number
 image_length = refl
 
--- ---- the four writes
+-- what a write does not meet stays
+pub rest_kept : (n at k : ℕ) (old new : List ℕ) → at + k ≤ n → Torn at k old new →
+    drop n new ≡ drop n old
+rest_kept n at k old new behind torn =
+    let far : (at + k) + (n - (at + k)) ≡ n = omega (arith, behind) in
+    let back : (l : List ℕ) → drop n l ≡ drop (n - (at + k)) (drop (at + k) l) =
+    λ l. ap (λ x. drop x l) (sym far) ∙ sym (drop-drop (n - (at + k)) (at + k) l) in
+    back new ∙ ap (drop (n - (at + k))) torn.after ∙ sym (back old)
 
-module _ (area : ℕ) (image letters said root : List ℕ) (a b c d e : List ℕ) (room : 4120 ≤ length a)
-    (image_long : length image ≡ 24) (letters_long : length letters ≡ 8)
-    (said_long : length said ≡ 8) (root_is : root ≡ 0 ∷ [])
-    (first : Overwritten 4096 image a b) (second : Overwritten 512 root b c)
-    (third : Overwritten 0 letters c d) (fourth : Overwritten 9 said d e) where
-  torn_first : Torn 4096 24 a b
-  torn_first = subst (λ n. Torn 4096 n a b) image_long
-      (overwritten_torn 4096 image a b (omega (arith, room, image_long)) first)
+there : (at n : ℕ) (bytes old new : List ℕ) → length bytes ≡ n → at ≤ length old →
+    Overwritten at bytes old new → take n (drop at new) ≡ bytes
+there at n bytes old new long inside is =
+    ap (λ k. take k (drop at new)) (sym long) ∙ written_there at bytes old new inside is
 
+-- ---- the three writes of the head
+
+module _ (area : ℕ) (letters said root : List ℕ) (b c d e : List ℕ) (room : 4096 ≤ length b)
+    (letters_long : length letters ≡ 8) (said_long : length said ≡ 8) (root_is : root ≡ 0 ∷ [])
+    (second : Overwritten 512 root b c) (third : Overwritten 0 letters c d)
+    (fourth : Overwritten 9 said d e) where
   root_long : length root ≡ 1
   root_long = ap length root_is
 
   torn_second : Torn 512 1 b c
   torn_second = subst (λ n. Torn 512 n b c) root_long
-      (overwritten_torn 512 root b c (omega (arith, room, root_long, torn_first.size)) second)
+      (overwritten_torn 512 root b c (omega (arith, room, root_long)) second)
 
   torn_third : Torn 0 8 c d
   torn_third = subst (λ n. Torn 0 n c d) letters_long
-      (overwritten_torn 0 letters c d
-      (omega (arith, room, letters_long, torn_first.size, torn_second.size)) third)
+      (overwritten_torn 0 letters c d (omega (arith, room, letters_long, torn_second.size)) third)
 
   torn_fourth : Torn 9 8 d e
   torn_fourth = subst (λ n. Torn 9 n d e) said_long
-      (overwritten_torn 9 said d e (omega
-      (arith, room, said_long, torn_first.size, torn_second.size, torn_third.size)) fourth)
+      (overwritten_torn 9 said d e
+      (omega (arith, room, said_long, torn_second.size, torn_third.size)) fourth)
 
-  there : (at n : ℕ) (bytes old new : List ℕ) → length bytes ≡ n → at ≤ length old →
-      Overwritten at bytes old new → take n (drop at new) ≡ bytes
-  there at n bytes old new long inside is =
-      ap (λ k. take k (drop at new)) (sym long) ∙ written_there at bytes old new inside is
-
-  pub filled : letters ≡ codes "BOOSTED1" → said ≡ to_be_bytes w64 area → image ≡ empty_area →
-      IsFilled area e
-  filled letters_are said_is image_is = record {
+  pub head_written : letters ≡ codes "BOOSTED1" → said ≡ to_be_bytes w64 area → IsHeadOf area e
+  head_written letters_are said_is = record {
     letters = kept_part 0 8 9 8 d e (inl (omega arith)) torn_fourth ∙
         there 0 8 letters c d letters_long (omega arith) third ∙ letters_are;
     area_is = there 9 8 said d e said_long
-        (omega (arith, room, torn_first.size, torn_second.size, torn_third.size)) fourth ∙ said_is;
+        (omega (arith, room, torn_second.size, torn_third.size)) fourth ∙ said_is;
     root =
         kept_part 512 1 9 8 d e (inr (omega arith)) torn_fourth ∙
         kept_part 512 1 0 8 c d (inr (omega arith)) torn_third
-        ∙ there 512 1 root b c root_long (omega (arith, room, torn_first.size)) second ∙ root_is;
-    image =
-        kept_part 4096 24 9 8 d e (inr (omega arith)) torn_fourth ∙
-        kept_part 4096 24 0 8 c d (inr (omega arith)) torn_third ∙
-        kept_part 4096 24 512 1 b c (inr (omega arith)) torn_second
-        ∙ there 4096 24 image a b image_long (omega (arith, room)) first ∙ image_is;
+        ∙ there 512 1 root b c root_long (omega (arith, room)) second ∙ root_is;
   }
+
+  pub behind_kept : drop 4096 e ≡ drop 4096 b
+  behind_kept = rest_kept 4096 9 8 d e (omega arith) torn_fourth ∙
+      rest_kept 4096 0 8 c d (omega arith) torn_third ∙
+      rest_kept 4096 512 1 b c (omega arith) torn_second
+
+-- the head and the image of nothing
+pub filled : (area : ℕ) (image a b e : List ℕ) → 4120 ≤ length a → length image ≡ 24 →
+    Overwritten 4096 image a b → image ≡ empty_area → IsHeadOf area e →
+    drop 4096 e ≡ drop 4096 b → IsFilled area e
+filled area image a b e room long first image_is head behind = record {
+  head = head;
+  image = ap (take 24) behind ∙ there 4096 24 image a b long (omega (arith, room)) first ∙ image_is;
+}
 
 -- ---- the gate of the head
 
 -- behind its open gate, what was filled is an empty store
 module _ (area : ℕ) (old new : List ℕ) (room : IsRoomFor area (length old))
-    (filled : IsFilled area old) (torn : Torn 8 1 old new) (opened : get_or new 8 0 ≡ 167) where
-  header : IsHeader area new
-  header = record {
-    letters = kept_part 0 8 8 1 old new (inl (omega arith)) torn ∙ filled.letters;
+    (head : IsHeadOf area old) (torn : Torn 8 1 old new) where
+  head_kept : IsHeadOf area new
+  head_kept = record {
+    letters = kept_part 0 8 8 1 old new (inl (omega arith)) torn ∙ head.letters;
+    area_is = kept_part 9 8 8 1 old new (inr (omega arith)) torn ∙ head.area_is;
+    root = kept_part 512 1 8 1 old new (inr (omega arith)) torn ∙ head.root;
+  }
+
+  pub header_there : get_or new 8 0 ≡ 167 → IsHeader area new
+  header_there opened = record {
+    letters = head_kept.letters;
     gate = opened;
-    area = kept_part 9 8 8 1 old new (inr (omega arith)) torn ∙ filled.area_is;
+    area = head_kept.area_is;
     not_small = room.not_small;
     not_large = room.not_large;
     whole = torn.size ∙ room.whole;
   }
 
+  pub root_there : get_or new 512 0 ≡ 0
+  root_there = byte_at 512 0 new head_kept.root
+
+-- a root byte of 0 picks the first area
+pub picks_first : (area : ℕ) (bytes : List ℕ) → get_or bytes 512 0 ≡ 0 →
+    base_in_use area bytes ≡ 4096
+picks_first area bytes root = ap (λ r. 4096 + area * (r % 2)) root ∙ omega arith
+
+module _ (area : ℕ) (old new : List ℕ) (room : IsRoomFor area (length old))
+    (filled : IsFilled area old) (torn : Torn 8 1 old new) (opened : get_or new 8 0 ≡ 167) where
+  header : IsHeader area new
+  header = header_there area old new room filled.head torn opened
+
   in_use : base_in_use area new ≡ 4096
-  in_use =
-      let root : get_or new 512 0 ≡ 0 =
-      byte_at 512 0 new (kept_part 512 1 8 1 old new (inr (omega arith)) torn ∙ filled.root) in
-      ap (λ r. 4096 + area * (r % 2)) root ∙ omega arith
+  in_use = picks_first area new (root_there area old new room filled.head torn)
 
   image_there : take 24 (part 4096 area new) ≡ empty_area
   image_there = take-take 24 area (drop 4096 new) (omega (arith, room.not_small)) ∙
@@ -200,9 +229,7 @@ module _ (area : ℕ) (old new : List ℕ) (room : IsRoomFor area (length old))
         area = area;
         header = header;
         filled = record {
-          letters = header.letters;
-          area_is = header.area;
-          root = kept_part 512 1 8 1 old new (inr (omega arith)) torn ∙ filled.root;
+          head = head_kept area old new room filled.head torn;
           image = kept_part 4096 24 8 1 old new (inr (omega arith)) torn ∙ filled.image;
         };
         sound = record {
@@ -248,11 +275,11 @@ still_room area a b c room first second =
     }
 
 -- a closed gate leaves no store
-shut : (bytes : List ℕ) → get_or bytes 8 0 ≢ 167 → HasNoHeader bytes
+pub shut : (bytes : List ℕ) → get_or bytes 8 0 ≢ 167 → HasNoHeader bytes
 shut bytes closed size header = closed header.gate
 
 -- with any value for its gate, what was filled is an empty store or none
-store_or_none : (area : ℕ) (old new : List ℕ) → IsRoomFor area (length old) → IsFilled area old →
+pub store_or_none : (area : ℕ) (old new : List ℕ) → IsRoomFor area (length old) → IsFilled area old →
     Torn 8 1 old new → HasNoHeader new ⊎ IsEmptyStore new
 store_or_none area old new room filled torn =
     elim (cases_eq (get_or new 8 0) 167) [
@@ -261,10 +288,6 @@ store_or_none area old new room filled torn =
     ]
 
 -- ---- the gate stays closed while the rest is written
-
--- a closed gate: its byte is 0
-abbrev IsShut : List ℕ → Type 0
-IsShut bytes = get_or bytes 8 0 ≡ 0
 
 module _ {D : Type 0} (may_leave : D → List ℕ → Type 0) (moment : D → ℕ)
     (left_since : D → ℕ → List ℕ → Type 0) where
@@ -307,7 +330,7 @@ module _ {D : Type 0} (may_leave : D → List ℕ → Type 0) (moment : D → �
         now = now;
       }
 
--- The four writes behind a closed gate leave it closed, one after another.
+-- Writes behind a closed gate leave it closed, one after another.
 module _ {D : Type 0} (may_leave : D → List ℕ → Type 0) (moment : D → ℕ)
     (left_since : D → ℕ → List ℕ → Type 0) (old : D)
     (only_now : (c : List ℕ) → left_since old (moment old) c → may_leave old c)
@@ -322,55 +345,68 @@ module _ {D : Type 0} (may_leave : D → List ℕ → Type 0) (moment : D → �
   past mid new at k so_far apart wrote =
       shut_past_write may_leave moment left_since old mid new at k so_far apart wrote.0 wrote.1
 
-  module _ (one : D) (image : Wrote 4096 24 old one) where
-    pub past_image : StaysShut may_leave moment left_since old one
-    past_image = past old one 4096 24 (stays_shut may_leave moment left_since old only_now now)
-        (inl (omega arith)) image
+  pub past_image : (one : D) → Wrote 4096 24 old one → StaysShut may_leave moment left_since old one
+  past_image one image = past old one 4096 24
+      (stays_shut may_leave moment left_since old only_now now) (inl (omega arith)) image
 
-    module _ (two : D) (root : Wrote 512 1 one two) where
-      pub past_root : StaysShut may_leave moment left_since old two
-      past_root = past one two 512 1 past_image (inl (omega arith)) root
+  module _ (two : D) (root : Wrote 512 1 old two) where
+    pub past_root : StaysShut may_leave moment left_since old two
+    past_root = past old two 512 1 (stays_shut may_leave moment left_since old only_now now)
+        (inl (omega arith)) root
 
-      module _ (three : D) (letters : Wrote 0 8 two three) where
-        pub past_letters : StaysShut may_leave moment left_since old three
-        past_letters = past two three 0 8 past_root (inr (omega arith)) letters
+    module _ (three : D) (letters : Wrote 0 8 two three) where
+      pub past_letters : StaysShut may_leave moment left_since old three
+      past_letters = past two three 0 8 past_root (inr (omega arith)) letters
 
-        pub past_area : (four : D) (k : ℕ) → Wrote 9 k three four →
-            StaysShut may_leave moment left_since old four
-        past_area four k area = past three four 9 k past_letters (inl (omega arith)) area
+      pub past_area : (four : D) (k : ℕ) → Wrote 9 k three four →
+          StaysShut may_leave moment left_since old four
+      past_area four k area = past three four 9 k past_letters (inl (omega arith)) area
+
+-- More is written behind a gate that stays closed.
+pub shut_then : {D : Type 0} (may_leave : D → List ℕ → Type 0) (moment : D → ℕ)
+    (left_since : D → ℕ → List ℕ → Type 0) (old mid new : D) →
+    StaysShut may_leave moment left_since old mid →
+    (((c : List ℕ) → may_leave mid c → IsShut c) →
+    LeavesOnly moment left_since mid new IsShut) → LeavesOnly moment left_since old new IsShut
+shut_then may_leave moment left_since old mid new so_far more =
+    and_then moment left_since old mid new IsShut IsShut so_far.since (more so_far.now)
+    (λ c closed. closed)
+
+pub both_ok : {T E A B C : Type 0} (r : Result T E) → OnOk r A → OnOk r B → (A → B → C) → OnOk r C
+both_ok (Ok x) a b f = f a b
+both_ok (Err e) a b f = tt
 
 pub on_any : {T E P : Type 0} (r : Result T E) → P → OnOk r P
 on_any (Ok x) p = p
 on_any (Err e) p = tt
 
--- ---- the whole format
+-- ---- the whole making of a store
 
 module _ {D : Type 0} (seen : D → List ℕ) (may_leave : D → List ℕ → Type 0) (moment : D → ℕ)
-    (left_since : D → ℕ → List ℕ → Type 0) (area : ℕ) (old shut_now filled_now : D)
-    (rest : IsAtRest seen may_leave old)
+    (left_since : D → ℕ → List ℕ → Type 0) (old shut_now filled_now : D)
+    (is_made : List ℕ → Type 0) (rest : IsAtRest seen may_leave old)
     (closes : LeavesOnly moment left_since old shut_now (WasTorn 8 1 (may_leave old))) where
-  abbrev Formatting : List ℕ → Type 0
-  Formatting = IsFormatting (seen old)
+  abbrev Making : List ℕ → Type 0
+  Making = IsMaking is_made (seen old)
 
-  pub closing : LeavesOnly moment left_since old shut_now Formatting
-  closing = weaker moment left_since old shut_now (WasTorn 8 1 (may_leave old)) Formatting closes
+  pub closing : LeavesOnly moment left_since old shut_now Making
+  closing = weaker moment left_since old shut_now (WasTorn 8 1 (may_leave old)) Making closes
       (λ c was. inl (subst (λ b. Torn 8 1 b c) (rest was.0 was.1) was.2))
 
   pub filling : LeavesOnly moment left_since shut_now filled_now IsShut →
-      LeavesOnly moment left_since old filled_now Formatting
-  filling fills = and_then moment left_since old shut_now filled_now Formatting IsShut closing fills
+      LeavesOnly moment left_since old filled_now Making
+  filling fills = and_then moment left_since old shut_now filled_now Making IsShut closing fills
       (λ c closed. inr (inl (shut c (λ opened. absurd (omega (arith, closed, opened))))))
 
   pub opening : (new : D) → LeavesOnly moment left_since shut_now filled_now IsShut →
-      IsAtRest seen may_leave filled_now → IsRoomFor area (length (seen filled_now)) →
-      IsFilled area (seen filled_now)
+      IsAtRest seen may_leave filled_now →
+      ((c : List ℕ) → Torn 8 1 (seen filled_now) c → HasNoHeader c ⊎ is_made c)
       → LeavesOnly moment left_since filled_now new (WasTorn 8 1 (may_leave filled_now)) →
-      LeavesOnly moment left_since old new Formatting
-  opening new fills rested room is_filled opens =
-      and_then moment left_since old filled_now new Formatting (WasTorn 8 1 (may_leave filled_now))
+      LeavesOnly moment left_since old new Making
+  opening new fills rested ends opens =
+      and_then moment left_since old filled_now new Making (WasTorn 8 1 (may_leave filled_now))
       (filling fills) opens
-      (λ c was. inr (store_or_none area (seen filled_now) c room is_filled
-      (subst (λ b. Torn 8 1 b c) (rested was.0 was.1) was.2)))
+      (λ c was. inr (ends c (subst (λ b. Torn 8 1 b c) (rested was.0 was.1) was.2)))
 
 pub ok_then : {T E A B : Type 0} (r : Result T E) → OnOk r A → (A → B) → OnOk r B
 ok_then (Ok x) a f = f a

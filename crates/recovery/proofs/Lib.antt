@@ -4,3 +4,6 @@ pub mod LoadLemmas
 pub mod OpenLemmas
 pub mod FindLemmas
 pub mod Stores
+pub mod ImageItems
+pub mod ImageNames
+mod CopyLemmas

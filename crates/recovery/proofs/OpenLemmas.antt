@@ -42,7 +42,7 @@ front_same : (base size n : ℕ) (old new : List ℕ) → n ≤ base → SameOut
 front_same base size n old new le outside =
     sym (take-take n base new le) ∙ ap (take n) outside.before ∙ take-take n base old le
 
-byte_same : (base size n : ℕ) (old new : List ℕ) → n < base → SameOutside base size old new →
+pub byte_same : (base size n : ℕ) (old new : List ℕ) → n < base → SameOutside base size old new →
     get_or new n 0 ≡ get_or old n 0
 byte_same base size n old new lt outside =
     sym (get_or-take base new n 0 lt) ∙ ap (λ l. get_or l n 0) outside.before ∙

@@ -19,7 +19,7 @@ use Rattle.recovery.specs.Openings.{IsOpened}
 use Rattle.recovery.proofs.OpenLemmas.{one_size}
 
 -- bytes hold one list of blocks at most
-one_held : (bytes : List ℕ) (bs cs : List (List Record)) → Holds bytes bs → Holds bytes cs → bs ≡ cs
+pub one_held : (bytes : List ℕ) (bs cs : List (List Record)) → Holds bytes bs → Holds bytes cs → bs ≡ cs
 one_held bytes bs cs b c =
     let size : c.size ≡ b.size = one_size c.size b.size bytes c.header b.header in
     let row : IsRow (map spelling cs) (area_in_use b.size bytes) =

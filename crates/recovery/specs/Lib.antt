@@ -3,3 +3,5 @@ pub mod Formats
 pub mod Openings
 pub mod Loading
 pub mod Finding
+pub mod Copies
+pub mod Surveys

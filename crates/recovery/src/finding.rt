@@ -1,22 +1,25 @@
 // Finding a store: what its area in use holds, with the losers undone in memory.
-ghost use Rattle.std.specs.Prelude.{◌≡◌, ◌≤◌, ◌+◌, ◌^◌, ℕ, length, IfOk, IfErr};
+ghost use Rattle.std.specs.Prelude.{◌≡◌, ◌≤◌, ◌+◌, ◌^◌, ℕ, length, IfOk, IfErr, IsOkUnless};
 ghost use Rattle.disk_model.specs.Disk.{ReadsOnly, Rises};
 ghost use Rattle.recovery.specs.Heads.{HasNoHeader};
 ghost use Rattle.recovery.specs.Openings.{IsDamagedAt, IsFindRefusal};
 ghost use Rattle.recovery.specs.Finding.{IsFound};
+ghost use Rattle.recovery.specs.Surveys.{IsSurvey};
 
 use crate::head::area_in_use;
 use crate::loading::{Loaded, load};
-use crate::report::Report;
+use crate::report::{Report, Survey};
+use crate::settling::{image_len, image_of};
 use calls::Refusal;
 use catalog::Catalog;
 use disk_model::Disk;
 use gate_block::Area;
+use gate_block::layout::AREAS_AT;
 use machine::Machine;
 use records::Record;
 use repetition::Repeated;
 use std::alloc::Global;
-use undoing::undo_all;
+use undoing::{blocks_len, undo_all};
 
 /// A store as it was found. Its losers are undone in memory, and the records of that are still to
 /// be written.
@@ -31,6 +34,37 @@ pub struct Found {
     pub records: Vec<Record>,
     pub report: Report,
     ghost bound: { (1 ≤ next) × (next ≤ 2 ^ 61) },
+}
+
+impl Found {
+    /// What the collections hold once the losers are undone.
+    pub fn collections(&self) -> &Catalog
+        ensures { result.now ≡ self.now.machine.now }
+    {
+        self.machine.parts()
+    }
+
+    /// What room the store takes and has. To tell what an image needs, it is spelled in memory.
+    ///
+    /// NoMemory.
+    pub fn survey(&self, alloc: Global) -> Result<Survey, Refusal>
+        ensures survey { IfOk result (λ survey. IsSurvey self.now.area self.now.machine
+            self.now.next self.now.records.items self.now.report survey) }
+        ensures refusal { IsOkUnless result Refusal.NoMemory }
+    {
+        let image = image_of(alloc, &self.machine, self.next)?;
+        let size = self.area.size();
+        Ok(Survey {
+            area: size,
+            first: self.area.base() == AREAS_AT,
+            used: size - self.area.room() + 1,
+            image: image_len(&image),
+            undoing: blocks_len(self.records.len() as u64),
+            next: self.next,
+            wear: self.machine.wear(),
+            report: self.report,
+        })
+    }
 }
 
 /// Reads the area in use, repeats all its records, and undoes the losers in memory. Nothing is

@@ -1,8 +1,9 @@
 // Making a store on a disk.
-ghost use Rattle.std.specs.Prelude.{◌≡◌, ◌≤◌, ℕ, List, length, get_or, OnOk, IsErrOf};
+ghost use Rattle.std.specs.Prelude.{◌≡◌, ◌≤◌, ◌↔◌, ℕ, List, length, drop, get_or, OnOk, IsErrOf};
+ghost use Rattle.std.specs.Prelude.{IsTrue};
 ghost use Rattle.disk_model.specs.Disk.{LeavesOnly, Rises, HasCause, IsAtRest};
-ghost use Rattle.recovery.specs.Formats.{IsRoomFor, IsFormatAnswer, IsFilled, IsEmptyStore};
-ghost use Rattle.recovery.specs.Formats.{IsFormatting};
+ghost use Rattle.recovery.specs.Formats.{IsRoomFor, IsFormatAnswer, IsHeadOf, IsFilled};
+ghost use Rattle.recovery.specs.Formats.{IsEmptyStore, IsFormatting, IsShut};
 
 use calls::Refusal;
 use calls::limits::{MAX_AREA, MIN_AREA};
@@ -32,13 +33,20 @@ pub fn format<D: Disk>(disk: &mut D, area: u64) -> Result<(), Refusal>
     ensures stop { IsAtRest D.seen D.may_leave disk.old →
         LeavesOnly D.moment D.left_since disk.old disk.new (IsFormatting (D.seen disk.old)) }
 {
-    if area < MIN_AREA || area > MAX_AREA || disk.size() != AREAS_AT + 2 * area {
+    if !is_room_for(disk, area) {
         return Err(Refusal::BadArg);
     }
     match write_store(disk, area) {
         Ok(()) => Ok(()),
         Err(_) => Err(Refusal::Fault),
     }
+}
+
+/// Whether the disk has room for two areas of this size, and no more.
+pub(crate) fn is_room_for<D: Disk>(disk: &D, area: u64) -> bool
+    ensures { IsTrue result ↔ IsRoomFor area (length (D.seen disk.now)) }
+{
+    area >= MIN_AREA && area <= MAX_AREA && disk.size() == AREAS_AT + 2 * area
 }
 
 // Closes the gate of the head, writes an empty store behind it, and opens the gate.
@@ -62,11 +70,26 @@ fn fill<D: Disk>(disk: &mut D, area: u64) -> Result<(), Fault>
     ensures filled { OnOk result (IsFilled area (D.seen disk.new)) }
     ensures durable { OnOk result (IsAtRest D.seen D.may_leave disk.new) }
     ensures size { length (D.seen disk.new) ≡ length (D.seen disk.old) }
-    ensures stop { ((c : List ℕ) → D.may_leave disk.old c → get_or c 8 0 ≡ 0) →
-        LeavesOnly D.moment D.left_since disk.old disk.new (λ c. get_or c 8 0 ≡ 0) }
+    ensures stop { ((c : List ℕ) → D.may_leave disk.old c → IsShut c) →
+        LeavesOnly D.moment D.left_since disk.old disk.new IsShut }
     ensures cause { HasCause (D.fault_count disk.old) (D.fault_count disk.new) result }
 {
     disk.write_at(AREAS_AT, &EMPTY_IMAGE)?;
+    write_head(disk, area)
+}
+
+/// Writes the head of a store but its gate, for areas of this size and the first of them in use,
+/// and syncs.
+pub(crate) fn write_head<D: Disk>(disk: &mut D, area: u64) -> Result<(), Fault>
+    requires { 4096 ≤ length (D.seen disk.old) }
+    ensures head { OnOk result (IsHeadOf area (D.seen disk.new)) }
+    ensures behind { OnOk result (drop 4096 (D.seen disk.new) ≡ drop 4096 (D.seen disk.old)) }
+    ensures durable { OnOk result (IsAtRest D.seen D.may_leave disk.new) }
+    ensures size { length (D.seen disk.new) ≡ length (D.seen disk.old) }
+    ensures stop { ((c : List ℕ) → D.may_leave disk.old c → IsShut c) →
+        LeavesOnly D.moment D.left_since disk.old disk.new IsShut }
+    ensures cause { HasCause (D.fault_count disk.old) (D.fault_count disk.new) result }
+{
     disk.write_at(ROOT_AT, &[0])?;
     disk.write_at(0, &LETTERS)?;
     disk.write_at(SIZE_AT, &area.to_be_bytes())?;

@@ -8,3 +8,25 @@ pub struct Report {
     pub unfinished: usize,
     pub records: u64,
 }
+
+/// What room a store takes and has, in bytes, and what it counts.
+#[derive(Clone, Copy)]
+pub struct Survey {
+    /// The size of each of its two areas.
+    pub area: u64,
+    /// Whether the first area is the one in use.
+    pub first: bool,
+    /// What image and journal take of it, with the closed gate behind them.
+    pub used: u64,
+    /// What an image of the content needs, with the closed gate behind it: what a checkpoint
+    /// writes, and a copy.
+    pub image: u64,
+    /// What the records that undo the unfinished transactions need: the store can be opened where
+    /// `used` and this are at most `area`.
+    pub undoing: u64,
+    /// A number above every number that was entered.
+    pub next: u64,
+    /// The steps that were counted over the store's life, up to `Worn`.
+    pub wear: u64,
+    pub report: Report,
+}

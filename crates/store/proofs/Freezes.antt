@@ -56,6 +56,7 @@ use Rattle.group_commit.specs.Orders.{SenderState, ReceiverState, AreInTransit, 
 use Rattle.clients.specs.declared.naming.Naming.{Ghosts}
 use Rattle.clients.specs.Desks.{AreRecorded, IsDesk, PacksImages, frozen_end, frozen_ends}
 use Rattle.clients.specs.Notes.{alone}
+use Rattle.clients.proofs.DeskSteps.{owned_then}
 use Rattle.store.specs.Closing.{Closes}
 use Rattle.store.specs.Gatherers.{Froze}
 use Rattle.store.specs.Vaults.{LeavesSince, IsVault, IsKeptSince}
@@ -111,6 +112,7 @@ module _ {J : Type 0} (j : Ghosts J) where
         groups = is.groups;
         handed = gathers_on catalog_meaning catalog_making (λ v. v) j.start j.wear seat.all book c
             sender.sent is.groups (frozen_ends sender.noted) [] is.handed None r same;
+        owned = owned_then seat.all step is.owned refl;
         recorded = λ s. rw (all, state) (is.recorded s);
       })
 
@@ -134,6 +136,7 @@ module _ {J : Type 0} (j : Ghosts J) where
         handed = freezes_nothing catalog_meaning catalog_making (λ v. v) j.start j.wear seat.all
             book c sender.sent is.groups (frozen_ends sender.noted) [] is.handed None m n e froze
             r;
+        owned = owned_then seat.all step is.owned refl;
         recorded = λ s. rw (all, ap (λ (v : Book). v.state) same) (is.recorded s);
       })
 
@@ -209,7 +212,7 @@ module _ {J D : Type 0} (j : Ghosts J) (g : disks.Ghosts D) where
         AreNoted counts mark.raised → Closes j g seen counts book k
     closes seen counts begins noted = record {
       steps = seat.all;
-      legal = handed.legal;
+      legal = record { legal = handed.legal; owned = desk.owned };
       begins = begins;
       reached = reached_more counts (top mark.raised).count k.mark vault.marked
           (noted_reached counts mark.raised noted);
@@ -323,6 +326,7 @@ module _ {J D : Type 0} (j : Ghosts J) (g : disks.Ghosts D) where
                 are_images = on.are_images;
                 between = on.between.1;
               };
+              owned = owned_then seat.all step desk.owned refl;
               recorded = λ s. rw (all_records, same_state) (desk.recorded s);
             })
 
@@ -337,6 +341,7 @@ module _ {J D : Type 0} (j : Ghosts J) (g : disks.Ghosts D) where
           handed = subst (λ p. HasHanded catalog_meaning catalog_making (λ v. v) j.start j.wear
               (seat.all ++ step ∷ []) c sender.sent desk.groups (p ∷ ends) [])
               (sym (end_is n froze.1)) frozen_handed;
+          owned = owned_then seat.all step desk.owned refl;
           recorded = λ s.
               let old = desk.recorded s in
               rw (all_records, same_state) (record {

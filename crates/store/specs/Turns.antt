@@ -43,6 +43,20 @@ IsTurnRefusal Refusal.Full = Unit {0}
 IsTurnRefusal Refusal.Fault = Unit {0}
 IsTurnRefusal e = ⊥
 
+-- Why a turn of a checkpointer is refused: what a gathering, a freeze and a packing refuse, what the
+-- keeper refuses of an end and of an image, and what it refuses of a piece and of a flip.
+abbrev pub IsCheckRefusal : Refusal → Type 0
+IsCheckRefusal Refusal.NoMemory = Unit {0}
+IsCheckRefusal Refusal.Outrun = Unit {0}
+IsCheckRefusal Refusal.Worn = Unit {0}
+IsCheckRefusal Refusal.Unfinished = Unit {0}
+IsCheckRefusal Refusal.Imaging = Unit {0}
+IsCheckRefusal Refusal.BadArg = Unit {0}
+IsCheckRefusal Refusal.Full = Unit {0}
+IsCheckRefusal Refusal.Failed = Unit {0}
+IsCheckRefusal Refusal.Fault = Unit {0}
+IsCheckRefusal e = ⊥
+
 -- What a turn of a committer tells it: that the mark has reached what is kept.
 abbrev pub TurnTells : WatcherState → Result Turn Refusal → WatcherState → Type 0
 TurnTells old (Ok (Turn.Kept place)) new = Reaches old place new

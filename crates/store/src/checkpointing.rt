@@ -1,6 +1,6 @@
 // Checkpoints of a store that threads use.
-ghost use Rattle.std.specs.Prelude.{◌≡◌, IfOk};
-ghost use Rattle.store.specs.Turns.{CheckTells};
+ghost use Rattle.std.specs.Prelude.{◌≡◌, IfOk, IfErr};
+ghost use Rattle.store.specs.Turns.{CheckTells, IsCheckRefusal};
 
 use crate::gatherer::Gatherer;
 use crate::vault::{Vault, note_failure};
@@ -89,7 +89,8 @@ impl<'s, D: Disk, J: Naming> Checkpointer<'s, D, J> {
     /// clients see is as before. Of a piece Failed and Fault, of a flip too. After Failed and Fault
     /// each client that waits is told Lost, and the disk is to be opened again.
     pub fn turn<R: Wait>(&mut self, rt: &R) -> Result<Checkpoint, Refusal>
-        ensures { CheckTells self.old result self.new }
+        ensures tells { CheckTells self.old result self.new }
+        ensures refused { IfErr result IsCheckRefusal }
     {
         self.step(rt, false)
     }
@@ -100,14 +101,16 @@ impl<'s, D: Disk, J: Naming> Checkpointer<'s, D, J> {
     ///
     /// The refusals of `turn`. Full also where the image, with that undoing, does not fit.
     pub fn turn_with_room<R: Wait>(&mut self, rt: &R) -> Result<Checkpoint, Refusal>
-        ensures { CheckTells self.old result self.new }
+        ensures tells { CheckTells self.old result self.new }
+        ensures refused { IfErr result IsCheckRefusal }
     {
         self.step(rt, true)
     }
 
     // Writes a piece of the image, or makes it the store; else takes the next step towards one.
     fn step<R: Wait>(&mut self, rt: &R, leaves_room: bool) -> Result<Checkpoint, Refusal>
-        ensures { CheckTells self.old result self.new }
+        ensures tells { CheckTells self.old result self.new }
+        ensures refused { IfErr result IsCheckRefusal }
     {
         let vault = self.vault;
         if let Some(done) = vault.lock(rt).lay(self.shared, &mut self.watcher) {
@@ -118,7 +121,8 @@ impl<'s, D: Disk, J: Naming> Checkpointer<'s, D, J> {
 
     // Takes the next step towards an image.
     fn prepare<R: Wait>(&mut self, rt: &R, leaves_room: bool) -> Result<Checkpoint, Refusal>
-        ensures { CheckTells self.old result self.new }
+        ensures tells { CheckTells self.old result self.new }
+        ensures refused { IfErr result IsCheckRefusal }
     {
         let gatherer = self.gatherer;
         let prepared = gatherer

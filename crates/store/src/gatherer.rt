@@ -1,12 +1,13 @@
 // What is gathered of the book for an image, up to where the keeper begins it.
-ghost use Rattle.std.specs.Prelude.{◌≡◌, ◌≢◌, ◌⊎◌, None, Err, OnOk, OnErr, IfOk, IsSome, Result};
+ghost use Rattle.std.specs.Prelude.{◌≡◌, ◌≢◌, ◌⊎◌, None, Err, OnOk, OnErr, IfOk, IfErr};
+ghost use Rattle.std.specs.Prelude.{IsSome, Result};
 ghost use Rattle.calls.specs.declared.refusal.Refusal.{Refusal};
 ghost use Rattle.images.specs.Gathers.{Packs};
 ghost use Rattle.txn.specs.Freezing.{IsGatheredOf};
 ghost use Rattle.group_commit.specs.Accords.{nothing_gathered};
 ghost use Rattle.group_commit.specs.Orders.{noting, noting_too};
 ghost use Rattle.store.specs.Gatherers.{IsKnown, Froze};
-ghost use Rattle.store.specs.Turns.{IsPrepared};
+ghost use Rattle.store.specs.Turns.{IsPrepared, IsCheckRefusal};
 
 use crate::checkpointing::Checkpoint;
 use crate::vault::Vault;
@@ -96,7 +97,8 @@ impl<J: Naming> Gatherer<J> {
         vault: &Mutex<Vault<D, J>>,
         leaves_room: bool,
     ) -> Result<Checkpoint, Refusal>
-        ensures { IfOk result IsPrepared }
+        ensures prepared { IfOk result IsPrepared }
+        ensures refused { IfErr result IsCheckRefusal }
     {
         if self.gather.marks().is_some() {
             let undoing = leaves_room.then_some(self.undoing);
@@ -120,7 +122,8 @@ impl<J: Naming> Gatherer<J> {
         desk: &DeskLock<J>,
     ) -> Result<Checkpoint, Refusal>
         requires { self.old.gather.frozen ≡ None }
-        ensures { IfOk result IsPrepared }
+        ensures prepared { IfOk result IsPrepared }
+        ensures refused { IfErr result IsCheckRefusal }
     {
         desk.give_way(rt);
         let copied = copy_next(
@@ -152,6 +155,7 @@ impl<J: Naming> Gatherer<J> {
     ) -> Result<Checkpoint, Refusal>
         requires { self.old.gather.frozen ≡ None }
         ensures prepared { IfOk result IsPrepared }
+        ensures refused { IfErr result IsCheckRefusal }
         ensures unfinished { result ≡ Err Refusal.Unfinished → self.new.gather.frozen ≡ None }
     {
         let mut vault = vault.lock(rt);
@@ -186,7 +190,8 @@ impl<J: Naming> Gatherer<J> {
         undoing: Option<u64>,
     ) -> Result<Checkpoint, Refusal>
         requires { IsSome self.old.gather.frozen }
-        ensures { IfOk result IsPrepared }
+        ensures prepared { IfOk result IsPrepared }
+        ensures refused { IfErr result IsCheckRefusal }
     {
         match mem::replace(&mut self.gather, Gather::new(self.alloc)).pack() {
             Ok(image) => {
@@ -220,6 +225,7 @@ fn copy_next<J: Naming>(
     requires unfrozen { gather.old.frozen ≡ None }
     ensures far { far.new ≡ record { table = J.gathering; gather = gather.new } }
     ensures unfrozen { gather.new.frozen ≡ None }
+    ensures refused { IfErr result IsCheckRefusal }
 {
     shared.gathering.compare(&mut desk.near, far);
     let copied = desk.book.gather(gather);
@@ -254,6 +260,7 @@ fn freeze<D: Disk, J: Naming>(
         (of_keeper.new ≡ record { table = J.awaited; gather = gather.new })) }
     ensures err { OnErr result ((of_keeper.new ≡ of_keeper.old) ×
         (gather.new.frozen ≡ None → gather.new ≡ gather.old)) }
+    ensures refused { IfErr result IsCheckRefusal }
 {
     desk.book.upheld();
     shared.gathering.compare(&mut desk.near, of_book);
@@ -303,7 +310,8 @@ fn begin_with_room<D: Disk, J: Naming>(
 ) -> Result<(), Refusal>
     requires table { far.old.table ≡ J.awaited }
     requires packs { Packs far.old.gather image }
-    ensures { far.new ≡ far.old }
+    ensures far { far.new ≡ far.old }
+    ensures refused { IfErr result IsCheckRefusal }
 {
     let size = vault.size();
     if undoing.is_some_and(|records| !room_behind(&image, size).fits_undoing(records)) {
@@ -337,7 +345,8 @@ fn begin<D: Disk, J: Naming>(
 ) -> Result<(), Refusal>
     requires table { far.old.table ≡ J.awaited }
     requires packs { Packs far.old.gather image }
-    ensures { far.new ≡ far.old }
+    ensures far { far.new ≡ far.old }
+    ensures refused { IfErr result IsCheckRefusal }
 {
     shared.awaited.compare(&mut vault.near, far);
     vault.keeper.begin_image(image)

@@ -1,8 +1,8 @@
 // What lies under the keeper's lock.
-ghost use Rattle.std.specs.Prelude.{◌≡◌, [], IfSome, IfNone, IfErr};
+ghost use Rattle.std.specs.Prelude.{◌≡◌, [], IfSome, IfNone, IfErr, Err};
 ghost use Rattle.group_commit.specs.Accords.{nothing_gathered};
 ghost use Rattle.store.specs.Turns.{Brings, TurnTells, CheckTells, brought_to, flipped_to, Fails};
-ghost use Rattle.store.specs.Turns.{Reaches, IsTurnRefusal};
+ghost use Rattle.store.specs.Turns.{Reaches, IsTurnRefusal, IsCheckRefusal};
 ghost use Rattle.store.specs.Vaults.{ReceivesAny};
 ghost use Rattle.group_commit.specs.Rising.{raised_to};
 
@@ -105,6 +105,7 @@ impl<D: Disk, J: Naming> Vault<D, J> {
     ) -> Option<Result<Checkpoint, Refusal>>
         requires { watcher.old.table ≡ J.mark }
         ensures some { IfSome result (λ r. CheckTells watcher.old r watcher.new) }
+        ensures refused { IfSome result (λ r. IfErr r IsCheckRefusal) }
         ensures none { IfNone result (watcher.new ≡ watcher.old) }
     {
         let left = self.keeper.left()?;
@@ -199,7 +200,8 @@ fn piece_told(
     laid: &Result<bool, Refusal>,
 ) -> Result<Checkpoint, Refusal>
     requires { watcher.old.table ≡ mark.now }
-    ensures { CheckTells watcher.old result watcher.new }
+    ensures tells { CheckTells watcher.old result watcher.new }
+    ensures refused { IfErr result (λ e. laid.now ≡ Err e) }
 {
     match laid {
         Ok(_) => Ok(Checkpoint::Piece),
@@ -225,6 +227,7 @@ fn flip_told<W: OneMoment, D: Disk>(
       raised = flipped_to seat.old.raised W.moment flipped.now;
     } }
     ensures watcher { CheckTells watcher.old result watcher.new }
+    ensures refused { IfErr result (λ e. flipped.now ≡ Err e) }
 {
     let _ = keeper;
     match flipped {

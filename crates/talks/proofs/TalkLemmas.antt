@@ -2,15 +2,21 @@
 use Rattle.std.proofs.Common.{◌≡◌, ℕ, ◌+◌, ◌<◌, List, [], ◌∷◌, ◌++◌, take, drop, refl, sym, ap}
 use Rattle.std.proofs.Common.{subst}
 use Rattle.std.proofs.Common.{◌∙◌, Option, None, Some, append_assoc, take-append-drop, get_or}
-use Rattle.std.proofs.Common.{length, inl, inr}
+use Rattle.std.proofs.Common.{length, inl, inr, Bool, true, false, true≢false}
 use Rattle.std.proofs.lemmas.List.{append-nil, take_more}
 use Rattle.script.specs.declared.action.Request.{Request}
 use Rattle.talks.specs.declared.speaking.Speaker.{Ghosts}
 use Rattle.talks.specs.declared.told.Told.{Told}
 use Rattle.talks.specs.declared.why.Why.{Why}
-use Rattle.talks.specs.Hearing.{Hears, IsHeard, tolds_of}
+use Rattle.std.specs.Io.KnownBytes.{Consumes}
+use Rattle.std.specs.Prelude.{IsSomeAnd, ◌≢◌, IsTrue, ◌↔◌, not}
+use Rattle.std.proofs.lemmas.List.Elements.{All-nil}
+use Rattle.lines.specs.declared.Found.{Found}
+use Rattle.lines.specs.Lines.{Begins, Finds}
+use Rattle.std.proofs.KnownBytes.{Consumes-trans}
+use Rattle.talks.specs.Hearing.{Hears, IsHeard, IsBreak, tolds_of}
 use Rattle.talks.specs.Talks.{AreTried, RunsCalls, IsRound, AreRounds, IsLast, TalksOn, bytes_of}
-use Rattle.talks.specs.Talks.{told_of}
+use Rattle.talks.specs.Talks.{told_of, IsAnswered, IsSettled, Turns}
 
 pub hears_none : {A : Type 0} (h : Option (List (Told A))) → Hears h h []
 hears_none None = tt
@@ -32,6 +38,12 @@ module _ {S A : Type 0} (s : Ghosts S A) where
       (new, subst (λ m. s.says m Request.Abort said new) tried says, refl)
   tried_on old mid new (first ∷ saids) said tried says =
       (tried.0, tried.1, tried_on tried.0 mid new saids said tried.2 says)
+
+  -- whether none is open behind so many tries
+  pub settled : (tries : ℕ) (new : S) (opened : Bool) → IsTrue opened ↔ s.is_open new →
+      tries ≡ 100000 → IsSettled s tries (not opened) new
+  settled tries new true is all = (is.0 refl, all)
+  settled tries new false is all = λ opened. true≢false (sym (is.1 opened))
 
   -- a call more
   pub runs_on : (old mid new : S) (rs : List Request) (r : Request) (saids : List A) (said : A) →
@@ -64,13 +76,23 @@ module _ {S A : Type 0} (s : Ghosts S A) where
       append_assoc (take i rs) (r ∷ []) (drop (i + 1) rs)
 
   -- a round more
-  pub rounds_on : (old mid new : S) (rounds : List (List ℕ × Option (Told A))) (bs : List ℕ)
-      (told : Option (Told A)) → AreRounds s old rounds mid → IsRound s mid bs told None new →
-      AreRounds s old (rounds ++ (bs, told) ∷ []) new
-  rounds_on old mid new [] bs told were is =
-      (new, subst (λ m. IsRound s m bs told None new) were is, refl)
-  rounds_on old mid new (round ∷ rounds) bs told were is =
-      (were.0, were.1, rounds_on were.0 mid new rounds bs told were.2 is)
+  pub rounds_on : (old mid new : S) (undone between after : Bool)
+      (rounds : List (List ℕ × Option (Told A))) (bs : List ℕ) (told : Option (Told A)) →
+      AreRounds s old undone rounds mid between → IsRound s mid between bs told None new after →
+      AreRounds s old undone (rounds ++ (bs, told) ∷ []) new after
+  rounds_on old mid new undone between after [] bs told were is = (
+    new,
+    after,
+    subst (λ b. IsRound s old b bs told None new after) were.1
+        (subst (λ m. IsRound s m between bs told None new after) were.0 is),
+    (refl, refl),
+  )
+  rounds_on old mid new undone between after (round ∷ rounds) bs told were is = (
+    were.0,
+    were.1,
+    were.2,
+    rounds_on were.0 mid new were.1 between after rounds bs told were.3 is,
+  )
 
   pub bytes_on : (rounds : List (List ℕ × Option (Told A))) (bs : List ℕ) (told : Option (Told A)) →
       bytes_of s (rounds ++ (bs, told) ∷ []) ≡ bytes_of s rounds ++ bs
@@ -101,16 +123,129 @@ heard_before h k l xs heard none =
     subst (Hears h l) (append-nil xs) (hears_more h k l xs [] heard none)
 
 module _ {S A : Type 0} (s : Ghosts S A) where
-  last_sent : (r t : Option (List ℕ)) (h k l : Option (List (Told A))) (old new : S) (why : Why) →
-      IsLast s r t h k old why new → Hears k l [] → IsLast s r t h l old why new
-  last_sent r t h k l old new Why.Broken last sent = last
-  last_sent r t h k l old new Why.NoMemory last sent = last
-  last_sent r t h k l old new Why.Bye last sent =
-      (last.0, last.1, last.2, last.3, heard_before h k l (tolds_of last.1) last.4 sent)
-  last_sent r t h k l old new Why.Gone last sent =
-      (last.0, last.1, last.2, last.3, heard_before h k l (tolds_of last.1) last.4 sent)
-  last_sent r t h k l old new Why.Lost last sent =
-      (last.0, last.1, last.2, last.3, heard_before h k l (tolds_of last.1) last.4 sent)
+  -- what a turn is that was broken off behind a round
+  turn_broken : (r t : Option (List ℕ)) (h k : Option (List (Told A))) (begun : List ℕ)
+      (old new : S) (undone after : Bool) (bs : List ℕ) (told : Option (Told A))
+      (next result : Option Why) (kept : List ℕ) → IsRound s old undone bs told next new after →
+      IsSomeAnd result IsBreak → Turns s r t h k begun old undone result new after kept
+  turn_broken r t h k begun old new undone after bs told next (Some Why.Broken) kept is broken =
+      inr (bs, told, next, after, is)
+  turn_broken r t h k begun old new undone after bs told next (Some Why.NoMemory) kept is broken =
+      inr (bs, told, next, after, is)
+  turn_broken r t h k begun old new undone after bs told next (Some why) kept is broken =
+      absurd broken
+  turn_broken r t h k begun old new undone after bs told next None kept is broken = absurd broken
+
+  -- what a turn is in which a line was read to its end and answered
+  turn_line : (r t : Option (List ℕ)) (h k : Option (List (Told A))) (begun : List ℕ)
+      (old new : S) (undone after : Bool) (bs : List ℕ) (told : Option (Told A))
+      (next : Option Why) (kept : List ℕ) →
+      IsRound s old undone (begun ++ bs) told next new after → Consumes r t bs →
+      Hears h k (tolds_of told) → kept ≡ [] →
+      Turns s r t h k begun old undone next new after kept
+  turn_line r t h k begun old new undone after bs told None kept is took heard none =
+      (bs, told, took, heard, inl (is, none))
+  turn_line r t h k begun old new undone after bs told (Some Why.Broken) kept is took heard none =
+      inr (begun ++ bs, told, Some Why.Broken, after, is)
+  turn_line r t h k begun old new undone after bs told (Some Why.NoMemory) kept is took heard none =
+      inr (begun ++ bs, told, Some Why.NoMemory, after, is)
+  turn_line r t h k begun old new undone after bs told (Some Why.Bye) kept is took heard none =
+      (bs, told, after, is, took, heard)
+  turn_line r t h k begun old new undone after bs told (Some Why.Gone) kept is took heard none =
+      (bs, told, after, is, took, heard)
+  turn_line r t h k begun old new undone after bs told (Some Why.Lost) kept is took heard none =
+      (bs, told, after, is, took, heard)
+
+  pub turned : (r t : Option (List ℕ)) (h i k : Option (List (Told A))) (begun : List ℕ)
+      (old new : S) (undone after : Bool) (found : Found) (line kept : List ℕ)
+      (told : Option (Told A)) (next result : Option Why) → kept ≡ [] → Finds 4095 begun r t found line →
+      IsAnswered s found old undone line told next new after → Hears h i [] →
+      IsHeard i k told next result → Turns s r t h k begun old undone result new after kept
+  turned r t h i k begun old new undone after found line kept told next result none finds
+      answered sent (inl heard) =
+      subst (λ w. Turns s r t h k begun old undone w new after kept) (sym heard.0)
+      (turn_line r t h k begun old new undone after finds.0 told next kept
+      (found, line, finds.2, answered) finds.1
+      (hears_more h i k [] (tolds_of told) sent heard.1) none)
+  turned r t h i k begun old new undone after found line kept told next result none finds
+      answered sent (inr broken) =
+      turn_broken r t h k begun old new undone after (begun ++ finds.0) told next result kept
+      (found, line, finds.2, answered) broken
+
+  pub turned_silent : (r t : Option (List ℕ)) (h i k : Option (List (Told A))) (begun : List ℕ)
+      (old new : S) (undone after : Bool) (line kept : List ℕ)
+      (told : Option (Told A)) (next result : Option Why) → kept ≡ line →
+      Finds 4095 begun r t Found.Silence line →
+      IsAnswered s Found.Silence old undone line told next new after → Hears h i [] →
+      IsHeard i k told next result → Turns s r t h k begun old undone result new after kept
+  turned_silent r t h i k begun old new undone after line kept told next result is finds
+      answered sent (inl heard) =
+      subst (λ w. Turns s r t h k begun old undone w new after kept)
+      (sym (heard.0 ∙ answered.1)) (
+        finds.0,
+        told,
+        finds.1,
+        hears_more h i k [] (tolds_of told) sent heard.1,
+        inr (
+          (Found.Silence, [], (All-nil (λ b. b ≢ 10), refl), (answered.0, refl, answered.2)),
+          (finds.2.0, is ∙ finds.2.1),
+        ),
+      )
+  turned_silent r t h i k begun old new undone after line kept told next result is finds
+      answered sent (inr broken) =
+      turn_broken r t h k begun old new undone after [] told next result kept
+      (Found.Silence, [], (All-nil (λ b. b ≢ 10), refl), answered) broken
+
+module _ {S A : Type 0} (s : Ghosts S A) where
+  -- what a talk is so far: the rounds, and what the next line begins with
+  abbrev pub IsSoFar : (r q : Option (List ℕ)) → (h i : Option (List (Told A))) → S → S → Bool →
+      List ℕ → Type 0
+  IsSoFar r q h i old mid undone kept =
+      (rounds : List (List ℕ × Option (Told A))) × (begun : List ℕ) ×
+      AreRounds s old false rounds mid undone × Consumes r q (bytes_of s rounds ++ begun) ×
+      Hears h i (told_of s rounds) × Begins 4095 begun kept
+
+  -- a turn more
+  pub went_on : (r q t : Option (List ℕ)) (h i k : Option (List (Told A))) (old mid new : S)
+      (undone after : Bool) (line kept : List ℕ) (so_far : IsSoFar r q h i old mid undone line) →
+      Turns s q t i k so_far.1 mid undone None new after kept → IsSoFar r t h k old new after kept
+  went_on r q t h i k old mid new undone after line kept were (bs, told, took, heard, inl is) = (
+    were.0 ++ (were.1 ++ bs, told) ∷ [],
+    [],
+    rounds_on s old mid new false undone after were.0 (were.1 ++ bs) told were.2 is.0,
+    subst (Consumes r t) (append_assoc (bytes_of s were.0) were.1 bs
+        ∙ sym (bytes_on s were.0 (were.1 ++ bs) told)
+        ∙ sym (append-nil (bytes_of s (were.0 ++ (were.1 ++ bs, told) ∷ []))))
+        (Consumes-trans r q t (bytes_of s were.0 ++ were.1) bs were.3 took),
+    subst (Hears h k) (sym (told_on s were.0 (were.1 ++ bs) told))
+        (hears_more h i k (told_of s were.0) (tolds_of told) were.4 heard),
+    (All-nil (λ b. b ≢ 10), is.1),
+  )
+  went_on r q t h i k old mid new undone after line kept were (bs, told, took, heard, inr is) = (
+    were.0 ++ ([], told) ∷ [],
+    were.1 ++ bs,
+    rounds_on s old mid new false undone after were.0 [] told were.2 is.0,
+    subst (Consumes r t) (append_assoc (bytes_of s were.0) were.1 bs
+        ∙ ap (λ l. l ++ (were.1 ++ bs)) (sym (bytes_on s were.0 [] told
+        ∙ append-nil (bytes_of s were.0))))
+        (Consumes-trans r q t (bytes_of s were.0 ++ were.1) bs were.3 took),
+    subst (Hears h k) (sym (told_on s were.0 [] told))
+        (hears_more h i k (told_of s were.0) (tolds_of told) were.4 heard),
+    is.1,
+  )
+
+module _ {S A : Type 0} (s : Ghosts S A) where
+  last_sent : (r t : Option (List ℕ)) (h k l : Option (List (Told A))) (begun : List ℕ) (old new : S)
+      (undone : Bool) (why : Why) → IsLast s r t h k begun old undone why new → Hears k l [] →
+      IsLast s r t h l begun old undone why new
+  last_sent r t h k l begun old new undone Why.Broken last sent = last
+  last_sent r t h k l begun old new undone Why.NoMemory last sent = last
+  last_sent r t h k l begun old new undone Why.Bye last sent =
+      (last.0, last.1, last.2, last.3, last.4, heard_before h k l (tolds_of last.1) last.5 sent)
+  last_sent r t h k l begun old new undone Why.Gone last sent =
+      (last.0, last.1, last.2, last.3, last.4, heard_before h k l (tolds_of last.1) last.5 sent)
+  last_sent r t h k l begun old new undone Why.Lost last sent =
+      (last.0, last.1, last.2, last.3, last.4, heard_before h k l (tolds_of last.1) last.5 sent)
 
   -- what was told is sent on behind a talk
   pub talk_sent : (r t : Option (List ℕ)) (h k l : Option (List (Told A))) (old new : S)
@@ -123,5 +258,7 @@ module _ {S A : Type 0} (s : Ghosts S A) where
     talked.4,
     talked.5,
     talked.6,
-    last_sent talked.1 t talked.2 k l talked.3 new why talked.7 sent,
+    talked.7,
+    talked.8,
+    last_sent talked.2 t talked.3 k l talked.1 talked.4 new talked.5 why talked.9 sent,
   )

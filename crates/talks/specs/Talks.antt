@@ -1,11 +1,11 @@
 -- What a talk with a client does: the lines that come, and what the client is told of each.
 use Rattle.std.specs.Prelude.{◌≡◌, ◌⊎◌, ℕ, Bool, true, false, List, [], ◌∷◌, ◌++◌}
-use Rattle.std.specs.Prelude.{Option, None, Some}
+use Rattle.std.specs.Prelude.{Option, None, Some, length, ◌||◌}
 use Rattle.std.specs.Io.BufRead.{strip_last}
 use Rattle.std.specs.Io.KnownBytes.{Consumes}
 use Rattle.calls.specs.declared.refusal.Refusal.{Refusal}
 use Rattle.lines.specs.declared.Found.{Found}
-use Rattle.lines.specs.Lines.{Brings}
+use Rattle.lines.specs.Lines.{Begins, Brings}
 use Rattle.script.specs.declared.action.Request.{Request}
 use Rattle.script.specs.declared.wishes.Wish.{Wish}
 use Rattle.script.specs.Wishes.{IsWishOf}
@@ -54,19 +54,38 @@ IsUnwished line Told.NotUnderstood = (wish : Wish) → IsWished line wish → �
 IsUnwished line (Told.Refused Refusal.NoMemory) = Unit {0}
 IsUnwished line told = ⊥
 
+-- What a client is told at a line behind a silence in which its transaction was taken back: nothing
+-- at one that asks for nothing, and then the next one is to be told so still.
+abbrev pub IsTurnedAway : {A : Type 0} → Found → List ℕ → Option (Told A) → Bool → Type 0
+IsTurnedAway Found.Line line told undone =
+    (IsWished line Wish.Nothing × (told ≡ None) × (undone ≡ true))
+    ⊎ ((IsWished line Wish.Nothing → ⊥) × (told ≡ Some Told.Idle) × (undone ≡ false))
+IsTurnedAway found line told undone = (told ≡ Some Told.Idle) × (undone ≡ false)
+
 module _ {S A : Type 0} (s : Ghosts S A) where
   -- ---- one line with a transaction
 
-  -- Requests to take the open transaction back were made, until none was open or no more was tried.
+  -- Requests to take the open transaction back were made.
   abbrev pub AreTried : S → List A → S → Type 0
   AreTried old [] new = new ≡ old
   AreTried old (said ∷ saids) new =
       (mid : S) × s.says old Request.Abort said mid × AreTried mid saids new
 
-  -- whether it is taken back
+  -- Whether none is open behind so many of them.
+  abbrev pub IsSettled : ℕ → Bool → S → Type 0
+  IsSettled tries true new = s.is_open new → ⊥
+  IsSettled tries false new = s.is_open new × (tries ≡ 100000)
+
+  -- whether it is taken back: it is not where it was tried that often
   abbrev pub IsTakenBack : S → Bool → S → Type 0
   IsTakenBack old back new =
-      ((saids : List A) × AreTried old saids new) × (back ≡ true → s.is_open new → ⊥)
+      (saids : List A) × AreTried old saids new × IsSettled (length saids) back new
+
+  -- What was open is taken back, and whether something was, and is no more.
+  abbrev pub IsUndone : S → Bool → S → Type 0
+  IsUndone old undone new =
+      ((s.is_open old → ⊥) × (undone ≡ false) × (new ≡ old))
+      ⊎ (s.is_open old × IsTakenBack old undone new)
 
   -- Calls were made one after another, none of which was refused.
   abbrev pub RunsCalls : S → List Request → List A → S → Type 0
@@ -155,29 +174,45 @@ module _ {S A : Type 0} (s : Ghosts S A) where
       ⊎ ((unwished : Told A) × IsUnwished line unwished × (told ≡ Some unwished) ×
       (next ≡ None) × (new ≡ old))
 
-  -- So is what was found in place of a line.
-  abbrev pub IsAnswered : Found → S → List ℕ → Option (Told A) → Option Why → S → Type 0
-  IsAnswered Found.Line old line told next new = IsLineAnswered old line told next new
-  IsAnswered Found.TooLong old line told next new =
-      (told ≡ Some Told.TooLong) × (next ≡ None) × (new ≡ old)
-  IsAnswered Found.Cut old line told next new =
-      (told ≡ None) × (next ≡ Some Why.Gone) × (new ≡ old)
-  IsAnswered Found.End old line told next new =
-      (told ≡ None) × (next ≡ Some Why.Gone) × (new ≡ old)
+  -- In a silence what is open is taken back, and the next line is to be told so.
+  abbrev pub FallsSilent : S → Bool → S → Bool → Type 0
+  FallsSilent old undone new after =
+      (more : Bool) × IsUndone old more new × (after ≡ (undone || more))
+
+  -- What was found is answered. Where a transaction was taken back in a silence and the client was
+  -- not told yet, a line is answered that alone.
+  abbrev pub IsAnswered : Found → S → Bool → List ℕ → Option (Told A) → Option Why → S → Bool →
+      Type 0
+  IsAnswered Found.Line old false line told next new after =
+      IsLineAnswered old line told next new × (after ≡ false)
+  IsAnswered Found.TooLong old false line told next new after =
+      (told ≡ Some Told.TooLong) × (next ≡ None) × (new ≡ old) × (after ≡ false)
+  IsAnswered Found.Line old true line told next new after =
+      IsTurnedAway Found.Line line told after × (next ≡ None) × (new ≡ old)
+  IsAnswered Found.TooLong old true line told next new after =
+      IsTurnedAway Found.TooLong line told after × (next ≡ None) × (new ≡ old)
+  IsAnswered Found.Cut old undone line told next new after =
+      (told ≡ None) × (next ≡ Some Why.Gone) × (new ≡ old) × (after ≡ undone)
+  IsAnswered Found.End old undone line told next new after =
+      (told ≡ None) × (next ≡ Some Why.Gone) × (new ≡ old) × (after ≡ undone)
+  IsAnswered Found.Silence old undone line told next new after =
+      (told ≡ None) × (next ≡ None) × FallsSilent old undone new after
 
   -- ---- talks
 
-  -- These bytes were taken, and answered so.
-  abbrev pub IsRound : S → List ℕ → Option (Told A) → Option Why → S → Type 0
-  IsRound old bs told next new = (found : Found) × (line : List ℕ) × Brings 4095 bs found line ×
-      IsAnswered found old line told next new
+  -- These bytes were taken, and answered so. A silence takes none.
+  abbrev pub IsRound : S → Bool → List ℕ → Option (Told A) → Option Why → S → Bool → Type 0
+  IsRound old undone bs told next new after =
+      (found : Found) × (line : List ℕ) × Brings 4095 bs found line ×
+      IsAnswered found old undone line told next new after
 
   -- Bytes were taken line by line, each of which was answered, and what was told of them was heard;
-  -- no line but perhaps the last one ended the talk.
-  abbrev pub AreRounds : S → List (List ℕ × Option (Told A)) → S → Type 0
-  AreRounds old [] new = new ≡ old
-  AreRounds old ((bs, told) ∷ rounds) new =
-      (mid : S) × IsRound old bs told None mid × AreRounds mid rounds new
+  -- no line but perhaps the last one ended the talk. Silences stand between.
+  abbrev pub AreRounds : S → Bool → List (List ℕ × Option (Told A)) → S → Bool → Type 0
+  AreRounds old undone [] new after = (new ≡ old) × (after ≡ undone)
+  AreRounds old undone ((bs, told) ∷ rounds) new after =
+      (mid : S) × (between : Bool) × IsRound old undone bs told None mid between ×
+      AreRounds mid between rounds new after
 
   abbrev pub bytes_of : List (List ℕ × Option (Told A)) → List ℕ
   bytes_of [] = []
@@ -189,30 +224,37 @@ module _ {S A : Type 0} (s : Ghosts S A) where
 
   -- A talk was broken off: before a line was read, or behind one, of which it is not known whether it
   -- was told.
-  abbrev pub BreaksOff : S → S → Type 0
-  BreaksOff old new = (new ≡ old)
-      ⊎ ((bs : List ℕ) × (told : Option (Told A)) × (next : Option Why) ×
-      IsRound old bs told next new)
+  abbrev pub BreaksOff : S → Bool → S → Type 0
+  BreaksOff old undone new = (new ≡ old)
+      ⊎ ((bs : List ℕ) × (told : Option (Told A)) × (next : Option Why) × (after : Bool) ×
+      IsRound old undone bs told next new after)
 
-  -- How a talk ended: by a line that says so, or by the end of the lines; or it was broken off.
-  abbrev pub IsLast : (r t : Option (List ℕ)) → (h k : Option (List (Told A))) → S → Why → S →
-      Type 0
-  IsLast r t h k old Why.Broken new = BreaksOff old new
-  IsLast r t h k old Why.NoMemory new = BreaksOff old new
-  IsLast r t h k old why new = (bs : List ℕ) × (told : Option (Told A)) ×
-      IsRound old bs told (Some why) new × Consumes r t bs × Hears h k (tolds_of told)
+  -- How a talk ended where a line had begun with these bytes: by a line that says so, or by the end
+  -- of the lines; or it was broken off.
+  abbrev pub IsLast : (r t : Option (List ℕ)) → (h k : Option (List (Told A))) → List ℕ → S → Bool →
+      Why → S → Type 0
+  IsLast r t h k begun old undone Why.Broken new = BreaksOff old undone new
+  IsLast r t h k begun old undone Why.NoMemory new = BreaksOff old undone new
+  IsLast r t h k begun old undone why new =
+      (bs : List ℕ) × (told : Option (Told A)) × (after : Bool) ×
+      IsRound old undone (begun ++ bs) told (Some why) new after × Consumes r t bs ×
+      Hears h k (tolds_of told)
 
-  -- One turn: a line is read and answered, or the talk ends.
-  abbrev pub Turns : (r t : Option (List ℕ)) → (h k : Option (List (Told A))) → S → Option Why → S →
-      Type 0
-  Turns r t h k old None new = (bs : List ℕ) × (told : Option (Told A)) ×
-      IsRound old bs told None new × Consumes r t bs × Hears h k (tolds_of told)
-  Turns r t h k old (Some why) new = IsLast r t h k old why new
+  -- One turn where a line had begun with these bytes: it is read to its end and answered, or
+  -- nothing more of it comes for too long, and this is kept of it; or the talk ends.
+  abbrev pub Turns : (r t : Option (List ℕ)) → (h k : Option (List (Told A))) → List ℕ → S → Bool →
+      Option Why → S → Bool → List ℕ → Type 0
+  Turns r t h k begun old undone None new after kept =
+      (bs : List ℕ) × (told : Option (Told A)) × Consumes r t bs × Hears h k (tolds_of told) ×
+      ((IsRound old undone (begun ++ bs) told None new after × (kept ≡ []))
+      ⊎ (IsRound old undone [] told None new after × Begins 4095 (begun ++ bs) kept))
+  Turns r t h k begun old undone (Some why) new after kept = IsLast r t h k begun old undone why new
 
   -- A talk: turns one after another, up to the last.
   abbrev pub TalksOn : (r t : Option (List ℕ)) → (h k : Option (List (Told A))) → S → Why → S →
       Type 0
   TalksOn r t h k old why new =
-      (rounds : List (List ℕ × Option (Told A))) × (q : Option (List ℕ)) ×
-      (i : Option (List (Told A))) × (mid : S) × AreRounds old rounds mid ×
-      Consumes r q (bytes_of rounds) × Hears h i (told_of rounds) × IsLast q t i k mid why new
+      (rounds : List (List ℕ × Option (Told A))) × (begun : List ℕ) × (q : Option (List ℕ)) ×
+      (i : Option (List (Told A))) × (mid : S) × (undone : Bool) ×
+      AreRounds old false rounds mid undone × Consumes r q (bytes_of rounds ++ begun) ×
+      Hears h i (told_of rounds) × IsLast q t i k begun mid undone why new

@@ -1,5 +1,5 @@
 // What is done behind a line.
-ghost use Rattle.std.specs.Prelude.{◌≡◌, [], MatchResult};
+ghost use Rattle.std.specs.Prelude.{◌≡◌, [], MatchResult, IsTrue, ◌↔◌};
 ghost use Rattle.std.specs.Io.BufRead.{strip_last};
 ghost use Rattle.script.specs.declared.wishes.Wish.{Wish};
 ghost use Rattle.talks.specs.declared.told.Told.{Told};
@@ -29,6 +29,13 @@ fn without_return(line: &[u8]) -> &[u8]
         Some(b'\r') => &line[..line.len() - 1],
         _ => line,
     }
+}
+
+// Whether a line asks for nothing, and so is not answered.
+pub fn is_passed_over(line: &[u8]) -> bool
+    ensures { IsTrue result ↔ IsWished line.now Wish.Nothing }
+{
+    matches!(without_return(line), [] | [b'#', ..])
 }
 
 // What a line asks for, or what is told of a line that asks for nothing.

@@ -1,16 +1,17 @@
 // A talk with one client.
-ghost use Rattle.std.specs.Prelude.{◌≡◌, Option, true};
+ghost use Rattle.std.specs.Prelude.{◌≡◌, Option, None, true, List, ℕ};
+ghost use Rattle.lines.specs.Lines.{Begins};
 ghost use Rattle.talks.specs.declared.told.Told.{Told};
 ghost use Rattle.talks.specs.declared.why.Why.{Why};
 ghost use Rattle.talks.specs.Hearing.{IsHeard};
 ghost use Rattle.talks.specs.Talks.{IsAnswered, IsLineAnswered, Turns, TalksOn};
-ghost use Rattle.talks.specs.Talks.{IsTakenBack};
+ghost use Rattle.talks.specs.Talks.{IsTakenBack, IsTurnedAway};
 
-use crate::answering::{exchange, wish_in};
+use crate::answering::{exchange, is_passed_over, wish_in};
 use crate::hearing::Hearer;
 use crate::speaking::Speaker;
 use crate::told::Told;
-use crate::transacting::take_back;
+use crate::transacting::{take_back, undo};
 use crate::why::Why;
 use lines::{Found, read_line};
 use std::alloc::AllocGlobal;
@@ -42,6 +43,11 @@ pub struct Ended {
 /// transaction that is open is taken back, however the talk ended, so a client that has gone holds
 /// nothing.
 ///
+/// Where its lines are silent for so long that their reader answers `TimedOut`, what it has open is
+/// taken back too. The next line that asks for something is told `Idle` then, whatever it is, and
+/// is not carried out; the lines behind it are. A client that has nothing open may be silent for
+/// ever.
+///
 /// What was told is sent on before the talk waits, for a line, or until a commit is kept; and at its
 /// end, once what was open is taken back. A line of
 /// several calls is a transaction of its own: all of them are committed as one, or none is. The
@@ -69,6 +75,15 @@ pub fn talk<R: Wait + AllocGlobal, S: Speaker, I: Lines, H: Hearer<S::Said>>(
     Ended { why, is_taken_back }
 }
 
+// What is pending between two lines.
+#[derive(Drop)]
+struct Pending {
+    // What has come of the next line.
+    line: Vec<u8>,
+    // Whether a transaction was taken back in a silence, which the client was not told yet.
+    is_undone: bool,
+}
+
 // Talks with a client.
 fn talk_on<R: Wait + AllocGlobal, S: Speaker, I: Lines, H: Hearer<S::Said>>(
     rt: &R,
@@ -79,9 +94,12 @@ fn talk_on<R: Wait + AllocGlobal, S: Speaker, I: Lines, H: Hearer<S::Said>>(
     ensures { TalksOn ⟦<S as Speaker>⟧ (I.remaining lines.old) (I.remaining lines.new)
         (H.heard hearer.old) (H.heard hearer.new) speaker.old result speaker.new }
 {
-    let mut line = Vec::new(rt.alloc());
+    let mut pending = Pending {
+        line: Vec::new(rt.alloc()),
+        is_undone: false,
+    };
     for _ in 0..u64::MAX {
-        if let Some(why) = turn(rt, speaker, lines, hearer, &mut line) {
+        if let Some(why) = turn(rt, speaker, lines, hearer, &mut pending) {
             return why;
         }
     }
@@ -94,39 +112,71 @@ fn turn<R: Wait + AllocGlobal, S: Speaker, I: Lines, H: Hearer<S::Said>>(
     speaker: &mut S,
     lines: &mut I,
     hearer: &mut H,
-    line: &mut Vec<u8>,
+    pending: &mut Pending,
 ) -> Option<Why>
-    ensures { Turns ⟦<S as Speaker>⟧ (I.remaining lines.old) (I.remaining lines.new)
-        (H.heard hearer.old) (H.heard hearer.new) speaker.old result speaker.new }
+    ensures { (begun : List ℕ) → Begins 4095 begun pending.old.line.items →
+        Turns ⟦<S as Speaker>⟧ (I.remaining lines.old) (I.remaining lines.new)
+        (H.heard hearer.old) (H.heard hearer.new) begun speaker.old pending.old.is_undone result
+        speaker.new pending.new.is_undone pending.new.line.items }
 {
     if !lines.has_line() {
         if let Err(error) = hearer.send() {
             return Some(Why::of(&error));
         }
     }
-    match read_line(lines, line) {
-        Ok(found) => answer(rt, speaker, found, line.as_slice(), hearer),
+    match read_line(lines, &mut pending.line) {
+        Ok(found) => {
+            let next = answer(rt, speaker, found, pending, hearer);
+            if !matches!(found, Found::Silence) {
+                pending.line.clear();
+            }
+            next
+        }
         Err(error) => Some(Why::of(&error)),
     }
 }
 
-// Answers what was found, and says why the talk ends, if it does.
+// Answers what was found, and says why the talk ends, if it does. In a silence what is open is
+// taken back, and the next line that asks for something is told so, and no more.
 fn answer<R: Wait + AllocGlobal, S: Speaker, H: Hearer<S::Said>>(
     rt: &R,
     speaker: &mut S,
     found: Found,
-    line: &[u8],
+    pending: &mut Pending,
     hearer: &mut H,
 ) -> Option<Why>
-    ensures { (told : Option (Told S.Said)) × (next : Option Why) ×
-        IsAnswered ⟦<S as Speaker>⟧ found speaker.old line.now told next speaker.new ×
+    ensures line { pending.new.line ≡ pending.old.line }
+    ensures answered { (told : Option (Told S.Said)) × (next : Option Why) ×
+        IsAnswered ⟦<S as Speaker>⟧ found speaker.old pending.old.is_undone pending.old.line.items
+        told next speaker.new pending.new.is_undone ×
         IsHeard (H.heard hearer.old) (H.heard hearer.new) told next result }
 {
     match found {
-        Found::Line => answer_line(rt, speaker, line, hearer),
+        Found::Line | Found::TooLong if pending.is_undone => turn_away(found, pending, hearer),
+        Found::Line => answer_line(rt, speaker, pending.line.as_slice(), hearer),
         Found::TooLong => tell(hearer, Some(Told::TooLong), None),
         Found::Cut | Found::End => tell(hearer, None, Some(Why::Gone)),
+        Found::Silence => {
+            pending.is_undone |= undo(rt, speaker);
+            tell(hearer, None, None)
+        }
     }
+}
+
+// Tells the client at its line that what was open is taken back, and says why the talk ends, if it
+// does. A line that asks for nothing is passed over.
+fn turn_away<S, H: Hearer<S>>(found: Found, pending: &mut Pending, hearer: &mut H) -> Option<Why>
+    requires { pending.old.is_undone ≡ true }
+    ensures line { pending.new.line ≡ pending.old.line }
+    ensures answered { (told : Option (Told S)) ×
+        IsTurnedAway found pending.old.line.items told pending.new.is_undone ×
+        IsHeard (H.heard hearer.old) (H.heard hearer.new) told None result }
+{
+    if matches!(found, Found::Line) && is_passed_over(pending.line.as_slice()) {
+        return tell(hearer, None, None);
+    }
+    pending.is_undone = false;
+    tell(hearer, Some(Told::Idle), None)
 }
 
 // Answers a line, and says why the talk ends, if it does.

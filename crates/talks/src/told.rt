@@ -22,6 +22,8 @@ pub enum Told<S> {
     NotUnderstood,
     /// The line is longer than may be.
     TooLong,
+    /// What was open was taken back while the client said nothing, so its line is not carried out.
+    Idle,
     /// The talk ends.
     Bye,
 }
@@ -44,6 +46,7 @@ impl<S: fmt::Display> fmt::Display for Told<S> {
             }
             Told::NotUnderstood => f.write_str("error NotUnderstood"),
             Told::TooLong => f.write_str("error LineTooLong"),
+            Told::Idle => f.write_str("error Idle"),
             Told::Bye => f.write_str("bye"),
         }
     }

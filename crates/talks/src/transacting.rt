@@ -3,7 +3,7 @@ ghost use Rattle.std.specs.Prelude.{◌≡◌, List, [], IsTrue, ◌↔◌, true
 ghost use Rattle.calls.specs.declared.refusal.Refusal.{Refusal};
 ghost use Rattle.talks.specs.declared.told.Told.{Told};
 ghost use Rattle.talks.specs.declared.transacting.Outcome.{Outcome};
-ghost use Rattle.talks.specs.Talks.{Transacts, Commits, Stops, RunsCalls, IsTakenBack};
+ghost use Rattle.talks.specs.Talks.{Transacts, Commits, Stops, RunsCalls, IsTakenBack, IsUndone};
 
 use crate::speaking::Speaker;
 use crate::told::Told;
@@ -82,9 +82,16 @@ fn run_calls<R: Wait, S: Speaker>(
     None
 }
 
+// Takes back what was left open. Whether something was, and is no more.
+pub fn undo<R: Wait, S: Speaker>(rt: &R, speaker: &mut S) -> bool
+    ensures { IsUndone ⟦<S as Speaker>⟧ speaker.old result speaker.new }
+{
+    speaker.is_open() && take_back(rt, speaker)
+}
+
 // Takes the open transaction back, if there is one. Whether there is none any more.
 pub fn take_back<R: Wait, S: Speaker>(rt: &R, speaker: &mut S) -> bool
-    ensures taken { IsTakenBack ⟦<S as Speaker>⟧ speaker.old result speaker.new }
+    ensures { IsTakenBack ⟦<S as Speaker>⟧ speaker.old result speaker.new }
 {
     let backoff = Backoff::new();
     for _ in 0..TRIES {

@@ -36,7 +36,8 @@ use Rattle.repetition.specs.Steps.{State}
 use Rattle.repetition.specs.Reading.{Unread, InJournal, Reads}
 use Rattle.repetition.specs.Lagging.{Lags}
 use Rattle.world.specs.Pasts.{BookState}
-use Rattle.world.proofs.ImageReading.{frozen_reads, accepted_named, repeats_named}
+use Rattle.recovery.proofs.ImageNames.{accepted_named, repeats_named}
+use Rattle.world.proofs.ImageReading.{frozen_reads}
 use Rattle.catalog.specs.Meaning.{catalog_meaning, catalog_making}
 
 -- an image begins with its marks, so it is in some block

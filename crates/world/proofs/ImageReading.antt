@@ -31,21 +31,19 @@ use Rattle.machine.proofs.Theory.Loading.{image_loads}
 use Rattle.machine.proofs.LiveNumbers.{nobody}
 use Rattle.machine.proofs.OwnedEntries.{owner}
 use Rattle.machine.proofs.Readings.{journalled_upheld}
-use Rattle.repetition.specs.Steps.{State, Repeats}
+use Rattle.repetition.specs.Steps.{State}
 use Rattle.repetition.specs.Reading.{Progress, Unread, InCollections, InJournal, Reads, Settles}
-use Rattle.repetition.specs.Reading.{AreAccepted}
 use Rattle.repetition.specs.Lagging.{Lags, IsThinned}
 use Rattle.repetition.proofs.CatalogLaws.{laws}
 use Rattle.repetition.proofs.Lists.{leads_append}
 use Rattle.repetition.proofs.ReadLemmas.{IsBehind}
-use Rattle.world.proofs.ImageItems.{told_reads, IsTelling}
+use Rattle.recovery.proofs.ImageItems.{told_reads, IsTelling}
 use Rattle.world.proofs.ImageNumbers.{all_held, as_many, stood, stood_lives, stood_falls, stood_len}
 use Rattle.world.proofs.ImageNumbers.{AreAbove, StandsAt, collections_stand, numbers_read}
 use Rattle.world.proofs.ImageNumbers.{IsStanding}
 use Rattle.world.proofs.ImageEntries.{kept, entry_record, kept_records, kept_each, kept_calls}
 use Rattle.world.proofs.ImageEntries.{kept_thinned, kept_length, kept_own, kept_shown, all_placed}
 use Rattle.world.proofs.ImageEntries.{Placed}
-use Rattle.world.proofs.ImageNames.{IsWell, step_well, reads_well}
 use Rattle.world.proofs.ImageCalls.{rules, Theirs, map_has, IsLater, AsksAt, HasAsked, entries_read}
 use Rattle.catalog.specs.Meaning.{catalog_meaning, catalog_making}
 
@@ -274,22 +272,3 @@ frozen_reads b kept good distinct blocks packed =
     (joined packed.groups) (kept_records b.state.live b.state.entries) tells.is_image kept.below
     good
     distinct
-
--- ---- names
-
-run_well : (rs : List Record) (p q : Progress) → Leads Reads rs p q → IsWell p → IsWell q
-run_well [] p q run well = subst IsWell run well
-run_well (r ∷ rs) p q run well = run_well rs run.0 q run.2 (reads_well p r run.0 run.1 well)
-
--- Names are good and each at one place: in what an image and a journal lead to,
-pub accepted_named : (rs : List Record) (n : ℕ) (s : State) (k : ℕ) → AreAccepted rs n s k →
-    AreNamed s.now × AreDistinct (names_of s.now)
-accepted_named rs n s k run = run_well rs Unread (InJournal n s k) run tt
-
--- and behind records that the machine repeats, where they were before.
-pub repeats_named : (rs : List Record) (s t : State) → Repeats rs s t →
-    AreNamed s.now × AreDistinct (names_of s.now) → AreNamed t.now × AreDistinct (names_of t.now)
-repeats_named [] s t run well =
-    subst (λ (v : State). AreNamed v.now × AreDistinct (names_of v.now)) run well
-repeats_named (r ∷ rs) s t run well =
-    repeats_named rs run.0 t run.2 (step_well r s run.0 run.1 well)

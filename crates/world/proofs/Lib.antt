@@ -5,11 +5,9 @@ pub mod KeeperSteps
 pub mod CoreLemmas
 pub mod PlayLemmas
 pub mod AnswerLemmas
-mod ImageItems
 mod ImageNumbers
 mod ImageEntries
 mod ImageCalls
-mod ImageNames
 mod ImageReading
 pub mod FreezeLemmas
 pub mod GatherLemmas

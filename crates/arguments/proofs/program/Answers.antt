@@ -15,14 +15,18 @@ returns c =
     c.serve_command-serve.ensures c.in_ok-program-3.ensures is_2 in
     let is_4 = with_gives c.listen_command-listen.result _ _ _ _
     c.listen_command-listen.ensures c.in_ok-program-4.ensures is_3 in
-    let is_5 = with_gives c.disk_command-show.result _ _ _ _
-    c.disk_command-show.ensures c.in_ok-program-5.ensures is_4 in
+    let is_5 = with_gives c.flagged_command-show.result _ _ _ _
+    c.flagged_command-show.ensures c.in_ok-program-5.ensures is_4 in
     let is_6 = with_gives c.disk_command-check.result _ _ _ _
     c.disk_command-check.ensures c.in_ok-program-6.ensures is_5 in
-    let is_7 = with_gives c.lint_command-lint.result _ _ _ _
-    c.lint_command-lint.ensures c.in_ok-program-7.ensures is_6 in
-    IfOk-weaker c.with-8.result _ _
+    let is_7 = with_gives c.flagged_command-stat.result _ _ _ _
+    c.flagged_command-stat.ensures c.in_ok-program-7.ensures is_6 in
+    let is_8 = with_gives c.copy_command-copy.result _ _ _ _
+    c.copy_command-copy.ensures c.in_ok-program-8.ensures is_7 in
+    let is_9 = with_gives c.lint_command-lint.result _ _ _ _
+    c.lint_command-lint.ensures c.in_ok-program-9.ensures is_8 in
+    IfOk-weaker c.with-10.result _ _
     (λ whole h. h (ap (λ f. f.has_globals) c.about-demo.ensures ∙ c.new.ensures.local) ∙
-    ap₂ with_subcommand is_7
+    ap₂ with_subcommand is_9
     (ap (λ (a : App). a.top) (ap app_of_fields c.about-demo.ensures ∙ c.new.ensures.app)))
-    c.with-8.ensures
+    c.with-10.ensures

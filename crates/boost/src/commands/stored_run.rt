@@ -34,7 +34,7 @@ pub fn demo<O: Write>(alloc: Global, out: &mut O) -> Result<(), Failure<'static>
     };
     let (played, disk) = play_lines(alloc, disk, lines, out);
     match played {
-        Ok(()) => show(alloc, disk, out).0,
+        Ok(()) => show(alloc, disk, false, out).0,
         Err(failure) => Err(failure),
     }
 }

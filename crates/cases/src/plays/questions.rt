@@ -1,5 +1,5 @@
 // What the lines of cases ask of a disk and of a script.
-use crate::plays::runs::{carry_out, to_check, to_format, to_show};
+use crate::plays::runs::{carry_out, to_check, to_format, to_show, to_show_read_only, to_stat};
 use crate::plays::told::Told;
 use crate::plays::values::{not_understood, number};
 use crate::plays::workbench::Workbench;
@@ -12,7 +12,7 @@ use std::sync::Wait;
 
 /// The word of a line that asks something, with what stands behind it. It is told then. None where
 /// the line is empty or begins with `#`, or where it was added to the script: one with a bar in
-/// front, and one that is repeated.
+/// front, one that is repeated, and rounds of lines.
 pub fn question<'a>(
     bench: &mut Workbench,
     line: &'a str,
@@ -27,6 +27,10 @@ pub fn question<'a>(
     }
     if let Some(text) = line.strip_prefix("repeat ") {
         scripts::repeat(bench, text)?;
+        return Ok(None);
+    }
+    if let Some(text) = line.strip_prefix("rounds ") {
+        scripts::add_rounds(bench, text)?;
         return Ok(None);
     }
     told.tell_brief(line);
@@ -46,6 +50,9 @@ pub fn ask(
     match word {
         "play" => runs::play(rt, bench, told),
         "show" => carry_out(alloc, bench, to_show(alloc), told),
+        "show_read_only" => carry_out(alloc, bench, to_show_read_only(alloc), told),
+        "stat" => carry_out(alloc, bench, to_stat(alloc, rest == "--json"), told),
+        "copy" => runs::copy(alloc, bench, rest, told),
         "check" => carry_out(alloc, bench, to_check(alloc), told),
         "demo" => carry_out(alloc, bench, Task::Demo, told),
         "format" => carry_out(alloc, bench, to_format(alloc, number(rest)?), told),

@@ -2,8 +2,9 @@
 use crate::plays::disks::bytes_of;
 use crate::plays::through_store;
 use crate::plays::told::Told;
+use crate::plays::values::numbers;
 use crate::plays::workbench::Workbench;
-use boost::{Task, run};
+use boost::{Task, run, run_copy};
 use disk_model::{Disk, MemDisk};
 use std::alloc::Global;
 use std::io;
@@ -66,6 +67,23 @@ pub fn to_play(alloc: Global) -> Task {
 pub fn to_show(alloc: Global) -> Task {
     Task::Show {
         disk: String::new(alloc),
+        read_only: false,
+    }
+}
+
+/// A task that shows and writes nothing.
+pub fn to_show_read_only(alloc: Global) -> Task {
+    Task::Show {
+        disk: String::new(alloc),
+        read_only: true,
+    }
+}
+
+/// A task that tells what room a store takes, as JSON where that is asked.
+pub fn to_stat(alloc: Global, json: bool) -> Task {
+    Task::Stat {
+        disk: String::new(alloc),
+        json,
     }
 }
 
@@ -81,6 +99,7 @@ pub fn to_format(alloc: Global, area: u64) -> Task {
     Task::Format {
         disk: String::new(alloc),
         area,
+        reserve: false,
     }
 }
 
@@ -89,6 +108,32 @@ pub fn run_on<D: Disk>(alloc: Global, task: Task, disk: D, script: &[u8]) -> (Ra
     let (mut out, mut err) = (Vec::new(alloc), Vec::new(alloc));
     let (status, disk) = run(alloc, &task, disk, script, &mut out, &mut err);
     (Ran { status, out, err }, disk)
+}
+
+/// Copies the store of a disk to another one, with areas of so many bytes. Answers both disks
+/// behind what that answered.
+pub fn copy_on<D: Disk, N: Disk>(alloc: Global, old: D, new: N, area: u64) -> (Ran, D, N) {
+    let (mut out, mut err) = (Vec::new(alloc), Vec::new(alloc));
+    let (status, old, new) = run_copy(alloc, old, new, area, &mut out, &mut err);
+    (Ran { status, out, err }, old, new)
+}
+
+/// Copies the store of the case to a disk of so many zeros, with areas of so many bytes, and tells
+/// what that answered. The new disk is that of the case from then on, where the store was copied.
+pub fn copy(alloc: Global, bench: &mut Workbench, text: &str, told: &mut Told) -> io::Result<()> {
+    let (size, area) = numbers(text)?;
+    let before = bench.bytes(alloc)?;
+    let old = bench.take_disk(alloc)?;
+    let (ran, old, new) = copy_on(alloc, old, MemDisk::new(alloc, size)?, area);
+    bench.put_back(old);
+    ran.tell(bench.take_last(), told);
+    if bench.bytes(alloc)? != before {
+        told.tell("the old disk has changed");
+    }
+    if ran.status == 0 {
+        bench.put_back(new);
+    }
+    Ok(())
 }
 
 /// Carries a task out on the disk of the case with the script that was written, which is empty

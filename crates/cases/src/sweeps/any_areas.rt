@@ -1,6 +1,6 @@
 // Stores whose area in use has bytes of a generator.
 use crate::plays::disks::{changed, disk_of};
-use crate::plays::runs::{Ran, run_on, to_check, to_show};
+use crate::plays::runs::{Ran, run_on, to_check, to_show, to_show_read_only};
 use crate::plays::through_store::play;
 use crate::plays::told::Told;
 use crate::plays::values::numbers;
@@ -35,14 +35,16 @@ impl Counts {
         unlike: 0,
     };
 
-    // Counts an area: what a check and a show made of it, and what an opening for threads did.
-    fn add(&mut self, bytes: u64, checked: &Ran, shown: &Ran, shared: &Ran) {
+    // Counts an area: what a check made of it, a show that writes nothing, an opening for threads,
+    // and a show.
+    fn add(&mut self, bytes: u64, checked: &Ran, seen: &Ran, shared: &Ran, shown: &Ran) {
         self.bytes = self.bytes.saturating_add(bytes);
         match shown.status {
             0 => self.opened = self.opened.saturating_add(1),
             _ => self.refused = self.refused.saturating_add(1),
         }
-        if !(checked.is_alike(shown) && shown.is_alike(shared) && shown.status <= 1) {
+        let is_seen = seen.is_alike(shown) && seen.out == shown.out;
+        if !(is_seen && checked.is_alike(shown) && shown.is_alike(shared) && shown.status <= 1) {
             self.unlike = self.unlike.saturating_add(1);
         }
     }
@@ -111,9 +113,10 @@ fn drawn(
     Ok((bytes.len() as u64, disk))
 }
 
-/// Opens so many stores with bytes of the generator of a seed, in a check, in a show and for
-/// threads, and tells how many bytes were drawn, and how many stores were opened and refused. A
-/// quarter of them are the store of the case with one to three bytes of its journal changed.
+/// Opens so many stores with bytes of the generator of a seed, in a check, in a show that writes
+/// nothing, in a show and for threads, and tells how many bytes were drawn, and how many stores were
+/// opened and refused. A quarter of them are the store of the case with one to three bytes of its
+/// journal changed.
 pub fn open_all<R: Wait + AllocGlobal>(
     rt: &R,
     bench: &mut Workbench,
@@ -128,9 +131,10 @@ pub fn open_all<R: Wait + AllocGlobal>(
     for number in 0..count {
         let (bytes, disk) = drawn(alloc, &mut chance, number, ground.as_slice())?;
         let (checked, disk) = run_on(alloc, to_check(alloc), disk, &[]);
+        let (seen, disk) = run_on(alloc, to_show_read_only(alloc), disk, &[]);
         let (shared, disk) = play(rt, disk, &[])?;
         let (shown, _) = run_on(alloc, to_show(alloc), disk, &[]);
-        counts.add(bytes, &checked, &shown, &shared.ran);
+        counts.add(bytes, &checked, &seen, &shared.ran, &shown);
     }
     counts.tell(told);
     Ok(())

@@ -1,7 +1,7 @@
 // What is stopped at each call of the disk and behind the last one, in each of four ways, and then
 // opened.
-use crate::plays::disks::{all_as, at_rest};
-use crate::plays::runs::{Ran, run_on, text, to_check, to_format, to_play, to_show};
+use crate::plays::disks::{all_as, at_rest, bytes_of};
+use crate::plays::runs::{Ran, copy_on, run_on, text, to_check, to_format, to_play, to_show};
 use crate::plays::told::Told;
 use crate::plays::values::number;
 use crate::plays::workbench::Workbench;
@@ -11,9 +11,9 @@ use std::alloc::{AllocError, Global};
 use std::rt::Files;
 use std::{fs, io};
 
-// What is done on a disk until it is stopped.
+/// What is done on a disk until it is stopped.
 #[derive(Clone, Copy)]
-enum Trial<'a> {
+pub enum Trial<'a> {
     // A script is played. The first text has what is shown behind the front after each place.
     Story {
         script: &'a [u8],
@@ -27,6 +27,13 @@ enum Trial<'a> {
     },
     // The disk is formatted, with areas of so many bytes.
     Format {
+        area: u64,
+    },
+    // The store in the bytes of another disk is copied to it, with areas of so many bytes. The text
+    // is what that store shows.
+    Copy {
+        old: &'a [u8],
+        shown: &'a str,
         area: u64,
     },
 }
@@ -98,7 +105,10 @@ pub fn stop_format(
     stop_in_each_way(alloc, Trial::Format { area }, bytes.as_slice(), told)
 }
 
-fn stop_in_each_way(
+/// Does it on disks of these bytes, and stops it at each call in turn and behind the last one, in
+/// each of four ways. Tells how many calls it makes, and what is found where that is not as it was
+/// at the call before.
+pub fn stop_in_each_way(
     alloc: Global,
     trial: Trial<'_>,
     ground: &[u8],
@@ -175,6 +185,9 @@ fn stop_at(
         } => stop_play(alloc, disk, script, k, picks, shown, front),
         Trial::Opening { shown, checked } => stop_open(alloc, disk, k, picks, shown, checked),
         Trial::Format { area } => stop_making(alloc, disk, area, k, picks),
+        Trial::Copy { old, shown, area } => {
+            return stop_copying(alloc, old, shown, disk, area, k, picks);
+        }
     };
     Ok(stopped?)
 }
@@ -321,4 +334,45 @@ fn stop_making(
     let (shown, _) = run_on(alloc, to_show(alloc), disk, &[]);
     let told = format!(in alloc; "shows\n{}{}", text(&shown.out), text(&shown.err))?;
     Ok((is_reached, told))
+}
+
+// Stops a copy of the store in these bytes.
+fn stop_copying(
+    alloc: Global,
+    old: &[u8],
+    shown: &str,
+    disk: MemDisk,
+    area: u64,
+    k: u64,
+    picks: &[(u64, u8)],
+) -> io::Result<(bool, String)> {
+    let mut disk = disk;
+    disk.fail_at(k);
+    let (_, from, disk) = copy_on(alloc, at_rest(alloc, old)?, disk, area);
+    let is_reached = disk.faults() > 0;
+    let (found, _) = run_on(alloc, to_show(alloc), disk.stop(picks), &[]);
+    let end = if bytes_of(alloc, from)?.as_slice() == old {
+        ""
+    } else {
+        ", and the old disk has changed"
+    };
+    Ok((
+        is_reached,
+        format!(in alloc; "{}{end}", in_short(&found, shown))?,
+    ))
+}
+
+// What a disk shows behind a stop of a copy, in few words, where the old one shows this text.
+fn in_short<'a>(found: &'a Ran, shown: &str) -> &'a str {
+    if found.status != 0 {
+        return text(&found.err).trim_end();
+    }
+    let out = text(&found.out);
+    if out.is_empty() {
+        "no collection"
+    } else if out == shown {
+        "the copy"
+    } else {
+        "another content"
+    }
 }

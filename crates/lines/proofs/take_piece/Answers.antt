@@ -8,16 +8,17 @@ use Rattle.std.specs.Io.KnownBytes.{Consumes}
 use Rattle.std.proofs.KnownBytes.{Consumes-nil, Consumes-kept}
 use Rattle.std.proofs.BufReadLemmas.{Consumes_shown}
 use Rattle.lines.specs.Lines.{IsPiece}
-use Rattle.lines.proofs.LineLemmas.{shown_parts, last_piece}
+use Rattle.lines.proofs.LineLemmas.{shown_parts, last_piece, takes_nothing}
 use Rattle.lines.proofs.take_piece.Goals as goal
 
-pub returns-then-is_interrupted : goal.returns-then-is_interrupted
-returns-then-is_interrupted g c =
+pub returns-in-Some : goal.returns-in-Some
+returns-in-Some g c =
     let line = c.args.line.now.items in (
       [],
       All-nil (λ x. x ≢ 10),
       sym (ap (take 4096) (append-nil line) ∙ take_all 4096 line c.requires),
-      (Consumes-kept _ _ _ [] (Consumes-nil _) c.fill_buf.follows.holds-at-none.0, tt),
+      takes_nothing _ _ c.in-Some.piece (rw c.in-Some.is at c.without_bytes.ensures.empty)
+          (Consumes-kept _ _ _ [] (Consumes-nil _) c.fill_buf.follows.holds-at-none.0),
     )
 
 pub returns : goal.returns

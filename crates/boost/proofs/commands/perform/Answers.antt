@@ -11,7 +11,7 @@ returns-in-Format-clause-any_moment g c = rw c.in-Format.is c.format_disk.ensure
 
 pub returns-in-Format-clause-why : goal.returns-in-Format-clause-why
 returns-in-Format-clause-why g c =
-    rw c.in-Format.is (other_undone (Task.Format c.in-Format.disk c.in-Format.area)
+    rw c.in-Format.is (other_undone (Task.Format c.in-Format.disk c.in-Format.area c.in-Format.reserve)
     c.args.script.now (c.format_disk.result.1 ≡ c.args.disk)
     c.format_disk.result.0 (λ is. is) c.format_disk.ensures.why)
 
@@ -23,7 +23,7 @@ returns-in-Play-clause-why g c =
 
 pub returns-in-Show-clause-why : goal.returns-in-Show-clause-why
 returns-in-Show-clause-why g c =
-    rw c.in-Show.is (other_undone (Task.Show c.in-Show.disk) c.args.script.now
+    rw c.in-Show.is (other_undone (Task.Show c.in-Show.disk c.in-Show.read_only) c.args.script.now
     (c.show.result.1 ≡ c.args.disk)
     c.show.result.0 (λ is. is) c.show.ensures.why)
 
@@ -32,6 +32,12 @@ returns-in-Check-clause-why g c =
     rw c.in-Check.is (other_undone (Task.Check c.in-Check.disk) c.args.script.now
     (c.check.result.1 ≡ c.args.disk)
     c.check.result.0 (λ is. is) c.check.ensures.why)
+
+pub returns-in-Stat-clause-why : goal.returns-in-Stat-clause-why
+returns-in-Stat-clause-why g c =
+    rw c.in-Stat.is (other_undone (Task.Stat c.in-Stat.disk c.in-Stat.json) c.args.script.now
+    (c.stat.result.1 ≡ c.args.disk)
+    c.stat.result.0 (λ is. is) c.stat.ensures.why)
 
 pub returns-in-Demo-clause-why : goal.returns-in-Demo-clause-why
 returns-in-Demo-clause-why g c =

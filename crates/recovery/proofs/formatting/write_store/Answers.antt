@@ -1,6 +1,7 @@
 use Rattle.std.proofs.Common.{arith, rules}
 use Rattle.recovery.proofs.FormatLemmas.{byte_written, shut_at_rest, still_room, empty_store}
-use Rattle.recovery.proofs.FormatLemmas.{filling, opening, ok_then}
+use Rattle.recovery.proofs.FormatLemmas.{filling, opening, ok_then, store_or_none}
+use Rattle.recovery.specs.Formats.{IsEmptyStore}
 use Rattle.recovery.proofs.formatting.write_store.Goals as goal
 
 pub returns-in_err-fill-clause-stop : goal.returns-in_err-fill-clause-stop
@@ -11,8 +12,8 @@ returns-in_err-fill-clause-stop g c =
     c.in_ok-write_and_sync.ensures.written in
     let shut = shut_at_rest g.D.Disk.seen g.D.Disk.may_leave c.write_and_sync.new.disk
     c.in_ok-write_and_sync.ensures.durable closed in
-    filling g.D.Disk.seen g.D.Disk.may_leave g.D.Disk.moment g.D.Disk.left_since c.args.area
-    c.args.disk.now c.write_and_sync.new.disk c.fill.new.disk rest
+    filling g.D.Disk.seen g.D.Disk.may_leave g.D.Disk.moment g.D.Disk.left_since
+    c.args.disk.now c.write_and_sync.new.disk c.fill.new.disk IsEmptyStore rest
     c.write_and_sync.ensures.any_moment (c.fill.ensures.stop shut)
 
 pub returns-clause-empty : goal.returns-clause-empty
@@ -36,11 +37,12 @@ returns-clause-stop g c =
     c.in_ok-write_and_sync.ensures.durable closed in
     let room = still_room c.args.area _ _ _ c.requires c.write_and_sync.ensures.seen.size
     c.fill.ensures.size in
-    opening g.D.Disk.seen g.D.Disk.may_leave g.D.Disk.moment g.D.Disk.left_since c.args.area
-    c.args.disk.now c.write_and_sync.new.disk c.fill.new.disk rest
+    opening g.D.Disk.seen g.D.Disk.may_leave g.D.Disk.moment g.D.Disk.left_since
+    c.args.disk.now c.write_and_sync.new.disk c.fill.new.disk IsEmptyStore rest
     c.write_and_sync.ensures.any_moment
-    c.write_and_sync-2.new.disk (c.fill.ensures.stop shut) c.in_ok-fill.ensures.durable room
-    c.in_ok-fill.ensures.filled c.write_and_sync-2.ensures.any_moment
+    c.write_and_sync-2.new.disk (c.fill.ensures.stop shut) c.in_ok-fill.ensures.durable
+    (λ bytes. store_or_none c.args.area _ bytes room c.in_ok-fill.ensures.filled)
+    c.write_and_sync-2.ensures.any_moment
 
 pub returns-clause-durable : goal.returns-clause-durable
 returns-clause-durable g c = search rules

@@ -6,5 +6,5 @@ returns-clause-talked g c = (
   c.talk_on-why.new.speaker,
   talk_sent g.S.Speaker _ _ _ _ _ _ _ c.talk_on-why.result c.talk_on-why.ensures
       c.send-sent.ensures,
-  c.take_back-is_taken_back.ensures.taken,
+  c.take_back-is_taken_back.ensures,
 )

@@ -1,6 +1,7 @@
-use Rattle.std.proofs.Common.{List}
+use Rattle.std.proofs.Common.{◌≡◌, List, length}
 use Rattle.talks.specs.Talks.{AreTried}
 use Rattle.talks.proofs.transacting.take_back.Given as goal
 
 abbrev pub invariant-loop : goal.invariant-loop
-invariant-loop g l = (saids : List _) × AreTried g.S.Speaker l.fn.speaker saids l.speaker
+invariant-loop g l =
+    (saids : List _) × AreTried g.S.Speaker l.fn.speaker saids l.speaker × (length saids ≡ l.counter)

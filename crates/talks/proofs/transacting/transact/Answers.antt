@@ -13,6 +13,6 @@ returns-in-Some g c = inr (
     c.run_calls.new.speaker,
     refl,
     rw c.in-Some.is at c.run_calls.ensures,
-    c.take_back.ensures.taken,
+    c.take_back.ensures,
   ),
 )

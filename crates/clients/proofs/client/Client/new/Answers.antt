@@ -10,5 +10,5 @@ invariant_of-result g c = record {
   numbers_is = c.requires.drawer.0;
   from = c.requires.drawer.1;
   legal = subst (IsSeen g.J.Naming) (sym c.requires.line.1)
-      (opening g.J.Naming.start g.J.Naming.wear, refl);
+      (opening g.J.Naming.start g.J.Naming.wear, record { legal = refl; owned = tt });
 }

@@ -1,4 +1,4 @@
-use Rattle.std.proofs.Common.{Some}
+use Rattle.std.proofs.Common.{Some, refl}
 use Rattle.txn.specs.declared.steps.Action.{Action}
 use Rattle.clients.specs.Desks.{IsDesk}
 use Rattle.clients.proofs.DeskSteps.{desk_takes}
@@ -16,7 +16,7 @@ keeps g c =
     desk_takes g.J.Naming c.self.inside.book c.self.inside.seat c.self.inside.sender
     c.self.inside.near c.self.invariant.0 (Some c.args.me.now.number) (action g c)
     c.enter-entered.new.self
-    c.note.new.seat c.enter-entered.ensures.answer c.upheld.ensures.records
+    c.note.new.seat refl c.enter-entered.ensures.answer c.upheld.ensures.records
     c.enter-entered.ensures.goes c.note.ensures.book
 
 pub invariant_of-self : goal.invariant_of-self

@@ -1,4 +1,4 @@
-use Rattle.std.proofs.Common.{Some}
+use Rattle.std.proofs.Common.{Some, refl}
 use Rattle.txn.specs.declared.steps.Action.{Action}
 use Rattle.txn.specs.declared.steps.Target.{Target}
 use Rattle.clients.specs.Notes.{found_of}
@@ -20,7 +20,7 @@ keeps g c =
     desk_takes g.J.Naming c.self.inside.book c.self.inside.seat c.self.inside.sender
     c.self.inside.near c.self.invariant.0 (Some c.args.me.now.number) (action g c)
     c.later_found-put_off.new.book
-    c.note.new.seat c.later_found-put_off.ensures.answer
+    c.note.new.seat refl c.later_found-put_off.ensures.answer
     c.upheld.ensures.records c.later_found-put_off.ensures.goes c.note.ensures.book
 
 pub invariant_of-self : goal.invariant_of-self

@@ -8,7 +8,7 @@ use Rattle.disk_model.proofs.file_disk.FileDisk.open.Goals as goal
 
 pub returns-clause-content : goal.returns-clause-content
 returns-clause-content g c =
-    let n = c.len-size.result in
+    let n = c.in_ok-size.size in
     let content = g.S.Content.content in
     let opened = ap (λ (es : List Event). seen_of (padded content n) es) c.new-2.ensures in
     opened ∙ ap (λ (k : ℕ). padded content k)
@@ -17,7 +17,7 @@ returns-clause-content g c =
 
 pub returns-clause-at_rest : goal.returns-clause-at_rest
 returns-clause-at_rest g c = λ d left.
-    let n = c.len-size.result in
+    let n = c.in_ok-size.size in
     let content = g.S.Content.content in
     let now : Leaves (padded content n) (replicate n false) d =
     subst (λ (es : List Event). Leaves (seen_of (padded content n) es) (marks_of n es) d)

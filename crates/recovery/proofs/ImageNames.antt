@@ -14,9 +14,9 @@ use Rattle.catalog.specs.Laws.Makings.{names_kept, names_more}
 use Rattle.catalog.proofs.Entries.{place_contains}
 use Rattle.record_format.specs.declared.record.Record.{Record}
 use Rattle.machine.specs.Machine.{Does}
-use Rattle.repetition.specs.Steps.{State, Steps}
+use Rattle.repetition.specs.Steps.{State, Steps, Repeats}
 use Rattle.repetition.specs.Reading.{Named, Progress, Unread, InCollections, InNumbers, InCalls}
-use Rattle.repetition.specs.Reading.{InJournal, Closes, HoldsLive, Reads, ReadsLive}
+use Rattle.repetition.specs.Reading.{InJournal, Closes, HoldsLive, Reads, ReadsLive, AreAccepted}
 use Rattle.boosted.proofs.Each.{each_append}
 use Rattle.catalog.specs.Meaning.{catalog_meaning}
 
@@ -164,3 +164,22 @@ reads_well (InCalls next s) r q reads well = live_well next s r q reads well
 reads_well (InJournal next s count) r q reads well =
     subst IsWell (sym reads.2) (step_well r s reads.0 reads.1 well)
 reads_well p r q reads well = absurd reads
+
+-- ---- names behind records
+
+run_well : (rs : List Record) (p q : Progress) → Leads Reads rs p q → IsWell p → IsWell q
+run_well [] p q run well = subst IsWell run well
+run_well (r ∷ rs) p q run well = run_well rs run.0 q run.2 (reads_well p r run.0 run.1 well)
+
+-- Names are good and each at one place: in what an image and a journal lead to,
+pub accepted_named : (rs : List Record) (n : ℕ) (s : State) (k : ℕ) → AreAccepted rs n s k →
+    AreNamed s.now × AreDistinct (names_of s.now)
+accepted_named rs n s k run = run_well rs Unread (InJournal n s k) run tt
+
+-- and behind records that the machine repeats, where they were before.
+pub repeats_named : (rs : List Record) (s t : State) → Repeats rs s t →
+    AreNamed s.now × AreDistinct (names_of s.now) → AreNamed t.now × AreDistinct (names_of t.now)
+repeats_named [] s t run well =
+    subst (λ (v : State). AreNamed v.now × AreDistinct (names_of v.now)) run well
+repeats_named (r ∷ rs) s t run well =
+    repeats_named rs run.0 t run.2 (step_well r s run.0 run.1 well)

@@ -1,5 +1,5 @@
 use Rattle.boost.proofs.EffectLemmas.{done_of}
-use Rattle.boost.proofs.commands.show.Goals as goal
+use Rattle.boost.proofs.commands.show_opened.Goals as goal
 
 pub returns-in-Ok-clause-done : goal.returns-in-Ok-clause-done
 returns-in-Ok-clause-done g c =

@@ -1,0 +1,19 @@
+use Rattle.std.proofs.Common.{ap, ◌∙◌, codes}
+use Rattle.std.proofs.lemmas.Result.{IfOk-weaker}
+use Rattle.clap.specs.Simple.{app_of_fields}
+use Rattle.clap.specs.Words.{new_app}
+use Rattle.arguments.proofs.ArgumentCommands.{adds, HasRules}
+use Rattle.arguments.proofs.copy_command.Goals as goal
+
+pub returns : goal.returns
+returns c =
+    let named : HasRules c.about.result (new_app (codes "copy")) = (
+      ap app_of_fields c.about.ensures ∙ c.new.ensures.app,
+      ap (λ f. f.has_globals) c.about.ensures ∙ c.new.ensures.local,
+    ) in
+    let old = adds _ _ _ _ _ c.in_ok-arg.ensures named c.path.ensures.rule c.path.ensures.alone in
+    let both = adds _ _ _ _ _ c.in_ok-arg-2.ensures old c.path-2.ensures.rule
+    c.path-2.ensures.alone in
+    IfOk-weaker c.arg-3.result _ _
+    (λ whole h. adds _ whole _ _ _ h both c.area.ensures.rule c.area.ensures.alone)
+    c.arg-3.ensures

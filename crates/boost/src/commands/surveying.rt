@@ -1,0 +1,162 @@
+// What room a store takes and has, as it is printed.
+ghost use Rattle.std.specs.Prelude.{◌≤◌, ◌+◌, ◌↔◌, IsTrue, IfErr};
+ghost use Rattle.boost.specs.Commands.{IsOfStore};
+
+use crate::commands::failure::Failure;
+use calls::{Item, Kind, Name};
+use catalog::{Catalog, Shown};
+use recovery::Survey;
+use std::io::Write;
+
+// The format of what is written: stores begin with `BOOSTED1`.
+const FORMAT: u64 = 1;
+
+/// Tells what room a store takes and has, and of each collection its kind, its name, how many items
+/// it holds and how many bytes it takes in an image: in lines, or as one JSON object.
+pub fn tell_survey<O: Write>(
+    survey: &Survey,
+    catalog: &Catalog,
+    json: bool,
+    out: &mut O,
+) -> Result<(), Failure<'static>>
+    ensures { IfErr result IsOfStore }
+{
+    if json {
+        write_numbers_json(survey, out)?;
+        write_collections_json(catalog, out)
+    } else {
+        write_numbers(survey, out)?;
+        write_collections(catalog, out)
+    }
+}
+
+// The numbers that are told, with their names.
+fn numbers_of(survey: &Survey) -> [(&'static str, u64); 10] {
+    [
+        ("format", FORMAT),
+        ("area", survey.area),
+        ("in_use", u64::from(!survey.first)),
+        ("used", survey.used),
+        ("image", survey.image),
+        ("undoing", survey.undoing),
+        ("unfinished", survey.report.unfinished as u64),
+        ("records", survey.report.records),
+        ("next", survey.next),
+        ("wear", survey.wear),
+    ]
+}
+
+// Whether the store can be opened: the records that undo what is unfinished fit behind the others.
+fn opens(survey: &Survey) -> bool
+    ensures { IsTrue result ↔ (survey.now.used + survey.now.undoing ≤ survey.now.area) }
+{
+    let Survey {
+        area,
+        used,
+        undoing,
+        ..
+    } = *survey;
+    match used.checked_add(undoing) {
+        Some(sum) => sum <= area,
+        None => false,
+    }
+}
+
+fn write_numbers<O: Write>(survey: &Survey, out: &mut O) -> Result<(), Failure<'static>>
+    ensures { IfErr result IsOfStore }
+{
+    for (name, number) in numbers_of(survey) {
+        writeln!(out, "{name} {number}")?;
+    }
+    let answer = if opens(survey) { "yes" } else { "no" };
+    writeln!(out, "opens {answer}")?;
+    Ok(())
+}
+
+fn write_numbers_json<O: Write>(survey: &Survey, out: &mut O) -> Result<(), Failure<'static>>
+    ensures { IfErr result IsOfStore }
+{
+    write!(out, "{{")?;
+    for (name, number) in numbers_of(survey) {
+        write!(out, "\"{name}\":{number},")?;
+    }
+    write!(out, "\"opens\":{},", opens(survey))?;
+    Ok(())
+}
+
+// How large a collection is.
+#[derive(Drop)]
+struct Size {
+    kind: Kind,
+    name: Name,
+    items: usize,
+    bytes: u64,
+}
+
+impl Size {
+    fn of(shown: Shown) -> Self {
+        let Shown { kind, name, items } = shown;
+        let bytes = items.iter().fold(
+            name_bytes(&name),
+            |sum, item| sum.saturating_add(item_bytes(item)),
+        );
+        Self {
+            kind,
+            name,
+            items: items.len(),
+            bytes,
+        }
+    }
+}
+
+// How many bytes of an image the name of a collection takes.
+fn name_bytes(name: &Name) -> u64 {
+    3u64.saturating_add(name.as_str().len() as u64)
+}
+
+// How many bytes of an image an item takes.
+fn item_bytes(item: &Item) -> u64 {
+    match item {
+        Item::Element(_) => 9,
+        Item::Entry(_, value) => 11u64.saturating_add(value.as_slice().len() as u64),
+        Item::Pair(..) | Item::Number(_) => 17,
+    }
+}
+
+fn write_collections<O: Write>(catalog: &Catalog, out: &mut O) -> Result<(), Failure<'static>>
+    ensures { IfErr result IsOfStore }
+{
+    for number in (0..=u8::MAX).take(catalog.len()) {
+        let Size {
+            kind,
+            name,
+            items,
+            bytes,
+        } = Size::of(catalog.show(number)?);
+        writeln!(out, "collection {kind} {} {items} {bytes}", name.as_str())?;
+    }
+    Ok(())
+}
+
+// A name has no letter that JSON spells otherwise.
+fn write_collections_json<O: Write>(catalog: &Catalog, out: &mut O) -> Result<(), Failure<'static>>
+    ensures { IfErr result IsOfStore }
+{
+    write!(out, "\"collections\":[")?;
+    for number in (0..=u8::MAX).take(catalog.len()) {
+        let Size {
+            kind,
+            name,
+            items,
+            bytes,
+        } = Size::of(catalog.show(number)?);
+        let comma = if number == 0 { "" } else { "," };
+        write!(
+            out,
+            "{comma}{{\"kind\":\"{kind}\",\"name\":\"{}\",\"items\":{items},\"bytes\":{bytes}}}",
+            name.as_str()
+        )?;
+    }
+    writeln!(out, "]}}")?;
+    Ok(())
+}

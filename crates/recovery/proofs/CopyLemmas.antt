@@ -1,0 +1,516 @@
+-- A copy: the image of a settled content is read, so the bytes that hold it alone are sound and
+-- stand for that content.
+use Rattle.std.proofs.Common.{◌≡◌, ◌≢◌, ◌⊎◌, inl, inr, ℕ, ◌+◌, ◌<◌, ◌≤◌, ◌^◌, Option, Some, None}
+use Rattle.std.proofs.Common.{List, [], ◌∷◌, ◌++◌, length, map, take, drop, get_or, refl, sym, ◌∙◌}
+use Rattle.std.proofs.Common.{ap, subst, arith, Bool, false, true≢false, Vec, Result, Ok, Err}
+use Rattle.std.proofs.Common.{IfOk, OnOk, min, ◌-◌, All, length-append, drop_of_length-le}
+use Rattle.std.proofs.Common.{add-one}
+use Rattle.std.specs.Result.{is_err}
+use Rattle.std.specs.Prelude.{Contains}
+use Rattle.std.specs.declared.alloc.Global.{Global}
+use Rattle.std.specs.FinMap as maps
+use Rattle.std.specs.List.{AllByRecursion}
+use Rattle.std.proofs.lemmas.Bool.{cases_eq}
+use Rattle.std.proofs.lemmas.List.{append-nil}
+use Rattle.std.proofs.lemmas.List.Elements.{All-get_or}
+use Rattle.std.proofs.Math.Seq.{drop-cons}
+use Rattle.calls.specs.declared.refusal.Refusal.{Refusal}
+use Rattle.calls.specs.Contents.{Collection}
+use Rattle.calls.specs.Transactions.{Leads}
+use Rattle.disk_model.specs.Disk.{Torn, IsAtRest, LeavesOnly, ReadsOnly}
+use Rattle.disk_model.proofs.Walk.{started, and_then, weaker, leaves_now}
+use Rattle.undo_log.specs.Logs.{Lives}
+use Rattle.gate_block.specs.declared.area.Area.{Area}
+use Rattle.gate_block.specs.Row.{block, row, IsRow, part}
+use Rattle.gate_block.specs.Area.{base_of, size_of, position_of, has_failed, LeavesElsewhere}
+use Rattle.catalog.specs.Holdings.{AreNamed}
+use Rattle.catalog.specs.Making.{names_of, AreDistinct}
+use Rattle.catalog.specs.Places.{IsWithin}
+use Rattle.catalog.specs.Meaning.{catalog_meaning, catalog_making}
+use Rattle.record_format.specs.declared.record.Record.{Record}
+use Rattle.record_format.specs.Records.{spelling}
+use Rattle.record_format.specs.Short.{AreShort}
+use Rattle.records.specs.Images.{IsImage}
+use Rattle.machine.specs.Machines.{resting, IsUpheld}
+use Rattle.machine.specs.Sound.{IsSound as IsSoundState}
+use Rattle.machine.proofs.LiveNumbers.{nobody}
+use Rattle.machine.proofs.Steps as steps
+use Rattle.blocks.specs.Packings.{joined, AreWhole}
+use Rattle.blocks.specs.Wholes.{IsWhole, body_of}
+use Rattle.blocks.specs.declared.block.Image.{Image}
+use Rattle.images.specs.Images.{TellsState, IsPackedImage}
+use Rattle.images.specs.LiveRecords.{live_records}
+use Rattle.checkpoint.specs.declared.laying.Laying.{Laying}
+use Rattle.checkpoint.specs.Imaging.{IsTooLong, IsBeingLaid, bodies_of, left_of}
+use Rattle.checkpoint.specs.ImageAnswers.{IsOneFewer}
+use Rattle.checkpoint.proofs.Blocks.{bytes_in, length-whole}
+use Rattle.checkpoint.proofs.GroupLemmas.{whole_bodies}
+use Rattle.repetition.specs.Journals.{Holds, StandsFor, records_in}
+use Rattle.repetition.specs.Steps.{State}
+use Rattle.repetition.specs.Reading.{Named, Progress, Unread, InCollections, InJournal, Closes}
+use Rattle.repetition.specs.Reading.{Reads, AreAccepted, IsSound, Settles}
+use Rattle.repetition.proofs.CatalogLaws.{laws}
+use Rattle.repetition.proofs.Lists.{leads_append}
+use Rattle.repetition.proofs.Grammar.{records_spelt}
+use Rattle.repetition.proofs.Contents.{content_behind}
+use Rattle.undoing.specs.Undoing.{Undo, IsUndoRecord}
+use Rattle.undoing.proofs.UndoRecords.{undo_acts}
+use Rattle.recovery.specs.Heads.{HasNoHeader}
+use Rattle.recovery.specs.Formats.{IsRoomFor, IsHeadOf, IsMaking, IsShut}
+use Rattle.recovery.specs.Openings.{IsRead, IsFindRefusal}
+use Rattle.recovery.specs.Copies.{IsFilledWith, IsStoreOf, IsImageOf, SpellsImageOf, IsCopyOf}
+use Rattle.recovery.specs.Copies.{IsTooLarge, IsCopyAnswer}
+use Rattle.recovery.specs.Finding.{IsStored}
+use Rattle.recovery.specs.Surveys.{image_len}
+use Rattle.recovery.proofs.ImageItems.{told_reads}
+use Rattle.recovery.proofs.ImageNames.{accepted_named, repeats_named}
+use Rattle.recovery.proofs.FormatLemmas.{header_there, root_there, picks_first, shut, rest_kept}
+use Rattle.recovery.proofs.OpenLemmas.{byte_same}
+use Rattle.recovery.proofs.Stores.{one_held, stands_for_one}
+
+-- ---- the image of a state with no live transaction
+
+none_in : {X : Type 0} (xs : List X) → ((x : X) → Contains xs x → ⊥) → xs ≡ []
+none_in [] none = refl
+none_in (x ∷ xs) none = absurd (none x (0, omega arith, refl))
+
+-- it shows no number and no call
+pub rested_image : (next : ℕ) (s : State) (rs : List Record) → TellsState (λ v. v) next s rs →
+    IsUpheld catalog_meaning catalog_making AreShort
+    (IsSoundState catalog_meaning catalog_making) s → s.live ≡ maps.empty →
+    IsImage next s.wear s.now [] [] rs
+rested_image next s rs tells upheld idle =
+    let sound = upheld.holds in
+    let none : s.entries ≡ [] =
+    (steps.none_live catalog_meaning catalog_making laws.rules s sound sound.content idle
+    sound.settled).0 in
+    let quiet : live_records s ≡ [] =
+    ap (λ es. live_records (record s { entries = es })) none in
+    let nobody_there : tells.numbers ≡ [] =
+    none_in tells.numbers (λ n held.
+    nobody n (subst (λ m. Lives m n) idle ((tells.are_live n).0 held))) in
+    subst (λ l. IsImage next s.wear s.now [] l rs) quiet
+    (subst (λ ns. IsImage next s.wear s.now ns (live_records s) rs) nobody_there tells.is_image)
+
+-- its end leads to the journal
+ends : (next : ℕ) (s t : State) (last : Option Named) → Closes s last t → Settles t →
+    Reads (InCollections next s last) Record.ImageEnd (InJournal next t 0)
+ends next s t None closes settles = (t, closes, (settles, refl))
+ends next s t (Some x) closes settles = (t, closes, (settles, refl))
+
+-- it is read, and leads to the state
+pub image_accepted : (next wear : ℕ) (xs : List Collection) (rs : List Record) →
+    IsImage next wear xs [] [] rs → AreNamed xs → AreDistinct (names_of xs) →
+    length (names_of xs) ≤ 256 → IsWithin xs wear → wear ≤ 2 ^ 61 + 65536 →
+    AreAccepted rs next (resting xs wear) 0
+image_accepted next wear xs rs image good distinct few within worn =
+    let telling = told_reads next wear xs image.told image.tells good distinct few within in
+    let p : Progress = InCollections next (resting [] wear) None in
+    let there : Progress = InCollections next telling.state telling.last in
+    let goal : Progress = InJournal next (resting xs wear) 0 in
+    subst (λ l. Leads Reads l Unread goal) (sym image.is) (
+      p,
+      (worn, refl),
+      leads_append Reads image.told (Record.ImageEnd ∷ []) p there goal telling.leads (
+        goal,
+        ends next telling.state (resting xs wear) telling.last telling.closes (xs, refl),
+        refl,
+      ),
+    )
+
+-- ---- what an opening finds, as an image
+
+-- the machine that was found, with the blocks that are its image
+pub spells : (bytes : List ℕ) (area : Area) (state undone : State) (next count : ℕ)
+    (undoing : List Record) (blocks : List (Vec ℕ Global)) →
+    IsStored bytes area state next count → Undo state undoing undone →
+    AllByRecursion IsUndoRecord undoing →
+    IsUpheld catalog_meaning catalog_making AreShort
+    (IsSoundState catalog_meaning catalog_making) undone →
+    IsPackedImage (λ v. v) next undone blocks → SpellsImageOf bytes blocks
+spells bytes area state undone next count undoing blocks stored undo marks upheld packed =
+    let read = stored.loaded.is_read in
+    let rs : List Record = records_in packed.groups in
+    let is_image : IsImage next undone.wear undone.now [] [] rs =
+    rested_image next undone rs packed.tells upheld undo.over in
+    let named = repeats_named undoing state undone undo.leads
+    (accepted_named (records_in stored.loaded.blocks) next state count read.accepted) in
+    let worn = upheld.unworn in
+    let low : undone.wear ≤ 2 ^ 61 + 65536 = omega (arith, worn) in
+    record {
+      image = packed.groups;
+      is_image_of = record {
+        size = size_of area;
+        header = stored.header;
+        blocks = stored.loaded.blocks;
+        next = next;
+        state = state;
+        count = count;
+        is_read = subst (λ k. IsRead k (size_of area) bytes stored.loaded.blocks next state count)
+            stored.picks read;
+        undoing = undoing;
+        undone = undone;
+        marks = marks;
+        undo = undo;
+        is_image = is_image;
+        good = packed.good;
+        accepted = image_accepted next undone.wear undone.now rs is_image named.0 named.1
+            upheld.few_names upheld.reached low;
+        packed = packed.packed.0;
+        not_empty = packed.packed.1;
+      };
+      whole = packed.whole;
+    }
+
+no_groups : (bs : List (Vec ℕ Global)) (gs : List (List Record)) → AreWhole bs gs → bs ≡ [] →
+    gs ≡ []
+no_groups bs [] whole none = refl
+no_groups [] (g ∷ gs) whole none = absurd whole
+no_groups (b ∷ bs) (g ∷ gs) whole none = absurd (omega (arith, ap length none))
+
+-- an image has a block
+pub some_blocks : (next : ℕ) (s : State) (blocks : List (Vec ℕ Global)) →
+    IsPackedImage (λ v. v) next s blocks → blocks ≢ []
+some_blocks next s blocks packed none =
+    let groups : packed.groups ≡ [] = no_groups blocks packed.groups packed.whole none in
+    let is = packed.tells.is_image.is in
+    absurd (omega (arith, ap length (sym (ap joined groups) ∙ is)))
+
+-- ---- the store that holds it
+
+-- what a store stands for is what its records lead to, once all that was live is undone
+old_content : (old : List ℕ) (image : List (List Record)) (of : IsImageOf old image)
+    (content : List Collection) → StandsFor old content → of.undone.now ≡ content
+old_content old image of content stood =
+    let holds : Holds old of.blocks = record {
+      size = of.size;
+      header = of.header;
+      row = of.is_read.row_is;
+      spelt = records_spelt None (records_in of.blocks) of.is_read.good;
+    } in
+    content_behind (records_in of.blocks) of.next of.state of.count of.is_read.accepted of.undoing
+    of.undone of.undo.leads of.undo.over (undo_acts of.undoing of.marks) old content stood
+    (ap records_in (one_held old of.blocks stood.blocks holds stood.holds))
+
+module _ (old : List ℕ) (area : ℕ) (image : List (List Record)) (of : IsImageOf old image)
+    (bytes : List ℕ) (store : IsStoreOf area (map spelling image) bytes) where
+  abbrev rested : State
+  rested = resting of.undone.now of.undone.wear
+
+  holds : Holds bytes image
+  holds = record {
+    size = area;
+    header = store.header;
+    row = subst (λ b. IsRow (map spelling image) (part b area bytes))
+        (sym (picks_first area bytes store.root)) store.row_is;
+    spelt = records_spelt None (records_in image) of.good;
+  }
+
+  sound : IsSound bytes
+  sound = record {
+    blocks = image;
+    holds = holds;
+    good = of.good;
+    next = of.next;
+    end = rested;
+    count = 0;
+    accepted = of.accepted;
+  }
+
+  -- so does the one that holds the image alone
+  is_there : (other : List Collection) → StandsFor bytes other → of.undone.now ≡ other
+  is_there other stands =
+      content_behind (records_in image) of.next rested 0 of.accepted [] rested refl refl refl bytes
+      other stands (ap records_in (one_held bytes image stands.blocks holds stands.holds))
+
+  stands : (content : List Collection) → StandsFor old content → StandsFor bytes content
+  stands content stood =
+      let one = stands_for_one bytes sound in
+      subst (StandsFor bytes) (sym (is_there one.0 one.1) ∙ old_content old image of content stood)
+      one.1
+
+  copy_of : IsCopyOf old area bytes
+  copy_of = record {
+    image = image;
+    is_image_of = of;
+    is_store = store;
+    sound = sound;
+    stands = stands;
+  }
+
+-- the blocks that spell it are written
+pub copied : (old : List ℕ) (area : ℕ) (blocks : List (Vec ℕ Global)) (bytes : List ℕ) →
+    SpellsImageOf old blocks → IsStoreOf area (bodies_of blocks) bytes → IsCopyOf old area bytes
+copied old area blocks bytes spelt store =
+    copy_of old area spelt.image spelt.is_image_of bytes
+    (subst (λ b. IsStoreOf area b bytes) (whole_bodies blocks spelt.image spelt.whole) store)
+
+-- they need more room than there is
+pub too_large : (old : List ℕ) (area : ℕ) (blocks : List (Vec ℕ Global)) →
+    SpellsImageOf old blocks → IsTooLong area blocks → IsTooLarge old area
+too_large old area blocks spelt long = record {
+  image = spelt.image;
+  is_image_of = spelt.is_image_of;
+  over = subst (λ b. area < length (row b) + 1) (whole_bodies blocks spelt.image spelt.whole) long;
+}
+
+-- ---- the gate of the head
+
+-- behind its open gate, what was filled is a store
+pub store_there : (area : ℕ) (bodies : List (List ℕ)) (old new : List ℕ) →
+    IsRoomFor area (length old) → IsFilledWith area bodies old → Torn 8 1 old new →
+    get_or new 8 0 ≡ 167 → IsStoreOf area bodies new
+store_there area bodies old new room filled torn opened = record {
+  header = header_there area old new room filled.head torn opened;
+  root = root_there area old new room filled.head torn;
+  row_is = subst (λ l. IsRow bodies (take area l))
+      (sym (rest_kept 4096 8 1 old new (omega arith) torn)) filled.row_is;
+}
+
+pub store_or_no_store : (area : ℕ) (bodies : List (List ℕ)) (old new : List ℕ) →
+    IsRoomFor area (length old) → IsFilledWith area bodies old → Torn 8 1 old new →
+    HasNoHeader new ⊎ IsStoreOf area bodies new
+store_or_no_store area bodies old new room filled torn =
+    elim (cases_eq (get_or new 8 0) 167) [
+      | inl opened ↦ inr (store_there area bodies old new room filled torn opened)
+      | inr closed ↦ inl (shut new closed)
+    ]
+
+-- ---- laying one block after another
+
+module _ {D : Type 0} (seen : D → List ℕ) (may_leave : D → List ℕ → Type 0) (moment : D → ℕ)
+    (left_since : D → ℕ → List ℕ → Type 0) (fault_count : D → ℕ) where
+  -- From old to new the first blocks of w were laid, and those of v are left.
+  pub record LaidOn (w v : Laying) (old new : D) : Type 0 where
+    pub fine : has_failed v.area ≡ false
+    pub room : position_of v.area + length (row (bodies_of (left_of v))) < size_of v.area
+    pub base : base_of v.area ≡ base_of w.area
+    pub size : size_of v.area ≡ size_of w.area
+    pub long : length (seen new) ≡ length (seen old)
+    pub being : (bodies : List (List ℕ)) → IsBeingLaid w (seen old) bodies →
+        IsBeingLaid v (seen new) bodies
+    pub stop : ((c : List ℕ) → may_leave old c → IsShut c) →
+        LeavesOnly moment left_since old new IsShut
+    pub faults : fault_count old ≤ fault_count new
+
+  pub none_laid : (w : Laying) (old : D) →
+      ((c : List ℕ) → left_since old (moment old) c → may_leave old c) →
+      has_failed w.area ≡ false →
+      position_of w.area + length (row (bodies_of (left_of w))) < size_of w.area →
+      LaidOn w w old old
+  none_laid w old only_now fine room = record {
+    fine = fine;
+    room = room;
+    base = refl;
+    size = refl;
+    long = refl;
+    being = λ bodies is. is;
+    stop = λ now. started moment left_since old IsShut (λ c left. now c (only_now c left));
+    faults = omega arith;
+  }
+
+  -- what a stop leaves once another is laid, or was to be
+  pub stop_on : (w v : Laying) (old mid new : D) → 4096 ≤ base_of w.area → LaidOn w v old mid →
+      ((t : ℕ) (c : List ℕ) → t ≤ moment mid → may_leave mid c → left_since mid t c) →
+      LeavesOnly moment left_since mid new (LeavesElsewhere (may_leave mid) v.area) →
+      ((c : List ℕ) → may_leave old c → IsShut c) → LeavesOnly moment left_since old new IsShut
+  stop_on w v old mid new behind so_far counts_now step now =
+      let run = so_far.stop now in
+      and_then moment left_since old mid new IsShut (LeavesElsewhere (may_leave mid) v.area) run step
+      (λ c left. byte_same (base_of v.area) (size_of v.area) 8 left.0 c
+      (omega (arith, behind, so_far.base)) left.2
+      ∙ leaves_now moment left_since old mid IsShut (may_leave mid) run counts_now left.0 left.1)
+
+  pub laid_more : (w v u : Laying) (old mid new : D) (more : Bool) → 4096 ≤ base_of w.area →
+      LaidOn w v old mid →
+      ((t : ℕ) (c : List ℕ) → t ≤ moment mid → may_leave mid c → left_since mid t c) →
+      LeavesOnly moment left_since mid new (LeavesElsewhere (may_leave mid) v.area) →
+      IsOneFewer v u more → has_failed u.area ≡ false →
+      position_of u.area + length (row (bodies_of (left_of u))) < size_of u.area →
+      length (seen new) ≡ length (seen mid) →
+      ((bodies : List (List ℕ)) → IsBeingLaid v (seen mid) bodies →
+      IsBeingLaid u (seen new) bodies) → fault_count mid ≤ fault_count new → LaidOn w u old new
+  laid_more w v u old mid new more behind so_far counts_now step fewer fine room long being faults =
+      record {
+        fine = fine;
+        room = room;
+        base = fewer.same.base ∙ so_far.base;
+        size = fewer.same.size ∙ so_far.size;
+        long = long ∙ so_far.long;
+        being = λ bodies is. being bodies (so_far.being bodies is);
+        stop = stop_on w v old mid new behind so_far counts_now step;
+        faults = omega (arith, so_far.faults, faults);
+      }
+
+-- all are laid
+pub all_laid : (v : Laying) (bytes : List ℕ) (bodies : List (List ℕ)) →
+    (1 ≤ length (left_of v) → ⊥) → bodies ≢ [] → IsBeingLaid v bytes bodies →
+    IsRow bodies (part (base_of v.area) (size_of v.area) bytes)
+all_laid v bytes bodies none some being =
+    let left : left_of v ≡ [] = no_more (left_of v) none in
+    let all : being.laid ≡ bodies =
+    sym (append-nil being.laid) ∙ ap (λ l. being.laid ++ bodies_of l) (sym left) ∙ being.all in
+    subst (λ b. IsRow b (part (base_of v.area) (size_of v.area) bytes)) all
+    (being.stands.holds (λ nothing. some (sym all ∙ nothing)))
+  where
+    no_more : (xs : List (Vec ℕ Global)) → (1 ≤ length xs → ⊥) → xs ≡ []
+    no_more [] none = refl
+    no_more (x ∷ xs) none = absurd (none (omega arith))
+
+-- one more was laid, where none was refused
+pub laid_one : {D : Type 0} (seen : D → List ℕ) (may_leave : D → List ℕ → Type 0) (moment : D → ℕ)
+    (left_since : D → ℕ → List ℕ → Type 0) (fault_count : D → ℕ) (w v u : Laying) (old mid new : D)
+    (r : Result Bool Refusal) → is_err r ≡ false → 4096 ≤ base_of w.area →
+    LaidOn seen may_leave moment left_since fault_count w v old mid →
+    ((t : ℕ) (c : List ℕ) → t ≤ moment mid → may_leave mid c → left_since mid t c) →
+    LeavesOnly moment left_since mid new (LeavesElsewhere (may_leave mid) v.area) →
+    IfOk r (λ more. IsOneFewer v u more) → OnOk r (has_failed u.area ≡ false) →
+    position_of u.area + length (row (bodies_of (left_of u))) < size_of u.area →
+    length (seen new) ≡ length (seen mid) →
+    ((bodies : List (List ℕ)) → IsBeingLaid v (seen mid) bodies →
+    OnOk r (IsBeingLaid u (seen new) bodies)) → fault_count mid ≤ fault_count new →
+    LaidOn seen may_leave moment left_since fault_count w u old new
+laid_one seen may_leave moment left_since fault_count w v u old mid new (Ok more) well behind so_far
+    counts_now step fewer fine room long being faults =
+    laid_more seen may_leave moment left_since fault_count w v u old mid new more behind so_far
+    counts_now step fewer fine room long being faults
+laid_one seen may_leave moment left_since fault_count w v u old mid new (Err e) well behind so_far
+    counts_now step fewer fine room long being faults = absurd (true≢false well)
+
+-- so the row stands where the laying began
+pub row_laid : {D : Type 0} (seen : D → List ℕ) (may_leave : D → List ℕ → Type 0) (moment : D → ℕ)
+    (left_since : D → ℕ → List ℕ → Type 0) (fault_count : D → ℕ) (w v : Laying) (old new : D) →
+    LaidOn seen may_leave moment left_since fault_count w v old new →
+    (1 ≤ length (left_of v) → ⊥) → (bodies : List (List ℕ)) → bodies ≢ [] →
+    IsBeingLaid w (seen old) bodies →
+    IsRow bodies (part (base_of w.area) (size_of w.area) (seen new))
+row_laid seen may_leave moment left_since fault_count w v old new so_far none bodies some being =
+    subst (λ b. IsRow bodies (part b (size_of w.area) (seen new))) so_far.base
+    (subst (λ n. IsRow bodies (part (base_of v.area) n (seen new))) so_far.size
+    (all_laid v (seen new) bodies none some (so_far.being bodies being)))
+
+-- nothing is laid yet
+pub none_yet : (area : Area) (image : Image) (bytes : List ℕ) → position_of area ≡ 0 →
+    IsBeingLaid (record { area = area; image = image }) bytes (bodies_of image.blocks.items)
+none_yet area image bytes position = record {
+  laid = [];
+  stands = record { position = position; holds = λ some. absurd (some refl) };
+  all = refl;
+}
+
+some_bodies : (bs : List (Vec ℕ Global)) → bs ≢ [] → bodies_of bs ≢ []
+some_bodies [] some none = some refl
+some_bodies (b ∷ bs) some none = absurd (omega (arith, ap length none))
+
+-- all are laid, and the head is written
+pub filled_with : (area : Area) (size : ℕ) (image : Image) (mid new : List ℕ) →
+    base_of area ≡ 4096 → size_of area ≡ size → position_of area ≡ 0 →
+    image.blocks.items ≢ [] → (bytes : List ℕ) →
+    ((bodies : List (List ℕ)) → bodies ≢ [] →
+    IsBeingLaid (record { area = area; image = image }) bytes bodies →
+    IsRow bodies (part (base_of area) (size_of area) mid)) → IsHeadOf size new →
+    drop 4096 new ≡ drop 4096 mid → IsFilledWith size (bodies_of image.blocks.items) new
+filled_with area size image mid new base size_is position some bytes laid head behind =
+    let bodies : List (List ℕ) = bodies_of image.blocks.items in
+    let row : IsRow bodies (part (base_of area) (size_of area) mid) =
+    laid bodies (some_bodies image.blocks.items some) (none_yet area image bytes position) in
+    let there : IsRow bodies (part 4096 size mid) =
+    subst (λ b. IsRow bodies (part b size mid)) base
+    (subst (λ n. IsRow bodies (part (base_of area) n mid)) size_is row) in
+    record { head = head; row_is = subst (λ l. IsRow bodies (take size l)) (sym behind) there }
+
+-- ---- what a copy answers
+
+pub still_making : {D : Type 0} (seen : D → List ℕ) (may_leave : D → List ℕ → Type 0)
+    (moment : D → ℕ) (left_since : D → ℕ → List ℕ → Type 0) (is_made : List ℕ → Type 0) (disk : D) →
+    ((c : List ℕ) → left_since disk (moment disk) c → may_leave disk c) →
+    IsAtRest seen may_leave disk →
+    LeavesOnly moment left_since disk disk (IsMaking is_made (seen disk))
+still_making seen may_leave moment left_since is_made disk only_now rest =
+    started moment left_since disk (IsMaking is_made (seen disk))
+    (λ c left. subst (IsMaking is_made (seen disk)) (sym (rest c (only_now c left)))
+    (inl (record { before = refl; after = refl; size = refl })))
+
+pub making_weaker : (P Q : List ℕ → Type 0) (old c : List ℕ) → ((b : List ℕ) → P b → Q b) →
+    IsMaking P old c → IsMaking Q old c
+making_weaker P Q old c f (inl torn) = inl torn
+making_weaker P Q old c f (inr (inl none)) = inr (inl none)
+making_weaker P Q old c f (inr (inr made)) = inr (inr (f c made))
+
+-- what is made of the image is a copy, where the old disk read true
+pub making_copy : {D : Type 0} (seen : D → List ℕ) (moment : D → ℕ)
+    (left_since : D → ℕ → List ℕ → Type 0) (is_honest : Type 0) (old : List ℕ) (area : ℕ)
+    (blocks : List (Vec ℕ Global)) (before after : D) → (is_honest → SpellsImageOf old blocks) →
+    LeavesOnly moment left_since before after
+    (IsMaking (IsStoreOf area (bodies_of blocks)) (seen before)) →
+    LeavesOnly moment left_since before after
+    (IsMaking (λ bytes. is_honest → IsCopyOf old area bytes) (seen before))
+making_copy seen moment left_since is_honest old area blocks before after spelt run =
+    weaker moment left_since before after
+    (IsMaking (IsStoreOf area (bodies_of blocks)) (seen before))
+    (IsMaking (λ bytes. is_honest → IsCopyOf old area bytes) (seen before)) run
+    (λ c made. making_weaker (IsStoreOf area (bodies_of blocks))
+    (λ bytes. is_honest → IsCopyOf old area bytes) (seen before) c
+    (λ bytes store true_read. copied old area blocks bytes (spelt true_read) store) made)
+
+-- a disk that nobody touched
+pub unread : {D : Type 0} (seen : D → List ℕ) (may_leave : D → List ℕ → Type 0) (moment : D → ℕ)
+    (left_since : D → ℕ → List ℕ → Type 0) (disk : D) →
+    ((c : List ℕ) → left_since disk (moment disk) c → may_leave disk c) →
+    ReadsOnly seen may_leave moment left_since disk disk
+unread seen may_leave moment left_since disk only_now = record {
+  same = refl;
+  stop = λ c left. left;
+  any_moment = started moment left_since disk (may_leave disk) only_now;
+}
+
+pub copy_refusal : (is_room risen rises no_head : Type 0) (is_damaged : ℕ → Type 0)
+    (is_too_large : Type 0) (e : Refusal) → is_room → (risen → rises) →
+    IsFindRefusal risen no_head is_damaged e →
+    IsCopyAnswer is_room rises no_head is_damaged is_too_large (Err e)
+copy_refusal is_room risen rises no_head is_damaged is_too_large Refusal.NoMemory room f why =
+    (room, tt)
+copy_refusal is_room risen rises no_head is_damaged is_too_large Refusal.Fault room f why =
+    (room, f why)
+copy_refusal is_room risen rises no_head is_damaged is_too_large Refusal.NotAStore room f why =
+    (room, why)
+copy_refusal is_room risen rises no_head is_damaged is_too_large (Refusal.Damaged place) room f why
+    = (room, why)
+copy_refusal is_room risen rises no_head is_damaged is_too_large e room f why = absurd why
+
+-- ---- how long an image is
+
+-- so much is counted of the first so many blocks, up to what a word holds
+abbrev pub Counted : List (Vec ℕ Global) → ℕ → ℕ → Type 0
+Counted blocks len i = (len ≤ 2 ^ 64 - 1) ×
+    (min (len + bytes_in (drop i blocks)) (2 ^ 64 - 1) ≡ image_len blocks)
+
+pub counted_none : (blocks : List (Vec ℕ Global)) → Counted blocks 1 0
+counted_none blocks = (omega arith, ap (λ n. min n (2 ^ 64 - 1)) (omega arith))
+
+pub counted_one : (blocks : List (Vec ℕ Global)) (len more i : ℕ) (b : Vec ℕ Global) →
+    i < length blocks → b ≡ get_or blocks i b → All (λ x. IsWhole x.items) blocks →
+    more ≡ min (len + (length b.items - 1)) (2 ^ 64 - 1) → Counted blocks len i →
+    Counted blocks more (i + 1)
+counted_one blocks len more i b inside at whole is so_far =
+    let here : bytes_in (drop i blocks) ≡ bytes_in (get_or blocks i b ∷ drop (i + 1) blocks) =
+    ap bytes_in (drop-cons blocks i b inside) ∙
+    ap (λ k. bytes_in (get_or blocks i b ∷ drop k blocks)) (sym (add-one i)) in
+    let one = All-get_or (λ x. IsWhole x.items) blocks i b inside whole in (
+      omega (arith, is),
+      omega (
+        arith,
+        is,
+        here,
+        so_far.0,
+        ap (λ x. length x.items) at,
+        ap length one.is,
+        length-append (block (body_of (get_or blocks i b).items)) (0 ∷ []),
+        length-whole (get_or blocks i b) (drop (i + 1) blocks) one,
+      ) ∙ so_far.1,
+    )
+
+pub counted_all : (blocks : List (Vec ℕ Global)) (len i : ℕ) → length blocks ≤ i →
+    Counted blocks len i → len ≡ image_len blocks
+counted_all blocks len i all so_far =
+    omega (arith, so_far.0, ap bytes_in (drop_of_length-le blocks all)) ∙ so_far.1

@@ -1,0 +1,64 @@
+use Rattle.std.proofs.Common.{inl, refl}
+use Rattle.std.proofs.lemmas.Result.{err_from_is_err_and}
+use Rattle.recovery.proofs.CopyLemmas.{still_making, unread, copy_refusal, too_large, copied}
+use Rattle.recovery.proofs.CopyLemmas.{making_copy}
+use Rattle.recovery.proofs.copying.copy.Goals as goal
+
+pub returns-then-not-is_room_for-clause-stop : goal.returns-then-not-is_room_for-clause-stop
+returns-then-not-is_room_for-clause-stop g c =
+    still_making g.E.Disk.seen g.E.Disk.may_leave g.E.Disk.moment g.E.Disk.left_since _
+    c.args.new.now (g.met.E.Disk.only_now c.args.new.now)
+
+pub returns-then-not-is_room_for-clause-reads : goal.returns-then-not-is_room_for-clause-reads
+returns-then-not-is_room_for-clause-reads g c =
+    unread g.D.Disk.seen g.D.Disk.may_leave g.D.Disk.moment g.D.Disk.left_since c.args.old.now
+    (g.met.D.Disk.only_now c.args.old.now)
+
+pub returns-in_err-image-clause-stop : goal.returns-in_err-image-clause-stop
+returns-in_err-image-clause-stop g c =
+    still_making g.E.Disk.seen g.E.Disk.may_leave g.E.Disk.moment g.E.Disk.left_since _
+    c.args.new.now (g.met.E.Disk.only_now c.args.new.now)
+
+pub returns-in_err-image-clause-answer : goal.returns-in_err-image-clause-answer
+returns-in_err-image-clause-answer g c =
+    let p = err_from_is_err_and c.from_residual.result c.from_residual.ensures.1 in
+    rw (p.1, p.2)
+    (copy_refusal _ _ _ _ _ _ c.in_err-image.field-0.0
+    (c.is_room_for.ensures.0 c.if-not-is_room_for.false) (λ risen. inl risen)
+    c.in_err-image.ensures.refused)
+
+pub returns-in_err-image-clause-unwritten : goal.returns-in_err-image-clause-unwritten
+returns-in_err-image-clause-unwritten g c =
+    let p = err_from_is_err_and c.from_residual.result c.from_residual.ensures.1 in
+    rw p.1 (inl refl)
+
+pub returns-then-is_too_long-clause-stop : goal.returns-then-is_too_long-clause-stop
+returns-then-is_too_long-clause-stop g c =
+    still_making g.E.Disk.seen g.E.Disk.may_leave g.E.Disk.moment g.E.Disk.left_since _
+    c.args.new.now (g.met.E.Disk.only_now c.args.new.now)
+
+pub returns-then-is_too_long-clause-answer : goal.returns-then-is_too_long-clause-answer
+returns-then-is_too_long-clause-answer g c = (
+  c.is_room_for.ensures.0 c.if-not-is_room_for.false,
+  λ true_read. too_large (g.D.Disk.seen c.args.old.now) c.args.area
+      c.in_ok-image.image.blocks.items (c.in_ok-image.ensures.image true_read)
+      (c.is_too_long.ensures.0 c.if-is_too_long.true),
+)
+
+pub returns-in-Ok-clause-copied : goal.returns-in-Ok-clause-copied
+returns-in-Ok-clause-copied g c =
+    λ true_read. copied (g.D.Disk.seen c.args.old.now) c.args.area
+    c.in_ok-image.image.blocks.items (g.E.Disk.seen c.write_copy.new.disk)
+    (c.in_ok-image.ensures.image true_read) c.in-Ok.ensures.written
+
+pub returns-in-Ok-clause-stop : goal.returns-in-Ok-clause-stop
+returns-in-Ok-clause-stop g c = λ rest.
+    making_copy g.E.Disk.seen g.E.Disk.moment g.E.Disk.left_since _
+    (g.D.Disk.seen c.args.old.now) c.args.area c.in_ok-image.image.blocks.items c.args.new.now
+    c.write_copy.new.disk c.in_ok-image.ensures.image (c.write_copy.ensures.stop rest)
+
+pub returns-in-Err-clause-stop : goal.returns-in-Err-clause-stop
+returns-in-Err-clause-stop g c = λ rest.
+    making_copy g.E.Disk.seen g.E.Disk.moment g.E.Disk.left_since _
+    (g.D.Disk.seen c.args.old.now) c.args.area c.in_ok-image.image.blocks.items c.args.new.now
+    c.write_copy.new.disk c.in_ok-image.ensures.image (c.write_copy.ensures.stop rest)
