@@ -13,12 +13,12 @@ to the end of the script. At each of them a child of the program goes on without
   answers them alone. Opened with ample memory, the store must show a beginning of what they committed, which holds what
   was told as kept.
 
-All scripts are played, or those that are named. Six are of this tool: one for each kind, and one over two checkpoints.
+All scripts are played, or those that are named. Seven are of this tool: one for each kind, and one over two checkpoints.
 Behind each of its lines such a script reads each collection back, in the same session. So a call that was refused and
 has changed something all the same shows there, also where the call that is run once more answers as ever and nothing
-of it is on the disk. It is run on an empty store, and then the store that it left is opened and read. Eleven are those
-that are failed and stopped at each call of the disk (`sweep`, tools/sweeps.py): six by name, and five generated
-stories, two of which have images of two blocks. What a run with ample memory answers is compared with the model of
+of it is on the disk. It is run on an empty store, and then the store that it left is opened and read. The others are those
+that are failed and stopped at each call of the disk (`sweep`, tools/sweeps.py): seven by name, and six generated
+stories, two of which have images of two blocks, and one of which has a stock. What a run with ample memory answers is compared with the model of
 tools/stories.py.
 
 As many children go side by side as the process may use processors; `taskset -c 0,1 tools/refusals.py` runs it on two.
@@ -75,6 +75,7 @@ FULL = {"room": {160: "refused 18 Full", 161: "not yet", 164: "kept 4"}}
 # The stories of the generator, by their seeds.
 STORIES = {f"story_{seed}": (stories.EMPTY, stories.story(seed, 40)) for seed in (5, 6, 8)}
 STORIES |= {f"story_{seed}": (stories.wide(), stories.story(seed, 20)) for seed in (25, 38)}
+STORIES["story_41"] = (stories.EMPTY, stories.story(41, 60, stories.SIX_KINDS))
 
 LIBRARY = r"""
 #define _GNU_SOURCE

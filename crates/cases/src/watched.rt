@@ -130,7 +130,8 @@ pub fn watch(alloc: Global, bench: &mut Workbench, told: &mut Told) -> io::Resul
 }
 
 /// Plays the script on such a file once for each of its calls, which fails then. Tells of each that
-/// call, how many came behind it, and how the play ended: its status, and each line that it printed.
+/// call, how many came behind it, and how the play ended: its status, and each line that it
+/// printed.
 pub fn watch_failures(alloc: Global, bench: &mut Workbench, told: &mut Told) -> io::Result<()> {
     let script = bench.take_script(alloc);
     for failing in 1..usize::MAX {

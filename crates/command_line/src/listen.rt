@@ -13,8 +13,8 @@ use std::sync::Wait;
 use std::thread::Threads;
 use std::time::Duration;
 
-/// Keeps the store of a disk open, and serves the clients that share an input and an output. Answers
-/// the status: 0 at the end of the input, once all that was committed is kept.
+/// Keeps the store of a disk open, and serves the clients that share an input and an output.
+/// Answers the status: 0 at the end of the input, once all that was committed is kept.
 ///
 /// Else it is 1 where the store could not be opened, where keeping ended early, and where memory or
 /// a thread is wanting; and 4 where the input could not be read or the output not be written.
@@ -36,10 +36,10 @@ pub fn listen_to_input<
     Ok(status_of(closed, failure, err))
 }
 
-/// Keeps the store of a disk open, and serves the clients that come by the door of a folder. One that
-/// is silent for the time `idle`, where that is given, has its transaction undone. What is passed
-/// over there is told. Answers the status: 0 at the line `end` there, once all that was committed is
-/// kept.
+/// Keeps the store of a disk open, and serves the clients that come by the door of a folder. One
+/// that is silent for the time `idle`, where that is given, has its transaction undone. What is
+/// passed over there is told. Answers the status: 0 at the line `end` there, once all that was
+/// committed is kept.
 ///
 /// Else it is as `listen_to_input` answers it, with 4 where the door cannot be read.
 pub fn listen_at_door<
@@ -62,7 +62,8 @@ pub fn listen_at_door<
     Ok(status_of(closed, failure, err))
 }
 
-// The first error of the threads that serve clients, if one had any. Refused where no thread served.
+// The first error of the threads that serve clients, if one had any. Refused where no thread
+// served.
 fn first_error(served: Result<Vec<io::Result<()>>, Refusal>) -> Result<Option<io::Error>, Refusal> {
     for ended in served? {
         if let Err(error) = ended {

@@ -69,8 +69,8 @@ fn add_counted(
     Ok(())
 }
 
-// Adds a line with the number of a round in the place of its `#`, and another one in that of the `%`
-// behind it.
+// Adds a line with the number of a round in the place of its `#`, and another one in that of the
+// `%` behind it.
 fn add_twice_numbered(script: &mut Vec<u8>, line: &str, round: u64, number: u64) -> io::Result<()> {
     let Some((front, back)) = line.split_once("%") else {
         return add_numbered(script, line, round);

@@ -114,9 +114,9 @@ fn drawn(
 }
 
 /// Opens so many stores with bytes of the generator of a seed, in a check, in a show that writes
-/// nothing, in a show and for threads, and tells how many bytes were drawn, and how many stores were
-/// opened and refused. A quarter of them are the store of the case with one to three bytes of its
-/// journal changed.
+/// nothing, in a show and for threads, and tells how many bytes were drawn, and how many stores
+/// were opened and refused. A quarter of them are the store of the case with one to three bytes of
+/// its journal changed.
 pub fn open_all<R: Wait + AllocGlobal>(
     rt: &R,
     bench: &mut Workbench,

@@ -10,10 +10,10 @@ use std::alloc::Global;
 use std::io;
 
 /// Stops a copy of the store of the case at each call of the new disk and behind the last one, in
-/// each of four ways. The new disk has so many bytes, and held an empty store with areas of so many.
-/// Tells how many calls it makes, and what that disk shows then, where that is not what it showed at
-/// the call before: no collection, why it is no store, or the copy. Then fails it at each call of
-/// the old disk, and tells how many it makes, and where a byte of either disk has changed.
+/// each of four ways. The new disk has so many bytes, and held an empty store with areas of so
+/// many. Tells how many calls it makes, and what that disk shows then, where that is not what it
+/// showed at the call before: no collection, why it is no store, or the copy. Then fails it at each
+/// call of the old disk, and tells how many it makes, and where a byte of either disk has changed.
 pub fn stop_copy(
     alloc: Global,
     bench: &mut Workbench,
@@ -58,8 +58,8 @@ fn fail_reads(alloc: Global, old: &[u8], new: &[u8], area: u64, told: &mut Told)
     Ok(())
 }
 
-// Fails a copy at a call of the old disk. Answers whether that was reached, and whether the copy was
-// refused with both disks as they were.
+// Fails a copy at a call of the old disk. Answers whether that was reached, and whether the copy
+// was refused with both disks as they were.
 fn fail_read(alloc: Global, old: &[u8], new: &[u8], area: u64, k: u64) -> io::Result<(bool, bool)> {
     let mut from = at_rest(alloc, old)?;
     from.fail_at(k);
