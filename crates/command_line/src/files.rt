@@ -5,8 +5,9 @@ use boost::Failure;
 use calls::Refusal;
 use calls::limits::{MAX_AREA, MIN_AREA};
 use disk_model::{Content, FileDisk};
-use std::fs::{File, TryLockError};
+use std::fs::{self, File, TryLockError};
 use std::io::{self, Read};
+use std::os::unix::fs::FileTypeExt;
 use std::rt::Files;
 
 // How many bytes of a disk stand before its two areas.
@@ -68,6 +69,16 @@ fn lock_alone<'a>(path: &'a str, file: File) -> Result<File, Failure<'a>> {
     }
 }
 
+// Refuses a FIFO, of which who opens it for reading alone waits for a writer.
+fn refuse_fifo<'a>(rt: &impl Files<File = File>, path: &'a str) -> Result<(), Failure<'a>> {
+    let found = opened(path, fs::metadata(rt, path))?;
+    if found.file_type().is_fifo() {
+        let error = io::Error::from(io::ErrorKind::InvalidInput);
+        return Err(cannot_open(path, &error));
+    }
+    Ok(())
+}
+
 // Opens a file and takes its lock.
 fn open_file<'a>(
     rt: &impl Files<File = File>,
@@ -75,6 +86,9 @@ fn open_file<'a>(
     access: Access,
 ) -> Result<File, Failure<'a>> {
     let may_write = !matches!(access, Access::Reads);
+    if !may_write {
+        refuse_fifo(rt, path)?;
+    }
     let file = File::options()
         .read(true)
         .write(may_write)
