@@ -91,7 +91,8 @@ def attack_paths(at):
     os.symlink("nowhere/disk", os.path.join(at.path, "dangling"))
     os.symlink("loop", os.path.join(at.path, "loop"))
     for name in ("folder", "pipe", "missing", "dangling", "loop", "/dev/null", "/dev/full", "disk/x", "folder/", "n" * 5000):
-        for words in (("play", name, "hits"), ("serve", name, "hits"), ("show", name), ("check", name)):
+        for words in (("play", name, "hits"), ("serve", name, "hits"), ("show", name), ("check", name), ("stat", name),
+                      ("show", "--read-only", name), ("copy", name, "made", "--area", AREA)):
             at.expect(4, cannot(name), *words, out="")
     for name in ("folder", "pipe", "dangling", "loop", "/dev/null", "/dev/full", "disk/x", "n" * 5000):
         at.expect(4, cannot(name), "format", name, "--area", AREA, out="")
@@ -102,8 +103,10 @@ def attack_rights(at):
     """The file may not be written, or its folder."""
     at.write("kept", at.read("disk"))
     os.chmod(os.path.join(at.path, "kept"), 0o444)
-    for words in (("play", "kept", "hits"), ("show", "kept"), ("check", "kept"), ("format", "kept", "--area", AREA)):
+    for words in (("play", "kept", "hits"), ("show", "kept"), ("format", "kept", "--area", AREA), ("copy", "disk", "kept", "--area", AREA)):
         at.expect(4, cannot("kept"), *words, out="")
+    for words in (("check", "kept"), ("stat", "kept"), ("show", "--read-only", "kept")):
+        at.expect(0, "", *words)
     os.mkdir(os.path.join(at.path, "closed"), 0o555)
     at.expect(4, cannot("closed/disk"), "format", "closed/disk", "--area", AREA, out="")
 

@@ -69,14 +69,18 @@ fn lock_alone<'a>(path: &'a str, file: File) -> Result<File, Failure<'a>> {
     }
 }
 
-// Refuses a FIFO, of which who opens it for reading alone waits for a writer.
-fn refuse_fifo<'a>(rt: &impl Files<File = File>, path: &'a str) -> Result<(), Failure<'a>> {
-    let found = opened(path, fs::metadata(rt, path))?;
-    if found.file_type().is_fifo() {
-        let error = io::Error::from(io::ErrorKind::InvalidInput);
-        return Err(cannot_open(path, &error));
-    }
-    Ok(())
+// Refuses what is no disk, and can be opened for reading alone: a folder, and a FIFO, of which who
+// opens it so waits for a writer.
+fn check_path<'a>(rt: &impl Files<File = File>, path: &'a str) -> Result<(), Failure<'a>> {
+    let found = opened(path, fs::metadata(rt, path))?.file_type();
+    let why = if found.is_dir() {
+        io::ErrorKind::IsADirectory
+    } else if found.is_fifo() {
+        io::ErrorKind::InvalidInput
+    } else {
+        return Ok(());
+    };
+    Err(cannot_open(path, &io::Error::from(why)))
 }
 
 // Opens a file and takes its lock.
@@ -87,7 +91,7 @@ fn open_file<'a>(
 ) -> Result<File, Failure<'a>> {
     let may_write = !matches!(access, Access::Reads);
     if !may_write {
-        refuse_fifo(rt, path)?;
+        check_path(rt, path)?;
     }
     let file = File::options()
         .read(true)
