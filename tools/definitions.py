@@ -111,7 +111,7 @@ def quoted(block, gone):
                 clauses.setdefault(clause, []).append(line[len(pad) :])
     gone += [f'{path}: {name} has no clause {word}' for word in wanted.split(', ') if word not in clauses]
     code = textwrap.dedent('\n'.join('\n'.join(clauses.get(word, [])) for word in wanted.split(', ')))
-    return f'`{name}` in {path}:\n\n```\n{code}\n```'
+    return f'```\n// {name} in {path}\n{code}\n```'
 
 
 def reached(files):

@@ -1,6 +1,7 @@
 -- What was tried, and what went through.
 use Rattle.std.proofs.Common.{◌≡◌, inl, inr, ℕ, zero, suc, ◌<◌, List, [], ◌∷◌, ◌++◌, length}
-use Rattle.std.proofs.Common.{Bool, true, false, Result, Ok, Err, refl, sym, ap, ◌∙◌, subst, arith}
+use Rattle.std.proofs.Common.{Bool, true, false, Result, Ok, Err, IfOk, IfErr, refl, sym, ap, ◌∙◌}
+use Rattle.std.proofs.Common.{◌⊎◌, ◌+◌, ◌≤◌, subst, arith, add-one}
 use Rattle.std.specs.Prelude.{Contains, slice_index_or}
 use Rattle.std.specs.List.{AllByRecursion}
 use Rattle.std.proofs.lemmas.List.{append-nil}
@@ -15,12 +16,13 @@ use Rattle.clients.specs.declared.ticket.Ticket.{Ticket}
 use Rattle.clients.specs.Attempts.{Attempts, IsOfCalls, IsRefusedEntry, IsOpenUnder}
 use Rattle.clients.specs.Attempts.{IsBegun, number_of}
 use Rattle.clients.specs.Calls.{Acts, Does, Aborts, Hears, Draws, IsWorn, Waits, Decides}
-use Rattle.clients.specs.Calls.{back, backs, ended_by, placed}
+use Rattle.clients.specs.Calls.{IsOpen, back, backs, ended_by, placed}
 use Rattle.clients.specs.Known.{Known, IsSeen, Grows}
 use Rattle.boosted.proofs.Each.{each_append, weaker}
 use Rattle.clients.proofs.Seeing.{grows_none, grows_then}
 use Rattle.background.specs.Transactions.{CommitsNothing, WasLive, WasEnded, Commits, Tried, Ran}
-use Rattle.background.specs.Transactions.{Transacts, Keeps}
+use Rattle.background.specs.Transactions.{IsPassing, IsWithin, TakesBack, Begins, AsksCommit, Stops}
+use Rattle.background.specs.Transactions.{IsRefused, PassesOften, GivesUp, Transacts, Keeps}
 use Rattle.background.specs.Works.{KnowsStill}
 use Rattle.background.proofs.Knowing.{knows_same, knows_through, knows_heard, knows_acted}
 
@@ -42,6 +44,15 @@ has_last xs a = Contains-append_right xs (a ∷ []) a (0, omega arith, refl)
 
 entered_same : (m n : ℕ) → Phase.Entered m ≡ Phase.Entered n → m ≡ n
 entered_same m n e = cc
+
+-- what is not true
+pub not_true : ◌≡◌ {A = Bool} false true → ⊥
+not_true same = cc
+
+-- a refusal of which this holds
+pub refused_with : {T : Type 0} (P : Refusal → Type 0) (r : Result T Refusal) (e f : Refusal) →
+    r ≡ Err e → e ≡ f → P f → IfErr r P
+refused_with P r e f is same p = subst (λ x. IfErr x P) (sym is) (subst P (sym same) p)
 
 -- ---- what was tried
 
@@ -380,131 +391,272 @@ module _ {J : Type 0} (j : Ghosts J) where
       no_refusal : (e : Refusal) → ◌≡◌ {A = Result Ticket Refusal} (Ok t) (Err e) → ⊥
       no_refusal e same = cc
 
-  -- behind an attempt and its commit
-  pub ran_through : (says : List Action → Type 0) (old begun mid new : Known)
-      (tried made : List Action) (t : Ticket) → Tried j old tried begun → IsBegun begun.phase →
-      Attempts j (number_of begun.phase) begun made mid → says made →
-      Does j mid.phase mid (λ n a. a ≡ Action.Commit n (placed (Ok t)))
-      (λ e. ◌≡◌ {A = Result Ticket Refusal} (Ok t) (Err e)) (ended_by {T = Ticket} (Ok t)) new →
-      new.phase ≡ Phase.Closed → Ran j says old t.place new
-  ran_through says old begun mid new tried made t tries is_begun is said does closed =
-      let n = number_of begun.phase in
-      let known = knows_attempted n begun mid made is in
-      let commit = commits_by n made mid.phase mid new t is.is_open does in
-      let grown : Grows j begun.number begun.seen (made ++ commit.0) new.seen =
-      grows_then j begun.number begun.seen mid.seen new.seen made commit.0 is.grows
-      (subst (λ k. Grows j k mid.seen commit.0 new.seen) known.number commit.1.1.0) in record {
-        knows = knows_through old begun new tries.knows
-            (knows_through begun mid new known commit.1.1.1);
-        tried = tried;
-        begun = begun;
-        tries = tries;
-        is_begun = is_begun;
-        made = made;
-        said = said;
-        are_calls = is.are_calls;
-        ends = commit.0;
-        commits = commit.1.0;
-        grows = subst (λ k. Grows j k begun.seen (made ++ commit.0) new.seen) tries.knows.number
-            grown;
-        closed = closed;
-      }
+  -- ---- what is taken back and begun
 
-  -- behind what was tried before
-  pub ran_then : (says : List Action → Type 0) (a b c : Known) (xs : List Action) (place : ℕ) →
-      Tried j a xs b → Ran j says b place c → Ran j says a place c
-  ran_then says a b c xs place one ran = record {
-    knows = knows_through a b c one.knows ran.knows;
-    tried = xs ++ ran.tried;
-    begun = ran.begun;
-    tries = tried_then j a b ran.begun xs ran.tried one ran.tries;
-    is_begun = ran.is_begun;
-    made = ran.made;
-    said = ran.said;
-    are_calls = ran.are_calls;
-    ends = ran.ends;
-    commits = ran.commits;
-    grows = subst (λ k. Grows j k ran.begun.seen (ran.made ++ ran.ends) c.seen) one.knows.number
-        ran.grows;
-    closed = ran.closed;
-  }
+  pub none_open : (p : Phase) → (IsOpen p → ⊥) → p ≡ Phase.Closed
+  none_open Phase.Closed none = refl
+  none_open (Phase.Drawn n) none = absurd (none tt)
+  none_open (Phase.Entered n) none = absurd (none tt)
 
-  -- and of a mark that was loaded behind it
-  pub ran_heard : (says : List Action → Type 0) (a b c : Known) (place : ℕ) (counts : List Raised)
-      (flags : List Bool) → Ran j says a place b → Hears b counts flags c → Ran j says a place c
-  ran_heard says a b c place counts flags ran hears = record {
-    knows = knows_through a b c ran.knows (knows_heard b c counts flags hears);
-    tried = ran.tried;
-    begun = ran.begun;
-    tries = ran.tries;
-    is_begun = ran.is_begun;
-    made = ran.made;
-    said = ran.said;
-    are_calls = ran.are_calls;
-    ends = ran.ends;
-    commits = ran.commits;
-    grows = subst (Grows j a.number ran.begun.seen (ran.made ++ ran.ends))
-        (sym (ap (λ (k : Known). k.seen) hears)) ran.grows;
-    closed = ap (λ (k : Known). k.phase) hears ∙ ran.closed;
-  }
+  -- there was nothing to take back
+  pub took_none : (known : Known) → (IsOpen known.phase → ⊥) → TakesBack j known (Ok tt) known
+  took_none known none = inl (none_open known.phase none, refl, refl)
 
-  module _ {A : Type 0} (says : A → List Action → Type 0) where
-    -- an end behind what was tried before
-    pub transacts_then : (a b c : Known) (xs : List Action) (r : Result (A × Ticket) Refusal) →
-        Tried j a xs b → Transacts j says b r c → Transacts j says a r c
-    transacts_then a b c xs (Ok done) one ran =
-        ran_then (says done.0) a b c xs done.1.place one ran
-    transacts_then a b c xs (Err e) one tries =
-        (xs ++ tries.0, tried_then j a b c xs tries.0 one tries.1)
+  pub begun_is : (old begun : Known) → Begins j old begun → IsBegun begun.phase
+  begun_is old begun begins = subst IsBegun (sym begins.drawn) tt
 
-    pub transacts_refused : (a c : Known) (r : Result (A × Ticket) Refusal) (e : Refusal) →
-        r ≡ Err e → (xs : List Action) × Tried j a xs c → Transacts j says a r c
-    transacts_refused a c r e is tries = subst (λ x. Transacts j says a x c) (sym is) tries
+  -- ---- an attempt that goes through
 
-    pub keeps_refused : (a c : Known) (r : Result (A × Ticket) Refusal) (e : Refusal) →
-        r ≡ Err e → (xs : List Action) × Tried j a xs c → Keeps j says a r c
-    keeps_refused a c r e is tries = subst (λ x. Keeps j says a x c) (sym is) (inl tries)
+  module _ (refuses : Refusal → List Action → Type 0) where
+    -- behind an attempt and its commit
+    pub ran_through : (says : List Action → Type 0) (old begun mid new : Known)
+        (tried made : List Action) (t : Ticket) → Tried j old tried begun → Begins j old begun →
+        Attempts j (number_of begun.phase) begun made mid → says made →
+        AsksCommit j mid (Ok t) new → new.phase ≡ Phase.Closed →
+        Ran j refuses 1 says old t.place new
+    ran_through says old begun mid new tried made t tries begins is said does closed =
+        let n = number_of begun.phase in
+        let known = knows_attempted n begun mid made is in
+        let commit = commits_by n made mid.phase mid new t is.is_open does in
+        let grown : Grows j begun.number begun.seen (made ++ commit.0) new.seen =
+        grows_then j begun.number begun.seen mid.seen new.seen made commit.0 is.grows
+        (subst (λ k. Grows j k mid.seen commit.0 new.seen) known.number commit.1.1.0) in record {
+          knows = knows_through old begun new tries.knows
+              (knows_through begun mid new known commit.1.1.1);
+          refused = 0;
+          within = inl refl;
+          before = old;
+          passes = refl;
+          begun = begun;
+          begins = begins;
+          tried = tried;
+          tries = tries;
+          made = made;
+          said = said;
+          are_calls = is.are_calls;
+          ends = commit.0;
+          commits = commit.1.0;
+          grows = subst (λ k. Grows j k begun.seen (made ++ commit.0) new.seen)
+              tries.knows.number grown;
+          closed = closed;
+        }
 
-    lost_is : (place : ℕ) (counts : List Raised) (flags : List Bool) (e : Refusal) →
-        Decides place counts flags (Err e) → e ≡ Refusal.Lost
-    lost_is place counts flags Refusal.BadName decides = absurd decides
-    lost_is place counts flags Refusal.BadArg decides = absurd decides
-    lost_is place counts flags Refusal.TooLong decides = absurd decides
-    lost_is place counts flags Refusal.NoMemory decides = absurd decides
-    lost_is place counts flags Refusal.NameTaken decides = absurd decides
-    lost_is place counts flags Refusal.NoSuchCollection decides = absurd decides
-    lost_is place counts flags Refusal.WrongKind decides = absurd decides
-    lost_is place counts flags Refusal.TooManyCollections decides = absurd decides
-    lost_is place counts flags (Refusal.Busy k) decides = absurd decides
-    lost_is place counts flags Refusal.NoSuchTxn decides = absurd decides
-    lost_is place counts flags Refusal.Falling decides = absurd decides
-    lost_is place counts flags Refusal.TooManyLive decides = absurd decides
-    lost_is place counts flags Refusal.TooManyCalls decides = absurd decides
-    lost_is place counts flags Refusal.Backlog decides = absurd decides
-    lost_is place counts flags Refusal.AlreadyGoing decides = absurd decides
-    lost_is place counts flags Refusal.Worn decides = absurd decides
-    lost_is place counts flags (Refusal.Damaged k) decides = absurd decides
-    lost_is place counts flags Refusal.Full decides = absurd decides
-    lost_is place counts flags Refusal.Fault decides = absurd decides
-    lost_is place counts flags Refusal.Failed decides = absurd decides
-    lost_is place counts flags Refusal.NotAStore decides = absurd decides
-    lost_is place counts flags Refusal.NotNow decides = absurd decides
-    lost_is place counts flags Refusal.Lost decides = refl
-    lost_is place counts flags Refusal.Unfinished decides = absurd decides
-    lost_is place counts flags Refusal.AlreadyLive decides = absurd decides
-    lost_is place counts flags Refusal.Imaging decides = absurd decides
-    lost_is place counts flags Refusal.Outrun decides = absurd decides
+    -- where one attempt alone may be made, none was made before
+    first_is : (refused : ℕ) (old before : Known) → IsWithin 1 refused →
+        PassesOften j refuses refused old before → before ≡ old
+    first_is zero old before within passes = passes
+    first_is (suc n) old before within passes = elim within [
+      | inl none ↦ let no : ⊥ = omega (arith, none) in absurd no
+      | inr few ↦ let no : ⊥ = omega (arith, few) in absurd no
+    ]
 
-    -- a wait that was lost
-    pub keeps_lost : (a b c : Known) (done : A × Ticket) (r : Result (A × Ticket) Refusal)
-        (e f : Refusal) → r ≡ Err e → e ≡ f → Ran j (says done.0) a done.1.place b →
-        Waits b done.1.place (Err f) c → Keeps j says a r c
-    keeps_lost a b c done r e f is same ran waits =
-        subst (λ x. Keeps j says a x c) (sym is) (inr (
-          same ∙ lost_is done.1.place waits.counts waits.flags f waits.decides,
-          (
-            done.0,
-            done.1.place,
-            ran_heard (says done.0) a b c done.1.place waits.counts waits.flags ran waits.hears,
-          ),
-        ))
+    -- and behind the loading of a mark
+    pub ran_heard : (bound : ℕ) (says : List Action → Type 0) (a b c : Known) (place : ℕ)
+        (counts : List Raised) (flags : List Bool) → Ran j refuses bound says a place b →
+        Hears b counts flags c → Ran j refuses bound says a place c
+    ran_heard bound says a b c place counts flags ran hears = record {
+      knows = knows_through a b c ran.knows (knows_heard b c counts flags hears);
+      refused = ran.refused;
+      within = ran.within;
+      before = ran.before;
+      passes = ran.passes;
+      begun = ran.begun;
+      begins = ran.begins;
+      tried = ran.tried;
+      tries = ran.tries;
+      made = ran.made;
+      said = ran.said;
+      are_calls = ran.are_calls;
+      ends = ran.ends;
+      commits = ran.commits;
+      grows = subst (Grows j a.number ran.begun.seen (ran.made ++ ran.ends))
+          (sym (ap (λ (k : Known). k.seen) hears)) ran.grows;
+      closed = ap (λ (k : Known). k.phase) hears ∙ ran.closed;
+    }
+
+    -- ---- attempts that were refused
+
+    -- one that was taken back, or that was refused
+    pub refused_as : (old left new : Known) (own e : Refusal) → Stops j refuses old own left →
+        ((e ≡ own) × TakesBack j left (Ok tt) new) ⊎ TakesBack j left (Err e) new →
+        IsRefused j refuses old e new
+    refused_as old left new own e stops takes = record {
+      own = own;
+      left = left;
+      stops = stops;
+      taken_back = takes;
+    }
+
+    -- How far an attempt of this number has come, of no more than so many: those before it were
+    -- refused.
+    pub record Goes (bound : ℕ) (old : Known) (number : ℕ) (now : Known) : Type 0 where
+      pub refused : ℕ
+      pub is : number ≡ refused + 1
+      pub within : IsWithin bound refused
+      pub passes : PassesOften j refuses refused old now
+      pub tried : List Action
+      pub tries : Tried j old tried now
+
+    -- the first one
+    pub goes_first : (bound : ℕ) (known : Known) → IsSeen j known.seen → Goes bound known 1 known
+    goes_first bound known legal = record {
+      refused = 0;
+      is = omega arith;
+      within = inl refl;
+      passes = refl;
+      tried = [];
+      tries = tried_none j known legal;
+    }
+
+    -- the next one
+    pub goes_on : (bound : ℕ) (old now left new : Known) (number : ℕ) (e : Refusal) →
+        Goes bound old number now → number < bound → IsPassing e → IsRefused j refuses now e left →
+        (xs : List Action) × Tried j now xs left → Hears left [] (false ∷ []) new →
+        Goes bound old (number + 1) new
+    goes_on bound old now left new number e goes few passing is tried hears = record {
+      refused = goes.refused + 1;
+      is = ap (λ k. k + 1) goes.is;
+      within = inr (let same = goes.is in omega (arith, few, same));
+      passes = subst (λ k. PassesOften j refuses k old new) (sym (add-one goes.refused)) (
+        now,
+        goes.passes,
+        record {
+          refusal = e;
+          is_passing = passing;
+          left = left;
+          is_refused = is;
+          hears = hears;
+        },
+      );
+      tried = goes.tried ++ tried.0;
+      tries = tried_heard j old left new (goes.tried ++ tried.0) (false ∷ [])
+          (tried_then j old now left goes.tried tried.0 goes.tries tried.1) hears;
+    }
+
+    -- an attempt behind which no other is made
+    pub gives_up : (bound : ℕ) (old now new : Known) (number : ℕ) (e : Refusal) →
+        Goes bound old number now → IsRefused j refuses now e new →
+        (xs : List Action) × Tried j now xs new → (IsPassing e → bound ≤ number) →
+        GivesUp j refuses bound old e new
+    gives_up bound old now new number e goes is tried ends = record {
+      tried = goes.tried ++ tried.0;
+      tries = tried_then j old now new goes.tried tried.0 goes.tries tried.1;
+      refused = goes.refused;
+      within = goes.within;
+      before = now;
+      passes = goes.passes;
+      last = e;
+      left = new;
+      is_refused = is;
+      ends = inl (
+        refl,
+        refl,
+        λ passing. subst (λ k. bound ≤ k) goes.is (ends passing),
+      );
+    }
+
+    -- one behind which keeping had failed
+    pub gives_up_lost : (bound : ℕ) (old now left new : Known) (number : ℕ) (e : Refusal) →
+        Goes bound old number now → IsPassing e → IsRefused j refuses now e left →
+        (xs : List Action) × Tried j now xs left → Hears left [] (true ∷ []) new →
+        GivesUp j refuses bound old Refusal.Lost new
+    gives_up_lost bound old now left new number e goes passing is tried hears = record {
+      tried = goes.tried ++ tried.0;
+      tries = tried_heard j old left new (goes.tried ++ tried.0) (true ∷ [])
+          (tried_then j old now left goes.tried tried.0 goes.tries tried.1) hears;
+      refused = goes.refused;
+      within = goes.within;
+      before = now;
+      passes = goes.passes;
+      last = e;
+      left = left;
+      is_refused = is;
+      ends = inr (refl, passing, hears);
+    }
+
+    -- one that goes through
+    pub goes_through : (bound : ℕ) (says : List Action → Type 0) (old now new : Known)
+        (number place : ℕ) → Goes bound old number now → Ran j refuses 1 says now place new →
+        Ran j refuses bound says old place new
+    goes_through bound says old now new number place goes ran =
+        let same = first_is ran.refused now ran.before ran.within ran.passes in record {
+          knows = knows_through old now new goes.tries.knows ran.knows;
+          refused = goes.refused;
+          within = goes.within;
+          before = now;
+          passes = goes.passes;
+          begun = ran.begun;
+          begins = subst (λ k. Begins j k ran.begun) same ran.begins;
+          tried = goes.tried ++ ran.tried;
+          tries = tried_then j old now ran.begun goes.tried ran.tried goes.tries ran.tries;
+          made = ran.made;
+          said = ran.said;
+          are_calls = ran.are_calls;
+          ends = ran.ends;
+          commits = ran.commits;
+          grows = subst (λ k. Grows j k ran.begun.seen (ran.made ++ ran.ends) new.seen)
+              goes.tries.knows.number ran.grows;
+          closed = ran.closed;
+        }
+
+    module _ {A : Type 0} (says : A → List Action → Type 0) where
+      -- an attempt that is the last one, however it ended
+      pub transacts_last : (bound : ℕ) (old now new : Known) (number : ℕ)
+          (r : Result (A × Ticket) Refusal) → Goes bound old number now →
+          IfOk r (λ done. Ran j refuses 1 (says done.0) now done.1.place new) →
+          IfErr r (λ e. (xs : List Action) × Tried j now xs new) →
+          IfErr r (λ e. IsRefused j refuses now e new) →
+          ((e : Refusal) → r ≡ Err e → IsPassing e → bound ≤ number) →
+          Transacts j refuses says bound old r new
+      transacts_last bound old now new number (Ok done) goes ran tried is ends =
+          goes_through bound (says done.0) old now new number done.1.place goes ran
+      transacts_last bound old now new number (Err e) goes ran tried is ends =
+          gives_up bound old now new number e goes is tried (ends e refl)
+
+      lost_is : (place : ℕ) (counts : List Raised) (flags : List Bool) (e : Refusal) →
+          Decides place counts flags (Err e) → e ≡ Refusal.Lost
+      lost_is place counts flags Refusal.BadName decides = absurd decides
+      lost_is place counts flags Refusal.BadArg decides = absurd decides
+      lost_is place counts flags Refusal.TooLong decides = absurd decides
+      lost_is place counts flags Refusal.NoMemory decides = absurd decides
+      lost_is place counts flags Refusal.NameTaken decides = absurd decides
+      lost_is place counts flags Refusal.NoSuchCollection decides = absurd decides
+      lost_is place counts flags Refusal.WrongKind decides = absurd decides
+      lost_is place counts flags Refusal.TooManyCollections decides = absurd decides
+      lost_is place counts flags (Refusal.Busy k) decides = absurd decides
+      lost_is place counts flags Refusal.NoSuchTxn decides = absurd decides
+      lost_is place counts flags Refusal.Falling decides = absurd decides
+      lost_is place counts flags Refusal.TooManyLive decides = absurd decides
+      lost_is place counts flags Refusal.TooManyCalls decides = absurd decides
+      lost_is place counts flags Refusal.Backlog decides = absurd decides
+      lost_is place counts flags Refusal.AlreadyGoing decides = absurd decides
+      lost_is place counts flags Refusal.Worn decides = absurd decides
+      lost_is place counts flags (Refusal.Damaged k) decides = absurd decides
+      lost_is place counts flags Refusal.Full decides = absurd decides
+      lost_is place counts flags Refusal.Fault decides = absurd decides
+      lost_is place counts flags Refusal.Failed decides = absurd decides
+      lost_is place counts flags Refusal.NotAStore decides = absurd decides
+      lost_is place counts flags Refusal.NotNow decides = absurd decides
+      lost_is place counts flags Refusal.Lost decides = refl
+      lost_is place counts flags Refusal.Unfinished decides = absurd decides
+      lost_is place counts flags Refusal.AlreadyLive decides = absurd decides
+      lost_is place counts flags Refusal.Imaging decides = absurd decides
+      lost_is place counts flags Refusal.Outrun decides = absurd decides
+
+      -- a wait that was lost
+      pub keeps_lost : (bound : ℕ) (a b c : Known) (done : A × Ticket)
+          (r : Result (A × Ticket) Refusal) (e f : Refusal) → r ≡ Err e → e ≡ f →
+          Ran j refuses bound (says done.0) a done.1.place b → Waits b done.1.place (Err f) c →
+          Keeps j refuses says bound a r c
+      keeps_lost bound a b c done r e f is same ran waits =
+          let lost = lost_is done.1.place waits.counts waits.flags f waits.decides in
+          subst (λ x. Keeps j refuses says bound a x c) (sym is) (inr (
+            same ∙ lost,
+            (
+              done.0,
+              done.1.place,
+              b,
+              ran,
+              subst (λ x. Waits b done.1.place (Err x) c) lost waits,
+            ),
+          ))

@@ -1,14 +1,18 @@
 -- What a client does that runs a transaction until it goes through.
-use Rattle.std.specs.Prelude.{◌≡◌, ◌⊎◌, ℕ, List, [], ◌∷◌, ◌++◌, Result, Ok, Err, Contains}
+use Rattle.std.specs.Prelude.{◌≡◌, ◌⊎◌, ℕ, zero, suc, ◌+◌, ◌<◌, ◌≤◌, true, false, List, [], ◌∷◌}
+use Rattle.std.specs.Prelude.{◌++◌, Result, Ok, Err, Contains}
 use Rattle.std.specs.List.{AllByRecursion}
 use Rattle.calls.specs.declared.refusal.Refusal.{Refusal}
 use Rattle.txn.specs.declared.steps.Action.{Action}
 use Rattle.clients.specs.declared.naming.Naming.{Ghosts}
 use Rattle.clients.specs.declared.phase.Phase.{Phase}
 use Rattle.clients.specs.declared.ticket.Ticket.{Ticket}
-use Rattle.clients.specs.Attempts.{IsOfCalls, IsBegun, number_of}
+use Rattle.clients.specs.Attempts.{Attempts, IsOfCalls, number_of}
+use Rattle.clients.specs.Calls.{Does, Aborts, Hears, Draws, IsWorn, Waits, ended_by, placed}
 use Rattle.clients.specs.Known.{Known, Grows}
 use Rattle.background.specs.Works.{KnowsStill}
+
+-- ---- what was tried, as a whole
 
 -- the action commits no transaction and makes no collection
 abbrev pub CommitsNothing : Action → Type 0
@@ -31,6 +35,17 @@ Commits n place actions =
     (actions ≡ Action.Commit n (Ok place) ∷ [])
     ⊎ (actions ≡ Action.Enter n (Ok tt) ∷ Action.Commit n (Ok place) ∷ [])
 
+-- an attempt that is refused so may go through later
+abbrev pub IsPassing : Refusal → Type 0
+IsPassing (Refusal.Busy n) = Unit {0}
+IsPassing Refusal.TooManyLive = Unit {0}
+IsPassing Refusal.Backlog = Unit {0}
+IsPassing e = ⊥
+
+-- of no more than so many attempts, but of at least one, so many were refused before this one
+abbrev pub IsWithin : ℕ → ℕ → Type 0
+IsWithin bound refused = (refused ≡ 0) ⊎ (refused < bound)
+
 module _ {J : Type 0} (j : Ghosts J) where
   -- The client's own steps were these actions. None of them committed anything, and each number
   -- that was live was ended by an abort, but for one that is live still.
@@ -40,33 +55,115 @@ module _ {J : Type 0} (j : Ghosts J) where
     pub commits_nothing : AllByRecursion CommitsNothing actions
     pub are_ended : (n : ℕ) → WasLive old.phase actions n → WasEnded actions new.phase n
 
-  -- The client ran one transaction, and its commit has this place. What was tried before committed
-  -- nothing and was taken back. Its own steps behind that were the calls of one attempt, of which
-  -- this is said, and the commit.
-  pub record Ran (says : List Action → Type 0) (old : Known) (place : ℕ) (new : Known) :
-      Type 0 where
-    pub knows : KnowsStill old new
-    pub tried : List Action
-    pub begun : Known
-    pub tries : Tried old tried begun
-    pub is_begun : IsBegun begun.phase
-    pub made : List Action
-    pub said : says made
-    pub are_calls : AllByRecursion (IsOfCalls (number_of begun.phase)) made
-    pub ends : List Action
-    pub commits : Commits (number_of begun.phase) place ends
-    pub grows : Grows j old.number begun.seen (made ++ ends) new.seen
-    pub closed : new.phase ≡ Phase.Closed
+  -- ---- the parts of an attempt
 
-  module _ {A : Type 0} (says : A → List Action → Type 0) where
-    -- The client ran a transaction, and its output is answered with the ticket of its commit. Or
-    -- nothing was committed.
-    abbrev pub Transacts : Known → Result (A × Ticket) Refusal → Known → Type 0
-    Transacts old (Ok done) new = Ran (says done.0) old done.1.place new
-    Transacts old (Err e) new = (tried : List Action) × Tried old tried new
+  -- The open transaction was taken back, if there was one, or that was refused.
+  abbrev pub TakesBack : Known → Result (Unit {0}) Refusal → Known → Type 0
+  TakesBack old r new = ((old.phase ≡ Phase.Closed) × (r ≡ Ok tt) × (new ≡ old))
+      ⊎ Aborts j old.phase old r new
 
-    -- And where it was refused as lost, it may have been run.
-    abbrev pub Keeps : Known → Result (A × Ticket) Refusal → Known → Type 0
-    Keeps old (Ok done) new = Ran (says done.0) old done.1.place new
-    Keeps old (Err e) new = ((tried : List Action) × Tried old tried new)
-        ⊎ ((e ≡ Refusal.Lost) × ((output : A) × (place : ℕ) × Ran (says output) old place new))
+  -- What was open was taken back, and a number was drawn for a transaction.
+  pub record Begins (old begun : Known) : Type 0 where
+    pub closed : Known
+    pub taken_back : TakesBack old (Ok tt) closed
+    pub number : ℕ
+    pub draws : Draws j.next closed number begun
+    pub drawn : begun.phase ≡ Phase.Drawn number
+
+  -- That was refused: what was open was not taken back, or numbers have run out.
+  abbrev pub IsNotBegun : Known → Refusal → Known → Type 0
+  IsNotBegun old e new = TakesBack old (Err e) new
+      ⊎ ((e ≡ Refusal.Worn) × ((closed : Known) × TakesBack old (Ok tt) closed ×
+      IsWorn j.next closed new))
+
+  -- The commit of the open transaction was answered so.
+  abbrev pub AsksCommit : Known → Result Ticket Refusal → Known → Type 0
+  AsksCommit old r new = Does j old.phase old (λ n a. a ≡ Action.Commit n (placed r))
+      (λ e. r ≡ Err e) (ended_by r) new
+
+  -- ---- attempts
+
+  -- What is said of the calls of an attempt where they are refused.
+  module _ (refuses : Refusal → List Action → Type 0) where
+    -- An attempt has come as far as to a refusal: no transaction was begun; or one was begun and
+    -- its calls were refused, which says so of what was done; or its commit was refused.
+    abbrev pub Stops : Known → Refusal → Known → Type 0
+    Stops old e new = IsNotBegun old e new
+        ⊎ ((begun : Known) × Begins old begun × ((made : List Action) ×
+        ((Attempts j (number_of begun.phase) begun made new × refuses e made)
+        ⊎ ((asked : Known) × Attempts j (number_of begun.phase) begun made asked ×
+        AsksCommit asked (Err e) new))))
+
+    -- One attempt was refused, and what it left open was taken back. A refusal of that stands in
+    -- place of the attempt's own.
+    pub record IsRefused (old : Known) (e : Refusal) (new : Known) : Type 0 where
+      pub own : Refusal
+      pub left : Known
+      pub stops : Stops old own left
+      pub taken_back : ((e ≡ own) × TakesBack left (Ok tt) new) ⊎ TakesBack left (Err e) new
+
+    -- One attempt was refused so that another may go through, and keeping had not failed behind it.
+    pub record Passes (old new : Known) : Type 0 where
+      pub refusal : Refusal
+      pub is_passing : IsPassing refusal
+      pub left : Known
+      pub is_refused : IsRefused old refusal left
+      pub hears : Hears left [] (false ∷ []) new
+
+    -- So it was with so many attempts, one after another.
+    abbrev pub PassesOften : ℕ → Known → Known → Type 0
+    PassesOften zero old new = new ≡ old
+    PassesOften (suc n) old new = (before : Known) × PassesOften n old before × Passes before new
+
+    -- Nothing was committed. What is answered is the refusal of the last attempt; it is one behind
+    -- which another may go through only where no more attempts were to be made. Or it is Lost:
+    -- keeping had failed behind such a one.
+    pub record GivesUp (bound : ℕ) (old : Known) (e : Refusal) (new : Known) : Type 0 where
+      pub tried : List Action
+      pub tries : Tried old tried new
+      pub refused : ℕ
+      pub within : IsWithin bound refused
+      pub before : Known
+      pub passes : PassesOften refused old before
+      pub last : Refusal
+      pub left : Known
+      pub is_refused : IsRefused before last left
+      pub ends : ((e ≡ last) × (new ≡ left) × (IsPassing e → bound ≤ refused + 1))
+          ⊎ ((e ≡ Refusal.Lost) × IsPassing last × Hears left [] (true ∷ []) new)
+
+    -- The client ran one transaction, and its commit has this place. The attempts before were
+    -- refused so that another may go through; they committed nothing and were taken back. Its own
+    -- steps behind that were the calls of one attempt, of which this is said, and the commit.
+    pub record Ran (bound : ℕ) (says : List Action → Type 0) (old : Known) (place : ℕ)
+        (new : Known) : Type 0 where
+      pub knows : KnowsStill old new
+      pub refused : ℕ
+      pub within : IsWithin bound refused
+      pub before : Known
+      pub passes : PassesOften refused old before
+      pub begun : Known
+      pub begins : Begins before begun
+      pub tried : List Action
+      pub tries : Tried old tried begun
+      pub made : List Action
+      pub said : says made
+      pub are_calls : AllByRecursion (IsOfCalls (number_of begun.phase)) made
+      pub ends : List Action
+      pub commits : Commits (number_of begun.phase) place ends
+      pub grows : Grows j old.number begun.seen (made ++ ends) new.seen
+      pub closed : new.phase ≡ Phase.Closed
+
+    -- says: what the output says of the calls. bound: how many attempts are made at most.
+    module _ {A : Type 0} (says : A → List Action → Type 0) (bound : ℕ) where
+      -- The client ran a transaction, and its output is answered with the ticket of its commit. Or
+      -- nothing was committed.
+      abbrev pub Transacts : Known → Result (A × Ticket) Refusal → Known → Type 0
+      Transacts old (Ok done) new = Ran bound (says done.0) old done.1.place new
+      Transacts old (Err e) new = GivesUp bound old e new
+
+      -- And where it was refused as lost, it may have been run: then the wait for it was lost.
+      abbrev pub Keeps : Known → Result (A × Ticket) Refusal → Known → Type 0
+      Keeps old (Ok done) new = Ran bound (says done.0) old done.1.place new
+      Keeps old (Err e) new = GivesUp bound old e new
+          ⊎ ((e ≡ Refusal.Lost) × ((output : A) × (place : ℕ) × (ran : Known) ×
+          Ran bound (says output) old place ran × Waits ran place (Err Refusal.Lost) new))

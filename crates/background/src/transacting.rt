@@ -1,9 +1,11 @@
 // Transactions that are tried until they go through.
-ghost use Rattle.std.specs.Prelude.{◌≡◌, List, IfOk, OnOk};
+ghost use Rattle.std.specs.Prelude.{◌≡◌, ◌↔◌, ◌⊎◌, ◌^◌, ◌-◌, List, Ok, Err, IfOk, IfErr, IsTrue};
+ghost use Rattle.std.specs.Prelude.{OnOk};
+ghost use Rattle.calls.specs.declared.refusal.Refusal.{Refusal};
 ghost use Rattle.txn.specs.declared.steps.Action.{Action};
 ghost use Rattle.clients.specs.declared.phase.Phase.{Phase};
-ghost use Rattle.clients.specs.Attempts.{IsBegun};
-ghost use Rattle.background.specs.Transactions.{Tried, Transacts, Keeps};
+ghost use Rattle.background.specs.Transactions.{Tried, TakesBack, Begins, IsNotBegun, Stops};
+ghost use Rattle.background.specs.Transactions.{IsRefused, IsPassing, Ran, Transacts, Keeps};
 ghost use Rattle.background.specs.Works.{HasCommitted, WasToldKept, KnowsStill};
 
 use crate::pause::Pause;
@@ -25,8 +27,10 @@ use store::{Client, Naming, Ticket, Transaction};
 ///
 /// Lost where it is to be tried again and keeping has failed: nothing that would be committed could
 /// be kept. Each other refusal of a call, of the begin or of the commit takes the transaction back
-/// and is answered; and so are those of `Client::abort`, which leave it open. No refusal leaves
-/// anything committed.
+/// and is answered; and so are those of `Client::abort`, which leave it open. So the refusal is
+/// that of the last attempt, and each attempt before it was refused as one that may go through
+/// later. Of a call's refusal `Transaction::refuses` says what was done. No refusal leaves anything
+/// committed.
 pub fn transact<T: Transaction, J: Naming, R: Wait + Clock>(
     rt: &R,
     client: &mut Client<'_, J>,
@@ -34,16 +38,16 @@ pub fn transact<T: Transaction, J: Naming, R: Wait + Clock>(
 ) -> Result<(T::Output, Ticket), Refusal>
     ensures closed { OnOk result (client.new.phase ≡ Phase.Closed) }
     ensures committed { IfOk result (λ done. HasCommitted client.new done.1.place) }
-    ensures transacts { Transacts ⟦<J as Naming>⟧ (T.says transaction.now) client.old result
-        client.new }
+    ensures transacts { Transacts ⟦<J as Naming>⟧ (T.refuses transaction.now)
+        (T.says transaction.now) (2 ^ 32 - 1) client.old result client.new }
 {
     transact_within(rt, client, transaction, u32::MAX)
 }
 
 /// Runs a transaction as `transact` does, and makes no more than so many attempts, at least one.
 ///
-/// The refusals of `transact`, and of the last attempt also those behind which another would be
-/// made: Busy, TooManyLive, Backlog.
+/// The refusals of `transact`. Those behind which another attempt would be made, Busy, TooManyLive
+/// and Backlog, are answered of the last one that may be made alone.
 pub fn transact_within<T: Transaction, J: Naming, R: Wait + Clock>(
     rt: &R,
     client: &mut Client<'_, J>,
@@ -52,15 +56,16 @@ pub fn transact_within<T: Transaction, J: Naming, R: Wait + Clock>(
 ) -> Result<(T::Output, Ticket), Refusal>
     ensures closed { OnOk result (client.new.phase ≡ Phase.Closed) }
     ensures committed { IfOk result (λ done. HasCommitted client.new done.1.place) }
-    ensures transacts { Transacts ⟦<J as Naming>⟧ (T.says transaction.now) client.old result
-        client.new }
+    ensures transacts { Transacts ⟦<J as Naming>⟧ (T.refuses transaction.now)
+        (T.says transaction.now) attempts client.old result client.new }
 {
     client.upheld();
     let mut pause = Pause::new();
-    for _ in 1..attempts {
+    for _number in 1..attempts {
         match try_once(rt, client, transaction) {
+            Ok(done) => return Ok(done),
             Err(refusal) if is_passing(refusal) => {}
-            ended => return ended,
+            Err(refusal) => return Err(refusal),
         }
         if client.has_failed() {
             return Err(Refusal::Lost);
@@ -81,7 +86,8 @@ pub fn keep<T: Transaction, J: Naming, R: Wait + Clock>(
     ensures closed { OnOk result (client.new.phase ≡ Phase.Closed) }
     ensures committed { IfOk result (λ done. HasCommitted client.new done.1.place) }
     ensures kept { IfOk result (λ done. WasToldKept client.new done.1.place) }
-    ensures keeps { Keeps ⟦<J as Naming>⟧ (T.says transaction.now) client.old result client.new }
+    ensures keeps { Keeps ⟦<J as Naming>⟧ (T.refuses transaction.now)
+        (T.says transaction.now) (2 ^ 32 - 1) client.old result client.new }
 {
     keep_within(rt, client, transaction, u32::MAX)
 }
@@ -98,7 +104,8 @@ pub fn keep_within<T: Transaction, J: Naming, R: Wait + Clock>(
     ensures closed { OnOk result (client.new.phase ≡ Phase.Closed) }
     ensures committed { IfOk result (λ done. HasCommitted client.new done.1.place) }
     ensures kept { IfOk result (λ done. WasToldKept client.new done.1.place) }
-    ensures keeps { Keeps ⟦<J as Naming>⟧ (T.says transaction.now) client.old result client.new }
+    ensures keeps { Keeps ⟦<J as Naming>⟧ (T.refuses transaction.now)
+        (T.says transaction.now) attempts client.old result client.new }
 {
     let (output, ticket) = transact_within(rt, client, transaction, attempts)?;
     client.wait(rt, &ticket)?;
@@ -146,7 +153,9 @@ fn may_try_again(taken_back: Result<(), Refusal>, tries: &mut u32) -> bool {
 }
 
 // Whether a transaction that was refused so may go through later.
-fn is_passing(refusal: Refusal) -> bool {
+fn is_passing(refusal: Refusal) -> bool
+    ensures { IsTrue result ↔ IsPassing refusal }
+{
     matches!(
         refusal,
         Refusal::Busy(_) | Refusal::TooManyLive | Refusal::Backlog
@@ -160,12 +169,30 @@ fn try_once<T: Transaction, J: Naming, R: Wait>(
     transaction: &T,
 ) -> Result<(T::Output, Ticket), Refusal>
     ensures committed { IfOk result (λ done. HasCommitted client.new done.1.place) }
-    ensures transacts { Transacts ⟦<J as Naming>⟧ (T.says transaction.now) client.old result
-        client.new }
+    ensures ran { IfOk result (λ done. Ran ⟦<J as Naming>⟧ (T.refuses transaction.now) 1
+        (T.says transaction.now done.0) client.old done.1.place client.new) }
+    ensures tried { IfErr result (λ _. (tried : List Action) ×
+        Tried ⟦<J as Naming>⟧ client.old tried client.new) }
+    ensures refused { IfErr result (λ e. IsRefused ⟦<J as Naming>⟧ (T.refuses transaction.now)
+        client.old e client.new) }
 {
     match go_through(rt, client, transaction) {
         Ok(done) => Ok(done),
-        Err(refusal) => Err(take_back(rt, client).err().unwrap_or(refusal)),
+        Err(refusal) => Err(refused_by(rt, client, refusal)),
+    }
+}
+
+// Takes an attempt back that was refused so. What it is answered: its own refusal, or that of the
+// taking back.
+fn refused_by<J: Naming, R: Wait>(rt: &R, client: &mut Client<'_, J>, refusal: Refusal) -> Refusal
+    ensures taken_back { ((result ≡ refusal) ×
+        TakesBack ⟦<J as Naming>⟧ client.old (Ok tt) client.new)
+        ⊎ TakesBack ⟦<J as Naming>⟧ client.old (Err result) client.new }
+    ensures tried { (tried : List Action) × Tried ⟦<J as Naming>⟧ client.old tried client.new }
+{
+    match take_back(rt, client) {
+        Ok(()) => refusal,
+        Err(other) => other,
     }
 }
 
@@ -176,8 +203,12 @@ fn go_through<T: Transaction, J: Naming, R: Wait>(
     transaction: &T,
 ) -> Result<(T::Output, Ticket), Refusal>
     ensures committed { IfOk result (λ done. HasCommitted client.new done.1.place) }
-    ensures transacts { Transacts ⟦<J as Naming>⟧ (T.says transaction.now) client.old result
-        client.new }
+    ensures ran { IfOk result (λ done. Ran ⟦<J as Naming>⟧ (T.refuses transaction.now) 1
+        (T.says transaction.now done.0) client.old done.1.place client.new) }
+    ensures tried { IfErr result (λ _. (tried : List Action) ×
+        Tried ⟦<J as Naming>⟧ client.old tried client.new) }
+    ensures stops { IfErr result (λ e. Stops ⟦<J as Naming>⟧ (T.refuses transaction.now)
+        client.old e client.new) }
 {
     begin(rt, client)?;
     let output = client.attempt(rt, transaction)?;
@@ -187,7 +218,8 @@ fn go_through<T: Transaction, J: Naming, R: Wait>(
 
 // Begins a transaction. One that is open is taken back first.
 fn begin<J: Naming, R: Wait>(rt: &R, client: &mut Client<'_, J>) -> Result<(), Refusal>
-    ensures begun { OnOk result (IsBegun client.new.phase) }
+    ensures begun { OnOk result (Begins ⟦<J as Naming>⟧ client.old client.new) }
+    ensures refused { IfErr result (λ e. IsNotBegun ⟦<J as Naming>⟧ client.old e client.new) }
     ensures tried { (tried : List Action) × Tried ⟦<J as Naming>⟧ client.old tried client.new }
 {
     take_back(rt, client)?;
@@ -198,6 +230,7 @@ fn begin<J: Naming, R: Wait>(rt: &R, client: &mut Client<'_, J>) -> Result<(), R
 // Takes the open transaction back, if there is one.
 fn take_back<J: Naming, R: Wait>(rt: &R, client: &mut Client<'_, J>) -> Result<(), Refusal>
     ensures closed { OnOk result (client.new.phase ≡ Phase.Closed) }
+    ensures taken_back { TakesBack ⟦<J as Naming>⟧ client.old result client.new }
     ensures tried { (tried : List Action) × Tried ⟦<J as Naming>⟧ client.old tried client.new }
 {
     client.upheld();

@@ -1,5 +1,6 @@
 -- What a command leaves on a disk, and what a stop at any moment of it might have left.
-use Rattle.std.specs.Prelude.{◌≡◌, ◌⊎◌, ℕ, List, [], length, replicate, take, Bool, true, false, Err}
+use Rattle.std.specs.Prelude.{◌≡◌, ◌⊎◌, ℕ, List, [], length, replicate, take, Bool, true, false}
+use Rattle.std.specs.Prelude.{Err}
 use Rattle.arguments.specs.declared.Task.{Task}
 use Rattle.boost.specs.Commands.{IsUnderstood}
 use Rattle.calls.specs.Contents.{Collection}
@@ -15,10 +16,12 @@ use Rattle.recovery.specs.declared.report.Survey.{Survey}
 use Rattle.recovery.specs.Heads.{HasNoHeader}
 use Rattle.recovery.specs.Openings.{IsOpened, IsReport, IsDamagedAt, KeepsContent}
 use Rattle.recovery.specs.Finding.{IsFound}
+use Rattle.recovery.specs.Loading.{HoldsImage}
 use Rattle.recovery.specs.Surveys.{IsSurvey}
 use Rattle.recovery.specs.Copies.{IsCopyOf, IsTooLarge, IsCopyAnswer}
 use Rattle.repetition.specs.Steps.{State}
 use Rattle.gate_block.specs.declared.area.Area.{Area}
+use Rattle.gate_block.specs.Area.{base_of, size_of}
 use Rattle.txn.specs.Books.{BookState}
 use Rattle.world.specs.Pasts.{Past, AreAnswered, committed_in}
 use Rattle.checkpoint.specs.Crash.{Yields}
@@ -114,11 +117,15 @@ pub record IsSeen {D : Type 0} (g : Ghosts D) (old new : D) : Type 0 where
   pub report : Report
   pub found : IsFound (g.is_honest new) (g.seen old) area room undone next undoing report
 
--- A store was found, and this is what room it takes and has.
+-- A store was found, and this is what room it takes and has: so many bytes are the image of the
+-- area in use.
 pub record IsSurveyed {D : Type 0} (g : Ghosts D) (old new : D) : Type 0 where
   pub seen : IsSeen g old new
+  pub image : ℕ
+  pub holds : g.is_honest new →
+      HoldsImage (base_of seen.area) (size_of seen.area) (g.seen old) image
   pub survey : Survey
-  pub is_survey : IsSurvey seen.area seen.undone seen.next seen.undoing seen.report survey
+  pub is_survey : IsSurvey seen.area seen.undone seen.next seen.undoing image seen.report survey
 
 -- A show opened the store, or found it where nothing is to be written.
 abbrev pub IsShownAs : {D : Type 0} (g : Ghosts D) → (read_only : Bool) → D → D → Type 0
@@ -137,9 +144,9 @@ pub record IsCounted {D : Type 0} (g : Ghosts D) (disk : D) : Type 0 where
   pub report : IsReport (g.seen disk) counts
 
 -- What holds where a command was done: a format made an empty store; a play understood each line of
--- its script, and carried them out on the store that was opened; a show opened a store or found one,
--- a check counted one, and a stat what room it takes; and the stored run did what it does on a disk
--- of its own.
+-- its script, and carried them out on the store that was opened; a show opened a store or found
+-- one, a check counted one, and a stat what room it takes; and the stored run did what it does on a
+-- disk of its own.
 abbrev pub IsDone : {D : Type 0} (g : Ghosts D) → Type 0 → Task → List ℕ → D → D → Type 0
 IsDone g stored (Task.Format disk area reserve) script old new = IsFormatted g area old new
 IsDone g stored (Task.Play disk name) script old new =
@@ -152,7 +159,8 @@ IsDone g stored Task.Demo script old new = stored
 -- What a command leaves on the disk, done or not, and what a stop at any moment of it might have
 -- left: a format the old bytes, no store or an empty one; a play what a beginning of the script's
 -- lines leaves, and a beginning of what its steps committed; a show the content, or all where
--- nothing is to be written; a check and a stat only read; and the stored run does not touch the disk.
+-- nothing is to be written; a check and a stat only read; and the stored run does not touch the
+-- disk.
 abbrev pub Leaves : {D : Type 0} (g : Ghosts D) → Task → (script : List ℕ) → D → D → Type 0
 Leaves g (Task.Format disk area reserve) script old new = IsAtRest g.seen g.may_leave old →
     LeavesOnly g.moment g.left_since old new (IsFormatting (g.seen old))

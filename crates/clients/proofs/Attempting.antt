@@ -149,6 +149,7 @@ module _ {J : Type 0} (j : Ghosts J) where
   open_under n made (Phase.Drawn m) opened = tt
   open_under n made (Phase.Entered m) opened = tt
 
-  pub attempt_open : {A : Type 0} (says : A → List Action → Type 0) (n : ℕ) (old new : Known)
-      (r : Result A Refusal) → IsAttempt j says n old r new → IsOpen new.phase
-  attempt_open says n old new r is = open_under n is.0 new.phase is.1.is_open
+  pub attempt_open : {A : Type 0} (says : A → List Action → Type 0)
+      (refuses : Refusal → List Action → Type 0) (n : ℕ) (old new : Known) (r : Result A Refusal) →
+      IsAttempt j says refuses n old r new → IsOpen new.phase
+  attempt_open says refuses n old new r is = open_under n is.0 new.phase is.1.is_open

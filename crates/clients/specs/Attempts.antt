@@ -1,6 +1,6 @@
 -- What is done in an attempt at a transaction.
 use Rattle.std.specs.Prelude.{◌≡◌, ◌⊎◌, ℕ, List, [], ◌∷◌, ◌++◌, drop, length, map, Ok, Err}
-use Rattle.std.specs.Prelude.{Result, IfOk}
+use Rattle.std.specs.Prelude.{Result, MatchResult}
 use Rattle.std.specs.List.{AllByRecursion}
 use Rattle.calls.specs.declared.refusal.Refusal.{Refusal}
 use Rattle.group_commit.specs.Lines.{steps_of}
@@ -45,11 +45,12 @@ module _ {J : Type 0} (j : Ghosts J) where
     pub are_calls : AllByRecursion (IsOfCalls n) made
     pub is_open : IsOpenUnder n made new.phase
 
-  -- It made calls in the transaction, and an output that is answered says so of them.
-  abbrev pub IsAttempt : {A : Type 0} → (says : A → List Action → Type 0) → ℕ → Known →
-      Result A Refusal → Known → Type 0
-  IsAttempt says n old r new = (made : List Action) × Attempts n old made new ×
-      IfOk r (λ output. says output made)
+  -- It made calls in the transaction, and what is answered, an output or a refusal, says so of
+  -- them.
+  abbrev pub IsAttempt : {A : Type 0} → (says : A → List Action → Type 0) →
+      (refuses : Refusal → List Action → Type 0) → ℕ → Known → Result A Refusal → Known → Type 0
+  IsAttempt says refuses n old r new = (made : List Action) × Attempts n old made new ×
+      MatchResult r (λ output. says output made) (λ e. refuses e made)
 
 -- ---- what a call adds
 

@@ -38,7 +38,8 @@ pub trait Attempt {
 
 /// The calls of a transaction.
 pub trait Transaction {
-    ghost use Rattle.std.specs.Prelude.{◌≡◌, [], List, IfOk, ⊤};
+    ghost use Rattle.std.specs.Prelude.{◌≡◌, [], List, IfOk, IfErr, ⊤};
+    ghost use Rattle.calls.specs.declared.refusal.Refusal.{Refusal};
     ghost use Rattle.txn.specs.declared.steps.Action.{Action};
 
     type Output: Drop;
@@ -46,11 +47,15 @@ pub trait Transaction {
     /// What the output says of what was done in the attempt.
     ghost says: { Self → Self.Output → List Action → Type 0 } = { λ _ _ _. ⊤ };
 
+    /// What a refusal says of what was done in the attempt.
+    ghost refuses: { Self → Refusal → List Action → Type 0 } = { λ _ _ _. ⊤ };
+
     /// Makes the calls in an attempt, and answers what they gave. At a refusal the attempt is taken
     /// back.
     fn make_calls<A: Attempt>(&self, attempt: &mut A) -> Result<Self::Output, Refusal>
         requires { A.made attempt.old ≡ [] }
-        ensures { IfOk result (λ output. says self.now output (A.made attempt.new)) };
+        ensures said { IfOk result (λ output. says self.now output (A.made attempt.new)) }
+        ensures refused { IfErr result (λ e. refuses self.now e (A.made attempt.new)) };
 }
 
 /// Which beginning of a transaction an attempt goes on from. The type of an attempt names it, so
@@ -120,7 +125,7 @@ impl<J: Naming> Client<'_, J> {
     ) -> Result<T::Output, Refusal>
         requires { IsBegun self.old.phase }
         ensures attempt { IsAttempt ⟦<J as Naming>⟧ (T.says transaction.now)
-            (number_of self.old.phase) self.old result self.new }
+            (T.refuses transaction.now) (number_of self.old.phase) self.old result self.new }
         ensures open { IsOpen self.new.phase }
     {
         replace_with(self, (rt, transaction, PhantomData), attempt_by)
@@ -133,8 +138,8 @@ fn attempt_by<'s, T: Transaction, J: Naming, R: Wait>(
     with: (&R, &T, PhantomData<T::Output>),
 ) -> (Client<'s, J>, Result<T::Output, Refusal>)
     requires { IsBegun client.phase }
-    ensures { IsAttempt ⟦<J as Naming>⟧ (T.says with.entry.1.now) (number_of client.entry.phase)
-        client.entry result.1 result.0 }
+    ensures { IsAttempt ⟦<J as Naming>⟧ (T.says with.entry.1.now) (T.refuses with.entry.1.now)
+        (number_of client.entry.phase) client.entry result.1 result.0 }
 {
     let (rt, transaction, _output) = with;
     go_through::<Brand, T, J, R>(rt, client, transaction)
@@ -149,8 +154,8 @@ fn go_through<'s, B: Beginning, T: Transaction, J: Naming, R: Wait>(
     requires begun { IsBegun client.phase }
     requires number { number_of client.phase ≡ B.number }
     requires start { client ≡ B.start }
-    ensures { IsAttempt ⟦<J as Naming>⟧ (T.says transaction.now) B.number client.entry result.1
-        result.0 }
+    ensures { IsAttempt ⟦<J as Naming>⟧ (T.says transaction.now) (T.refuses transaction.now)
+        B.number client.entry result.1 result.0 }
 {
     client.upheld();
     let mut going: Going<'_, '_, J, B, R> = Going {

@@ -1,7 +1,8 @@
 -- An area that is loaded, block by block.
 use Rattle.std.proofs.Common.{◌≡◌, ◌≢◌, ℕ, ◌+◌, ◌<◌, ◌≤◌, List, [], ◌∷◌, ◌++◌, length, drop, get_or}
 use Rattle.std.proofs.Common.{map, refl, sym, ◌∙◌, ap, subst, arith, append_assoc, length-drop}
-use Rattle.std.proofs.Common.{take-append-drop, Bool, false, true≢false, Option, None, Some, Err}
+use Rattle.std.proofs.Common.{take-append-drop, Bool, true, false, true≢false, Option, None, Some}
+use Rattle.std.proofs.Common.{Err}
 use Rattle.std.proofs.Common.{MatchOption, Vec}
 use Rattle.std.specs.declared.alloc.Global.{Global}
 use Rattle.calls.specs.declared.kind.Kind.{Kind}
@@ -24,10 +25,12 @@ use Rattle.record_format.specs.Records.{spelling, AreRecords}
 use Rattle.repetition.specs.declared.stage.Stage.{Stage}
 use Rattle.repetition.specs.Journals.{records_in}
 use Rattle.repetition.specs.Steps.{State}
-use Rattle.repetition.specs.Reading.{Progress, Unread, InJournal, Reads, AreAccepted, last_named}
+use Rattle.repetition.specs.Reading.{Progress, Unread, InCollections, InNumbers, InCalls}
+use Rattle.repetition.specs.Reading.{InJournal, Reads, AreAccepted, last_named}
 use Rattle.repetition.specs.Repetitions.{LeadsTo, IsFit, IsDamageOr, progress_of, count_of}
+use Rattle.repetition.specs.Repetitions.{AlikeProgress}
 use Rattle.recovery.specs.Openings.{AreSound, IsFirstFault, IsSpoilt, IsLoadRefusal}
-use Rattle.recovery.specs.Loading.{IsLoaded}
+use Rattle.recovery.specs.Loading.{IsLoaded, HoldsImage, IsImagePart, is_imaging, image_behind}
 use Rattle.repetition.proofs.Lists.{flat_map-append, leads_split}
 use Rattle.boosted.proofs.Each.{each_append}
 use Rattle.repetition.proofs.RepeatLemmas.{leads_to_nothing, one_group, last_named-append}
@@ -169,6 +172,140 @@ reads_on bytes body position after kind later stage now next above so_far stands
           );
     }
 
+-- ---- the image
+
+-- The image has not ended, or it is the first of these blocks.
+abbrev pub HasImageSoFar : (imaging : Bool) → List (List Record) → (position image : ℕ) → Type 0
+HasImageSoFar true blocks position image = image ≡ position
+HasImageSoFar false blocks position image = IsImagePart blocks image
+
+-- behind the end of an image only records of the journal are read
+stays_journal : (rs : List Record) (n : ℕ) (s : State) (k : ℕ) (stage : Stage) (next : ℕ) →
+    Leads Reads rs (InJournal n s k) (progress_of stage next) → is_imaging stage ≡ false
+stays_journal [] n s k Stage.Unread next leads = absurd cc
+stays_journal [] n s k (Stage.Collections x) next leads = absurd cc
+stays_journal [] n s k (Stage.Numbers x) next leads = absurd cc
+stays_journal [] n s k (Stage.Calls x) next leads = absurd cc
+stays_journal [] n s k (Stage.Journal x c) next leads = refl
+stays_journal (r ∷ rs) n s k stage next leads =
+    stays_journal rs _ leads.1.0 (k + 1) stage next
+    (subst (λ p. Leads Reads rs p (progress_of stage next)) leads.1.2 leads.2)
+
+-- what no image leads to is no journal
+no_image_yet : (rs : List Record) (stage : Stage) (next : ℕ) → is_imaging stage ≡ true →
+    LeadsTo rs (progress_of stage next) → (n : ℕ) (s : State) (k : ℕ) → AreAccepted rs n s k → ⊥
+no_image_yet rs Stage.Unread next imaging reached n s k accepted = reached.only _ accepted
+no_image_yet rs (Stage.Collections x) next imaging reached n s k accepted = reached.only _ accepted
+no_image_yet rs (Stage.Numbers x) next imaging reached n s k accepted = reached.only _ accepted
+no_image_yet rs (Stage.Calls x) next imaging reached n s k accepted = reached.only _ accepted
+no_image_yet rs (Stage.Journal x c) next imaging reached n s k accepted =
+    absurd (true≢false (sym imaging))
+
+-- so it is behind a journal
+in_journal : (group : List Record) (t : Progress) (now : Stage) (above n : ℕ) (s : State) (k : ℕ) →
+    AlikeProgress t (InJournal n s k) → Leads Reads group t (progress_of now above) →
+    is_imaging now ≡ false
+in_journal group Unread now above n s k alike leads = absurd alike
+in_journal group (InCollections m u x) now above n s k alike leads = absurd alike
+in_journal group (InNumbers m u) now above n s k alike leads = absurd alike
+in_journal group (InCalls m u) now above n s k alike leads = absurd alike
+in_journal group (InJournal m u j) now above n s k alike leads =
+    stays_journal group m u j now above leads
+
+stays_ended : (rs group : List Record) (stage now : Stage) (next above : ℕ) →
+    LeadsTo rs (progress_of stage next) → Leads Reads (rs ++ group) Unread (progress_of now above) →
+    is_imaging stage ≡ false → is_imaging now ≡ false
+stays_ended rs group Stage.Unread now next above reached leads is = absurd (true≢false is)
+stays_ended rs group (Stage.Collections x) now next above reached leads is =
+    absurd (true≢false is)
+stays_ended rs group (Stage.Numbers x) now next above reached leads is = absurd (true≢false is)
+stays_ended rs group (Stage.Calls x) now next above reached leads is = absurd (true≢false is)
+stays_ended rs group (Stage.Journal x c) now next above reached leads is =
+    let split = leads_split Reads rs group Unread (progress_of now above) leads in
+    in_journal group split.0 now above next x c (reached.only split.0 split.1) split.2
+
+-- an image that has ended is accepted
+is_accepted : (rs : List Record) (stage : Stage) (next : ℕ) → LeadsTo rs (progress_of stage next) →
+    is_imaging stage ≡ false → (n : ℕ) × (s : State) × (k : ℕ) × AreAccepted rs n s k
+is_accepted rs Stage.Unread next reached is = absurd (true≢false is)
+is_accepted rs (Stage.Collections x) next reached is = absurd (true≢false is)
+is_accepted rs (Stage.Numbers x) next reached is = absurd (true≢false is)
+is_accepted rs (Stage.Calls x) next reached is = absurd (true≢false is)
+is_accepted rs (Stage.Journal x c) next reached is = (next, x, c, reached.leads)
+
+ended_at : (stage : Stage) (next n : ℕ) (s : State) (k : ℕ) →
+    progress_of stage next ≡ InJournal n s k → is_imaging stage ≡ false
+ended_at Stage.Unread next n s k is = absurd cc
+ended_at (Stage.Collections x) next n s k is = absurd cc
+ended_at (Stage.Numbers x) next n s k is = absurd cc
+ended_at (Stage.Calls x) next n s k is = absurd cc
+ended_at (Stage.Journal x c) next n s k is = refl
+
+image_step : (was now : Bool) (blocks : List (List Record)) (group : List Record)
+    (position after image : ℕ) → after ≡ length (row (map spelling (blocks ++ group ∷ [])))
+    → (was ≡ false → now ≡ false)
+    → (was ≡ true → (n : ℕ) (s : State) (k : ℕ) → AreAccepted (records_in blocks) n s k → ⊥)
+    → (now ≡ false →
+    (n : ℕ) × (s : State) × (k : ℕ) × AreAccepted (records_in (blocks ++ group ∷ [])) n s k)
+    → HasImageSoFar was blocks position image →
+    HasImageSoFar now (blocks ++ group ∷ []) after (image_behind was image after)
+image_step true true blocks group position after image at stays fresh ended so_far = refl
+image_step true false blocks group position after image at stays fresh ended so_far =
+    let end = ended refl in record {
+      before = blocks;
+      last = group;
+      journal = [];
+      are = refl;
+      next = end.0;
+      state = end.1;
+      count = end.2;
+      ended = end.3;
+      not_before = fresh refl;
+      len_is = at;
+    }
+image_step false true blocks group position after image at stays fresh ended so_far =
+    absurd (true≢false (stays refl))
+image_step false false blocks group position after image at stays fresh ended so_far = record {
+  before = so_far.before;
+  last = so_far.last;
+  journal = so_far.journal ++ group ∷ [];
+  are = ap (λ l. l ++ group ∷ []) so_far.are ∙
+      append_assoc so_far.before (so_far.last ∷ so_far.journal) (group ∷ []);
+  next = so_far.next;
+  state = so_far.state;
+  count = so_far.count;
+  ended = so_far.ended;
+  not_before = so_far.not_before;
+  len_is = so_far.len_is;
+}
+
+-- one block more
+pub image_on : (bytes body : List ℕ) (position after : ℕ) (kind later : Option Kind)
+    (stage now : Stage) (next above image : ℕ) (so_far : HasRead bytes position kind stage next)
+    (stands : StandsAt bytes position body) (after_is : after ≡ position + 5 + length body)
+    (repeats : ReadsOn kind stage next body later now above)
+    → HasImageSoFar (is_imaging stage) so_far.blocks position image
+    → HasImageSoFar (is_imaging now)
+    (reads_on bytes body position after kind later stage now next above so_far stands after_is
+    repeats).blocks after (image_behind (is_imaging stage) image after)
+unfolding reads_on
+image_on bytes body position after kind later stage now next above image so_far stands after_is
+    repeats has =
+    let found = repeats (records_in so_far.blocks) so_far.reached in
+    let new = reads_on bytes body position after kind later stage now next above so_far stands
+    after_is repeats in
+    image_step (is_imaging stage) (is_imaging now) so_far.blocks found.0 position after image
+    new.position_is
+    (stays_ended (records_in so_far.blocks) found.0 stage now next above so_far.reached
+    found.4.leads)
+    (λ is. no_image_yet (records_in so_far.blocks) stage next is so_far.reached)
+    (λ is. is_accepted (records_in (so_far.blocks ++ found.0 ∷ [])) now above new.reached is) has
+
+behind_inside : (imaging : Bool) (image position after : ℕ) → image ≤ position → position ≤ after →
+    image_behind imaging image after ≤ after
+behind_inside true image position after inside on = omega arith
+behind_inside false image position after inside on = omega (arith, inside, on)
+
 -- ---- the first fault
 
 -- where a block stands, the gate is open
@@ -293,7 +430,7 @@ length-part base size disk inside =
 pub record IsLoading {D : Type 0} (seen : D → List ℕ) (may_leave : D → List ℕ → Type 0)
     (moment : D → ℕ) (left_since : D → ℕ → List ℕ → Type 0) (is_honest : D → Type 0)
     (fault_count : D → ℕ) (old new : D) (base size : ℕ) (area : Area) (kind : Option Kind)
-    (stage : Stage) (next place : ℕ) : Type 0 where
+    (stage : Stage) (next place image : ℕ) : Type 0 where
   -- what the device tells
   pub reads : ReadsOnly seen may_leave moment left_since old new
   pub honest : is_honest new → is_honest old
@@ -308,6 +445,10 @@ pub record IsLoading {D : Type 0} (seen : D → List ℕ) (may_leave : D → Lis
   pub few : count_of stage ≤ position_of area
   pub has_read : is_honest new → HasRead (part base size (seen old)) (position_of area) kind stage
       next
+  -- what of it is the image
+  pub inside : image ≤ position_of area
+  pub image_is : (true_read : is_honest new) →
+      HasImageSoFar (is_imaging stage) (has_read true_read).blocks (position_of area) image
 
 -- before the first block
 pub loading_starts : {D : Type 0} (seen : D → List ℕ) (may_leave : D → List ℕ → Type 0)
@@ -318,7 +459,7 @@ pub loading_starts : {D : Type 0} (seen : D → List ℕ) (may_leave : D → Lis
     size_of area ≡ size → position_of area ≡ 0 → has_failed area ≡ false → kind ≡ None →
     stage ≡ Stage.Unread
     → IsLoading seen may_leave moment left_since is_honest fault_count disk disk base size area kind
-    stage next base
+    stage next base 0
 loading_starts seen may_leave moment left_since is_honest fault_count disk base size area kind stage
     next only_now base_is size_is none fine unnamed unread = record {
       reads = record {
@@ -337,6 +478,12 @@ loading_starts seen may_leave moment left_since is_honest fault_count disk base 
       has_read = λ true_read. nothing_read (part base size (seen disk)) (position_of area) kind
           stage
           next none unnamed unread;
+      inside = omega arith;
+      image_is = λ true_read.
+          let blocks = (nothing_read (part base size (seen disk)) (position_of area) kind stage next
+          none unnamed unread).blocks in
+          subst (λ s. HasImageSoFar (is_imaging s) blocks (position_of area) 0) (sym unread)
+          (sym none);
     }
 
 next_refusal : (T : Type 0) (before after : Bool) (risen rises : Type 0)
@@ -368,7 +515,7 @@ closed_gate : (found : Option (Vec ℕ Global)) (bytes : List ℕ) (p : ℕ) →
 closed_gate None bytes p none finds = finds
 closed_gate (Some v) bytes p none finds = absurd (none v refl)
 
-same_place : (found : Option (Vec ℕ Global)) (was now : ℕ) →
+pub same_place : (found : Option (Vec ℕ Global)) (was now : ℕ) →
     ((v : Vec ℕ Global) → found ≡ Some v → ⊥) →
     MatchOption found (now ≡ was) (λ body. now ≡ was + 5 + length body.items) → now ≡ was
 same_place None was now none found = found
@@ -378,9 +525,9 @@ same_place (Some v) was now none found = absurd (none v refl)
 module _ {D : Type 0} {seen : D → List ℕ} {may_leave : D → List ℕ → Type 0} {moment : D → ℕ}
     {left_since : D → ℕ → List ℕ → Type 0} {is_honest : D → Type 0} {fault_count : D → ℕ}
     {old mid : D} {base size : ℕ} {area : Area} {kind : Option Kind} {stage : Stage}
-    {next place : ℕ}
+    {next place image : ℕ}
     (l : IsLoading seen may_leave moment left_since is_honest fault_count old mid base size area
-    kind stage next place) (new : D)
+    kind stage next place image) (new : D)
     (reads : ReadsOnly seen may_leave moment left_since mid new)
     (honest : is_honest new → is_honest mid) (faults : fault_count mid ≤ fault_count new) where
   bytes_same : bytes_of area (seen mid) ≡ part base size (seen old)
@@ -436,17 +583,18 @@ module _ {D : Type 0} {seen : D → List ℕ} {may_leave : D → List ℕ → Ty
       damage
 
   pub loads_on : (after : Area) (body : List ℕ) (later : Option Kind) (now : Stage)
-      (above later_place : ℕ) → (is_honest new →
+      (above later_place later_image : ℕ) → (is_honest new →
       StandsAt (bytes_of area (seen mid)) (position_of area) body)
       → base_of after ≡ base_of area → size_of after ≡ size_of area → has_failed after ≡ false →
       position_of after ≡ position_of area + 5 + length body →
       later_place ≡ place + (5 + length body)
+      → later_image ≡ image_behind (is_imaging stage) image (position_of after)
       → ReadsOn kind stage next body later now above → IsFit now →
       count_of now ≤ count_of stage + length body
       → IsLoading seen may_leave moment left_since is_honest fault_count old new base size after
-      later now above later_place
-  loads_on after body later now above later_place stands base_is size_is fine position_is later_is
-      repeats fit few = record {
+      later now above later_place later_image
+  loads_on after body later now above later_place later_image stands base_is size_is fine
+      position_is later_is image_is repeats fit few = record {
         reads = read_twice seen may_leave moment left_since old mid new l.reads reads;
         honest = λ true_read. l.honest (honest true_read);
         faults = omega (arith, l.faults, faults);
@@ -461,6 +609,13 @@ module _ {D : Type 0} {seen : D → List ℕ} {may_leave : D → List ℕ → Ty
             (subst (λ b. StandsAt b (position_of area) body) bytes_same (stands true_read))
             position_is
             repeats;
+        inside = rw image_is (behind_inside (is_imaging stage) image (position_of area)
+            (position_of after) l.inside (omega (arith, position_is)));
+        image_is = λ true_read. rw image_is
+            (image_on (part base size (seen old)) body (position_of area) (position_of after) kind
+            later stage now next above image (l.has_read (honest true_read))
+            (subst (λ b. StandsAt b (position_of area) body) bytes_same (stands true_read))
+            position_is repeats (l.image_is (honest true_read)));
       }
 
   pub end_refused : (found : Option (Vec ℕ Global)) (e : Refusal) →
@@ -513,4 +668,23 @@ module _ {D : Type 0} {seen : D → List ℕ} {may_leave : D → List ℕ → Ty
               read.reached.leads;
         };
         position = p ∙ read.position_is;
+      }
+
+  pub ends_image : (after : Area) (found : Option (Vec ℕ Global)) →
+      ((v : Vec ℕ Global) → found ≡ Some v → ⊥) →
+      (is_honest new → Finds (bytes_of area (seen mid)) (position_of area) (body_in found))
+      → base + size ≤ length (seen old) → position_of after < size
+      → MatchOption found (position_of after ≡ position_of area)
+      (λ body. position_of after ≡ position_of area + 5 + length body.items)
+      → (n : ℕ) (s : State) (count : ℕ) → progress_of stage next ≡ InJournal n s count →
+      is_honest new → HoldsImage base size (seen old) image
+  unfolding loads
+  ends_image after found none finds inside under position_is n s count journal true_read =
+      let read = l.has_read (honest true_read) in record {
+        blocks = read.blocks;
+        good = read.good;
+        row_is = (loads after found none finds inside under position_is n s count journal
+            true_read).is_read.row_is;
+        image = subst (λ b. HasImageSoFar b read.blocks (position_of area) image)
+            (ended_at stage next n s count journal) (l.image_is (honest true_read));
       }

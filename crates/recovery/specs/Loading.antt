@@ -1,8 +1,11 @@
 -- What an area was read to hold.
-use Rattle.std.specs.Prelude.{◌≡◌, ℕ, List, length, map}
-use Rattle.gate_block.specs.Row.{row}
+use Rattle.std.specs.Prelude.{◌≡◌, ℕ, List, [], ◌∷◌, ◌++◌, length, map, Bool, true, false, None}
+use Rattle.gate_block.specs.Row.{row, IsRow, part}
 use Rattle.record_format.specs.declared.record.Record.{Record}
-use Rattle.record_format.specs.Records.{spelling}
+use Rattle.record_format.specs.Records.{spelling, AreRecords}
+use Rattle.repetition.specs.declared.stage.Stage.{Stage}
+use Rattle.repetition.specs.Journals.{records_in}
+use Rattle.repetition.specs.Reading.{AreAccepted}
 use Rattle.repetition.specs.Steps.{State}
 use Rattle.recovery.specs.Openings.{IsRead}
 
@@ -13,3 +16,37 @@ pub record IsLoaded (base size : ℕ) (bytes : List ℕ) (state : State) (next c
   pub blocks : List (List Record)
   pub is_read : IsRead base size bytes blocks next state count
   pub position : place ≡ length (row (map spelling blocks))
+
+-- ---- the image in front of the journal
+
+-- whether the image has not ended at this stage
+abbrev pub is_imaging : Stage → Bool
+is_imaging (Stage.Journal s count) = false
+is_imaging other = true
+
+-- where the image ends behind one more block: there, where it had not ended before that block
+abbrev pub image_behind : (imaging : Bool) → (end position : ℕ) → ℕ
+image_behind true end position = position
+image_behind false end position = end
+
+-- The image takes the first of the blocks, so many bytes: it ends behind the first block behind
+-- which the records are accepted, the one that has the record of its end. What stands behind that
+-- block is the journal.
+pub record IsImagePart (blocks : List (List Record)) (len : ℕ) : Type 0 where
+  pub before : List (List Record)
+  pub last : List Record
+  pub journal : List (List Record)
+  pub are : blocks ≡ before ++ last ∷ journal
+  pub next : ℕ
+  pub state : State
+  pub count : ℕ
+  pub ended : AreAccepted (records_in (before ++ last ∷ [])) next state count
+  pub not_before : (n : ℕ) (s : State) (k : ℕ) → AreAccepted (records_in before) n s k → ⊥
+  pub len_is : len ≡ length (row (map spelling (before ++ last ∷ [])))
+
+-- The area is a row of blocks, whose image takes so many bytes.
+pub record HoldsImage (base size : ℕ) (bytes : List ℕ) (len : ℕ) : Type 0 where
+  pub blocks : List (List Record)
+  pub good : AreRecords None (records_in blocks)
+  pub row_is : IsRow (map spelling blocks) (part base size bytes)
+  pub image : IsImagePart blocks len

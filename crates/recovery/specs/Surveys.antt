@@ -24,13 +24,16 @@ pub record IsImageLen (next : ℕ) (state : State) (len : ℕ) : Type 0 where
   pub len_is : len ≡ image_len blocks
 
 -- The numbers are those of the store that was found in the area, with the records that undo what
--- was live in it, and the state behind them.
-pub record IsSurvey (area : Area) (undone : State) (next : ℕ) (undoing : List Record)
+-- was live in it, the state behind them, and so many bytes of its image: image, journal and the
+-- closed gate are what is used.
+pub record IsSurvey (area : Area) (undone : State) (next : ℕ) (undoing : List Record) (image : ℕ)
     (report : Report) (survey : Survey) : Type 0 where
   pub area_is : survey.area ≡ size_of area
   pub first : IsTrue survey.first ↔ (base_of area ≡ 4096)
   pub used : survey.used ≡ position_of area + 1
-  pub image : IsImageLen next undone survey.image
+  pub image_is : survey.image ≡ image
+  pub journal : survey.image + survey.journal + 1 ≡ survey.used
+  pub checkpoint : IsImageLen next undone survey.checkpoint
   pub undoing_is : survey.undoing ≡ min (blocks_len (length undoing)) (2 ^ 64 - 1)
   pub next_is : survey.next ≡ next
   pub wear : survey.wear ≡ undone.wear

@@ -1,8 +1,10 @@
 // Finding a store: what its area in use holds, with the losers undone in memory.
 ghost use Rattle.std.specs.Prelude.{◌≡◌, ◌≤◌, ◌+◌, ◌^◌, ℕ, length, IfOk, IfErr, IsOkUnless};
 ghost use Rattle.disk_model.specs.Disk.{ReadsOnly, Rises};
+ghost use Rattle.gate_block.specs.Area.{base_of, size_of, position_of};
 ghost use Rattle.recovery.specs.Heads.{HasNoHeader};
 ghost use Rattle.recovery.specs.Openings.{IsDamagedAt, IsFindRefusal};
+ghost use Rattle.recovery.specs.Loading.{HoldsImage};
 ghost use Rattle.recovery.specs.Finding.{IsFound};
 ghost use Rattle.recovery.specs.Surveys.{IsSurvey};
 
@@ -31,9 +33,12 @@ pub struct Found {
     pub area: Area,
     /// How many bytes of the area are behind its blocks.
     pub room: u64,
+    /// How many bytes of the area its image takes; the journal is behind it.
+    pub image: u64,
     pub records: Vec<Record>,
     pub report: Report,
     ghost bound: { (1 ≤ next) × (next ≤ 2 ^ 61) },
+    ghost inside: { image ≤ position_of area },
 }
 
 impl Found {
@@ -49,16 +54,19 @@ impl Found {
     /// NoMemory.
     pub fn survey(&self, alloc: Global) -> Result<Survey, Refusal>
         ensures survey { IfOk result (λ survey. IsSurvey self.now.area self.now.machine
-            self.now.next self.now.records.items self.now.report survey) }
+            self.now.next self.now.records.items self.now.image self.now.report survey) }
         ensures refusal { IsOkUnless result Refusal.NoMemory }
     {
-        let image = image_of(alloc, &self.machine, self.next)?;
+        let checkpoint = image_of(alloc, &self.machine, self.next)?;
         let size = self.area.size();
+        let position = size - self.area.room();
         Ok(Survey {
             area: size,
             first: self.area.base() == AREAS_AT,
-            used: size - self.area.room() + 1,
-            image: image_len(&image),
+            used: position + 1,
+            image: self.image,
+            journal: position - self.image,
+            checkpoint: image_len(&checkpoint),
             undoing: blocks_len(self.records.len() as u64),
             next: self.next,
             wear: self.machine.wear(),
@@ -74,6 +82,8 @@ impl Found {
 pub fn find<D: Disk>(alloc: Global, disk: &mut D) -> Result<Found, Refusal>
     ensures found { IfOk result (λ x. IsFound (D.is_honest disk.new) (D.seen disk.old) x.area x.room
         x.machine x.next x.records.items x.report) }
+    ensures image { IfOk result (λ x. D.is_honest disk.new →
+        HoldsImage (base_of x.area) (size_of x.area) (D.seen disk.old) x.image) }
     ensures refused { IfErr result (IsFindRefusal
         (Rises (D.fault_count disk.old) (D.fault_count disk.new))
         (D.is_honest disk.new → HasNoHeader (D.seen disk.old))
@@ -87,6 +97,7 @@ pub fn find<D: Disk>(alloc: Global, disk: &mut D) -> Result<Found, Refusal>
         repeated,
         area,
         place,
+        image,
     } = load(alloc, disk, base, size)?;
     let Repeated {
         mut machine,
@@ -104,6 +115,7 @@ pub fn find<D: Disk>(alloc: Global, disk: &mut D) -> Result<Found, Refusal>
         next,
         area,
         room: base + size - place,
+        image,
         records,
         report,
     })

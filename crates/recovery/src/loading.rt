@@ -3,12 +3,12 @@ ghost use Rattle.std.specs.Prelude.{◌≡◌, ◌≤◌, ◌<◌, ◌+◌, ◌^
 ghost use Rattle.disk_model.specs.Disk.{ReadsOnly, Rises};
 ghost use Rattle.gate_block.specs.Area.{base_of, size_of, position_of, has_failed};
 ghost use Rattle.recovery.specs.Openings.{IsLoadRefusal, IsSpoilt};
-ghost use Rattle.recovery.specs.Loading.{IsLoaded};
+ghost use Rattle.recovery.specs.Loading.{IsLoaded, HoldsImage, is_imaging, image_behind};
 
 use calls::Refusal;
 use disk_model::Disk;
 use gate_block::{Area, BLOCK_HEAD};
-use repetition::{Repeated, Repetition};
+use repetition::{Repeated, Repetition, Stage};
 use std::alloc::Global;
 
 /// An area whose blocks were read, and what their records lead to.
@@ -18,6 +18,8 @@ pub struct Loaded {
     pub area: Area,
     /// Where on the disk its next gate stands.
     pub place: u64,
+    /// How many bytes of it the image takes, up to the end of the block that has its end.
+    pub image: u64,
 }
 
 /// Reads the records of all blocks of an area, one block at a time.
@@ -34,6 +36,9 @@ pub fn load<D: Disk>(alloc: Global, disk: &mut D, base: u64, size: u64) -> Resul
     ensures area { IfOk result (λ x. (base_of x.area ≡ base) × (size_of x.area ≡ size) ×
         (has_failed x.area ≡ false)) }
     ensures place { IfOk result (λ x. x.place ≡ base + position_of x.area) }
+    ensures image { IfOk result (λ x. D.is_honest disk.new →
+        HoldsImage base size (D.seen disk.old) x.image) }
+    ensures inside { IfOk result (λ x. x.image ≤ position_of x.area) }
     ensures refused { IfErr result (IsLoadRefusal
         (Rises (D.fault_count disk.old) (D.fault_count disk.new))
         (λ place. D.is_honest disk.new → IsSpoilt base size (D.seen disk.old) place)) }
@@ -44,11 +49,14 @@ pub fn load<D: Disk>(alloc: Global, disk: &mut D, base: u64, size: u64) -> Resul
     let mut area = Area::start(base, size, 0);
     let mut repetition = Repetition::new();
     let mut place = base;
+    let mut image = 0;
     loop {
         match area.next_block(alloc, disk) {
             Ok(Some(body)) => {
+                let imaging = is_imaging(&repetition.stage);
                 repetition = repetition.read_body(alloc, body.as_slice(), place)?;
                 place += (BLOCK_HEAD + body.len()) as u64;
+                image = image_behind(imaging, image, place - base);
             }
             Ok(None) => break,
             Err(refusal) => {
@@ -62,5 +70,20 @@ pub fn load<D: Disk>(alloc: Global, disk: &mut D, base: u64, size: u64) -> Resul
         repeated,
         area,
         place,
+        image,
     })
+}
+
+// Whether the image has not ended at this stage.
+fn is_imaging(stage: &Stage) -> bool
+    ensures { result ≡ is_imaging stage.now }
+{
+    !matches!(stage, Stage::Journal(..))
+}
+
+// Where the image ends behind one more block: there, where it had not ended before that block.
+fn image_behind(imaging: bool, end: u64, position: u64) -> u64
+    ensures { result ≡ image_behind imaging end position }
+{
+    if imaging { position } else { end }
 }

@@ -18,9 +18,13 @@ pub struct Survey {
     pub first: bool,
     /// What image and journal take of it, with the closed gate behind them.
     pub used: u64,
-    /// What an image of the content needs, with the closed gate behind it: what a checkpoint
-    /// writes, and a copy.
+    /// What the image takes of it: it ends behind the block that has its end.
     pub image: u64,
+    /// What the journal takes of it: all blocks behind the image.
+    pub journal: u64,
+    /// What an image of the content needs, with the closed gate behind it: what the next checkpoint
+    /// writes, and a copy.
+    pub checkpoint: u64,
     /// What the records that undo the unfinished transactions need: the store can be opened where
     /// `used` and this are at most `area`.
     pub undoing: u64,

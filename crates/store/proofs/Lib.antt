@@ -1,5 +1,6 @@
 pub mod Ends
 pub mod VaultSteps
+pub mod Awaiting
 pub mod Freezes
 pub mod Gathers
 pub mod Sends

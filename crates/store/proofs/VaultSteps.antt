@@ -1,6 +1,6 @@
 -- Each step of the keeper keeps what lies under its lock.
 use Rattle.std.proofs.Common.{◌≡◌, ◌≢◌, inl, inr, ℕ, ◌+◌, ◌≤◌, Some, None, Result, Ok, Err, List}
-use Rattle.std.proofs.Common.{[], ◌∷◌, ◌++◌, length, sym, ap, ◌∙◌, subst, arith}
+use Rattle.std.proofs.Common.{[], ◌∷◌, ◌++◌, length, refl, sym, ap, ◌∙◌, subst, arith}
 use Rattle.std.proofs.Common.{append_assoc, ◌<◌, max, take}
 use Rattle.std.specs.Prelude.{All}
 use Rattle.std.proofs.lemmas.List.Elements.{All-nil, All-push, All-append, All-weaker}
@@ -38,7 +38,7 @@ use Rattle.world.proofs.Begins as begins
 use Rattle.world.proofs.GatherLemmas.{begun_same}
 use Rattle.world.proofs.KeeperSteps.{mark_rises, mark_is, some_received}
 use Rattle.world.proofs.PastLemmas.{prefix_take, yields_fewer}
-use Rattle.group_commit.specs.Accords.{AccordState}
+use Rattle.group_commit.specs.Accords.{AccordState, nothing_gathered}
 use Rattle.group_commit.specs.Ends.{Receives, WasEmptyAt}
 use Rattle.group_commit.specs.declared.mark.Raised.{Raised}
 use Rattle.group_commit.specs.Marks.{KeeperMark, top}
@@ -343,6 +343,21 @@ module _ {D : Type 0} (g : disks.Ghosts D) where
           );
     }
 
+    -- that nothing is frozen is known of every keeper
+    pub vault_forgets : (k : KeeperState D) (receiver : ReceiverState) (seat : KeeperMark)
+        (near after : AccordState) → IsVault j g k receiver seat near →
+        after ≡ record { table = near.table; gather = nothing_gathered } →
+        IsVault j g k receiver seat after
+    vault_forgets k receiver seat near after is after_is =
+        subst (IsVault j g k receiver seat) (sym after_is) (record {
+          handoff = is.handoff;
+          mark = is.mark;
+          awaited = is.awaited;
+          marked = is.marked;
+          noted = λ some. absurd (some refl);
+          received = is.received;
+        })
+
 -- ---- a turn over the hand-off
 
 -- what a turn of the keeper answers, over the receiving end of a hand-off
@@ -375,8 +390,8 @@ pub turn_brings : {D : Type 0} (g : disks.Ghosts D) (k l : KeeperState D)
     (before after : MutBor ReceiverState) (left : ReceiverState) →
     (before.ghost_name ≡ after.ghost_name → left ≡ after.now) → (r : Result Turn Refusal) →
     Answered g k l before after r → TurnKeeps g (λ bs. Receives before bs after) k l →
-    Brings g k before.now r l left
-turn_brings g k l before after left back r answers keeps =
+    l.stage ≡ k.stage → Brings g k before.now r l left
+turn_brings g k l before after left back r answers keeps stage =
     let got = some_received k.held (λ bs. Receives before bs after) (WasEmptyAt before) k.failed
     l.failed k.mark l.mark (λ b. b.end ≤ k.covered) (λ b. IsPast k.stage b.end)
     (λ b. size_of k.area < position_of k.area + length b.bytes.items)
@@ -400,6 +415,7 @@ turn_brings g k l before after left back r answers keeps =
       keeps = λ start wear records now freezes images received more groups takes carried begin apart
           had. keeps start wear records now freezes images received more groups
           (received_there before after more left same given takes) carried begin apart had;
+      stage = stage;
       rises = rises;
       told = brought_mark k.mark l.mark r is rises;
       refused = turn_refused g k l before after r answers;

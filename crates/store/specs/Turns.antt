@@ -43,19 +43,22 @@ IsTurnRefusal Refusal.Full = Unit {0}
 IsTurnRefusal Refusal.Fault = Unit {0}
 IsTurnRefusal e = ⊥
 
--- Why a turn of a checkpointer is refused: what a gathering, a freeze and a packing refuse, what the
--- keeper refuses of an end and of an image, and what it refuses of a piece and of a flip.
+-- Why a turn of a checkpointer is refused: what a gathering, a freeze and a packing refuse, and
+-- what the keeper refuses of an end, of an image, of a piece and of a flip.
 abbrev pub IsCheckRefusal : Refusal → Type 0
 IsCheckRefusal Refusal.NoMemory = Unit {0}
 IsCheckRefusal Refusal.Outrun = Unit {0}
 IsCheckRefusal Refusal.Worn = Unit {0}
-IsCheckRefusal Refusal.Unfinished = Unit {0}
-IsCheckRefusal Refusal.Imaging = Unit {0}
-IsCheckRefusal Refusal.BadArg = Unit {0}
 IsCheckRefusal Refusal.Full = Unit {0}
 IsCheckRefusal Refusal.Failed = Unit {0}
 IsCheckRefusal Refusal.Fault = Unit {0}
 IsCheckRefusal e = ⊥
+
+-- Why a freeze is refused: so, or as a collection is left to copy, or as an image is in progress.
+abbrev pub IsFreezeRefusal : Refusal → Type 0
+IsFreezeRefusal Refusal.Unfinished = Unit {0}
+IsFreezeRefusal Refusal.Imaging = Unit {0}
+IsFreezeRefusal e = IsCheckRefusal e
 
 -- What a turn of a committer tells it: that the mark has reached what is kept.
 abbrev pub TurnTells : WatcherState → Result Turn Refusal → WatcherState → Type 0
@@ -88,6 +91,7 @@ pub record Brings {D : Type 0} (g : disks.Ghosts D) (k : KeeperState D) (receive
   pub more : List Block
   pub receives : IsReceived receiver more after
   pub keeps : TurnKeeps g (λ bs. IsReceived receiver bs after) k l
+  pub stage : l.stage ≡ k.stage
   pub rises : k.mark ≤ l.mark
   pub told : IsWithin r l.mark
   pub refused : IfErr r IsTurnRefusal

@@ -1,13 +1,14 @@
 -- What lies under the keeper's lock.
-use Rattle.std.specs.Prelude.{◌≡◌, ◌≢◌, ◌⊎◌, ℕ, ◌≤◌, List, None, All}
+use Rattle.std.specs.Prelude.{◌≡◌, ◌≢◌, ◌⊎◌, ℕ, ◌≤◌, List, Some, None, All}
 use mathlib.Core.List.{IsPrefix}
 use Rattle.disk_model.specs.declared.disk.Disk as disks
 use Rattle.record_format.specs.declared.record.Record.{Record}
 use Rattle.blocks.specs.declared.block.Block.{Block}
 use Rattle.blocks.specs.Carried.{Carries}
-use Rattle.images.specs.Gathers.{GatherState}
+use Rattle.images.specs.Gathers.{GatherState, FrozenState}
 use Rattle.repetition.specs.Journals.{records_in}
 use Rattle.repetition.specs.Steps.{State}
+use Rattle.checkpoint.specs.declared.stage.Stage.{Stage}
 use Rattle.checkpoint.specs.Crash.{YieldsUpTo}
 use Rattle.checkpoint.specs.Keepers.{KeeperState}
 use Rattle.checkpoint.specs.Keeping.{BegunImage, Uncrossed, HasReceived}
@@ -19,8 +20,8 @@ use Rattle.group_commit.specs.Marks.{KeeperMark, top}
 use Rattle.clients.specs.declared.naming.Naming.{Ghosts}
 use Rattle.clients.specs.Desks.{AreRecorded, frozen_ends}
 
--- Whatever a stop at any moment since the opening might have left has P. Of a run that began earlier
--- it might have left that already when the store was open.
+-- Whatever a stop at any moment since the opening might have left has P. Of a run that began
+-- earlier it might have left that already when the store was open.
 pub record LeavesSince {J D : Type 0} (j : Ghosts J) (g : disks.Ghosts D) (disk : D)
     (P : List ℕ → Type 0) : Type 0 where
   pub later : j.opened_at ≤ g.moment disk
@@ -38,9 +39,9 @@ pub record IsKeptSince {J D : Type 0} (j : Ghosts J) (g : disks.Ghosts D) (keepe
   pub each : (bytes : List ℕ) → g.left_since keeper.disk x.moment bytes → P x.count bytes
 
 -- Whatever records a book of the store has made: where these blocks carry a beginning of them, and
--- this was noted as frozen, the keeper has received the blocks, and begun some images; and a stop at
--- any moment since the opening left what some beginning of what the records commit gives. Since each
--- moment at which the mark was raised that beginning has all that the mark told.
+-- this was noted as frozen, the keeper has received the blocks, and begun some images; and a stop
+-- at any moment since the opening left what some beginning of what the records commit gives. Since
+-- each moment at which the mark was raised that beginning has all that the mark told.
 abbrev pub ReceivesAny : {J D : Type 0} → Ghosts J → disks.Ghosts D → List GatherState →
     List Block → List Raised → KeeperState D → Type 0
 ReceivesAny j g noted received raised keeper =
@@ -51,6 +52,11 @@ ReceivesAny j g noted received raised keeper =
     (frozen_ends noted) begun received keeper)
     × LeavesSince j g keeper.disk (YieldsUpTo j.start records 0)
     × All (IsKeptSince j g keeper (YieldsUpTo j.start records)) raised
+
+-- What is known to be frozen is awaited: the keeper holds the end of its image.
+abbrev pub Awaits : Stage → GatherState → Type 0
+Awaits stage g = (f : FrozenState) → g.frozen ≡ Some f →
+    stage ≡ Stage.Awaited (record { end = f.marks.end; place = f.marks.place })
 
 -- The mark is not past what the keeper has kept. What is known to be frozen was noted.
 pub record IsVault {J D : Type 0} (j : Ghosts J) (g : disks.Ghosts D) (keeper : KeeperState D)

@@ -1,13 +1,13 @@
 // What is gathered of the book for an image, up to where the keeper begins it.
 ghost use Rattle.std.specs.Prelude.{◌≡◌, ◌≢◌, ◌⊎◌, None, Err, OnOk, OnErr, IfOk, IfErr};
-ghost use Rattle.std.specs.Prelude.{IsSome, Result};
+ghost use Rattle.std.specs.Prelude.{IsSome, IsFalse, Result};
 ghost use Rattle.calls.specs.declared.refusal.Refusal.{Refusal};
 ghost use Rattle.images.specs.Gathers.{Packs};
 ghost use Rattle.txn.specs.Freezing.{IsGatheredOf};
 ghost use Rattle.group_commit.specs.Accords.{nothing_gathered};
 ghost use Rattle.group_commit.specs.Orders.{noting, noting_too};
 ghost use Rattle.store.specs.Gatherers.{IsKnown, Froze};
-ghost use Rattle.store.specs.Turns.{IsPrepared, IsCheckRefusal};
+ghost use Rattle.store.specs.Turns.{IsPrepared, IsCheckRefusal, IsFreezeRefusal};
 
 use crate::checkpointing::Checkpoint;
 use crate::vault::Vault;
@@ -82,12 +82,14 @@ impl<J: Naming> Gatherer<J> {
     }
 
     /// Takes the next step towards an image: packs what is frozen, and begins the image; else
-    /// freezes the book, where all collections are copied; else copies the next one.
+    /// freezes the book, where all collections are copied; else copies the next one. A freeze in
+    /// whose way an image is that another checkpointer has begun meanwhile is given up, and the
+    /// first collection is copied again.
     ///
-    /// Of a copy Outrun, Worn, NoMemory; of a freeze Outrun, NoMemory, Failed, Imaging; of what is
-    /// packed NoMemory, Failed, Full; where it is to leave room, Full also where the undoing of what
-    /// was live at the freeze does not fit behind the image. NoMemory leaves what is gathered, and
-    /// the step can be taken again. With each other refusal it is given up, and the next step begins
+    /// Of a copy Outrun, Worn, NoMemory; of a freeze Outrun, NoMemory, Failed; of what is packed
+    /// NoMemory, Failed, Full; where it is to leave room, Full also where the undoing of what was
+    /// live at the freeze does not fit behind the image. NoMemory leaves what is gathered, and the
+    /// step can be taken again. With each other refusal it is given up, and the next step begins
     /// anew.
     pub(crate) fn turn<D: Disk, R: Wait>(
         &mut self,
@@ -106,15 +108,15 @@ impl<J: Naming> Gatherer<J> {
         }
         if mem::replace(&mut self.is_whole, false) {
             match self.freeze(rt, shared, desk, vault) {
-                Err(Refusal::Unfinished) => {}
+                Err(refusal) if goes_on(refusal) => {}
                 frozen => return frozen,
             }
         }
         self.copy(rt, shared, desk)
     }
 
-    // Copies the next collection under the book's lock, once those who wait for it have had it,
-    // and repeats on the copies what was run behind them under none.
+    // Copies the next collection under the book's lock, once those who wait for it have had it, and
+    // repeats on the copies what was run behind them under none.
     fn copy<R: Wait>(
         &mut self,
         rt: &R,
@@ -155,8 +157,8 @@ impl<J: Naming> Gatherer<J> {
     ) -> Result<Checkpoint, Refusal>
         requires { self.old.gather.frozen ≡ None }
         ensures prepared { IfOk result IsPrepared }
-        ensures refused { IfErr result IsCheckRefusal }
-        ensures unfinished { result ≡ Err Refusal.Unfinished → self.new.gather.frozen ≡ None }
+        ensures refused { IfErr result IsFreezeRefusal }
+        ensures unfrozen { OnErr result (self.new.gather.frozen ≡ None) }
     {
         let mut vault = vault.lock(rt);
         let mut desk = desk.lock(rt);
@@ -212,6 +214,14 @@ impl<J: Naming> Gatherer<J> {
     }
 }
 
+// Whether a gathering goes on behind a freeze that was refused so: a collection is left to copy, or
+// an image is in progress.
+fn goes_on(refusal: Refusal) -> bool
+    ensures { IsFalse result → IsFreezeRefusal refusal → IsCheckRefusal refusal }
+{
+    matches!(refusal, Refusal::Unfinished | Refusal::Imaging)
+}
+
 // Copies the next collection of the book, a step of no client: the refusals of `Book::gather`. The
 // book's side knows what is gathered then.
 fn copy_next<J: Naming>(
@@ -260,7 +270,7 @@ fn freeze<D: Disk, J: Naming>(
         (of_keeper.new ≡ record { table = J.awaited; gather = gather.new })) }
     ensures err { OnErr result ((of_keeper.new ≡ of_keeper.old) ×
         (gather.new.frozen ≡ None → gather.new ≡ gather.old)) }
-    ensures refused { IfErr result IsCheckRefusal }
+    ensures refused { IfErr result IsFreezeRefusal }
 {
     desk.book.upheld();
     shared.gathering.compare(&mut desk.near, of_book);
@@ -310,13 +320,13 @@ fn begin_with_room<D: Disk, J: Naming>(
 ) -> Result<(), Refusal>
     requires table { far.old.table ≡ J.awaited }
     requires packs { Packs far.old.gather image }
-    ensures far { far.new ≡ far.old }
+    ensures far { far.new ≡ record { table = J.awaited; gather = nothing_gathered } }
     ensures refused { IfErr result IsCheckRefusal }
 {
     let size = vault.size();
     if undoing.is_some_and(|records| !room_behind(&image, size).fits_undoing(records)) {
         drop(image);
-        vault.give_up();
+        vault.give_up(shared, far);
         return Err(Refusal::Full);
     }
     begin(shared, vault, far, image)
@@ -336,7 +346,8 @@ fn room_behind(image: &Image, size: u64) -> Room {
     }
 }
 
-// Begins the image that was packed: the refusals of `Keeper::begin_image`.
+// Begins the image that was packed: Failed or Full, as it is the one that the keeper awaits. Its
+// side knows then that nothing is frozen.
 fn begin<D: Disk, J: Naming>(
     shared: &Shared<J>,
     vault: &mut Vault<D, J>,
@@ -345,11 +356,13 @@ fn begin<D: Disk, J: Naming>(
 ) -> Result<(), Refusal>
     requires table { far.old.table ≡ J.awaited }
     requires packs { Packs far.old.gather image }
-    ensures far { far.new ≡ far.old }
+    ensures far { far.new ≡ record { table = J.awaited; gather = nothing_gathered } }
     ensures refused { IfErr result IsCheckRefusal }
 {
     shared.awaited.compare(&mut vault.near, far);
-    vault.keeper.begin_image(image)
+    let begun = vault.keeper.begin_image(image);
+    shared.awaited.agree::<Brand>(&mut vault.near, far);
+    begun
 }
 
 // Gives up what is gathered where that is outrun, or frozen and its end not held.

@@ -11,7 +11,7 @@ use calls::Refusal;
 use checkpoint::{Keeper, Turn};
 use clients::{Naming, Room, Shared};
 use disk_model::Disk;
-use group_commit::{Handoff, Incoming, KeeperSeat, Mark, Near, OneMoment, Receiver, Watcher};
+use group_commit::{Far, Handoff, Incoming, KeeperSeat, Mark, Near, OneMoment, Receiver, Watcher};
 use std::marker::{Brand, Model, PhantomData};
 use std::sync::Wait;
 
@@ -30,14 +30,14 @@ pub(crate) struct Vault<D: Disk, J: Naming> {
 }
 
 impl<D: Disk, J: Naming> Model for Vault<D, J> {
-    ghost use Rattle.store.specs.Vaults.{IsVault};
+    ghost use Rattle.store.specs.Vaults.{IsVault, Awaits};
 
     ghost Value = { Unit {0} };
 
     ghost view = { λ v. tt };
 
     ghost invariant = { λ v. IsVault ⟦<J as Naming>⟧ ⟦<D as Disk>⟧ v.keeper v.receiver v.mark
-        v.near };
+        v.near × Awaits v.keeper.stage v.near.gather };
 }
 
 impl<D: Disk, J: Naming> Vault<D, J> {
@@ -91,9 +91,14 @@ impl<D: Disk, J: Naming> Vault<D, J> {
         turned
     }
 
-    /// Gives up the image whose end is held, where it is not here yet.
-    pub(crate) fn give_up(&mut self) {
+    /// Gives up the image whose end is held, where it is not here yet. The keeper's side, whose far
+    /// end this is, knows then that nothing is frozen.
+    pub(crate) fn give_up(&mut self, shared: &Shared<J>, far: &mut Far)
+        requires { far.old.table ≡ J.awaited }
+        ensures { far.new ≡ record { table = J.awaited; gather = nothing_gathered } }
+    {
         self.keeper.give_up();
+        shared.awaited.agree::<Brand>(&mut self.near, far);
     }
 
     /// Goes on with the image in progress, by a piece or, where none is left, by the flip; the mark
@@ -168,8 +173,8 @@ pub(crate) fn note_failure(mark: &Mark, watcher: &mut Watcher, refusal: Refusal)
     }
 }
 
-// What a turn answered is told to the mark and to the watcher, at the moment that W names. The keeper
-// is there for who picks W.
+// What a turn answered is told to the mark and to the watcher, at the moment that W names. The
+// keeper is there for who picks W.
 fn turn_told<W: OneMoment, D: Disk>(
     mark: &Mark,
     seat: &mut KeeperSeat,

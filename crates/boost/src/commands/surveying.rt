@@ -1,11 +1,16 @@
 // What room a store takes and has, as it is printed.
-ghost use Rattle.std.specs.Prelude.{◌≤◌, ◌+◌, ◌↔◌, IsTrue, IfErr};
+ghost use Rattle.std.specs.Prelude.{◌≡◌, ◌≤◌, ◌+◌, ◌↔◌, length, IsTrue, IfErr};
+ghost use Rattle.calls.specs.Names.{IsName};
+ghost use Rattle.record_format.specs.declared.record.Record.{Record};
+ghost use Rattle.record_format.specs.Records.{spelled, FitsItem};
 ghost use Rattle.boost.specs.Commands.{IsOfStore};
 
 use crate::commands::failure::Failure;
-use calls::{Item, Kind, Name};
+use calls::{Item, Kind, Name, check_name};
 use catalog::{Catalog, Shown};
+use record_format::{Record, encoded_len, fits_item};
 use recovery::Survey;
+use std::alloc::AllocError;
 use std::io::Write;
 
 // The format of what is written: stores begin with `BOOSTED1`.
@@ -31,13 +36,15 @@ pub fn tell_survey<O: Write>(
 }
 
 // The numbers that are told, with their names.
-fn numbers_of(survey: &Survey) -> [(&'static str, u64); 10] {
+fn numbers_of(survey: &Survey) -> [(&'static str, u64); 12] {
     [
         ("format", FORMAT),
         ("area", survey.area),
         ("in_use", u64::from(!survey.first)),
         ("used", survey.used),
         ("image", survey.image),
+        ("journal", survey.journal),
+        ("checkpoint", survey.checkpoint),
         ("undoing", survey.undoing),
         ("unfinished", survey.report.unfinished as u64),
         ("records", survey.report.records),
@@ -94,33 +101,41 @@ struct Size {
 }
 
 impl Size {
-    fn of(shown: Shown) -> Self {
+    fn of(shown: Shown) -> Result<Self, AllocError> {
         let Shown { kind, name, items } = shown;
-        let bytes = items.iter().fold(
-            name_bytes(&name),
-            |sum, item| sum.saturating_add(item_bytes(item)),
-        );
-        Self {
+        let count = items.len();
+        let mut bytes = name_bytes(kind, name.copy()?);
+        for item in items {
+            bytes = bytes.saturating_add(item_bytes(item));
+        }
+        Ok(Self {
             kind,
             name,
-            items: items.len(),
+            items: count,
             bytes,
-        }
+        })
     }
 }
 
-// How many bytes of an image the name of a collection takes.
-fn name_bytes(name: &Name) -> u64 {
-    3u64.saturating_add(name.as_str().len() as u64)
+// How many bytes of an image the name of a collection takes. A name that is none stands in no
+// image.
+fn name_bytes(kind: Kind, name: Name) -> u64
+    ensures { IsName name → result ≡ length (spelled (Record.Name kind name)) }
+{
+    if check_name(name.as_str()).is_err() {
+        return 0;
+    }
+    encoded_len(&Record::Name(kind, name)) as u64
 }
 
-// How many bytes of an image an item takes.
-fn item_bytes(item: &Item) -> u64 {
-    match item {
-        Item::Element(_) => 9,
-        Item::Entry(_, value) => 11u64.saturating_add(value.as_slice().len() as u64),
-        Item::Pair(..) | Item::Number(_) => 17,
+// How many bytes of an image an item takes. One with too long a value stands in no image.
+fn item_bytes(item: Item) -> u64
+    ensures { FitsItem item → result ≡ length (spelled (Record.Item item)) }
+{
+    if !fits_item(&item) {
+        return 0;
     }
+    encoded_len(&Record::Item(item)) as u64
 }
 
 fn write_collections<O: Write>(catalog: &Catalog, out: &mut O) -> Result<(), Failure<'static>>
@@ -132,7 +147,7 @@ fn write_collections<O: Write>(catalog: &Catalog, out: &mut O) -> Result<(), Fai
             name,
             items,
             bytes,
-        } = Size::of(catalog.show(number)?);
+        } = Size::of(catalog.show(number)?)?;
         writeln!(out, "collection {kind} {} {items} {bytes}", name.as_str())?;
     }
     Ok(())
@@ -149,7 +164,7 @@ fn write_collections_json<O: Write>(catalog: &Catalog, out: &mut O) -> Result<()
             name,
             items,
             bytes,
-        } = Size::of(catalog.show(number)?);
+        } = Size::of(catalog.show(number)?)?;
         let comma = if number == 0 { "" } else { "," };
         write!(
             out,

@@ -1,46 +1,47 @@
-use Rattle.std.proofs.Common.{[], ◌∷◌, ◌++◌}
-use Rattle.background.proofs.Trying.{tried_none, tried_then, tried_heard, transacts_then}
+use Rattle.std.proofs.Common.{refl}
+use Rattle.background.proofs.Trying.{goes_first, goes_on, gives_up, gives_up_lost, goes_through}
+use Rattle.background.proofs.Trying.{transacts_last, not_true}
 use Rattle.background.proofs.transacting.transact_within.Goals as goal
 
-pub loop-init : goal.loop-init
-loop-init g c = ([], tried_none g.J.Naming c.args.client.now c.upheld.ensures)
+pub loop-number-init : goal.loop-number-init
+loop-number-init g c =
+    goes_first g.J.Naming (g.T.Transaction.refuses c.args.transaction.now) c.args.attempts
+    c.args.client.now c.upheld.ensures
 
-pub returns-in_default-clause-transacts : goal.returns-in_default-clause-transacts
-returns-in_default-clause-transacts g c =
-    let before = c.loop.invariant in let last = c.in-Err.ensures.transacts in (
-      before.0 ++ last.0,
-      tried_then g.J.Naming c.args.client.now c.loop.client
-          c.try_once.new.client before.0 last.0 before.1 last.1,
-    )
+pub returns-in-Err-2-clause-transacts : goal.returns-in-Err-2-clause-transacts
+returns-in-Err-2-clause-transacts g c =
+    gives_up g.J.Naming (g.T.Transaction.refuses c.args.transaction.now) c.args.attempts
+    c.args.client.now c.loop-number.client c.try_once.new.client c.loop-number._number
+    c.in-Err.refusal c.loop-number.invariant c.in-Err.ensures.refused c.in-Err.ensures.tried
+    (λ passing. absurd (not_true (c.if-is_passing.ensures.1 passing)))
 
-pub returns-in_default-2-clause-transacts : goal.returns-in_default-2-clause-transacts
-returns-in_default-2-clause-transacts g c =
-    transacts_then g.J.Naming (g.T.Transaction.says c.args.transaction.now) c.args.client.now
-    c.loop.client c.try_once.new.client c.loop.invariant.0 c.try_once.result c.loop.invariant.1
-    c.try_once.ensures.transacts
+pub returns-in-Ok-clause-transacts : goal.returns-in-Ok-clause-transacts
+returns-in-Ok-clause-transacts g c =
+    goes_through g.J.Naming (g.T.Transaction.refuses c.args.transaction.now) c.args.attempts
+    (g.T.Transaction.says c.args.transaction.now c.in-Ok.done.0) c.args.client.now
+    c.loop-number.client c.try_once.new.client c.loop-number._number c.in-Ok.done.1.place
+    c.loop-number.invariant c.in-Ok.ensures.ran
 
 pub returns-then-has_failed-clause-transacts : goal.returns-then-has_failed-clause-transacts
 returns-then-has_failed-clause-transacts g c =
-    let before = c.loop.invariant in let last = c.in-Err.ensures.transacts in (
-      before.0 ++ last.0,
-      tried_heard g.J.Naming c.args.client.now c.try_once.new.client
-          c.has_failed.new.self (before.0 ++ last.0) (c.has_failed.result ∷ [])
-          (tried_then g.J.Naming c.args.client.now c.loop.client c.try_once.new.client before.0 last.0
-          before.1 last.1) c.has_failed.ensures,
-    )
+    gives_up_lost g.J.Naming (g.T.Transaction.refuses c.args.transaction.now) c.args.attempts
+    c.args.client.now c.loop-number.client c.try_once.new.client c.has_failed.new.self
+    c.loop-number._number c.in-Err.refusal c.loop-number.invariant (c.if-is_passing.ensures.0 refl)
+    c.in-Err.ensures.refused c.in-Err.ensures.tried c.if-has_failed.ensures
 
-pub loop-preserved : goal.loop-preserved
-loop-preserved g c =
-    let before = c.loop.invariant in let last = c.in-Err.ensures.transacts in (
-      before.0 ++ last.0,
-      tried_heard g.J.Naming c.args.client.now c.try_once.new.client
-          c.has_failed.new.self (before.0 ++ last.0) (c.has_failed.result ∷ [])
-          (tried_then g.J.Naming c.args.client.now c.loop.client c.try_once.new.client before.0 last.0
-          before.1 last.1) c.has_failed.ensures,
-    )
+pub loop-number-preserved : goal.loop-number-preserved
+loop-number-preserved g c =
+    goes_on g.J.Naming (g.T.Transaction.refuses c.args.transaction.now) c.args.attempts
+    c.args.client.now c.loop-number.client c.try_once.new.client c.has_failed.new.self
+    c.loop-number._number c.in-Err.refusal c.loop-number.invariant c.loop-number-test.true
+    (c.if-is_passing.ensures.0 refl) c.in-Err.ensures.refused c.in-Err.ensures.tried
+    c.if-has_failed.ensures
 
 pub returns-clause-transacts : goal.returns-clause-transacts
 returns-clause-transacts g c =
-    transacts_then g.J.Naming (g.T.Transaction.says c.args.transaction.now) c.args.client.now
-    c.loop.client c.try_once-2.new.client c.loop.invariant.0 c.try_once-2.result
-    c.loop.invariant.1 c.try_once-2.ensures.transacts
+    transacts_last g.J.Naming (g.T.Transaction.refuses c.args.transaction.now)
+    (g.T.Transaction.says c.args.transaction.now) c.args.attempts
+    c.args.client.now c.loop-number.client c.try_once-2.new.client c.loop-number._number
+    c.try_once-2.result c.loop-number.invariant c.try_once-2.ensures.ran
+    c.try_once-2.ensures.tried c.try_once-2.ensures.refused
+    (λ e is passing. c.loop-number-test.false)

@@ -1,8 +1,8 @@
-use Rattle.std.proofs.Common.{List}
-use Rattle.txn.specs.declared.steps.Action.{Action}
-use Rattle.background.specs.Transactions.{Tried}
+use Rattle.background.proofs.Trying.{Goes}
 use Rattle.background.proofs.transacting.transact_within.Given as goal
 
--- nothing was committed
-abbrev pub invariant-loop : goal.invariant-loop
-invariant-loop g l = (tried : List Action) × Tried g.J.Naming l.fn.client tried l.client
+-- the attempts before this one were refused
+abbrev pub invariant-loop-number : goal.invariant-loop-number
+invariant-loop-number g l =
+    Goes g.J.Naming (g.T.Transaction.refuses l.fn.transaction) l.fn.attempts l.fn.client
+    l._number l.client

@@ -14,6 +14,8 @@ returns-in-Ok-survey-clause-done g c =
         report = c.in-Ok.found.report;
         found = c.in-Ok.ensures.found;
       };
+      image = c.in-Ok.found.image;
+      holds = c.in-Ok.ensures.image;
       survey = c.in-Ok-survey.survey;
       is_survey = c.in-Ok-survey.ensures.survey;
     })

@@ -1,13 +1,13 @@
 use Rattle.std.proofs.Common.{◌≡◌, length, arith, sym, subst, ap, MatchOption, Option, Vec, ℕ, List}
-use Rattle.std.proofs.Common.{◌+◌, Some, ◌∙◌}
+use Rattle.std.proofs.Common.{◌+◌, ◌-◌, Some, ◌∙◌, refl}
 use Rattle.std.proofs.lemmas.Option.{none-some}
 use Rattle.std.proofs.lemmas.Result.{err_from_is_err_and}
 use Rattle.std.specs.declared.alloc.Global.{Global}
 use Rattle.disk_model.proofs.Walk.{reads_on}
 use Rattle.gate_block.specs.Row.{Finds, StandsAt}
-use Rattle.gate_block.specs.Area.{body_in}
+use Rattle.gate_block.specs.Area.{body_in, position_of}
 use Rattle.recovery.proofs.LoadLemmas.{loading_starts, gate_refused, body_refused, loads_on}
-use Rattle.recovery.proofs.LoadLemmas.{end_refused, loads}
+use Rattle.recovery.proofs.LoadLemmas.{end_refused, loads, ends_image, same_place}
 use Rattle.recovery.proofs.loading.load.Goals as goal
 
 stands_there : (found : Option (Vec ℕ Global)) (v : Vec ℕ Global) (body bytes : List ℕ) (p : ℕ) →
@@ -54,13 +54,25 @@ pub loop-body-preserved : goal.loop-body-preserved
 loop-body-preserved g c =
     loads_on c.loop-body.invariant c.next_block.new.disk c.next_block.ensures.reads
     c.next_block.ensures.honest c.next_block.ensures.faults c.next_block.new.self
-    c.as_slice.result.now _ _ _ _
+    c.as_slice.result.now _ _ _ _ _
     (λ true_read. stands_there c.in-Ok-Some.field-0 c.in-Ok-Some.body c.as_slice.result.now _ _
     c.in-Ok-Some.field-0-is c.as_slice.ensures.value (c.in-Ok-Some.ensures.found true_read))
     c.next_block.ensures.base c.next_block.ensures.size c.in-Ok-Some.ensures.answer.1
     (position_there c.in-Ok-Some.field-0 c.in-Ok-Some.body c.as_slice.result.now _ _
     c.in-Ok-Some.field-0-is c.as_slice.ensures.value c.in-Ok-Some.ensures.position)
     (omega (arith, c.len.ensures, ap length c.as_slice.ensures.value))
+    (let moved = position_there c.in-Ok-Some.field-0 c.in-Ok-Some.body c.as_slice.result.now _ _
+    c.in-Ok-Some.field-0-is c.as_slice.ensures.value c.in-Ok-Some.ensures.position in
+    let behind : c.loop-body.place + (5 + c.len.result) - c.args.base ≡
+    position_of c.next_block.new.self =
+    omega (
+      arith,
+      moved,
+      c.len.ensures,
+      ap length c.as_slice.ensures.value,
+      c.loop-body.invariant.place_is,
+    ) in
+    rw (c.image_behind-image.ensures, c.is_imaging-imaging.ensures, behind) refl)
     c.in_ok-repetition-in-Ok-Some.ensures.ok c.in_ok-repetition-in-Ok-Some.ensures.fit
     c.in_ok-repetition-in-Ok-Some.ensures.few
 
@@ -88,6 +100,29 @@ returns-clause-loaded g c =
       c.loop-body.invariant.size_is,
     )) c.in-Ok-None.ensures.position _ _ _
     c.in_ok-repeated.ensures.ok
+
+pub returns-clause-image : goal.returns-clause-image
+returns-clause-image g c =
+    ends_image c.loop-body.invariant c.next_block.new.disk c.next_block.ensures.reads
+    c.next_block.ensures.honest c.next_block.ensures.faults c.next_block.new.self
+    c.in-Ok-None.field-0
+    (λ v is. none-some v (sym c.in-Ok-None.field-0-is ∙ is)) c.in-Ok-None.ensures.found
+    c.requires.disk (omega (
+      arith,
+      c.next_block.new.self.inside,
+      c.next_block.ensures.size,
+      c.loop-body.invariant.size_is,
+    )) c.in-Ok-None.ensures.position _ _ _
+    c.in_ok-repeated.ensures.ok
+
+pub returns-clause-inside : goal.returns-clause-inside
+returns-clause-inside g c =
+    omega (
+      arith,
+      c.loop-body.invariant.inside,
+      same_place c.in-Ok-None.field-0 _ _
+          (λ v is. none-some v (sym c.in-Ok-None.field-0-is ∙ is)) c.in-Ok-None.ensures.position,
+    )
 
 pub next_block-requires : goal.next_block-requires
 next_block-requires g c =

@@ -1,15 +1,33 @@
-use Rattle.std.proofs.Common.{subst, sym}
+use Rattle.std.proofs.Common.{◌∙◌, ap, subst, sym}
 use Rattle.images.specs.Gathers.{Packs}
-use Rattle.store.specs.Vaults.{IsVault}
-use Rattle.store.proofs.VaultSteps.{vault_begins}
+use Rattle.group_commit.specs.Accords.{AccordState, nothing_gathered}
+use Rattle.store.proofs.Awaiting.{awaits_none, awaits_image, begins_refused}
+use Rattle.store.proofs.VaultSteps.{vault_begins, vault_forgets}
+use Rattle.store.proofs.gatherer.begin.Given.{Over}
 use Rattle.store.proofs.gatherer.begin.Goals as goal
+
+-- the image is packed of what the keeper's side knows to be frozen
+packs : (g : Over) (c : goal.After-agree g) → Packs c.vault.inside.near.gather c.args.image
+packs g c = subst (λ v. Packs v c.args.image) (sym c.compare.ensures.same) c.requires.packs
 
 pub invariant_of-vault : goal.invariant_of-vault
 invariant_of-vault g c =
-    subst (IsVault g.J.Naming g.D.Disk c.begin_image.new.self c.vault.inside.receiver
-    c.vault.inside.mark) (sym c.compare.ensures.near)
-    (vault_begins g.D.Disk g.J.Naming c.vault.inside.keeper c.vault.inside.receiver
-    c.vault.inside.mark c.vault.inside.near c.vault.invariant c.args.image
-    c.begin_image.new.self c.begin_image.result
-    (subst (λ v. Packs v c.args.image) (sym c.compare.ensures.same) c.requires.packs)
-    c.begin_image.ensures.answer c.begin_image.ensures.crash)
+    let near = c.agree.ensures.near ∙
+    ap (λ (a : AccordState). record { table = a.table; gather = nothing_gathered })
+    c.compare.ensures.near in (
+      vault_forgets g.D.Disk g.J.Naming c.begin_image-begun.new.self c.vault.inside.receiver
+          c.vault.inside.mark c.vault.inside.near c.agree.new.near (vault_begins g.D.Disk g.J.Naming
+          c.vault.inside.keeper c.vault.inside.receiver c.vault.inside.mark c.vault.inside.near
+          c.vault.invariant.0 c.args.image c.begin_image-begun.new.self
+          c.begin_image-begun.result (packs g c) c.begin_image-begun.ensures.answer
+          c.begin_image-begun.ensures.crash) near,
+      awaits_none c.begin_image-begun.new.self.stage c.agree.new.near
+          (ap (λ (a : AccordState). a.gather) c.agree.ensures.near),
+    )
+
+pub returns-clause-refused : goal.returns-clause-refused
+returns-clause-refused g c =
+    begins_refused c.vault.inside.keeper c.begin_image-begun.new.self c.args.image
+    c.begin_image-begun.result
+    (awaits_image c.vault.inside.keeper.stage c.vault.inside.near.gather c.args.image
+    c.vault.invariant.1 (packs g c)) c.begin_image-begun.ensures.answer

@@ -1,13 +1,16 @@
 use Rattle.std.proofs.Common.{◌≡◌, ◌∙◌, sym, subst, ap}
 use Rattle.images.specs.Gathers.{GatherState}
 use Rattle.txn.specs.Freezing.{IsGatheredOf}
+use Rattle.checkpoint.specs.Keepers.{KeeperState}
+use Rattle.group_commit.specs.Accords.{AccordState}
 use Rattle.group_commit.specs.Orders.{SenderState, ReceiverState, noting, noting_too}
 use Rattle.clients.specs.Desks.{IsDesk}
 use Rattle.clients.specs.Notes.{alone}
 use Rattle.txn.specs.declared.steps.Action.{Action}
 use Rattle.group_commit.specs.Lines.{stepped}
 use Rattle.store.specs.Gatherers.{Froze}
-use Rattle.store.specs.Vaults.{IsVault}
+use Rattle.store.specs.Vaults.{IsVault, Awaits}
+use Rattle.store.proofs.Awaiting.{awaits_frozen, froze_not}
 use Rattle.store.proofs.Freezes.{freeze_refused, freeze_held}
 use Rattle.store.proofs.Gathers.{known_of_book}
 use Rattle.store.proofs.gatherer.freeze.Given.{Over}
@@ -28,7 +31,7 @@ refused : (g : Over) (c : goal.After-from_residual g) →
 refused g c =
     freeze_refused g.J.Naming g.D.Disk c.desk.inside.book c.desk.inside.seat c.desk.inside.sender
     c.desk.inside.near c.desk.invariant.0 c.vault.inside.keeper c.vault.inside.receiver
-    c.vault.inside.mark c.vault.inside.near c.vault.invariant c.compare-2.ensures.order.0
+    c.vault.inside.mark c.vault.inside.near c.vault.invariant.0 c.compare-2.ensures.order.0
     c.compare-2.ensures.order.1 c.compare-2.ensures.noted c.upheld.ensures c.args.gather.now
     c.freeze_book-frozen.new.gather c.freeze_book-frozen.ensures.0 c.in_err-frozen.field-0.0
     c.freeze_book-frozen.new.book c.freeze_book-frozen.new.keeper c.note_alone.new.seat
@@ -51,9 +54,20 @@ invariant_of-desk g c = (
 )
 
 pub invariant_of-vault : goal.invariant_of-vault
-invariant_of-vault g c =
-    subst (λ r. IsVault g.J.Naming g.D.Disk c.freeze_book-frozen.new.keeper r
-    c.vault.inside.mark c.vault.inside.near) (sym c.compare-2.ensures.receiver) (refused g c).1
+invariant_of-vault g c = (
+  subst (λ r. IsVault g.J.Naming g.D.Disk c.freeze_book-frozen.new.keeper r
+      c.vault.inside.mark c.vault.inside.near) (sym c.compare-2.ensures.receiver)
+      (refused g c).1,
+  subst (λ (k : KeeperState _). Awaits k.stage c.vault.inside.near.gather)
+      (sym (froze_not g.D.Disk c.desk.inside.book c.vault.inside.keeper c.args.gather.now
+      c.freeze_book-frozen.new.gather c.freeze_book-frozen.ensures.0
+      c.in_err-frozen.field-0.0 c.freeze_book-frozen.new.book
+      c.freeze_book-frozen.new.keeper
+      (subst (λ r. Froze g.D.Disk c.desk.inside.book c.vault.inside.keeper c.args.gather.now
+      c.freeze_book-frozen.ensures.0 r c.freeze_book-frozen.new.book
+      c.freeze_book-frozen.new.keeper c.freeze_book-frozen.new.gather) c.in_err-frozen.was
+      c.freeze_book-frozen.ensures.1))) c.vault.invariant.1,
+)
 
 -- and one whose end is held.
 held : (g : Over) (c : goal.After-drop-shown g) →
@@ -65,7 +79,7 @@ held : (g : Over) (c : goal.After-drop-shown g) →
 held g c =
     freeze_held g.J.Naming g.D.Disk c.desk.inside.book c.desk.inside.seat c.desk.inside.sender
     c.desk.inside.near c.desk.invariant.0 c.vault.inside.keeper c.vault.inside.receiver
-    c.vault.inside.mark c.vault.inside.near c.vault.invariant c.compare-2.ensures.order.0
+    c.vault.inside.mark c.vault.inside.near c.vault.invariant.0 c.compare-2.ensures.order.0
     c.compare-2.ensures.order.1 c.compare-2.ensures.noted c.upheld.ensures c.args.gather.now
     c.freeze_book-frozen.new.gather c.freeze_book-frozen.ensures.0 c.freeze_book-frozen.new.book
     c.freeze_book-frozen.new.keeper c.note_alone.new.seat
@@ -94,13 +108,22 @@ invariant_of-desk-2 g c = (
         ap (noting c.desk.inside.sender) c.of-shown.ensures
 
 pub invariant_of-vault-2 : goal.invariant_of-vault-2
-invariant_of-vault-2 g c =
-    subst (IsVault g.J.Naming g.D.Disk c.freeze_book-frozen.new.keeper
-    c.note_frozen.new.receiver c.vault.inside.mark) (sym near_is)
-    (subst (λ r. IsVault g.J.Naming g.D.Disk c.freeze_book-frozen.new.keeper r
-    c.vault.inside.mark
-    (record { table = c.vault.inside.near.table; gather = c.freeze_book-frozen.new.gather }))
-    (sym receiver_is) (held g c).1)
+invariant_of-vault-2 g c = (
+  subst (IsVault g.J.Naming g.D.Disk c.freeze_book-frozen.new.keeper
+      c.note_frozen.new.receiver c.vault.inside.mark) (sym near_is)
+      (subst (λ r. IsVault g.J.Naming g.D.Disk c.freeze_book-frozen.new.keeper r
+      c.vault.inside.mark
+      (record { table = c.vault.inside.near.table; gather = c.freeze_book-frozen.new.gather }))
+      (sym receiver_is) (held g c).1),
+  subst (λ (a : AccordState). Awaits c.freeze_book-frozen.new.keeper.stage a.gather)
+      (sym near_is) (awaits_frozen g.D.Disk c.desk.inside.book c.vault.inside.keeper
+      c.args.gather.now c.freeze_book-frozen.new.gather c.freeze_book-frozen.ensures.0
+      c.freeze_book-frozen.new.book c.freeze_book-frozen.new.keeper
+      (subst (λ r. Froze g.D.Disk c.desk.inside.book c.vault.inside.keeper c.args.gather.now
+      c.freeze_book-frozen.ensures.0 r c.freeze_book-frozen.new.book
+      c.freeze_book-frozen.new.keeper c.freeze_book-frozen.new.gather) c.in_ok-frozen.was
+      c.freeze_book-frozen.ensures.1)),
+)
   where
     receiver_is : c.note_frozen.new.receiver ≡
         noting_too c.vault.inside.receiver c.freeze_book-frozen.new.gather

@@ -12,4 +12,4 @@ returns g c =
     } in
     turn_brings g.D.Disk c.args.keeper.now c.turn.new.self before c.turn.new.inbox.receiver
     c.receiver-1.given.0 c.receiver-1.given.1 c.turn.result c.turn.ensures.answer
-    c.turn.ensures.crash
+    c.turn.ensures.crash c.turn.ensures.stage

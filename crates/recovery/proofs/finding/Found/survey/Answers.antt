@@ -7,9 +7,11 @@ returns-clause-survey c = record {
   area_is = c.size-size.ensures;
   first = search rules;
   used = omega (arith, c.size-size.ensures, c.room.ensures);
-  image = record {
-    blocks = c.in_ok-image.image.blocks.items;
-    packed = c.in_ok-image.ensures.image;
+  image_is = refl;
+  journal = omega (arith, c.size-size.ensures, c.room.ensures, c.args.self.now.inside);
+  checkpoint = record {
+    blocks = c.in_ok-checkpoint.checkpoint.blocks.items;
+    packed = c.in_ok-checkpoint.ensures.image;
     len_is = c.image_len.ensures;
   };
   undoing_is = c.blocks_len.ensures ∙ ap (λ n. min (blocks_len n) (2 ^ 64 - 1))
