@@ -6,7 +6,7 @@ In a list a line `@ FILE` names the spec file of the entries behind it. An entry
 shows the definitions as their file has them, and `- NAME, NAME: SENTENCE` tells of them in words; an indented
 line goes on with its entry. `~ NAME, NAME` shows definitions with the comments that stand above them, in one piece. A line `= CRATE` lists what the contracts of the crate's public items cite. A line
 `* FILE FUNCTION: CLAUSE, CLAUSE` shows these clauses of a public function as its source has them. All other lines
-are text, which is copied. A name or a clause that its file does not have fails, and so does a definition that no
+are text, which is copied. `@@ FILE` names the file in each entry, in the place of a heading. A name or a clause that its file does not have fails, and so does a definition that no
 contract reaches. With --check nothing is written, and a page that differs fails too.
 """
 import glob
@@ -58,10 +58,10 @@ def declared(path):
 
 def blocks_of(text):
     """The list as blocks: a line that names a file or a crate, an entry, or text up to one of these."""
-    return re.split(r'\n+(?=[@=*] |[+~-] \w)|(?<=\n)\n(?=\S)', text)
+    return re.split(r'\n+(?=@?[@=*] |[+~-] \w)|(?<=\n)\n(?=\S)', text)
 
 
-def shown(block, path, names, gone):
+def shown(block, path, names, gone, is_short):
     """An entry as the page has it."""
     mark, words, sentence = ENTRY.fullmatch(block).groups()
     words = words.split(', ')
@@ -70,7 +70,10 @@ def shown(block, path, names, gone):
     if mark == '-':
         return f'- {title}: {sentence}'
     code = '\n\n'.join(names.get(word, '') for word in words)
-    return f'**{title}**\n\n```\n{code}\n```\n\n' + re.sub(r'\n  ', '\n', sentence)
+    sentence = re.sub(r'\n  ', '\n', sentence)
+    if is_short:
+        return f'**{title}** ({path}): {sentence}\n\n```\n{code}\n```'
+    return f'**{title}**\n\n```\n{code}\n```\n\n{sentence}'
 
 
 def citations(crate, files):
@@ -132,20 +135,22 @@ def reached(files):
 
 def page_of(text, files, gone):
     """The page, part by part. What is named and not declared is added to `gone`."""
-    path, names = None, {}
+    path, names, is_short = None, {}, False
     for block in blocks_of(text.strip('\n')):
         block = block.strip('\n')
         if block.startswith('= '):
             yield from citations(block[2:], files)
-        elif block.startswith('@ '):
-            path, names = block[2:], files.get(block[2:], {})
-            yield f'### {path}'
+        elif block.startswith(('@ ', '@@ ')):
+            path = block.split(' ', 1)[1]
+            names, is_short = files.get(path, {}), block.startswith('@@')
+            if not is_short:
+                yield f'### {path}'
         elif PIECE.fullmatch(block):
             yield piece(block, path, names, gone)
         elif QUOTE.fullmatch(block):
             yield quoted(block, gone)
         elif ENTRY.fullmatch(block):
-            yield shown(block, path, names, gone)
+            yield shown(block, path, names, gone, is_short)
         else:
             yield block
 

@@ -12,7 +12,7 @@ import sys
 
 ROOT = os.path.dirname(os.path.dirname(os.path.abspath(__file__)))
 USE = re.compile(r'use Rattle\.(\w+)\.(specs|proofs)\.([\w.-]+?)(?:\.\{([^}]*)\}| as (\w+))(?=[;\n]|$)')
-DECLARES = re.compile(r'^( *)(?:(?:pub|abbrev|unfoldable) )*(?:(?:record|data) ([^\W\d][\w-]*)|([^\W\d][\w-]*)(?= :))')
+DECLARES = re.compile(r'^( *)(?:(?:pub|abbrev|unfoldable) )*(?:(?:record|data|ruleset) ([^\W\d][\w-]*)|([^\W\d][\w-]*)(?= :))')
 WORD = re.compile(r"(?<![\w.])([^\W\d][\w-]*)(?:\.([^\W\d][\w-]*))?")
 
 

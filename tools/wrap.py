@@ -106,6 +106,8 @@ def breaks(text):
 
 
 def code(line):
+    if line.lstrip().startswith(('//', '--')):
+        return [line]
     pad = len(line) - len(line.lstrip(' '))
     out = []
     more = ' ' * (pad + 4)

@@ -293,16 +293,6 @@ module _ (new : List Hold) {xs : List (List Hold)} {i : ℕ} {h : Hold} {x : Lis
 
 -- ---- no segment
 
-pub no_segments : (xs : List (List Hold)) → length xs ≡ 0 → all_holds xs ≡ []
-no_segments [] none = refl
-no_segments (x ∷ xs) none = absurd (omega arith)
-
-pub nothing_removed : (xs : List (List Hold)) (h : Hold) → length xs ≡ 0 →
-    IsRemoved (all_holds xs) (all_holds xs) h
-nothing_removed xs h none =
-    rw (no_segments xs none)
-    (none_removed [] h (λ there. let lt = there.1 in absurd (omega arith)))
-
 -- the first one
 pub first_ordered : (xs : List (List Hold)) (new : List Hold) → length xs ≡ 0 → Rises new →
     AreOrdered (xs ++ new ∷ [])

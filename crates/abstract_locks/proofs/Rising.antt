@@ -137,14 +137,6 @@ pub all_left : (P : Hold → Type 0) (old new : List Hold) (h : Hold) → IsRemo
 all_left P old new h removed all = All-weaker (Contains new) P
     (λ g there. All-contains P old g all ((removed g).0 there).0) new (All-contains_itself new)
 
--- a hold that is there is not kept twice
-pub kept_once : (holds : List Hold) (h : Hold) → Contains holds h → IsAdded holds holds h
-kept_once holds h there x = (
-  λ was. inl was,
-  λ either. ⊎_elim (λ was. was) (λ same. subst (Contains holds) (sym same) there)
-      either,
-)
-
 -- one that is not there need not be taken out
 pub none_removed : (holds : List Hold) (h : Hold) → (Contains holds h → ⊥) → IsRemoved holds holds h
 none_removed holds h none x =
@@ -188,12 +180,6 @@ module _ (holds : List Hold) (i : ℕ) (h : Hold) where
     is_removed = subst (λ l. IsRemoved l (remove holds i) h) whole
         (removed_between (take i holds) (drop (suc i) holds) h before behind (h ∷ []) []
         (one_removed h))
-
--- what holds of all holds of those that are left
-pub all_removed : (P : Hold → Type 0) (old new : List Hold) (gone : Hold) → IsRemoved old new gone →
-    All P old → All P new
-all_removed P old new gone is all = All-weaker (Contains new) P
-    (λ g there. All-contains P old g all ((is g).0 there).0) new (All-contains_itself new)
 
 -- ---- a hold and a segment
 

@@ -2,6 +2,7 @@
 use Rattle.std.specs.Prelude.{◌≡◌, ◌↔◌, ℕ, ◌≤◌, Bool, cond, List, All, Contains, map}
 use Rattle.std.specs.Prelude.{slice_index_or}
 use Rattle.std.specs.List.{flat_map, range_with_len}
+use Rattle.calls.specs.Limits.{max_collections}
 use Rattle.abstract_locks.specs.declared.table.Hold.{Hold}
 use Rattle.abstract_locks.specs.Claimed.{Claimed, nothing}
 
@@ -17,7 +18,7 @@ all_held = flat_map (λ c. c.holds)
 -- owner's list has.
 unfoldable pub rooms : List Claimed → (ready : Bool) → List ℕ
 rooms collections ready =
-    map (λ at. cond ready (held_on collections at).room 0) (range_with_len 0 256)
+    map (λ at. cond ready (held_on collections at).room 0) (range_with_len 0 max_collections)
 
 -- What is held in the place of a collection is held on that collection.
 abbrev pub AreOnTheirOwn : List Claimed → Type 0

@@ -1,8 +1,8 @@
 -- The program's command line, and what it asks for.
-use Rattle.std.specs.Prelude.{◌≡◌, ◌↔◌, ℕ, ◌-◌, ◌^◌, List, Option, Some, None, Ok, codes, true}
+use Rattle.std.specs.Prelude.{◌≡◌, ◌↔◌, ℕ, pos, ◌-◌, ◌^◌, List, Option, Some, None, Ok, codes, true}
 use Rattle.std.specs.Prelude.{string_bytes}
 use Rattle.std.specs.Option.{option_map}
-use Rattle.std.specs.Prelude.{IsSomeAnd, IsTrue}
+use Rattle.std.specs.Prelude.{IsSomeAnd, IsTrue, MatchOption}
 use Rattle.std.specs.Str.Parse.{ParsesUnsigned}
 use Rattle.std.specs.declared.num.ParseIntError.{ParseIntError}
 use Rattle.clap.specs.Words.{App, Row, Rule, Text, first_of, new_app, new_rule, subcommand_of}
@@ -44,13 +44,23 @@ idle_rule = record (new_rule (codes "idle")) {
   parser = Some (parsers.Unsigned 1 (2 ^ 64 - 1));
 }
 
+-- the number of a format, which may be left out
+abbrev pub version_rule : Rule
+version_rule = record (new_rule (codes "format")) {
+  long = Some (codes "format");
+  value_names = 1;
+  action = Some Set;
+  parser = Some (parsers.Signed (pos 0) (pos 255));
+}
+
 -- a command on a disk alone
 abbrev pub disk_app : Text → App
 disk_app name = with_rule (new_app name) (path_rule (codes "DISK"))
 
 abbrev pub format_app : App
-format_app = with_rule (with_rule (disk_app (codes "format")) area_rule)
-    (flag_rule (codes "reserve"))
+format_app =
+    let sized = with_rule (with_rule (disk_app (codes "format")) area_rule) version_rule in
+    with_rule sized (flag_rule (codes "reserve"))
 
 -- a command on a disk with a flag
 abbrev pub flagged_app : (name flag : Text) → App
@@ -86,6 +96,9 @@ copy_app =
     (path_rule (codes "NEW")) in
     with_rule files area_rule
 
+abbrev pub upgrade_app : App
+upgrade_app = disk_app (codes "upgrade")
+
 abbrev pub lint_app : App
 lint_app = with_rule (new_app (codes "lint")) (path_rule (codes "SCRIPT"))
 
@@ -103,7 +116,8 @@ program_app =
     let served = with_subcommand (with_subcommand first serve_app.top) listen_app.top in
     let seen = with_subcommand (with_subcommand served show_app.top) check_app.top in
     let looked = with_subcommand (with_subcommand seen stat_app.top) copy_app.top in
-    with_subcommand (with_subcommand looked lint_app.top) demo_app.top
+    let changed = with_subcommand (with_subcommand looked upgrade_app.top) lint_app.top in
+    with_subcommand changed demo_app.top
 
 -- ---- what is asked for
 
@@ -120,6 +134,11 @@ abbrev pub IsIdle : Option ℕ → List Row → Type 0
 IsIdle (Some n) rows = IsSomeAnd (first_of (codes "idle") rows) (IsNumberOf n)
 IsIdle None rows = first_of (codes "idle") rows ≡ None
 
+-- the number of a format stands there, or none does and the first one is asked for
+abbrev pub IsVersion : ℕ → List Row → Type 0
+IsVersion version rows = MatchOption (first_of (codes "format") rows) (version ≡ 1)
+    (λ text. ParsesUnsigned {E = ParseIntError} 8 10 text (Ok version))
+
 -- the path stands under its name
 abbrev pub IsPath : Text → Text → List Row → Type 0
 IsPath name path rows = first_of name rows ≡ Some path
@@ -130,9 +149,10 @@ ArePaths disk script rows = IsPath (codes "DISK") disk rows × IsPath (codes "SC
 
 -- the subcommand that was found, with its arguments
 abbrev pub AsksTask : Task → Text × List Row → Type 0
-AsksTask (Task.Format disk area reserve) found = (found.0 ≡ codes "format") ×
+AsksTask (Task.Format disk area version reserve) found = (found.0 ≡ codes "format") ×
     IsPath (codes "DISK") (string_bytes disk) found.1 ×
     IsSomeAnd (first_of (codes "area") found.1) (IsNumberOf area) ×
+    IsVersion version found.1 ×
     (IsTrue reserve ↔ IsGiven (codes "reserve") found.1)
 AsksTask (Task.Play disk script) found = (found.0 ≡ codes "play") ×
     ArePaths (string_bytes disk) (string_bytes script) found.1
@@ -144,6 +164,8 @@ AsksTask (Task.Check disk) found = (found.0 ≡ codes "check") ×
 AsksTask (Task.Stat disk json) found = (found.0 ≡ codes "stat") ×
     IsPath (codes "DISK") (string_bytes disk) found.1 ×
     (IsTrue json ↔ IsGiven (codes "json") found.1)
+AsksTask (Task.Upgrade disk) found = (found.0 ≡ codes "upgrade") ×
+    IsPath (codes "DISK") (string_bytes disk) found.1
 AsksTask Task.Demo found = found.0 ≡ codes "demo"
 
 abbrev pub Asks : Invocation → Text × List Row → Type 0

@@ -13,6 +13,7 @@ ghost use Rattle.arguments.specs.Arguments.{idle_rule, disk_app, script_app, ser
 ghost use Rattle.arguments.specs.Arguments.{listen_app, format_app, lint_app, copy_app};
 ghost use Rattle.arguments.specs.Arguments.{flagged_app, IsGiven, bare_app, program_app};
 ghost use Rattle.arguments.specs.Arguments.{ArePaths, Asks, AsksTask, IsNumberOf, IsIdle};
+ghost use Rattle.arguments.specs.Arguments.{IsVersion, version_rule};
 ghost use Rattle.arguments.specs.Arguments.{IsAskedBy};
 
 use clap::error::ErrorKind;
@@ -60,11 +61,13 @@ pub enum Invocation {
 /// What the program does on one thread with one disk, with the paths as they were written.
 #[derive(Drop, Debug)]
 pub enum Task {
-    /// Makes the file, or sets its size, and formats it with two areas of so many bytes. `reserve`
-    /// asks for the file's space at once.
+    /// Makes the file, or sets its size, and formats it with two areas of so many bytes, in the
+    /// format of the number `version`, which is 1 where none is written. `reserve` asks for the
+    /// file's space at once.
     Format {
         disk: String,
         area: u64,
+        version: u8,
         reserve: bool,
     },
     /// Runs a script on the store in the file.
@@ -86,6 +89,10 @@ pub enum Task {
     Stat {
         disk: String,
         json: bool,
+    },
+    /// Brings the store in the file to format 2, in place.
+    Upgrade {
+        disk: String,
     },
     /// Runs the stored run.
     Demo,
@@ -113,7 +120,20 @@ fn area<'a>(alloc: Global) -> Arg<'a>
         .required(true)
         .action(ArgAction::Set)
         .value_parser(value_parser!(u64))
-        .help("The bytes of each of its two areas, from 65536 to 1073741824")
+        .help("The bytes of each of its two areas, from 65536 to 2^30, in format 2 to 2^36")
+}
+
+// The number of a format, which may be left out.
+fn version<'a>(alloc: Global) -> Arg<'a>
+    ensures rule { rule_of result ≡ version_rule }
+    ensures alone { result.global ≡ false }
+{
+    Arg::new(alloc, "format")
+        .long("format")
+        .value_name("V")
+        .action(ArgAction::Set)
+        .value_parser(value_parser!(u8))
+        .help("The format, 1 or 2; 1 without it")
 }
 
 // A flag, which is off where it does not stand on the command line.
@@ -171,6 +191,7 @@ fn format_command<'a>(alloc: Global, about: &'a str) -> Result<clap::Command<'a>
     let reserve = "Take the file's space at once, by writing zeros over all of it";
     disk_command(alloc, "format", about)?
         .arg(area(alloc))?
+        .arg(version(alloc))?
         .arg(flag(alloc, "reserve", reserve))
 }
 
@@ -302,6 +323,7 @@ fn program<'a>(alloc: Global) -> Result<clap::Command<'a>, AllocError>
         alloc,
         "Copy the store to another file, as with larger areas",
     );
+    let upgrade = disk_command(alloc, "upgrade", "Bring the store to format 2, in place");
     let lint = lint_command(alloc, "Tell the lines of a script that are not understood");
     let demo = clap::Command::new(alloc, "demo").about("Run a stored script on a disk in memory");
     let program = with(bare_program(alloc), format)?;
@@ -312,6 +334,7 @@ fn program<'a>(alloc: Global) -> Result<clap::Command<'a>, AllocError>
     let program = with(program, check)?;
     let program = with(program, stat)?;
     let program = with(program, copy)?;
+    let program = with(program, upgrade)?;
     let program = with(program, lint)?;
     with(program, Ok(demo))
 }
@@ -441,6 +464,16 @@ fn named(
     }
 }
 
+// The number of the format that is asked for.
+fn version_asked(found: &ArgMatches<'_>) -> Result<u8, ParseIntError>
+    ensures { IfOk result (λ version. IsVersion version (rows_of (found_of found.now))) }
+{
+    match found.get_str("format") {
+        Some(text) => Ok(text.parse()?),
+        None => Ok(1),
+    }
+}
+
 // What formatting a disk asks for.
 fn format_asked(alloc: Global, found: &ArgMatches<'_>) -> Result<Option<Task>, AllocError>
     ensures { IfOk result (λ asked. IfSome asked
@@ -449,11 +482,15 @@ fn format_asked(alloc: Global, found: &ArgMatches<'_>) -> Result<Option<Task>, A
     let Some(area) = number(found, "area") else {
         return Ok(None);
     };
+    let Ok(version) = version_asked(found) else {
+        return Ok(None);
+    };
     let reserve = is_given(found, "reserve");
     match text(alloc, found, "DISK")? {
         Some(disk) => Ok(Some(Task::Format {
             disk,
             area,
+            version,
             reserve,
         })),
         None => Ok(None),
@@ -499,6 +536,10 @@ fn task_of(alloc: Global, name: &str, found: &ArgMatches<'_>) -> Result<Option<T
         "stat" => stat_asked(alloc, found),
         "check" => match text(alloc, found, "DISK")? {
             Some(disk) => Ok(Some(Task::Check { disk })),
+            None => Ok(None),
+        },
+        "upgrade" => match text(alloc, found, "DISK")? {
+            Some(disk) => Ok(Some(Task::Upgrade { disk })),
             None => Ok(None),
         },
         "demo" => Ok(Some(Task::Demo)),

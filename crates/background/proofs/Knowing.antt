@@ -51,17 +51,3 @@ module _ {J : Type 0} (j : Ghosts J) where
     counts = λ count some. subst (λ l. Contains l count)
         (sym (ap (λ (k : Known). k.counts) acts.0)) some;
   }
-
-  -- a transaction was aborted, or that was refused
-  pub knows_aborted : (p : Phase) (old new : Known) (r : Result (Unit {0}) Refusal) →
-      Aborts j p old r new → KnowsStill old new
-  knows_aborted Phase.Closed old new r aborts = absurd aborts
-  knows_aborted (Phase.Drawn n) old new r aborts = subst (KnowsStill old) (sym aborts.1) (record {
-    number = refl;
-    seen = ([], append-nil old.seen);
-    counts = λ count some. some;
-  })
-  knows_aborted (Phase.Entered n) old new r aborts = elim aborts.1.1 [
-    | inl ended ↦ knows_acted old new _ _ ended
-    | inr undone ↦ knows_acted old new _ _ undone.2
-  ]

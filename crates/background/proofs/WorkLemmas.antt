@@ -153,7 +153,8 @@ yields_none content all bytes kept = record {
 
 module _ {D : Type 0} (g : Ghosts D) where
   -- A store that was opened under a name was worked on.
-  pub was_opened : {J : Type 0} (j : namings.Ghosts J) (parts : List BookStep → List Raised → Type 0)
+  pub was_opened : {J : Type 0} (j : namings.Ghosts J)
+      (parts : List BookStep → List Raised → Type 0)
       (told : List BookStep → (Raised → Type 0) → Type 0) (old opened new : D) (kept : ℕ) →
       (closed : IsClosed j g parts new kept) →
       ((was_kept : Raised → Type 0) →
@@ -171,10 +172,12 @@ module _ {D : Type 0} (g : Ghosts D) where
         opened = opened;
         keeps = keeps;
         worked = λ honest content rest stands. record {
+          format = j.format;
           wear = j.wear;
           steps = steps;
           behind = standing closed.book;
-          legal = subst (λ s. IsLegal catalog_meaning catalog_making (opening s j.wear) steps
+          legal = subst (λ s. IsLegal catalog_meaning catalog_making (opening j.format s j.wear)
+              steps
               (standing closed.book)) (start content stands honest) closed.closes.legal.legal;
           owned = closed.closes.legal.owned;
           told_of = told_of (WasKept g new content (committed_by steps) (g.moment old))

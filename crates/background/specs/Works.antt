@@ -2,6 +2,7 @@
 use Rattle.std.specs.Prelude.{◌≡◌, ◌⊎◌, ℕ, ◌<◌, ◌≤◌, List, [], ◌∷◌, ◌++◌, Some, Result, Ok, IfOk}
 use Rattle.std.specs.Prelude.{Contains, slice_get, slice_index_or, take}
 use mathlib.Core.List.{IsPrefix}
+use Rattle.calls.specs.declared.format.Format.{Format}
 use Rattle.calls.specs.Contents.{Collection}
 use Rattle.calls.specs.declared.refusal.Refusal.{Refusal}
 use Rattle.catalog.specs.Meaning.{catalog_meaning, catalog_making}
@@ -45,8 +46,8 @@ pub record KnowsStill (old new : Known) : Type 0 where
 
 module _ {A : Type 0} (says : ℕ → A → Known → Type 0) where
   -- A thread's answer says so of what its client knew at the end. The history begins with what the
-  -- client had seen, and what it was told as kept is kept, and was from the moment on at which the mark
-  -- was brought there.
+  -- client had seen, and what it was told as kept is kept, and was from the moment on at which the
+  -- mark was brought there.
   pub record IsTold (steps : List BookStep) (kept : ℕ) (was_kept : Raised → Type 0) (thread : ℕ)
       (answer : A) : Type 0 where
     pub known : Known
@@ -88,18 +89,19 @@ module _ {A : Type 0} (says : ℕ → A → Known → Type 0) where
 -- ---- what is left
 
 -- Threads took the steps of a legal history from the content, each thread's client its own, and the
--- committer and the checkpointer those of no client. Whatever a stop at any moment since
--- this one might have left of the disk is sound, and stands for a content that some beginning of the
+-- committer and the checkpointer those of no client. Whatever a stop at any moment since this one
+-- might have left of the disk is sound, and stands for a content that some beginning of the
 -- transactions gives that the history commits, each run whole, one after another, with the replies
--- that its client got; and of what a stop leaves now that beginning holds the first so many of them.
--- told: what is known of the history, and of the counts that were kept from a moment on.
+-- that its client got; and of what a stop leaves now that beginning holds the first so many of
+-- them. told: what is known of the history, and of the counts that were kept from a moment on.
 pub record IsWorkedOn {D : Type 0} (g : Ghosts D)
     (told : List BookStep → (Raised → Type 0) → Type 0)
     (content : List Collection) (since : ℕ) (new : D) (kept : ℕ) : Type 0 where
+  pub format : Format
   pub wear : ℕ
   pub steps : List BookStep
   pub behind : Standing (List Collection)
-  pub legal : IsLegal catalog_meaning catalog_making (opening content wear) steps behind
+  pub legal : IsLegal catalog_meaning catalog_making (opening format content wear) steps behind
   pub owned : AreOwned steps
   pub told_of : told steps (WasKept g new content (committed_by steps) since)
   pub any_moment : (bytes : List ℕ) → g.left_since new since bytes →

@@ -2,6 +2,7 @@
 use Rattle.std.specs.Prelude.{◌≡◌, ℕ, ◌+◌, ◌<◌, ◌≤◌, ◌⊎◌, ◌↔◌, Bool, true, false, List, [], ◌∷◌}
 use Rattle.std.specs.Prelude.{◌++◌, length, Contains, Result, Ok, Err}
 use Rattle.calls.specs.declared.refusal.Refusal.{Refusal}
+use Rattle.calls.specs.Limits.{max_body}
 use Rattle.gate_block.specs.Row.{IsBlockOf}
 use Rattle.record_format.specs.declared.record.Record.{Record}
 use Rattle.record_format.specs.Acts.{places}
@@ -19,7 +20,7 @@ pub record HandsOver (pending : List Record) (freezes : List ℕ) (end place : �
   pub bytes : IsBlockOf (spelling first) block.bytes.items
   -- the next one would not have fitted, or a freeze stood between
   pub most : (r : Record) (behind : List Record) → rest ≡ r ∷ behind →
-      (65535 < length (spelling first) + length (spelled r)) ⊎ Contains freezes block.end
+      (max_body < length (spelling first) + length (spelled r)) ⊎ Contains freezes block.end
   -- no record of it comes from behind a freeze
   pub apart : (f : ℕ) → Contains freezes f → block.end ≤ f
   pub ends : block.end ≡ end + length first
@@ -27,7 +28,8 @@ pub record HandsOver (pending : List Record) (freezes : List ℕ) (end place : �
 
 -- The block that is handed over next has so many of the first records: as many as fit and as come
 -- before the next freeze. So many bytes spell them.
-pub record IsNextBlock (pending : List Record) (freezes : List ℕ) (end : ℕ) (next : NextBlock) : Type
+pub record IsNextBlock (pending : List Record) (freezes : List ℕ) (end : ℕ)
+    (next : NextBlock) : Type
     0 where
   pub first : List Record
   pub rest : List Record
@@ -35,10 +37,10 @@ pub record IsNextBlock (pending : List Record) (freezes : List ℕ) (end : ℕ) 
   pub records : next.records ≡ length first
   pub some : 0 < next.records
   pub body : next.body ≡ length (spelling first)
-  pub short : next.body ≤ 65535
+  pub short : next.body ≤ max_body
   -- the next one would not have fitted, or a freeze stands between
   pub most : (r : Record) (behind : List Record) → rest ≡ r ∷ behind →
-      (65535 < next.body + length (spelled r)) ⊎ Contains freezes (end + next.records)
+      (max_body < next.body + length (spelled r)) ⊎ Contains freezes (end + next.records)
   -- no record of it comes from behind a freeze
   pub apart : (f : ℕ) → Contains freezes f → end + next.records ≤ f
   -- whichever block is handed over next has these records, behind its head and with a gate behind

@@ -1,5 +1,6 @@
 -- Records spelled into the blocks in which they will be handed over.
 use Rattle.std.specs.Prelude.{◌≡◌, ℕ, ◌+◌, ◌<◌, ◌≤◌, List, [], ◌∷◌, ◌++◌, length, drop}
+use Rattle.calls.specs.Limits.{max_body}
 use Rattle.record_format.specs.declared.record.Record.{Record}
 use Rattle.record_format.specs.Records.{record_of_call, spelled, spelling}
 use Rattle.blocks.specs.declared.noted.Noted.{Noted}
@@ -32,11 +33,11 @@ pub record IsDraft (bytes : List ℕ) (capacity : ℕ) (records : List Record) :
 -- The records fill a block, of which one more would not be a part.
 abbrev pub Fills : List Record → List Record → Type 0
 Fills rs [] = ⊥
-Fills rs (r ∷ behind) = 65535 < length (spelling rs) + length (spelled r)
+Fills rs (r ∷ behind) = max_body < length (spelling rs) + length (spelled r)
 
 -- What goes into the blocks one after another: each as full as it can be.
 abbrev pub ArePacked : List (List Record) → Type 0
 ArePacked [] = Unit {0}
-ArePacked (b ∷ []) = length (spelling b) ≤ 65535
-ArePacked (b ∷ c ∷ bs) = (0 < length b) × (length (spelling b) ≤ 65535) × Fills b c ×
+ArePacked (b ∷ []) = length (spelling b) ≤ max_body
+ArePacked (b ∷ c ∷ bs) = (0 < length b) × (length (spelling b) ≤ max_body) × Fills b c ×
     ArePacked (c ∷ bs)

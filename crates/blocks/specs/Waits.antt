@@ -2,6 +2,7 @@
 use Rattle.std.specs.Prelude.{◌≡◌, ℕ, ◌+◌, ◌<◌, ◌≤◌, ◌⊎◌, Bool, true, false, IsTrue, List, [], ◌∷◌}
 use Rattle.std.specs.Prelude.{◌++◌, length}
 use Rattle.std.specs.List.{flat_map}
+use Rattle.calls.specs.Limits.{max_body}
 use Rattle.record_format.specs.declared.record.Record.{Record}
 use Rattle.record_format.specs.Records.{spelling}
 use Rattle.blocks.specs.Drafts.{Drafted, HasPlace, Fills}
@@ -43,9 +44,9 @@ next_of (b ∷ bs) last = b.draft.records
 
 -- What goes into the blocks one after another: each as full as it can be, or sealed.
 abbrev pub AreFilled : List Filled → List Record → Type 0
-AreFilled [] last = length (spelling last) ≤ 65535
+AreFilled [] last = length (spelling last) ≤ max_body
 AreFilled (b ∷ bs) last =
-    (0 < length b.draft.records) × (length (spelling b.draft.records) ≤ 65535) ×
+    (0 < length b.draft.records) × (length (spelling b.draft.records) ≤ max_body) ×
     (Fills b.draft.records (next_of bs last) ⊎ IsTrue b.sealed) × AreFilled bs last
 
 -- Each block is as full as it can be, or sealed, and the records are counted.
@@ -60,7 +61,7 @@ HasBlockRoom w = length w.full < w.most
 
 -- A record of the length fits in the last block.
 abbrev pub Suits : Waiting → ℕ → Type 0
-Suits w len = length (spelling w.last.records) + len ≤ 65535
+Suits w len = length (spelling w.last.records) + len ≤ max_body
 
 -- There is room for a record of the length: in the last block, or for one more block.
 pub record HasRoomFor (w : Waiting) (len : ℕ) : Type 0 where

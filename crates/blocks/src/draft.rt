@@ -8,6 +8,7 @@ ghost use Rattle.blocks.specs.Drafts.{HasPlace};
 ghost use Rattle.blocks.specs.Offers.{IsOffered};
 ghost use Rattle.record_format.specs.Acts.{places};
 ghost use Rattle.calls.specs.Rules.{Askable};
+ghost use Rattle.calls.specs.Limits.{max_body};
 ghost use Rattle.record_format.specs.Records.{record_of_call, spelled, spelling, Fits, FitsCall};
 ghost use Rattle.record_format.specs.Records.{FitsReply};
 
@@ -27,8 +28,8 @@ pub struct Handed {
     pub place: u64,
 }
 
-/// The block that `Pending::cut` hands over next: so many records, whose spelling, the block's body,
-/// has so many bytes. The block's head and the gate behind it are not counted.
+/// The block that `Pending::cut` hands over next: so many records, whose spelling, the block's
+/// body, has so many bytes. The block's head and the gate behind it are not counted.
 #[derive(Clone, Copy)]
 pub struct NextBlock {
     pub records: u64,
@@ -105,7 +106,7 @@ impl Draft {
 
     // Makes room for a record of the length. NoMemory leaves the records.
     pub(crate) fn reserve(&mut self, len: usize) -> Result<(), Refusal>
-        requires { len ≤ 65535 }
+        requires { len ≤ max_body }
         ensures room { OnOk result (HasPlace self.new len) }
         ensures records { self.new.records ≡ self.old.records }
         ensures refusal { IsOkUnless result Refusal.NoMemory }
@@ -172,7 +173,7 @@ impl Draft {
     // The records as one whole block. It takes no memory.
     pub(crate) fn into_block(self) -> Vec<u8>
         requires some { 0 < length self.records }
-        requires short { length (spelling self.records) ≤ 65535 }
+        requires short { length (spelling self.records) ≤ max_body }
         ensures { IsBlockOf (spelling self.records) result.items }
     {
         let Self {
@@ -190,7 +191,7 @@ impl Draft {
     // back, and nothing is counted.
     pub(crate) fn offer<O: Outbox>(self, handed: &mut Handed, out: &mut O) -> Result<(), Draft>
         requires some { 0 < length self.records }
-        requires short { length (spelling self.records) ≤ 65535 }
+        requires short { length (spelling self.records) ≤ max_body }
         requires end { handed.old.end + length self.records < 2 ^ 64 }
         requires place { handed.old.place + places self.records < 2 ^ 64 }
         ensures handed { OnOk result (IsOffered self.records handed.old handed.new

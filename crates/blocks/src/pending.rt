@@ -1,8 +1,10 @@
 // The records that wait for a block.
 ghost use Rattle.std.specs.Prelude.{◌≡◌, ℕ, ◌+◌, ◌<◌, ◌≤◌, ◌^◌, ◌⊎◌, [], ◌∷◌, ◌++◌, ◌↔◌, IsTrue};
-ghost use Rattle.std.specs.Prelude.{length, Contains, OnOk, OnErr, IfSome, IsNone, IsOk, IsOkUnless};
+ghost use Rattle.std.specs.Prelude.{length, Contains, OnOk, OnErr, IfSome, IsNone, IsOk};
+ghost use Rattle.std.specs.Prelude.{IsOkUnless};
 ghost use Rattle.record_format.specs.Acts.{places};
 ghost use Rattle.calls.specs.Rules.{Askable};
+ghost use Rattle.calls.specs.Limits.{max_body};
 ghost use Rattle.record_format.specs.Records.{record_of_call, spelled, Fits, FitsCall, FitsReply};
 ghost use Rattle.blocks.specs.Waits.{waiting, freezes, Suits, HasRoomFor, HasBlockRoom};
 ghost use Rattle.blocks.specs.Cuts.{CutsOff, IsNextBlock};
@@ -107,7 +109,7 @@ impl Pending {
 
     // Whether a record of the length fits in the block that is filled now.
     fn fits(&self, len: usize) -> bool
-        requires { len ≤ 65535 }
+        requires { len ≤ max_body }
         ensures { IsTrue result ↔ Suits self.now len }
     {
         self.last.len() + len <= MAX_BODY
@@ -118,7 +120,7 @@ impl Pending {
     ///
     /// NoMemory, which leaves the records.
     pub fn reserve(&mut self, len: usize) -> Result<(), Refusal>
-        requires { len ≤ 65535 }
+        requires { len ≤ max_body }
         ensures room { OnOk result (HasRoomFor self.new len) }
         ensures records { waiting self.new ≡ waiting self.old }
         ensures freezes { freezes self.new ≡ freezes self.old }
@@ -195,8 +197,8 @@ impl Pending {
         self.handed.end + self.count as u64
     }
 
-    /// The block that `cut` hands over next: how many records it has, and how many bytes spell them.
-    /// None where no record waits. It takes no memory.
+    /// The block that `cut` hands over next: how many records it has, and how many bytes spell
+    /// them. None where no record waits. It takes no memory.
     pub fn next_block(&self) -> Option<NextBlock>
         ensures none { IsNone result ↔ (waiting self.now ≡ []) }
         ensures next { IfSome result (IsNextBlock (waiting self.now) (freezes self.now)

@@ -3,7 +3,7 @@ use Rattle.std.proofs.Common.{◌≡◌, ◌⊎◌, inl, inr, ℕ, List, [], Res
 use Rattle.std.proofs.Common.{refl, true, false}
 use Rattle.std.proofs.Common.{sym, subst, take, length, arith}
 use Rattle.std.proofs.lemmas.List.{take_all}
-use Rattle.std.specs.Prelude.{MatchResult, IfErr}
+use Rattle.std.specs.Prelude.{MatchResult, IfErr, IsErrOf}
 use Rattle.arguments.specs.declared.Task.{Task}
 use Rattle.calls.specs.Contents.{Collection}
 use Rattle.disk_model.specs.Disk.{ReadsOnly, IsAtRest, LeavesOnly}
@@ -11,7 +11,10 @@ use Rattle.disk_model.specs.declared.disk.Disk.{Ghosts}
 use Rattle.disk_model.proofs.Walk.{started, weaker, and_then}
 use Rattle.repetition.specs.Journals.{StandsFor}
 use Rattle.repetition.specs.Reading.{IsSound}
-use Rattle.recovery.specs.Formats.{IsEmptyStore, IsFormatting}
+use Rattle.calls.specs.Formats.{number_of}
+use Rattle.calls.specs.declared.format.Format.{Format}
+use Rattle.calls.specs.declared.refusal.Refusal.{Refusal}
+use Rattle.recovery.specs.Formats.{IsRoomAs, IsFormatAnswer, IsEmptyStore, IsMaking, IsFormatting}
 use Rattle.recovery.specs.Openings.{KeepsContent}
 use Rattle.world.specs.Moves.{Whole}
 use Rattle.world.specs.Pasts.{Past}
@@ -28,7 +31,7 @@ use Rattle.boost.specs.Failures.{failure_of}
 use Rattle.boost.specs.Commands.{IsUnderstood, IsPlay, IsOfStore, IsWhyUnplayed, IsWhyUndone}
 use Rattle.boost.specs.Commands.{status_of}
 use Rattle.boost.specs.Effects.{KeepsPlaying, StartsFrom, ArePlayedOn, IsPlayedOn, IsPlayedAnew}
-use Rattle.boost.specs.Effects.{Leaves, IsLeftByPlay}
+use Rattle.boost.specs.Effects.{Leaves, IsLeftByPlay, IsFormatted, IsEmptyAs, FormatLeaves}
 use Rattle.player.specs.declared.client.Client.{Client}
 use Rattle.script.specs.declared.line.Line.{Line}
 
@@ -60,11 +63,13 @@ module _ {D : Type 0} (seen : D → List ℕ) (may_leave : D → List ℕ → Ty
       (λ c left. subst (λ b. IsSound b × StandsFor b content) (sym (rest c (only_now c left)))
       (sound, stands))
 
-  pub untouched_format : ((c : List ℕ) → left_since old (moment old) c → may_leave old c) →
-      IsAtRest seen may_leave old → LeavesOnly moment left_since old old (IsFormatting (seen old))
-  untouched_format only_now rest =
+  pub untouched_format : (is_made : List ℕ → Type 0) →
+      ((c : List ℕ) → left_since old (moment old) c → may_leave old c) →
+      IsAtRest seen may_leave old → LeavesOnly moment left_since old old
+      (IsMaking is_made (seen old))
+  untouched_format is_made only_now rest =
       started moment left_since old _
-      (λ c left. subst (IsFormatting (seen old)) (sym (rest c (only_now c left)))
+      (λ c left. subst (IsMaking is_made (seen old)) (sym (rest c (only_now c left)))
       (inl (record { before = refl; after = refl; size = refl })))
 
   pub untouched_reads : ((c : List ℕ) → left_since old (moment old) c → may_leave old c) →
@@ -99,8 +104,8 @@ module _ {D : Type 0} (g : Ghosts D) (old : D) where
   -- a command that did not touch its disk
   pub untouched_leaves : ((c : List ℕ) → g.left_since old (g.moment old) c → g.may_leave old c) →
       (task : Task) (script : List ℕ) → Leaves g task script old old
-  untouched_leaves only_now (Task.Format disk area reserve) script =
-      untouched_format g.seen g.may_leave g.moment g.left_since old only_now
+  untouched_leaves only_now (Task.Format disk area version reserve) script =
+      untouched_format g.seen g.may_leave g.moment g.left_since old (IsEmptyAs version) only_now
   untouched_leaves only_now (Task.Play disk name) script = λ honest.
       unplayed_leaves script old
       (untouched_keeps g.seen g.may_leave g.moment g.left_since old only_now)
@@ -112,7 +117,55 @@ module _ {D : Type 0} (g : Ghosts D) (old : D) where
       untouched_reads g.seen g.may_leave g.moment g.left_since old only_now
   untouched_leaves only_now (Task.Stat disk json) script =
       untouched_reads g.seen g.may_leave g.moment g.left_since old only_now
+  untouched_leaves only_now (Task.Upgrade disk) script = λ honest.
+      untouched_keeps g.seen g.may_leave g.moment g.left_since old only_now
   untouched_leaves only_now Task.Demo script = refl
+
+  -- a format of a number: what it makes, and what a stop in it leaves
+  pub formatted : (number area : ℕ) (new : D) → IsRoomAs number area (length (g.seen old)) →
+      ((f : Format) → number ≡ number_of f → IsEmptyStore f (g.seen new)) →
+      IsAtRest g.seen g.may_leave new → IsFormatted g number area old new
+  formatted number area new room empty rest = record {
+    room = room;
+    empty = empty room.version room.numbered;
+    at_rest = rest;
+  }
+
+  making : (number area : ℕ) (new : D) → IsRoomAs number area (length (g.seen old)) →
+      ((f : Format) → number ≡ number_of f → IsAtRest g.seen g.may_leave old →
+      LeavesOnly g.moment g.left_since old new (IsFormatting f (g.seen old))) →
+      FormatLeaves g number old new
+  making number area new room stop rest =
+      weaker g.moment g.left_since old new _ (IsMaking (IsEmptyAs number) (g.seen old))
+      (stop room.version room.numbered rest)
+      (λ c made. elim made [
+        | inl torn ↦ inl torn
+        | inr other ↦ elim other [
+          | inl none ↦ inr (inl none)
+          | inr empty ↦ inr (inr (record {
+            version = room.version;
+            numbered = room.numbered;
+            empty = empty;
+          }))
+        ]
+      ])
+
+  pub format_leaves : (number area : ℕ) (new : D) (is_risen : Type 0)
+      (r : Result (Unit {0}) Refusal) →
+      ((c : List ℕ) → g.left_since old (g.moment old) c → g.may_leave old c) →
+      IsFormatAnswer (IsRoomAs number area (length (g.seen old))) is_risen r →
+      (IsErrOf r Refusal.BadArg → new ≡ old) →
+      ((f : Format) → number ≡ number_of f → IsAtRest g.seen g.may_leave old →
+      LeavesOnly g.moment g.left_since old new (IsFormatting f (g.seen old))) →
+      FormatLeaves g number old new
+  format_leaves number area new is_risen (Ok done) only_now answer same stop =
+      making number area new answer stop
+  format_leaves number area new is_risen (Err Refusal.Fault) only_now answer same stop =
+      making number area new answer.0 stop
+  format_leaves number area new is_risen (Err Refusal.BadArg) only_now answer same stop =
+      subst (λ d. FormatLeaves g number old d) (sym (same refl))
+      (untouched_format g.seen g.may_leave g.moment g.left_since old (IsEmptyAs number) only_now)
+  format_leaves number area new is_risen (Err e) only_now answer same stop = absurd answer
 
   -- a store was opened, and then steps were taken
   pub steps_played : (w v : Whole D) →
@@ -240,7 +293,8 @@ refused_one task script same Failure.Unwritten one why is = absurd (omega (arith
 -- the stored run's lines were played, whatever is shown behind them
 pub anew_played : {D E F : Type 0} (g : Ghosts D) (disk left : D) (lines : List Line)
     (script : List ℕ) (s : Result (Unit {0}) F) (r : Result (Unit {0}) E) (done : Unit {0}) →
-    IsEmptyStore (g.seen disk) → IsAtRest g.seen g.may_leave disk → IsScriptOf lines script →
+    IsEmptyStore Format.One (g.seen disk) → IsAtRest g.seen g.may_leave disk →
+    IsScriptOf lines script →
     OnOk s (g.is_honest left → ArePlayedOn g lines disk left) → s ≡ Ok done → g.is_honest left →
     OnOk r (IsPlayedAnew g script)
 anew_played g disk left lines script s (Ok shown) done empty rest is played ended honest = record {

@@ -4,12 +4,14 @@ use Rattle.std.specs.Prelude.{Err}
 use Rattle.arguments.specs.declared.Task.{Task}
 use Rattle.boost.specs.Commands.{IsUnderstood}
 use Rattle.calls.specs.Contents.{Collection}
+use Rattle.calls.specs.Formats.{number_of}
+use Rattle.calls.specs.declared.format.Format.{Format}
 use Rattle.calls.specs.declared.refusal.Refusal.{Refusal}
 use Rattle.disk_model.specs.Disk.{ReadsOnly, IsAtRest, LeavesOnly, Rises}
 use Rattle.disk_model.specs.declared.disk.Disk.{Ghosts}
 use Rattle.repetition.specs.Journals.{StandsFor}
 use Rattle.repetition.specs.Reading.{IsSound}
-use Rattle.recovery.specs.Formats.{IsRoomFor, IsEmptyStore, IsFormatting}
+use Rattle.recovery.specs.Formats.{IsRoomFor, IsRoomAs, IsEmptyStore, IsMaking}
 use Rattle.record_format.specs.declared.record.Record.{Record}
 use Rattle.recovery.specs.declared.report.Report.{Report}
 use Rattle.recovery.specs.declared.report.Survey.{Survey}
@@ -19,6 +21,7 @@ use Rattle.recovery.specs.Finding.{IsFound}
 use Rattle.recovery.specs.Loading.{HoldsImage}
 use Rattle.recovery.specs.Surveys.{IsSurvey}
 use Rattle.recovery.specs.Copies.{IsCopyOf, IsTooLarge, IsCopyAnswer}
+use Rattle.recovery.specs.Upgrades.{IsUpgraded}
 use Rattle.repetition.specs.Steps.{State}
 use Rattle.gate_block.specs.declared.area.Area.{Area}
 use Rattle.gate_block.specs.Area.{base_of, size_of}
@@ -91,14 +94,34 @@ pub record IsLeftByPlay {D : Type 0} (g : Ghosts D) (script : List ℕ) (old new
 -- A script is played on some disk that was an empty store, at rest.
 pub record IsPlayedAnew {D : Type 0} (g : Ghosts D) (script : List ℕ) : Type 0 where
   pub disk : D
-  pub empty : IsEmptyStore (g.seen disk)
+  pub empty : IsEmptyStore Format.One (g.seen disk)
   pub at_rest : IsAtRest g.seen g.may_leave disk
   pub left : D
   pub played : IsPlayedOn g script disk left
 
--- A disk with room for two areas of this size, and no more, was made an empty store, at rest.
-abbrev pub IsFormatted : {D : Type 0} (g : Ghosts D) → ℕ → D → D → Type 0
-IsFormatted g area old new = IsRoomFor area (length (g.seen old)) × IsEmptyStore (g.seen new) ×
+-- There is a version of this number, and a disk of it with room for two areas of this size, and no
+-- more, was made an empty store of that version, at rest.
+pub record IsFormatted {D : Type 0} (g : Ghosts D) (number area : ℕ) (old new : D) : Type 0 where
+  pub room : IsRoomAs number area (length (g.seen old))
+  pub empty : IsEmptyStore room.version (g.seen new)
+  pub at_rest : IsAtRest g.seen g.may_leave new
+
+-- The bytes are those of an empty store of the version of this number.
+pub record IsEmptyAs (number : ℕ) (bytes : List ℕ) : Type 0 where
+  pub version : Format
+  pub numbered : number ≡ number_of version
+  pub empty : IsEmptyStore version bytes
+
+-- What a format leaves of a disk at rest, done or not: the old bytes, with any value for the gate
+-- of the head; no store; or an empty one of the version of this number.
+abbrev pub FormatLeaves : {D : Type 0} (g : Ghosts D) → (number : ℕ) → D → D → Type 0
+FormatLeaves g number old new = IsAtRest g.seen g.may_leave old →
+    LeavesOnly g.moment g.left_since old new (IsMaking (IsEmptyAs number) (g.seen old))
+
+-- A store at rest was brought to the second format, with its content, and is at rest.
+abbrev pub IsBroughtUp : {D : Type 0} (g : Ghosts D) → D → D → Type 0
+IsBroughtUp g old new = IsAtRest g.seen g.may_leave old →
+    IsUpgraded (g.seen old) (g.seen new) ×
     IsAtRest g.seen g.may_leave new
 
 -- A store was read and opened, and the disk is as the opening leaves it.
@@ -145,31 +168,34 @@ pub record IsCounted {D : Type 0} (g : Ghosts D) (disk : D) : Type 0 where
 
 -- What holds where a command was done: a format made an empty store; a play understood each line of
 -- its script, and carried them out on the store that was opened; a show opened a store or found
--- one, a check counted one, and a stat what room it takes; and the stored run did what it does on a
--- disk of its own.
+-- one, a check counted one, and a stat what room it takes; an upgrade brought one to the second
+-- format; and the stored run did what it does on a disk of its own.
 abbrev pub IsDone : {D : Type 0} (g : Ghosts D) → Type 0 → Task → List ℕ → D → D → Type 0
-IsDone g stored (Task.Format disk area reserve) script old new = IsFormatted g area old new
+IsDone g stored (Task.Format disk area version reserve) script old new =
+    IsFormatted g version area old new
 IsDone g stored (Task.Play disk name) script old new =
     IsUnderstood script × (g.is_honest new → IsPlayedOn g script old new)
 IsDone g stored (Task.Show disk read_only) script old new = IsShownAs g read_only old new
 IsDone g stored (Task.Check disk) script old new = g.is_honest new → IsCounted g old
 IsDone g stored (Task.Stat disk json) script old new = IsSurveyed g old new
+IsDone g stored (Task.Upgrade disk) script old new = g.is_honest new → IsBroughtUp g old new
 IsDone g stored Task.Demo script old new = stored
 
 -- What a command leaves on the disk, done or not, and what a stop at any moment of it might have
 -- left: a format the old bytes, no store or an empty one; a play what a beginning of the script's
 -- lines leaves, and a beginning of what its steps committed; a show the content, or all where
--- nothing is to be written; a check and a stat only read; and the stored run does not touch the
--- disk.
+-- nothing is to be written; a check and a stat only read; an upgrade the content; and the stored
+-- run does not touch the disk.
 abbrev pub Leaves : {D : Type 0} (g : Ghosts D) → Task → (script : List ℕ) → D → D → Type 0
-Leaves g (Task.Format disk area reserve) script old new = IsAtRest g.seen g.may_leave old →
-    LeavesOnly g.moment g.left_since old new (IsFormatting (g.seen old))
+Leaves g (Task.Format disk area version reserve) script old new = FormatLeaves g version old new
 Leaves g (Task.Play disk name) script old new = g.is_honest new → IsLeftByPlay g script old new
 Leaves g (Task.Show disk read_only) script old new = ShowLeaves g read_only old new
 Leaves g (Task.Check disk) script old new =
     ReadsOnly g.seen g.may_leave g.moment g.left_since old new
 Leaves g (Task.Stat disk json) script old new =
     ReadsOnly g.seen g.may_leave g.moment g.left_since old new
+Leaves g (Task.Upgrade disk) script old new = g.is_honest new →
+    KeepsContent g.seen g.may_leave g.moment g.left_since old new
 Leaves g Task.Demo script old new = new ≡ old
 
 -- ---- a copy, from the two disks as they were to the two as they are
@@ -177,7 +203,7 @@ Leaves g Task.Demo script old new = new ≡ old
 -- The new disk has room for two areas of this size, and is a copy of the old one, at rest.
 pub record IsCopied {D N : Type 0} (g : Ghosts D) (h : Ghosts N) (area : ℕ) (before after : D × N) :
     Type 0 where
-  pub room : IsRoomFor area (length (h.seen before.1))
+  pub room : IsRoomFor Format.Two area (length (h.seen before.1))
   pub copy : g.is_honest after.0 → IsCopyOf (g.seen before.0) area (h.seen after.1)
   pub at_rest : IsAtRest h.seen h.may_leave after.1
 
@@ -185,7 +211,7 @@ pub record IsCopied {D N : Type 0} (g : Ghosts D) (h : Ghosts N) (area : ℕ) (b
 pub record IsCopyRefused {D N : Type 0} (g : Ghosts D) (h : Ghosts N) (area : ℕ)
     (before after : D × N) : Type 0 where
   pub refusal : Refusal
-  pub why : IsCopyAnswer (IsRoomFor area (length (h.seen before.1)))
+  pub why : IsCopyAnswer (IsRoomFor Format.Two area (length (h.seen before.1)))
       (Rises (g.fault_count before.0) (g.fault_count after.0) ⊎
       Rises (h.fault_count before.1) (h.fault_count after.1))
       (g.is_honest after.0 → HasNoHeader (g.seen before.0))

@@ -1,13 +1,12 @@
 // What the program does for a command, on any disk.
 ghost use Rattle.std.specs.Prelude.{◌≡◌, ◌⊎◌, ℕ, List, [], Ok, Err, OnOk, IfOk, IfErr};
 ghost use Rattle.std.specs.Prelude.{MatchResult, replicate};
-ghost use Rattle.disk_model.specs.Disk.{ReadsOnly, IsAtRest, LeavesOnly};
+ghost use Rattle.disk_model.specs.Disk.{ReadsOnly};
 ghost use Rattle.recovery.specs.Openings.{KeepsContent};
-ghost use Rattle.recovery.specs.Formats.{IsFormatting};
 ghost use Rattle.player.specs.Requests.{nobody};
 ghost use Rattle.boost.specs.Effects.{ArePlayedOn, IsPlayedOn, IsPlayedAnew, IsLeftByPlay};
 ghost use Rattle.boost.specs.Effects.{StartsFrom, IsFormatted, IsShown, IsCounted, IsDone, Leaves};
-ghost use Rattle.boost.specs.Effects.{IsShownAs, ShowLeaves, IsSeen, IsSurveyed};
+ghost use Rattle.boost.specs.Effects.{IsShownAs, ShowLeaves, IsSeen, IsSurveyed, FormatLeaves};
 ghost use Rattle.script.specs.Scripts.{IsScriptOf};
 ghost use Rattle.boost.specs.declared.commands.failure.Failure.{Failure};
 ghost use Rattle.boost.specs.Commands.{IsPlay, IsUnderstood, IsOfStore, IsWhyUnplayed};
@@ -18,6 +17,7 @@ mod failure;
 mod showing;
 mod stored_run;
 mod surveying;
+mod upgrading;
 
 use arguments::Task;
 use calls::Refusal;
@@ -25,7 +25,7 @@ pub use copying::run_copy;
 use disk_model::{Disk, MemDisk};
 pub use failure::Failure;
 use player::Player;
-use recovery::{find, format, inspect, open};
+use recovery::{find, format_as, inspect, open};
 use script::{Line, parse};
 use showing::{show_collections, show_counts};
 use std::alloc::Global;
@@ -33,12 +33,13 @@ use std::io::{self, BufWriter, Write};
 pub use stored_run::STORED_RUN;
 use stored_run::demo;
 use surveying::tell_survey;
+use upgrading::upgrade_store;
 use world::World;
 
 /// Carries a command out on a disk, and answers the status of the program with the disk. Play runs
 /// `script`; the other commands do not look at it. The paths of a task are not looked at.
 ///
-/// - Format makes the disk an empty store.
+/// - Format makes the disk an empty store, in the format of the number that the task names.
 /// - Play opens the store and runs the script. For each line that is not passed over it prints the
 ///   line's number and its answer.
 /// - Show opens the store. For each collection, in the order of making, it prints a line with its
@@ -46,8 +47,11 @@ use world::World;
 ///   that nothing is written, what is unfinished is undone in memory alone.
 /// - Check prints how many collections, unfinished transactions and journal records the store has.
 ///   It writes nothing.
-/// - Stat prints what room the store takes and has, what it counts, and of each collection how many
-///   items it holds, in lines or as a JSON object. It writes nothing.
+/// - Stat prints the format of the store, what room it takes and has, what it counts, and of each
+///   collection how many items it holds and how many bytes of an image it takes, in lines or as a
+///   JSON object. It writes nothing.
+/// - Upgrade brings the store to format 2 in its place, and prints `format 2`. One whose area
+///   in use is of format 2 already is opened alone.
 /// - Demo runs a stored script on a disk in memory of its own. It prints what Play does, and then
 ///   what Show does. It leaves `disk` alone.
 ///
@@ -55,14 +59,15 @@ use world::World;
 /// The memory that it takes is bounded by the bytes of the area in use, as `recovery::open` says.
 /// Show and Stat hold the items of one collection at a time beside it, and Stat an image.
 ///
-/// What a stop leaves, of a disk at rest that reads true and whose bytes are sound: of a Show the
-/// content; of a Play the content that a beginning of what its steps committed gives; of a Format
-/// what `recovery::format` says. Output is held in a buffer, so it comes at the end and where the
-/// buffer is full.
+/// What a stop leaves, of a disk at rest that reads true and whose bytes are sound: of a Show and
+/// of an Upgrade the content; of a Play the content that a beginning of what its steps committed
+/// gives; of a Format what `recovery::format_as` says. Output is held in a buffer, so it comes at
+/// the end and where the buffer is full.
 ///
 /// The status is 0 where the command was done; lines of the script that were refused count as done.
-/// Of a Show it says that a store was opened, or found where nothing is to be written, and of a
-/// Check and a Stat that one was counted, where the disk read true.
+/// Of a Show it says that a store was opened, or found where nothing is to be written, of a Check
+/// and a Stat that one was counted, and of an Upgrade that one is in format 2, where the disk read
+/// true.
 /// Else it is 3 for a script with a line that is not understood: no line was run, and the disk is
 /// as it was. It is 1 where the store refused the command, or where memory was refused. `err` gets
 /// a text then, as `Failure` says. It is 4, with no text, where output could not be written. After
@@ -142,24 +147,24 @@ fn perform<D: Disk, O: Write>(
     ensures any_moment { Leaves ⟦<D as Disk>⟧ task.now script.now disk result.1 }
 {
     match task {
-        Task::Format { area, .. } => format_disk(disk, *area),
+        Task::Format { area, version, .. } => format_disk(disk, *area, *version),
         Task::Play { .. } => play_script(alloc, disk, script, out),
         Task::Show { read_only, .. } => show(alloc, disk, *read_only, out),
         Task::Check { .. } => check(alloc, disk, out),
         Task::Stat { json, .. } => stat(alloc, disk, *json, out),
+        Task::Upgrade { .. } => upgrade_store(alloc, disk, out),
         Task::Demo => (demo(alloc, out), disk),
     }
 }
 
-// Makes the disk an empty store.
-fn format_disk<D: Disk>(disk: D, area: u64) -> (Result<(), Failure<'static>>, D)
+// Makes the disk an empty store, of the version of this number.
+fn format_disk<D: Disk>(disk: D, area: u64, version: u8) -> (Result<(), Failure<'static>>, D)
     ensures why { IfErr result.0 IsOfStore }
-    ensures done { OnOk result.0 (IsFormatted ⟦<D as Disk>⟧ area disk result.1) }
-    ensures formatting { IsAtRest D.seen D.may_leave disk →
-        LeavesOnly D.moment D.left_since disk result.1 (IsFormatting (D.seen disk)) }
+    ensures done { OnOk result.0 (IsFormatted ⟦<D as Disk>⟧ version area disk result.1) }
+    ensures formatting { FormatLeaves ⟦<D as Disk>⟧ version disk result.1 }
 {
     let mut disk = disk;
-    match format(&mut disk, area) {
+    match format_as(&mut disk, area, version) {
         Ok(()) => (Ok(()), disk),
         Err(refusal) => (Err(Failure::Refused(refusal)), disk),
     }
@@ -319,7 +324,13 @@ fn stat<D: Disk, O: Write>(
     let mut disk = disk;
     match find(alloc, &mut disk) {
         Ok(found) => match found.survey(alloc) {
-            Ok(survey) => (tell_survey(&survey, found.collections(), json, out), disk),
+            Ok(survey) => {
+                let format = found.machine.format();
+                (
+                    tell_survey(format, &survey, found.collections(), json, out),
+                    disk,
+                )
+            }
             Err(refusal) => (Err(Failure::Refused(refusal)), disk),
         },
         Err(refusal) => (Err(Failure::Refused(refusal)), disk),

@@ -1,9 +1,9 @@
 //! The store as a program: the commands, and the scripts that its clients play. It opens no file
 //! and reads no words: `command_line` does, and hands a disk and a task on.
 //!
-//! **What it promises.** What status 0 of each command says is one definition by command
-//! (`specs/Commands`, `IsDone`), and what a command leaves on the disk, done or not, at any moment
-//! of it, another (`specs/Effects`, `Leaves`). Texts have no clause: the cases show them.
+//! **What it promises.** What status 0 of each command says is one definition by command (`IsDone`),
+//! and what a command leaves on the disk, done or not, at any moment of it, another (`Leaves`; both
+//! of `specs/Effects`). Texts have no clause: the cases show them.
 //!
 //! **Where its argument stands.** A play is carried out by `player` over a `World`, whose theorem
 //! is the crash theorem on one thread; `serve` is a `Work` of `background`, whose clients are
@@ -21,6 +21,6 @@ mod serving;
 pub use arguments::{Invocation, Task, command};
 pub use commands::{Failure, STORED_RUN, report, run, run_copy};
 pub use player::Said;
-pub use script::{Action, Line, Operation, Request, ScriptError, Verb, parse};
+pub use script::{Action, Line, Request, parse};
 pub use serving::serve;
-pub use sessions::{Answer, End, Session, Speaker, Transcript};
+pub use sessions::{End, Session, Speaker};

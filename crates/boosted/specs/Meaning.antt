@@ -1,9 +1,11 @@
 -- What the calls of a boosted collection mean.
-use Rattle.std.specs.Prelude.{◌≡◌, ℕ, ◌+◌, ◌≤◌, ◌^◌, ◌⊎◌, MatchOption}
+use Rattle.std.specs.Prelude.{◌≡◌, ℕ, ◌≤◌, ◌⊎◌, MatchOption}
 use Rattle.calls.specs.declared.call.Call.{Call}
 use Rattle.calls.specs.declared.reply.Reply.{Reply}
 use Rattle.calls.specs.declared.refusal.Refusal.{Refusal}
 use Rattle.calls.specs.Rules.{need_of, Conflict, inverse_of, Askable, IsShort, Deferrable}
+use Rattle.calls.specs.declared.format.Format.{Format}
+use Rattle.calls.specs.Limits.{max_wear}
 
 -- S: contents. A: places in a content.
 pub record Meaning (S A : Type 0) : Type 1 where
@@ -25,12 +27,13 @@ abbrev pub Apart : {A : Type 0} → A → Call → Reply → A → Call → Repl
 Apart at a ra bt b rb = at ≡ bt → Conflict (need_of a ra) (need_of b rb) → ⊥
 
 -- A client's call is refused so: where it is misplaced, else where it cannot be asked, else where a
--- value is too long.
-abbrev pub AskRefusal : (belongs : Type 0) → (misplaced : Refusal → Type 0) → Call → Refusal →
+-- value is too long for the format.
+abbrev pub AskRefusal : Format → (belongs : Type 0) → (misplaced : Refusal → Type 0) → Call →
+    Refusal →
     Type 0
-AskRefusal belongs misplaced c Refusal.BadArg = belongs × (Askable c → ⊥)
-AskRefusal belongs misplaced c Refusal.TooLong = belongs × Askable c × (IsShort c → ⊥)
-AskRefusal belongs misplaced c r = misplaced r
+AskRefusal f belongs misplaced c Refusal.BadArg = belongs × (Askable c → ⊥)
+AskRefusal f belongs misplaced c Refusal.TooLong = belongs × Askable c × (IsShort f c → ⊥)
+AskRefusal f belongs misplaced c r = misplaced r
 
 -- A call to be put off is refused so: where it is misplaced, else where it cannot be put off.
 abbrev pub DeferRefusal : (belongs : Type 0) → (misplaced : Refusal → Type 0) → Call → Refusal →
@@ -41,7 +44,7 @@ DeferRefusal belongs misplaced c r = misplaced r
 -- A content that so many runs can reach is reached by some number of them from which one more is no
 -- harm.
 abbrev pub IsRoomy : (ℕ → Type 0) → Type 0
-IsRoomy within = (n : ℕ) × within n × (n ≤ 2 ^ 61 + 65536)
+IsRoomy within = (n : ℕ) × within n × (n ≤ max_wear)
 
 module _ {S A : Type 0} (meaning : Meaning S A) where
   -- The content is within a number to which no run leaves its range.
@@ -63,17 +66,17 @@ module _ {S A : Type 0} (meaning : Meaning S A) where
   abbrev pub HasReply : S → A → Call → Type 0
   HasReply s at c = Askable c ⊎ ((r : Reply) × meaning.answers s at c r)
 
-  -- A client can ask for the call.
-  abbrev pub CanAsk : S → A → Call → Type 0
-  CanAsk s at c = meaning.belongs s at c × Askable c × IsShort c
+  -- A client can ask for the call, in a store of the format.
+  abbrev pub CanAsk : Format → S → A → Call → Type 0
+  CanAsk f s at c = meaning.belongs s at c × Askable c × IsShort f c
 
   -- A client can put the call off.
   abbrev pub CanDefer : S → A → Call → Type 0
   CanDefer s at c = meaning.belongs s at c × Deferrable c
 
   -- A client's call is refused so,
-  abbrev pub AskRefused : S → A → Call → Refusal → Type 0
-  AskRefused s at c = AskRefusal (meaning.belongs s at c) (meaning.misplaced s at c) c
+  abbrev pub AskRefused : Format → S → A → Call → Refusal → Type 0
+  AskRefused f s at c = AskRefusal f (meaning.belongs s at c) (meaning.misplaced s at c) c
 
   -- and a call to be put off so.
   abbrev pub DeferRefused : S → A → Call → Refusal → Type 0

@@ -10,6 +10,7 @@ ghost use Rattle.std.specs.Option.{option_to_list};
 ghost use Rattle.calls.specs.declared.refusal.Refusal.{Refusal};
 ghost use Rattle.calls.specs.Rules.{need_of, inverse_of, Askable, Disposable, left_by};
 ghost use Rattle.calls.specs.Rules.{TakesNoMemory, AsksForValue};
+ghost use Rattle.calls.specs.Formats.{widest};
 ghost use Rattle.boosted.specs.Meaning.{Meaning, HasReply, HasRoom, CanAsk, CanDefer, AskRefused};
 ghost use Rattle.boosted.specs.Meaning.{DeferRefused};
 ghost use Rattle.boosted.specs.Laws.{BoostedLaws};
@@ -58,11 +59,11 @@ pub trait Boosted: Drop {
         ensures no_memory { TakesNoMemory call.now → IsOk result };
 
     /// Whether a client can ask for the call. Where not: the refusals of a call that is not of the
-    /// place, then BadArg for one that a client cannot ask, then TooLong for a value over 256
-    /// bytes. It takes no memory.
+    /// place, then BadArg for one that a client cannot ask, then TooLong for a value over 1,024
+    /// bytes, which no format has. It takes no memory.
     fn askable(&self, at: Self::At, call: &Call) -> Result<(), Refusal>
-        ensures ok { IsOk result ↔ CanAsk meaning self.now at call.now }
-        ensures err { IfErr result (AskRefused meaning self.now at call.now) };
+        ensures ok { IsOk result ↔ CanAsk meaning widest self.now at call.now }
+        ensures err { IfErr result (AskRefused meaning widest self.now at call.now) };
 
     /// Whether a client can put the call off. Where not: the refusals of a call that is not of the
     /// place, then BadArg.

@@ -49,10 +49,6 @@ counter_commutes s m t (Call.Bump n) Reply.Done b rb apart da db = absurd db.0.1
 counter_commutes s m t Call.Read (Reply.Total v) b rb apart da db = absurd db.0.1
 counter_commutes s m t a ra b rb apart da db = absurd da.0.1
 
--- A call answered so leads to one number.
-pub counter_one_end : (s t u : ℤ) (c : Call) (r : Reply) → does s c r t → does s c r u → t ≡ u
-counter_one_end s t u c r d e = d.1 ∙ sym e.1
-
 pub counter_back : (s t : ℤ) (c : Call) (r : Reply) → does s c r t → Undoes does inverse_of t c r s
 counter_back s t (Call.Bump n) Reply.Done d = (
   Reply.Done,
@@ -70,7 +66,3 @@ counter_back_only s t u (Call.Bump n) Reply.Done d back =
     back.1.1 ∙ sym (back_again s n ∙ ap (λ v. v +ℤ neg_ℤ n) (sym d.1))
 counter_back_only s t u Call.Read (Reply.Total v) d back = back ∙ d.1
 counter_back_only s t u c r d back = absurd d.0.1
-
--- A bump that is answered is one that may be asked.
-pub step_of : (s n : ℤ) (r : Reply) → Answers s (Call.Bump n) r → IsStep n
-step_of s n r a = a.0.0

@@ -12,3 +12,5 @@ pub mod Transactions
 pub mod Reads
 pub mod Names
 pub mod Refusals
+pub mod Formats
+pub mod Limits

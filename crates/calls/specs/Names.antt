@@ -1,6 +1,7 @@
 -- The names of collections.
 use Rattle.std.specs.Prelude.{◌≡◌, ℕ, ◌≤◌, ◌⊎◌, List, length, All, ◌<◌}
 use Rattle.calls.specs.declared.refusal.Refusal.{Refusal}
+use Rattle.calls.specs.Limits.{max_name}
 
 -- a small letter, a digit, or one of _ - .
 abbrev pub IsNameByte : ℕ → Type 0
@@ -13,10 +14,10 @@ pub record IsSpelt (name : List ℕ) : Type 0 where
 
 pub record IsName (name : List ℕ) : Type 0 where
   pub spelt : IsSpelt name
-  pub short : length name ≤ 64
+  pub short : length name ≤ max_name
 
 -- When each refusal of a name comes, and that no other does.
 abbrev pub RefusesName : List ℕ → Refusal → Type 0
 RefusesName name Refusal.BadName = IsSpelt name → ⊥
-RefusesName name Refusal.TooLong = IsSpelt name × (64 < length name)
+RefusesName name Refusal.TooLong = IsSpelt name × (max_name < length name)
 RefusesName name e = ⊥

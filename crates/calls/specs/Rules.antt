@@ -8,6 +8,8 @@ use Rattle.calls.specs.declared.kind.Kind.{Kind}
 use Rattle.calls.specs.declared.need.Mode.{Mode}
 use Rattle.calls.specs.declared.need.Need.{Need}
 use Rattle.calls.specs.declared.refusal.Refusal.{Refusal}
+use Rattle.calls.specs.declared.format.Format.{Format}
+use Rattle.calls.specs.Formats.{max_value, widest}
 
 -- the greatest element, key, priority, tag and identifier
 abbrev pub top : ℕ
@@ -193,15 +195,15 @@ Askable (Call.Spend n) = IsAmount n
 Askable (Call.Fill n) = ⊥
 Askable c = Unit {0}
 
--- No value that a client puts is longer than 256 bytes.
-abbrev pub IsShort : Call → Type 0
-IsShort (Call.Put k v) = length v ≤ 256
-IsShort c = Unit {0}
+-- No value that a client puts is longer than the format has it.
+abbrev pub IsShort : Format → Call → Type 0
+IsShort f (Call.Put k v) = length v ≤ max_value f
+IsShort f c = Unit {0}
 
 -- A client's call is refused so.
 abbrev pub CallRefused : Call → Refusal → Type 0
 CallRefused c Refusal.BadArg = Askable c → ⊥
-CallRefused c Refusal.TooLong = Askable c × (IsShort c → ⊥)
+CallRefused c Refusal.TooLong = Askable c × (IsShort widest c → ⊥)
 CallRefused c r = ⊥
 
 -- The call may run in a commit.

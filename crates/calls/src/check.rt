@@ -1,6 +1,7 @@
 // What a collection may be named.
 ghost use Rattle.std.specs.Prelude.{◌↔◌, ◌<◌, IsTrue, IsOk, IfErr, IsErrOf, length};
 ghost use Rattle.calls.specs.Names.{IsNameByte, IsSpelt, IsName, RefusesName};
+ghost use Rattle.calls.specs.Limits.{max_name};
 
 use crate::Refusal;
 use crate::limits::MAX_NAME;
@@ -13,7 +14,7 @@ pub fn check_name(name: &str) -> Result<(), Refusal>
     ensures ok { IsOk result ↔ IsName name.now }
     ensures bad_name { IsErrOf result Refusal.BadName ↔ (IsSpelt name.now → ⊥) }
     ensures too_long { IsErrOf result Refusal.TooLong ↔
-        (IsSpelt name.now × (64 < length name.now)) }
+        (IsSpelt name.now × (max_name < length name.now)) }
     ensures err { IfErr result (RefusesName name.now) }
 {
     if !is_spelt(name) {

@@ -5,6 +5,7 @@
 mod bytes;
 mod call;
 mod check;
+mod format;
 mod item;
 mod kind;
 pub mod limits;
@@ -18,6 +19,7 @@ mod rules;
 pub use bytes::Bytes;
 pub use call::Call;
 pub use check::check_name;
+pub use format::Format;
 pub use item::Item;
 pub use kind::Kind;
 pub use modes::Modes;

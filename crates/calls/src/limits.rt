@@ -3,8 +3,8 @@
 /// The most bytes of a name.
 pub const MAX_NAME: usize = 64;
 
-/// The most bytes of a value of a map.
-pub const MAX_VALUE: usize = 256;
+/// The most bytes of a value of a map in any format.
+pub const MAX_VALUE: usize = 1_024;
 
 /// The most that is taken out of a stock, or added to it, at once: 2 to the 63, less one.
 pub const MAX_AMOUNT: u64 = 9_223_372_036_854_775_807;
@@ -30,7 +30,7 @@ pub const MAX_BODY: usize = 65_535;
 /// The fewest bytes of an area.
 pub const MIN_AREA: u64 = 65_536;
 
-/// The most bytes of an area.
+/// The most bytes of an area of a store of the first format.
 pub const MAX_AREA: u64 = 1_073_741_824;
 
 /// Numbers of transactions lie below it, and steps that wear a book are refused from it on: 2 to

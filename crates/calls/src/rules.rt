@@ -8,9 +8,10 @@ ghost use Rattle.calls.specs.declared.refusal.Refusal.{Refusal};
 ghost use Rattle.calls.specs.Rules.{need_of, inverse_of, undone_by, left_by, Pairs, Askable};
 ghost use Rattle.calls.specs.Rules.{PutsNothingBack, IsShort, CallRefused, Deferrable, Disposable};
 ghost use Rattle.calls.specs.Reads.{reads};
+ghost use Rattle.calls.specs.Formats.{widest};
 
 use crate::limits::{MAX_AMOUNT, MAX_VALUE};
-use crate::{Bytes, Call, Mode, Need, Refusal, Reply};
+use crate::{Bytes, Call, Format, Mode, Need, Refusal, Reply};
 
 impl Call {
     /// The keys that the call, answered so, uses, and how. It takes no memory.
@@ -174,12 +175,25 @@ impl Call {
     }
 }
 
+impl Call {
+    /// Whether the value that the call puts, if it puts one, is one of the format. It takes no
+    /// memory.
+    pub fn is_short(&self, format: Format) -> bool
+        ensures { IsTrue result ↔ IsShort format self.now }
+    {
+        match self {
+            Call::Put(_, value) => value.as_slice().len() <= format.max_value(),
+            _ => true,
+        }
+    }
+}
+
 /// Whether a client can ask for the call. It takes no memory.
 ///
 /// BadArg for Pluck, for Free, for Fill, for a Bump of -2^63, which has no inverse, and for a Spend
-/// of over 2^63 - 1; TooLong for a value over 256 bytes.
+/// of over 2^63 - 1; TooLong for a value over 1,024 bytes, which no format has.
 pub fn check_call(call: &Call) -> Result<(), Refusal>
-    ensures ok { IsOk result ↔ (Askable call.now × IsShort call.now) }
+    ensures ok { IsOk result ↔ (Askable call.now × IsShort widest call.now) }
     ensures err { IfErr result (CallRefused call.now) }
 {
     match call {

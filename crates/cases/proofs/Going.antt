@@ -7,6 +7,7 @@ use Rattle.std.specs.Option.{option_map}
 use Rattle.calls.specs.declared.kind.Kind.{Kind}
 use Rattle.calls.specs.declared.call.Call.{Call}
 use Rattle.calls.specs.declared.reply.Reply.{Reply}
+use Rattle.calls.specs.Formats.{widest}
 use Rattle.calls.specs.Rules.{IsShort}
 use Rattle.calls.specs.Contents.{Collection, AnswersAt, after_at, empty}
 use Rattle.calls.specs.Transactions.{Makes}
@@ -39,44 +40,28 @@ made_run most s t name kind run makes =
             ap length makes.is,
             length-append s (record { name = name; content = empty kind } ∷ []),
           );
-      short = laws.short_makes s t name kind makes run.short;
+      short = laws.short_makes widest s t name kind makes run.short;
       within = making_laws.makes_keep_within s t name kind 0 makes run.within;
     }
-
--- what can be asked can run, and so can what can be put off
-pub asked_runs : (xs : List Collection) (at : ℕ) (c : Call) → CanAsk catalog_meaning xs at c →
-    CanRun xs at c
-asked_runs xs at c can = record { belongs = can.0; reply = inl can.1; short = can.2 }
 
 pub deferred_runs : (xs : List Collection) (at : ℕ) (c : Call) → CanDefer catalog_meaning xs at c →
     CanRun xs at c
 deferred_runs xs at c can = record {
   belongs = can.0;
   reply = inr (Reply.Done, (catalog_laws.holds xs).deferred_is_ready at c can.0 can.1);
-  short = short_deferrable c can.1;
-}
-
--- nothing is gathered yet
-pub goes_new : (xs : List Collection) → HasRun xs 6 0 →
-    Goes xs (record { mark = 0; parts = []; effects = []; frozen = None }) [] 0
-goes_new xs run = record {
-  has_run = run;
-  unworn = omega arith;
-  follows = record { few = omega arith; can = tt; leads = refl };
-  came = record { stamps = tt; positions = tt };
-  short_calls = tt;
+  short = short_deferrable widest c can.1;
 }
 
 module _ (xs : List Collection) (g : GatherState) (later : List Effect) (position : ℕ)
     (goes : Goes xs g later position) where
   pub goes_run : (e : Effect) → e.position ≡ position + 1 → position < 2 ^ 61 →
-      AnswersAt xs e.collection e.call e.reply → IsShort e.call →
+      AnswersAt xs e.collection e.call e.reply → IsShort widest e.call →
       Goes (after_at xs e.collection e.call e.reply) g (later ++ e ∷ []) e.position
   goes_run e next unworn answered short = record {
     has_run = record {
       few = let few = goes.has_run.few in
           omega (arith, few, length-after_at xs e.collection e.call e.reply);
-      short = short_after xs e.collection e.call e.reply goes.has_run.short answered short;
+      short = short_after widest xs e.collection e.call e.reply goes.has_run.short answered short;
       within = subst (IsWithin (after_at xs e.collection e.call e.reply)) (sym next)
           ((catalog_laws.holds xs).wears position e.collection e.call e.reply
           goes.has_run.within answered);
@@ -87,7 +72,8 @@ module _ (xs : List Collection) (g : GatherState) (later : List Effect) (positio
         (weaker (λ p. p.stamp ≤ position) (λ p. p.stamp < e.position)
         (λ p low. omega (arith, low, next)) g.parts goes.came.stamps) answered;
     came = came_run g later e position goes.came (omega (arith, next));
-    short_calls = each_append (λ x. IsShort x.call) later (e ∷ []) goes.short_calls (short, tt);
+    short_calls = each_append (λ x. IsShort widest x.call) later (e ∷ []) goes.short_calls
+        (short, tt);
   }
 
   pub goes_gathered : (mark : ℕ) (next : Option Collection) →

@@ -6,6 +6,7 @@ use crate::plays::told::Told;
 use crate::plays::values::{byte, bytes, number, three};
 use crate::plays::workbench::{Workbench, empty_store};
 use disk_model::MemDisk;
+use gate_block::layout::AREAS_AT;
 use std::alloc::{AllocError, Global};
 use std::io;
 use std::sync::Wait;
@@ -57,7 +58,7 @@ fn found_on(rt: &(impl Wait + AllocGlobal), disk: MemDisk) -> Result<String, All
 // An empty store whose first area begins with these bytes.
 fn store_with(alloc: Global, text: &str) -> io::Result<MemDisk> {
     let area = bytes(alloc, text)?;
-    changed(empty_store(alloc)?, 4096, area.as_slice())
+    changed(empty_store(alloc)?, AREAS_AT, area.as_slice())
 }
 
 /// An empty store whose first area begins with these bytes: tells what a check and a show make of

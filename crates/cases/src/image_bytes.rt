@@ -5,11 +5,9 @@ use crate::plays::told::Told;
 use crate::plays::values::{bytes, not_understood};
 use crate::plays::workbench::{Workbench, empty_store};
 use disk_model::MemDisk;
+use gate_block::layout::AREAS_AT;
 use std::alloc::Global;
 use std::io;
-
-// Where the first area stands.
-const FIRST: u64 = 4096;
 
 // A block with this body: an open gate, the length, the body, and a closed gate.
 fn block(alloc: Global, body: &[u8]) -> io::Result<Vec<u8>> {
@@ -38,8 +36,8 @@ fn write_block(alloc: Global, disk: &mut MemDisk, at: u64, body: &str) -> io::Re
 // Writes blocks from the first area's beginning on, with a bar between the bodies of each two.
 // Answers where the last one stands.
 fn write_blocks(alloc: Global, disk: &mut MemDisk, bodies: &str) -> io::Result<u64> {
-    let mut last = FIRST;
-    let mut next = FIRST;
+    let mut last = AREAS_AT;
+    let mut next = AREAS_AT;
     for body in bodies.split(" | ") {
         last = next;
         next = write_block(alloc, disk, last, body)?;

@@ -64,6 +64,7 @@ fn ask_all(
         }
     }
     bench.compared.tell(told);
+    bench.talked.tell(told);
     told.check()
 }
 

@@ -1,8 +1,8 @@
 // What the lines of a case ask.
-use crate::plays::questions;
 use crate::plays::told::Told;
 use crate::plays::workbench::Workbench;
-use crate::sweeps::{any_areas, copies, stops, sweeping};
+use crate::plays::{questions, talked};
+use crate::sweeps::{any_areas, copies, stops, sweeping, upgrades};
 use crate::system::System;
 use crate::threads::{load, second_call_during_sync};
 use crate::{bench, comparison, damage, files, image_bytes, runs, spellings, texts, watched};
@@ -82,6 +82,7 @@ fn ask_of_sweeps(
         "stops" => stops::stop_story(rt, bench, rest, told),
         "stop_opening" => stops::stop_opening(rt.alloc(), bench, told),
         "stop_copy" => copies::stop_copy(rt.alloc(), bench, rest, told),
+        "stop_upgrade" => upgrades::stop_upgrade(rt.alloc(), bench, told),
         "stop_format" => stops::stop_format(rt.alloc(), bench, rest, told),
         "sweep" => sweeping::sweep(rt, bench, rest, told),
         "areas" => any_areas::open_all(rt, bench, rest, told),
@@ -102,6 +103,8 @@ fn ask_of_stores(
         "watch" => watched::watch(rt.alloc(), bench, told),
         "watch_failures" => watched::watch_failures(rt.alloc(), bench, told),
         "play_shared" => runs::play_shared(rt, bench, told),
+        "cuts" => talked::cut_each(rt, bench, rest, told),
+        "unheard" => talked::fail_each(rt, bench, rest, told),
         "area" => damage::tell_area(rt, rest, told),
         "change" => damage::change_each(rt, bench, rest, told),
         "demo_short" => runs::run_short(rt.alloc(), rest, told),

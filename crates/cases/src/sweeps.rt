@@ -4,3 +4,4 @@ pub mod copies;
 mod faults;
 pub mod stops;
 pub mod sweeping;
+pub mod upgrades;

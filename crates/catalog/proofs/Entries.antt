@@ -28,6 +28,7 @@ use Rattle.calls.specs.Rules.{Askable}
 use Rattle.calls.specs.Contents.{kind_of_content, Content, Answers, after, Collection, AnswersAt}
 use Rattle.calls.specs.Contents.{after_at}
 use Rattle.boosted.specs.Kinds.{IsOf, IsWrong}
+use Rattle.calls.specs.Formats.{widest}
 use Rattle.boosted.specs.Meaning.{AskRefusal, DeferRefusal}
 use Rattle.catalog.specs.declared.holding.Holding.{Holding}
 use Rattle.catalog.specs.Holdings.{content_of, collections_of, AreNamed}
@@ -257,8 +258,8 @@ module _ (s : List Collection) (at : ℕ) (k : Content) (c : Call)
 
   -- what the kind's own test refuses is refused so at the place
   pub asked_there : (e : Refusal) →
-      AskRefusal (IsOf (kind_of_content k) c) (IsWrong (kind_of_content k) c) c e →
-      AskRefusal (Belongs s at c) (Misplaced s at c) c e
+      AskRefusal widest (IsOf (kind_of_content k) c) (IsWrong (kind_of_content k) c) c e →
+      AskRefusal widest (Belongs s at c) (Misplaced s at c) c e
   asked_there Refusal.BadArg h = (belongs_there h.0, h.1)
   asked_there Refusal.TooLong h = (belongs_there h.0, h.1, h.2)
   asked_there Refusal.WrongKind h = strange_there h.0

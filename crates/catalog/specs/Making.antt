@@ -8,6 +8,7 @@ use Rattle.calls.specs.declared.refusal.Refusal.{Refusal}
 use Rattle.calls.specs.Contents.{Collection}
 use Rattle.calls.specs.Names.{IsName, RefusesName}
 use Rattle.calls.specs.Rules.{Deferrable}
+use Rattle.calls.specs.Limits.{max_collections}
 use Rattle.boosted.specs.Meaning.{Meaning, Does}
 
 -- The names, in the order of making.
@@ -38,13 +39,13 @@ FindRefused names name e = RefusesName name e
 pub record IsNew (names : List (List ℕ)) (name : List ℕ) : Type 0 where
   pub good : IsName name
   pub free : IsFree names name
-  pub few : length names < 256
+  pub few : length names < max_collections
 
 -- A name under which none can be made is refused so,
 abbrev pub NewRefused : List (List ℕ) → List ℕ → Refusal → Type 0
 NewRefused names name Refusal.NameTaken = IsName name × Contains names name
 NewRefused names name Refusal.TooManyCollections =
-    IsName name × IsFree names name × (256 ≤ length names)
+    IsName name × IsFree names name × (max_collections ≤ length names)
 NewRefused names name e = RefusesName name e
 
 -- and a making so.

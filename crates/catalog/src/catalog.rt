@@ -5,6 +5,7 @@ ghost use Rattle.std.specs.Option.{option_map};
 ghost use Rattle.calls.specs.Contents.{AnswersAt, after_at};
 ghost use Rattle.calls.specs.Names.{IsName};
 ghost use Rattle.calls.specs.Rules.{TakesNoMemory};
+ghost use Rattle.calls.specs.Limits.{max_collections};
 ghost use Rattle.boosted.specs.Meaning.{HasRoom};
 ghost use Rattle.catalog.specs.Holdings.{content_of, Shows, ShowRefused, AreItems, Loads};
 ghost use Rattle.catalog.specs.Holdings.{LoadRefused};
@@ -40,6 +41,7 @@ impl Model for Catalog {
     ghost use Rattle.std.specs.Prelude.{List, ◌≤◌};
     ghost use Rattle.indexmap.specs.IndexMap.{index_map_len};
     ghost use Rattle.calls.specs.Contents.{Collection};
+    ghost use Rattle.calls.specs.Limits.{max_collections};
     ghost use Rattle.catalog.specs.Holdings.{catalog_code};
 
     ghost Value = { List Collection };
@@ -50,7 +52,7 @@ impl Model for Catalog {
 
     ghost view = { λ catalog. collections_of catalog.collections.entries };
 
-    ghost invariant = { λ catalog. (index_map_len catalog.collections ≤ 256) ×
+    ghost invariant = { λ catalog. (index_map_len catalog.collections ≤ max_collections) ×
         AreNamed (collections_of catalog.collections.entries) };
 }
 
@@ -67,7 +69,7 @@ impl Catalog {
     /// How many collections there are.
     pub fn len(&self) -> usize
         ensures len { result ≡ length self.now }
-        ensures few { result ≤ 256 }
+        ensures few { result ≤ max_collections }
         ensures distinct { AreDistinct (names_of self.now) }
     {
         self.collections.len()

@@ -6,8 +6,9 @@
 //! in the order of their kind (`specs/Holdings`).
 //!
 //! **Where its argument stands.** The laws of `Boosted` and of `Parts` for the whole come from
-//! those of its parts: `specs/Laws`, with a file for each law. Above this crate nobody knows of a
-//! kind.
+//! those of its parts: `specs/Laws`, from the contents of one (`OneContent`) to calls at their
+//! places (`ByPlace`), to what is made (`Makings`), to the catalog. Above this crate only what
+//! `records` proves of items knows of a kind.
 //!
 //! **To change it.** A new kind is a case of `Holding` (`holding.rt`), of `specs/Holdings`,
 //! `specs/Laws/OneContent` and `proofs/Orders`. The limit on names and collections is

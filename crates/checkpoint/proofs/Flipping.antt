@@ -80,9 +80,6 @@ all_laid w s bodies none some was =
 module _ {D : Type 0} (seen : D → List ℕ) (may_leave : D → List ℕ → Type 0) (k : KeeperState D)
     (w : Laying) (bodies : List (List ℕ)) (held : IsKeeper seen k) (is : k.stage ≡ Stage.Laid w)
     (some : bodies ≢ []) (was : IsBeingLaid w (seen k.disk) bodies) where
-  bytes : ℕ
-  bytes = length (seen k.disk)
-
   far : 513 ≤ base_of w.area
   far = let b = beside_is seen k w held is in
       (inside w.area (length (seen k.disk))

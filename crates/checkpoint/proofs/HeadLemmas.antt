@@ -2,6 +2,7 @@
 use Rattle.std.proofs.Common.{◌≡◌, ℕ, ◌+◌, ◌*◌, ◌%◌, ◌≤◌, ◌<◌, List, length, take, drop, get_or}
 use Rattle.std.proofs.Common.{sym, ◌∙◌, ap, arith}
 use Rattle.std.proofs.lemmas.List.{take-take, drop-take, get_or-take}
+use Rattle.calls.specs.declared.format.Format.{Format}
 use Rattle.gate_block.specs.declared.area.Area.{Area}
 use Rattle.gate_block.specs.Row.{SameOutside}
 use Rattle.gate_block.specs.Area.{base_of, size_of}
@@ -20,9 +21,10 @@ same_at base n c d lt e = sym (get_or-take base c n 0 lt) ∙ ap (λ l. get_or l
     get_or-take base d n 0 lt
 
 -- the header stays where the first bytes do
-pub head_header : (size base : ℕ) (d c : List ℕ) → 17 ≤ base → take base c ≡ take base d →
-    length c ≡ length d → IsHeader size d → IsHeader size c
-head_header size base d c far same long header = record {
+pub head_header : (version : Format) (size base : ℕ) (d c : List ℕ) → 17 ≤ base →
+    take base c ≡ take base d →
+    length c ≡ length d → IsHeader version size d → IsHeader version size c
+head_header version size base d c far same long header = record {
   letters = same_front 8 base c d (omega (arith, far)) same ∙ header.letters;
   gate = same_at base 8 c d (omega (arith, far)) same ∙ header.gate;
   area = sym (drop-take 9 8 c) ∙ ap (λ l. drop 9 l) (same_front 17 base c d far same) ∙
@@ -33,29 +35,28 @@ head_header size base d c far same long header = record {
 }
 
 -- and with the root byte the head
-part_headed : (base : ℕ) (area : Area) (d c : List ℕ) → 4096 ≤ base → take base c ≡ take base d →
-    length c ≡ length d → IsHeaded area d → IsHeaded area c
-part_headed base area d c far same long headed = record {
-  header = head_header (size_of area) base d c (omega (arith, far)) same long headed.header;
+part_headed : (base : ℕ) (f : Format) (area : Area) (d c : List ℕ) → 4096 ≤ base →
+    take base c ≡ take base d →
+    length c ≡ length d → IsHeaded f area d → IsHeaded f area c
+part_headed base f area d c far same long headed = record {
+  version = headed.version;
+  allowed = headed.allowed;
+  header = head_header headed.version (size_of area) base d c (omega (arith, far)) same long
+      headed.header;
   picks = ap (λ r. 4096 + size_of area * (r % 2)) (same_at base 512 c d (omega (arith, far)) same) ∙
       headed.picks;
 }
 
-pub head_headed : (area : Area) (d c : List ℕ) → take 4096 c ≡ take 4096 d → length c ≡ length d →
-    IsHeaded area d → IsHeaded area c
-head_headed area d c same long headed = part_headed 4096 area d c (omega arith) same long headed
+pub head_headed : (f : Format) (area : Area) (d c : List ℕ) → take 4096 c ≡ take 4096 d →
+    length c ≡ length d →
+    IsHeaded f area d → IsHeaded f area c
+head_headed f area d c same long headed = part_headed 4096 f area d c (omega arith) same long headed
 
 -- an area that a head picks lies behind it
-pub lies_behind : (area : Area) (d : List ℕ) → IsHeaded area d → 4096 ≤ base_of area
-lies_behind area d headed = omega (arith, headed.picks)
+pub lies_behind : (f : Format) (area : Area) (d : List ℕ) → IsHeaded f area d → 4096 ≤ base_of area
+lies_behind f area d headed = omega (arith, headed.picks)
 
 -- where nothing changed outside the area, the head is the same
 pub outside_head : (area : Area) (d c : List ℕ) → 4096 ≤ base_of area →
     SameOutside (base_of area) (size_of area) d c → take 4096 c ≡ take 4096 d
 outside_head area d c far same = same_front 4096 (base_of area) c d far same.before
-
-pub outside_headed : (area : Area) (d c : List ℕ) → SameOutside (base_of area) (size_of area) d c →
-    IsHeaded area d → IsHeaded area c
-outside_headed area d c same headed =
-    part_headed (base_of area) area d c (lies_behind area d headed) same.before same.same_size
-    headed

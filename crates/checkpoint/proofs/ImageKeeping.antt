@@ -6,6 +6,7 @@ use Rattle.std.proofs.Common.{map, take, get_or, refl, sym, ◌∙◌, ap, subst
 use Rattle.std.proofs.Common.{length-append, eq-or-lt_of_le, Result, Ok, Err, OnOk, Contains}
 use Rattle.std.proofs.lemmas.List.{append-nil}
 use Rattle.std.proofs.lemmas.List.Elements.{All-cons, All-weaker, Contains-append_right}
+use Rattle.calls.specs.declared.format.Format.{Format}
 use Rattle.calls.specs.Contents.{Collection}
 use Rattle.calls.specs.declared.refusal.Refusal.{Refusal}
 use Rattle.disk_model.specs.Disk.{Torn, IsAtRest, LeavesOnly}
@@ -71,8 +72,9 @@ one_more size zero less = inl (omega arith)
 one_more size (suc zero) less = inr (omega arith)
 one_more size (suc (suc r)) less = absurd (omega (arith, less))
 
-headed_one : (area : Area) (c : List ℕ) → IsHeaded area c → IsOneOfTwo area (length c)
-headed_one area c headed = record {
+headed_one : (f : Format) (area : Area) (c : List ℕ) → IsHeaded f area c →
+    IsOneOfTwo area (length c)
+headed_one f area c headed = record {
   whole = headed.header.whole;
   base = ⊎_elim (λ first. inl (sym headed.picks ∙ first))
       (λ second. inr (sym headed.picks ∙ second))
@@ -110,18 +112,18 @@ none_laid v disk at = record {
 -- ---- another disk, and another image in progress, with the same blocks in use
 
 module _ {D : Type 0} (seen : D → List ℕ) (may_leave : D → List ℕ → Type 0)
-    (start : List Collection) (wear : ℕ) (records : List Record) (now : State)
+    (format : Format) (start : List Collection) (wear : ℕ) (records : List Record) (now : State)
     (freezes : List ℕ) (images : List BegunImage) (received : List Block) (k : KeeperState D)
-    (had : HasReceived seen may_leave start wear records now freezes images received k) where
+    (had : HasReceived seen may_leave format start wear records now freezes images received k) where
   on_disk : (disk : D) (failed : Bool) (stage : Stage) →
       ((c : List ℕ) → may_leave disk c → YieldsUpTo start records k.mark c) →
-      (failed ≡ false → IsInUse seen may_leave k.area disk (had.old ++ had.kept)) →
+      (failed ≡ false → IsInUse seen may_leave format k.area disk (had.old ++ had.kept)) →
       (failed ≡ false → (e : Ending) → stage ≡ Stage.Awaited e →
       IsHolding freezes (length had.covered + length (records_in had.kept)) e) →
       (failed ≡ false → (l : Laying) → stage ≡ Stage.Laid l →
-      IsImaging seen start wear records now images disk k.area
+      IsImaging seen format start wear records now images disk k.area
       (length had.covered + length (records_in had.kept)) l) →
-      HasReceived seen may_leave start wear records now freezes images received
+      HasReceived seen may_leave format start wear records now freezes images received
       (record k { disk = disk; failed = failed; stage = stage })
   on_disk disk failed stage stop in_use holding imaging = record {
     good = had.good;
@@ -176,7 +178,8 @@ module _ {D : Type 0} (seen : D → List ℕ) (may_leave : D → List ℕ → Ty
     holds : IsHolding (e.end ∷ freezes) (length had.covered + length (records_in had.kept)) e
     holds = record { frozen = (0, omega arith, refl); ahead = ahead }
 
-    is_held : HasReceived seen may_leave start wear records now (e.end ∷ freezes) images received
+    is_held : HasReceived seen may_leave format start wear records now (e.end ∷ freezes) images
+        received
         (record k { stage = Stage.Awaited e })
     is_held = record {
       good = had.good;
@@ -216,7 +219,7 @@ module _ {D : Type 0} (seen : D → List ℕ) (may_leave : D → List ℕ → Ty
   module _ (e : Ending) (fine : k.failed ≡ false) (awaited : k.stage ≡ Stage.Awaited e)
       (image : Image) (there : EndsThere e image) (some : image.blocks.items ≢ [])
       (begun : BegunImage) (is_for : IsImageFor image begun)
-      (stands : StandIn start wear records now begun.blocks begun.covered)
+      (stands : StandIn format start wear records now begun.blocks begun.covered)
       (area : Area) (started : IsStarted k.area area) where
     abbrev laying : Laying
     laying = record { area = area; image = image }
@@ -227,7 +230,7 @@ module _ {D : Type 0} (seen : D → List ℕ) (may_leave : D → List ℕ → Ty
     at_end : e.end ≡ length begun.covered
     at_end = sym there.0 ∙ is_for.end
 
-    imaging : IsImaging seen start wear records now (begun ∷ images) k.disk k.area
+    imaging : IsImaging seen format start wear records now (begun ∷ images) k.disk k.area
         (length had.covered + length (records_in had.kept)) laying
     imaging = record {
       other = started.other;
@@ -243,7 +246,8 @@ module _ {D : Type 0} (seen : D → List ℕ) (may_leave : D → List ℕ → Ty
       ahead = omega (arith, held.ahead, there.0);
     }
 
-    is_begun : HasReceived seen may_leave start wear records now freezes (begun ∷ images) received
+    is_begun : HasReceived seen may_leave format start wear records now freezes (begun ∷ images)
+        received
         (record k { stage = Stage.Laid laying })
     is_begun = record {
       good = had.good;
@@ -273,7 +277,7 @@ module _ {D : Type 0} (seen : D → List ℕ) (may_leave : D → List ℕ → Ty
       stop = had.stop;
       in_use = had.in_use;
       holding = λ f x is. awaited_laid x laying _ (sym is);
-      imaging = λ f v is. subst (λ (x : Laying). IsImaging seen start wear records now
+      imaging = λ f v is. subst (λ (x : Laying). IsImaging seen format start wear records now
           (begun ∷ images) k.disk k.area (length had.covered + length (records_in had.kept)) x)
           (laid_same laying v is) imaging;
     }
@@ -282,14 +286,14 @@ module _ {D : Type 0} (seen : D → List ℕ) (may_leave : D → List ℕ → Ty
 -- laid
 
 module _ {D : Type 0} (seen : D → List ℕ) (may_leave : D → List ℕ → Type 0)
-    (start : List Collection) (wear : ℕ) (records : List Record) (now : State)
+    (format : Format) (start : List Collection) (wear : ℕ) (records : List Record) (now : State)
     (freezes : List ℕ) (images : List BegunImage) (received : List Block) (k : KeeperState D)
-    (had : HasReceived seen may_leave start wear records now freezes images received k)
+    (had : HasReceived seen may_leave format start wear records now freezes images received k)
     (fine : k.failed ≡ false) (l : Laying) (is : k.stage ≡ Stage.Laid l) where
-  abbrev used : IsInUse seen may_leave k.area k.disk (had.old ++ had.kept)
+  abbrev used : IsInUse seen may_leave format k.area k.disk (had.old ++ had.kept)
   used = had.in_use fine
 
-  abbrev image : IsImaging seen start wear records now images k.disk k.area
+  abbrev image : IsImaging seen format start wear records now images k.disk k.area
       (length had.covered + length (records_in had.kept)) l
   image = had.imaging fine l is
 
@@ -337,19 +341,23 @@ module _ {D : Type 0} (seen : D → List ℕ) (may_leave : D → List ℕ → Ty
 
   -- what a stop leaves while the root byte is written has the header of the disk
   moment_header : (c : List ℕ) → LeavesRoot (may_leave k.disk) (seen k.disk) c →
-      IsHeader (size_of k.area) c
+      IsHeader used.head.headed.version (size_of k.area) c
   moment_header c leaves =
-      ⊎_elim (λ left. head_header (size_of k.area) 4096 (seen k.disk) c (omega arith)
+      ⊎_elim (λ left. head_header used.head.headed.version (size_of k.area) 4096 (seen k.disk) c
+      (omega arith)
       (used.head.head_at_rest c left) (used.head.same_size c left) used.head.headed.header)
-      (λ (torn : Torn 512 1 (seen k.disk) c). head_header (size_of k.area) 512 (seen k.disk) c
+      (λ (torn : Torn 512 1 (seen k.disk) c). head_header used.head.headed.version
+      (size_of k.area) 512 (seen k.disk) c
       (omega arith) torn.before torn.size used.head.headed.header)
       leaves
 
   -- the header, and the root byte, of the image's area
-  image_headed : (c : List ℕ) → IsHeader (size_of k.area) c →
-      base_in_use (size_of k.area) c ≡ base_of l.area → IsHeaded l.area c
+  image_headed : (c : List ℕ) → IsHeader used.head.headed.version (size_of k.area) c →
+      base_in_use (size_of k.area) c ≡ base_of l.area → IsHeaded format l.area c
   image_headed c header picks = record {
-    header = subst (λ n. IsHeader n c) (sym image.other.size) header;
+    version = used.head.headed.version;
+    allowed = used.head.headed.allowed;
+    header = subst (λ n. IsHeader used.head.headed.version n c) (sym image.other.size) header;
     picks = ap (λ n. base_in_use n c) image.other.size ∙ picks;
   }
 
@@ -357,11 +365,12 @@ module _ {D : Type 0} (seen : D → List ℕ) (may_leave : D → List ℕ → Ty
   none_behind = ap (map spelling) (append-nil blocks)
 
   -- the blocks of the image, alone in their area, yield what is known
-  image_yields : (m : ℕ) (c : List ℕ) → m ≤ places covered → IsHeaded l.area c →
+  image_yields : (m : ℕ) (c : List ℕ) → m ≤ places covered → IsHeaded format l.area c →
       IsRow bodies (bytes_of l.area c) →
       YieldsUpTo start records m c
   image_yields m c few headed row =
-      row_yields start wear records now blocks covered image.stands had.good [] image.stands.since
+      row_yields format start wear records now blocks covered image.stands had.good []
+      image.stands.since
       refl l.area m c (omega (arith, few)) headed
       (subst (λ x. IsRow x (bytes_of l.area c)) (sym none_behind) row)
 
@@ -372,9 +381,15 @@ module _ {D : Type 0} (seen : D → List ℕ) (may_leave : D → List ℕ → Ty
       ⊎_elim
       (λ (old : (base_in_use (size_of k.area) c ≡ base_of k.area) ×
       (bytes_of k.area c ≡ bytes_of k.area (seen k.disk))).
-      row_yields start wear records now had.old had.covered had.stands had.good had.kept had.later
+      row_yields format start wear records now had.old had.covered had.stands had.good had.kept
+      had.later
       had.split k.area k.mark c had.marked
-      (record { header = moment_header c leaves; picks = old.0 })
+      (record {
+        version = used.head.headed.version;
+        allowed = used.head.headed.allowed;
+        header = moment_header c leaves;
+        picks = old.0;
+      })
       (subst (λ x. IsRow (map spelling (had.old ++ had.kept)) x) (sym old.1) used.ready.holds))
       (λ (new : (base_in_use (size_of k.area) c ≡ base_of l.area) ×
       IsRow bodies (bytes_of l.area c)).
@@ -395,10 +410,13 @@ module _ {D : Type 0} (seen : D → List ℕ) (may_leave : D → List ℕ → Ty
       (ready : IsReady seen may_leave l.area disk bodies)
       (picks : base_in_use (size_of l.area) (seen disk) ≡ base_of l.area)
       (rest : IsAtRest seen may_leave disk) (torn : Torn 512 1 (seen k.disk) (seen disk)) where
-    now_headed : IsHeaded l.area (seen disk)
+    now_headed : IsHeaded format l.area (seen disk)
     now_headed = record {
-      header = subst (λ n. IsHeader n (seen disk)) (sym image.other.size)
-          (head_header (size_of k.area) 512 (seen k.disk) (seen disk) (omega arith) torn.before
+      version = used.head.headed.version;
+      allowed = used.head.headed.allowed;
+      header = subst (λ n. IsHeader used.head.headed.version n (seen disk)) (sym image.other.size)
+          (head_header used.head.headed.version (size_of k.area) 512 (seen k.disk) (seen disk)
+          (omega arith) torn.before
           torn.size used.head.headed.header);
       picks = picks;
     }
@@ -406,7 +424,7 @@ module _ {D : Type 0} (seen : D → List ℕ) (may_leave : D → List ℕ → Ty
     few : mark ≤ places covered
     few = omega (arith, mark_is, marked_new, image.place)
 
-    is_flipped : HasReceived seen may_leave start wear records now freezes images received
+    is_flipped : HasReceived seen may_leave format start wear records now freezes images received
         (record k {
           disk = disk;
           area = l.area;
@@ -454,7 +472,7 @@ module _ {D : Type 0} (seen : D → List ℕ) (may_leave : D → List ℕ → Ty
 
   -- what changes in the image's area alone leaves the head and the area in use
   one : IsOneOfTwo k.area (length (seen k.disk))
-  one = headed_one k.area (seen k.disk) used.head.headed
+  one = headed_one format k.area (seen k.disk) used.head.headed
 
   turned : IsOneOfTwo l.area (length (seen k.disk)) × IsOther l.area k.area
   turned = back k.area l.area (length (seen k.disk)) one image.other
@@ -481,9 +499,10 @@ module _ {D : Type 0} (seen : D → List ℕ) (may_leave : D → List ℕ → Ty
   piece_yields : (c : List ℕ) → Piecing c →
       YieldsUpTo start records k.mark c
   piece_yields c leaves =
-      row_yields start wear records now had.old had.covered had.stands had.good had.kept had.later
+      row_yields format start wear records now had.old had.covered had.stands had.good had.kept
+      had.later
       had.split k.area k.mark c had.marked
-      (head_headed k.area (seen k.disk) c (piece_head c leaves) (piece_size c leaves)
+      (head_headed format k.area (seen k.disk) c (piece_head c leaves) (piece_size c leaves)
       used.head.headed)
       (subst (λ x. IsRow (map spelling (had.old ++ had.kept)) x)
       (sym (area_same leaves.0 c leaves.2 ∙ used.ready.at_rest leaves.0 leaves.1))
@@ -495,20 +514,20 @@ module _ {D : Type 0} (seen : D → List ℕ) (may_leave : D → List ℕ → Ty
       (elsewhere : SameOutside (base_of l.area) (size_of l.area) (seen k.disk) (seen disk))
       (ready : IsReady seen may_leave k.area disk (map spelling (had.old ++ had.kept)))
       (laid : IsBeingLaid v (seen disk) bodies) where
-    still_used : IsInUse seen may_leave k.area disk (had.old ++ had.kept)
+    still_used : IsInUse seen may_leave format k.area disk (had.old ++ had.kept)
     still_used =
         let head : take 4096 (seen disk) ≡ take 4096 (seen k.disk) =
         head_same (seen k.disk) (seen disk) elsewhere in record {
           ready = ready;
           head = record {
-            headed = head_headed k.area (seen k.disk) (seen disk) head elsewhere.same_size
+            headed = head_headed format k.area (seen k.disk) (seen disk) head elsewhere.same_size
                 used.head.headed;
             head_at_rest = λ c left. piece_head c (piecing c left) ∙ sym head;
             same_size = λ c left. piece_size c (piecing c left) ∙ sym elsewhere.same_size;
           };
         }
 
-    still_imaging : IsImaging seen start wear records now images disk k.area
+    still_imaging : IsImaging seen format start wear records now images disk k.area
         (length had.covered + length (records_in had.kept)) v
     still_imaging = record {
       other = record {
@@ -525,14 +544,16 @@ module _ {D : Type 0} (seen : D → List ℕ) (may_leave : D → List ℕ → Ty
       ahead = omega (arith, image.ahead, same.end);
     }
 
-    is_laid : HasReceived seen may_leave start wear records now freezes images received
+    is_laid : HasReceived seen may_leave format start wear records now freezes images received
         (record k { disk = disk; failed = k.failed; stage = Stage.Laid v })
     is_laid =
-        on_disk seen may_leave start wear records now freezes images received k had disk k.failed
+        on_disk seen may_leave format start wear records now freezes images received k had disk
+        k.failed
         (Stage.Laid v)
         (λ c left. piece_yields c (piecing c left)) (λ f. still_used)
         (λ f e is. awaited_laid e v _ (sym is))
-        (λ f x e. subst (λ (y : Laying). IsImaging seen start wear records now images disk k.area
+        (λ f x e. subst (λ (y : Laying). IsImaging seen format start wear records now images disk
+        k.area
         (length had.covered + length (records_in had.kept)) y) (laid_same v x e) still_imaging)
 
 -- ---- what the calls answer and leave
@@ -541,11 +562,12 @@ module _ {D : Type 0} (seen : D → List ℕ) (may_leave : D → List ℕ → Ty
 pub stopped_keeps : {D : Type 0} (g : Ghosts D) (k : KeeperState D) →
     ((c : List ℕ) → g.left_since k.disk (g.moment k.disk) c → g.may_leave k.disk c) →
     ImageKeeps g k (record k { stage = Stage.Idle })
-stopped_keeps g k only_now start wear records now freezes images received had = (
-  on_disk g.seen g.may_leave start wear records now freezes images received k had k.disk k.failed
+stopped_keeps g k only_now format start wear records now freezes images received had = (
+  on_disk g.seen g.may_leave format start wear records now freezes images received k had k.disk
+      k.failed
       Stage.Idle had.stop had.in_use (λ fine e is. idle_awaited e _ is)
       (λ fine v is. idle_laid v _ is),
-  still_kept g.seen g.may_leave start wear records now freezes images received k had g.moment
+  still_kept g.seen g.may_leave format start wear records now freezes images received k had g.moment
       g.left_since
       only_now,
 )
@@ -557,25 +579,28 @@ module _ {D : Type 0} (g : Ghosts D) (k l : KeeperState D)
   -- an end is held, or refused
   pub hold_keeps : (e : Ending) (r : Result (Unit {0}) Refusal) → HoldAnswers k e l r →
       HoldKeeps g e.end r k l
-  hold_keeps e r a start wear records now freezes images received groups carried begins behind over
+  hold_keeps e r a format start wear records now freezes images received groups carried begins
+      behind over
       had =
       held_or r a
     where
       Both : List ℕ → KeeperState D → Type 0
-      Both ps n = HasReceived g.seen g.may_leave start wear records now ps images received n
+      Both ps n = HasReceived g.seen g.may_leave format start wear records now ps images received n
           × LeavesKept g start records k n
 
       still : LeavesKept g start records k k
-      still = still_kept g.seen g.may_leave start wear records now freezes images received k had
+      still = still_kept g.seen g.may_leave format start wear records now freezes images received k
+          had
           g.moment g.left_since only_now
 
       held_or : (r : Result (Unit {0}) Refusal) → HoldAnswers k e l r →
           Both (held_with e.end freezes r) l
       held_or (Ok done) a =
-          let all = received_once g.seen g.may_leave start wear records now freezes images received
+          let all = received_once g.seen g.may_leave format start wear records now freezes images
+          received
           k had groups carried begins in
           subst (Both (e.end ∷ freezes)) (sym a.2) (
-            is_held g.seen g.may_leave start wear records now freezes images received k had e
+            is_held g.seen g.may_leave format start wear records now freezes images received k had e
                 (subst (λ gs. length (records_in gs) ≤ e.end) all behind) over,
             still,
           )
@@ -586,16 +611,19 @@ module _ {D : Type 0} (g : Ghosts D) (k l : KeeperState D)
   -- the image that is awaited begins, or is refused
   pub begin_keeps : (image : Image) → image.blocks.items ≢ [] → (r : Result (Unit {0}) Refusal) →
       BeginAnswers k image l r → BeginKeeps g image r k l
-  begin_keeps image some r a start wear records now freezes images received begun is_for stands
+  begin_keeps image some r a format start wear records now freezes images received begun is_for
+      stands
       had =
       begun_or r a
     where
       Both : List BegunImage → KeeperState D → Type 0
-      Both ims n = HasReceived g.seen g.may_leave start wear records now freezes ims received n
+      Both ims n = HasReceived g.seen g.may_leave format start wear records now freezes ims received
+          n
           × LeavesKept g start records k n
 
       still : LeavesKept g start records k k
-      still = still_kept g.seen g.may_leave start wear records now freezes images received k had
+      still = still_kept g.seen g.may_leave format start wear records now freezes images received k
+          had
           g.moment g.left_since only_now
 
       begun_or : (r : Result (Unit {0}) Refusal) → BeginAnswers k image l r →
@@ -603,30 +631,33 @@ module _ {D : Type 0} (g : Ghosts D) (k l : KeeperState D)
       begun_or (Ok done) a =
           let awaited = awaiting k.stage image a.1 in
           subst (Both (begun ∷ images)) (sym a.2.1.2) (
-            is_begun g.seen g.may_leave start wear records now freezes images received k had
+            is_begun g.seen g.may_leave format start wear records now freezes images received k had
                 awaited.0 a.0 awaited.1 image awaited.2 some begun is_for stands a.2.1.0 a.2.1.1,
             still,
           )
       begun_or (Err Refusal.Failed) a = subst (Both images) (sym a.1) (had, still)
       begun_or (Err Refusal.Full) a = subst (Both images) (sym a.3)
-          (stopped_keeps g k only_now start wear records now freezes images received had)
+          (stopped_keeps g k only_now format start wear records now freezes images received had)
       begun_or (Err e) a = subst (Both images) (sym a.2) (had, still)
 
-  module _ (start : List Collection) (wear : ℕ) (records : List Record) (now : State)
+  module _ (format : Format) (start : List Collection) (wear : ℕ) (records : List Record)
+      (now : State)
       (freezes : List ℕ) (images : List BegunImage) (received : List Block)
-      (had : HasReceived g.seen g.may_leave start wear records now freezes images received k) where
+      (had : HasReceived g.seen g.may_leave format start wear records now freezes images received
+      k) where
     abbrev Keeps : Type 0
-    Keeps = HasReceived g.seen g.may_leave start wear records now freezes images received l
+    Keeps = HasReceived g.seen g.may_leave format start wear records now freezes images received l
         × LeavesKept g start records k l
 
     -- the keeper is as it was
     same_keeper : l ≡ k → Keeps
     same_keeper same =
-        subst (λ (n : KeeperState D). HasReceived g.seen g.may_leave start wear records now freezes
+        subst (λ (n : KeeperState D). HasReceived g.seen g.may_leave format start wear records now
+        freezes
         images
         received n × LeavesKept g start records k n) (sym same) (
           had,
-          still_kept g.seen g.may_leave start wear records now freezes images received k had
+          still_kept g.seen g.may_leave format start wear records now freezes images received k had
               g.moment
               g.left_since only_now,
         )
@@ -636,9 +667,10 @@ module _ {D : Type 0} (g : Ghosts D) (k l : KeeperState D)
         l ≡ record k { disk = l.disk; failed = true; stage = stage } →
         LeavesKept g start records k l → Keeps
     failed_keeper stage same run = (
-      subst (HasReceived g.seen g.may_leave start wear records now freezes images received)
+      subst (HasReceived g.seen g.may_leave format start wear records now freezes images received)
           (sym same)
-          (on_disk g.seen g.may_leave start wear records now freezes images received k had l.disk
+          (on_disk g.seen g.may_leave format start wear records now freezes images received k had
+          l.disk
           true stage
           (leaves_now g.moment g.left_since k.disk l.disk (YieldsUpTo start records k.mark)
           (g.may_leave l.disk) run counts_now)
@@ -659,16 +691,20 @@ module _ {D : Type 0} (g : Ghosts D) (k l : KeeperState D)
           left_of v ≡ [] →
           LeavesKept g start records k l
       flip_run fine v is none =
-          flip_kept g.seen g.may_leave start wear records now freezes images received k had fine v
+          flip_kept g.seen g.may_leave format start wear records now freezes images received k had
+          fine v
           is
           g.moment g.left_since l.disk any_moment
           (any_moment_whole v
-          (bodies g.seen g.may_leave start wear records now freezes images received k had fine v is)
+          (bodies g.seen g.may_leave format start wear records now freezes images received k had
+          fine v is)
           is none
-          (bodies_some g.seen g.may_leave start wear records now freezes images received k had fine
+          (bodies_some g.seen g.may_leave format start wear records now freezes images received k
+          had fine
           v is)
           (had.imaging fine v is).laid
-          (rooted g.seen g.may_leave start wear records now freezes images received k had fine v
+          (rooted g.seen g.may_leave format start wear records now freezes images received k had
+          fine v
           is))
 
       flip_cases : Torn 512 1 (g.seen k.disk) (g.seen l.disk) → (is_risen : Type 0)
@@ -687,20 +723,24 @@ module _ {D : Type 0} (g : Ghosts D) (k l : KeeperState D)
           let same : l ≡ next = a.1.3.1 in
           let area_is : l.area ≡ v.area = ap (λ (x : KeeperState D). x.area) same in
           let bs : List (List ℕ) =
-          bodies g.seen g.may_leave start wear records now freezes images received k had fine v
+          bodies g.seen g.may_leave format start wear records now freezes images received k had fine
+          v
           is in
           let ready : IsReady g.seen g.may_leave v.area l.disk bs =
           subst (λ (x : Area). IsReady g.seen g.may_leave x l.disk bs) area_is
           (kept v bs is
-          (bodies_some g.seen g.may_leave start wear records now freezes images received k had fine
+          (bodies_some g.seen g.may_leave format start wear records now freezes images received k
+          had fine
           v is)
           (had.imaging fine v is).laid) in
           let there : base_in_use (size_of v.area) (g.seen l.disk) ≡ base_of v.area =
           subst (λ (x : Area). base_in_use (size_of x) (g.seen l.disk) ≡ base_of x) area_is picks
           in (
-            subst (HasReceived g.seen g.may_leave start wear records now freezes images received)
+            subst (HasReceived g.seen g.may_leave format start wear records now freezes images
+                received)
                 (sym same)
-                (is_flipped g.seen g.may_leave start wear records now freezes images received k had
+                (is_flipped g.seen g.may_leave format start wear records now freezes images received
+                k had
                 fine v
                 is l.disk m a.1.3.0 ready there rest root),
             flip_run fine v is a.1.2,
@@ -724,7 +764,8 @@ module _ {D : Type 0} (g : Ghosts D) (k l : KeeperState D)
       piece_run fine v is =
           weaker g.moment g.left_since k.disk l.disk (LeavesElsewhere (g.may_leave k.disk) v.area)
           (YieldsUpTo start records k.mark) (any_moment v is)
-          (piece_yields g.seen g.may_leave start wear records now freezes images received k had fine
+          (piece_yields g.seen g.may_leave format start wear records now freezes images received k
+          had fine
           v is)
 
       piece_cases : (is_risen : Type 0) (r : Result Bool Refusal) → PieceAnswers k is_risen l r →
@@ -740,7 +781,8 @@ module _ {D : Type 0} (g : Ghosts D) (k l : KeeperState D)
           let next : KeeperState D = record k { disk = l.disk; stage = Stage.Laid v } in
           let same : l ≡ next = a.1.4 in
           let bs : List (List ℕ) =
-          bodies g.seen g.may_leave start wear records now freezes images received k had fine u
+          bodies g.seen g.may_leave format start wear records now freezes images received k had fine
+          u
           is in
           let ready : IsReady g.seen g.may_leave k.area l.disk
           (map spelling (had.old ++ had.kept)) =
@@ -752,9 +794,11 @@ module _ {D : Type 0} (g : Ghosts D) (k l : KeeperState D)
           leaves_now g.moment g.left_since k.disk l.disk
           (LeavesElsewhere (g.may_leave k.disk) u.area) (g.may_leave l.disk) (any_moment u is)
           counts_now in (
-            subst (HasReceived g.seen g.may_leave start wear records now freezes images received)
+            subst (HasReceived g.seen g.may_leave format start wear records now freezes images
+                received)
                 (sym same)
-                (is_laid g.seen g.may_leave start wear records now freezes images received k had
+                (is_laid g.seen g.may_leave format start wear records now freezes images received k
+                had
                 fine u is
                 l.disk v a.1.3.same left (elsewhere u is) ready
                 (laid u v bs is (ap (λ (x : KeeperState D). x.stage) same)
@@ -780,10 +824,12 @@ module _ {D : Type 0} (g : Ghosts D) (k l : KeeperState D)
       OnOk r (IsReady g.seen g.may_leave l.area l.disk bodies)) →
       OnOk r (base_in_use (size_of l.area) (g.seen l.disk) ≡ base_of l.area) →
       OnOk r (IsAtRest g.seen g.may_leave l.disk) → ImageKeeps g k l
-  flip_keeps any_moment whole root is_risen r a kept picks rest start wear records now freezes
+  flip_keeps any_moment whole root is_risen r a kept picks rest format start wear records now
+      freezes
       images
       received had =
-      flip_cases start wear records now freezes images received had any_moment whole root is_risen r
+      flip_cases format start wear records now freezes images received had any_moment whole root
+      is_risen r
       a kept
       picks rest
 
@@ -797,9 +843,10 @@ module _ {D : Type 0} (g : Ghosts D) (k l : KeeperState D)
       (r : Result Bool Refusal) → PieceAnswers k is_risen l r →
       ((bodies : List (List ℕ)) → IsBeingLaid u (g.seen k.disk) bodies →
       OnOk r (IsBeingLaid v (g.seen l.disk) bodies)) → ImageKeeps g k l
-  piece_keeps u v is_u is_v any_moment elsewhere kept is_risen r a laid start wear records now
+  piece_keeps u v is_u is_v any_moment elsewhere kept is_risen r a laid format start wear records
+      now
       freezes images received had =
-      piece_cases start wear records now freezes images received had
+      piece_cases format start wear records now freezes images received had
       (λ w is. subst (λ (x : Laying). LeavesOnly g.moment g.left_since k.disk l.disk
       (LeavesElsewhere (g.may_leave k.disk) x.area)) (laid_same u w (sym is_u ∙ is)) any_moment)
       (λ w is. subst (λ (x : Laying). SameOutside (base_of x.area) (size_of x.area) (g.seen k.disk)
@@ -830,9 +877,9 @@ piece_ready g k w new held is elsewhere run counts_now bodies ready =
 pub image_still : {D : Type 0} (g : Ghosts D) (k : KeeperState D) →
     ((c : List ℕ) → g.left_since k.disk (g.moment k.disk) c → g.may_leave k.disk c) →
     ImageKeeps g k k
-image_still g k only_now start wear records now freezes images received had = (
+image_still g k only_now format start wear records now freezes images received had = (
   had,
-  still_kept g.seen g.may_leave start wear records now freezes images received k had g.moment
+  still_kept g.seen g.may_leave format start wear records now freezes images received k had g.moment
       g.left_since
       only_now,
 )

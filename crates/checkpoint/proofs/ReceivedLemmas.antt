@@ -5,6 +5,7 @@ use Rattle.std.specs.List.{AllByRecursion}
 use Rattle.std.proofs.lemmas.List.{append-nil}
 use Rattle.std.proofs.lemmas.List.Elements.{All-nil}
 use mathlib.Core.List.{IsPrefix}
+use Rattle.calls.specs.declared.format.Format.{Format}
 use Rattle.calls.specs.Contents.{Collection}
 use Rattle.disk_model.specs.Disk.{LeavesOnly}
 use Rattle.disk_model.proofs.Walk.{started}
@@ -39,9 +40,9 @@ use Rattle.blocks.proofs.Carrying.{joined-append, carries_append}
 use Rattle.checkpoint.proofs.GroupLemmas.{same_groups}
 
 module _ {D : Type 0} (seen : D → List ℕ) (may_leave : D → List ℕ → Type 0)
-    (start : List Collection) (wear : ℕ) (records : List Record) (now : State)
+    (format : Format) (start : List Collection) (wear : ℕ) (records : List Record) (now : State)
     (freezes : List ℕ) (images : List BegunImage) (received : List Block) (k : KeeperState D)
-    (had : HasReceived seen may_leave start wear records now freezes images received k) where
+    (had : HasReceived seen may_leave format start wear records now freezes images received k) where
   -- ---- what was received
 
   -- the blocks carry these groups
@@ -81,13 +82,14 @@ module _ {D : Type 0} (seen : D → List ℕ) (may_leave : D → List ℕ → Ty
   )
 
   -- what is in use yields what is known, also more than the mark tells
-  pub use_yields : IsInUse seen may_leave k.area k.disk (had.old ++ had.kept) → (m : ℕ) →
+  pub use_yields : IsInUse seen may_leave format k.area k.disk (had.old ++ had.kept) → (m : ℕ) →
       m ≤ places had.covered + places (records_in had.kept) → (c : List ℕ) → may_leave k.disk c →
       YieldsUpTo start records m c
   use_yields in_use m few c left =
-      row_yields start wear records now had.old had.covered had.stands had.good had.kept had.later
+      row_yields format start wear records now had.old had.covered had.stands had.good had.kept
+      had.later
       had.split k.area m c few
-      (head_headed k.area (seen k.disk) c (in_use.head.head_at_rest c left)
+      (head_headed format k.area (seen k.disk) c (in_use.head.head_at_rest c left)
       (in_use.head.same_size c left) in_use.head.headed)
       (subst (λ l. IsRow (map spelling (had.old ++ had.kept)) l)
       (sym (in_use.ready.at_rest c left)) in_use.ready.holds)
@@ -104,10 +106,10 @@ module _ {D : Type 0} (seen : D → List ℕ) (may_leave : D → List ℕ → Ty
 
   received_more : (more : List Record) (next : State) → AllByRecursion (IsRecord None) more →
       ((blocks : List (List Record)) (covered : List Record)
-      (old : StandIn start wear records now blocks covered) →
-      (new : StandIn start wear (records ++ more) next blocks covered) ×
+      (old : StandIn format start wear records now blocks covered) →
+      (new : StandIn format start wear (records ++ more) next blocks covered) ×
       (new.since ≡ old.since ++ more)) →
-      HasReceived seen may_leave start wear (records ++ more) next freezes images received k
+      HasReceived seen may_leave format start wear (records ++ more) next freezes images received k
   received_more more next good moves =
       let stands = moves had.old had.covered had.stands in
       record {
@@ -156,21 +158,23 @@ module _ {D : Type 0} (seen : D → List ℕ) (may_leave : D → List ℕ → Ty
 
   -- the book has taken a step with a record
   pub received_push : (r : Record) (next : State) → Steps now r next → IsRecord None r →
-      HasReceived seen may_leave start wear (records ++ r ∷ []) next freezes images received k
+      HasReceived seen may_leave format start wear (records ++ r ∷ []) next freezes images received
+      k
   received_push r next row good =
       received_more (r ∷ []) next (good, tt)
-      (λ blocks covered old. stands_push start wear records now blocks covered r next row old)
+      (λ blocks covered old. stands_push format start wear records now blocks covered r next row
+      old)
 
   -- it has taken one of which no record tells
   pub received_unheard : (next : State) → GoesUnheard now next →
-      HasReceived seen may_leave start wear records next freezes images received k
+      HasReceived seen may_leave format start wear records next freezes images received k
   received_unheard next step =
-      subst (λ rs. HasReceived seen may_leave start wear rs next freezes images received k)
+      subst (λ rs. HasReceived seen may_leave format start wear rs next freezes images received k)
       (append-nil records)
       (received_more [] next tt
       (λ blocks covered old.
-      let one = stands_unheard start wear records now blocks covered next step old in
-      let two = stands_as start wear records next blocks covered (records ++ [])
+      let one = stands_unheard format start wear records now blocks covered next step old in
+      let two = stands_as format start wear records next blocks covered (records ++ [])
       (sym (append-nil records)) one.0 in
       (two.0, two.1 ∙ one.1 ∙ sym (append-nil old.since))))
 
@@ -183,11 +187,12 @@ pub idle_awaited : (e : Ending) (A : Type 0) → Stage.Idle ≡ Stage.Awaited e 
 idle_awaited e A is = cc
 
 module _ {D : Type 0} (seen : D → List ℕ) (may_leave : D → List ℕ → Type 0)
-    (start : List Collection) (wear : ℕ) (blocks : List (List Record)) (k : KeeperState D)
-    (are_read : AreReadTo blocks (resting start wear)) (fresh : IsFresh k)
-    (in_use : IsInUse seen may_leave k.area k.disk blocks) where
+    (format : Format) (start : List Collection) (wear : ℕ) (blocks : List (List Record))
+    (k : KeeperState D)
+    (are_read : AreReadTo blocks (resting format start wear)) (fresh : IsFresh k)
+    (in_use : IsInUse seen may_leave format k.area k.disk blocks) where
   abbrev opened : State
-  opened = resting start wear
+  opened = resting format start wear
 
   none_more : blocks ++ [] ≡ blocks
   none_more = append-nil blocks
@@ -195,8 +200,8 @@ module _ {D : Type 0} (seen : D → List ℕ) (may_leave : D → List ℕ → Ty
   -- Nothing was received yet, whatever records there are.
   pub received_none : (records : List Record) (now : State) →
       AllByRecursion (IsRecord None) records →
-      (stands : StandIn start wear records now blocks []) → stands.since ≡ records →
-      HasReceived seen may_leave start wear records now [] [] [] k
+      (stands : StandIn format start wear records now blocks []) → stands.since ≡ records →
+      HasReceived seen may_leave format start wear records now [] [] [] k
   received_none records now good stands since = record {
     good = good;
     brought = [];
@@ -221,20 +226,24 @@ module _ {D : Type 0} (seen : D → List ℕ) (may_leave : D → List ℕ → Ty
     covers = fresh.covers_none;
     marked = omega (arith, fresh.unmarked);
     stop = λ c left.
-        row_yields start wear records now blocks [] stands good [] records since k.area k.mark c
+        row_yields format start wear records now blocks [] stands good [] records since k.area
+        k.mark c
         (omega (arith, fresh.unmarked))
-        (head_headed k.area (seen k.disk) c (in_use.head.head_at_rest c left)
+        (head_headed format k.area (seen k.disk) c (in_use.head.head_at_rest c left)
         (in_use.head.same_size c left) in_use.head.headed)
         (subst (λ l. IsRow (map spelling l) (bytes_of k.area c)) (sym none_more)
         (subst (λ l. IsRow (map spelling blocks) l) (sym (in_use.ready.at_rest c left))
         in_use.ready.holds));
-    in_use = λ fine. subst (λ bs. IsInUse seen may_leave k.area k.disk bs) (sym none_more) in_use;
+    in_use = λ fine. subst (λ bs. IsInUse seen may_leave format k.area k.disk bs) (sym none_more)
+        in_use;
     holding = λ fine e is. idle_awaited e _ (sym fresh.no_image ∙ is);
     imaging = λ fine l is. idle_laid l _ (sym fresh.no_image ∙ is);
   }
 
-  pub received_starts : HasReceived seen may_leave start wear [] opened [] [] [] k
+  pub received_starts : HasReceived seen may_leave format start wear [] opened [] [] [] k
   received_starts =
-      let whole = stands_whole start wear [] opened blocks opened refl (lags_self opened) opened
+      let whole = stands_whole format start wear [] opened blocks opened refl (lags_self opened)
+      refl
+      opened
       are_read (lags_self opened) in
       received_none [] opened tt whole.0 whole.1

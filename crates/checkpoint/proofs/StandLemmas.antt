@@ -2,6 +2,7 @@
 use Rattle.std.proofs.Common.{◌≡◌, ℕ, ◌≤◌, List, [], ◌∷◌, ◌++◌, length, refl, sym, ◌∙◌, ap, subst}
 use Rattle.std.proofs.Common.{arith, append_assoc, inl, inr, ◌⊎◌, ⊎_elim}
 use Rattle.std.proofs.lemmas.List.{append-nil}
+use Rattle.calls.specs.declared.format.Format.{Format}
 use Rattle.calls.specs.Contents.{Collection}
 use Rattle.machine.specs.Machines.{resting}
 use Rattle.machine.proofs.Journalled.{GoesUnheard}
@@ -9,6 +10,7 @@ use Rattle.record_format.specs.declared.record.Record.{Record}
 use Rattle.repetition.specs.Steps.{State, Steps, Repeats}
 use Rattle.repetition.specs.Lagging.{Lags}
 use Rattle.repetition.proofs.Lists.{leads_push}
+use Rattle.repetition.proofs.OneFormat.{step_format}
 use Rattle.checkpoint.specs.Stored.{IsLevel, GoAlong, AreReadTo, StandIn}
 use Rattle.repetition.proofs.LagLemmas.{lags_step, lags_unheard, lags_calls}
 
@@ -77,13 +79,15 @@ along_push rs r s t u v along left right level first rest is =
     ))
     (begins_push rs r first rest is)
 
-module _ (start : List Collection) (wear : ℕ) (rs : List Record) (now : State)
+module _ (format : Format) (start : List Collection) (wear : ℕ) (rs : List Record) (now : State)
     (blocks : List (List Record)) (covered : List Record) where
   -- a past with the same records
-  pub stands_as : (ss : List Record) → rs ≡ ss → (old : StandIn start wear rs now blocks covered) →
-      (new : StandIn start wear ss now blocks covered) × (new.since ≡ old.since)
+  pub stands_as : (ss : List Record) → rs ≡ ss →
+      (old : StandIn format start wear rs now blocks covered) →
+      (new : StandIn format start wear ss now blocks covered) × (new.since ≡ old.since)
   stands_as ss same old = (
     record {
+      of_book = old.of_book;
       since = old.since;
       split = sym same ∙ old.split;
       there = old.there;
@@ -103,10 +107,11 @@ module _ (start : List Collection) (wear : ℕ) (rs : List Record) (now : State)
 
   -- a step of which no record tells
   pub stands_unheard : (next : State) → GoesUnheard now next →
-      (old : StandIn start wear rs now blocks covered) →
-      (new : StandIn start wear rs next blocks covered) × (new.since ≡ old.since)
+      (old : StandIn format start wear rs now blocks covered) →
+      (new : StandIn format start wear rs next blocks covered) × (new.since ≡ old.since)
   stands_unheard next step old = (
     record {
+      of_book = ap (λ (v : State). v.format) step.is ∙ old.of_book;
       since = old.since;
       split = old.split;
       there = old.there;
@@ -126,8 +131,8 @@ module _ (start : List Collection) (wear : ℕ) (rs : List Record) (now : State)
 
   -- a record more
   pub stands_push : (r : Record) (next : State) → Steps now r next →
-      (old : StandIn start wear rs now blocks covered) →
-      (new : StandIn start wear (rs ++ r ∷ []) next blocks covered) ×
+      (old : StandIn format start wear rs now blocks covered) →
+      (new : StandIn format start wear (rs ++ r ∷ []) next blocks covered) ×
       (new.since ≡ old.since ++ r ∷ [])
   stands_push r next row old =
       let trail = lags_step old.trail now old.trails r next row in
@@ -137,6 +142,7 @@ module _ (start : List Collection) (wear : ℕ) (rs : List Record) (now : State)
       let repeats : Repeats (old.since ++ r ∷ []) old.base state.0 =
       leads_push Steps old.since r old.base old.state state.0 old.repeats state.1 in (
         record {
+          of_book = step_format r now next row ∙ old.of_book;
           since = old.since ++ r ∷ [];
           split = ap (λ l. l ++ r ∷ []) old.split ∙ append_assoc covered old.since (r ∷ []);
           there = old.there;
@@ -156,12 +162,14 @@ module _ (start : List Collection) (wear : ℕ) (rs : List Record) (now : State)
       )
 
 -- Blocks that are read up to a state that lags behind the book's stand for all records of its past.
-pub stands_whole : (start : List Collection) (wear : ℕ) (rs : List Record) (now : State)
-    (blocks : List (List Record)) (trail : State) → Repeats rs (resting start wear) trail →
-    Lags trail now → (base : State) → AreReadTo blocks base → Lags base now →
-    (stands : StandIn start wear rs now blocks rs) × (stands.since ≡ [])
-stands_whole start wear rs now blocks trail leads trails base are_read lags = (
+pub stands_whole : (format : Format) (start : List Collection) (wear : ℕ) (rs : List Record)
+    (now : State)
+    (blocks : List (List Record)) (trail : State) → Repeats rs (resting format start wear) trail →
+    Lags trail now → now.format ≡ format → (base : State) → AreReadTo blocks base → Lags base now →
+    (stands : StandIn format start wear rs now blocks rs) × (stands.since ≡ [])
+stands_whole format start wear rs now blocks trail leads trails of_book base are_read lags = (
   record {
+    of_book = of_book;
     since = [];
     split = sym (append-nil rs);
     there = trail;

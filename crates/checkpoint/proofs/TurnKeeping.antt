@@ -9,6 +9,7 @@ use Rattle.std.proofs.lemmas.List.Elements.{All-contains}
 use Rattle.std.proofs.lemmas.List.{map-append, append-nil}
 use mathlib.Core.List.{IsPrefix}
 use Rattle.calls.specs.declared.refusal.Refusal.{Refusal}
+use Rattle.calls.specs.declared.format.Format.{Format}
 use Rattle.calls.specs.Contents.{Collection}
 use Rattle.disk_model.specs.Disk.{LeavesOnly}
 use Rattle.disk_model.specs.declared.disk.Disk.{Ghosts}
@@ -67,9 +68,9 @@ all_stored front covered kept reaches even below =
 -- ---- a block is received, and held
 
 module _ {D : Type 0} (seen : D → List ℕ) (may_leave : D → List ℕ → Type 0)
-    (start : List Collection) (wear : ℕ) (records : List Record) (now : State)
+    (format : Format) (start : List Collection) (wear : ℕ) (records : List Record) (now : State)
     (freezes : List ℕ) (images : List BegunImage) (received : List Block) (k : KeeperState D)
-    (had : HasReceived seen may_leave start wear records now freezes images received k)
+    (had : HasReceived seen may_leave format start wear records now freezes images received k)
     (none : k.held ≡ None) (b : Block) (groups : List (List Record))
     (carried : Carries 0 0 (received ++ b ∷ []) groups)
     (begins : IsPrefix (records_in groups) records) (uncrossed : Uncrossed freezes groups) where
@@ -91,16 +92,17 @@ module _ {D : Type 0} (seen : D → List ℕ) (may_leave : D → List ℕ → Ty
       sym (append_assoc (records_in apart.0) (records_in apart.1) begins.0) ∙
       ap (λ l. l ++ begins.0) (sym (joined-append apart.0 apart.1)) ∙
       ap (λ g. records_in g ++ begins.0) (sym apart.2) ∙ begins.1 ∙
-      all_begin seen may_leave start wear records now freezes images received k had in
+      all_begin seen may_leave format start wear records now freezes images received k had in
       (same_groups 0 0 received apart.0 (had.groups ++ had.last) (records_in apart.1 ++ begins.0)
       had.rest apart.3
-      (all_carried seen may_leave start wear records now freezes images received k had) split).0 ∙
+      (all_carried seen may_leave format start wear records now freezes images received k had)
+      split).0 ∙
       ap (λ l. had.groups ++ l) last_none ∙ append-nil had.groups
 
   groups_are : groups ≡ had.groups ++ apart.1
   groups_are = apart.2 ∙ ap (λ l. l ++ apart.1) first_is
 
-  pub received_one : HasReceived seen may_leave start wear records now freezes images
+  pub received_one : HasReceived seen may_leave format start wear records now freezes images
       (received ++ b ∷ [])
       (record k { held = Some b })
   received_one = record {
@@ -142,10 +144,10 @@ module _ {D : Type 0} (seen : D → List ℕ) (may_leave : D → List ℕ → Ty
 -- ---- the held block is brought
 
 module _ {D : Type 0} (seen : D → List ℕ) (may_leave : D → List ℕ → Type 0)
-    (start : List Collection) (wear : ℕ) (records : List Record) (now : State)
+    (format : Format) (start : List Collection) (wear : ℕ) (records : List Record) (now : State)
     (freezes : List ℕ) (images : List BegunImage) (received : List Block) (k : KeeperState D)
     (b : Block)
-    (had : HasReceived seen may_leave start wear records now freezes images received
+    (had : HasReceived seen may_leave format start wear records now freezes images received
     (record k { held = Some b })) where
   abbrev front : List Record
   front = records_in had.groups
@@ -198,13 +200,13 @@ module _ {D : Type 0} (seen : D → List ℕ) (may_leave : D → List ℕ → Ty
       kept ≡ []) → mark ≤ places had.covered + places (records_in kept) →
       ((c : List ℕ) → may_leave disk c →
       YieldsUpTo start records mark c) →
-      (fails ≡ false → IsInUse seen may_leave area disk (had.old ++ kept)) →
+      (fails ≡ false → IsInUse seen may_leave format area disk (had.old ++ kept)) →
       (fails ≡ false → (e : Ending) → k.stage ≡ Stage.Awaited e →
       IsHolding freezes (length had.covered + length (records_in kept)) e) →
       (fails ≡ false → (l : Laying) → k.stage ≡ Stage.Laid l →
-      IsImaging seen start wear records now images disk area
+      IsImaging seen format start wear records now images disk area
       (length had.covered + length (records_in kept)) l) →
-      HasReceived seen may_leave start wear records now freezes images received
+      HasReceived seen may_leave format start wear records now freezes images received
       (record k { disk = disk; area = area; mark = mark; held = None; failed = fails })
   is_brought disk area mark fails kept later split reaches even marked stop in_use holding imaging =
       record {
@@ -238,7 +240,7 @@ module _ {D : Type 0} (seen : D → List ℕ) (may_leave : D → List ℕ → Ty
 
   -- a block that the image covers is let go
   let_go : k.failed ≡ false → b.end ≤ k.covered → (mark : ℕ) → mark ≡ max k.mark b.place →
-      HasReceived seen may_leave start wear records now freezes images received
+      HasReceived seen may_leave format start wear records now freezes images received
       (record k { held = None; mark = mark })
   let_go fine ends mark mark_is =
       let below : length (records_in groups_now) ≤ length had.covered =
@@ -259,7 +261,7 @@ module _ {D : Type 0} (seen : D → List ℕ) (may_leave : D → List ℕ → Ty
       ) in
       is_brought k.disk k.area mark k.failed had.kept had.later had.split
       (omega (arith, below)) (λ less. none) few
-      (use_yields seen may_leave start wear records now freezes images received
+      (use_yields seen may_leave format start wear records now freezes images received
       (record k { held = Some b }) had (had.in_use fine) mark few) had.in_use had.holding
       had.imaging
 
@@ -337,15 +339,15 @@ module _ {D : Type 0} (seen : D → List ℕ) (may_leave : D → List ℕ → Ty
         map-append spelling (had.old ++ had.kept) (rs ∷ [])
 
     -- the blocks with that one behind them yield what it commits
-    more_yields : (area : Area) (m : ℕ) (c : List ℕ) → m ≤ b.place → IsHeaded area c →
+    more_yields : (area : Area) (m : ℕ) (c : List ℕ) → m ≤ b.place → IsHeaded format area c →
         IsRow (map spelling (had.old ++ had.kept) ++ spelling rs ∷ []) (bytes_of area c) →
         YieldsUpTo start records m c
     more_yields area m c few headed row =
-        row_yields start wear records now had.old had.covered had.stands had.good
+        row_yields format start wear records now had.old had.covered had.stands had.good
         (had.kept ++ rs ∷ []) had.rest split_now area m c (omega (arith, few, places_now)) headed
         (subst (λ l. IsRow l (bytes_of area c)) (sym bodies_are) row)
 
-    module _ (in_use : IsInUse seen may_leave k.area k.disk (had.old ++ had.kept)) where
+    module _ (in_use : IsInUse seen may_leave format k.area k.disk (had.old ++ had.kept)) where
       abbrev Moment : List ℕ → Type 0
       Moment c = LeavesBlocks (may_leave k.disk) k.area (map spelling (had.old ++ had.kept))
           (spelling rs) c
@@ -354,21 +356,21 @@ module _ {D : Type 0} (seen : D → List ℕ) (may_leave : D → List ℕ → Ty
       moment_head : (c : List ℕ) → Moment c → take 4096 c ≡ take 4096 (seen k.disk)
       moment_head c leaves =
           let d = leaves.elsewhere.0 in
-          outside_head k.area d c (lies_behind k.area (seen k.disk) in_use.head.headed)
+          outside_head k.area d c (lies_behind format k.area (seen k.disk) in_use.head.headed)
           leaves.elsewhere.2 ∙ in_use.head.head_at_rest d leaves.elsewhere.1
 
       moment_size : (c : List ℕ) → Moment c → length c ≡ length (seen k.disk)
       moment_size c leaves = leaves.elsewhere.2.same_size ∙
           in_use.head.same_size leaves.elsewhere.0 leaves.elsewhere.1
 
-      moment_headed : (c : List ℕ) → Moment c → IsHeaded k.area c
-      moment_headed c leaves = head_headed k.area (seen k.disk) c (moment_head c leaves)
+      moment_headed : (c : List ℕ) → Moment c → IsHeaded format k.area c
+      moment_headed c leaves = head_headed format k.area (seen k.disk) c (moment_head c leaves)
           (moment_size c leaves) in_use.head.headed
 
       moment_yields : (c : List ℕ) → Moment c → YieldsUpTo start records k.mark c
       moment_yields c leaves =
           ⊎_elim
-          (row_yields start wear records now had.old had.covered had.stands had.good had.kept
+          (row_yields format start wear records now had.old had.covered had.stands had.good had.kept
           had.later had.split k.area k.mark c had.marked (moment_headed c leaves))
           (more_yields k.area k.mark c mark_below (moment_headed c leaves))
           leaves.blocks
@@ -383,21 +385,23 @@ module _ {D : Type 0} (seen : D → List ℕ) (may_leave : D → List ℕ → Ty
           (not_past : ¬ IsPast k.stage b.end) (fine : k.failed ≡ false) where
         head_now : take 4096 (seen disk) ≡ take 4096 (seen k.disk)
         head_now = outside_head k.area (seen k.disk) (seen disk)
-            (lies_behind k.area (seen k.disk) in_use.head.headed) elsewhere
+            (lies_behind format k.area (seen k.disk) in_use.head.headed) elsewhere
 
         -- the area is at the same place
-        area_headed : (c : List ℕ) → IsHeaded k.area c → IsHeaded area c
+        area_headed : (c : List ℕ) → IsHeaded format k.area c → IsHeaded format area c
         area_headed c headed = record {
-          header = subst (λ n. IsHeader n c) (sym size_same)
+          version = headed.version;
+          allowed = headed.allowed;
+          header = subst (λ n. IsHeader headed.version n c) (sym size_same)
               headed.header;
           picks = ap (λ n. base_in_use n c) size_same ∙ headed.picks ∙
               sym base_same;
         }
 
-        has_head : HasHead seen may_leave area disk
+        has_head : HasHead seen may_leave format area disk
         has_head = record {
           headed = area_headed (seen disk)
-              (head_headed k.area (seen k.disk) (seen disk) head_now size_kept
+              (head_headed format k.area (seen k.disk) (seen disk) head_now size_kept
               in_use.head.headed);
           head_at_rest = λ c now. moment_head c (left c now) ∙ sym head_now;
           same_size = λ c now. moment_size c (left c now) ∙ sym size_kept;
@@ -421,7 +425,7 @@ module _ {D : Type 0} (seen : D → List ℕ) (may_leave : D → List ℕ → Ty
             ⊥ = subst (λ i. IsPast i b.end → ⊥) is not_past in omega (arith, within)
 
         imaging : (l : Laying) → k.stage ≡ Stage.Laid l →
-            IsImaging seen start wear records now images disk area
+            IsImaging seen format start wear records now images disk area
             (length had.covered + length (records_in (had.kept ++ rs ∷ []))) l
         imaging l is =
             let was = had.imaging fine l is in record {
@@ -448,9 +452,9 @@ module _ {D : Type 0} (seen : D → List ℕ) (may_leave : D → List ℕ → Ty
         appended : (fails : Bool) (mark : ℕ) → mark ≤ b.place →
             ((c : List ℕ) → may_leave disk c →
             YieldsUpTo start records mark c) →
-            (fails ≡ false → IsInUse seen may_leave area disk
+            (fails ≡ false → IsInUse seen may_leave format area disk
             (had.old ++ (had.kept ++ rs ∷ []))) →
-            HasReceived seen may_leave start wear records now freezes images received
+            HasReceived seen may_leave format start wear records now freezes images received
             (record k { disk = disk; area = area; mark = mark; held = None; failed = fails })
         appended fails mark few stop used =
             is_brought disk area mark fails (had.kept ++ rs ∷ []) had.rest split_now
@@ -460,7 +464,7 @@ module _ {D : Type 0} (seen : D → List ℕ) (may_leave : D → List ℕ → Ty
         is_kept : (mark : ℕ) → mark ≡ max k.mark b.place →
             IsReady seen may_leave area disk
             (map spelling (had.old ++ had.kept) ++ spelling rs ∷ []) →
-            HasReceived seen may_leave start wear records now freezes images received
+            HasReceived seen may_leave format start wear records now freezes images received
             (record k { disk = disk; area = area; mark = mark; held = None; failed = false })
         is_kept mark mark_is ready =
             let few : mark ≤ b.place = omega (arith, mark_is, mark_below) in
@@ -476,7 +480,8 @@ module _ {D : Type 0} (seen : D → List ℕ) (may_leave : D → List ℕ → Ty
             })
 
         -- the disk failed
-        is_faulted : HasReceived seen may_leave start wear records now freezes images received
+        is_faulted : HasReceived seen may_leave format start wear records now freezes images
+            received
             (record k { disk = disk; area = area; held = None; failed = true })
         is_faulted = appended true k.mark mark_below (λ c now. moment_yields c (left c now))
             (λ f. absurd (true≢false f))
@@ -505,14 +510,15 @@ pub record Brings {D : Type 0} (g : Ghosts D) (k : KeeperState D) (b : Block)
   pub counts_now : (t : ℕ) (c : List ℕ) → t ≤ g.moment l.disk → g.may_leave l.disk c →
       g.left_since l.disk t c
 
-module _ {D : Type 0} (g : Ghosts D) (start : List Collection) (wear : ℕ) (records : List Record)
+module _ {D : Type 0} (g : Ghosts D) (format : Format) (start : List Collection) (wear : ℕ)
+    (records : List Record)
     (now : State) (freezes : List ℕ) (images : List BegunImage) (received : List Block)
     (k l : KeeperState D)
     (b : Block)
-    (had : HasReceived g.seen g.may_leave start wear records now freezes images received
+    (had : HasReceived g.seen g.may_leave format start wear records now freezes images received
     (record k { held = Some b })) where
   abbrev Both : KeeperState D → Type 0
-  Both n = HasReceived g.seen g.may_leave start wear records now freezes images received n
+  Both n = HasReceived g.seen g.may_leave format start wear records now freezes images received n
       × LeavesKept g start records k n
 
   -- the keeper is this one
@@ -533,7 +539,7 @@ module _ {D : Type 0} (g : Ghosts D) (start : List Collection) (wear : ℕ) (rec
     -- no device was called
     settled : (held : Option Block) (mark : ℕ) → (l.area ≡ k.area) × (l.disk ≡ k.disk) →
         l.held ≡ held → l.mark ≡ mark → l.failed ≡ false →
-        HasReceived g.seen g.may_leave start wear records now freezes images received
+        HasReceived g.seen g.may_leave format start wear records now freezes images received
         (record k { held = held; mark = mark }) → Both l
     settled held mark same held_is mark_is fails has =
         let n : KeeperState D = record k { held = held; mark = mark } in
@@ -541,7 +547,7 @@ module _ {D : Type 0} (g : Ghosts D) (start : List Collection) (wear : ℕ) (rec
         brings.covered brings.stage in
         subst Both (sym is) (
           has,
-          still_kept g.seen g.may_leave start wear records now freezes images received
+          still_kept g.seen g.may_leave format start wear records now freezes images received
               (record k { held = Some b }) had g.moment g.left_since brings.only_now,
         )
 
@@ -550,13 +556,14 @@ module _ {D : Type 0} (g : Ghosts D) (start : List Collection) (wear : ℕ) (rec
       late = omega (arith, not_covered)
 
       abbrev group : List Record
-      group = rs g.seen g.may_leave start wear records now freezes images received k b had
+      group = rs g.seen g.may_leave format start wear records now freezes images received k b had
 
-      in_use : IsInUse g.seen g.may_leave k.area k.disk (had.old ++ had.kept)
+      in_use : IsInUse g.seen g.may_leave format k.area k.disk (had.old ++ had.kept)
       in_use = had.in_use fine
 
       block_is : IsBlockOf (spelling group) b.bytes.items
-      block_is = (carries g.seen g.may_leave start wear records now freezes images received k b
+      block_is = (carries g.seen g.may_leave format start wear records now freezes images received k
+          b
           had).block
 
       run : LeavesOnly g.moment g.left_since k.disk l.disk
@@ -574,7 +581,8 @@ module _ {D : Type 0} (g : Ghosts D) (start : List Collection) (wear : ℕ) (rec
 
       each_moment : LeavesKept g start records k l
       each_moment = weaker g.moment g.left_since k.disk l.disk _ _ run
-          (moment_yields g.seen g.may_leave start wear records now freezes images received k b had
+          (moment_yields g.seen g.may_leave format start wear records now freezes images received k
+          b had
           late
           in_use)
 
@@ -592,9 +600,11 @@ module _ {D : Type 0} (g : Ghosts D) (start : List Collection) (wear : ℕ) (rec
           { disk = l.disk; area = l.area; mark = mark; held = None; failed = false } in
           let is : l ≡ n = keeper_is n refl refl marked none fails brings.covered brings.stage
           in (
-            subst (HasReceived g.seen g.may_leave start wear records now freezes images received)
+            subst (HasReceived g.seen g.may_leave format start wear records now freezes images
+                received)
                 (sym is)
-                (is_kept g.seen g.may_leave start wear records now freezes images received k b had
+                (is_kept g.seen g.may_leave format start wear records now freezes images received k
+                b had
                 late
                 in_use l.disk l.area brings.base brings.size brings.elsewhere.same_size
                 brings.elsewhere brings.laid left not_past fine mark mark_is ready),
@@ -607,9 +617,11 @@ module _ {D : Type 0} (g : Ghosts D) (start : List Collection) (wear : ℕ) (rec
           { disk = l.disk; area = l.area; held = None; failed = true } in
           let is : l ≡ n = keeper_is n refl refl marked none fails brings.covered brings.stage
           in (
-            subst (HasReceived g.seen g.may_leave start wear records now freezes images received)
+            subst (HasReceived g.seen g.may_leave format start wear records now freezes images
+                received)
                 (sym is)
-                (is_faulted g.seen g.may_leave start wear records now freezes images received k b
+                (is_faulted g.seen g.may_leave format start wear records now freezes images received
+                k b
                 had
                 late in_use l.disk l.area brings.base brings.size brings.elsewhere.same_size
                 brings.elsewhere brings.laid left not_past fine),
@@ -627,7 +639,7 @@ module _ {D : Type 0} (g : Ghosts D) (start : List Collection) (wear : ℕ) (rec
       ⊎_elim
       (λ covered.
       settled fine (Ok (Turn.Kept place)) brings None place covered.1 covered.4 covered.3 covered.5
-      (let_go g.seen g.may_leave start wear records now freezes images received k b had fine
+      (let_go g.seen g.may_leave format start wear records now freezes images received k b had fine
       covered.0
       place covered.2))
       (λ brought.
@@ -652,48 +664,56 @@ module _ {D : Type 0} (g : Ghosts D) (receives : List Block → Type 0)
   pub turn_still : receives [] →
       ((c : List ℕ) → g.left_since k.disk (g.moment k.disk) c → g.may_leave k.disk c) →
       TurnKeeps g receives k k
-  turn_still none only_now start wear records now freezes images received more groups these carried
+  turn_still none only_now format start wear records now freezes images received more groups these
+      carried
       begins
       uncrossed had =
       let is : received ++ more ≡ received =
       ap (λ l. received ++ l) (one_list more [] these none) ∙ append-nil received in (
-        subst (λ bs. HasReceived g.seen g.may_leave start wear records now freezes images bs k)
+        subst (λ bs. HasReceived g.seen g.may_leave format start wear records now freezes images bs
+            k)
             (sym is)
             had,
-        still_kept g.seen g.may_leave start wear records now freezes images received k had g.moment
+        still_kept g.seen g.may_leave format start wear records now freezes images received k had
+            g.moment
             g.left_since only_now,
       )
 
   -- the held block, or the one that was received, with all that was received
-  taken : (start : List Collection) (wear : ℕ) (records : List Record) (now : State)
+  taken : (format : Format) (start : List Collection) (wear : ℕ) (records : List Record)
+      (now : State)
       (freezes : List ℕ) (images : List BegunImage) (received more : List Block)
       (groups : List (List Record))
       (b : Block) (held : Option Block) → k.held ≡ held → IsBrought held receives b →
       receives more → Carries 0 0 (received ++ more) groups →
       IsPrefix (records_in groups) records → Uncrossed freezes groups →
-      HasReceived g.seen g.may_leave start wear records now freezes images received k →
-      HasReceived g.seen g.may_leave start wear records now freezes images (received ++ more)
+      HasReceived g.seen g.may_leave format start wear records now freezes images received k →
+      HasReceived g.seen g.may_leave format start wear records now freezes images (received ++ more)
       (record k { held = Some b })
-  taken start wear records now freezes images received more groups b None held_is brought these
+  taken format start wear records now freezes images received more groups b None held_is brought
+      these
       carried
       begins uncrossed had =
       let is : more ≡ b ∷ [] = one_list more (b ∷ []) these brought in
-      subst (λ l. HasReceived g.seen g.may_leave start wear records now freezes images
+      subst (λ l. HasReceived g.seen g.may_leave format start wear records now freezes images
       (received ++ l)
       (record k { held = Some b })) (sym is)
-      (received_one g.seen g.may_leave start wear records now freezes images received k had held_is
+      (received_one g.seen g.may_leave format start wear records now freezes images received k had
+      held_is
       b
       groups (subst (λ l. Carries 0 0 (received ++ l) groups) is carried) begins uncrossed)
-  taken start wear records now freezes images received more groups b (Some h) held_is brought these
+  taken format start wear records now freezes images received more groups b (Some h) held_is brought
+      these
       carried
       begins uncrossed had =
       let is : received ≡ received ++ more =
       sym (ap (λ l. received ++ l) (one_list more [] these brought.1) ∙ append-nil received) in
       let same : k ≡ record k { held = Some b } =
       λ i. record k { held = (held_is ∙ ap Some (sym brought.0)) i } in
-      subst (λ bs. HasReceived g.seen g.may_leave start wear records now freezes images bs
+      subst (λ bs. HasReceived g.seen g.may_leave format start wear records now freezes images bs
       (record k { held = Some b })) is
-      (subst (HasReceived g.seen g.may_leave start wear records now freezes images received) same
+      (subst (HasReceived g.seen g.may_leave format start wear records now freezes images received)
+      same
       had)
 
   pub turn_brings : (b : Block) (l : KeeperState D) (is_full is_risen : Type 0) →
@@ -702,10 +722,12 @@ module _ {D : Type 0} (g : Ghosts D) (receives : List Block → Type 0)
       BringAnswers b k.mark (b.end ≤ k.covered) (IsPast k.stage b.end) is_full
       ((l.area ≡ k.area) × (l.disk ≡ k.disk)) is_risen r l.held l.mark l.failed →
       TurnKeeps g receives k l
-  turn_brings b l is_full is_risen fine brought r brings answer start wear records now freezes
+  turn_brings b l is_full is_risen fine brought r brings answer format start wear records now
+      freezes
       images
       received more groups these carried begins uncrossed had =
-      brings_on g start wear records now freezes images (received ++ more) k l b
-      (taken start wear records now freezes images received more groups b k.held refl brought these
+      brings_on g format start wear records now freezes images (received ++ more) k l b
+      (taken format start wear records now freezes images received more groups b k.held refl brought
+      these
       carried
       begins uncrossed had) is_full is_risen fine r brings answer

@@ -4,6 +4,8 @@ use Rattle.std.proofs.Common.{append_assoc, length-append, refl, sym, ◌∙◌,
 use Rattle.std.proofs.lemmas.List.{take-append-le, take-append-drop}
 use Rattle.std.specs.List.{AllByRecursion}
 use mathlib.Core.List.{IsPrefix}
+use Rattle.calls.specs.declared.format.Format.{Format}
+use Rattle.calls.specs.Formats.{Allows}
 use Rattle.calls.specs.Contents.{Collection}
 use Rattle.calls.specs.Transactions.{Transaction, Serial, committed, committed_after, Entry}
 use Rattle.calls.specs.Transactions.{Leads, calls_of}
@@ -23,11 +25,12 @@ use Rattle.machine.proofs.NamedContents.{serial_told}
 use Rattle.blocks.proofs.Places.{places_append}
 use Rattle.repetition.specs.Steps.{State, Steps, Repeats}
 use Rattle.repetition.specs.Reading.{Unread, InJournal, Reads, AreAccepted, IsSound, last_named}
-use Rattle.repetition.specs.Journals.{Holds, AreSpelt, records_in, StandsFor}
+use Rattle.repetition.specs.Journals.{Holds, records_in, StandsFor}
 use Rattle.repetition.proofs.Lists.{leads_append, flat_map-append}
 use Rattle.boosted.proofs.Each.{each_front, each_back}
 use Rattle.repetition.proofs.CatalogLaws.{laws}
-use Rattle.repetition.proofs.Grammar.{records_spelt}
+use Rattle.repetition.proofs.Formats.{allows_then}
+use Rattle.repetition.proofs.OneFormat.{repeats_format, accepted_on, accepted_holds}
 use Rattle.repetition.proofs.RepeatLemmas.{records_append, read_records}
 use Rattle.repetition.proofs.Parts.{IsParts, journal_reads}
 use Rattle.repetition.proofs.Contents as image
@@ -104,12 +107,12 @@ abbrev Comes : List (ℕ × Entry) → List Record → List Collection → State
 Comes es rs start t = played.IsPlayed catalog_meaning catalog_making laws.rules es (acts_of rs)
     start t
 
-module _ (start : List Collection) (wear : ℕ) (rs : List Record) (t : State)
-    (run : Repeats rs (resting start wear) t) where
+module _ (format : Format) (start : List Collection) (wear : ℕ) (rs : List Record) (t : State)
+    (run : Repeats rs (resting format start wear) t) where
   abbrev comes : (es : List (ℕ × Entry)) → Comes es rs start t
   comes es = played.all_repeated catalog_meaning catalog_making laws.rules rs es
-      (resting start wear) t start
-      (steps.opened_sound catalog_meaning catalog_making laws.rules start wear)
+      (resting format start wear) t start
+      (steps.opened_sound catalog_meaning catalog_making laws.rules format start wear)
       (λ n running. absurd (nobody n running.live)) refl run
 
   told : (es : List (ℕ × Entry)) → Serial (committed_after es (acts_of rs)) start (comes es).content
@@ -125,17 +128,6 @@ module _ (start : List Collection) (wear : ℕ) (rs : List Record) (t : State)
       (steps.settles_once catalog_meaning catalog_making laws.rules t (comes es).content content
       (comes es).sound (comes es).settled (comes []).settled) (told es)
 
--- the bytes hold the blocks of a row in the area that the head picks
-holds_row : (area : Area) (blocks : List (List Record)) (c : List ℕ) → IsHeaded area c →
-    IsRow (map spelling blocks) (bytes_of area c) → AreSpelt None (records_in blocks) →
-    Holds c blocks
-holds_row area blocks c headed row spelt = record {
-  size = size_of area;
-  header = headed.header;
-  row = subst (λ b. IsRow (map spelling blocks) (part b (size_of area) c)) (sym headed.picks) row;
-  spelt = spelt;
-}
-
 -- where two states are level, they settle at the same contents
 level_settles : (u v : State) → IsLevel u v → (c : List Collection) →
     IsSettled catalog_meaning u c → IsSettled catalog_meaning v c
@@ -144,9 +136,9 @@ level_settles u v level c settled =
     (subst (Leads (Does catalog_meaning) (calls_of (map (λ e. e.1) u.entries)) c) level.now
     settled)
 
-module _ (start : List Collection) (wear : ℕ) (all : List Record) (end : State)
+module _ (format : Format) (start : List Collection) (wear : ℕ) (all : List Record) (end : State)
     (blocks : List (List Record)) (covered : List Record)
-    (stands : StandIn start wear all end blocks covered)
+    (stands : StandIn format start wear all end blocks covered)
     (good : AllByRecursion (IsRecord None) all) (kept : List (List Record))
     (later : List Record) (split : stands.since ≡ records_in kept ++ later) where
   -- where the kept records lead, from the start and from what the blocks are read up to
@@ -157,16 +149,19 @@ module _ (start : List Collection) (wear : ℕ) (all : List Record) (end : State
   abbrev stored : List Record
   stored = covered ++ records_in kept
 
-  from_start : Repeats stored (resting start wear) mid.0
-  from_start = leads_append Steps covered (records_in kept) (resting start wear) stands.there mid.0
+  from_start : Repeats stored (resting format start wear) mid.0
+  from_start = leads_append Steps covered (records_in kept) (resting format start wear) stands.there
+      mid.0
       stands.led mid.2
 
   abbrev base_parts : IsParts (records_in blocks) stands.base
-  base_parts = parts (records_in blocks) stands.are_read.next stands.base stands.are_read.count
+  base_parts = parts stands.are_read.version (records_in blocks) stands.are_read.next stands.base
+      stands.are_read.count
       stands.are_read.accepted
 
   run : Repeats (base_parts.journal ++ records_in kept) base_parts.first mid.1
-  run = on_from_first (records_in blocks) stands.are_read.next stands.base stands.are_read.count
+  run = on_from_first stands.are_read.version (records_in blocks) stands.are_read.next stands.base
+      stands.are_read.count
       stands.are_read.accepted (records_in kept) mid.1 mid.3
 
   is : records_in (blocks ++ kept) ≡ records_in blocks ++ records_in kept
@@ -186,34 +181,60 @@ module _ (start : List Collection) (wear : ℕ) (all : List Record) (end : State
       (records_append None (records_in blocks) (records_in kept) stands.are_read.good
       (read_records (last_named None (records_in blocks)) (records_in kept) kept_good))
 
-  spelt : AreSpelt None (records_in (blocks ++ kept))
-  spelt = records_spelt None (records_in (blocks ++ kept)) all_good
+  -- so many are read, up to there
+  abbrev more : (n k : ℕ) × Leads Reads (records_in kept)
+      (InJournal stands.are_read.next stands.base stands.are_read.count) (InJournal n mid.1 k)
+  more = journal_reads (records_in kept) stands.are_read.next stands.base mid.1
+      stands.are_read.count mid.3
 
-  is_sound : (c : List ℕ) → Holds c (blocks ++ kept) → IsSound c
-  is_sound c holds =
-      let more = journal_reads (records_in kept) stands.are_read.next stands.base mid.1
-      stands.are_read.count mid.3 in record {
-        blocks = blocks ++ kept;
-        holds = holds;
-        good = all_good;
-        next = more.0;
-        end = mid.1;
-        count = more.1;
-        accepted =
-            subst (λ l. AreAccepted l more.0 mid.1 more.1) (sym is)
-            (leads_append Reads (records_in blocks) (records_in kept) Unread
-            (InJournal stands.are_read.next stands.base stands.are_read.count)
-            (InJournal more.0 mid.1 more.1) stands.are_read.accepted more.2);
-      }
+  -- the disk may have areas of their format
+  allowed : (version : Format) → Allows version format → Allows version mid.1.format
+  allowed version of_book =
+      let later : Allows format stands.base.format =
+      subst (λ f. Allows f stands.base.format) stands.of_book (subst (Allows end.format)
+      (repeats_format stands.since stands.base stands.state stands.repeats)
+      stands.lags.format) in
+      subst (Allows version) (sym (repeats_format (records_in kept) stands.base mid.1 mid.3))
+      (allows_then version format stands.base.format of_book later)
+
+  accepted : (version : Format) → Allows version format →
+      AreAccepted version (records_in (blocks ++ kept)) more.0 mid.1 more.1
+  accepted version of_book =
+      accepted_on stands.are_read.version version (records_in (blocks ++ kept)) more.0 mid.1 more.1
+      (subst (λ l. AreAccepted stands.are_read.version l more.0 mid.1 more.1) (sym is)
+      (leads_append Reads (records_in blocks) (records_in kept) (Unread stands.are_read.version)
+      (InJournal stands.are_read.next stands.base stands.are_read.count)
+      (InJournal more.0 mid.1 more.1) stands.are_read.accepted more.2))
+      all_good (allowed version of_book)
+
+  -- the bytes hold the blocks of a row in the area that the head picks
+  module _ (area : Area) (c : List ℕ) (headed : IsHeaded format area c)
+      (row : IsRow (map spelling (blocks ++ kept)) (bytes_of area c)) where
+    abbrev holds : Holds c (blocks ++ kept)
+    holds = accepted_holds headed.version (size_of area) c (blocks ++ kept) more.0 mid.1 more.1
+        headed.header
+        (subst (λ b. IsRow (map spelling (blocks ++ kept)) (part b (size_of area) c))
+        (sym headed.picks) row) all_good (accepted headed.version headed.allowed)
+
+    is_sound : IsSound c
+    is_sound = record {
+      blocks = blocks ++ kept;
+      holds = holds;
+      good = all_good;
+      next = more.0;
+      end = mid.1;
+      count = more.1;
+      accepted = accepted headed.version headed.allowed;
+    }
 
   abbrev now : List Collection
-  now = content start wear stored mid.0 from_start
+  now = content format start wear stored mid.0 from_start
 
   -- from the image on the records lead to the same content as from the start on
   same_content : image.content (records_in blocks) stands.base base_parts
       (base_parts.journal ++ records_in kept) mid.1 run ≡ now
   same_content =
-      let last = comes start wear stored mid.0 from_start [] in
+      let last = comes format start wear stored mid.0 from_start [] in
       steps.settles_once catalog_meaning catalog_making laws.rules mid.1
       (image.content (records_in blocks) stands.base base_parts
       (base_parts.journal ++ records_in kept) mid.1 run) now
@@ -230,40 +251,35 @@ module _ (start : List Collection) (wear : ℕ) (all : List Record) (end : State
       (is ∙ ap (λ l. l ++ records_in kept) base_parts.is ∙
       append_assoc base_parts.image base_parts.journal (records_in kept)))
 
-  -- bytes that hold the blocks with others behind them yield what is known
-  yields : (m : ℕ) (c : List ℕ) → m ≤ places covered + places (records_in kept) →
-      Holds c (blocks ++ kept) → YieldsUpTo start all m c
-  yields m c few holds =
+  -- a row of the blocks with others behind them, in the area that the head picks, yields what is
+  -- known
+  pub row_yields : (area : Area) (m : ℕ) (c : List ℕ) →
+      m ≤ places covered + places (records_in kept) → IsHeaded format area c →
+      IsRow (map spelling (blocks ++ kept)) (bytes_of area c) → YieldsUpTo start all m c
+  row_yields area m c few headed row =
       let ks : List Transaction = committed_of stored in
-      let more : IsPrefix ks (committed_of all) =
+      let longer : IsPrefix ks (committed_of all) =
       subst (λ rs. IsPrefix ks (committed_of rs)) (sym records) (committed_more stored later) in
       let enough : m ≤ length ks = omega
       (arith, few, length-committed stored [], places_append covered (records_in kept)) in
       record {
-        sound = is_sound c holds;
+        sound = is_sound area c headed row;
         content = now;
-        stands = stands_for c holds;
+        stands = stands_for c (holds area c headed row);
         kept = ks;
-        begins = more;
-        holds = subst (λ l. IsPrefix l ks) (sym (take_longer ks (committed_of all) m more enough))
+        begins = longer;
+        holds = subst (λ l. IsPrefix l ks) (sym (take_longer ks (committed_of all) m longer enough))
             (drop m ks, take-append-drop m ks);
-        serial = told_always start wear stored mid.0 from_start [];
+        serial = told_always format start wear stored mid.0 from_start [];
       }
 
-  -- the same of a row in the area that the head picks
-  pub row_yields : (area : Area) (m : ℕ) (c : List ℕ) →
-      m ≤ places covered + places (records_in kept) → IsHeaded area c →
-      IsRow (map spelling (blocks ++ kept)) (bytes_of area c) →
-      YieldsUpTo start all m c
-  row_yields area m c few headed row =
-      yields m c few (holds_row area (blocks ++ kept) c headed row spelt)
-
 -- all records lead to where the covered ones and the others lead
-pub all_lead : (start : List Collection) (wear : ℕ) (all : List Record) (end : State)
+pub all_lead : (format : Format) (start : List Collection) (wear : ℕ) (all : List Record)
+    (end : State)
     (blocks : List (List Record)) (covered : List Record)
-    (stands : StandIn start wear all end blocks covered) →
-    Repeats all (resting start wear) stands.trail
-all_lead start wear all end blocks covered stands =
-    subst (λ rs. Repeats rs (resting start wear) stands.trail) (sym stands.split)
-    (leads_append Steps covered stands.since (resting start wear) stands.there stands.trail
+    (stands : StandIn format start wear all end blocks covered) →
+    Repeats all (resting format start wear) stands.trail
+all_lead format start wear all end blocks covered stands =
+    subst (λ rs. Repeats rs (resting format start wear) stands.trail) (sym stands.split)
+    (leads_append Steps covered stands.since (resting format start wear) stands.there stands.trail
     stands.led stands.leads)

@@ -8,6 +8,7 @@ use Rattle.gate_block.specs.declared.area.Area.{Area}
 use Rattle.gate_block.specs.Row.{row, IsRow}
 use Rattle.gate_block.specs.Layout.{base_in_use}
 use Rattle.gate_block.specs.Area.{has_failed, base_of, size_of, position_of, bytes_of, IsLaid}
+use Rattle.gate_block.specs.Layout.{areas_at, root_at}
 use Rattle.blocks.specs.Wholes.{body_of}
 use Rattle.blocks.specs.declared.block.Image.{Image}
 use Rattle.checkpoint.specs.declared.laying.Laying.{Laying}
@@ -107,17 +108,18 @@ IsBeside area failed stage = Unit {0}
 pub record IsRooted {D : Type 0} (seen : D → List ℕ) (may_leave : D → List ℕ → Type 0) (area : Area)
     (disk : D) : Type 0 where
   pub picks : base_in_use (size_of area) (seen disk) ≡ base_of area
-  pub root_at_rest : (c : List ℕ) → may_leave disk c → get_or c 512 0 ≡ get_or (seen disk) 512 0
+  pub root_at_rest : (c : List ℕ) → may_leave disk c →
+      get_or c root_at 0 ≡ get_or (seen disk) root_at 0
   pub area_at_rest : (c : List ℕ) → may_leave disk c → bytes_of area c ≡ bytes_of area (seen disk)
 
 -- The root byte is 0 where the area that begins there is the first, and 1 where it is the second.
 pub record HasPlainRoot (base : ℕ) (bytes : List ℕ) : Type 0 where
-  pub first : base ≡ 4096 → get_or bytes 512 0 ≡ 0
-  pub second : (base ≡ 4096 → ⊥) → get_or bytes 512 0 ≡ 1
+  pub first : base ≡ areas_at → get_or bytes root_at 0 ≡ 0
+  pub second : (base ≡ areas_at → ⊥) → get_or bytes root_at 0 ≡ 1
 
 -- a stop leaves what it might have left before, or what a read gave before, with any root byte
 abbrev pub LeavesRoot : (List ℕ → Type 0) → List ℕ → List ℕ → Type 0
-LeavesRoot before seen c = before c ⊎ Torn 512 1 seen c
+LeavesRoot before seen c = before c ⊎ Torn root_at 1 seen c
 
 -- The root byte picks the area that was in use, which has the bytes from before, or the image's,
 -- which has all blocks of the image.

@@ -4,6 +4,7 @@ use Rattle.std.specs.Prelude.{length, Option, Some, None, Result, Ok, Err}
 use Rattle.calls.specs.declared.refusal.Refusal.{Refusal}
 use Rattle.gate_block.specs.declared.area.Area.{Area}
 use Rattle.gate_block.specs.Area.{has_failed, base_of, size_of}
+use Rattle.gate_block.specs.Layout.{areas_at}
 use Rattle.blocks.specs.declared.block.Block.{Block}
 use Rattle.checkpoint.specs.declared.turn.Turn.{Turn}
 use Rattle.checkpoint.specs.declared.stage.Stage.{Stage}
@@ -24,8 +25,8 @@ pub record KeeperState (D : Type 0) : Type 0 where
 -- The area is one of the two of a disk of so many bytes, which stand behind its head, one behind
 -- the other.
 pub record IsOneOfTwo (area : Area) (bytes : ℕ) : Type 0 where
-  pub whole : bytes ≡ 4096 + 2 * size_of area
-  pub base : (base_of area ≡ 4096) ⊎ (base_of area ≡ 4096 + size_of area)
+  pub whole : bytes ≡ areas_at + 2 * size_of area
+  pub base : (base_of area ≡ areas_at) ⊎ (base_of area ≡ areas_at + size_of area)
 
 -- what holds of every keeper
 pub record IsKeeper {D : Type 0} (seen : D → List ℕ) (k : KeeperState D) : Type 0 where

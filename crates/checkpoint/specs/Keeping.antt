@@ -4,6 +4,7 @@ use Rattle.std.specs.Prelude.{◌≡◌, ◌≢◌, ◌⊎◌, ℕ, ◌+◌, ◌
 use Rattle.std.specs.Prelude.{map, All, Contains, None, Result, Ok, Err}
 use Rattle.std.specs.List.{AllByRecursion}
 use mathlib.Core.List.{IsPrefix}
+use Rattle.calls.specs.declared.format.Format.{Format}
 use Rattle.calls.specs.Contents.{Collection}
 use Rattle.calls.specs.declared.refusal.Refusal.{Refusal}
 use Rattle.disk_model.specs.Disk.{LeavesOnly}
@@ -66,7 +67,8 @@ pub record IsHolding (freezes : List ℕ) (stored : ℕ) (ending : Ending) : Typ
 
 -- The image in progress is one of those that were begun. So many records are kept by the area in
 -- use.
-pub record IsImaging {D : Type 0} (seen : D → List ℕ) (start : List Collection) (wear : ℕ)
+pub record IsImaging {D : Type 0} (seen : D → List ℕ) (format : Format) (start : List Collection)
+    (wear : ℕ)
     (records : List Record) (now : State) (images : List BegunImage) (disk : D) (area : Area)
     (stored : ℕ) (laying : Laying) : Type 0 where
   -- the other area, into which it is laid
@@ -75,7 +77,7 @@ pub record IsImaging {D : Type 0} (seen : D → List ℕ) (start : List Collecti
   pub image : BegunImage
   pub begun : Contains images image
   pub some : image.blocks ≢ []
-  pub stands : StandIn start wear records now image.blocks image.covered
+  pub stands : StandIn format start wear records now image.blocks image.covered
   pub end : laying.image.end ≡ length image.covered
   pub place : laying.image.place ≡ places image.covered
   -- what the disk holds of it
@@ -89,7 +91,7 @@ pub record IsImaging {D : Type 0} (seen : D → List ℕ) (start : List Collecti
 -- and these images were begun, each at one of them. A stop now leaves what `Yields` says of the
 -- transactions that the mark tells.
 pub record HasReceived {D : Type 0} (seen : D → List ℕ) (may_leave : D → List ℕ → Type 0)
-    (start : List Collection) (wear : ℕ) (records : List Record) (now : State)
+    (format : Format) (start : List Collection) (wear : ℕ) (records : List Record) (now : State)
     (freezes : List ℕ) (images : List BegunImage) (received : List Block)
     (keeper : KeeperState D) : Type 0 where
   pub good : AllByRecursion (IsRecord None) records
@@ -110,7 +112,7 @@ pub record HasReceived {D : Type 0} (seen : D → List ℕ) (may_leave : D → L
   -- was opened, and else it is an image
   pub old : List (List Record)
   pub covered : List Record
-  pub stands : StandIn start wear records now old covered
+  pub stands : StandIn format start wear records now old covered
   pub source : (covered ≡ []) ⊎ Contains images (record { covered = covered; blocks = old })
   -- the blocks that the keeper appended or met a fault on since
   pub kept : List (List Record)
@@ -129,11 +131,11 @@ pub record HasReceived {D : Type 0} (seen : D → List ℕ) (may_leave : D → L
   -- until a fault, the area holds these blocks, and an end is held, or an image being laid beside
   -- it
   pub in_use : keeper.failed ≡ false →
-      IsInUse seen may_leave keeper.area keeper.disk (old ++ kept)
+      IsInUse seen may_leave format keeper.area keeper.disk (old ++ kept)
   pub holding : keeper.failed ≡ false → (e : Ending) → keeper.stage ≡ Stage.Awaited e →
       IsHolding freezes (length covered + length (records_in kept)) e
   pub imaging : keeper.failed ≡ false → (l : Laying) → keeper.stage ≡ Stage.Laid l →
-      IsImaging seen start wear records now images keeper.disk keeper.area
+      IsImaging seen format start wear records now images keeper.disk keeper.area
       (length covered + length (records_in kept)) l
 
 -- ---- what each call of a keeper keeps
@@ -150,12 +152,13 @@ LeavesKept g start records k l = LeavesOnly g.moment g.left_since k.disk l.disk
 abbrev pub TurnKeeps : {D : Type 0} → Ghosts D → (receives : List Block → Type 0) →
     KeeperState D → KeeperState D → Type 0
 TurnKeeps g receives k l =
-    (start : List Collection) (wear : ℕ) (records : List Record) (now : State) (freezes : List ℕ)
+    (format : Format) (start : List Collection) (wear : ℕ) (records : List Record) (now : State)
+    (freezes : List ℕ)
     (images : List BegunImage) (received more : List Block) (groups : List (List Record)) →
     receives more → Carries 0 0 (received ++ more) groups → IsPrefix (records_in groups) records →
     Uncrossed freezes groups →
-    HasReceived g.seen g.may_leave start wear records now freezes images received k →
-    HasReceived g.seen g.may_leave start wear records now freezes images (received ++ more) l
+    HasReceived g.seen g.may_leave format start wear records now freezes images received k →
+    HasReceived g.seen g.may_leave format start wear records now freezes images (received ++ more) l
     × LeavesKept g start records k l
 
 -- the positions, where this one was held, or refused
@@ -168,12 +171,13 @@ held_with end freezes (Err e) = freezes
 abbrev pub HoldKeeps : {D : Type 0} → Ghosts D → (end : ℕ) → Result (Unit {0}) Refusal →
     KeeperState D → KeeperState D → Type 0
 HoldKeeps g end r k l =
-    (start : List Collection) (wear : ℕ) (records : List Record) (now : State) (freezes : List ℕ)
+    (format : Format) (start : List Collection) (wear : ℕ) (records : List Record) (now : State)
+    (freezes : List ℕ)
     (images : List BegunImage) (received : List Block) (groups : List (List Record)) →
     Carries 0 0 received groups → IsPrefix (records_in groups) records →
     length (records_in groups) ≤ end → k.covered ≤ end →
-    HasReceived g.seen g.may_leave start wear records now freezes images received k →
-    HasReceived g.seen g.may_leave start wear records now (held_with end freezes r) images
+    HasReceived g.seen g.may_leave format start wear records now freezes images received k →
+    HasReceived g.seen g.may_leave format start wear records now (held_with end freezes r) images
     received l
     × LeavesKept g start records k l
 
@@ -186,19 +190,21 @@ begun_with image images (Err e) = images
 abbrev pub BeginKeeps : {D : Type 0} → Ghosts D → Image → Result (Unit {0}) Refusal →
     KeeperState D → KeeperState D → Type 0
 BeginKeeps g image r k l =
-    (start : List Collection) (wear : ℕ) (records : List Record) (now : State) (freezes : List ℕ)
+    (format : Format) (start : List Collection) (wear : ℕ) (records : List Record) (now : State)
+    (freezes : List ℕ)
     (images : List BegunImage) (received : List Block) (begun : BegunImage) →
-    IsImageFor image begun → StandIn start wear records now begun.blocks begun.covered →
-    HasReceived g.seen g.may_leave start wear records now freezes images received k →
-    HasReceived g.seen g.may_leave start wear records now freezes (begun_with begun images r)
+    IsImageFor image begun → StandIn format start wear records now begun.blocks begun.covered →
+    HasReceived g.seen g.may_leave format start wear records now freezes images received k →
+    HasReceived g.seen g.may_leave format start wear records now freezes (begun_with begun images r)
     received l
     × LeavesKept g start records k l
 
 -- A piece of an image is written, or the image becomes the store: nothing is received.
 abbrev pub ImageKeeps : {D : Type 0} → Ghosts D → KeeperState D → KeeperState D → Type 0
 ImageKeeps g k l =
-    (start : List Collection) (wear : ℕ) (records : List Record) (now : State) (freezes : List ℕ)
+    (format : Format) (start : List Collection) (wear : ℕ) (records : List Record) (now : State)
+    (freezes : List ℕ)
     (images : List BegunImage) (received : List Block) →
-    HasReceived g.seen g.may_leave start wear records now freezes images received k →
-    HasReceived g.seen g.may_leave start wear records now freezes images received l
+    HasReceived g.seen g.may_leave format start wear records now freezes images received k →
+    HasReceived g.seen g.may_leave format start wear records now freezes images received l
     × LeavesKept g start records k l

@@ -13,6 +13,7 @@ ghost use Rattle.checkpoint.specs.Imaging.{HasPlainRoot, IsRooted, LeavesRoot, P
 ghost use Rattle.checkpoint.specs.Imaging.{bodies_of, left_of};
 ghost use Rattle.checkpoint.specs.Imaging.{pieces_left, end_of, given_up};
 ghost use Rattle.gate_block.specs.Layout.{base_in_use};
+ghost use Rattle.gate_block.specs.Layout.{root_at};
 ghost use Rattle.checkpoint.specs.Keepers.{KeeperState, IsOneOfTwo, IsPast, OnKept, IsBrought};
 ghost use Rattle.checkpoint.specs.Keepers.{AppendAnswers, BringAnswers, TurnAnswers};
 ghost use Rattle.checkpoint.specs.Keeping.{TurnKeeps, HoldKeeps, BeginKeeps, ImageKeeps};
@@ -329,8 +330,8 @@ impl<D: Disk> Keeper<D> {
         Ok(())
     }
 
-    /// Gives up an image that is awaited and is not here yet: its end is no longer held, and no image
-    /// is being written. Where none is awaited, nothing changes. No device is called.
+    /// Gives up an image that is awaited and is not here yet: its end is no longer held, and no
+    /// image is being written. Where none is awaited, nothing changes. No device is called.
     ///
     /// A block that was held as it ends past the image stays held, and the next turn brings it.
     pub fn give_up(&mut self)
@@ -404,6 +405,7 @@ impl<D: Disk> Keeper<D> {
             SameOutside (base_of w.area) (size_of w.area) (D.seen self.old.disk)
             (D.seen self.new.disk) }
         ensures honest { D.is_honest self.new.disk → D.is_honest self.old.disk }
+        ensures faults { D.fault_count self.old.disk ≤ D.fault_count self.new.disk }
     {
         if self.failed {
             return Err(Refusal::Failed);
@@ -444,7 +446,7 @@ impl<D: Disk> Keeper<D> {
         ensures plain { OnOk result (HasPlainRoot (base_of self.new.area) (D.seen self.new.disk)) }
         ensures durable { OnOk result (IsAtRest D.seen D.may_leave self.new.disk) }
         // Nothing else changes.
-        ensures root { Torn 512 1 (D.seen self.old.disk) (D.seen self.new.disk) }
+        ensures root { Torn root_at 1 (D.seen self.old.disk) (D.seen self.new.disk) }
         ensures any_moment { LeavesOnly D.moment D.left_since self.old.disk self.new.disk
             (LeavesRoot (D.may_leave self.old.disk) (D.seen self.old.disk)) }
         // So a stop leaves a root byte that picks one of two whole areas: the old one as it was, or
@@ -457,6 +459,7 @@ impl<D: Disk> Keeper<D> {
             LeavesOnly D.moment D.left_since self.old.disk self.new.disk
             (PicksWhole self.old.area (D.seen self.old.disk) w.area bodies) }
         ensures honest { D.is_honest self.new.disk → D.is_honest self.old.disk }
+        ensures faults { D.fault_count self.old.disk ≤ D.fault_count self.new.disk }
     {
         if self.failed {
             return Err(Refusal::Failed);
@@ -478,10 +481,11 @@ impl<D: Disk> Keeper<D> {
             base_of self.new.area) }
         ensures plain { OnOk result (HasPlainRoot (base_of self.new.area) (D.seen self.new.disk)) }
         ensures durable { OnOk result (IsAtRest D.seen D.may_leave self.new.disk) }
-        ensures root { Torn 512 1 (D.seen self.old.disk) (D.seen self.new.disk) }
+        ensures root { Torn root_at 1 (D.seen self.old.disk) (D.seen self.new.disk) }
         ensures any_moment { LeavesOnly D.moment D.left_since self.old.disk self.new.disk
             (LeavesRoot (D.may_leave self.old.disk) (D.seen self.old.disk)) }
         ensures honest { D.is_honest self.new.disk → D.is_honest self.old.disk }
+        ensures faults { D.fault_count self.old.disk ≤ D.fault_count self.new.disk }
     {
         if pick_area(&mut self.disk, laying.area.base()).is_err() {
             self.failed = true;

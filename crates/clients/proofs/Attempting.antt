@@ -43,36 +43,6 @@ module _ {J : Type 0} (j : Ghosts J) where
 
   -- ---- the beginning
 
-  drawn_is : (p : Phase) → IsBegun p → p ≡ Phase.Drawn (number_of p)
-  drawn_is Phase.Closed begun = absurd begun
-  drawn_is (Phase.Drawn n) begun = refl
-  drawn_is (Phase.Entered n) begun = absurd begun
-
-  begun_open : (p : Phase) → IsBegun p → IsOpenUnder (number_of p) [] p
-  begun_open Phase.Closed begun = absurd begun
-  begun_open (Phase.Drawn n) begun = (refl, tt)
-  begun_open (Phase.Entered n) begun = absurd begun
-
-  attempts_none : (old : Known) → IsSeen j old.seen → IsBegun old.phase →
-      Attempts j (number_of old.phase) old [] old
-  attempts_none old legal begun = record {
-    moves = refl;
-    grows = grows_none j old.number old.seen legal;
-    are_calls = tt;
-    is_open = begun_open old.phase begun;
-  }
-
-  -- an attempt that was just begun
-  pub going_begins : (old : Known) → IsSeen j old.seen → IsBegun old.phase →
-      Attempts j (number_of old.phase) old (done_since old old) old
-  going_begins old legal begun =
-      subst (λ l. Attempts j (number_of old.phase) old l old)
-      (sym (done_is old old [] (grows_none j old.number old.seen legal)))
-      (attempts_none old legal begun)
-
-  pub nothing_done : (old : Known) → IsSeen j old.seen → done_since old old ≡ []
-  nothing_done old legal = done_is old old [] (grows_none j old.number old.seen legal)
-
   -- ---- a call
 
   -- steps of the client behind those of an attempt

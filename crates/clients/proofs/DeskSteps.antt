@@ -44,7 +44,7 @@ owned_then steps step owned may = each_append IsOwned steps (step ∷ []) owned 
 module _ {J : Type 0} (j : Ghosts J) where
   -- a book that was just opened
   pub desk_opens : (book : Book) (seat : lines.BookState) (sender : SenderState)
-      (near : AccordState) → book ≡ opened j.start j.next j.wear →
+      (near : AccordState) → book ≡ opened j.format j.start j.next j.wear →
       seat ≡ record { table = j.line; all = []; clients = 0 } →
       sender ≡ record { table = j.handoff; sent = []; noted = [] } →
       near ≡ record { table = j.gathering; gather = nothing_gathered } →
@@ -54,11 +54,11 @@ module _ {J : Type 0} (j : Ghosts J) where
         line = refl;
         handoff = refl;
         gathering = refl;
-        gathered = gathered_none (opened j.start j.next j.wear);
+        gathered = gathered_none (opened j.format j.start j.next j.wear);
         groups = [];
-        handed = opens catalog_meaning catalog_making (λ v. v) j.start j.wear j.next;
+        handed = opens catalog_meaning catalog_making (λ v. v) j.format j.start j.wear j.next;
         owned = tt;
-        recorded = λ s. recorded_none j.start j.wear;
+        recorded = λ s. recorded_none j.format j.start j.wear;
       })
 
   -- one client more was made
@@ -88,7 +88,8 @@ module _ {J : Type 0} (j : Ghosts J) where
         now ≡ stepped seat (step action) → IsDesk j after now sender near
     desk_takes action after now may took good goes now_is =
         let rs = records_then seat.all action in
-        let left = taken_left catalog_meaning catalog_making (λ v. v) j.start j.wear seat.all book
+        let left = taken_left catalog_meaning catalog_making (λ v. v) j.format j.start j.wear
+        seat.all book
         after sender.sent is.groups (frozen_ends sender.noted) [] is.handed client action took in
         let more : AllByRecursion (IsRecord None) rs = each_back (IsRecord None) book.pending rs
         (subst (AllByRecursion (IsRecord None)) left.pending good) in
@@ -98,30 +99,33 @@ module _ {J : Type 0} (j : Ghosts J) where
           gathering = is.gathering;
           gathered = gathered_takes book after near.gather action took goes is.gathered;
           groups = is.groups;
-          handed = takes_on catalog_meaning catalog_making (λ v. v) j.start j.wear seat.all book
+          handed = takes_on catalog_meaning catalog_making (λ v. v) j.format j.start j.wear seat.all
+              book
               after sender.sent is.groups (frozen_ends sender.noted) [] is.handed client action took
               good;
           owned = owned_then seat.all (step action) is.owned may;
           recorded = λ s.
               let old = is.recorded s in
-              subst (λ l. AreRecorded j.start j.wear l (journalled after.state) sender.noted)
+              subst (λ l. AreRecorded j.format j.start j.wear l (journalled after.state)
+              sender.noted)
               (sym (records_by-push seat.all (step action)))
               (⊎_elim
               (λ (leads : Repeats rs (journalled book.state) (journalled after.state)).
-              recorded_leads j.start j.wear sender.noted (records_by seat.all)
+              recorded_leads j.format j.start j.wear sender.noted (records_by seat.all)
               (journalled book.state) rs (journalled after.state) more leads old)
               (λ unheard. subst
-              (λ l. AreRecorded j.start j.wear l (journalled after.state) sender.noted)
+              (λ l. AreRecorded j.format j.start j.wear l (journalled after.state) sender.noted)
               (sym (append-nil (records_by seat.all)) ∙
               ap (λ l. records_by seat.all ++ l) (sym unheard.0))
-              (recorded_unheard j.start j.wear sender.noted (records_by seat.all)
+              (recorded_unheard j.format j.start j.wear sender.noted (records_by seat.all)
               (journalled book.state) (journalled after.state) unheard.1 old))
               left.leads);
         })
 
   abbrev Handed : List BookStep → Book → List Block → List (List Record) → List ℕ → Type 0
   Handed steps book sent groups freezes =
-      HasHanded catalog_meaning catalog_making (λ v. v) j.start j.wear steps book sent groups
+      HasHanded catalog_meaning catalog_making (λ v. v) j.format j.start j.wear steps book sent
+      groups
       freezes []
 
   -- how many records a cut has handed over
@@ -143,7 +147,8 @@ module _ {J : Type 0} (j : Ghosts J) where
         action = Action.Cut (handed_count book.pending after.pending) a;
       }) → IsDesk j after now ends near
   desk_cuts book seat sender near is after now ends full a cut now_is =
-      let on = cuts_on catalog_meaning catalog_making (λ v. v) j.start j.wear seat.all book after
+      let on = cuts_on catalog_meaning catalog_making (λ v. v) j.format j.start j.wear seat.all book
+      after
       sender.sent is.groups (frozen_ends sender.noted) [] is.handed None
       (λ bs. IsSent sender bs ends) full a cut in
       let count = cut_count book after on.0 a on.5 in
@@ -169,11 +174,12 @@ module _ {J : Type 0} (j : Ghosts J) where
             on.4));
         owned = owned_then seat.all step is.owned refl;
         recorded = λ s.
-            subst (λ l. AreRecorded j.start j.wear (records_by (seat.all ++ step ∷ []))
+            subst (λ l. AreRecorded j.format j.start j.wear (records_by (seat.all ++ step ∷ []))
             (journalled after.state) l) (sym on.3.noted)
-            (subst (λ l. AreRecorded j.start j.wear l (journalled after.state) sender.noted)
+            (subst (λ l. AreRecorded j.format j.start j.wear l (journalled after.state)
+            sender.noted)
             (sym same)
-            (subst (λ v. AreRecorded j.start j.wear (records_by seat.all) v sender.noted)
+            (subst (λ v. AreRecorded j.format j.start j.wear (records_by seat.all) v sender.noted)
             (sym (ap (λ (x : Book). journalled x.state) cut.1)) (is.recorded s)));
       })
 

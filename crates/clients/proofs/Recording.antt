@@ -1,5 +1,6 @@
 -- Records that a book has made, and what is packed of it, go on with each of its steps.
-use Rattle.std.proofs.Common.{◌≡◌, ℕ, List, [], ◌∷◌, ◌++◌, None, refl, sym, subst}
+use Rattle.calls.specs.declared.format.Format.{Format}
+use Rattle.std.proofs.Common.{◌≡◌, ◌∙◌, ap, ℕ, List, [], ◌∷◌, ◌++◌, None, refl, sym, subst}
 use Rattle.std.proofs.Common.{append_assoc}
 use Rattle.std.specs.List.{AllByRecursion}
 use Rattle.std.proofs.lemmas.List.{append-nil}
@@ -12,30 +13,34 @@ use Rattle.machine.specs.Machines.{resting}
 use Rattle.machine.proofs.Journalled.{GoesUnheard}
 use Rattle.repetition.specs.Steps.{State, Steps, Repeats}
 use Rattle.repetition.proofs.LagLemmas.{lags_self, lags_step, lags_unheard}
+use Rattle.repetition.proofs.OneFormat.{step_format}
 use Rattle.repetition.proofs.Lists.{leads_push, leads_split}
 use Rattle.checkpoint.specs.Stored.{StandIn, AreReadTo, GoAlong}
 use Rattle.checkpoint.proofs.StandLemmas.{stands_push, stands_unheard}
 use Rattle.clients.specs.Desks.{AreRecorded, PacksImages}
 
-module _ (start : List Collection) (wear : ℕ) where
+module _ (format : Format) (start : List Collection) (wear : ℕ) where
   -- an opened book has made none
-  pub recorded_none : AreRecorded start wear [] (resting start wear) []
+  pub recorded_none : AreRecorded format start wear [] (resting format start wear) []
   recorded_none = record {
     good = tt;
-    trail = resting start wear;
+    of_book = refl;
+    trail = resting format start wear;
     leads = refl;
-    trails = lags_self (resting start wear);
+    trails = lags_self (resting format start wear);
     stand = tt;
   }
 
   -- What is packed stands for records that go on, where all that stood for the first ones does.
   pub still_packed : (records : List Record) (now : State) (more : List Record) (next : State) →
       ((blocks : List (List Record)) (covered : List Record) →
-      StandIn start wear records now blocks covered → StandIn start wear more next blocks covered) →
-      (noted : List GatherState) → AllByRecursion (PacksImages start wear records now) noted →
-      AllByRecursion (PacksImages start wear more next) noted
+      StandIn format start wear records now blocks covered →
+      StandIn format start wear more next blocks covered) →
+      (noted : List GatherState) → AllByRecursion (PacksImages format start wear records now)
+      noted →
+      AllByRecursion (PacksImages format start wear more next) noted
   still_packed records now more next goes noted =
-      weaker (PacksImages start wear records now) (PacksImages start wear more next)
+      weaker (PacksImages format start wear records now) (PacksImages format start wear more next)
       (λ g packs image packed. let is = packs image packed in record {
         begun = is.begun;
         is_for = is.is_for;
@@ -45,61 +50,67 @@ module _ (start : List Collection) (wear : ℕ) where
   module _ (noted : List GatherState) where
     -- one record more
     recorded_push : (records : List Record) (now : State) (r : Record) (next : State) →
-        IsRecord None r → Steps now r next → AreRecorded start wear records now noted →
-        AreRecorded start wear (records ++ r ∷ []) next noted
+        IsRecord None r → Steps now r next → AreRecorded format start wear records now noted →
+        AreRecorded format start wear (records ++ r ∷ []) next noted
     recorded_push records now r next good row is =
         let trail = lags_step is.trail now is.trails r next row in
         record {
           good = each_append (IsRecord None) records (r ∷ []) is.good (good, tt);
+          of_book = step_format r now next row ∙ is.of_book;
           trail = trail.0;
-          leads = leads_push Steps records r (resting start wear) is.trail trail.0 is.leads trail.1;
+          leads = leads_push Steps records r (resting format start wear) is.trail trail.0 is.leads
+              trail.1;
           trails = trail.2;
           stand = still_packed records now (records ++ r ∷ []) next
               (λ blocks covered old.
-              (stands_push start wear records now blocks covered r next row old).0)
+              (stands_push format start wear records now blocks covered r next row old).0)
               noted is.stand;
         }
 
     pub recorded_leads : (records : List Record) (now : State) (rs : List Record) (next : State) →
         AllByRecursion (IsRecord None) rs → Repeats rs now next →
-        AreRecorded start wear records now noted →
-        AreRecorded start wear (records ++ rs) next noted
+        AreRecorded format start wear records now noted →
+        AreRecorded format start wear (records ++ rs) next noted
     recorded_leads records now [] next good leads is =
-        subst (λ l. AreRecorded start wear l next noted) (sym (append-nil records))
-        (subst (λ s. AreRecorded start wear records s noted) leads is)
+        subst (λ l. AreRecorded format start wear l next noted) (sym (append-nil records))
+        (subst (λ s. AreRecorded format start wear records s noted) leads is)
     recorded_leads records now (r ∷ rs) next good leads is =
-        subst (λ l. AreRecorded start wear l next noted) (append_assoc records (r ∷ []) rs)
+        subst (λ l. AreRecorded format start wear l next noted) (append_assoc records (r ∷ []) rs)
         (recorded_leads (records ++ r ∷ []) leads.0 rs next good.1 leads.2
         (recorded_push records now r leads.0 good.0 leads.1 is))
 
     -- a step of which no record tells
     pub recorded_unheard : (records : List Record) (now next : State) → GoesUnheard now next →
-        AreRecorded start wear records now noted → AreRecorded start wear records next noted
+        AreRecorded format start wear records now noted →
+        AreRecorded format start wear records next noted
     recorded_unheard records now next step is = record {
       good = is.good;
+      of_book = ap (λ (v : State). v.format) step.is ∙ is.of_book;
       trail = is.trail;
       leads = is.leads;
       trails = lags_unheard is.trail now is.trails next step;
       stand = still_packed records now records next
           (λ blocks covered old.
-          (stands_unheard start wear records now blocks covered next step old).0)
+          (stands_unheard format start wear records now blocks covered next step old).0)
           noted is.stand;
     }
 
     -- what a store held that was opened stands for the beginning of all records
     pub opened_stands : (blocks : List (List Record)) (records : List Record) (now : State) →
-        AreReadTo blocks (resting start wear) → AreRecorded start wear records now noted →
-        (stands : StandIn start wear records now blocks []) × (stands.since ≡ records)
+        AreReadTo blocks (resting format start wear) →
+        AreRecorded format start wear records now noted →
+        (stands : StandIn format start wear records now blocks []) × (stands.since ≡ records)
     opened_stands blocks records now are_read is = (
       record {
+        of_book = is.of_book;
         since = records;
         split = refl;
-        there = resting start wear;
+        there = resting format start wear;
         led = refl;
         trail = is.trail;
         leads = is.leads;
         trails = is.trails;
-        base = resting start wear;
+        base = resting format start wear;
         are_read = are_read;
         state = is.trail;
         repeats = is.leads;
@@ -109,8 +120,8 @@ module _ (start : List Collection) (wear : ℕ) where
       refl,
     )
       where
-        along : GoAlong records (resting start wear) (resting start wear)
+        along : GoAlong records (resting format start wear) (resting format start wear)
         along first rest split =
-            let parts = leads_split Steps first rest (resting start wear) is.trail
-            (subst (λ l. Repeats l (resting start wear) is.trail) split is.leads) in
+            let parts = leads_split Steps first rest (resting format start wear) is.trail
+            (subst (λ l. Repeats l (resting format start wear) is.trail) split is.leads) in
             (parts.0, parts.0, parts.1, parts.1, record { now = refl; calls = refl })

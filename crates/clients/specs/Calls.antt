@@ -3,6 +3,7 @@ use Rattle.std.specs.Prelude.{◌≡◌, ℕ, ◌<◌, ◌≤◌, ◌^◌, ◌�
 use Rattle.std.specs.Prelude.{◌++◌}
 use Rattle.std.specs.Prelude.{length, replicate, Contains, Result, Ok, Err}
 use Rattle.calls.specs.declared.refusal.Refusal.{Refusal}
+use Rattle.calls.specs.Limits.{number_end}
 use Rattle.txn.specs.declared.steps.Action.{Action}
 use Rattle.group_commit.specs.Lines.{ClientState}
 use Rattle.group_commit.specs.declared.mark.Raised.{Raised}
@@ -46,7 +47,7 @@ pub record Draws (next : ℕ) (old : Known) (n : ℕ) (new : Known) : Type 0 whe
 abbrev pub IsWorn : ℕ → Known → Known → Type 0
 IsWorn next old new =
     ((length old.drawn ≡ 2 ^ 40) × (new ≡ old))
-    ⊎ ((n : ℕ) × (2 ^ 61 ≤ n) × Draws next old n new × (new.phase ≡ old.phase))
+    ⊎ ((n : ℕ) × (number_end ≤ n) × Draws next old n new × (new.phase ≡ old.phase))
 
 -- ---- steps
 

@@ -1,4 +1,5 @@
 -- What lies under the book's lock.
+use Rattle.calls.specs.declared.format.Format.{Format}
 use Rattle.std.specs.Prelude.{◌≡◌, ℕ, List, [], map, Option, Some, None}
 use Rattle.std.specs.List.{AllByRecursion}
 use Rattle.calls.specs.Contents.{Collection}
@@ -33,12 +34,13 @@ abbrev pub frozen_ends : List GatherState → List ℕ
 frozen_ends noted = map (λ g. frozen_end g.frozen) noted
 
 -- The records of an opened book, with this wear, lead to the state now.
-module _ (start : List Collection) (wear : ℕ) (records : List Record) (now : State) where
+module _ (format : Format) (start : List Collection) (wear : ℕ) (records : List Record)
+    (now : State) where
   -- The image stands for a beginning of the records.
   pub record IsImageOfRecords (image : Image) : Type 0 where
     pub begun : BegunImage
     pub is_for : IsImageFor image begun
-    pub stands : StandIn start wear records now begun.blocks begun.covered
+    pub stands : StandIn format start wear records now begun.blocks begun.covered
 
   -- Whatever is packed of what was frozen stands for a beginning of the records.
   abbrev pub PacksImages : GatherState → Type 0
@@ -49,14 +51,15 @@ module _ (start : List Collection) (wear : ℕ) (records : List Record) (now : S
   -- beginnings of them.
   pub record AreRecorded (noted : List GatherState) : Type 0 where
     pub good : AllByRecursion (IsRecord None) records
+    pub of_book : now.format ≡ format
     pub trail : State
-    pub leads : Repeats records (resting start wear) trail
+    pub leads : Repeats records (resting format start wear) trail
     pub trails : Lags trail now
     pub stand : AllByRecursion PacksImages noted
 
 -- The book stands where its history led, each step of which was taken by who may take it. Its first
--- records were sent in blocks, and the others are pending. No block crosses where it was frozen. What the near end of the accord knows to be
--- gathered is of the book.
+-- records were sent in blocks, and the others are pending. No block crosses where it was frozen.
+-- What the near end of the accord knows to be gathered is of the book.
 pub record IsDesk {J : Type 0} (j : Ghosts J) (book : BookState (List Collection))
     (seat : lines.BookState) (sender : SenderState) (near : AccordState) : Type 0 where
   pub line : seat.table ≡ j.line
@@ -64,8 +67,9 @@ pub record IsDesk {J : Type 0} (j : Ghosts J) (book : BookState (List Collection
   pub gathering : near.table ≡ j.gathering
   pub gathered : IsGatheredOf (λ v. v) book near.gather
   pub groups : List (List Record)
-  pub handed : HasHanded catalog_meaning catalog_making (λ v. v) j.start j.wear seat.all book
+  pub handed : HasHanded catalog_meaning catalog_making (λ v. v) j.format j.start j.wear seat.all
+      book
       sender.sent groups (frozen_ends sender.noted) []
   pub owned : AreOwned seat.all
   pub recorded : j.sound →
-      AreRecorded j.start j.wear (records_by seat.all) (journalled book.state) sender.noted
+      AreRecorded j.format j.start j.wear (records_by seat.all) (journalled book.state) sender.noted

@@ -20,8 +20,8 @@ abbrev pub step_of : ℕ → Action → BookStep
 step_of n action = record { client = Some n; action = action }
 
 -- a client: its number; the history up to some step; the counts that it loaded of the mark, each
--- with the moment at which the mark was brought there; the failed flag, each time that it loaded it;
--- the numbers that it drew; and its transaction
+-- with the moment at which the mark was brought there; the failed flag, each time that it loaded
+-- it; the numbers that it drew; and its transaction
 pub record Known : Type 0 where
   pub number : ℕ
   pub seen : List BookStep
@@ -66,7 +66,8 @@ abbrev pub counts_of : Option SeenState → List Raised
 counts_of None = []
 counts_of (Some s) = s.counts
 
--- Who may take a step: a cut, a gathering and a freeze are of no client, every other step is of one.
+-- Who may take a step: a cut, a gathering and a freeze are of no client, every other step is of
+-- one.
 abbrev pub MayTake : Option ℕ → Action → Type 0
 MayTake client (Action.Cut count a) = client ≡ None
 MayTake client (Action.Gather a) = client ≡ None
@@ -82,7 +83,7 @@ AreOwned steps = AllByRecursion IsOwned steps
 module _ {J : Type 0} (j : Ghosts J) where
   -- The steps lead the opened book there, each of who may take it.
   pub record IsHistory (steps : List BookStep) (s : Standing (List Collection)) : Type 0 where
-    pub legal : IsLegal catalog_meaning catalog_making (opening j.start j.wear) steps s
+    pub legal : IsLegal catalog_meaning catalog_making (opening j.format j.start j.wear) steps s
     pub owned : AreOwned steps
 
   -- The steps are a legal history of the opened book.

@@ -1,8 +1,9 @@
 // A client of a store.
-ghost use Rattle.std.specs.Prelude.{◌≡◌, ◌≢◌, ◌↔◌, ◌≤◌, ◌<◌, ◌^◌, ℕ, [], ◌∷◌, ◌++◌, Ok, Err};
+ghost use Rattle.std.specs.Prelude.{◌≡◌, ◌≢◌, ◌↔◌, ◌≤◌, ◌<◌, ℕ, [], ◌∷◌, ◌++◌, Ok, Err};
 ghost use Rattle.std.specs.Prelude.{◌⊎◌, List, Bool, Option, false, IsTrue, IfOk, IfErr};
 ghost use Rattle.std.specs.Prelude.{IfSome, IfNone};
 ghost use Rattle.calls.specs.declared.refusal.Refusal.{Refusal};
+ghost use Rattle.calls.specs.Limits.{number_end};
 ghost use Rattle.txn.specs.declared.steps.Action.{Action};
 ghost use Rattle.txn.specs.declared.steps.Target.{Target};
 ghost use Rattle.group_commit.specs.Lines.{IsLonger, steps_of};
@@ -31,8 +32,8 @@ use std::sync::Wait;
 /// see what it knows.
 ///
 /// Where clients leave records faster than the disk takes them, and a committer's thread is at work
-/// (`Signal::set_attended`), each step but `begin` sleeps first while 8,192 records wait. So a client
-/// is refused Backlog only where no committer is at work, or keeping has failed.
+/// (`Signal::set_attended`), each step but `begin` sleeps first while 8,192 records wait. So a
+/// client is refused Backlog only where no committer is at work, or keeping has failed.
 pub struct Client<'s, J: Naming> {
     desk: &'s DeskLock<J>,
     shared: &'s Shared<J>,
@@ -119,7 +120,7 @@ impl<'s, J: Naming> Client<'s, J> {
     /// transaction then.
     pub fn begin(&mut self) -> Result<u64, Refusal>
         requires { self.old.phase ≡ Phase.Closed }
-        ensures drawn { IfOk result (λ n. (n < 2 ^ 61) × Draws J.next self.old n self.new ×
+        ensures drawn { IfOk result (λ n. (n < number_end) × Draws J.next self.old n self.new ×
             (self.new.phase ≡ Phase.Drawn n)) }
         ensures worn { IfErr result (λ e. (e ≡ Refusal.Worn) × IsWorn J.next self.old self.new) }
     {
@@ -177,11 +178,12 @@ impl<'s, J: Naming> Client<'s, J> {
         desk.call(self.shared, &mut self.line, number, name, call)
     }
 
-    /// Puts a bump off to the commit of the client's transaction. Until then it shows in no reply,
-    /// and an abort drops it. Call it only of a client with a transaction. It takes the book's lock
-    /// once, and calls no device.
+    /// Puts a bump or a fill off to the commit of the client's transaction. Until then it shows in
+    /// no reply, and an abort drops it. Call it only of a client with a transaction. It takes the
+    /// book's lock once, and calls no device.
     ///
-    /// The refusals of `call`, with BadArg for every call but a bump. They leave what those leave.
+    /// The refusals of `call`, with BadArg for every call that `Call::is_deferrable` does not take.
+    /// They leave what those leave.
     pub fn later<R: Wait>(&mut self, rt: &R, name: &str, call: &Call) -> Result<(), Refusal>
         requires { IsOpen self.old.phase }
         ensures step { Does ⟦<J as Naming>⟧ self.old.phase self.old
@@ -226,7 +228,8 @@ impl<'s, J: Naming> Client<'s, J> {
 
     /// Aborts the client's transaction: takes its calls back one by one, the newest first, and then
     /// ends it, so that its locks go. Call it only of a client with a transaction. It takes the
-    /// book's lock once for each call and twice more, and calls no device.
+    /// book's lock once for each call and twice more, or not at all where the transaction has asked
+    /// for nothing, and calls no device.
     ///
     /// Backlog, NoMemory. The transaction stays open then. Once a call was taken back it can do
     /// nothing but be aborted again, which goes on from there.

@@ -3,6 +3,7 @@ ghost use Rattle.std.specs.Prelude.{◌≡◌, ℕ, [], ◌∷◌, ◌++◌, Opt
 ghost use Rattle.std.specs.Prelude.{IsOkUnless, OnOk, ◌⊎◌, ◌≤◌};
 ghost use Rattle.calls.specs.Names.{IsName};
 ghost use Rattle.calls.specs.declared.refusal.Refusal.{Refusal};
+ghost use Rattle.calls.specs.Limits.{max_body};
 ghost use Rattle.catalog.specs.Making.{IsPlaceOf, FindRefused, names_of};
 ghost use Rattle.catalog.specs.Meaning.{catalog_meaning, catalog_making};
 ghost use Rattle.txn.specs.declared.steps.Action.{Action};
@@ -92,7 +93,7 @@ impl<J: Naming> Desk<J> {
         maker: DrawerMaker,
         watcher: Watcher,
     ) -> Self
-        requires book { book ≡ opened J.start J.next J.wear }
+        requires book { book ≡ opened J.format J.start J.next J.wear }
         requires seat { seat ≡ record { table = J.line; all = []; clients = 0 } }
         requires sender { sender ≡ record { table = J.handoff; sent = []; noted = [] } }
         requires near { near ≡ record { table = J.gathering; gather = nothing_gathered } }
@@ -262,11 +263,11 @@ impl<J: Naming> Desk<J> {
         cut
     }
 
-    /// Hands a block over as `cut` does, where the area's image covers it, or where it fits into the
-    /// room, and behind it the undoing of all that is live then, in blocks of 64 records; none where
-    /// four are in transit. How many
-    /// records that takes is not told too small; it is counted anew, by a look at all that is live,
-    /// where what is known of it does not fit. It takes no memory.
+    /// Hands a block over as `cut` does, where the area's image covers it, or where it fits into
+    /// the room, and behind it the undoing of all that is live then, in blocks of 64 records; none
+    /// where four are in transit. How many records that takes is not told too small; it is counted
+    /// anew, by a look at all that is live, where what is known of it does not fit. It takes no
+    /// memory.
     ///
     /// Imaging where the block is past the image that is being written, or does not fit while one
     /// is; Full where it does not fit. Nothing is handed over then.
@@ -351,7 +352,7 @@ pub fn note_alone<W: OneStep, T>(line: &Line, seat: &mut BookSeat, parts: &T)
 // the image that is being written. `before` so many behind the last block. A record makes one more
 // to undo at most. Where the block has all that waits, they can be counted.
 fn undoing_within(book: &Book<Catalog>, before: u64, next: NextBlock, room: Room) -> Option<u64>
-    requires { next.body ≤ 65535 }
+    requires { next.body ≤ max_body }
 {
     let behind = (book.waiting() as u64).saturating_sub(next.records);
     let end = book.position().saturating_sub(behind);

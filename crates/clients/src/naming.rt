@@ -7,6 +7,7 @@ use std::marker::Brand;
 pub trait Naming {
     ghost use Rattle.std.specs.Prelude.{ℕ, List};
     ghost use Rattle.calls.specs.Contents.{Collection};
+    ghost use Rattle.calls.specs.declared.format.Format.{Format};
     ghost use Rattle.atomic_table.specs.Seated.{TableId};
 
     /// The tables of the line, of the mark, of the numbers and of the hand-off, and of the accords
@@ -23,15 +24,17 @@ pub trait Naming {
 
     ghost awaited: { TableId };
 
-    /// What the opened book held, its wear and its next number.
+    /// What the opened book held, the format of its store, its wear and its next number.
     ghost start: { List Collection };
+
+    ghost format: { Format };
 
     ghost wear: { ℕ };
 
     ghost next: { ℕ };
 
-    /// The moment of the disk at which it was open, and what a stop at a moment since an earlier one
-    /// might have left then.
+    /// The moment of the disk at which it was open, and what a stop at a moment since an earlier
+    /// one might have left then.
     ghost opened_at: { ℕ };
 
     ghost left_since: { ℕ → List ℕ → Type 0 };
@@ -43,6 +46,7 @@ pub trait Naming {
 
 impl Naming for Brand {
     ghost use Rattle.std.specs.Prelude.{[]};
+    ghost use Rattle.calls.specs.declared.format.Format.{Format};
     ghost use Rattle.clients.specs.NoStore.{no_table};
 
     ghost line = { no_table };
@@ -58,6 +62,8 @@ impl Naming for Brand {
     ghost awaited = { no_table };
 
     ghost start = { [] };
+
+    ghost format = { Format.One };
 
     ghost wear = { 0 };
 

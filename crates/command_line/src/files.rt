@@ -1,17 +1,18 @@
 // Opening the files that a command names.
-ghost use Rattle.std.specs.Prelude.{◌≤◌, ◌↔◌, IsOk, IsOkUnless};
+ghost use Rattle.std.specs.Prelude.{◌≡◌, ◌≤◌, ◌↔◌, IsOk, IsOkUnless, IfOk, IfErr};
+ghost use Rattle.calls.specs.declared.format.Format.{Format};
+ghost use Rattle.calls.specs.declared.refusal.Refusal.{Refusal};
+ghost use Rattle.calls.specs.Formats.{max_area, number_of, widest};
 
 use boost::Failure;
-use calls::Refusal;
-use calls::limits::{MAX_AREA, MIN_AREA};
+use calls::limits::MIN_AREA;
+use calls::{Format, Refusal};
 use disk_model::{Content, FileDisk};
+use gate_block::layout::AREAS_AT;
 use std::fs::{self, File, TryLockError};
 use std::io::{self, Read};
 use std::os::unix::fs::FileTypeExt;
 use std::rt::Files;
-
-// How many bytes of a disk stand before its two areas.
-const AREAS_AT: u64 = 4096;
 
 /// What a command does with the file of a disk.
 #[derive(Clone, Copy)]
@@ -40,19 +41,32 @@ pub fn opened<'a, T: Drop>(path: &'a str, found: io::Result<T>) -> Result<T, Fai
     }
 }
 
-/// Refuses BadArg where no disk has areas of so many bytes.
-pub fn check_area(area: u64) -> Result<(), Refusal>
-    ensures ok { IsOk result ↔ ((MIN_AREA ≤ area) × (area ≤ MAX_AREA)) }
+/// The format of the number. Refused BadArg where there is none.
+pub fn format_numbered(number: u8) -> Result<Format, Refusal>
+    ensures numbered { IfOk result (λ format. number ≡ number_of format) }
+    ensures none { IfErr result (λ _. (format : Format) → number ≡ number_of format → ⊥) }
     ensures err { IsOkUnless result Refusal.BadArg }
 {
-    if area < MIN_AREA || area > MAX_AREA {
+    match Format::numbered(number) {
+        Some(format) => Ok(format),
+        None => Err(Refusal::BadArg),
+    }
+}
+
+/// Refuses BadArg where no disk of the format has areas of so many bytes.
+pub fn check_area(format: Format, area: u64) -> Result<(), Refusal>
+    ensures ok { IsOk result ↔ ((MIN_AREA ≤ area) × (area ≤ max_area format)) }
+    ensures small { IsOk result → area ≤ max_area widest }
+    ensures err { IsOkUnless result Refusal.BadArg }
+{
+    if area < MIN_AREA || area > format.max_area() {
         return Err(Refusal::BadArg);
     }
     Ok(())
 }
 
-// Takes the lock of a file that is to be read, which keeps out who writes. A file system that locks no
-// file that is open for reading alone goes without.
+// Takes the lock of a file that is to be read, which keeps out who writes. A file system that locks
+// no file that is open for reading alone goes without.
 fn lock_to_read<'a>(path: &'a str, file: File) -> Result<File, Failure<'a>> {
     match file.try_lock_shared() {
         Err(TryLockError::WouldBlock) => Err(Failure::InUse(path)),
@@ -132,7 +146,7 @@ pub fn make_disk<'a, S: Content>(
     area: u64,
     is_reserved: bool,
 ) -> Result<FileDisk<S>, Failure<'a>>
-    requires { area ≤ MAX_AREA }
+    requires { area ≤ max_area widest }
 {
     let file = open_file(rt, path, Access::Makes)?;
     let size = AREAS_AT + 2 * area;

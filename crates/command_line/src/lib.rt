@@ -7,10 +7,10 @@ mod lint;
 mod listen;
 
 use boost::{Failure, Invocation, Task, command, report, run, run_copy, serve};
-use calls::Refusal;
+use calls::{Format, Refusal};
 use clap::error::ErrorKind;
 use disk_model::{Content, Disk, FileDisk, MemDisk};
-use files::{Access, check_area, make_disk, open_disk, opened};
+use files::{Access, check_area, format_numbered, make_disk, open_disk, opened};
 use lint::{lint, tell_first_unclear};
 use listen::{listen_at_door, listen_to_input};
 use listening::Multiplex;
@@ -41,17 +41,20 @@ fn run_on<'a, D: Disk + Drop>(
     }
 }
 
-// Makes the file of a disk with two such areas, and carries a command out on it.
+// Makes the file of a disk with two such areas, of the format of the number, and carries a command
+// out on it. Refused BadArg where there is no such format, or such an area in it, before the file
+// is touched.
 fn run_on_new<'a, S: Content, R: Files<File = File> + AllocGlobal>(
     rt: &R,
     task: &Task,
     path: &'a str,
     area: u64,
+    version: u8,
     is_reserved: bool,
     out: &mut impl Write,
     err: &mut impl Write,
 ) -> Result<u8, Failure<'a>> {
-    check_area(area)?;
+    check_area(format_numbered(version)?, area)?;
     let disk = make_disk::<S>(rt, path, area, is_reserved);
     run_on(rt.alloc(), task, disk, &[], out, err)
 }
@@ -66,7 +69,7 @@ fn copy_store<'a, S: Content, R: Files<File = File> + AllocGlobal>(
     out: &mut impl Write,
     err: &mut impl Write,
 ) -> Result<u8, Failure<'a>> {
-    check_area(area)?;
+    check_area(Format::Two, area)?;
     if old == new {
         return Err(Failure::Refused(Refusal::BadArg));
     }
@@ -215,15 +218,19 @@ fn perform<'a, S: Content, R: Files<File = File> + AllocGlobal>(
         Task::Format {
             disk,
             area,
+            version,
             reserve,
-        } => run_on_new::<S, R>(rt, task, disk.as_str(), *area, *reserve, out, err),
+        } => run_on_new::<S, R>(rt, task, disk.as_str(), *area, *version, *reserve, out, err),
         Task::Play { disk, script } => {
             run_with_script::<S, R>(rt, task, disk.as_str(), script.as_str(), out, err)
         }
         Task::Show {
             disk,
             read_only: false,
-        } => run_on_old::<S, R>(rt, task, disk.as_str(), Access::Writes, &[], out, err),
+        }
+        | Task::Upgrade { disk } => {
+            run_on_old::<S, R>(rt, task, disk.as_str(), Access::Writes, &[], out, err)
+        }
         Task::Show { disk, .. } | Task::Check { disk } | Task::Stat { disk, .. } => {
             run_on_old::<S, R>(rt, task, disk.as_str(), Access::Reads, &[], out, err)
         }
@@ -266,8 +273,8 @@ fn explain(error: &clap::Error, out: &mut impl Write, err: &mut impl Write) -> u
 }
 
 /// Understands the words of a command line and carries them out. Answers the status. A listening
-/// store reads its clients' lines from `input`, or comes by a door of `fifos`; nothing else uses the
-/// two.
+/// store reads its clients' lines from `input`, or comes by a door of `fifos`; nothing else uses
+/// the two.
 ///
 /// What the files hold is `S`: this is proved for any, so what the commands promise of a disk holds
 /// of the files that are there. A program names `Unknown`, in one place.

@@ -6,13 +6,11 @@ ghost use Rattle.disk_model.specs.Disk.{IsAtRest};
 use calls::Refusal;
 use calls::limits::{MAX_AREA, MIN_AREA};
 use disk_model::{Content, Disk, FileDisk};
+use gate_block::layout::AREAS_AT;
 use recovery::format;
 use std::fs::{File, TryLockError};
 use std::io;
 use std::rt::Files;
-
-// How many bytes of a store stand before its two areas.
-const AREAS_AT: u64 = 4096;
 
 /// Why the file of a store is not opened.
 #[derive(Debug, Drop, thiserror::Error)]

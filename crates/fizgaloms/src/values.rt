@@ -22,7 +22,8 @@ pub fn number_of(value: &Bytes) -> Option<u64>
     Some(u64::from_be_bytes([*a, *b, *c, *d, *e, *f, *g, *h]))
 }
 
-/// The value of a text: its bytes. A map takes 256 bytes at most. Refused only for want of memory.
+/// The value of a text: its bytes. A map takes 256 bytes at most, in a store of format 2 1,024.
+/// Refused only for want of memory.
 pub fn value_of_text(alloc: Global, text: &str) -> Result<Bytes, AllocError>
     ensures { IfOk result (λ value. value ≡ text.now) }
 {

@@ -47,18 +47,6 @@ pub row_fits : (bodies : List (List ℕ)) (bytes : List ℕ) → IsRow bodies by
 row_fits bodies bytes is_row = omega
     (arith, ap length is_row.is, length-append (row bodies) (is_row.gate ∷ is_row.rest))
 
--- also in an area that lies on the disk
-pub row_fits_area : (area : Area) (bodies : List (List ℕ)) (disk : List ℕ) →
-    base_of area + size_of area ≤ length disk → IsRow bodies (bytes_of area disk) →
-    length (row bodies) < size_of area
-row_fits_area area bodies disk inside is_row =
-    omega (
-      arith,
-      row_fits bodies (bytes_of area disk) is_row,
-      length-take-le (size_of area) (drop (base_of area) disk)
-          (omega (arith, length-drop (base_of area) disk)),
-    )
-
 -- p is the place behind the blocks that were read, and these are the blocks behind it
 module _ (done rest : List (List ℕ)) (bytes : List ℕ) (p : ℕ) (here : p ≡ length (row done))
     (is_row : IsRow (done ++ rest) bytes) where
@@ -145,19 +133,6 @@ ready seen may_leave area disk bodies holds position rest =
       position = position;
       at_rest = λ c left. ap (λ (l : List ℕ). bytes_of area l) (rest c left);
     }
-
--- It stays ready where the area is the same and the disk was only read.
-pub still_ready : {D : Type 0} (seen : D → List ℕ) (may_leave : D → List ℕ → Type 0)
-    (moment : D → ℕ) (left_since : D → ℕ → List ℕ → Type 0) (area : Area) (old new : D)
-    (bodies : List (List ℕ))
-    → ReadsOnly seen may_leave moment left_since old new → IsReady seen may_leave area old bodies →
-    IsReady seen may_leave area new bodies
-still_ready seen may_leave moment left_since area old new bodies reads was = record {
-  holds = subst (λ (l : List ℕ). IsRow bodies (bytes_of area l)) (sym reads.same) was.holds;
-  position = was.position;
-  at_rest = λ c left. was.at_rest c (reads.stop c left) ∙
-      ap (λ (l : List ℕ). bytes_of area l) (sym reads.same);
-}
 
 -- After an append, whatever it answered, a stop now leaves the blocks with the new one or without.
 -- counts_now is the disk's law of that name.

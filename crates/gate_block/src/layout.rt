@@ -1,8 +1,5 @@
 //! Where the parts of a store's disk stand.
 
-/// The letters of a store, which its disk begins with.
-pub const LETTERS: [u8; 8] = *b"BOOSTED1";
-
 /// Where the gate of the head stands.
 pub const GATE_AT: u64 = 8;
 

@@ -253,13 +253,14 @@ holds_image collections next place position s g h image holds repeats packs =
     holds.copies in
     let marks = ap (λ (v : FrozenState). v.marks) same ∙ holds.marks in
     let live = ap (λ (v : FrozenState). v.live) same in
-    let told : (rs : List _) → TellsGathered packs.frozen.marks.next packs.frozen.marks.wear
+    let told : (rs : List _) → TellsGathered packs.frozen.marks.format packs.frozen.marks.next
+    packs.frozen.marks.wear
     (gathered (caught_up h.parts h.effects)) packs.frozen.live rs →
     TellsState collections next s rs =
     λ rs tells. tells_state collections next s f.live holds.tells rs
-    (subst (λ l. TellsGathered next s.wear (collections s.now) l rs) live
-    (subst (λ xs. TellsGathered next s.wear xs packs.frozen.live rs) copies
-    (subst (λ (v : _). TellsGathered v.next v.wear (gathered (caught_up h.parts h.effects))
+    (subst (λ l. TellsGathered s.format next s.wear (collections s.now) l rs) live
+    (subst (λ xs. TellsGathered s.format next s.wear xs packs.frozen.live rs) copies
+    (subst (λ (v : _). TellsGathered v.format v.next v.wear (gathered (caught_up h.parts h.effects))
     packs.frozen.live rs) marks tells))) in (
       record {
         groups = packs.packed.groups;

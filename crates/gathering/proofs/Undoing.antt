@@ -1,4 +1,6 @@
 -- The call that takes the newest one back, and that it leads where the machine's step does.
+use Rattle.calls.specs.declared.format.Format.{Format}
+use Rattle.calls.specs.Formats.{widest}
 use Rattle.std.proofs.Common.{◌≡◌, ℕ, ◌+◌, ◌≤◌, Option, Some, None, MatchOption, List, [], ◌∷◌, map}
 use Rattle.std.proofs.Common.{length, refl, sym, ◌∙◌, ap, subst, arith, inr}
 use Rattle.std.specs.List.{AllByRecursion}
@@ -12,6 +14,7 @@ use Rattle.boosted.specs.Meaning.{Meaning, Undoes, HasReply}
 use Rattle.boosted.proofs.Each.{each_back}
 use Rattle.catalog.specs.Making.{Making}
 use Rattle.record_format.specs.Short.{IsShortReply}
+use Rattle.records.proofs.Items.{widest_reply}
 use Rattle.machine.specs.Machine.{State, Does, BackRow}
 use Rattle.machine.specs.Machines.{IsUpheld, IsAskedEntry}
 use Rattle.machine.specs.Sound.{IsSound}
@@ -23,13 +26,14 @@ use Rattle.images.specs.declared.effect.Effect.{Effect}
 use Rattle.gathering.specs.Gatherings.{AreRun, IsUndoing}
 
 -- the newest call got a reply that can be spelled
-pub newest_short : (n : ℕ) (x : Event) (es rest : List (ℕ × Entry)) → IsNewestCall n es x rest →
-    AllByRecursion (λ e. IsAskedEntry e.1) es → IsShortReply x.reply
-newest_short n x es rest newest asked =
-    (each_back (λ (e : ℕ × Entry). IsAskedEntry e.1) newest.before ((n, Asked x) ∷ newest.after)
-    (subst (AllByRecursion (λ e. IsAskedEntry e.1)) newest.is asked)).0.3
+pub newest_short : (f : Format) (n : ℕ) (x : Event) (es rest : List (ℕ × Entry)) →
+    IsNewestCall n es x rest →
+    AllByRecursion (λ e. IsAskedEntry f e.1) es → IsShortReply widest x.reply
+newest_short f n x es rest newest asked = widest_reply f x.reply
+    ((each_back (λ (e : ℕ × Entry). IsAskedEntry f e.1) newest.before ((n, Asked x) ∷ newest.after)
+    (subst (AllByRecursion (λ e. IsAskedEntry f e.1)) newest.is asked)).0.3)
 
-module _ {S : Type 0} (meaning : Meaning S ℕ) (making : Making S) (short : S → Type 0)
+module _ {S : Type 0} (meaning : Meaning S ℕ) (making : Making S) (short : Format → S → Type 0)
     (laws : BookLaws meaning making short) (s : State S)
     (upheld : IsUpheld meaning making short (IsSound meaning making) s) (n : ℕ) (x : Event)
     (rest : List (ℕ × Entry)) (newest : IsNewestCall n s.entries x rest) where
@@ -102,7 +106,7 @@ module _ {S : Type 0} (meaning : Meaning S ℕ) (making : Making S) (short : S �
     undoing_replies = inr (answered.0, answered.1)
 
     -- Where a call takes it back, that leads where the step does.
-    pub undoes_one : (position : ℕ) → IsShortReply x.reply → (e : Effect) →
+    pub undoes_one : (position : ℕ) → IsShortReply widest x.reply → (e : Effect) →
         (e.position ≡ position) →
         (e.collection ≡ x.at) → (e.call ≡ back) → meaning.answers s.now x.at back e.reply →
         IsUndoing meaning s n position (e ∷ [])
@@ -127,8 +131,8 @@ module _ {S : Type 0} (meaning : Meaning S ℕ) (making : Making S) (short : S �
               refl,
             );
             short = (
-              subst IsShort (sym call)
-                  (laws.short_inverse x.call x.reply back short_reply is),
+              subst (IsShort widest) (sym call)
+                  (laws.short_inverse widest x.call x.reply back short_reply is),
               tt,
             );
             there = (there, tt);
@@ -137,7 +141,8 @@ module _ {S : Type 0} (meaning : Meaning S ℕ) (making : Making S) (short : S �
     }
 
 -- Where the newest call was taken back, some call did so, or none was needed.
-pub row_undoing : {S : Type 0} (meaning : Meaning S ℕ) (making : Making S) (short : S → Type 0)
+pub row_undoing : {S : Type 0} (meaning : Meaning S ℕ) (making : Making S)
+    (short : Format → S → Type 0)
     (laws : BookLaws meaning making short) (s t : State S) →
     IsUpheld meaning making short (IsSound meaning making) s → (n position : ℕ) →
     BackRow meaning s n t → (es : List Effect) × (length es ≤ 1) ×
@@ -175,8 +180,8 @@ row_undoing meaning making short laws s t upheld n position row = by
           record {
             leads = (t.now, (did.1.0, here ∙ did.1.1), refl);
             short = (
-              laws.short_inverse row.call.call row.call.reply back
-                  (newest_short n row.call s.entries row.rest row.newest upheld.asked) is,
+              laws.short_inverse widest row.call.call row.call.reply back
+                  (newest_short s.format n row.call s.entries row.rest row.newest upheld.asked) is,
               tt,
             );
             there = (refl, tt);

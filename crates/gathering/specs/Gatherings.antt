@@ -1,18 +1,24 @@
 -- What a book keeps while it is gathered, beside the steps of its machine.
-use Rattle.std.specs.Prelude.{◌≡◌, ◌≢◌, ℕ, ◌+◌, ◌==◌, ◌<◌, ◌≤◌, ◌^◌, ◌⊎◌, Bool, true, false, cond}
+use Rattle.std.specs.Prelude.{◌≡◌, ◌≢◌, ℕ, ◌+◌, ◌==◌, ◌<◌, ◌≤◌, ◌⊎◌, Bool, true, false, cond}
 use Rattle.std.specs.Prelude.{nat_le, nat_lt, List, [], ◌++◌, length, map, slice_get}
 use Rattle.std.specs.Prelude.{Some, Result, Ok, Err}
 use Rattle.std.specs.List.{AllByRecursion}
 use Rattle.calls.specs.declared.refusal.Refusal.{Refusal}
 use Rattle.calls.specs.Contents.{Collection}
+use Rattle.calls.specs.Formats.{widest}
 use Rattle.calls.specs.Rules.{IsShort}
 use Rattle.calls.specs.Transactions.{Event, Leads}
+use Rattle.calls.specs.Limits.{number_end}
 use Rattle.boosted.specs.Meaning.{Meaning}
 use Rattle.machine.specs.Machine.{State, Does, BackRow}
 use Rattle.images.specs.declared.effect.Effect.{Effect}
 use Rattle.images.specs.Gathers.{GatherState, FrozenState, with_gathered, gathered, caught_up}
 use Rattle.images.specs.Images.{TellsTransactions}
 use Rattle.images.specs.Following.{Follows, CameBy}
+
+-- the most effects that wait to be repeated on the copies
+abbrev pub max_effects : ℕ
+max_effects = 16384
 
 pub record GatheringState : Type 0 where
   -- how many gatherings were begun
@@ -33,18 +39,18 @@ given_up n = record n { going = false; effects = [] }
 -- The calls are noted behind the others, if a gathering is under way: as long as there are 16,384
 -- at most. With more it is given up.
 abbrev pub noted : GatheringState → List Effect → GatheringState
-noted n es = cond n.going (cond (nat_le (length n.effects + length es) 16384)
+noted n es = cond n.going (cond (nat_le (length n.effects + length es) max_effects)
     (record n { effects = n.effects ++ es }) (given_up n)) n
 
--- What holds of every gathering, where there is room for so many calls: while it is under way
--- there is room for 16,384.
+-- What holds of every gathering, where there is room for so many calls: while it is under way there
+-- is room for 16,384.
 pub record IsKept (n : GatheringState) (room : ℕ) : Type 0 where
-  pub few : n.begun ≤ 2 ^ 61
+  pub few : n.begun ≤ number_end
   pub first : n.going ≡ true → 1 ≤ n.begun
   pub none : n.going ≡ false → n.effects ≡ []
-  pub fit : length n.effects ≤ 16384
-  pub roomy : n.going ≡ true → 16384 ≤ room
-  pub short : AllByRecursion (λ e. IsShort e.call) n.effects
+  pub fit : length n.effects ≤ max_effects
+  pub roomy : n.going ≡ true → max_effects ≤ room
+  pub short : AllByRecursion (λ e. IsShort widest e.call) n.effects
 
 -- ---- what the calls did
 
@@ -62,7 +68,7 @@ effect_at position e =
 pub record AreRun {S : Type 0} (meaning : Meaning S ℕ) (position : ℕ) (es : List Effect) (s t : S) :
     Type 0 where
   pub leads : Leads (Does meaning) (map event_in es) s t
-  pub short : AllByRecursion (λ e. IsShort e.call) es
+  pub short : AllByRecursion (λ e. IsShort widest e.call) es
   pub there : AllByRecursion (λ e. e.position ≡ position) es
 
 -- The calls, one at most, take the newest call of the transaction back.
@@ -103,9 +109,9 @@ GatherAnswers xs position n g (Ok more) m h =
     (more ≡ nat_lt (length h.parts) (length xs))
 GatherAnswers xs position n g (Err Refusal.Outrun) m h = IsOutrun n g m h
 GatherAnswers xs position n g (Err Refusal.Worn) m h =
-    (m ≡ n) × (h ≡ g) × (g.mark ≡ 0) × (n.begun ≡ 2 ^ 61)
+    (m ≡ n) × (h ≡ g) × (g.mark ≡ 0) × (n.begun ≡ number_end)
 GatherAnswers xs position n g (Err Refusal.NoMemory) m h =
-    (m ≡ n) × (h ≡ g) × (((g.mark ≡ 0) × (n.begun < 2 ^ 61)) ⊎ IsUnderWay n g)
+    (m ≡ n) × (h ≡ g) × (((g.mark ≡ 0) × (n.begun < number_end)) ⊎ IsUnderWay n g)
 GatherAnswers xs position n g (Err e) m h = ⊥
 
 -- What is gathered is of the gathering that is under way, and all of these collections are copied.
@@ -144,7 +150,7 @@ module _ {S : Type 0} (collections : S → List Collection) where
     pub frozen : FrozenState
     pub is_frozen : g.frozen ≡ Some frozen
     pub marks : frozen.marks ≡
-        record { next = next; wear = s.wear; end = position; place = place }
+        record { format = s.format; next = next; wear = s.wear; end = position; place = place }
     pub tells : TellsTransactions s.live s.entries frozen.live
     pub copies : gathered (caught_up g.parts g.effects) ≡ collections s.now
 

@@ -1,7 +1,8 @@
 -- What is gathered goes along past every step of a book, and comes to an image.
-use Rattle.std.specs.Prelude.{◌≡◌, ℕ, ◌+◌, ◌≤◌, ◌^◌, List, length}
+use Rattle.std.specs.Prelude.{◌≡◌, ℕ, ◌+◌, ◌≤◌, List, length}
 use Rattle.calls.specs.declared.kind.Kind.{Kind}
 use Rattle.calls.specs.Contents.{Collection}
+use Rattle.calls.specs.Limits.{max_wear}
 use Rattle.boosted.specs.Meaning.{Meaning}
 use Rattle.catalog.specs.Making.{Making}
 use Rattle.blocks.specs.declared.block.Image.{Image}
@@ -15,7 +16,7 @@ module _ {S : Type 0} (collections : S → List Collection) where
   -- Calls are run, which the next record tells of, and are noted.
   abbrev pub GoesPastRuns : Meaning S ℕ → Type 0
   GoesPastRuns meaning = (n : GatheringState) (es : List Effect) (position wear : ℕ) (s t : S) →
-      meaning.within s wear → wear + length es ≤ 2 ^ 61 + 65536 →
+      meaning.within s wear → wear + length es ≤ max_wear →
       AreRun meaning (position + 1) es s t →
       KeepsGoing collections n s position (noted n es) t (position + 1)
 

@@ -1,11 +1,13 @@
 // The calls that are noted while a book is gathered, and what is handed over of them.
-ghost use Rattle.std.specs.Prelude.{◌≡◌, ◌≢◌, ◌≤◌, ◌^◌, [], ◌∷◌, map, length, slice_get, true};
+ghost use Rattle.std.specs.Prelude.{◌≡◌, ◌≢◌, ◌≤◌, [], ◌∷◌, map, length, slice_get, true};
 ghost use Rattle.std.specs.Prelude.{OnOk};
 ghost use Rattle.std.specs.Prelude.{OnErr, IfOk, IfErr, IfSome, IsOkUnless};
 ghost use Rattle.std.specs.List.{AllByRecursion};
 ghost use Rattle.std.specs.Option.{option_map};
+ghost use Rattle.calls.specs.Formats.{widest};
 ghost use Rattle.calls.specs.Rules.{IsShort};
 ghost use Rattle.calls.specs.Transactions.{laters_of, own};
+ghost use Rattle.calls.specs.Limits.{number_end};
 ghost use Rattle.undo_log.specs.Entries.{event_of, HasNoCall};
 ghost use Rattle.undo_log.specs.Logs.{Lives};
 ghost use Rattle.record_format.specs.Short.{HoldsShort};
@@ -230,7 +232,7 @@ impl Gathering {
         position: u64,
         gather: &mut Gather<B::Part>,
     ) -> Result<(), Refusal>
-        requires next { (1 ≤ next) × (next ≤ 2 ^ 61) }
+        requires next { (1 ≤ next) × (next ≤ number_end) }
         requires whole { IsWhole (B.collections machine.now.now) self.old gather.old }
         requires along { GoesAlong B.collections self.old machine.now.now position gather.old }
         ensures ended { OnOk result (self.new ≡ given_up self.old) }
@@ -242,6 +244,7 @@ impl Gathering {
     {
         machine.upheld();
         let marks = Marks {
+            format: machine.format(),
             next,
             wear: machine.wear(),
             end: position,
@@ -314,7 +317,7 @@ impl Gathering {
     // Notes a call.
     fn note(&mut self, effect: Effect)
         requires going { self.old.going ≡ true }
-        requires short { IsShort effect.call }
+        requires short { IsShort widest effect.call }
         ensures { self.new ≡ noted self.old (effect ∷ []) }
     {
         if self.effects.len() < MAX_EFFECTS {
@@ -328,7 +331,7 @@ impl Gathering {
     // Notes these calls.
     fn note_all(&mut self, effects: &mut VecDeque<Effect>)
         requires going { self.old.going ≡ true }
-        requires short { AllByRecursion (λ e. IsShort e.call) effects.old.items }
+        requires short { AllByRecursion (λ e. IsShort widest e.call) effects.old.items }
         ensures { self.new ≡ noted self.old effects.old.items }
     {
         if effects.len() > MAX_EFFECTS - self.effects.len() {
@@ -354,7 +357,7 @@ fn next_part<B: Parts + Coded>(
 ) -> Result<Option<B::Part>, Refusal>
     ensures ok { IfOk result (λ part. option_map (λ p. B.Part.collection p) part ≡
         slice_get (B.collections machine.now.now) copied) }
-    ensures short { IfOk result (λ part. IfSome part (λ p. HoldsShort
+    ensures short { IfOk result (λ part. IfSome part (λ p. HoldsShort widest
         (B.Part.collection p).content)) }
     ensures refusal { IsOkUnless result Refusal.NoMemory }
 {

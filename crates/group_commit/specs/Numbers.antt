@@ -1,6 +1,7 @@
 -- Numbers of transactions, as those who draw them know them.
 use Rattle.std.specs.Prelude.{◌≡◌, ℕ, ◌+◌, ◌<◌, ◌≤◌, ◌^◌, ◌⊎◌, List, ◌∷◌, [], ◌++◌, length}
 use Rattle.std.specs.Prelude.{Contains}
+use Rattle.calls.specs.Limits.{number_end}
 use Rattle.atomic_table.specs.Seated.{TableId}
 
 -- the number from which on numbers are drawn, and how many drawers were made
@@ -40,7 +41,7 @@ pub record Draws (before : DrawerState) (n : ℕ) (after : DrawerState) : Type 0
 abbrev pub IsWorn : DrawerState → DrawerState → Type 0
 IsWorn before after =
     ((length before.drawn ≡ 2 ^ 40) × (after ≡ before))
-    ⊎ ((n : ℕ) × (2 ^ 61 ≤ n) × Draws before n after)
+    ⊎ ((n : ℕ) × (number_end ≤ n) × Draws before n after)
 
 -- no number is in both lists
 abbrev pub AreApart : List ℕ → List ℕ → Type 0

@@ -1,7 +1,8 @@
 // Numbers of transactions, which threads draw, each once.
-ghost use Rattle.std.specs.Prelude.{◌≡◌, ◌≢◌, ◌+◌, ◌<◌, ◌≤◌, ◌^◌, [], false, OnOk, IfOk, IfErr};
+ghost use Rattle.std.specs.Prelude.{◌≡◌, ◌≢◌, ◌+◌, ◌<◌, ◌≤◌, [], false, OnOk, IfOk, IfErr};
 ghost use Rattle.std.specs.Prelude.{IsOkUnless};
 ghost use Rattle.calls.specs.declared.refusal.Refusal.{Refusal};
+ghost use Rattle.calls.specs.Limits.{number_end, max_clients};
 ghost use Rattle.group_commit.specs.Numbers.{with_drawer, Draws, IsWorn, AreApart};
 ghost use Rattle.group_commit.specs.Drawing.{Sits, boarded, nobody, without_first, first_alone};
 ghost use Rattle.group_commit.specs.Drawing.{drawer, hand_of, DrawsOne};
@@ -189,7 +190,7 @@ impl Numbers {
     ///
     /// NoMemory for the word.
     pub fn new(alloc: Global, from: u64) -> Result<(Numbers, DrawerMaker), Refusal>
-        requires { from ≤ 2 ^ 61 }
+        requires { from ≤ number_end }
         ensures maker { IfOk result
             (λ made. made.1 ≡ record { table = made.0; from = from; made = 0 }) }
         ensures refusal { IsOkUnless result Refusal.NoMemory }
@@ -204,7 +205,7 @@ impl Numbers {
     /// Worn exactly where 65,536 drawers were made, and then none is made.
     pub fn drawer(&self, maker: &mut DrawerMaker) -> Result<Drawer, Refusal>
         requires { maker.old.table ≡ self.now }
-        ensures few { OnOk result (maker.old.made < 65536) }
+        ensures few { OnOk result (maker.old.made < max_clients) }
         ensures maker { OnOk result (maker.new ≡ with_drawer maker.old) }
         ensures drawer { IfOk result (λ d. d ≡ record {
           table = self.now;
@@ -212,7 +213,7 @@ impl Numbers {
           number = maker.new.made;
           drawn = [];
         }) }
-        ensures worn { IfErr result (λ r. (r ≡ Refusal.Worn) × (maker.old.made ≡ 65536) ×
+        ensures worn { IfErr result (λ r. (r ≡ Refusal.Worn) × (maker.old.made ≡ max_clients) ×
             (maker.new ≡ maker.old)) }
     {
         if maker.made >= MAX_CLIENTS {
@@ -232,7 +233,7 @@ impl Numbers {
     /// Worn exactly where this drawer has drawn 2^40 numbers, or the next number is past the last.
     pub fn draw(&self, drawer: &mut Drawer) -> Result<u64, Refusal>
         requires { drawer.old.table ≡ self.now }
-        ensures drawn { IfOk result (λ n. (n < 2 ^ 61) × Draws drawer.old n drawer.new) }
+        ensures drawn { IfOk result (λ n. (n < number_end) × Draws drawer.old n drawer.new) }
         ensures worn { IfErr result (λ r. (r ≡ Refusal.Worn) × IsWorn drawer.old drawer.new) }
     {
         if drawer.left == 0 {

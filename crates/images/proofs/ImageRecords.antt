@@ -1,4 +1,6 @@
 -- The records of an image, written part by part.
+use Rattle.calls.specs.declared.format.Format.{Format}
+use Rattle.calls.specs.Formats.{widest}
 use Rattle.std.proofs.Common.{◌≡◌, ℕ, zero, suc, ◌+◌, ◌≤◌, ◌<◌}
 use Rattle.std.proofs.Common.{◌⊎◌, inl, inr, ◌↔◌, Bool, true, false, Option, Some}
 use Rattle.std.proofs.Common.{None, List, [], ◌∷◌, ◌++◌, length, map, drop, get_or, Contains, refl}
@@ -125,7 +127,7 @@ pub fits_more : (items : List Item) (i : Item) → AllByRecursion FitsItem items
 fits_more items i all fits = each_append FitsItem items (i ∷ []) all (fits, tt)
 
 item_records : (kind : Kind) (items : List Item) → AllByRecursion FitsItem items →
-    AllByRecursion (λ i. IsShortItem i × IsItemOf kind i) items →
+    AllByRecursion (λ i. IsShortItem widest i × IsItemOf kind i) items →
     AreRecords (Some kind) (map Record.Item items)
 item_records kind [] fits are = tt
 item_records kind (i ∷ items) fits are =
@@ -133,7 +135,7 @@ item_records kind (i ∷ items) fits are =
 
 -- A collection is written.
 pub shown_writes : (shown : Shown) (before mid after : List Record) → IsName shown.name →
-    AllByRecursion (λ i. IsShortItem i × IsItemOf shown.kind i) shown.items.items →
+    AllByRecursion (λ i. IsShortItem widest i × IsItemOf shown.kind i) shown.items.items →
     AllByRecursion FitsItem shown.items.items →
     mid ≡ before ++ Record.Name shown.kind shown.name ∷ [] →
     after ≡ mid ++ map Record.Item shown.items.items →
@@ -151,18 +153,19 @@ shown_writes shown before mid after name items fits first more = record {
 }
 
 pub each_short : (kind : Kind) (items : List Item) →
-    AllByRecursion (λ i. IsShortItem i × IsItemOf kind i) items → AllByRecursion IsShortItem items
+    AllByRecursion (λ i. IsShortItem widest i × IsItemOf kind i) items →
+    AllByRecursion (IsShortItem widest) items
 each_short kind [] are = tt
 each_short kind (i ∷ items) are = (are.0.0, each_short kind items are.1)
 
 -- What is shown of a collection can be written,
-pub can_show : (x : Collection) (shown : Shown) → Shows x shown → HoldsShort x.content →
-    IsName shown.name × AllByRecursion (λ i. IsShortItem i × IsItemOf shown.kind i)
+pub can_show : (x : Collection) (shown : Shown) → Shows x shown → HoldsShort widest x.content →
+    IsName shown.name × AllByRecursion (λ i. IsShortItem widest i × IsItemOf shown.kind i)
     shown.items.items
 can_show x shown shows short = (
   shows.good,
-  subst (λ k. AreItems k shown.items.items) (sym shows.of_kind)
-      (content_items x.content shown.items.items short shows.holds),
+  subst (λ k. AreItems widest k shown.items.items) (sym shows.of_kind)
+      (content_items widest x.content shown.items.items short shows.holds),
 )
 
 -- and then tells of it.
@@ -178,8 +181,8 @@ tells_of x shown rs shows is = record {
 
 -- The same of a collection at its place.
 pub at_shown : (s : List Collection) (at : ℕ) (shown : Shown) → At (λ x. Shows x shown) s at →
-    AreShort s → IsName shown.name ×
-    AllByRecursion (λ i. IsShortItem i × IsItemOf shown.kind i) shown.items.items
+    AreShort widest s → IsName shown.name ×
+    AllByRecursion (λ i. IsShortItem widest i × IsItemOf shown.kind i) shown.items.items
 at_shown [] at shown there short = absurd there
 at_shown (x ∷ xs) zero shown there short = can_show x shown there short.0
 at_shown (x ∷ xs) (suc at) shown there short = at_shown xs at shown there short.1
@@ -271,10 +274,10 @@ module _ {A : Type 0} (copy : A → CopyState) (o : A) where
   at_copy P (x ∷ os) (suc i) below is h = at_copy P os i (omega (arith, below)) is h
 
   pub short_copy : (os : List A) (i : ℕ) → i < length os → o ≡ get_or os i o →
-      AreShort (gathered (map copy os)) → HoldsShort (copy o).collection.content
+      AreShort widest (gathered (map copy os)) → HoldsShort widest (copy o).collection.content
   short_copy [] i below is short = absurd (omega (arith, below))
   short_copy (x ∷ os) zero below is short =
-      subst (λ v. HoldsShort (copy v).collection.content) (sym is) short.0
+      subst (λ v. HoldsShort widest (copy v).collection.content) (sym is) short.0
   short_copy (x ∷ os) (suc i) below is short =
       short_copy os i (omega (arith, below)) is short.1
 
@@ -413,21 +416,6 @@ begun_one before now after live last n begun next number more =
             by (inl le) = le
             by (inr lt) = absurd (other (omega (arith, low, next.least m lives lt)))
 
-pub begun_all : (before now : List Record) (live : Statuses) (last : ℕ) →
-    HaveBegun before now live last → ((n : ℕ) → Lives live n → n ≤ last) →
-    Writes before now (TellsLive live)
-begun_all before now live last begun none =
-    writes_as (λ rs. rs ≡ map Record.Begin begun.numbers) (TellsLive live) before now begun.told
-    (λ rs is. record {
-      numbers = begun.numbers;
-      are = is;
-      rise = begun.rise;
-      are_live = λ n. (
-        λ there. ((begun.are_live n).0 there).0,
-        λ lives. (begun.are_live n).1 (lives, none n lives),
-      );
-    })
-
 -- ---- what they asked for
 
 -- The entries before a place are written, and those from it on are left.
@@ -479,19 +467,8 @@ module _ (one : ℕ × Entry → List Record) (P : ℕ × Entry → Type 0) (bef
         left = (subst (λ l. AllByRecursion P (map owned_entry l)) next so_far.left).1;
       }
 
--- What a falling transaction put off is passed over, and only that.
-pub passed_over : (o : Option Bool) (r : Record) → o ≡ Some true → unless_falling o r ≡ []
-passed_over (Some true) r is = refl
-passed_over (Some false) r is = cc
-passed_over None r is = cc
-
-pub told_of : (o : Option Bool) (r : Record) → (o ≡ Some true → ⊥) → r ∷ [] ≡ unless_falling o r
-told_of (Some true) r not = absurd (not refl)
-told_of (Some false) r not = refl
-told_of None r not = refl
-
 pub live_call_good : (n at : ℕ) (c : Call) (r : Reply) (last : Option Kind) → IsNumber n →
-    at < 256 → IsAskedEntry (Asked (record { at = at; call = c; reply = r })) → FitsCall c →
+    at < 256 → IsAskedEntry widest (Asked (record { at = at; call = c; reply = r })) → FitsCall c →
     FitsReply r →
     IsRecord last (Record.LiveCall (call_record n at c r (inverse_of c r)))
 live_call_good n at c r last number few asked fits_call fits_reply = record {
@@ -568,9 +545,9 @@ module _ (live : Statuses) (es : List (ℕ × Entry)) (mid all : List Record)
 
 -- ---- the whole image
 
-module _ (next wear : ℕ) (xs : List Collection) (live : List Record) where
+module _ (format : Format) (next wear : ℕ) (xs : List Collection) (live : List Record) where
   marks_good : CanStand next wear live → (last : Option Kind) →
-      IsRecord last (Record.Marks next wear)
+      IsRecord last (Record.Marks format next wear)
   marks_good can last = record {
     fits = (
       let high = can.high in
@@ -585,14 +562,14 @@ module _ (next wear : ℕ) (xs : List Collection) (live : List Record) where
   end_good last = record { fits = tt; suits = tt; sound = tt }
 
   pub whole_writes : (a b c d e : List Record) → CanStand next wear live →
-      b ≡ a ++ Record.Marks next wear ∷ [] → Writes b c (TellOf xs) → d ≡ c ++ live →
-      e ≡ d ++ Record.ImageEnd ∷ [] → Writes a e (TellsGathered next wear xs live)
+      b ≡ a ++ Record.Marks format next wear ∷ [] → Writes b c (TellOf xs) → d ≡ c ++ live →
+      e ≡ d ++ Record.ImageEnd ∷ [] → Writes a e (TellsGathered format next wear xs live)
   whole_writes a b c d e can marks told lived end = record {
-    written = Record.Marks next wear ∷ (told.written ++ (live ++ tail));
+    written = Record.Marks format next wear ∷ (told.written ++ (live ++ tail));
     are = end ∙ ap (λ l. l ++ tail) lived ∙ append_assoc c live tail ∙
         ap (λ l. l ++ (live ++ tail)) told.are ∙ append_assoc b told.written (live ++ tail) ∙
         ap (λ l. l ++ (told.written ++ (live ++ tail))) marks ∙
-        append_assoc a (Record.Marks next wear ∷ []) (told.written ++ (live ++ tail));
+        append_assoc a (Record.Marks format next wear ∷ []) (told.written ++ (live ++ tail));
     good = λ last. (
       marks_good can last,
       good_append told.written (live ++ tail) told.good
@@ -621,23 +598,11 @@ module _ (P : List Record → Type 0) (some : (rs : List Record) → P rs → 0 
         whole = whole;
       }
 
-  -- There is something in them.
-  pub packed_some : 0 < length (joined groups)
-  packed_some = omega (
-    arith,
-    some writes.written writes.is,
-    ap length writes.are,
-    length-append (joined before) writes.written,
-  )
-
-pub gathered_some : (next wear : ℕ) (xs : List Collection) (live rs : List Record) →
-    TellsGathered next wear xs live rs → 0 < length rs
-gathered_some next wear xs live rs tells = omega (arith, ap length tells.is)
-
 -- What was gathered of a state tells of it.
 pub tells_state : {S : Type 0} (collections : S → List Collection) (next : ℕ) (s : State S)
     (live : List Record) → TellsTransactions s.live s.entries live → (rs : List Record) →
-    TellsGathered next s.wear (collections s.now) live rs → TellsState collections next s rs
+    TellsGathered s.format next s.wear (collections s.now) live rs →
+    TellsState collections next s rs
 tells_state collections next s live told rs tells = record {
   numbers = told.numbers;
   are_live = told.are_live;
@@ -647,8 +612,9 @@ tells_state collections next s live told rs tells = record {
     rise = told.rise;
     all_live = live_are s.live s.entries;
     is = tells.is ∙
-        ap (λ l. Record.Marks next s.wear ∷ (tells.told ++ (l ++ Record.ImageEnd ∷ []))) told.are ∙
-        ap (λ l. Record.Marks next s.wear ∷ (tells.told ++ l))
+        ap (λ l. Record.Marks s.format next s.wear ∷ (tells.told ++ (l ++ Record.ImageEnd ∷ [])))
+        told.are ∙
+        ap (λ l. Record.Marks s.format next s.wear ∷ (tells.told ++ l))
         (append_assoc (map Record.Begin told.numbers) (live_records s) (Record.ImageEnd ∷ []));
   };
 }

@@ -1,4 +1,5 @@
 -- Calls that are repeated on copies.
+use Rattle.calls.specs.Formats.{widest}
 use Rattle.std.proofs.Common.{◌≡◌, ℕ, zero, suc, ◌<◌, ◌≤◌, Bool, true, false, cond, nat_lt, List}
 use Rattle.std.proofs.Common.{[]}
 use Rattle.std.proofs.Common.{◌∷◌, ◌++◌, length, map, refl, sym, ◌∙◌, ap, subst, arith}
@@ -104,46 +105,50 @@ repeated_both ps qs rs es mid left first more = record {
 
 -- ---- short values
 
-short_one : (b : Bool) (p q : CopyState) → HoldsShort p.collection.content →
-    HoldsShort q.collection.content → HoldsShort (cond b q p).collection.content
+short_one : (b : Bool) (p q : CopyState) → HoldsShort widest p.collection.content →
+    HoldsShort widest q.collection.content → HoldsShort widest (cond b q p).collection.content
 short_one true p q old new = new
 short_one false p q old new = old
 
-short_at : (ps : List CopyState) (at : ℕ) (e : Effect) → AreShort (gathered ps) → IsShort e.call →
-    AreShort (gathered (with_effect_at ps at e))
+short_at : (ps : List CopyState) (at : ℕ) (e : Effect) → AreShort widest (gathered ps) →
+    IsShort widest e.call →
+    AreShort widest (gathered (with_effect_at ps at e))
 short_at [] at e short call = tt
 short_at (p ∷ ps) zero e short call = (
   short_one (nat_lt p.stamp e.position) p (record p {
     collection = record p.collection { content = after p.collection.content e.call e.reply };
-  }) short.0 (content_after p.collection.content e.call e.reply short.0 call),
+  }) short.0 (content_after widest p.collection.content e.call e.reply short.0 call),
   short.1,
 )
 short_at (p ∷ ps) (suc at) e short call = (short.0, short_at ps at e short.1 call)
 
-short_done : (ps : List CopyState) (es left : List Effect) → AreShort (gathered ps) →
-    AllByRecursion (λ e. IsShort e.call) (es ++ left) → AreShort (gathered (caught_up ps es))
+short_done : (ps : List CopyState) (es left : List Effect) → AreShort widest (gathered ps) →
+    AllByRecursion (λ e. IsShort widest e.call) (es ++ left) →
+    AreShort widest (gathered (caught_up ps es))
 short_done ps [] left short calls = short
 short_done ps (e ∷ es) left short calls =
     short_done (with_effect_at ps e.collection e) es left
     (short_at ps e.collection e short calls.0) calls.1
 
 pub repeated_short : (ps qs : List CopyState) (es left : List Effect) → HaveRepeated ps es qs left →
-    AreShort (gathered ps) → AllByRecursion (λ e. IsShort e.call) es → AreShort (gathered qs)
+    AreShort widest (gathered ps) → AllByRecursion (λ e. IsShort widest e.call) es →
+    AreShort widest (gathered qs)
 repeated_short ps qs es left repeated short calls =
-    subst (λ l. AreShort (gathered l)) (sym repeated.is)
+    subst (λ l. AreShort widest (gathered l)) (sym repeated.is)
     (short_done ps repeated.done left short
-    (subst (AllByRecursion (λ e. IsShort e.call)) repeated.are calls))
+    (subst (AllByRecursion (λ e. IsShort widest e.call)) repeated.are calls))
 
-pub short_left : (es left : List Effect) → AllByRecursion (λ e. IsShort e.call) (es ++ left) →
-    AllByRecursion (λ e. IsShort e.call) left
+pub short_left : (es left : List Effect) →
+    AllByRecursion (λ e. IsShort widest e.call) (es ++ left) →
+    AllByRecursion (λ e. IsShort widest e.call) left
 short_left [] left calls = calls
 short_left (e ∷ es) left calls = short_left es left calls.1
 
 pub short_calls-left : (ps qs : List CopyState) (es left : List Effect) →
-    HaveRepeated ps es qs left → AllByRecursion (λ e. IsShort e.call) es →
-    AllByRecursion (λ e. IsShort e.call) left
+    HaveRepeated ps es qs left → AllByRecursion (λ e. IsShort widest e.call) es →
+    AllByRecursion (λ e. IsShort widest e.call) left
 short_calls-left ps qs es left repeated calls = short_left repeated.done left
-    (subst (AllByRecursion (λ e. IsShort e.call)) repeated.are calls)
+    (subst (AllByRecursion (λ e. IsShort widest e.call)) repeated.are calls)
 
 -- ---- a copy more
 
@@ -178,8 +183,8 @@ can_more ps p (e ∷ es) low can = (
 )
 
 -- What can be repeated on copies can be on one more.
-pub short_more : (ps : List CopyState) (p : CopyState) → HoldsShort p.collection.content →
-    AreShort (gathered ps) → AreShort (gathered (ps ++ p ∷ []))
+pub short_more : (ps : List CopyState) (p : CopyState) → HoldsShort widest p.collection.content →
+    AreShort widest (gathered ps) → AreShort widest (gathered (ps ++ p ∷ []))
 short_more [] p one short = (one, tt)
 short_more (q ∷ ps) p one short = (short.0, short_more ps p one short.1)
 
@@ -194,7 +199,7 @@ module _ (mark : ℕ) (parts : List CopyState) (effects : List Effect) (frozen :
     })) where
   -- calls more
   pub gathered_taken : (now : ℕ) (more : List Effect) → CanCatchUp parts (effects ++ more) →
-      AllByRecursion (λ e. IsShort e.call) more →
+      AllByRecursion (λ e. IsShort widest e.call) more →
       IsGathered (record {
         mark = now;
         parts = parts;
@@ -204,14 +209,14 @@ module _ (mark : ℕ) (parts : List CopyState) (effects : List Effect) (frozen :
   gathered_taken now more can short = record {
     can = can;
     short = is.short;
-    short_calls = each_append (λ e. IsShort e.call) effects more is.short_calls short;
+    short_calls = each_append (λ e. IsShort widest e.call) effects more is.short_calls short;
     frozen = is.frozen;
   }
 
   -- and a copy more
   pub gathered_more : (now : ℕ) (more : List Effect) (p : CopyState) →
-      CanCatchUp parts (effects ++ more) → AllByRecursion (λ e. IsShort e.call) more →
-      HoldsShort p.collection.content →
+      CanCatchUp parts (effects ++ more) → AllByRecursion (λ e. IsShort widest e.call) more →
+      HoldsShort widest p.collection.content →
       AllByRecursion (λ e. e.position ≤ p.stamp) (effects ++ more) →
       IsGathered (record {
         mark = now;
@@ -222,25 +227,8 @@ module _ (mark : ℕ) (parts : List CopyState) (effects : List Effect) (frozen :
   gathered_more now more p can calls short low = record {
     can = can_more parts p (effects ++ more) low can;
     short = short_more parts p short is.short;
-    short_calls = each_append (λ e. IsShort e.call) effects more is.short_calls calls;
+    short_calls = each_append (λ e. IsShort widest e.call) effects more is.short_calls calls;
     frozen = is.frozen;
-  }
-
-  -- calls more, and a freeze
-  pub gathered_frozen : (more : List Effect) (f : FrozenState) →
-      CanCatchUp parts (effects ++ more) → AllByRecursion (λ e. IsShort e.call) more →
-      CanStand f.marks.next f.marks.wear f.live →
-      IsGathered (record {
-        mark = mark;
-        parts = parts;
-        effects = effects ++ more;
-        frozen = Some f;
-      })
-  gathered_frozen more f can calls stand = record {
-    can = can;
-    short = is.short;
-    short_calls = each_append (λ e. IsShort e.call) effects more is.short_calls calls;
-    frozen = stand;
   }
 
   pub gathered_repeated : (now : List CopyState) (left : List Effect) →

@@ -5,6 +5,7 @@ use Rattle.std.specs.Prelude.{Option, Some, None}
 use Rattle.std.specs.List.{AllByRecursion}
 use Rattle.std.specs.Option.{option_to_list}
 use Rattle.calls.specs.Contents.{Collection, Answers, after}
+use Rattle.calls.specs.Formats.{widest}
 use Rattle.calls.specs.Rules.{IsShort}
 use Rattle.boosted.specs.Meaning.{IsRoomy}
 use Rattle.catalog.specs.Places.{Reaches}
@@ -116,7 +117,7 @@ pub record Freezes (old : GatherState) (marks : Marks) (live : Log) (effects : L
 pub record Packs (g : GatherState) (image : Image) : Type 0 where
   pub frozen : FrozenState
   pub is_frozen : g.frozen ≡ Some frozen
-  pub packed : IsPacked (TellsGathered frozen.marks.next frozen.marks.wear
+  pub packed : IsPacked (TellsGathered frozen.marks.format frozen.marks.next frozen.marks.wear
       (gathered (caught_up g.parts g.effects)) frozen.live) image.blocks.items
   pub end : image.end ≡ frozen.marks.end
   pub place : image.place ≡ frozen.marks.place
@@ -130,6 +131,6 @@ IsFrozenWell (Some f) = CanStand f.marks.next f.marks.wear f.live
 -- What is left can be repeated, and all can be spelled.
 pub record IsGathered (g : GatherState) : Type 0 where
   pub can : CanCatchUp g.parts g.effects
-  pub short : AreShort (gathered g.parts)
-  pub short_calls : AllByRecursion (λ e. IsShort e.call) g.effects
+  pub short : AreShort widest (gathered g.parts)
+  pub short_calls : AllByRecursion (λ e. IsShort widest e.call) g.effects
   pub frozen : IsFrozenWell g.frozen

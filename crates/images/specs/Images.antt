@@ -6,7 +6,9 @@ use Rattle.calls.specs.Transactions.{Entry}
 use Rattle.std.specs.declared.vec.Vec.{Vec}
 use Rattle.std.specs.declared.alloc.Global.{Global}
 use Rattle.calls.specs.declared.kind.Kind.{Kind}
+use Rattle.calls.specs.declared.format.Format.{Format}
 use Rattle.calls.specs.Contents.{Collection}
+use Rattle.calls.specs.Limits.{number_end}
 use Rattle.catalog.specs.declared.shown.Shown.{Shown}
 use Rattle.undo_log.specs.Logs.{Statuses, Lives}
 use Rattle.record_format.specs.declared.record.Record.{Record}
@@ -42,20 +44,21 @@ pub record TellsState {S : Type 0} (collections : S → List Collection) (next :
     (rs : List Record) : Type 0 where
   pub numbers : List ℕ
   pub are_live : (n : ℕ) → Contains numbers n ↔ Lives s.live n
-  pub is_image : IsImage next s.wear (collections s.now) numbers (live_records s) rs
+  pub is_image : IsImage s.format next s.wear (collections s.now) numbers (live_records s) rs
 
 -- The records tell of these collections beside what is live: the marks, the collections, the live
 -- transactions, and the end.
-pub record TellsGathered (next wear : ℕ) (xs : List Collection) (live rs : List Record) :
+pub record TellsGathered (format : Format) (next wear : ℕ) (xs : List Collection)
+    (live rs : List Record) :
     Type 0 where
   pub told : List Record
   pub tells : TellOf xs told
-  pub is : rs ≡ Record.Marks next wear ∷ (told ++ (live ++ Record.ImageEnd ∷ []))
+  pub is : rs ≡ Record.Marks format next wear ∷ (told ++ (live ++ Record.ImageEnd ∷ []))
 
 -- The marks are in range, and the records of the live transactions may stand anywhere.
 pub record CanStand (next wear : ℕ) (live : List Record) : Type 0 where
   pub low : 1 ≤ next
-  pub high : next ≤ 2 ^ 61
+  pub high : next ≤ number_end
   pub worn : wear < 2 ^ 64
   pub good : (last : Option Kind) → AreRecords last live
 

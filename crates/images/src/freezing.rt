@@ -1,5 +1,7 @@
 // An image of a machine: its records, in whole blocks.
-ghost use Rattle.std.specs.Prelude.{◌≡◌, ◌≤◌, ◌^◌, false, IsTrue, length, OnOk, IfOk, IsOkUnless};
+ghost use Rattle.std.specs.Prelude.{◌≡◌, ◌≤◌, false, IsTrue, length, OnOk, IfOk, IsOkUnless};
+ghost use Rattle.calls.specs.Formats.{widest};
+ghost use Rattle.calls.specs.Limits.{max_collections, number_end};
 ghost use Rattle.catalog.specs.Places.{At};
 ghost use Rattle.record_format.specs.Short.{AreShort};
 ghost use Rattle.records.specs.Images.{TellsOf, TellOf};
@@ -31,7 +33,7 @@ pub fn image_blocks<B: Parts + Coded>(
     machine: &Machine<B>,
     next: u64,
 ) -> Result<VecDeque<Vec<u8>>, Refusal>
-    requires { (1 ≤ next) × (next ≤ 2 ^ 61) }
+    requires { (1 ≤ next) × (next ≤ number_end) }
     ensures image { IfOk result (λ blocks. IsPackedImage B.collections next machine.now
         blocks.items) }
     ensures refusal { IsOkUnless result Refusal.NoMemory }
@@ -52,11 +54,13 @@ fn push_image<B: Parts + Coded>(
 ) -> Result<(), Refusal>
     requires { CanStand next machine.now.wear live.now }
     ensures told { OnOk result (Writes (joined packer.old) (joined packer.new)
-        (TellsGathered next machine.now.wear (B.collections machine.now.now) live.now)) }
+        (TellsGathered machine.now.format next machine.now.wear (B.collections machine.now.now)
+        live.now)) }
     ensures refusal { IsOkUnless result Refusal.NoMemory }
 {
     machine.upheld();
     let marks = Record::Marks {
+        format: machine.format(),
         next,
         wear: machine.wear(),
     };
@@ -68,8 +72,8 @@ fn push_image<B: Parts + Coded>(
 
 // Writes what the collections hold.
 fn push_collections<B: Parts + Coded>(parts: &B, packer: &mut Packer) -> Result<(), Refusal>
-    requires short { AreShort (B.collections parts.now) }
-    requires few { length (B.making.names parts.now) ≤ 256 }
+    requires short { AreShort widest (B.collections parts.now) }
+    requires few { length (B.making.names parts.now) ≤ max_collections }
     ensures told { OnOk result (Writes (joined packer.old) (joined packer.new)
         (TellOf (B.collections parts.now))) }
     ensures refusal { IsOkUnless result Refusal.NoMemory }
@@ -88,7 +92,7 @@ fn push_collection<B: Parts + Coded>(
     at: u8,
     packer: &mut Packer,
 ) -> Result<bool, Refusal>
-    requires { AreShort (B.collections parts.now) }
+    requires { AreShort widest (B.collections parts.now) }
     ensures there { IfOk result (λ there. IsTrue there →
         At (λ x. Writes (joined packer.old) (joined packer.new) (TellsOf x))
         (B.collections parts.now) at) }

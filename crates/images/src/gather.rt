@@ -1,5 +1,6 @@
 // What is gathered of a book.
-ghost use Rattle.std.specs.Prelude.{◌≡◌, ℕ, ◌≤◌, ◌^◌, ◌++◌, [], None, OnOk, OnErr, IfOk};
+ghost use Rattle.std.specs.Prelude.{◌≡◌, ℕ, ◌≤◌, ◌++◌, [], None, OnOk, OnErr, IfOk};
+ghost use Rattle.calls.specs.Formats.{widest};
 ghost use Rattle.std.specs.Prelude.{IfErr, IfSome, IsSome, IsOkUnless, length};
 ghost use Rattle.std.specs.Option.{option_map};
 ghost use Rattle.std.specs.VecDeque.{deque_capacity};
@@ -13,13 +14,14 @@ ghost use Rattle.images.specs.Gathers.{CanCatchUp, HaveRepeated, Repeats, Freeze
 ghost use Rattle.images.specs.Gathers.{with_gathered};
 ghost use Rattle.images.specs.Views.{copies_of};
 ghost use Rattle.calls.specs.Rules.{IsShort};
+ghost use Rattle.calls.specs.Limits.{number_end};
 
 use crate::Effect;
 use crate::packing::pack;
 use crate::stamped::{Stamped, repeat};
 use crate::telling::live_records;
 use blocks::Image;
-use calls::Refusal;
+use calls::{Format, Refusal};
 use catalog::Part;
 use records::Record;
 use std::alloc::Global;
@@ -28,10 +30,11 @@ use std::marker::Model;
 use std::mem;
 use undo_log::Live;
 
-/// Where a book stands: a number above every one that was entered, the wear, how many records came
-/// before, and how many commits and makes.
+/// Where a book stands: the format of its store, a number above every one that was entered, the
+/// wear, how many records came before, and how many commits and makes.
 #[derive(Clone, Copy)]
 pub struct Marks {
+    pub format: Format,
     pub next: u64,
     pub wear: u64,
     pub end: u64,
@@ -142,9 +145,9 @@ impl<P: Part> Gather<P> {
         stamp: u64,
         effects: &mut VecDeque<Effect>,
     ) -> Result<(), Refusal>
-        requires short { IfSome part (λ p. HoldsShort (P.collection p).content) }
+        requires short { IfSome part (λ p. HoldsShort widest (P.collection p).content) }
         requires can { CanCatchUp self.old.parts (self.old.effects ++ effects.old.items) }
-        requires short_calls { AllByRecursion (λ e. IsShort e.call) effects.old.items }
+        requires short_calls { AllByRecursion (λ e. IsShort widest e.call) effects.old.items }
         requires behind { AllByRecursion (λ e. e.position ≤ stamp)
             (self.old.effects ++ effects.old.items) }
         ensures ok { OnOk result (self.new ≡ with_gathered self.old mark
@@ -192,11 +195,12 @@ impl<P: Part> Gather<P> {
         live: &Live,
         effects: &mut VecDeque<Effect>,
     ) -> Result<(), Refusal>
-        requires next { (1 ≤ marks.next) × (marks.next ≤ 2 ^ 61) }
+        requires next { (1 ≤ marks.next) × (marks.next ≤ number_end) }
         requires numbers { (n : ℕ) → Lives live.now.live n → IsNumber n }
-        requires asked { AllByRecursion (λ e. IsNumber e.0 × IsAskedEntry e.1) live.now.entries }
+        requires asked { AllByRecursion (λ e. IsNumber e.0 × IsAskedEntry widest e.1)
+            live.now.entries }
         requires can { CanCatchUp self.old.parts (self.old.effects ++ effects.old.items) }
-        requires short_calls { AllByRecursion (λ e. IsShort e.call) effects.old.items }
+        requires short_calls { AllByRecursion (λ e. IsShort widest e.call) effects.old.items }
         ensures ok { OnOk result (Freezes self.old marks live.now effects.old.items self.new) }
         ensures taken { OnOk result (effects.new.items ≡ []) }
         ensures err { OnErr result (self.new ≡ self.old) }

@@ -1,5 +1,6 @@
 // What was gathered, packed into whole blocks.
 ghost use Rattle.std.specs.Prelude.{◌≡◌, ◌++◌, ◌∷◌, [], map, OnOk};
+ghost use Rattle.calls.specs.Formats.{widest};
 ghost use Rattle.std.specs.Prelude.{IfOk, IsOkUnless};
 ghost use Rattle.std.specs.List.{AllByRecursion};
 ghost use Rattle.calls.specs.Names.{IsName};
@@ -27,11 +28,11 @@ pub(crate) fn pack<P: Part>(
     copies: &[Stamped<P>],
     frozen: &Frozen,
 ) -> Result<VecDeque<Vec<u8>>, Refusal>
-    requires short { AreShort (gathered (copies_of P.collection copies.now)) }
+    requires short { AreShort widest (gathered (copies_of P.collection copies.now)) }
     requires can_stand { CanStand frozen.now.marks.next frozen.now.marks.wear
         frozen.now.live.items }
     ensures image { IfOk result (λ blocks. IsPacked
-        (TellsGathered frozen.now.marks.next frozen.now.marks.wear
+        (TellsGathered frozen.now.marks.format frozen.now.marks.next frozen.now.marks.wear
         (gathered (copies_of P.collection copies.now)) frozen.now.live.items) blocks.items) }
     ensures refusal { IsOkUnless result Refusal.NoMemory }
 {
@@ -46,15 +47,16 @@ fn push_gathered<P: Part>(
     frozen: &Frozen,
     packer: &mut Packer,
 ) -> Result<(), Refusal>
-    requires short { AreShort (gathered (copies_of P.collection copies.now)) }
+    requires short { AreShort widest (gathered (copies_of P.collection copies.now)) }
     requires can_stand { CanStand frozen.now.marks.next frozen.now.marks.wear
         frozen.now.live.items }
     ensures told { OnOk result (Writes (joined packer.old) (joined packer.new)
-        (TellsGathered frozen.now.marks.next frozen.now.marks.wear
+        (TellsGathered frozen.now.marks.format frozen.now.marks.next frozen.now.marks.wear
         (gathered (copies_of P.collection copies.now)) frozen.now.live.items)) }
     ensures refusal { IsOkUnless result Refusal.NoMemory }
 {
     packer.push(Record::Marks {
+        format: frozen.marks.format,
         next: frozen.marks.next,
         wear: frozen.marks.wear,
     })?;
@@ -65,7 +67,7 @@ fn push_gathered<P: Part>(
 
 // Writes what the copies hold.
 fn push_copies<P: Part>(copies: &[Stamped<P>], packer: &mut Packer) -> Result<(), Refusal>
-    requires { AreShort (gathered (copies_of P.collection copies.now)) }
+    requires { AreShort widest (gathered (copies_of P.collection copies.now)) }
     ensures told { OnOk result (Writes (joined packer.old) (joined packer.new)
         (TellOf (gathered (copies_of P.collection copies.now)))) }
     ensures refusal { IsOkUnless result Refusal.NoMemory }
@@ -78,7 +80,7 @@ fn push_copies<P: Part>(copies: &[Stamped<P>], packer: &mut Packer) -> Result<()
 
 // Writes what the copy holds.
 fn push_copy<P: Part>(part: &P, packer: &mut Packer) -> Result<(), Refusal>
-    requires { HoldsShort (P.collection part.now).content }
+    requires { HoldsShort widest (P.collection part.now).content }
     ensures told { OnOk result (Writes (joined packer.old) (joined packer.new)
         (TellsOf (P.collection part.now))) }
     ensures refusal { IsOkUnless result Refusal.NoMemory }
@@ -89,7 +91,8 @@ fn push_copy<P: Part>(part: &P, packer: &mut Packer) -> Result<(), Refusal>
 // Writes the records of a collection.
 pub(crate) fn push_shown(shown: Shown, packer: &mut Packer) -> Result<(), Refusal>
     requires name { IsName shown.name }
-    requires items { AllByRecursion (λ i. IsShortItem i × IsItemOf shown.kind i) shown.items.items }
+    requires items { AllByRecursion (λ i. IsShortItem widest i × IsItemOf shown.kind i)
+        shown.items.items }
     ensures told { OnOk result (Writes (joined packer.old) (joined packer.new) (AreOf shown)) }
     ensures refusal { IsOkUnless result Refusal.NoMemory }
 {
@@ -105,7 +108,7 @@ pub(crate) fn push_shown(shown: Shown, packer: &mut Packer) -> Result<(), Refusa
 
 // Writes the items, in their order.
 fn push_items(items: Vec<Item>, packer: &mut Packer) -> Result<(), Refusal>
-    requires { AllByRecursion IsShortItem items.items }
+    requires { AllByRecursion (IsShortItem widest) items.items }
     ensures told { OnOk result ((joined packer.new ≡ joined packer.old ++
         map Record.Item items.items) × AllByRecursion FitsItem items.items) }
     ensures refusal { IsOkUnless result Refusal.NoMemory }
@@ -117,7 +120,7 @@ fn push_items(items: Vec<Item>, packer: &mut Packer) -> Result<(), Refusal>
 }
 
 fn push_item(item: Item, packer: &mut Packer) -> Result<(), Refusal>
-    requires { IsShortItem item }
+    requires { IsShortItem widest item }
     ensures told { OnOk result (joined packer.new ≡ joined packer.old ++ Record.Item item ∷ []) }
     ensures fits { FitsItem item }
     ensures refusal { IsOkUnless result Refusal.NoMemory }

@@ -1,5 +1,6 @@
 // The records that tell of live transactions.
 ghost use Rattle.std.specs.Prelude.{◌≡◌, ℕ, ◌++◌, ◌∷◌, [], Option, OnOk, IfOk, IsOkUnless};
+ghost use Rattle.calls.specs.Formats.{widest};
 ghost use Rattle.std.specs.List.{AllByRecursion, flat_map};
 ghost use Rattle.calls.specs.declared.kind.Kind.{Kind};
 ghost use Rattle.calls.specs.Rules.{Deferrable, inverse_of};
@@ -21,7 +22,7 @@ use undo_log::{Entry, Later, Live, Logged, Owned};
 // they asked for, in the order asked.
 pub(crate) fn live_records(alloc: Global, live: &Live) -> Result<Vec<Record>, Refusal>
     requires numbers { (n : ℕ) → Lives live.now.live n → IsNumber n }
-    requires asked { AllByRecursion (λ e. IsNumber e.0 × IsAskedEntry e.1) live.now.entries }
+    requires asked { AllByRecursion (λ e. IsNumber e.0 × IsAskedEntry widest e.1) live.now.entries }
     ensures told { IfOk result (λ told.
         TellsTransactions live.now.live live.now.entries told.items) }
     ensures good { IfOk result (λ told. (last : Option Kind) → AreRecords last told.items) }
@@ -49,7 +50,7 @@ fn tell_begins(live: &Live, told: &mut Vec<Record>) -> Result<(), Refusal>
 
 // Tells what the live transactions asked for, in the order asked.
 fn tell_entries(live: &Live, told: &mut Vec<Record>) -> Result<(), Refusal>
-    requires { AllByRecursion (λ e. IsNumber e.0 × IsAskedEntry e.1) live.now.entries }
+    requires { AllByRecursion (λ e. IsNumber e.0 × IsAskedEntry widest e.1) live.now.entries }
     ensures told { OnOk result (Writes told.old.items told.new.items
         (λ rs. rs ≡ flat_map (live_record live.now.live) live.now.entries)) }
     ensures refusal { IsOkUnless result Refusal.NoMemory }
@@ -63,7 +64,7 @@ fn tell_entries(live: &Live, told: &mut Vec<Record>) -> Result<(), Refusal>
 
 // Tells what was asked for, but for calls that only read and what a falling transaction put off.
 fn tell_entry(live: &Live, owned: &Owned<'_>, told: &mut Vec<Record>) -> Result<(), Refusal>
-    requires { IsNumber owned.now.owner × IsAskedEntry (entry_of owned.now.entry.now) }
+    requires { IsNumber owned.now.owner × IsAskedEntry widest (entry_of owned.now.entry.now) }
     ensures told { OnOk result (Writes told.old.items told.new.items
         (λ rs. rs ≡ live_record live.now.live (owned_entry owned.now))) }
     ensures refusal { IsOkUnless result Refusal.NoMemory }
@@ -87,7 +88,7 @@ fn tell_entry(live: &Live, owned: &Owned<'_>, told: &mut Vec<Record>) -> Result<
 // Tells a call of a live transaction.
 fn tell_call(number: u64, logged: &Logged, told: &mut Vec<Record>) -> Result<(), Refusal>
     requires number { IsNumber number }
-    requires asked { IsAskedEntry (Asked (event_of logged.now)) }
+    requires asked { IsAskedEntry widest (Asked (event_of logged.now)) }
     ensures told { OnOk result (Writes told.old.items told.new.items
         (λ rs. rs ≡ Record.LiveCall (call_record number logged.now.at logged.now.call
         logged.now.reply (inverse_of logged.now.call logged.now.reply)) ∷ [])) }

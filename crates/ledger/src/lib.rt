@@ -5,6 +5,7 @@ ghost use Rattle.std.specs.Prelude.{◌≡◌, ◌↔◌, ◌+◌, ◌<◌, ◌�
 ghost use Rattle.std.specs.Prelude.{IsTrue, IsOk, IfSome, IfNone, IfErr, OnOk, OnErr, IsOkUnless};
 ghost use Rattle.std.specs.FinMap as maps;
 ghost use Rattle.calls.specs.Transactions.{Asked, PutOff, own, others};
+ghost use Rattle.calls.specs.Limits.{max_calls, max_wear};
 ghost use Rattle.abstract_locks.specs.Holds.{hold, IsClear, IsBusyRefusal, IsAdded, IsGivenUp};
 ghost use Rattle.undo_log.specs.Entries.{event_of, HasNoCall, IsNewestCall};
 ghost use Rattle.undo_log.specs.Logs.{Lives, fallen};
@@ -192,7 +193,7 @@ impl Ledger {
     /// Whether so much wear has room for the undoing of all entries and so many more.
     pub fn has_room(&self, wear: u64, more: usize) -> bool
         requires { wear + (length self.now.entries + more) < 2 ^ 64 }
-        ensures { IsTrue result ↔ (wear + (length self.now.entries + more) ≤ 2 ^ 61 + 65536) }
+        ensures { IsTrue result ↔ (wear + (length self.now.entries + more) ≤ max_wear) }
     {
         wear + (self.live.len() + more) as u64 <= MAX_WEAR
     }
@@ -201,8 +202,8 @@ impl Ledger {
     pub fn has_place(&self, number: u64, wear: u64) -> bool
         requires { wear + (length self.now.entries + 1) < 2 ^ 64 }
         ensures { IsTrue result ↔ (Lives self.now.live number ×
-            (length (own number self.now.entries) < 1024) ×
-            (wear + (length self.now.entries + 1) ≤ 2 ^ 61 + 65536)) }
+            (length (own number self.now.entries) < max_calls) ×
+            (wear + (length self.now.entries + 1) ≤ max_wear)) }
     {
         self.live.is_live(number) && self.live.count(number) < MAX_CALLS && self.has_room(wear, 1)
     }

@@ -53,12 +53,6 @@ unclear_line line k h (inl why) = inl why.0
 unclear_line line k h (inr why) = inr (stops_one line k
     (subst (λ (lines : List (List ℕ)). Stops 1 lines k) (lines_of-last line h) why.1))
 
--- a line that says nothing is passed over, and one that says something asks for it
-pub reviews_silent : (n : ℕ) (line : List ℕ) (said : List Line) (count : ℕ) (numbers : List ℕ) →
-    SaysOne line said → length said ≡ 0 → ReviewsLine n line count numbers count numbers
-reviews_silent n line said count numbers (inl one) none = inr (inl (one.0, refl, refl))
-reviews_silent n line said count numbers (inr (a, is, one)) none = absurd (omega (arith, none, one))
-
 pub reviews_action : (n : ℕ) (line : List ℕ) (said : List Line) (count : ℕ) (numbers : List ℕ) →
     SaysOne line said → (length said ≡ 0 → ⊥) → ReviewsLine n line count numbers (count + 1) numbers
 reviews_action n line said count numbers (inl one) some = absurd (some one.1)

@@ -36,6 +36,7 @@ module _ {S : Type 0} (meaning : Meaning S ℕ) where
     record {
       live = row.live;
       asked = row.asked;
+      told = row.told;
       few = row.few;
       once = row.once;
       clear = clear_there hs s.holds same c.number c.collection (need_of c.call c.reply) row.clear;
@@ -81,6 +82,7 @@ module _ {S : Type 0} (meaning : Meaning S ℕ) where
         entries = s.entries ++ (c.number, Asked e) ∷ [];
         holds = hs;
         wear = s.wear;
+        format = s.format;
       } in
       subst (λ x. Alike x w) (sym a.is) (subst (λ x. Alike (called t.holds) x) (sym b.is)
       (same_alike (called t.holds) t.holds w.holds
@@ -94,6 +96,7 @@ module _ {S : Type 0} (meaning : Meaning S ℕ) where
         entries = s.entries ++ (l.number, PutOff l.collection l.call) ∷ [];
         holds = hs;
         wear = s.wear;
+        format = s.format;
       } in
       subst (λ x. Alike x w) (sym a.is) (subst (λ x. Alike (put t.holds) x) (sym b.is)
       (same_alike (put t.holds) t.holds w.holds

@@ -10,6 +10,7 @@ use Rattle.std.proofs.lemmas.List.{map-append}
 use Rattle.std.proofs.lemmas.List.Elements.{Contains-push, Contains-push_cases}
 use Rattle.std.proofs.lemmas.List.Elements.{Contains-append_left, Contains-append_right}
 use Rattle.std.proofs.lemmas.List.Elements.{Contains-append_cases}
+use Rattle.calls.specs.declared.format.Format.{Format}
 use Rattle.calls.specs.declared.kind.Kind.{Kind}
 use Rattle.calls.specs.declared.call.Call.{Call}
 use Rattle.calls.specs.declared.reply.Reply.{Reply}
@@ -66,8 +67,9 @@ module _ {S : Type 0} (meaning : Meaning S ℕ) (making : Making S)
   abbrev pub Loaded : State S → Type 0
   Loaded s = IsLoaded meaning making s
 
-  pub resting_loaded : (now : S) (wear : ℕ) → Loaded (resting now wear)
-  resting_loaded now wear = let opened = steps.opened_sound meaning making laws now wear in
+  pub resting_loaded : (format : Format) (now : S) (wear : ℕ) → Loaded (resting format now wear)
+  resting_loaded format now wear =
+      let opened = steps.opened_sound meaning making laws format now wear in
       record { machine = opened.machine; shows = opened.shows; sound = opened.sound }
 
   module _ (s : State S) (loaded : Loaded s) where
@@ -252,32 +254,16 @@ module _ {S : Type 0} (meaning : Meaning S ℕ) (making : Making S)
 
     -- What an image tells of is sound, where the live calls lead from some content to what the
     -- collections hold.
-    pub loaded_sound : (rs : List Record) (now : S) (wear : ℕ) (s : State S) (c : S) →
-        Leads (LiveSteps meaning) rs (resting now wear) s → IsSettled meaning s c →
+    pub loaded_sound : (rs : List Record) (format : Format) (now : S) (wear : ℕ) (s : State S)
+        (c : S) →
+        Leads (LiveSteps meaning) rs (resting format now wear) s → IsSettled meaning s c →
         IsSound meaning making s
-    loaded_sound rs now wear s c w settled =
-        loaded_settled s (steps_loaded rs (resting now wear) s (resting_loaded now wear) w) c
+    loaded_sound rs format now wear s c w settled =
+        loaded_settled s (steps_loaded rs (resting format now wear) s
+        (resting_loaded format now wear) w) c
         settled
 
 -- ---- what the records say
-
-first_holds : (k n : ℕ) (ns : List ℕ) → Contains (k ∷ ns) n ↔ ((k ≡ n) ⊎ Contains ns n)
-first_holds k n ns = (
-  λ h. ⊎_elim
-      (λ (one : Contains (k ∷ []) n). inl
-      (⊎_elim (λ none. let below = none.1 in absurd (omega arith)) (λ same. same)
-      (Contains-push_cases [] k n one)))
-      (λ (more : Contains ns n). inr more)
-      (Contains-append_cases (k ∷ []) ns n h),
-  λ h. ⊎_elim
-      (λ (same : k ≡ n). subst (Contains (k ∷ ns)) same
-      (Contains-append_left (k ∷ []) ns k (Contains-push [] k)))
-      (λ (more : Contains ns n). Contains-append_right (k ∷ []) ns n more)
-      h,
-)
-
-none_holds : (n : ℕ) → Contains [] n → ⊥
-none_holds n h = let below = h.1 in absurd (omega arith)
 
 module _ {S : Type 0} (meaning : Meaning S ℕ) where
   abbrev Tells : List Record → State S → State S → Type 0
@@ -288,6 +274,7 @@ module _ {S : Type 0} (meaning : Meaning S ℕ) where
     entries : t.entries ≡ s.entries ++ owned_entries (r ∷ [])
     now : t.now ≡ s.now
     wear : t.wear ≡ s.wear
+    format : t.format ≡ s.format
     falling : ((n : ℕ) → Falls s.live n → ⊥) → (n : ℕ) → Falls t.live n → ⊥
 
   adds : (r : Record) (s t : State S) → LiveSteps meaning s r t → Adds r s t
@@ -295,16 +282,17 @@ module _ {S : Type 0} (meaning : Meaning S ℕ) where
     entries = sym (append-nil s.entries);
     now = refl;
     wear = refl;
+    format = refl;
     falling = λ none k falls. none k
         ((falls_fresh s.live n (λ lives. let below = row.above n lives in absurd (omega arith)) k).1
         falls);
   })
   adds (Record.LiveCall c) s t row =
       subst (Adds (Record.LiveCall c) s) (sym row.is)
-      (record { entries = refl; now = refl; wear = refl; falling = λ none. none })
+      (record { entries = refl; now = refl; wear = refl; format = refl; falling = λ none. none })
   adds (Record.LiveLater l) s t row =
       subst (Adds (Record.LiveLater l) s) (sym row.is)
-      (record { entries = refl; now = refl; wear = refl; falling = λ none. none })
+      (record { entries = refl; now = refl; wear = refl; format = refl; falling = λ none. none })
   adds other s t row = absurd row
 
   first_entries : (r : Record) (rs : List Record) →
@@ -322,82 +310,43 @@ module _ {S : Type 0} (meaning : Meaning S ℕ) where
       ∙ append_assoc s.entries (owned_entries (r ∷ [])) (owned_entries rs)
       ∙ ap (λ l. s.entries ++ l) (sym (first_entries r rs))
 
-  now_told : (rs : List Record) (s t : State S) → Tells rs s t → (t.now ≡ s.now) × (t.wear ≡ s.wear)
-  now_told [] s t w = (ap (λ (v : State S). v.now) (sym w), ap (λ (v : State S). v.wear) (sym w))
+  now_told : (rs : List Record) (s t : State S) → Tells rs s t →
+      (t.now ≡ s.now) × (t.wear ≡ s.wear) × (t.format ≡ s.format)
+  now_told [] s t w = (
+    ap (λ (v : State S). v.now) (sym w),
+    ap (λ (v : State S). v.wear) (sym w),
+    ap (λ (v : State S). v.format) (sym w),
+  )
   now_told (r ∷ rs) s t w = let rest = now_told rs w.0 t w.2 in let one = adds r s w.0 w.1 in
-      (rest.0 ∙ one.now, rest.1 ∙ one.wear)
+      (rest.0 ∙ one.now, rest.1 ∙ one.wear, rest.2 ∙ one.format)
 
   falling_told : (rs : List Record) (s t : State S) → ((n : ℕ) → Falls s.live n → ⊥) →
       Tells rs s t → (n : ℕ) → Falls t.live n → ⊥
   falling_told [] s t none w = subst (λ (v : State S). (n : ℕ) → Falls v.live n → ⊥) w none
   falling_told (r ∷ rs) s t none w = falling_told rs w.0 t ((adds r s w.0 w.1).falling none) w.2
 
-  -- calls and what was put off leave who is live
-  same_live : (rs : List Record) (s t : State S) → AllByRecursion IsLiveRecord rs → Tells rs s t →
-      t.live ≡ s.live
-  same_live [] s t are w = ap (λ (v : State S). v.live) (sym w)
-  same_live (Record.LiveCall c ∷ rs) s t are w =
-      same_live rs w.0 t are.1 w.2 ∙ ap (λ (v : State S). v.live) w.1.is
-  same_live (Record.LiveLater l ∷ rs) s t are w =
-      same_live rs w.0 t are.1 w.2 ∙ ap (λ (v : State S). v.live) w.1.is
-  same_live (r ∷ rs) s t are w = absurd are.0
-
-  lives_told : (numbers : List ℕ) (live : List Record) (s t : State S) →
-      AllByRecursion IsLiveRecord live → Tells (map Record.Begin numbers ++ live) s t → (n : ℕ) →
-      Lives t.live n ↔ (Lives s.live n ⊎ Contains numbers n)
-  lives_told [] live s t are w n =
-      let same = same_live live s t are w in (
-        λ h. inl (subst (λ l. Lives l n) same h),
-        λ h. ⊎_elim (λ (l : Lives s.live n). subst (λ l. Lives l n) (sym same) l)
-            (λ (none : Contains [] n). absurd (none_holds n none)) h,
-      )
-  lives_told (k ∷ ks) live s t are w n =
-      let rest = lives_told ks live w.0 t are w.2 n in
-      let is : w.0.live ≡ maps.insert s.live k false = ap (λ (v : State S). v.live) w.1.is in
-      let more = lives_more s.live k false n in (
-        λ h. ⊎_elim
-            (λ (l : Lives w.0.live n). ⊎_elim
-            (λ (same : k ≡ n). inr ((first_holds k n ks).1 (inl same)))
-            (λ (old : Lives s.live n). inl old) (more.1 (subst (λ l. Lives l n) is l)))
-            (λ (c : Contains ks n). inr ((first_holds k n ks).1 (inr c)))
-            (rest.0 h),
-        λ h. rest.1 (⊎_elim
-            (λ (old : Lives s.live n). inl (subst (λ l. Lives l n) (sym is) (more.0 (inr old))))
-            (λ (c : Contains (k ∷ ks) n). ⊎_elim
-            (λ (same : k ≡ n). inl (subst (λ l. Lives l n) (sym is) (more.0 (inl same))))
-            (λ (d : Contains ks n). inr d) ((first_holds k n ks).0 c))
-            h),
-      )
-
-  -- What is asked for is what the records say; the collections and the wear stay; and no one is
-  -- falling.
-  pub record IsTold (content : S) (worn : ℕ) (rs : List Record) (s : State S) : Type 0 where
+  -- What is asked for is what the records say; the collections, the wear and the format stay; and
+  -- no one is falling.
+  pub record IsTold (kept : Format) (content : S) (worn : ℕ) (rs : List Record) (s : State S) : Type
+      0 where
     pub entries : s.entries ≡ owned_entries rs
     pub now : s.now ≡ content
     pub wear : s.wear ≡ worn
+    pub format : s.format ≡ kept
     pub standing : (n : ℕ) → Falls s.live n → ⊥
 
-  pub loaded_entries : (rs : List Record) (now : S) (wear : ℕ) (s : State S) →
-      Leads (LiveSteps meaning) rs (resting now wear) s → IsTold now wear rs s
-  loaded_entries rs now wear s w =
-      let same = now_told rs (resting now wear) s w in
+  pub loaded_entries : (rs : List Record) (format : Format) (now : S) (wear : ℕ) (s : State S) →
+      Leads (LiveSteps meaning) rs (resting format now wear) s → IsTold format now wear rs s
+  loaded_entries rs format now wear s w =
+      let same = now_told rs (resting format now wear) s w in
       record {
-        entries = entries_told rs (resting now wear) s w;
+        entries = entries_told rs (resting format now wear) s w;
         now = same.0;
         wear = same.1;
-        standing = falling_told rs (resting now wear) s (λ n falls. nobody n (ap is_some falls)) w;
+        format = same.2;
+        standing = falling_told rs (resting format now wear) s
+            (λ n falls. nobody n (ap is_some falls)) w;
       }
-
-  -- Those are live that the records name.
-  pub loaded_live : (numbers : List ℕ) (live : List Record) (now : S) (wear : ℕ) (s : State S) →
-      AllByRecursion IsLiveRecord live →
-      Leads (LiveSteps meaning) (map Record.Begin numbers ++ live) (resting now wear) s →
-      (n : ℕ) → Lives s.live n ↔ Contains numbers n
-  loaded_live numbers live now wear s are w n =
-      let told = lives_told numbers live (resting now wear) s are w n in (
-        λ h. ⊎_elim (λ (none : Lives maps.empty n). absurd (nobody n none)) (λ c. c) (told.0 h),
-        λ c. told.1 (inr c),
-      )
 
 -- ---- the limits
 
@@ -407,16 +356,17 @@ calls_fewer ((n, Asked e) ∷ es) = let fewer = calls_fewer es in omega arith
 calls_fewer ((n, PutOff at c) ∷ es) = let fewer = calls_fewer es in omega arith
 
 module _ {S : Type 0} (meaning : Meaning S ℕ) (making : Making S)
-    (short : S → Type 0) (laws : BookLaws meaning making short) where
+    (short : Format → S → Type 0) (laws : BookLaws meaning making short) where
   abbrev Told : State S → Type 0
   Told s = IsLoaded meaning making s
 
   abbrev pub Upheld : State S → Type 0
   Upheld s = IsUpheld meaning making short Told s
 
-  pub resting_told : (now : S) (wear : ℕ) → meaning.within now wear → wear ≤ 2 ^ 61 + 65536 →
-      length (making.names now) ≤ 256 → short now → Upheld (resting now wear)
-  resting_told now wear reached unworn few spells =
+  pub resting_told : (format : Format) (now : S) (wear : ℕ) → meaning.within now wear →
+      wear ≤ 2 ^ 61 + 65536 →
+      length (making.names now) ≤ 256 → short format now → Upheld (resting format now wear)
+  resting_told format now wear reached unworn few spells =
       let none = maps.len-empty nat_cmp Bool in
       record {
         few_live = omega arith;
@@ -427,12 +377,12 @@ module _ {S : Type 0} (meaning : Meaning S ℕ) (making : Making S)
         numbers = λ n lives. absurd (nobody n lives);
         spells = spells;
         asked = tt;
-        holds = resting_loaded meaning making laws.rules now wear;
+        holds = resting_loaded meaning making laws.rules format now wear;
       }
 
   module _ (s : State S) (upheld : Upheld s) where
     pub read_upheld : (next : S) → s.live ≡ maps.empty → length (making.names next) ≤ 256 →
-        meaning.within next s.wear → short next → Upheld (record s { now = next })
+        meaning.within next s.wear → short s.format next → Upheld (record s { now = next })
     read_upheld next empty few reached spells = record {
       few_live = upheld.few_live;
       few_calls = upheld.few_calls;
@@ -470,8 +420,8 @@ module _ {S : Type 0} (meaning : Meaning S ℕ) (making : Making S)
 
     module _ where
       pub call_upheld : (n : ℕ) (e : Event) (t : State S) → Pairs e.call e.reply →
-          IsShortReply e.reply → HeldCallRow meaning s n e t → Upheld t
-      call_upheld n e t pairs short_reply row =
+          HeldCallRow meaning s n e t → Upheld t
+      call_upheld n e t pairs row =
           let room = row.room in
           let longer = pushed_length s.entries (n, Asked e) in
           subst Upheld (sym row.is) (record {
@@ -482,8 +432,9 @@ module _ {S : Type 0} (meaning : Meaning S ℕ) (making : Making S)
             unworn = omega arith;
             numbers = upheld.numbers;
             spells = upheld.spells;
-            asked = each_append (λ e. IsAskedEntry e.1) s.entries ((n, Asked e) ∷ []) upheld.asked
-                ((row.asked.1, row.asked.2, pairs, short_reply), tt);
+            asked = each_append (λ e. IsAskedEntry s.format e.1) s.entries ((n, Asked e) ∷ [])
+                upheld.asked
+                ((row.asked.1, row.asked.2, pairs, row.told), tt);
             holds = subst Told row.is (call_loaded meaning making laws.rules s upheld.holds n e t
                 row);
           })
@@ -501,7 +452,8 @@ module _ {S : Type 0} (meaning : Meaning S ℕ) (making : Making S)
             unworn = omega arith;
             numbers = upheld.numbers;
             spells = upheld.spells;
-            asked = each_append (λ e. IsAskedEntry e.1) s.entries ((n, PutOff at call) ∷ [])
+            asked = each_append (λ e. IsAskedEntry s.format e.1) s.entries
+                ((n, PutOff at call) ∷ [])
                 upheld.asked (row.put_off.1, tt);
             holds = subst Told row.is (later_loaded meaning making laws.rules s upheld.holds n
                 at call t row);
@@ -537,29 +489,31 @@ module _ {S : Type 0} (meaning : Meaning S ℕ) (making : Making S)
 
   -- Whatever the collections answered to a reading, it holds of the state still.
   module _ (collections : S → List Collection) (told : records.Tells meaning making collections)
-      (short_loads : (s t : S) (name : List ℕ) (kind : Kind) (items : List Item) →
-      Loads (collections s) name kind items (collections t) → AllByRecursion IsShortItem items →
-      short s → short t)
+      (short_loads : (f : Format) (s t : S) (name : List ℕ) (kind : Kind) (items : List Item) →
+      Loads (collections s) name kind items (collections t) → AllByRecursion (IsShortItem f) items →
+      short f s → short f t)
+      (format : Format)
       (now : S) (needs : Holdings) (log : Log) (wear : ℕ) (name : List ℕ) (kind : Kind)
       (items : List Item) (next : S) where
-    as_before : Upheld (state_of now needs log wear) → next ≡ now →
-        Upheld (state_of next needs log wear)
-    as_before upheld same = subst (λ v. Upheld (state_of v needs log wear)) (sym same) upheld
+    as_before : Upheld (state_of format now needs log wear) → next ≡ now →
+        Upheld (state_of format next needs log wear)
+    as_before upheld same = subst (λ v. Upheld (state_of format v needs log wear)) (sym same) upheld
 
-    pub read_kept : (r : Result Bool Refusal) → Upheld (state_of now needs log wear) →
-        log.live ≡ maps.empty → AllByRecursion IsShortItem items →
+    pub read_kept : (r : Result Bool Refusal) → Upheld (state_of format now needs log wear) →
+        log.live ≡ maps.empty → AllByRecursion (IsShortItem format) items →
         AllByRecursion (IsReached wear) items → IfOk r (λ loaded. IsNew (making.names now) name) →
         IfOk r (λ loaded. IsTrue loaded →
         Loads (collections now) name kind items (collections next)) →
         IfOk r (λ loaded. loaded ≡ false → (next ≡ now) × (AreItems kind items → ⊥)) →
-        OnErr r (next ≡ now) → Upheld (state_of next needs log wear)
+        OnErr r (next ≡ now) → Upheld (state_of format next needs log wear)
     read_kept (Ok true) upheld empty short_items reached new loads not same =
-        read_upheld (state_of now needs log wear) upheld next empty
-        (read_names collections meaning making told now needs log wear name kind items next new
+        read_upheld (state_of format now needs log wear) upheld next empty
+        (read_names collections meaning making told format now needs log wear name kind items next
+        new
         (loads refl))
         ((told.within next wear).1 (within_loaded wear (collections now) (collections next) name
         kind items (loads refl) reached ((told.within now wear).0 upheld.reached)))
-        (short_loads now next name kind items (loads refl) short_items upheld.spells)
+        (short_loads format now next name kind items (loads refl) short_items upheld.spells)
     read_kept (Ok false) upheld empty short_items reached new loads not same =
         as_before upheld (not refl).0
     read_kept (Err e) upheld empty short_items reached new loads not same = as_before upheld same

@@ -209,10 +209,6 @@ module _ {S : Type 0} (meaning : Meaning S ℕ) (laws : TakeLaws meaning) where
     omega arith,
   )
 
-  -- There is room for taking one call back.
-  pub back_room : (es : List Event) (s : S) → HasRoomBack meaning es s → HasRoom meaning s
-  back_room es s room = let most = room.room in (room.wear, room.reached, omega arith)
-
   led_front : (es fs : List Event) (s : S) → HasLed meaning (es ++ fs) s → HasLed meaning es s
   led_front es fs s led =
       let parts = Leads-split (Does meaning) es fs s led.next led.runs in
@@ -250,10 +246,6 @@ module _ {S : Type 0} (meaning : Meaning S ℕ) (laws : TakeLaws meaning) where
 
   module _ (os : List Owned) (start : S) where
     -- ---- taking back
-
-    pub taking_first : Led (calls_in (drop (length os) os)) start start
-    taking_first = subst (λ l. Led l start start)
-        (sym (ap calls_in (drop_all (length os) os (omega arith)))) refl
 
     module _ (p i : ℕ) (o : Owned) (one : p ≡ i + 1) (most : p ≤ length os) (is : o ≡ get_or os i o)
         (room : HasRoomBack meaning (calls_in os) start) (now : S)
@@ -312,9 +304,6 @@ module _ {S : Type 0} (meaning : Meaning S ℕ) (laws : TakeLaws meaning) where
           stuck first.0 (subst (λ v. Led (call_in o) first.0 v) same second.1)
 
     -- ---- making again
-
-    pub making_first : HasLed meaning (calls_in os) start → IsMakingSo meaning os start 0 start
-    making_first led = record { can = led; leads = λ t w. w }
 
     module _ (i : ℕ) (o : Owned) (below : i < length os) (is : o ≡ get_or os i o) (now : S)
         (so : IsMakingSo meaning os start i now) where

@@ -1,6 +1,6 @@
 -- The state that an image tells of, one record after another: its collections, the transactions
 -- that were live, and what these had asked for.
-use Rattle.std.specs.Prelude.{◌≡◌, ℕ, ◌+◌, ◌<◌, ◌≤◌, ◌^◌, Bool, true, false, Result, Ok, Err, List}
+use Rattle.std.specs.Prelude.{◌≡◌, ℕ, ◌+◌, ◌<◌, ◌≤◌, Bool, true, false, Result, Ok, Err, List}
 use Rattle.std.specs.Prelude.{[], ◌∷◌, ◌++◌, length, map}
 use Rattle.std.specs.List.{AllByRecursion}
 use Rattle.std.specs.FinMap as maps
@@ -12,6 +12,7 @@ use Rattle.calls.specs.Contents.{Collection}
 use Rattle.calls.specs.declared.refusal.Refusal.{Refusal}
 use Rattle.calls.specs.Rules.{Askable, need_of}
 use Rattle.calls.specs.Transactions.{Event, Asked, PutOff, Leads, calls_of, own}
+use Rattle.calls.specs.Limits.{max_live, max_calls, max_wear}
 use Rattle.abstract_locks.specs.Holds.{hold, IsClear, IsAdded}
 use Rattle.undo_log.specs.declared.logged.Owned.{Owned}
 use Rattle.undo_log.specs.Entries.{owned_entry}
@@ -22,6 +23,7 @@ use Rattle.catalog.specs.Holdings.{Loads}
 use Rattle.record_format.specs.declared.record.Record.{Record}
 use Rattle.record_format.specs.Acts.{event_of}
 use Rattle.record_format.specs.Records.{IsNumber}
+use Rattle.record_format.specs.Short.{IsShortReply}
 use Rattle.machine.specs.Machine.{State, Does}
 use Rattle.ledger.specs.LeftCalls.{GoesTwice}
 
@@ -40,20 +42,21 @@ pub record LoadRow {S : Type 0} (collections : S → List Collection) (meaning :
 pub record StandRow {S : Type 0} (s : State S) (n : ℕ) (t : State S) : Type 0 where
   pub number : IsNumber n
   pub above : (m : ℕ) → Lives s.live m → m < n
-  pub few : maps.len s.live < 64
+  pub few : maps.len s.live < max_live
   pub is : t ≡ record s { live = maps.insert s.live n false }
 
 -- The wear has room for the undoing of one entry more.
 abbrev pub HasRoomToHold : {S : Type 0} → State S → Type 0
-HasRoomToHold s = s.wear + (length s.entries + 1) ≤ 2 ^ 61 + 65536
+HasRoomToHold s = s.wear + (length s.entries + 1) ≤ max_wear
 
 module _ {S : Type 0} (meaning : Meaning S ℕ) where
   -- A call of a live transaction, which the collections show as done: its need is held beside those
   -- of the others.
   pub record HeldCallRow (s : State S) (n : ℕ) (e : Event) (t : State S) : Type 0 where
     pub live : Lives s.live n
-    pub asked : CanAsk meaning s.now e.at e.call
-    pub few : length (own n s.entries) < 1024
+    pub asked : CanAsk meaning s.format s.now e.at e.call
+    pub told : IsShortReply s.format e.reply
+    pub few : length (own n s.entries) < max_calls
     pub once : GoesTwice s.entries n e → ⊥
     pub clear : IsClear s.holds n e.at (need_of e.call e.reply)
     pub room : HasRoomToHold s
@@ -64,7 +67,7 @@ module _ {S : Type 0} (meaning : Meaning S ℕ) where
   pub record HeldLaterRow (s : State S) (n at : ℕ) (call : Call) (t : State S) : Type 0 where
     pub live : Lives s.live n
     pub put_off : CanDefer meaning s.now at call
-    pub few : length (own n s.entries) < 1024
+    pub few : length (own n s.entries) < max_calls
     pub ready : meaning.answers s.now at call Reply.Done
     pub clear : IsClear s.holds n at (need_of call Reply.Done)
     pub room : HasRoomToHold s
@@ -81,8 +84,9 @@ module _ {S : Type 0} (meaning : Meaning S ℕ) where
   -- A live transaction can have made the call, which the collections show as done.
   pub record CanHoldCall (s : State S) (n : ℕ) (e : Event) : Type 0 where
     pub live : Lives s.live n
-    pub asked : CanAsk meaning s.now e.at e.call
-    pub few : length (own n s.entries) < 1024
+    pub asked : CanAsk meaning s.format s.now e.at e.call
+    pub told : IsShortReply s.format e.reply
+    pub few : length (own n s.entries) < max_calls
     pub once : GoesTwice s.entries n e → ⊥
     pub clear : IsClear s.holds n e.at (need_of e.call e.reply)
     pub room : HasRoomToHold s
@@ -91,7 +95,7 @@ module _ {S : Type 0} (meaning : Meaning S ℕ) where
   pub record CanHoldLater (s : State S) (n at : ℕ) (call : Call) : Type 0 where
     pub live : Lives s.live n
     pub put_off : CanDefer meaning s.now at call
-    pub few : length (own n s.entries) < 1024
+    pub few : length (own n s.entries) < max_calls
     pub ready : meaning.answers s.now at call Reply.Done
     pub clear : IsClear s.holds n at (need_of call Reply.Done)
     pub room : HasRoomToHold s
@@ -121,7 +125,7 @@ pub record HasRoomBack {S : Type 0} (meaning : Meaning S ℕ) (es : List Event) 
   pub asked : AllByRecursion (λ e. Askable e.call) es
   pub wear : ℕ
   pub reached : meaning.within s wear
-  pub room : wear + length es ≤ 2 ^ 61 + 65536
+  pub room : wear + length es ≤ max_wear
 
 module _ {S : Type 0} (meaning : Meaning S ℕ) where
   -- The calls lead from the content to one from which there is room for taking them back.

@@ -1,6 +1,6 @@
 // Reading an image into a machine: its collections, the transactions that were live, and what these
 // had asked for.
-ghost use Rattle.std.specs.Prelude.{◌≡◌, ◌↔◌, ℕ, ◌+◌, ◌<◌, ◌≤◌, ◌^◌, None, IsTrue, IfOk, IfSome};
+ghost use Rattle.std.specs.Prelude.{◌≡◌, ◌↔◌, ℕ, ◌+◌, ◌<◌, ◌≤◌, None, IsTrue, IfOk, IfSome};
 ghost use Rattle.std.specs.Prelude.{IfNone, OnOk, OnErr, IsOkUnless, Ok, length};
 ghost use Rattle.std.specs.FinMap as maps;
 ghost use Rattle.std.specs.List.{AllByRecursion};
@@ -13,6 +13,7 @@ ghost use Rattle.record_format.specs.declared.record.Record.{Record};
 ghost use Rattle.record_format.specs.Acts.{event_of};
 ghost use Rattle.record_format.specs.Reached.{IsReached};
 ghost use Rattle.calls.specs.Rules.{Pairs, need_of};
+ghost use Rattle.calls.specs.Limits.{max_collections, max_wear};
 ghost use Rattle.record_format.specs.Records.{IsRecord, IsNumber};
 ghost use Rattle.record_format.specs.Short.{AreShort, IsShortItem, IsShortReply};
 ghost use Rattle.machine.specs.Machine.{IsSettled};
@@ -23,11 +24,11 @@ ghost use Rattle.loader.specs.Loading.{CanHoldLater, HeldLaterRow, LiveSteps};
 
 use crate::redoing::redo;
 use calls::limits::MAX_LIVE;
-use calls::{Item, Kind, Need, Refusal, Reply};
+use calls::{Format, Item, Kind, Need, Refusal, Reply};
 use catalog::Parts;
 use ledger::Ledger;
 use machine::{Machine, unmade};
-use records::{CallRecord, Coded, LaterRecord, Record, is_reached};
+use records::{CallRecord, Coded, LaterRecord, Record, is_reached, is_short_reply};
 use std::alloc::Global;
 use std::marker::Model;
 use undo_log::{Later, Logged};
@@ -40,6 +41,7 @@ pub struct Loader<B: Parts + Coded> {
     parts: B,
     ledger: Ledger,
     wear: u64,
+    format: Format,
     // the greatest number that is live, 0 where none is
     last: u64,
 }
@@ -59,27 +61,28 @@ impl<B: Parts + Coded> Model for Loader<B> {
 
     ghost coded = { Prim.hlevel (codes, maps.code {R = nat_cmp} coded_ℕ coded_bool) };
 
-    ghost view = { λ l. state_with l.parts l.ledger l.wear };
+    ghost view = { λ l. state_with l.format l.parts l.ledger l.wear };
 
-    ghost invariant = { λ l. IsUpheld B.meaning B.making (λ s. AreShort (B.collections s))
+    ghost invariant = { λ l. IsUpheld B.meaning B.making (λ f s. AreShort f (B.collections s))
         (IsLoaded B.meaning B.making)
-        (state_with l.parts l.ledger l.wear) × IsLast l.ledger.live l.last };
+        (state_with l.format l.parts l.ledger l.wear) × IsLast l.ledger.live l.last };
 }
 
 impl<B: Parts + Coded> Loader<B> {
-    /// The collections with no live transaction. `wear` is what they are within. It takes no
-    /// memory.
-    pub fn new(alloc: Global, parts: B, wear: u64) -> Self
+    /// The collections of a store of the format, with no live transaction. `wear` is what they are
+    /// within. It takes no memory.
+    pub fn new(alloc: Global, format: Format, parts: B, wear: u64) -> Self
         requires within { B.meaning.within parts wear }
-        requires worn { wear ≤ 2 ^ 61 + 65536 }
-        requires short { AreShort (B.collections parts) }
-        requires few { length (B.making.names parts) ≤ 256 }
-        ensures { result ≡ resting parts wear }
+        requires worn { wear ≤ max_wear }
+        requires short { AreShort format (B.collections parts) }
+        requires few { length (B.making.names parts) ≤ max_collections }
+        ensures { result ≡ resting format parts wear }
     {
         Self {
             parts,
             ledger: Ledger::new(alloc),
             wear,
+            format,
             last: 0,
         }
     }
@@ -89,6 +92,13 @@ impl<B: Parts + Coded> Loader<B> {
         ensures { result.now ≡ self.now.now }
     {
         &self.parts
+    }
+
+    /// The format of the store.
+    pub fn format(&self) -> Format
+        ensures { result ≡ self.now.format }
+    {
+        self.format
     }
 
     /// The wear that it was made with.
@@ -106,7 +116,7 @@ impl<B: Parts + Coded> Loader<B> {
     /// NoMemory leaves all as before.
     pub fn load(&mut self, name: &str, kind: Kind, items: Vec<Item>) -> Result<bool, Refusal>
         requires none_live { self.old.live ≡ maps.empty }
-        requires short { AllByRecursion IsShortItem items.items }
+        requires short { AllByRecursion (IsShortItem self.old.format) items.items }
         ensures { LoadAnswers (LoadRow B.collections B.meaning B.making self.old name.now kind
             items.items) self.old result self.new }
     {
@@ -146,12 +156,13 @@ impl<B: Parts + Coded> Loader<B> {
             mut parts,
             ledger,
             wear,
+            format,
             ..
         } = self;
         if !redo(&mut parts, ledger.live())? {
             return Ok(None);
         }
-        Ok(Some(Machine::of_parts(parts, ledger, wear)))
+        Ok(Some(Machine::of_parts(format, parts, ledger, wear)))
     }
 
     // The record's step, from this very state.
@@ -227,7 +238,6 @@ impl<B: Parts + Coded> Loader<B> {
     fn note_call(&mut self, number: u64, asked: Logged) -> Result<(), Refusal>
         requires can { CanHoldCall B.meaning self.old number (logs.event_of asked) }
         requires pairs { Pairs asked.call asked.reply }
-        requires short { IsShortReply asked.reply }
         ensures ok { OnOk result (HeldCallRow B.meaning self.old number (logs.event_of asked)
             self.new) }
         ensures same { OnErr result (self.new ≡ self.old) }
@@ -262,12 +272,16 @@ impl<B: Parts + Coded> Loader<B> {
             && self.is_apart(called)
     }
 
-    // Whether a client can ask for the call.
+    // Whether a client can ask for the call, and no value of the reply is too long for the format.
     fn can_ask(&self, called: &CallRecord) -> bool
-        ensures { IsTrue result ↔ CanAsk B.meaning self.now.now called.now.collection
-            called.now.call }
+        ensures { IsTrue result ↔ (CanAsk B.meaning self.now.format self.now.now
+            called.now.collection
+            called.now.call ×
+            IsShortReply self.now.format called.now.reply) }
     {
         self.parts.askable(called.collection, &called.call).is_ok()
+            && called.call.is_short(self.format)
+            && is_short_reply(self.format, &called.reply)
     }
 
     // Whether the call leaves nothing that is going already, and has no other transaction in the

@@ -73,6 +73,7 @@ module _ {S : Type 0} where
     entries = refl;
     holds = same;
     wear = refl;
+    format = refl;
   }
 
   pub alike_self : (s : State S) → Alike s s
@@ -82,6 +83,7 @@ module _ {S : Type 0} where
     entries = refl;
     holds = λ h. (λ i. i, λ i. i);
     wear = refl;
+    format = refl;
   }
 
   pub alike_trans : (s t u : State S) → Alike s t → Alike t u → Alike s u
@@ -91,6 +93,7 @@ module _ {S : Type 0} where
     entries = a.entries ∙ b.entries;
     holds = λ h. (λ i. (b.holds h).0 ((a.holds h).0 i), λ i. (a.holds h).1 ((b.holds h).1 i));
     wear = a.wear ∙ b.wear;
+    format = a.format ∙ b.format;
   }
 
   -- a state alike has the same parts, but for its needs
@@ -102,6 +105,7 @@ module _ {S : Type 0} where
         entries = u.entries;
         holds = u.holds;
         wear = u.wear;
+        format = u.format;
       } in t) like.now
       ∙ ap (λ v. let t : State S = record {
         now = s.now;
@@ -109,6 +113,7 @@ module _ {S : Type 0} where
         entries = u.entries;
         holds = u.holds;
         wear = u.wear;
+        format = u.format;
       } in t) like.live
       ∙ ap (λ v. let t : State S = record {
         now = s.now;
@@ -116,6 +121,7 @@ module _ {S : Type 0} where
         entries = v;
         holds = u.holds;
         wear = u.wear;
+        format = u.format;
       } in t) like.entries
       ∙ ap (λ v. let t : State S = record {
         now = s.now;
@@ -123,7 +129,16 @@ module _ {S : Type 0} where
         entries = s.entries;
         holds = u.holds;
         wear = v;
+        format = u.format;
       } in t) like.wear
+      ∙ ap (λ v. let t : State S = record {
+        now = s.now;
+        live = s.live;
+        entries = s.entries;
+        holds = u.holds;
+        wear = s.wear;
+        format = v;
+      } in t) like.format
 
 module _ {S : Type 0} (meaning : Meaning S ℕ) where
   module _ (making : Making S) where
@@ -171,6 +186,7 @@ module _ {S : Type 0} (meaning : Meaning S ℕ) where
           can = record {
             running = running_there c.number row.can.running;
             asked = row.can.asked;
+            told = row.can.told;
             few = row.can.few;
             answered = row.can.answered;
             once = row.can.once;
@@ -263,6 +279,7 @@ module _ {S : Type 0} (meaning : Meaning S ℕ) where
             entries = others n s.entries;
             holds = hs;
             wear = s.wear;
+            format = s.format;
           } in
           subst (λ x. Alike x w) (sym a.is)
           (subst (λ x. Alike (out t.holds) x) (sym b.is)
@@ -293,6 +310,7 @@ module _ {S : Type 0} (meaning : Meaning S ℕ) where
             entries = a.rest;
             holds = s.holds;
             wear = s.wear + 1;
+            format = s.format;
           } in x) nexts
           ∙ ap (λ v. let x : State S = record {
             now = b.next;
@@ -300,6 +318,7 @@ module _ {S : Type 0} (meaning : Meaning S ℕ) where
             entries = v;
             holds = s.holds;
             wear = s.wear + 1;
+            format = s.format;
           } in x) rests
           ∙ sym b.is
 
@@ -320,6 +339,7 @@ module _ {S : Type 0} (meaning : Meaning S ℕ) where
             entries = s.entries ++ (c.number, Asked e) ∷ [];
             holds = hs;
             wear = s.wear + 1;
+            format = s.format;
           } in
           subst (λ x. Alike x w) (sym a.is) (subst (λ x. Alike (called t.holds) x) (sym b.is)
           (same_alike (called t.holds) t.holds w.holds
@@ -333,6 +353,7 @@ module _ {S : Type 0} (meaning : Meaning S ℕ) where
             entries = s.entries ++ (l.number, PutOff l.collection l.call) ∷ [];
             holds = hs;
             wear = s.wear + 1;
+            format = s.format;
           } in
           subst (λ x. Alike x w) (sym a.is) (subst (λ x. Alike (put t.holds) x) (sym b.is)
           (same_alike (put t.holds) t.holds w.holds
@@ -348,6 +369,7 @@ module _ {S : Type 0} (meaning : Meaning S ℕ) where
             entries = others n s.entries;
             holds = hs;
             wear = s.wear + length (laters_of (own n s.entries));
+            format = s.format;
           } in
           subst (λ x. Alike x w) (sym a.left.is)
           (subst (λ x. Alike (out a.next t.holds) x) (sym b.left.is)

@@ -3,6 +3,7 @@ use Rattle.std.proofs.Common.{◌≡◌, ◌↔◌, ℕ, List, Result, Ok, Err, 
 use Rattle.std.proofs.Common.{refl, sym}
 use Rattle.std.specs.Result.{is_ok}
 use Rattle.std.proofs.lemmas.List.Elements.{All-contains}
+use Rattle.calls.specs.declared.format.Format.{Format}
 use Rattle.calls.specs.declared.need.Need.{Need}
 use Rattle.calls.specs.declared.refusal.Refusal.{Refusal}
 use Rattle.abstract_locks.specs.declared.table.Hold.{Hold}
@@ -11,14 +12,17 @@ use Rattle.undo_log.specs.Logs.{Log}
 use Rattle.machine.specs.Machine.{State}
 use Rattle.machine.specs.Views.{state_of}
 
-pub still_held : {S : Type 0} (now : S) (needs needs' : Holdings) (log : Log) (wear : ℕ) →
-    needs'.holds ≡ needs.holds → state_of now needs log wear ≡ state_of now needs' log wear
-still_held now needs needs' log wear same = ap (λ h. let s : State _ = record {
+pub still_held : {S : Type 0} (format : Format) (now : S) (needs needs' : Holdings) (log : Log)
+    (wear : ℕ) →
+    needs'.holds ≡ needs.holds → state_of format now needs log wear ≡
+    state_of format now needs' log wear
+still_held format now needs needs' log wear same = ap (λ h. let s : State _ = record {
   now = now;
   live = log.live;
   entries = log.entries;
   holds = h;
   wear = wear;
+  format = format;
 } in s) (sym same)
 
 module _ (holds : List Hold) (owner at : ℕ) (need : Need) where

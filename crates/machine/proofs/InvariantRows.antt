@@ -5,6 +5,7 @@ use Rattle.std.proofs.Common.{◌∙◌, ap, subst, arith}
 use Rattle.std.specs.List.{AllByRecursion}
 use Rattle.std.specs.FinMap as maps
 use Rattle.std.specs.Ordering.{nat_cmp}
+use Rattle.calls.specs.declared.format.Format.{Format}
 use Rattle.calls.specs.declared.kind.Kind.{Kind}
 use Rattle.calls.specs.declared.call.Call.{Call}
 use Rattle.calls.specs.declared.reply.Reply.{Reply}
@@ -32,7 +33,7 @@ use Rattle.machine.proofs.Sizes.{own_of_rest, rest_length, pushed_length}
 use Rattle.catalog.specs.Making.{Making}
 
 module _ {S : Type 0} (meaning : Meaning S ℕ) (making : Making S)
-    (short : S → Type 0) (laws : BookLaws meaning making short) where
+    (short : Format → S → Type 0) (laws : BookLaws meaning making short) where
   abbrev Sound : State S → Type 0
   Sound s = IsSound meaning making s
 
@@ -48,14 +49,14 @@ module _ {S : Type 0} (meaning : Meaning S ℕ) (making : Making S)
       laters_names es runs.0 t runs.2 ∙ ap (λ v. length (making.names v)) runs.1.1 ∙
       ap length (laws.makings.runs_keep_names s e.at e.call e.reply runs.1.0)
 
-  laters_short : (es : List Event) (s t : S) →
+  laters_short : (f : Format) (es : List Event) (s t : S) →
       AllByRecursion (λ e. Disposable e.call × (e.reply ≡ Reply.Done)) es →
-      Leads (Does meaning) es s t → short s → short t
-  laters_short [] s t late runs spells = subst short runs spells
-  laters_short (e ∷ es) s t late runs spells =
-      laters_short es runs.0 t late.1 runs.2
-      (subst short (sym runs.1.1) (laws.short_runs s e.at e.call e.reply spells runs.1.0
-      (short_disposable e.call late.0.0)))
+      Leads (Does meaning) es s t → short f s → short f t
+  laters_short f [] s t late runs spells = subst (short f) runs spells
+  laters_short f (e ∷ es) s t late runs spells =
+      laters_short f es runs.0 t late.1 runs.2
+      (subst (short f) (sym runs.1.1) (laws.short_runs f s e.at e.call e.reply spells runs.1.0
+      (short_disposable f e.call late.0.0)))
 
   module _ (s : State S) (upheld : Upheld s) where
     -- No more entries than 1024 for each of the 64 that may be live.
@@ -86,7 +87,7 @@ module _ {S : Type 0} (meaning : Meaning S ℕ) (making : Making S)
               upheld.reached;
           unworn = upheld.unworn;
           numbers = upheld.numbers;
-          spells = laws.short_makes s.now row.next name kind row.made upheld.spells;
+          spells = laws.short_makes s.format s.now row.next name kind row.made upheld.spells;
           asked = upheld.asked;
           holds = subst Sound row.is (steps.make_sound meaning making laws.rules s upheld.holds name
               kind t row);
@@ -141,17 +142,18 @@ module _ {S : Type 0} (meaning : Meaning S ℕ) (making : Making S)
               row.can.answered;
           unworn = omega arith;
           numbers = upheld.numbers;
-          spells = laws.short_runs s.now e.at e.call e.reply upheld.spells row.can.answered
+          spells = laws.short_runs s.format s.now e.at e.call e.reply upheld.spells row.can.answered
               row.can.asked.2;
-          asked = each_append (λ e. IsAskedEntry e.1) s.entries ((n, Asked e) ∷ []) upheld.asked (
-            (
-              row.can.asked.1,
-              row.can.asked.2,
-              laws.paired s.now e.at e.call e.reply row.can.asked.1 row.can.answered,
-              laws.short_replies s.now e.at e.call e.reply upheld.spells row.can.answered,
-            ),
-            tt,
-          );
+          asked = each_append (λ e. IsAskedEntry s.format e.1) s.entries ((n, Asked e) ∷ [])
+              upheld.asked (
+                (
+                  row.can.asked.1,
+                  row.can.asked.2,
+                  laws.paired s.now e.at e.call e.reply row.can.asked.1 row.can.answered,
+                  row.can.told,
+                ),
+                tt,
+              );
           holds = subst Sound row.is (steps.call_sound meaning making laws.rules s upheld.holds n e
               t row);
         })
@@ -174,7 +176,7 @@ module _ {S : Type 0} (meaning : Meaning S ℕ) (making : Making S)
           unworn = omega arith;
           numbers = upheld.numbers;
           spells = upheld.spells;
-          asked = each_append (λ e. IsAskedEntry e.1) s.entries ((n, PutOff at call) ∷ [])
+          asked = each_append (λ e. IsAskedEntry s.format e.1) s.entries ((n, PutOff at call) ∷ [])
               upheld.asked (row.can.put_off.1, tt);
           holds = subst Sound row.is (steps.later_sound meaning making laws.rules s upheld.holds n
               at call t row);
@@ -184,7 +186,7 @@ module _ {S : Type 0} (meaning : Meaning S ℕ) (making : Making S)
     -- that is left may still be undone.
     left_upheld : (n : ℕ) (next : S) (more : ℕ) (t : State S) → Lives s.live n →
         meaning.within next (s.wear + more) → more ≤ length (own n s.entries) →
-        length (making.names next) ≡ length (making.names s.now) → short next →
+        length (making.names next) ≡ length (making.names s.now) → short s.format next →
         IsLeft (record s { now = next; wear = s.wear + more }) n t → Sound t → Upheld t
     left_upheld n next more t lives reached less same_names spells left sound =
         let fewer = len_left s.live n lives in
@@ -201,7 +203,7 @@ module _ {S : Type 0} (meaning : Meaning S ℕ) (making : Making S)
           unworn = omega arith;
           numbers = λ k there. upheld.numbers k ((lives_fewer s.live n k).1 there).0;
           spells = spells;
-          asked = asked_left s.entries upheld.asked n;
+          asked = asked_left s.format s.entries upheld.asked n;
           holds = subst Sound left.is sound;
         })
 
@@ -209,13 +211,13 @@ module _ {S : Type 0} (meaning : Meaning S ℕ) (making : Making S)
     after_laters : (n : ℕ) (next : S) →
         Leads (Does meaning) (laters_of (own n s.entries)) s.now next →
         meaning.within next (s.wear + length (laters_of (own n s.entries))) ×
-        (length (making.names next) ≡ length (making.names s.now)) × short next
+        (length (making.names next) ≡ length (making.names s.now)) × short s.format next
     after_laters n next runs =
         let late = steps.laters_disposable meaning making laws.rules s upheld.holds n in (
           run_within meaning laws.calls (laters_of (own n s.entries)) s.now next s.wear runs
               upheld.reached,
           laters_names (laters_of (own n s.entries)) s.now next runs,
-          laters_short (laters_of (own n s.entries)) s.now next late runs upheld.spells,
+          laters_short s.format (laters_of (own n s.entries)) s.now next late runs upheld.spells,
         )
 
     -- There is room in the wear for all that a transaction put off.
@@ -313,9 +315,11 @@ module _ {S : Type 0} (meaning : Meaning S ℕ) (making : Making S)
               upheld.reached;
           unworn = omega arith;
           numbers = λ k there. upheld.numbers k (fallen_lives n k row.live there);
-          spells = undone_short meaning short laws.short_runs laws.short_inverse x s.now row.next
-              (short_newest s.entries upheld.asked n x row.rest new) upheld.spells row.undoes;
-          asked = asked_rest s.entries upheld.asked n x row.rest new;
+          spells = undone_short meaning s.format (short s.format) (laws.short_runs s.format)
+              (laws.short_inverse s.format) x s.now row.next
+              (short_newest s.format s.entries upheld.asked n x row.rest new) upheld.spells
+              row.undoes;
+          asked = asked_rest s.format s.entries upheld.asked n x row.rest new;
           holds = subst Sound row.is (steps.back_sound meaning making laws.rules s upheld.holds n t
               row);
         })
@@ -365,9 +369,10 @@ module _ {S : Type 0} (meaning : Meaning S ℕ) (making : Making S)
         (s.wear, upheld.reached, omega arith)
 
   -- A state with no live transaction.
-  pub resting_upheld : (now : S) (wear : ℕ) → meaning.within now wear → wear ≤ 2 ^ 61 + 65536 →
-      length (making.names now) ≤ 256 → short now → Upheld (resting now wear)
-  resting_upheld now wear reached unworn few spells =
+  pub resting_upheld : (format : Format) (now : S) (wear : ℕ) → meaning.within now wear →
+      wear ≤ 2 ^ 61 + 65536 →
+      length (making.names now) ≤ 256 → short format now → Upheld (resting format now wear)
+  resting_upheld format now wear reached unworn few spells =
       let none = maps.len-empty nat_cmp Bool in
       record {
         few_live = omega arith;
@@ -378,5 +383,5 @@ module _ {S : Type 0} (meaning : Meaning S ℕ) (making : Making S)
         numbers = λ n lives. absurd (nobody n lives);
         spells = spells;
         asked = tt;
-        holds = steps.opened_sound meaning making laws.rules now wear;
+        holds = steps.opened_sound meaning making laws.rules format now wear;
       }

@@ -209,6 +209,7 @@ unread_unheard {S = S} s t n row =
         entries = es;
         holds = s.holds;
         wear = s.wear;
+        format = s.format;
       } in v) same;
       falls = inr (n, row.live, refl);
       more = λ h i. i;
@@ -225,6 +226,7 @@ module _ {S : Type 0} (meaning : Meaning S ℕ) where
           entries = es;
           holds = t.holds;
           wear = s.wear;
+          format = s.format;
         } in v) (push_entry s.entries n (Asked e) false
             (ap not row.only_reads));
         falls = inl refl;
@@ -268,6 +270,7 @@ module _ {S : Type 0} (meaning : Meaning S ℕ) (making : Making S) (s t : State
         can = record {
           running = runs n row.can.running;
           asked = row.can.asked;
+          told = row.can.told;
           few = omega arith;
           answered = row.can.answered;
           once = λ twice. row.can.once (once_journalled n s.entries e twice);
@@ -281,6 +284,7 @@ module _ {S : Type 0} (meaning : Meaning S ℕ) (making : Making S) (s t : State
           entries = es;
           holds = t.holds;
           wear = s.wear + 1;
+          format = s.format;
         } in v) (push_entry s.entries n (Asked e) true (ap not written));
       })
 
@@ -307,6 +311,7 @@ module _ {S : Type 0} (meaning : Meaning S ℕ) (making : Making S) (s t : State
           entries = es;
           holds = t.holds;
           wear = s.wear + 1;
+          format = s.format;
         } in v) (push_entry s.entries n (PutOff at call) true refl);
       })
 
@@ -322,6 +327,7 @@ module _ {S : Type 0} (meaning : Meaning S ℕ) (making : Making S) (s t : State
           entries = es;
           holds = t.holds;
           wear = wear;
+          format = s.format;
         } in v) (sym (others_journalled n s.entries));
       })
 

@@ -5,6 +5,7 @@ use Rattle.std.proofs.Common.{◌∷◌, ◌++◌, length, map, get_or, drop, re
 use Rattle.std.proofs.Common.{arith, append-nil}
 use Rattle.std.specs.FinMap as maps
 use Rattle.std.proofs.lemmas.List.{drop_more, drop_all, length-append}
+use Rattle.calls.specs.declared.format.Format.{Format}
 use Rattle.calls.specs.declared.call.Call.{Call}
 use Rattle.calls.specs.declared.reply.Reply.{Reply}
 use Rattle.calls.specs.Rules.{Disposable, left_by, need_of}
@@ -156,16 +157,18 @@ module _ {S : Type 0} (meaning : Meaning S ℕ) where
 
 -- ---- the rows of the machine
 
-module _ {S : Type 0} (meaning : Meaning S ℕ) (now : S) (needs : Holdings) (log : Log)
+module _ {S : Type 0} (meaning : Meaning S ℕ) (format : Format) (now : S) (needs : Holdings)
+    (log : Log)
     (wear n : ℕ) where
   -- A call is put off and noted.
   pub put_row : (at : ℕ) (c : Call) (added : List Hold) (needs' : Holdings) (kept log' : Log) →
-      CanPutOff meaning (state_of now needs log wear) n at c →
-      HasRoomFor (state_of now needs log wear) 1 → added ≡ needs.holds →
+      CanPutOff meaning (state_of format now needs log wear) n at c →
+      HasRoomFor (state_of format now needs log wear) 1 → added ≡ needs.holds →
       IsAdded added needs'.holds (hold n at (need_of c Reply.Done)) →
       kept.live ≡ log.live → kept.entries ≡ log.entries → log'.live ≡ kept.live →
       log'.entries ≡ kept.entries ++ (n, PutOff at c) ∷ [] →
-      LaterRow meaning (state_of now needs log wear) n at c (state_of now needs' log' (wear + 1))
+      LaterRow meaning (state_of format now needs log wear) n at c
+      (state_of format now needs' log' (wear + 1))
   put_row at c added needs' kept log' can room same holds live_kept entries_kept live entries =
       record {
         can = can;
@@ -178,6 +181,7 @@ module _ {S : Type 0} (meaning : Meaning S ℕ) (now : S) (needs : Holdings) (lo
               entries = log'.entries;
               holds = needs'.holds;
               wear = wear + 1;
+              format = format;
             } in s) (live ∙ live_kept)
             ∙ ap (λ v. let s : State S = record {
               now = now;
@@ -185,17 +189,19 @@ module _ {S : Type 0} (meaning : Meaning S ℕ) (now : S) (needs : Holdings) (lo
               entries = v;
               holds = needs'.holds;
               wear = wear + 1;
+              format = format;
             } in s)
             (entries ∙ ap (λ l. l ++ (n, PutOff at c) ∷ []) entries_kept);
       }
 
   -- What was put off ran, and the transaction is taken out.
   pub committed_row : (es : List Entry) (now' : S) (ran : ℕ) (needs' : Holdings)
-      (log' : Log) → es ≡ own n log.entries → IsRunning (state_of now needs log wear) n →
+      (log' : Log) → es ≡ own n log.entries → IsRunning (state_of format now needs log wear) n →
       Leads (Does meaning) (laters_of es) now now' → ran ≡ length (laters_of es) →
       log'.live ≡ maps.remove log.live n → log'.entries ≡ others n log.entries →
       IsGivenUp needs.holds needs'.holds n →
-      CommitRow meaning (state_of now needs log wear) n (state_of now' needs' log' (wear + ran))
+      CommitRow meaning (state_of format now needs log wear) n
+      (state_of format now' needs' log' (wear + ran))
   committed_row es now' ran needs' log' same running runs count live entries given = record {
     running = running;
     next = now';
@@ -209,6 +215,7 @@ module _ {S : Type 0} (meaning : Meaning S ℕ) (now : S) (needs : Holdings) (lo
             entries = log'.entries;
             holds = needs'.holds;
             wear = wear + ran;
+            format = format;
           } in s) live
           ∙ ap (λ v. let s : State S = record {
             now = now';
@@ -216,6 +223,7 @@ module _ {S : Type 0} (meaning : Meaning S ℕ) (now : S) (needs : Holdings) (lo
             entries = v;
             holds = needs'.holds;
             wear = wear + ran;
+            format = format;
           } in s) entries
           ∙ ap (λ v. let s : State S = record {
             now = now';
@@ -223,6 +231,7 @@ module _ {S : Type 0} (meaning : Meaning S ℕ) (now : S) (needs : Holdings) (lo
             entries = others n log.entries;
             holds = needs'.holds;
             wear = wear + v;
+            format = format;
           } in s)
           (count ∙ ap (λ l. length (laters_of l)) same);
     };

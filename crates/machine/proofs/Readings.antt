@@ -4,6 +4,8 @@ use Rattle.std.proofs.Common.{◌≡◌, ℕ, ◌+◌, ◌≤◌, Bool, true, fa
 use Rattle.std.proofs.Common.{MatchOption, List, [], ◌∷◌, ◌++◌, map, refl, sym, ◌∙◌, ap, subst}
 use Rattle.std.proofs.Common.{arith}
 use Rattle.std.specs.List.{filter}
+use Rattle.calls.specs.declared.format.Format.{Format}
+use Rattle.calls.specs.Formats.{widest}
 use Rattle.calls.specs.declared.call.Call.{Call}
 use Rattle.calls.specs.declared.reply.Reply.{Reply}
 use Rattle.calls.specs.Rules.{inverse_of}
@@ -12,7 +14,7 @@ use Rattle.calls.specs.Transactions.{Event, Entry, Asked, PutOff, Leads, Act, As
 use Rattle.calls.proofs.Readings.{read_mode, read_inverse, read_leaves}
 use Rattle.boosted.specs.Meaning as shape
 use Rattle.boosted.specs.Meaning.{Meaning}
-use Rattle.boosted.proofs.Each.{each_filter}
+use Rattle.boosted.proofs.Each.{each_filter, weaker}
 use Rattle.catalog.specs.Making.{Making}
 use Rattle.record_format.specs.declared.record.Record.{Record}
 use Rattle.record_format.specs.Records.{record_of_call}
@@ -27,6 +29,7 @@ use Rattle.machine.proofs.Theory.Fewer.{fewer_sound}
 use Rattle.machine.proofs.BookLaws.{BookLaws}
 use Rattle.machine.proofs.InvariantRows.{call_upheld, back_upheld}
 use Rattle.machine.proofs.Journalled.{filter_length, own_fewer, calls_journalled, filter_map}
+use Rattle.machine.proofs.ShortValues.{widest_entry}
 use Rattle.machine.proofs.RecordRuns.{IsPlayed, one_step, Tells}
 use Rattle.machine.proofs.Steps as steps
 
@@ -128,6 +131,23 @@ module _ {S : Type 0} (meaning : Meaning S ℕ) (making : Making S)
     settled = is.settled;
   }
 
+  -- nor of the format
+  pub sound_widest : (t : State S) → IsSound meaning making t →
+      IsSound meaning making (record t { format = widest })
+  sound_widest t is = record {
+    machine = is.machine;
+    shows = record {
+      now = is.shows.now;
+      entries = is.shows.entries;
+      live = is.shows.live;
+      falling = is.shows.falling;
+      needs = is.shows.needs;
+    };
+    sound = is.sound;
+    content = is.content;
+    settled = is.settled;
+  }
+
   -- ---- steps of the machine but for the wear
 
   module _ (s t : State S) where
@@ -146,6 +166,7 @@ module _ {S : Type 0} (meaning : Meaning S ℕ) (making : Making S)
             entries = s.entries ++ (n, Asked e) ∷ [];
             holds = t.holds;
             wear = s.wear + 1;
+            format = s.format;
           } in v) (read_same s.now (meaning.leaves s.now e.at e.call e.reply) e row.only_reads
           (row.can.answered, refl));
     }
@@ -162,11 +183,6 @@ module _ {S : Type 0} (meaning : Meaning S ℕ) (making : Making S)
           (sym (read_inverse row.call.call row.call.reply row.only_reads)) refl;
       is = ap (λ (v : State S). record v { wear = s.wear + 1 }) row.is;
     }
-
-    pub read_sound : (n : ℕ) (e : Event) → IsSound meaning making s → ReadRow meaning s n e t →
-        IsSound meaning making t
-    read_sound n e sound row = sound_worn t (s.wear + 1)
-        (steps.call_sound meaning making laws s sound n e worn (read_calls n e row))
 
     pub read_settles : (n : ℕ) (e : Event) (c : S) → IsSound meaning making s →
         ReadRow meaning s n e t → IsSettled meaning s c → IsSettled meaning t c
@@ -205,7 +221,7 @@ module _ {S : Type 0} (meaning : Meaning S ℕ) (making : Making S)
 
 -- ---- what holds of every state
 
-module _ {S : Type 0} (meaning : Meaning S ℕ) (making : Making S) (short : S → Type 0)
+module _ {S : Type 0} (meaning : Meaning S ℕ) (making : Making S) (short : Format → S → Type 0)
     (laws : BookLaws meaning making short) (s : State S) where
   abbrev Upheld : State S → Type 0
   Upheld t = IsUpheld meaning making short (IsSound meaning making) t
@@ -223,7 +239,8 @@ module _ {S : Type 0} (meaning : Meaning S ℕ) (making : Making S) (short : S �
         unworn = omega arith;
         numbers = up.numbers;
         spells = up.spells;
-        asked = each_filter (λ e. IsAskedEntry e.1) (λ (e : ℕ × Entry). is_journalled e.1) s.entries
+        asked = each_filter (λ e. IsAskedEntry s.format e.1) (λ (e : ℕ × Entry). is_journalled e.1)
+            s.entries
             up.asked;
         holds = journalled_sound meaning making laws.rules s up.holds;
       }
@@ -259,3 +276,23 @@ module _ {S : Type 0} (meaning : Meaning S ℕ) (making : Making S) (short : S �
         less_worn t (subst (λ v. meaning.within v.now v.wear) (sym row.is) up.reached) (omega arith)
         (back_upheld meaning making short laws s up n _
         (unread_backs meaning making laws.rules s t n row))
+
+-- What holds of a state holds of it in the widest format, where no content that is short in a
+-- format is too long for the widest one.
+pub widest_upheld : {S : Type 0} (meaning : Meaning S ℕ) (making : Making S)
+    (short : Format → S → Type 0) (laws : RuleLaws (collection_rules meaning making)) →
+    ((f : Format) (s : S) → short f s → short widest s) → (s : State S) →
+    IsUpheld meaning making short (IsSound meaning making) s →
+    IsUpheld meaning making short (IsSound meaning making) (record s { format = widest })
+widest_upheld meaning making short laws wide s up = record {
+  few_live = up.few_live;
+  few_calls = up.few_calls;
+  few_names = up.few_names;
+  reached = up.reached;
+  unworn = up.unworn;
+  numbers = up.numbers;
+  spells = wide s.format s.now up.spells;
+  asked = weaker (λ e. IsAskedEntry s.format e.1) (λ e. IsAskedEntry widest e.1)
+      (λ e asked. widest_entry s.format e.1 asked) s.entries up.asked;
+  holds = sound_widest meaning making laws s up.holds;
+}

@@ -4,6 +4,7 @@ use Rattle.std.proofs.Common.{◌∷◌, ◌++◌, map, length, refl, sym, ◌�
 use Rattle.std.proofs.Common.{append_assoc}
 use Rattle.std.specs.FinMap as maps
 use Rattle.std.proofs.lemmas.Bool.{cases_eq}
+use Rattle.calls.specs.declared.format.Format.{Format}
 use Rattle.calls.specs.declared.kind.Kind.{Kind}
 use Rattle.calls.specs.declared.call.Call.{Call}
 use Rattle.calls.specs.declared.reply.Reply.{Reply}
@@ -309,12 +310,14 @@ module _ {S : Type 0} (meaning : Meaning S ℕ) (making : Making S)
         (makes_as_told : (s t : S) (name : List ℕ) (kind : Kind) → making.makes s name kind t →
         Makes (collections s) name kind (collections t)) where
       -- What records come to that lead from no live transaction to none.
-      pub records_serial : (start : S) (wear : ℕ) (rs : List Record) (t : State S) →
-          Leads (Steps meaning making) rs (resting start wear) t → t.live ≡ maps.empty →
+      pub records_serial : (format : Format) (start : S) (wear : ℕ) (rs : List Record)
+          (t : State S) →
+          Leads (Steps meaning making) rs (resting format start wear) t → t.live ≡ maps.empty →
           Serial (committed (acts_of rs)) (collections start) (collections t.now)
-      records_serial start wear rs t leads empty =
-          let sound = steps.opened_sound meaning making laws start wear in
-          let played = all_repeated rs [] (resting start wear) t start sound (λ n run. refl) refl
+      records_serial format start wear rs t leads empty =
+          let sound = steps.opened_sound meaning making laws format start wear in
+          let played = all_repeated rs [] (resting format start wear) t start sound (λ n run. refl)
+          refl
           leads in
           let none = none_live meaning making laws t played.sound played.content empty
           played.settled in

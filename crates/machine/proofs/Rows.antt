@@ -3,6 +3,7 @@ use Rattle.std.proofs.Common.{◌≡◌, ℕ, ◌+◌, ◌<◌, true, false, Lis
 use Rattle.std.proofs.Common.{ap}
 use Rattle.std.proofs.Common.{subst, arith}
 use Rattle.std.specs.FinMap as maps
+use Rattle.calls.specs.declared.format.Format.{Format}
 use Rattle.calls.specs.declared.kind.Kind.{Kind}
 use Rattle.calls.specs.Names.{IsName}
 use Rattle.calls.specs.Transactions.{Event, Asked, others}
@@ -20,16 +21,18 @@ use Rattle.calls.specs.Rules.{need_of}
 use Rattle.calls.specs.Reads.{reads}
 
 -- a state with no live transaction
-pub resting_is : {S : Type 0} (now : S) (needs : Holdings) (log : Log) (wear : ℕ) →
+pub resting_is : {S : Type 0} (format : Format) (now : S) (needs : Holdings) (log : Log)
+    (wear : ℕ) →
     needs.holds ≡ [] → log.live ≡ maps.empty → log.entries ≡ [] →
-    state_of now needs log wear ≡ resting now wear
-resting_is now needs log wear holds live entries =
+    state_of format now needs log wear ≡ resting format now wear
+resting_is format now needs log wear holds live entries =
     ap (λ v. let s : State _ = record {
       now = now;
       live = v;
       entries = log.entries;
       holds = needs.holds;
       wear = wear;
+      format = format;
     } in s) live
     ∙ ap (λ v. let s : State _ = record {
       now = now;
@@ -37,6 +40,7 @@ resting_is now needs log wear holds live entries =
       entries = v;
       holds = needs.holds;
       wear = wear;
+      format = format;
     } in s) entries
     ∙ ap (λ v. let s : State _ = record {
       now = now;
@@ -44,15 +48,18 @@ resting_is now needs log wear holds live entries =
       entries = [];
       holds = v;
       wear = wear;
+      format = format;
     } in s) holds
 
 -- A collection is made: its name was free, and there were fewer than 256.
 pub made_row : {S : Type 0} {meaning : Meaning S ℕ} {making : Making S}
-    (laws : MakingLaws meaning making) (now : S) (needs : Holdings) (log : Log) (wear : ℕ)
+    (laws : MakingLaws meaning making) (format : Format) (now : S) (needs : Holdings) (log : Log)
+    (wear : ℕ)
     (name : List ℕ) (kind : Kind) (now' : S) (at : ℕ) →
     IsName name → at ≡ length (making.names now) → at < 256 → making.makes now name kind now' →
-    MakeRow making (state_of now needs log wear) name kind (state_of now' needs log wear)
-made_row laws now needs log wear name kind now' at good is few made =
+    MakeRow making (state_of format now needs log wear) name kind
+    (state_of format now' needs log wear)
+made_row laws format now needs log wear name kind now' at good is few made =
     record {
       new = record {
         good = good;
@@ -64,15 +71,22 @@ made_row laws now needs log wear name kind now' at good is few made =
       is = refl;
     }
 
-module _ {S : Type 0} (now : S) (needs : Holdings) (log : Log) (wear n : ℕ) where
+module _ {S : Type 0} (format : Format) (now : S) (needs : Holdings) (log : Log) (wear n : ℕ) where
   -- A transaction is taken out.
   pub left_row : (needs' : Holdings) (log' : Log) → log'.live ≡ maps.remove log.live n →
       log'.entries ≡ others n log.entries → IsGivenUp needs.holds needs'.holds n →
-      IsLeft (state_of now needs log wear) n (state_of now needs' log' wear)
+      IsLeft (state_of format now needs log wear) n (state_of format now needs' log' wear)
   left_row needs' log' live entries given = record {
     holds = given;
     is = ap (λ v. let s : State S =
-        record { now = now; live = v; entries = log'.entries; holds = needs'.holds; wear = wear } in
+        record {
+          now = now;
+          live = v;
+          entries = log'.entries;
+          holds = needs'.holds;
+          wear = wear;
+          format = format;
+        } in
         s) live
         ∙ ap (λ v. let s : State S = record {
           now = now;
@@ -80,18 +94,20 @@ module _ {S : Type 0} (now : S) (needs : Holdings) (log : Log) (wear n : ℕ) wh
           entries = v;
           holds = needs'.holds;
           wear = wear;
+          format = format;
         } in s) entries;
   }
 
   -- A transaction begins.
   pub begun_is : (log' : Log) → log'.live ≡ maps.insert log.live n false →
-      log'.entries ≡ log.entries → state_of now needs log' (wear + 1) ≡
+      log'.entries ≡ log.entries → state_of format now needs log' (wear + 1) ≡
       record {
         now = now;
         live = maps.insert log.live n false;
         entries = log.entries;
         holds = needs.holds;
         wear = wear + 1;
+        format = format;
       }
   begun_is log' live entries =
       ap (λ v. let s : State S = record {
@@ -100,6 +116,7 @@ module _ {S : Type 0} (now : S) (needs : Holdings) (log : Log) (wear n : ℕ) wh
         entries = log'.entries;
         holds = needs.holds;
         wear = wear + 1;
+        format = format;
       } in s) live
       ∙ ap (λ v. let s : State S = record {
         now = now;
@@ -107,18 +124,20 @@ module _ {S : Type 0} (now : S) (needs : Holdings) (log : Log) (wear n : ℕ) wh
         entries = v;
         holds = needs.holds;
         wear = wear + 1;
+        format = format;
       } in s) entries
 
   module _ (meaning : Meaning S ℕ) where
     -- A call is made and noted.
     pub called_row : (e : Event) (now' : S) (added : List _) (needs' : Holdings) (kept log' : Log) →
-        CanCall meaning (state_of now needs log wear) n e →
-        HasRoomFor (state_of now needs log wear) 1 →
+        CanCall meaning (state_of format now needs log wear) n e →
+        HasRoomFor (state_of format now needs log wear) 1 →
         added ≡ needs.holds → IsAdded added needs'.holds (hold n e.at (need_of e.call e.reply)) →
         now' ≡ meaning.leaves now e.at e.call e.reply →
         kept.live ≡ log.live → kept.entries ≡ log.entries → log'.live ≡ kept.live →
         log'.entries ≡ kept.entries ++ (n, Asked e) ∷ [] →
-        CallRow meaning (state_of now needs log wear) n e (state_of now' needs' log' (wear + 1))
+        CallRow meaning (state_of format now needs log wear) n e
+        (state_of format now' needs' log' (wear + 1))
     called_row e now' added needs' kept log' can room same holds made live_kept entries_kept live
         entries =
         let noted : log'.entries ≡ log.entries ++ (n, Asked e) ∷ [] =
@@ -136,6 +155,7 @@ module _ {S : Type 0} (now : S) (needs : Holdings) (log : Log) (wear n : ℕ) wh
                 entries = log'.entries;
                 holds = needs'.holds;
                 wear = wear + 1;
+                format = format;
               } in s) made
               ∙ ap (λ v. let s : State S = record {
                 now = meaning.leaves now e.at e.call e.reply;
@@ -143,6 +163,7 @@ module _ {S : Type 0} (now : S) (needs : Holdings) (log : Log) (wear n : ℕ) wh
                 entries = log'.entries;
                 holds = needs'.holds;
                 wear = wear + 1;
+                format = format;
               } in s)
               lives
               ∙ ap (λ v. let s : State S = record {
@@ -151,17 +172,19 @@ module _ {S : Type 0} (now : S) (needs : Holdings) (log : Log) (wear n : ℕ) wh
                 entries = v;
                 holds = needs'.holds;
                 wear = wear + 1;
+                format = format;
               } in s) noted;
         }
 
     -- A call that only reads is noted.
     pub read_row : (e : Event) (added : List _) (needs' : Holdings) (kept log' : Log) →
-        CanCall meaning (state_of now needs log wear) n e → reads e.call e.reply ≡ true →
-        HasRoomFor (state_of now needs log wear) 1 →
+        CanCall meaning (state_of format now needs log wear) n e → reads e.call e.reply ≡ true →
+        HasRoomFor (state_of format now needs log wear) 1 →
         added ≡ needs.holds → IsAdded added needs'.holds (hold n e.at (need_of e.call e.reply)) →
         kept.live ≡ log.live → kept.entries ≡ log.entries → log'.live ≡ kept.live →
         log'.entries ≡ kept.entries ++ (n, Asked e) ∷ [] →
-        ReadRow meaning (state_of now needs log wear) n e (state_of now needs' log' wear)
+        ReadRow meaning (state_of format now needs log wear) n e
+        (state_of format now needs' log' wear)
     read_row e added needs' kept log' can only_reads room same holds live_kept entries_kept live
         entries = record {
           can = can;
@@ -176,6 +199,7 @@ module _ {S : Type 0} (now : S) (needs : Holdings) (log : Log) (wear n : ℕ) wh
                 entries = log'.entries;
                 holds = needs'.holds;
                 wear = wear;
+                format = format;
               } in s) (live ∙ live_kept)
               ∙ ap (λ v. let s : State S = record {
                 now = now;
@@ -183,6 +207,7 @@ module _ {S : Type 0} (now : S) (needs : Holdings) (log : Log) (wear n : ℕ) wh
                 entries = v;
                 holds = needs'.holds;
                 wear = wear;
+                format = format;
               } in s) (entries ∙ ap (λ l. l ++ (n, Asked e) ∷ []) entries_kept);
         }
 

@@ -4,6 +4,7 @@ use Rattle.std.proofs.Common.{◌≡◌, ℕ, ◌==◌, is_some, arith, List, []
 use Rattle.std.proofs.Common.{◌∙◌, ap, subst}
 use Rattle.std.specs.List.{filter, AllByRecursion}
 use Rattle.std.specs.FinMap as maps
+use Rattle.calls.specs.declared.format.Format.{Format}
 use Rattle.calls.specs.declared.kind.Kind.{Kind}
 use Rattle.calls.specs.declared.call.Call.{Call}
 use Rattle.calls.specs.declared.reply.Reply.{Reply}
@@ -293,9 +294,16 @@ module _ {S : Type 0} (meaning : Meaning S ℕ) (making : Making S)
         sound.sound.alive)
 
   -- Where no transaction is live,
-  pub opened_sound : (now : S) (wear : ℕ) →
-      Sound (record { now = now; live = maps.empty; entries = []; holds = []; wear = wear })
-  opened_sound now wear = record {
+  pub opened_sound : (format : Format) (now : S) (wear : ℕ) →
+      Sound (record {
+        now = now;
+        live = maps.empty;
+        entries = [];
+        holds = [];
+        wear = wear;
+        format = format;
+      })
+  opened_sound format now wear = record {
     machine = idle now;
     shows = record {
       now = refl;

@@ -4,6 +4,7 @@ use Rattle.std.proofs.Common.{◌↔◌, IfSome, IfNone, List, [], ◌∷◌, �
 use Rattle.std.proofs.Common.{ap, subst, true≢false, MatchOption}
 use Rattle.std.proofs.lemmas.Bool.{eq-eqb, false_from_ne_true}
 use Rattle.std.specs.List.{filter}
+use Rattle.calls.specs.declared.format.Format.{Format}
 use Rattle.calls.specs.Reads.{reads}
 use Rattle.calls.specs.Transactions.{Event, Entry, Asked, PutOff, own, calls_of}
 use Rattle.abstract_locks.specs.Holds.{Holdings}
@@ -84,7 +85,7 @@ popped_rest n es left x rest None newest found none =
     absurd (has_call n newest.before newest.after x (subst (HasNoCall n) newest.is none))
 
 module _ {S : Type 0} (meaning : Meaning S ℕ)
-    (now : S) (needs : Holdings) (log : Log) (wear n : ℕ) where
+    (format : Format) (now : S) (needs : Holdings) (log : Log) (wear n : ℕ) where
   -- The newest call is undone and taken out.
   pub undone_row : (x : Event) (now' : S) (popped log' : Log) (taken : Option Logged) →
       Lives log.live n → HasNewestCall n log.entries x →
@@ -92,7 +93,8 @@ module _ {S : Type 0} (meaning : Meaning S ℕ)
       IfSome taken (λ l. IsNewestCall n log.entries (event_of l) popped.entries) →
       IfNone taken (HasNoCall n log.entries) →
       popped.live ≡ log.live → log'.live ≡ fallen popped.live n → log'.entries ≡ popped.entries →
-      BackRow meaning (state_of now needs log wear) n (state_of now' needs log' (wear + 1))
+      BackRow meaning (state_of format now needs log wear) n
+      (state_of format now' needs log' (wear + 1))
   undone_row x now' popped log' taken live newest undone found none same falls rest =
       let left : log'.entries ≡ newest.0 =
       rest ∙ popped_rest n log.entries popped.entries x newest.0 taken newest.1 found none in
@@ -111,6 +113,7 @@ module _ {S : Type 0} (meaning : Meaning S ℕ)
               entries = log'.entries;
               holds = needs.holds;
               wear = wear + 1;
+              format = format;
             } in s) fell
             ∙ ap (λ v. let s : State S = record {
               now = now';
@@ -118,19 +121,27 @@ module _ {S : Type 0} (meaning : Meaning S ℕ)
               entries = v;
               holds = needs.holds;
               wear = wear + 1;
+              format = format;
             } in s) left;
       }
 
-module _ {S : Type 0} (now : S) (needs : Holdings) (log : Log) (wear n : ℕ) where
+module _ {S : Type 0} (format : Format) (now : S) (needs : Holdings) (log : Log) (wear n : ℕ) where
   -- Nothing is left to undo.
   pub fall_done : (log' : Log) → Lives log.live n → HasNoCall n log.entries →
       log'.live ≡ fallen log.live n → log'.entries ≡ log.entries →
-      FallRow (state_of now needs log wear) n (state_of now needs log' wear)
+      FallRow (state_of format now needs log wear) n (state_of format now needs log' wear)
   fall_done log' live none falls same = record {
     live = live;
     undone = none;
     is = ap (λ v. let s : State S =
-        record { now = now; live = v; entries = log'.entries; holds = needs.holds; wear = wear } in
+        record {
+          now = now;
+          live = v;
+          entries = log'.entries;
+          holds = needs.holds;
+          wear = wear;
+          format = format;
+        } in
         s) falls
         ∙ ap (λ v. let s : State S = record {
           now = now;
@@ -138,6 +149,7 @@ module _ {S : Type 0} (now : S) (needs : Holdings) (log : Log) (wear n : ℕ) wh
           entries = v;
           holds = needs.holds;
           wear = wear;
+          format = format;
         } in s) same;
   }
 
@@ -147,7 +159,7 @@ module _ {S : Type 0} (now : S) (needs : Holdings) (log : Log) (wear n : ℕ) wh
       IfSome taken (λ l. IsNewestCall n log.entries (event_of l) popped.entries) →
       IfNone taken (HasNoCall n log.entries) →
       popped.live ≡ log.live → log'.live ≡ fallen popped.live n → log'.entries ≡ popped.entries →
-      UnreadRow (state_of now needs log wear) n (state_of now needs log' wear)
+      UnreadRow (state_of format now needs log wear) n (state_of format now needs log' wear)
   unread_row popped log' taken live (x, kept, newest, only_reads) found none same falls rest =
       let left : log'.entries ≡ kept =
       rest ∙ popped_rest n log.entries popped.entries x kept taken newest found none in
@@ -159,7 +171,14 @@ module _ {S : Type 0} (now : S) (needs : Holdings) (log : Log) (wear n : ℕ) wh
         newest = newest;
         only_reads = only_reads;
         is = ap (λ v. let s : State S =
-            record { now = now; live = v; entries = log'.entries; holds = needs.holds; wear = wear }
+            record {
+              now = now;
+              live = v;
+              entries = log'.entries;
+              holds = needs.holds;
+              wear = wear;
+              format = format;
+            }
             in s) fell
             ∙ ap (λ v. let s : State S = record {
               now = now;
@@ -167,6 +186,7 @@ module _ {S : Type 0} (now : S) (needs : Holdings) (log : Log) (wear n : ℕ) wh
               entries = v;
               holds = needs.holds;
               wear = wear;
+              format = format;
             } in s) left;
       }
 

@@ -1,17 +1,19 @@
 -- The machine over records: the state that records lead to. The book runs it forward, and recovery
 -- repeats it.
-use Rattle.std.specs.Prelude.{◌≡◌, ℕ, ◌+◌, ◌<◌, ◌≤◌, ◌^◌, true, false, List, [], ◌∷◌, ◌++◌}
+use Rattle.std.specs.Prelude.{◌≡◌, ℕ, ◌+◌, ◌<◌, ◌≤◌, true, false, List, [], ◌∷◌, ◌++◌}
 use Rattle.std.specs.Prelude.{length, map}
 use Rattle.std.specs.List.{filter}
 use Rattle.std.specs.FinMap as maps
 use Rattle.calls.specs.declared.kind.Kind.{Kind}
 use Rattle.calls.specs.declared.call.Call.{Call}
 use Rattle.calls.specs.declared.reply.Reply.{Reply}
+use Rattle.calls.specs.declared.format.Format.{Format}
 use Rattle.calls.specs.Rules.{need_of}
 use Rattle.calls.specs.Reads.{reads, is_journalled}
 use Rattle.calls.specs.Transactions.{Event, Entry, Asked, PutOff, own, others, calls_of, laters_of}
 use Rattle.ledger.specs.LeftCalls.{GoesTwice}
 use Rattle.calls.specs.Transactions.{Leads}
+use Rattle.calls.specs.Limits.{max_live, max_calls, max_wear}
 use Rattle.abstract_locks.specs.declared.table.Hold.{Hold}
 use Rattle.abstract_locks.specs.Holds.{hold, IsClear, IsAdded, IsGivenUp}
 use Rattle.undo_log.specs.Entries.{HasNoCall, IsNewestCall}
@@ -22,6 +24,7 @@ use Rattle.catalog.specs.Making.{IsNew, Making}
 use Rattle.record_format.specs.declared.record.Record.{Record}
 use Rattle.record_format.specs.Acts.{event_of}
 use Rattle.record_format.specs.Records.{IsNumber}
+use Rattle.record_format.specs.Short.{IsShortReply}
 
 -- S: contents of the collections.
 pub record State (S : Type 0) : Type 0 where
@@ -36,6 +39,8 @@ pub record State (S : Type 0) : Type 0 where
   -- how often anything was entered, called, put off, run in a commit or undone, but for what only
   -- reads and leaves no record
   pub wear : ℕ
+  -- the format of the store, which no step changes
+  pub format : Format
 
 -- What a journal tells of what was asked for: nothing of calls that only read.
 abbrev pub journalled_entries : List (ℕ × Entry) → List (ℕ × Entry)
@@ -63,11 +68,11 @@ pub record IsLeft {S : Type 0} (s : State S) (n : ℕ) (t : State S) : Type 0 wh
 pub record CanBegin {S : Type 0} (s : State S) (n : ℕ) : Type 0 where
   pub number : IsNumber n
   pub fresh : Lives s.live n → ⊥
-  pub few : maps.len s.live < 64
+  pub few : maps.len s.live < max_live
 
 pub record BeginRow {S : Type 0} (s : State S) (n : ℕ) (t : State S) : Type 0 where
   pub can : CanBegin s n
-  pub room : s.wear + 1 + length s.entries ≤ 2 ^ 61 + 65536
+  pub room : s.wear + 1 + length s.entries ≤ max_wear
   pub is : t ≡ record s { live = maps.insert s.live n false; wear = s.wear + 1 }
 
 -- A transaction whose calls are all undone ends.
@@ -115,19 +120,21 @@ module _ {S : Type 0} (meaning : Meaning S ℕ) where
   abbrev pub IsSettled : State S → S → Type 0
   IsSettled s c = Leads Does (calls_of (map (λ e. e.1) s.entries)) c s.now
 
-  -- A call of a running transaction that gets this reply now, leaves nothing that is going already,
-  -- and needs what no other transaction holds in its way.
+  -- A call of a running transaction that gets this reply now, with no value too long for the
+  -- format, leaves nothing that is going already, and needs what no other transaction holds in its
+  -- way.
   pub record CanCall (s : State S) (n : ℕ) (e : Event) : Type 0 where
     pub running : IsRunning s n
-    pub asked : CanAsk meaning s.now e.at e.call
-    pub few : length (own n s.entries) < 1024
+    pub asked : CanAsk meaning s.format s.now e.at e.call
+    pub told : IsShortReply s.format e.reply
+    pub few : length (own n s.entries) < max_calls
     pub answered : meaning.answers s.now e.at e.call e.reply
     pub once : GoesTwice s.entries n e → ⊥
     pub clear : IsClear s.holds n e.at (need_of e.call e.reply)
 
   pub record CallRow (s : State S) (n : ℕ) (e : Event) (t : State S) : Type 0 where
     pub can : CanCall s n e
-    pub room : s.wear + 1 + (length s.entries + 1) ≤ 2 ^ 61 + 65536
+    pub room : s.wear + 1 + (length s.entries + 1) ≤ max_wear
     pub holds : IsAdded s.holds t.holds (hold n e.at (need_of e.call e.reply))
     pub is : t ≡ record s {
       now = meaning.leaves s.now e.at e.call e.reply;
@@ -141,7 +148,7 @@ module _ {S : Type 0} (meaning : Meaning S ℕ) where
   pub record ReadRow (s : State S) (n : ℕ) (e : Event) (t : State S) : Type 0 where
     pub can : CanCall s n e
     pub only_reads : reads e.call e.reply ≡ true
-    pub room : s.wear + 1 + (length s.entries + 1) ≤ 2 ^ 61 + 65536
+    pub room : s.wear + 1 + (length s.entries + 1) ≤ max_wear
     pub holds : IsAdded s.holds t.holds (hold n e.at (need_of e.call e.reply))
     pub is : t ≡ record s { entries = s.entries ++ (n, Asked e) ∷ []; holds = t.holds }
 
@@ -150,13 +157,13 @@ module _ {S : Type 0} (meaning : Meaning S ℕ) where
   pub record CanPutOff (s : State S) (n at : ℕ) (call : Call) : Type 0 where
     pub running : IsRunning s n
     pub put_off : CanDefer meaning s.now at call
-    pub few : length (own n s.entries) < 1024
+    pub few : length (own n s.entries) < max_calls
     pub ready : meaning.answers s.now at call Reply.Done
     pub clear : IsClear s.holds n at (need_of call Reply.Done)
 
   pub record LaterRow (s : State S) (n at : ℕ) (call : Call) (t : State S) : Type 0 where
     pub can : CanPutOff s n at call
-    pub room : s.wear + 1 + (length s.entries + 1) ≤ 2 ^ 61 + 65536
+    pub room : s.wear + 1 + (length s.entries + 1) ≤ max_wear
     pub holds : IsAdded s.holds t.holds (hold n at (need_of call Reply.Done))
     pub is : t ≡ record s {
       entries =

@@ -13,8 +13,8 @@
 //! of the collections are what the theory asks.
 //!
 //! **To change it.** A new record has a row in `specs/Machine` and in `specs/Theory`, and a case in
-//! `InvariantRows`, `Rows`, `TheoryRows` and `Steps`. A new kind or call touches nothing here: what
-//! it needs is in the laws of `boosted`.
+//! `InvariantRows`, `Rows`, `TheoryRows`, `Steps`, `AlikeStates` and `RecordRuns`. A new kind or
+//! call touches nothing here: what it needs is in the laws of `boosted`.
 #![tactic(auto)]
 
 mod laters;

@@ -1,6 +1,6 @@
 // The machine over records: the same steps as the book's, of records that stand already.
-ghost use Rattle.std.specs.Prelude.{◌≡◌, ◌↔◌, ℕ, ◌+◌, ◌<◌, ◌≤◌, ◌^◌, [], true, false, None, List};
-ghost use Rattle.std.specs.Prelude.{IsTrue};
+ghost use Rattle.std.specs.Prelude.{◌≡◌, ◌↔◌, ℕ, ◌+◌, ◌<◌, ◌≤◌, [], true, false, None, List};
+ghost use Rattle.std.specs.Prelude.{IsTrue, IsOk};
 ghost use Rattle.std.specs.Prelude.{IfSome, IfNone, IfErr, Ok, OnOk, OnErr, IsOkUnless, length};
 ghost use Rattle.std.specs.FinMap as maps;
 ghost use Rattle.calls.specs.Names.{IsName};
@@ -9,13 +9,15 @@ ghost use Rattle.undo_log.specs.Entries as logs;
 ghost use Rattle.undo_log.specs.Entries.{HasNoCall};
 ghost use Rattle.catalog.specs.Making as naming;
 ghost use Rattle.undo_log.specs.Logs.{Lives, IsLeastLive};
-ghost use Rattle.boosted.specs.Meaning.{CanAsk};
+ghost use Rattle.boosted.specs.Meaning.{CanAsk, AskRefused};
 ghost use Rattle.calls.specs.declared.reply.Reply.{Reply};
 ghost use Rattle.abstract_locks.specs.Holds.{IsClear, IsBusyRefusal};
 ghost use Rattle.record_format.specs.declared.record.Record.{Record};
 ghost use Rattle.record_format.specs.Acts.{acts_of, event_of};
 ghost use Rattle.record_format.specs.Records.{IsRecord, IsNumber};
-ghost use Rattle.record_format.specs.Short.{AreShort};
+ghost use Rattle.record_format.specs.Short.{AreShort, IsShortReply};
+ghost use Rattle.calls.specs.declared.format.Format.{Format};
+ghost use Rattle.calls.specs.Formats.{widest};
 ghost use Rattle.machine.specs.Machine.{IsRunning, CanBegin, BeginRow, CommitRow, EndedRow};
 ghost use Rattle.machine.specs.Machine.{FallRow, MakeRow, CanCall, CallRow, CanPutOff, LaterRow};
 ghost use Rattle.machine.specs.Machine.{BackRow, ReadRow, UnreadRow, HasNewestRead, Steps};
@@ -26,14 +28,15 @@ ghost use Rattle.machine.specs.Sound.{IsSound};
 ghost use Rattle.machine.specs.Views.{state_with};
 ghost use Rattle.calls.specs.Rules.{need_of};
 ghost use Rattle.calls.specs.Reads.{reads};
+ghost use Rattle.calls.specs.Limits.{max_collections, max_calls, max_wear};
 
 use crate::laters::run_laters;
 use crate::undoing::undo;
 use calls::limits::MAX_LIVE;
-use calls::{Call, Kind, Name, Need, Refusal, Reply};
+use calls::{Call, Format, Kind, Name, Need, Refusal, Reply};
 use catalog::Parts;
 use ledger::Ledger;
-use records::{CallRecord, Coded, LaterRecord, Record};
+use records::{CallRecord, Coded, LaterRecord, Record, is_short_reply};
 use std::alloc::Global;
 use std::marker::Model;
 use undo_log::{Later, Live, Logged};
@@ -47,6 +50,7 @@ pub struct Machine<B: Parts + Coded> {
     parts: B,
     ledger: Ledger,
     wear: u64,
+    format: Format,
 }
 
 // Written out, so that the crates above call it in place of proving it again.
@@ -56,6 +60,7 @@ impl<B: Parts + Coded + Drop> Drop for Machine<B> {
             parts,
             ledger,
             wear: _wear,
+            format: _format,
         } = self;
         drop(parts);
         drop(ledger);
@@ -76,27 +81,28 @@ impl<B: Parts + Coded> Model for Machine<B> {
 
     ghost coded = { Prim.hlevel (codes, maps.code {R = nat_cmp} coded_ℕ coded_bool) };
 
-    ghost view = { λ m. state_with m.parts m.ledger m.wear };
+    ghost view = { λ m. state_with m.format m.parts m.ledger m.wear };
 
-    ghost invariant = { λ m. IsUpheld B.meaning B.making (λ s. AreShort (B.collections s))
+    ghost invariant = { λ m. IsUpheld B.meaning B.making (λ f s. AreShort f (B.collections s))
         (IsSound B.meaning B.making)
-        (state_with m.parts m.ledger m.wear) };
+        (state_with m.format m.parts m.ledger m.wear) };
 }
 
 impl<B: Parts + Coded> Machine<B> {
-    /// The collections with no live transaction. `wear` is what they are within. It takes no
-    /// memory.
-    pub fn new(alloc: Global, parts: B, wear: u64) -> Self
+    /// The collections of a store of the format, with no live transaction. `wear` is what they are
+    /// within. It takes no memory.
+    pub fn new(alloc: Global, format: Format, parts: B, wear: u64) -> Self
         requires within { B.meaning.within parts wear }
-        requires worn { wear ≤ 2 ^ 61 + 65536 }
-        requires short { AreShort (B.collections parts) }
-        requires few { length (B.making.names parts) ≤ 256 }
-        ensures { result ≡ resting parts wear }
+        requires worn { wear ≤ max_wear }
+        requires short { AreShort format (B.collections parts) }
+        requires few { length (B.making.names parts) ≤ max_collections }
+        ensures { result ≡ resting format parts wear }
     {
         Self {
             parts,
             ledger: Ledger::new(alloc),
             wear,
+            format,
         }
     }
 
@@ -105,6 +111,28 @@ impl<B: Parts + Coded> Machine<B> {
         ensures { result.now ≡ self.now.now }
     {
         &self.parts
+    }
+
+    /// The format of the store.
+    pub fn format(&self) -> Format
+        ensures { result ≡ self.now.format }
+    {
+        self.format
+    }
+
+    /// Whether a client can ask for the call.
+    ///
+    /// The refusals of `Boosted::askable`, in its order, and then TooLong for a value that the
+    /// format of the store does not have. It takes no memory.
+    pub fn askable(&self, at: u8, call: &Call) -> Result<(), Refusal>
+        ensures ok { IsOk result ↔ CanAsk B.meaning self.now.format self.now.now at call.now }
+        ensures err { IfErr result (AskRefused B.meaning self.now.format self.now.now at call.now) }
+    {
+        self.parts.askable(at, call)?;
+        if !call.is_short(self.format) {
+            return Err(Refusal::TooLong);
+        }
+        Ok(())
     }
 
     /// How often anything was entered, called, put off, run in a commit or undone. What `read`
@@ -118,7 +146,7 @@ impl<B: Parts + Coded> Machine<B> {
     /// What holds of every machine: the limits, that each call may still be undone, and what the
     /// laws of the collections give. It does nothing.
     pub fn upheld(&self)
-        ensures { IsUpheld B.meaning B.making (λ s. AreShort (B.collections s))
+        ensures { IsUpheld B.meaning B.making (λ f s. AreShort f (B.collections s))
             (IsSound B.meaning B.making) self.now }
     {
         let _ = &self.wear;
@@ -203,11 +231,11 @@ impl<B: Parts + Coded> Machine<B> {
     pub fn into_parts(self) -> B
         ensures parts { result ≡ self.now }
         ensures within { B.meaning.within result self.wear }
-        ensures worn { self.wear ≤ 2 ^ 61 + 65536 }
-        ensures short { AreShort (B.collections result) }
-        ensures few { length (B.making.names result) ≤ 256 }
-        ensures history { (start : B) (wear : ℕ) (rs : List Record) →
-            Leads (Steps B.meaning B.making) rs (resting start wear) self →
+        ensures worn { self.wear ≤ max_wear }
+        ensures short { AreShort self.format (B.collections result) }
+        ensures few { length (B.making.names result) ≤ max_collections }
+        ensures history { (format : Format) (start : B) (wear : ℕ) (rs : List Record) →
+            Leads (Steps B.meaning B.making) rs (resting format start wear) self →
             self.live ≡ maps.empty → Serial (committed (acts_of rs)) (B.collections start)
             (B.collections result) }
     {
@@ -215,21 +243,41 @@ impl<B: Parts + Coded> Machine<B> {
             parts,
             ledger,
             wear: _wear,
+            format: _format,
         } = self;
         drop(ledger);
         parts
     }
 
     /// The machine of its parts, for which holds what holds of every machine.
-    pub fn of_parts(parts: B, ledger: Ledger, worn: u64) -> Self
-        requires { IsUpheld B.meaning B.making (λ s. AreShort (B.collections s))
-            (IsSound B.meaning B.making) (state_with parts ledger worn) }
-        ensures { result ≡ state_with parts ledger worn }
+    pub fn of_parts(format: Format, parts: B, ledger: Ledger, worn: u64) -> Self
+        requires { IsUpheld B.meaning B.making (λ f s. AreShort f (B.collections s))
+            (IsSound B.meaning B.making) (state_with format parts ledger worn) }
+        ensures { result ≡ state_with format parts ledger worn }
     {
         Self {
             parts,
             ledger,
             wear: worn,
+            format,
+        }
+    }
+
+    /// The same machine in a store of the format with the longest values. It takes no memory.
+    pub fn widened(self) -> Self
+        ensures { result ≡ record self { format = widest } }
+    {
+        let Self {
+            parts,
+            ledger,
+            wear,
+            format: _format,
+        } = self;
+        Self {
+            parts,
+            ledger,
+            wear,
+            format: Format::Two,
         }
     }
 
@@ -535,31 +583,33 @@ impl<B: Parts + Coded> Machine<B> {
     // Whether the transaction can ask for the call.
     fn can_ask(&self, called: &CallRecord) -> bool
         ensures { IsTrue result ↔ (IsRunning self.now called.now.number ×
-            CanAsk B.meaning self.now.now called.now.collection called.now.call ×
-            (length (own called.now.number self.now.entries) < 1024) × HasRoomFor self.now 1) }
+            CanAsk B.meaning self.now.format self.now.now called.now.collection called.now.call ×
+            (length (own called.now.number self.now.entries) < max_calls) × HasRoomFor self.now 1) }
     {
-        self.has_place(called.number) && self.parts.askable(called.collection, &called.call).is_ok()
+        self.has_place(called.number) && self.askable(called.collection, &called.call).is_ok()
     }
 
     // Whether one call more of the transaction can be noted.
     fn has_place(&self, number: u64) -> bool
         ensures { IsTrue result ↔ (IsRunning self.now number ×
-            (length (own number self.now.entries) < 1024) × HasRoomFor self.now 1) }
+            (length (own number self.now.entries) < max_calls) × HasRoomFor self.now 1) }
     {
         self.ledger.has_place(number, self.wear + 1) && !self.ledger.live().is_falling(number)
     }
 
-    // Whether the call can get the reply, leaves nothing that is going already, and has no other
-    // transaction in the way.
+    // Whether the call can get the reply, which has no value too long for the format, leaves
+    // nothing that is going already, and has no other transaction in the way.
     fn is_answered(&self, called: &CallRecord) -> bool
         ensures { IsTrue result ↔ (B.meaning.answers self.now.now called.now.collection
             called.now.call called.now.reply ×
+            IsShortReply self.now.format called.now.reply ×
             (GoesTwice self.now.entries called.now.number (event_of called.now) → ⊥) ×
             IsClear self.now.holds called.now.number called.now.collection
             (need_of called.now.call called.now.reply)) }
     {
         self.parts
             .fits(called.collection, &called.call, &called.reply)
+            && is_short_reply(self.format, &called.reply)
             && !self.goes_twice(
                 called.number,
                 called.collection,

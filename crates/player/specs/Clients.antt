@@ -7,6 +7,7 @@ use Rattle.calls.specs.declared.kind.Kind.{Kind}
 use Rattle.calls.specs.declared.reply.Reply.{Reply}
 use Rattle.calls.specs.declared.refusal.Refusal.{Refusal}
 use Rattle.calls.specs.Contents.{Collection}
+use Rattle.calls.specs.Formats.{widest}
 use Rattle.calls.specs.Names.{IsName}
 use Rattle.boosted.specs.Meaning.{CanAsk}
 use Rattle.catalog.specs.Making.{names_of, IsPlaceOf, FindRefused}
@@ -70,8 +71,8 @@ Enters k r steps l = EntersOpen k.begun k r steps l
 abbrev pub AskedFor : List Collection → ℕ → Operation → Call → Type 0
 AskedFor s at (Operation.Call asked) call = call ≡ asked
 AskedFor s at (Operation.Remove key) call =
-    (CanAsk catalog_meaning s at (Call.MapRemove key) × (call ≡ Call.MapRemove key)) ⊎
-    ((CanAsk catalog_meaning s at (Call.MapRemove key) → ⊥) × (call ≡ Call.SetRemove key))
+    (CanAsk catalog_meaning widest s at (Call.MapRemove key) × (call ≡ Call.MapRemove key)) ⊎
+    ((CanAsk catalog_meaning widest s at (Call.MapRemove key) → ⊥) × (call ≡ Call.SetRemove key))
 
 abbrev pub FindAnswers : List (List ℕ) → List ℕ → Result ℕ Refusal → Type 0
 FindAnswers names name (Ok at) = IsName name × IsPlaceOf names name at

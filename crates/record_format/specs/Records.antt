@@ -1,6 +1,7 @@
 -- The one spelling of each record: a tag, and behind it the fields. In a number the highest byte
 -- comes first.
-use Rattle.std.specs.Prelude.{MatchOption, ◌≡◌, ℕ, ◌<◌, ◌≤◌, ◌^◌, ℤ, List, [], ◌∷◌, ◌++◌, length}
+use Rattle.std.specs.Prelude.{MatchOption, ◌≡◌, ℕ, ◌+◌, ◌*◌, ◌<◌, ◌≤◌, ◌^◌, ℤ, List, [], ◌∷◌, ◌++◌}
+use Rattle.std.specs.Prelude.{length}
 use Rattle.std.specs.Prelude.{All, Option, Some, None, IfSome}
 use Rattle.std.specs.List.{flat_map}
 use Rattle.std.specs.Int.{w64, w128, bytes_high_first, cast_unsigned}
@@ -11,11 +12,14 @@ use Rattle.calls.specs.declared.reply.Reply.{Reply}
 use Rattle.calls.specs.declared.refusal.Refusal.{Refusal}
 use Rattle.calls.specs.Contents.{IsItemOf}
 use Rattle.calls.specs.Names.{IsName}
+use Rattle.calls.specs.declared.format.Format.{Format}
+use Rattle.calls.specs.Formats.{max_value, widest}
 use Rattle.calls.specs.Rules.{inverse_of, Askable, Deferrable, Pairs}
 use Rattle.record_format.specs.declared.record.Record.{Record}
 use Rattle.record_format.specs.declared.record.CallRecord.{CallRecord}
 use Rattle.record_format.specs.declared.record.LaterRecord.{LaterRecord}
 use Rattle.calls.specs.declared.item.Item.{Item}
+use Rattle.calls.specs.Limits.{number_end}
 
 -- ---- the fields
 
@@ -117,6 +121,11 @@ item (Item.Number n) = wide n
 
 -- ---- the records
 
+-- the tag of an image's marks, which tells the format of an area
+abbrev pub marks_tag : Format → ℕ
+marks_tag Format.One = 11
+marks_tag Format.Two = 14
+
 abbrev pub spelled : Record → List ℕ
 spelled (Record.Make kind name) = 1 ∷ named kind name
 spelled (Record.Call c) = 2 ∷ called c
@@ -128,9 +137,14 @@ spelled (Record.Name kind name) = 7 ∷ named kind name
 spelled (Record.Item i) = 8 ∷ item i
 spelled (Record.LiveCall c) = 9 ∷ called c
 spelled (Record.LiveLater l) = 10 ∷ put_off l
-spelled (Record.Marks next wear) = 11 ∷ number 8 next ++ number 8 wear
+spelled (Record.Marks f next wear) = marks_tag f ∷ number 8 next ++ number 8 wear
 spelled Record.ImageEnd = 12 ∷ []
 spelled (Record.Begin n) = 13 ∷ number 8 n
+
+-- A record takes at most so many bytes: a tag, a number, a collection, and a call, a reply and an
+-- inverse, each with a code, a key and a value.
+abbrev pub longest : ℕ
+longest = 10 + 3 * (11 + max_value widest)
 
 -- records one after another
 abbrev pub spelling : List Record → List ℕ
@@ -139,7 +153,7 @@ spelling rs = flat_map spelled rs
 -- ---- what has a spelling: each number fits its field, and a name is good
 
 pub record IsValue (v : List ℕ) : Type 0 where
-  pub short : length v ≤ 256
+  pub short : length v ≤ max_value widest
   pub bytes : All (λ b. b < 256) v
 
 abbrev pub FitsCall : Call → Type 0
@@ -205,7 +219,7 @@ Fits (Record.Name kind name) = IsName name
 Fits (Record.Item i) = FitsItem i
 Fits (Record.LiveCall c) = FitsCalled c
 Fits (Record.LiveLater l) = FitsPutOff l
-Fits (Record.Marks next wear) = (next < 2 ^ 64) × (wear < 2 ^ 64)
+Fits (Record.Marks f next wear) = (next < 2 ^ 64) × (wear < 2 ^ 64)
 Fits Record.ImageEnd = Unit {0}
 Fits (Record.Begin n) = n < 2 ^ 64
 
@@ -214,7 +228,7 @@ Fits (Record.Begin n) = n < 2 ^ 64
 -- the number of a transaction
 pub record IsNumber (n : ℕ) : Type 0 where
   pub positive : 1 ≤ n
-  pub below : n < 2 ^ 61
+  pub below : n < number_end
 
 pub record IsCalled (c : CallRecord) : Type 0 where
   pub number : IsNumber c.number
@@ -237,7 +251,7 @@ IsSound (Record.Name kind name) = Unit {0}
 IsSound (Record.Item i) = Unit {0}
 IsSound (Record.LiveCall c) = IsCalled c
 IsSound (Record.LiveLater l) = IsPutOff l
-IsSound (Record.Marks next wear) = (1 ≤ next) × (next ≤ 2 ^ 61)
+IsSound (Record.Marks f next wear) = (1 ≤ next) × (next ≤ number_end)
 IsSound Record.ImageEnd = Unit {0}
 IsSound (Record.Begin n) = IsNumber n
 

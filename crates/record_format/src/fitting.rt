@@ -1,5 +1,6 @@
 // What has a spelling.
 ghost use Rattle.std.specs.Prelude.{◌↔◌, ◌≤◌, length, IsTrue};
+ghost use Rattle.calls.specs.Formats.{max_value, widest};
 ghost use Rattle.calls.specs.Rules.{IsShort};
 ghost use Rattle.record_format.specs.Records.{IsValue, FitsCall, FitsReply, FitsItem};
 ghost use Rattle.calls.specs.Counters.{IsWithin};
@@ -7,28 +8,28 @@ ghost use Rattle.record_format.specs.Short.{IsShortReply, IsShortItem};
 ghost use Rattle.record_format.specs.Reached.{IsReached};
 
 use calls::limits::MAX_VALUE;
-use calls::{Bytes, Call, Item, Reply};
+use calls::{Bytes, Call, Format, Item, Reply};
 
-// Whether the value has at most 256 bytes.
+// Whether the value has no more bytes than any format has.
 fn fits_value(value: &Bytes) -> bool
     ensures fits { IsTrue result ↔ IsValue value.now }
-    ensures short { IsTrue result ↔ (length value.now ≤ 256) }
+    ensures short { IsTrue result ↔ (length value.now ≤ max_value widest) }
 {
     are_few(value.as_slice())
 }
 
 fn are_few(bytes: &[u8]) -> bool
     ensures fits { IsTrue result ↔ IsValue bytes.now }
-    ensures short { IsTrue result ↔ (length bytes.now ≤ 256) }
+    ensures short { IsTrue result ↔ (length bytes.now ≤ max_value widest) }
 {
     bytes.len() <= MAX_VALUE
 }
 
 /// Whether the call has a spelling, which it has exactly where its value, if it has one, has at
-/// most 256 bytes.
+/// most 1,024 bytes.
 pub fn fits_call(call: &Call) -> bool
     ensures fits { IsTrue result ↔ FitsCall call.now }
-    ensures short { IsTrue result ↔ IsShort call.now }
+    ensures short { IsTrue result ↔ IsShort widest call.now }
 {
     match *call {
         Call::Put(_key, ref value) => fits_value(value),
@@ -43,10 +44,10 @@ pub fn fits_call(call: &Call) -> bool
 }
 
 /// Whether the reply has a spelling, which it has exactly where its value, if it has one, has at
-/// most 256 bytes.
+/// most 1,024 bytes.
 pub fn fits_reply(reply: &Reply) -> bool
     ensures fits { IsTrue result ↔ FitsReply reply.now }
-    ensures short { IsTrue result ↔ IsShortReply reply.now }
+    ensures short { IsTrue result ↔ IsShortReply widest reply.now }
 {
     match *reply {
         Reply::Value(ref value) => fits_value(value),
@@ -61,10 +62,10 @@ pub fn fits_reply(reply: &Reply) -> bool
 }
 
 /// Whether the item has a spelling, which it has exactly where its value, if it has one, has at
-/// most 256 bytes.
+/// most 1,024 bytes.
 pub fn fits_item(item: &Item) -> bool
     ensures fits { IsTrue result ↔ FitsItem item.now }
-    ensures short { IsTrue result ↔ IsShortItem item.now }
+    ensures short { IsTrue result ↔ IsShortItem widest item.now }
 {
     match *item {
         Item::Entry(_key, ref value) => fits_value(value),
@@ -74,8 +75,30 @@ pub fn fits_item(item: &Item) -> bool
     }
 }
 
-/// Whether so many runs can reach the item: the number of a counter or of a stock is at most
-/// `wear` times 2^63 from 0, and other items have no bound.
+/// Whether the reply's value, if it has one, is one of the format.
+pub fn is_short_reply(format: Format, reply: &Reply) -> bool
+    ensures { IsTrue result ↔ IsShortReply format reply.now }
+{
+    match reply {
+        Reply::Value(value) | Reply::Entry(_, value) => {
+            value.as_slice().len() <= format.max_value()
+        }
+        _ => true,
+    }
+}
+
+/// Whether the item's value, if it has one, is one of the format.
+pub fn is_short_item(format: Format, item: &Item) -> bool
+    ensures { IsTrue result ↔ IsShortItem format item.now }
+{
+    match item {
+        Item::Entry(_, value) => value.as_slice().len() <= format.max_value(),
+        _ => true,
+    }
+}
+
+/// Whether so many runs can reach the item: the number of a counter or of a stock is at most `wear`
+/// times 2^63 from 0, and other items have no bound.
 pub fn is_reached(item: &Item, wear: u64) -> bool
     ensures { IsTrue result ↔ IsReached wear item.now }
 {

@@ -5,7 +5,10 @@ ghost use Rattle.record_format.specs.declared.record.Record.{Record};
 ghost use Rattle.record_format.specs.Records.{value, named, call, reply, inverse, record_of_call};
 ghost use Rattle.record_format.specs.Records.{put_off, item, spelled, Fits, FitsCall, FitsReply};
 ghost use Rattle.record_format.specs.Records.{FitsItem, FitsCalled, FitsPutOff, IsValue};
+ghost use Rattle.record_format.specs.Records.{longest};
+ghost use Rattle.calls.specs.Formats.{max_value, widest};
 ghost use Rattle.calls.specs.Rules.{inverse_of, Askable};
+ghost use Rattle.calls.specs.Limits.{max_name};
 
 use crate::record::{CallRecord, LaterRecord, Record};
 use calls::{Bytes, Call, Item, Name, Reply};
@@ -14,7 +17,7 @@ use calls::{Bytes, Call, Item, Name, Reply};
 fn value_len(bytes: &Bytes) -> usize
     requires { IsValue bytes.now }
     ensures len { result ≡ length (value bytes.now) }
-    ensures bound { result ≤ 258 }
+    ensures bound { result ≤ 2 + max_value widest }
 {
     2 + bytes.as_slice().len()
 }
@@ -23,7 +26,7 @@ fn value_len(bytes: &Bytes) -> usize
 fn asked_len(asked: &Call) -> usize
     requires { FitsCall asked.now }
     ensures len { result ≡ length (call asked.now) }
-    ensures bound { result ≤ 267 }
+    ensures bound { result ≤ 11 + max_value widest }
 {
     match asked {
         Call::Contains(_)
@@ -47,7 +50,7 @@ fn asked_len(asked: &Call) -> usize
 fn answer_len(answer: &Reply) -> usize
     requires { FitsReply answer.now }
     ensures len { result ≡ length (reply answer.now) }
-    ensures bound { result ≤ 267 }
+    ensures bound { result ≤ 11 + max_value widest }
 {
     match answer {
         Reply::Done | Reply::No | Reply::Yes | Reply::Nothing | Reply::Queued | Reply::Absent => 1,
@@ -61,7 +64,7 @@ fn answer_len(answer: &Reply) -> usize
 fn inverse_len(back: Option<&Call>) -> usize
     requires { IfSome (option_copied back) FitsCall }
     ensures len { result ≡ length (inverse (option_copied back.entry)) }
-    ensures bound { result ≤ 267 }
+    ensures bound { result ≤ 11 + max_value widest }
 {
     match back {
         None => 1,
@@ -75,7 +78,7 @@ fn back_len(asked: &Call, answer: &Reply) -> usize
     requires askable { Askable asked.now }
     requires fits { IfSome (inverse_of asked.now answer.now) FitsCall }
     ensures len { result ≡ length (inverse (inverse_of asked.now answer.now)) }
-    ensures bound { result ≤ 267 }
+    ensures bound { result ≤ 11 + max_value widest }
 {
     match asked.taken_entry(answer) {
         Some((_, old)) => 9 + value_len(old),
@@ -84,7 +87,7 @@ fn back_len(asked: &Call, answer: &Reply) -> usize
 }
 
 /// How many bytes the record of a call takes, with its reply and the call that takes it back, whose
-/// values have at most 256 bytes: from 12 to 811. It takes no memory.
+/// values have at most 1,024 bytes: from 12 to 3,115. It takes no memory.
 #[tactic(auto, using(crate::proofs::RecordLengths::lengths))]
 pub fn call_len(asked: &Call, answer: &Reply) -> usize
     requires askable { Askable asked.now }
@@ -93,7 +96,7 @@ pub fn call_len(asked: &Call, answer: &Reply) -> usize
     ensures len { (n at : ℕ) → result ≡
         length (spelled (record_of_call n at asked.now answer.now)) }
     ensures positive { 1 ≤ result }
-    ensures bound { result ≤ 811 }
+    ensures bound { result ≤ longest }
 {
     10 + asked_len(asked) + answer_len(answer) + back_len(asked, answer)
 }
@@ -102,7 +105,7 @@ pub fn call_len(asked: &Call, answer: &Reply) -> usize
 fn called_len(asked: &CallRecord) -> usize
     requires { FitsCalled asked.now }
     ensures len { result ≡ length (spelled (Record.Call asked.now)) }
-    ensures bound { result ≤ 811 }
+    ensures bound { result ≤ longest }
 {
     10 + asked_len(&asked.call) + answer_len(&asked.reply) + inverse_len(asked.inverse.as_ref())
 }
@@ -111,7 +114,7 @@ fn called_len(asked: &CallRecord) -> usize
 fn later_len(later: &LaterRecord) -> usize
     requires { FitsPutOff later.now }
     ensures len { result ≡ length (put_off later.now) }
-    ensures bound { result ≤ 276 }
+    ensures bound { result ≤ 20 + max_value widest }
 {
     9 + asked_len(&later.call)
 }
@@ -120,7 +123,7 @@ fn later_len(later: &LaterRecord) -> usize
 fn item_len(part: &Item) -> usize
     requires { FitsItem part.now }
     ensures len { result ≡ length (item part.now) }
-    ensures bound { result ≤ 266 }
+    ensures bound { result ≤ 10 + max_value widest }
 {
     match part {
         Item::Element(_) => 8,
@@ -130,20 +133,20 @@ fn item_len(part: &Item) -> usize
 }
 
 fn named_len(name: &Name) -> usize
-    requires { length name.now ≤ 64 }
+    requires { length name.now ≤ max_name }
     ensures { result ≡ 2 + length name.now }
 {
     2 + name.as_str().len()
 }
 
-/// How many bytes a record takes, whose names are good and whose values have at most 256 bytes:
-/// from 1 to 811.
+/// How many bytes a record takes, whose names are good and whose values have at most 1,024 bytes:
+/// from 1 to 3,115.
 #[tactic(auto, using(crate::proofs::RecordLengths::lengths))]
 pub fn encoded_len(entry: &Record) -> usize
     requires { Fits entry.now }
     ensures len { result ≡ length (spelled entry.now) }
     ensures positive { 1 ≤ result }
-    ensures bound { result ≤ 811 }
+    ensures bound { result ≤ longest }
 {
     match entry {
         Record::Make(_, name) | Record::Name(_, name) => 1 + named_len(name),

@@ -6,7 +6,7 @@ mod lengths;
 mod record;
 mod writing;
 
-pub use fitting::{fits_call, fits_item, fits_reply, is_reached};
+pub use fitting::{fits_call, fits_item, fits_reply, is_reached, is_short_item, is_short_reply};
 pub use lengths::{call_len, encoded_len};
 pub use record::{CallRecord, LaterRecord, Record};
 pub use writing::{encode, encode_call};

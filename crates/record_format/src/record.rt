@@ -1,5 +1,5 @@
 // What a record says.
-use calls::{Call, Item, Kind, Name, Reply};
+use calls::{Call, Format, Item, Kind, Name, Reply};
 
 /// A call of a live transaction.
 #[derive(Drop, Debug)]
@@ -49,8 +49,12 @@ pub enum Record {
     LiveCall(CallRecord),
     /// In an image: a call that a live transaction put off.
     LiveLater(LaterRecord),
-    /// In an image: the next transaction's number, and the wear.
-    Marks { next: u64, wear: u64 },
+    /// In an image, first: the format of the area, the next transaction's number, and the wear.
+    Marks {
+        format: Format,
+        next: u64,
+        wear: u64,
+    },
     /// The image is complete.
     ImageEnd,
     /// The transaction begins.

@@ -1,5 +1,5 @@
 // Records into bytes. The room is made first, so that what follows can't be refused.
-ghost use Rattle.std.specs.Prelude.{◌≡◌, ◌+◌, ◌<◌, ◌≤◌, ◌^◌, ◌∷◌, [], ◌++◌, length, vec_len};
+ghost use Rattle.std.specs.Prelude.{◌≡◌, ◌+◌, ◌<◌, ◌≤◌, ◌∷◌, [], ◌++◌, length, vec_len};
 ghost use Rattle.std.specs.Prelude.{vec_capacity, OnOk, OnErr, IfErr, IfSome};
 ghost use Rattle.std.specs.Option.{option_copied};
 ghost use Rattle.record_format.specs.declared.record.Record.{Record};
@@ -7,13 +7,14 @@ ghost use Rattle.record_format.specs.Records.{number, signed, wide, value, kind_
 ghost use Rattle.record_format.specs.Records.{reply, inverse, called, put_off, item};
 ghost use Rattle.record_format.specs.Records.{spelled, Fits, FitsCall, FitsReply, FitsItem};
 ghost use Rattle.record_format.specs.Records.{FitsCalled, FitsPutOff, IsValue, before_inverse};
-ghost use Rattle.record_format.specs.Records.{record_of_call};
+ghost use Rattle.record_format.specs.Records.{record_of_call, marks_tag};
 ghost use Rattle.calls.specs.Rules.{inverse_of, Askable};
+ghost use Rattle.calls.specs.Limits.{max_name};
 
 use crate::lengths::{call_len, encoded_len};
 use crate::record::{CallRecord, LaterRecord, Record};
 use byteorder::{BigEndian, ByteOrder};
-use calls::{Bytes, Call, Item, Kind, Name, Refusal, Reply};
+use calls::{Bytes, Call, Format, Item, Kind, Name, Refusal, Reply};
 
 fn put_byte(out: &mut Vec<u8>, byte: u8)
     requires { vec_len out.old + 1 ≤ vec_capacity out.old }
@@ -110,7 +111,7 @@ fn code_of(kind: Kind) -> u8
 
 #[tactic(auto, using(crate::proofs::RecordLengths::lengths))]
 fn put_named(out: &mut Vec<u8>, kind: Kind, name: &Name)
-    requires short { length name.now ≤ 64 }
+    requires short { length name.now ≤ max_name }
     requires room { vec_len out.old + length (named kind name.now) ≤ vec_capacity out.old }
     ensures items { out.new.items ≡ out.old.items ++ named kind name.now }
     ensures len { vec_len out.new ≡ vec_len out.old + length (named kind name.now) }
@@ -322,6 +323,16 @@ fn put_item(out: &mut Vec<u8>, part: &Item)
     }
 }
 
+// The tag of an image's marks.
+fn tag_of_marks(format: Format) -> u8
+    ensures { result ≡ marks_tag format }
+{
+    match format {
+        Format::One => 11,
+        Format::Two => 14,
+    }
+}
+
 #[tactic(auto, using(crate::proofs::RecordLengths::lengths))]
 fn put_record(out: &mut Vec<u8>, entry: &Record)
     requires fits { Fits entry.now }
@@ -359,13 +370,15 @@ fn put_record(out: &mut Vec<u8>, entry: &Record)
             put_byte(out, 10);
             put_later(out, later);
         }
-        Record::Marks { next, wear } => put_coded_pair(out, 11, *next, *wear),
+        Record::Marks { format, next, wear } => {
+            put_coded_pair(out, tag_of_marks(*format), *next, *wear)
+        }
         Record::ImageEnd => put_byte(out, 12),
         Record::Begin(n) => put_coded(out, 13, *n),
     }
 }
 
-/// Puts a record, whose names are good and whose values have at most 256 bytes, behind what `out`
+/// Puts a record, whose names are good and whose values have at most 1,024 bytes, behind what `out`
 /// holds, in place.
 ///
 /// NoMemory, only where room was missing; it leaves `out` as it was.
@@ -385,7 +398,7 @@ pub fn encode(entry: &Record, out: &mut Vec<u8>) -> Result<(), Refusal>
     Ok(())
 }
 
-/// Puts the record of a call, whose values have at most 256 bytes, behind what `out` holds, in
+/// Puts the record of a call, whose values have at most 1,024 bytes, behind what `out` holds, in
 /// place: the transaction's number, the collection, the call, its reply, and the call that takes it
 /// back. Nothing is copied but into `out`.
 ///

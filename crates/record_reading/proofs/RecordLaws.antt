@@ -15,6 +15,8 @@ use Rattle.calls.specs.declared.kind.Kind.{Kind}
 use Rattle.calls.specs.declared.call.Call.{Call}
 use Rattle.calls.specs.declared.reply.Reply.{Reply}
 use Rattle.calls.specs.declared.item.Item.{Item}
+use Rattle.calls.specs.declared.format.Format.{Format}
+use Rattle.calls.specs.Formats.{max_value, widest}
 use Rattle.calls.specs.Names.{IsName}
 use Rattle.calls.specs.Contents.{IsItemOf}
 use Rattle.record_format.specs.declared.record.Record.{Record}
@@ -56,7 +58,8 @@ unfolding pair_in
 pair_reads = both_reads (number 8) (λ n. n < 256 ^ 8) (number_in 8) (number 8) (λ n. n < 256 ^ 8)
     (number_in 8) (number_reads 8) (number_reads 8)
 
-IsValue-taken : (len : ℕ) (bytes : List ℕ) → len ≤ 256 → len ≤ length bytes → IsBytes bytes →
+IsValue-taken : (len : ℕ) (bytes : List ℕ) → len ≤ max_value widest → len ≤ length bytes →
+    IsBytes bytes →
     IsValue (take len bytes)
 IsValue-taken len bytes short long f =
     record {
@@ -74,7 +77,7 @@ value_takes bytes x f e =
       | inr (len, h) ↦
           let e1 = simp h at e in
           let first = number_takes 2 bytes len f h in
-          elim (went (ltb 256 len.0)) [
+          elim (went (ltb (max_value widest) len.0)) [
             | inl over ↦ let e2 = simp over at e1 in absurd cc
             | inr within ↦
                 let e2 = simp within at e1 in
@@ -83,7 +86,7 @@ value_takes bytes x f e =
                   | inr long ↦
                       let e3 = simp long at e2 in
                       let enough : len.0 ≤ length len.1 = ltb-false _ _ long in
-                      let at_most : len.0 ≤ 256 = ltb-false _ _ within in
+                      let at_most : len.0 ≤ max_value widest = ltb-false _ _ within in
                       let found : List ℕ × List ℕ = (take len.0 len.1, drop len.0 len.1) in
                       let len_is : length (take len.0 len.1) ≡ len.0 =
                       omega (arith, length-take len.0 len.1) in
@@ -108,9 +111,9 @@ unfolding value_in
 value_again v rest h =
     let regrouped : value v ++ rest ≡ number 2 (length v) ++ (v ++ rest) =
     append_assoc (number 2 (length v)) v rest in
-    let short : length v ≤ 256 = h.short in
+    let short : length v ≤ max_value widest = h.short in
     let below : length v < 256 ^ 2 = omega arith in
-    let within : ltb 256 (length v) ≡ false = le-ltb _ _ short in
+    let within : ltb (max_value widest) (length v) ≡ false = le-ltb _ _ short in
     let long : ltb (length (v ++ rest)) (length v) ≡ false =
     le-ltb _ _ (omega (arith, length-append v rest)) in
     ap value_in regrouped ∙ rw (
@@ -704,9 +707,17 @@ record_takes last tag =
             made_behind _ _ _ put_off_reads spelled (FitsAt last) 10 Record.LiveLater (λ l h. refl)
                 (λ l h. (h, tt)),
             (
-              made_behind _ _ _ pair_reads spelled (FitsAt last) 11 (λ p. Record.Marks p.0 p.1)
+              made_behind _ _ _ pair_reads spelled (FitsAt last) 11
+                  (λ p. Record.Marks Format.One p.0 p.1)
                   (λ p h. refl) (λ p h. (h, tt)),
-              (plain_behind spelled (FitsAt last) 12 Record.ImageEnd refl (tt, tt), tt),
+              (
+                plain_behind spelled (FitsAt last) 12 Record.ImageEnd refl (tt, tt),
+                (
+                  made_behind _ _ _ pair_reads spelled (FitsAt last) 14
+                      (λ p. Record.Marks Format.Two p.0 p.1) (λ p h. refl) (λ p h. (h, tt)),
+                  tt,
+                ),
+              ),
             ),
           ),
         ),
@@ -742,9 +753,14 @@ record_again last (Record.LiveCall c) rest h =
     made_again Record.LiveCall called_in (called c ++ rest) c rest (called_again c rest h.0)
 record_again last (Record.LiveLater l) rest h =
     made_again Record.LiveLater put_off_in (put_off l ++ rest) l rest (put_off_again l rest h.0)
-record_again last (Record.Marks next wear) rest h =
-    made_again (λ p. Record.Marks p.0 p.1) pair_in ((number 8 next ++ number 8 wear) ++ rest)
+record_again last (Record.Marks Format.One next wear) rest h =
+    made_again (λ p. Record.Marks Format.One p.0 p.1) pair_in
+    ((number 8 next ++ number 8 wear) ++ rest)
     (next, wear) rest (pair_reads.again (next, wear) rest h.0)
+record_again last (Record.Marks Format.Two next wear) rest h =
+    made_again (λ p. Record.Marks Format.Two p.0 p.1) pair_in
+    ((number 8 next ++ number 8 wear) ++ rest) (next, wear) rest
+    (pair_reads.again (next, wear) rest h.0)
 record_again last Record.ImageEnd rest h = refl
 record_again last (Record.Begin n) rest h = rw (number_again 8 n rest h.0) refl
 

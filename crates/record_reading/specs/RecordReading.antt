@@ -11,6 +11,9 @@ use Rattle.calls.specs.declared.kind.Kind.{Kind}
 use Rattle.calls.specs.declared.call.Call.{Call}
 use Rattle.calls.specs.declared.reply.Reply.{Reply}
 use Rattle.calls.specs.declared.item.Item.{Item}
+use Rattle.calls.specs.declared.format.Format.{Format}
+use Rattle.calls.specs.Formats.{max_value, widest}
+use Rattle.calls.specs.Limits.{max_name}
 use Rattle.record_format.specs.declared.record.Record.{Record}
 use Rattle.record_format.specs.declared.record.CallRecord.{CallRecord}
 use Rattle.record_format.specs.declared.record.LaterRecord.{LaterRecord}
@@ -88,7 +91,8 @@ unfoldable pub pair_in : Reader (ℕ × ℕ)
 pair_in = both (number_in 8) (number_in 8)
 
 unfoldable pub value_in : Reader (List ℕ)
-value_in bytes = number_in 2 bytes >>= λ len. if nat_lt 256 len.0 then None else if nat_lt
+value_in bytes = number_in 2 bytes >>= λ len. if nat_lt (max_value widest) len.0 then None else if
+    nat_lt
     (length len.1) len.0 then None else Some (take len.0 len.1, drop len.0 len.1)
 
 unfoldable pub entry_in : Reader (ℕ × List ℕ)
@@ -110,7 +114,7 @@ may_be_in_name b = (nat_le 97 b && nat_le b 122) ||
 
 abbrev pub is_good_name : List ℕ → Bool
 is_good_name name = nat_lt 0 (length name) &&
-    (nat_le (length name) 64 && list_all may_be_in_name name)
+    (nat_le (length name) max_name && list_all may_be_in_name name)
 
 unfoldable pub name_in : Reader (List ℕ)
 name_in bytes = do
@@ -242,8 +246,9 @@ image_records last =
     ∷ (8, made Record.Item (item_in last))
     ∷ (9, made Record.LiveCall called_in)
     ∷ (10, made Record.LiveLater put_off_in)
-    ∷ (11, made (λ p. Record.Marks p.0 p.1) pair_in)
+    ∷ (11, made (λ p. Record.Marks Format.One p.0 p.1) pair_in)
     ∷ (12, plain Record.ImageEnd)
+    ∷ (14, made (λ p. Record.Marks Format.Two p.0 p.1) pair_in)
     ∷ []
 
 -- a record behind its tag, where the kind was named last

@@ -1,7 +1,8 @@
 // Bytes into the record that they begin with.
 ghost use Rattle.std.specs.Prelude.{◌≡◌, ◌+◌, ◌<◌, ◌≤◌, length, IfOk};
+ghost use Rattle.record_format.specs.declared.record.Record.{Record};
 ghost use Rattle.record_reading.specs.RecordReading.{Gives, byte_in, number_in, amount_in};
-ghost use Rattle.record_reading.specs.RecordReading.{pair_in, value_in};
+ghost use Rattle.record_reading.specs.RecordReading.{pair_in, value_in, made};
 ghost use Rattle.record_reading.specs.RecordReading.{entry_in, kind_of, name_in, named_in};
 ghost use Rattle.record_reading.specs.RecordReading.{keyed_call_behind, call_behind, call_in};
 ghost use Rattle.record_reading.specs.RecordReading.{reply_behind, reply_in, inverse_in, called_in};
@@ -12,7 +13,7 @@ ghost use Rattle.std.specs.Int.{w64, w128, cast_signed};
 use crate::unread::Unread;
 use byteorder::{BigEndian, ByteOrder};
 use calls::limits::MAX_VALUE;
-use calls::{Bytes, Call, Item, Kind, Name, Reply, check_name};
+use calls::{Bytes, Call, Format, Item, Kind, Name, Reply, check_name};
 use record_format::{CallRecord, LaterRecord, Record};
 use std::alloc::Global;
 
@@ -359,6 +360,15 @@ fn journal_record_from(alloc: Global, tag: u8, bytes: &[u8]) -> Result<(Record, 
     }
 }
 
+// The marks of an image of the format.
+fn read_marks(format: Format, bytes: &[u8]) -> Result<(Record, &[u8]), Unread>
+    ensures { Gives (λ x. (x.0, x.1.now)) result
+        (made (λ p. Record.Marks format p.0 p.1) pair_in bytes.now) }
+{
+    let (next, wear, rest) = read_pair(bytes)?;
+    Ok((Record::Marks { format, next, wear }, rest))
+}
+
 // A record of an image or of a journal behind its tag.
 #[tactic(auto, unfolding(crate::specs::RecordReading::record_behind))]
 fn record_from(
@@ -386,11 +396,9 @@ fn record_from(
             let (later, rest) = read_later(alloc, bytes)?;
             Ok((Record::LiveLater(later), rest))
         }
-        11 => {
-            let (next, wear, rest) = read_pair(bytes)?;
-            Ok((Record::Marks { next, wear }, rest))
-        }
+        11 => read_marks(Format::One, bytes),
         12 => Ok((Record::ImageEnd, bytes)),
+        14 => read_marks(Format::Two, bytes),
         _ => journal_record_from(alloc, tag, bytes),
     }
 }

@@ -15,6 +15,8 @@ use Rattle.calls.specs.declared.kind.Kind.{Kind}
 use Rattle.calls.specs.declared.call.Call.{Call}
 use Rattle.calls.specs.declared.reply.Reply.{Reply}
 use Rattle.calls.specs.declared.item.Item.{Item}
+use Rattle.calls.specs.declared.format.Format.{Format}
+use Rattle.calls.specs.Formats.{max_value, widest}
 use Rattle.calls.specs.Sets as sets
 use Rattle.calls.specs.Maps as maps
 use Rattle.calls.specs.Queues as queues
@@ -44,191 +46,215 @@ use Rattle.boosted.proofs.Each.{each_append}
 
 -- ---- what fits is short
 
-pub short_call : (c : Call) → FitsCall c → IsShort c
-short_call (Call.Put k v) f = f.1.short
-short_call c f = tt
+-- ---- what is short in a format is short in the widest
 
-pub short_reply_of : (r : Reply) → FitsReply r → IsShortReply r
-short_reply_of (Reply.Value v) f = f.short
-short_reply_of (Reply.Entry k v) f = f.1.short
-short_reply_of r f = tt
+widest_value : (f : Format) → max_value f ≤ max_value widest
+widest_value Format.One = omega arith
+widest_value Format.Two = omega arith
 
-pub short_item : (i : Item) → FitsItem i → IsShortItem i
-short_item (Item.Entry k v) f = f.1.short
-short_item i f = tt
+pub widest_call : (f : Format) (c : Call) → IsShort f c → IsShort widest c
+widest_call f (Call.Put k v) l = let wide = widest_value f in omega arith
+widest_call f c l = tt
 
--- A call that may run in a commit or be put off holds no value.
-pub short_disposable : (c : Call) → Disposable c → IsShort c
-short_disposable (Call.Bump n) d = tt
-short_disposable (Call.Free x) d = tt
-short_disposable (Call.Fill n) d = tt
-short_disposable c d = absurd d
+pub widest_reply : (f : Format) (r : Reply) → IsShortReply f r → IsShortReply widest r
+widest_reply f (Reply.Value v) l = let wide = widest_value f in omega arith
+widest_reply f (Reply.Entry k v) l = let wide = widest_value f in omega arith
+widest_reply f r l = tt
 
-pub short_deferrable : (c : Call) → Deferrable c → IsShort c
-short_deferrable (Call.Bump n) d = tt
-short_deferrable (Call.Fill n) d = tt
-short_deferrable c d = absurd d
+widest_content : (f : Format) (k : Content) → HoldsShort f k → HoldsShort widest k
+widest_content f (InMap m) h = λ k v e. let short = h k v e in let wide = widest_value f in
+    omega arith
+widest_content f (InSet s) h = tt
+widest_content f (InQueue q) h = tt
+widest_content f (InCounter n) h = tt
+widest_content f (InPool s) h = tt
+widest_content f (InStock n) h = tt
 
--- ---- replies
+pub widest_all : (f : Format) (s : List Collection) → AreShort f s → AreShort widest s
+widest_all f [] a = tt
+widest_all f (x ∷ xs) a = (widest_content f x.content a.0, widest_all f xs a.1)
 
-set_short : (s : sets.NumberSet) (c : Call) (r : Reply) → sets.Answers s c r → IsShortReply r
-set_short s (Call.Contains x) (Reply.Value v) a = absurd a.1
-set_short s c (Reply.Value v) a = absurd a.1
-set_short s c (Reply.Entry k v) a = absurd a.1
-set_short s c r a = tt
+module _ (f : Format) where
+  -- A call that may run in a commit or be put off holds no value.
+  pub short_disposable : (c : Call) → Disposable c → IsShort f c
+  short_disposable (Call.Bump n) d = tt
+  short_disposable (Call.Free x) d = tt
+  short_disposable (Call.Fill n) d = tt
+  short_disposable c d = absurd d
 
-map_short : (m : maps.Table) (c : Call) (r : Reply) → HoldsShort (InMap m) → maps.Answers m c r →
-    IsShortReply r
-map_short m (Call.Get k) (Reply.Value v) h a = h k v a.1
-map_short m (Call.Put k w) (Reply.Value v) h a = h k v a.1
-map_short m (Call.MapRemove k) (Reply.Value v) h a = h k v a.1
-map_short m (Call.Ceiling k) (Reply.Entry j v) h a = h j v a.1.there
-map_short m c (Reply.Value v) h a = absurd a.1
-map_short m c (Reply.Entry j v) h a = absurd a.1
-map_short m c r h a = tt
+  pub short_deferrable : (c : Call) → Deferrable c → IsShort f c
+  short_deferrable (Call.Bump n) d = tt
+  short_deferrable (Call.Fill n) d = tt
+  short_deferrable c d = absurd d
 
-queue_short : (q : _) (c : Call) (r : Reply) → queues.Answers q c r → IsShortReply r
-queue_short q (Call.QueueAdd p g) (Reply.Value v) a = absurd a.1
-queue_short q c (Reply.Value v) a = absurd a.1
-queue_short q c (Reply.Entry k v) a = absurd a.1
-queue_short q c r a = tt
+  -- ---- replies
 
-counter_short : (n : _) (c : Call) (r : Reply) → counters.Answers n c r → IsShortReply r
-counter_short n (Call.Bump k) (Reply.Value v) a = absurd a.1
-counter_short n c (Reply.Value v) a = absurd a.1
-counter_short n c (Reply.Entry k v) a = absurd a.1
-counter_short n c r a = tt
+  set_short : (s : sets.NumberSet) (c : Call) (r : Reply) → sets.Answers s c r → IsShortReply f r
+  set_short s (Call.Contains x) (Reply.Value v) a = absurd a.1
+  set_short s c (Reply.Value v) a = absurd a.1
+  set_short s c (Reply.Entry k v) a = absurd a.1
+  set_short s c r a = tt
 
-pool_short : (s : sets.NumberSet) (c : Call) (r : Reply) → pools.Answers s c r → IsShortReply r
-pool_short s Call.Draw (Reply.Value v) a = absurd a.1
-pool_short s c (Reply.Value v) a = absurd a.1
-pool_short s c (Reply.Entry k v) a = absurd a.1
-pool_short s c r a = tt
+  map_short : (m : maps.Table) (c : Call) (r : Reply) → HoldsShort f (InMap m) →
+      maps.Answers m c r → IsShortReply f r
+  map_short m (Call.Get k) (Reply.Value v) h a = h k v a.1
+  map_short m (Call.Put k w) (Reply.Value v) h a = h k v a.1
+  map_short m (Call.MapRemove k) (Reply.Value v) h a = h k v a.1
+  map_short m (Call.Ceiling k) (Reply.Entry j v) h a = h j v a.1.there
+  map_short m c (Reply.Value v) h a = absurd a.1
+  map_short m c (Reply.Entry j v) h a = absurd a.1
+  map_short m c r h a = tt
 
-stock_short : (n : ℕ) (c : Call) (r : Reply) → stocks.Answers n c r → IsShortReply r
-stock_short n (Call.Fill k) (Reply.Value v) a = absurd a.1
-stock_short n c (Reply.Value v) a = absurd a.1
-stock_short n c (Reply.Entry k v) a = absurd a.1
-stock_short n c r a = tt
+  queue_short : (q : _) (c : Call) (r : Reply) → queues.Answers q c r → IsShortReply f r
+  queue_short q (Call.QueueAdd p g) (Reply.Value v) a = absurd a.1
+  queue_short q c (Reply.Value v) a = absurd a.1
+  queue_short q c (Reply.Entry k v) a = absurd a.1
+  queue_short q c r a = tt
 
-content_reply : (k : Content) (c : Call) (r : Reply) → HoldsShort k → Answers k c r → IsShortReply r
-content_reply (InSet s) c r h a = set_short s c r a
-content_reply (InMap m) c r h a = map_short m c r h a
-content_reply (InQueue q) c r h a = queue_short q c r a
-content_reply (InCounter n) c r h a = counter_short n c r a
-content_reply (InPool s) c r h a = pool_short s c r a
-content_reply (InStock n) c r h a = stock_short n c r a
+  counter_short : (n : _) (c : Call) (r : Reply) → counters.Answers n c r → IsShortReply f r
+  counter_short n (Call.Bump k) (Reply.Value v) a = absurd a.1
+  counter_short n c (Reply.Value v) a = absurd a.1
+  counter_short n c (Reply.Entry k v) a = absurd a.1
+  counter_short n c r a = tt
 
-pub short_reply : (s : List Collection) (at : ℕ) (c : Call) (r : Reply) → AreShort s →
-    AnswersAt s at c r → IsShortReply r
-short_reply [] at c r h a = absurd a
-short_reply (x ∷ xs) zero c r h a = content_reply x.content c r h.0 a
-short_reply (x ∷ xs) (suc at) c r h a = short_reply xs at c r h.1 a
+  pool_short : (s : sets.NumberSet) (c : Call) (r : Reply) → pools.Answers s c r → IsShortReply f r
+  pool_short s Call.Draw (Reply.Value v) a = absurd a.1
+  pool_short s c (Reply.Value v) a = absurd a.1
+  pool_short s c (Reply.Entry k v) a = absurd a.1
+  pool_short s c r a = tt
 
-inverse_short : (c : Call) (r : Reply) → IsShortReply r → IfSome (inverse_of c r) IsShort
-inverse_short (Call.SetAdd x) Reply.Yes h = tt
-inverse_short (Call.SetRemove x) Reply.Yes h = tt
-inverse_short (Call.Put k v) Reply.Nothing h = tt
-inverse_short (Call.Put k v) (Reply.Value o) h = h
-inverse_short (Call.MapRemove k) (Reply.Value o) h = h
-inverse_short (Call.QueueAdd p g) Reply.Done h = tt
-inverse_short Call.Take (Reply.Item p g) h = tt
-inverse_short (Call.Bump n) Reply.Done h = tt
-inverse_short Call.Draw (Reply.Id x) h = tt
-inverse_short (Call.Spend n) Reply.Yes h = tt
-inverse_short c r h = tt
+  stock_short : (n : ℕ) (c : Call) (r : Reply) → stocks.Answers n c r → IsShortReply f r
+  stock_short n (Call.Fill k) (Reply.Value v) a = absurd a.1
+  stock_short n c (Reply.Value v) a = absurd a.1
+  stock_short n c (Reply.Entry k v) a = absurd a.1
+  stock_short n c r a = tt
 
--- The call that takes back what was answered so is short.
-pub short_inverse : (c : Call) (r : Reply) (back : Call) → IsShortReply r →
-    inverse_of c r ≡ Some back → IsShort back
-short_inverse c r back h e = subst (λ (o : Option Call). IfSome o IsShort) e (inverse_short c r h)
+  content_reply : (k : Content) (c : Call) (r : Reply) → HoldsShort f k → Answers k c r →
+      IsShortReply f r
+  content_reply (InSet s) c r h a = set_short s c r a
+  content_reply (InMap m) c r h a = map_short m c r h a
+  content_reply (InQueue q) c r h a = queue_short q c r a
+  content_reply (InCounter n) c r h a = counter_short n c r a
+  content_reply (InPool s) c r h a = pool_short s c r a
+  content_reply (InStock n) c r h a = stock_short n c r a
 
--- ---- contents
+  pub short_reply : (s : List Collection) (at : ℕ) (c : Call) (r : Reply) → AreShort f s →
+      AnswersAt s at c r → IsShortReply f r
+  short_reply [] at c r h a = absurd a
+  short_reply (x ∷ xs) zero c r h a = content_reply x.content c r h.0 a
+  short_reply (x ∷ xs) (suc at) c r h a = short_reply xs at c r h.1 a
 
-same_value : (v w : List ℕ) → Some v ≡ Some w → v ≡ w
-same_value v w e = ap (λ o. unwrap_or o v) e
+  inverse_short : (c : Call) (r : Reply) → IsShortReply f r → IfSome (inverse_of c r) (IsShort f)
+  inverse_short (Call.SetAdd x) Reply.Yes h = tt
+  inverse_short (Call.SetRemove x) Reply.Yes h = tt
+  inverse_short (Call.Put k v) Reply.Nothing h = tt
+  inverse_short (Call.Put k v)
+      (Reply.Value o) h = h
+  inverse_short (Call.MapRemove k) (Reply.Value o) h = h
+  inverse_short (Call.QueueAdd p g) Reply.Done h = tt
+  inverse_short Call.Take (Reply.Item p g) h = tt
+  inverse_short (Call.Bump n) Reply.Done h = tt
+  inverse_short Call.Draw (Reply.Id x) h = tt
+  inverse_short (Call.Spend n) Reply.Yes h = tt
+  inverse_short c r h = tt
 
-put_short : (b : Bool) (v w : List ℕ) (o : Option (List ℕ)) → length v ≤ 256 →
-    (o ≡ Some w → length w ≤ 256) → cond b (Some v) o ≡ Some w → length w ≤ 256
-put_short true v w o l h e = subst (λ u. length u ≤ 256) (same_value v w e) l
-put_short false v w o l h e = h e
+  -- The call that takes back what was answered so is short.
+  pub short_inverse : (c : Call) (r : Reply) (back : Call) → IsShortReply f r →
+      inverse_of c r ≡ Some back → IsShort f back
+  short_inverse c r back h e = subst (λ (o : Option Call). IfSome o (IsShort f)) e
+      (inverse_short c r h)
 
-left_short : (b : Bool) (w : List ℕ) (o : Option (List ℕ)) → (o ≡ Some w → length w ≤ 256) →
-    cond b None o ≡ Some w → length w ≤ 256
-left_short true w o h e = absurd (cc)
-left_short false w o h e = h e
+  -- ---- contents
 
-map_after : (m : maps.Table) (c : Call) (r : Reply) → HoldsShort (InMap m) → IsShort c →
-    HoldsShort (InMap (maps.after m c r))
-map_after m (Call.Put k v) r h l =
-    λ q w e. put_short (eq_by_cmp nat_cmp q k) v w (get m q) l (h q w)
-    (sym (get-insert nat_cmp_total m k v q) ∙ e)
-map_after m (Call.MapRemove k) (Reply.Value o) h l =
-    λ q w e. left_short (eq_by_cmp nat_cmp q k) w (get m q) (h q w)
-    (sym (get-remove nat_cmp_total m k q) ∙ e)
-map_after m c r h l = h
+  same_value : (v w : List ℕ) → Some v ≡ Some w → v ≡ w
+  same_value v w e = ap (λ o. unwrap_or o v) e
 
-pub content_after : (k : Content) (c : Call) (r : Reply) → HoldsShort k → IsShort c →
-    HoldsShort (after k c r)
-content_after (InSet s) c r h l = tt
-content_after (InMap m) c r h l = map_after m c r h l
-content_after (InQueue q) c r h l = tt
-content_after (InCounter n) c r h l = tt
-content_after (InPool s) c r h l = tt
-content_after (InStock n) c r h l = tt
+  put_short : (b : Bool) (v w : List ℕ) (o : Option (List ℕ)) →
+      length v ≤ max_value f →
+      (o ≡ Some w → length w ≤ max_value f) → cond b (Some v) o ≡ Some w → length w ≤ max_value f
+  put_short true v w o l h e = subst (λ u. length u ≤ max_value f) (same_value v w e) l
+  put_short false v w o l h e = h e
 
-pub short_after : (s : List Collection) (at : ℕ) (c : Call) (r : Reply) → AreShort s →
-    AnswersAt s at c r → IsShort c → AreShort (after_at s at c r)
-short_after [] at c r h a l = absurd a
-short_after (x ∷ xs) zero c r h a l = (content_after x.content c r h.0 l, h.1)
-short_after (x ∷ xs) (suc at) c r h a l = (h.0, short_after xs at c r h.1 a l)
+  left_short : (b : Bool) (w : List ℕ) (o : Option (List ℕ)) →
+      (o ≡ Some w → length w ≤ max_value f) →
+      cond b None o ≡ Some w → length w ≤ max_value f
+  left_short true w o h e = absurd (cc)
+  left_short false w o h e = h e
 
-short_more : (s : List Collection) (x : Collection) → HoldsShort x.content → AreShort s →
-    AreShort (s ++ x ∷ [])
-short_more [] x h a = (h, tt)
-short_more (y ∷ s) x h a = (a.0, short_more s x h a.1)
+  map_after : (m : maps.Table) (c : Call) (r : Reply) → HoldsShort f (InMap m) → IsShort f c →
+      HoldsShort f (InMap (maps.after m c r))
+  map_after m (Call.Put k v) r h l =
+      λ q w e. put_short (eq_by_cmp nat_cmp q k) v w (get m q) l (h q w)
+      (sym (get-insert nat_cmp_total m k v q) ∙ e)
+  map_after m (Call.MapRemove k)
+      (Reply.Value o) h l =
+      λ q w e. left_short (eq_by_cmp nat_cmp q k) w (get m q) (h q w)
+      (sym (get-remove nat_cmp_total m k q) ∙ e)
+  map_after m c r h l = h
 
-none_short : (k : ℕ) (v : List ℕ) → get (empty {X = List ℕ} {R = nat_cmp}) k ≡ Some v →
-    length v ≤ 256
-none_short k v e = let none = get-empty {X = List ℕ} nat_cmp k in absurd (cc)
+  pub content_after : (k : Content) (c : Call) (r : Reply) → HoldsShort f k → IsShort f c →
+      HoldsShort f (after k c r)
+  content_after (InSet s) c r h l = tt
+  content_after (InMap m) c r h l = map_after m c r h l
+  content_after (InQueue q) c r h l = tt
+  content_after (InCounter n) c r h l = tt
+  content_after (InPool s) c r h l = tt
+  content_after (InStock n) c r h l = tt
 
-empty_short : (kind : Kind) → HoldsShort (contents.empty kind)
-empty_short Kind.Set = tt
-empty_short Kind.Map = none_short
-empty_short Kind.Queue = tt
-empty_short Kind.Counter = tt
-empty_short Kind.Pool = tt
-empty_short Kind.Stock = tt
+  pub short_after : (s : List Collection) (at : ℕ) (c : Call) (r : Reply) → AreShort f s →
+      AnswersAt s at c r → IsShort f c → AreShort f (after_at s at c r)
+  short_after [] at c r h a l = absurd a
+  short_after (x ∷ xs) zero c r h a l = (content_after x.content c r h.0 l, h.1)
+  short_after (x ∷ xs)
+      (suc at) c r h a l = (h.0, short_after xs at c r h.1 a l)
 
-pub short_made : (s t : List Collection) (name : List ℕ) (kind : Kind) → Makes s name kind t →
-    AreShort s → AreShort t
-short_made s t name kind m a = subst AreShort (sym m.is)
-    (short_more s (record { name = name; content = contents.empty kind }) (empty_short kind) a)
+  short_more : (s : List Collection) (x : Collection) → HoldsShort f x.content → AreShort f s →
+      AreShort f (s ++ x ∷ [])
+  short_more [] x h a = (h, tt)
+  short_more (y ∷ s) x h a = (a.0, short_more s x h a.1)
 
--- What is found among entries of short values is short.
-found_short : (es : List (ℕ × List ℕ)) (q : ℕ) (w : List ℕ) →
-    AllByRecursion IsShortItem (map (λ e. Item.Entry e.0 e.1) es) → find nat_cmp q es ≡ Some w →
-    length w ≤ 256
-found_short [] q w a e = absurd (cc)
-found_short (x ∷ es) q w a e = put_short (eq_by_cmp nat_cmp q x.0) x.1 w (find nat_cmp q es) a.0
-    (found_short es q w a.1) e
+  none_short : (k : ℕ) (v : List ℕ) → get (empty {X = List ℕ} {R = nat_cmp}) k ≡ Some v →
+      length v ≤ max_value f
+  none_short k v e = let none = get-empty {X = List ℕ} nat_cmp k in absurd (cc)
 
-listed_short : (k : Content) (items : List Item) → ListsContent items k →
-    AllByRecursion IsShortItem items → HoldsShort k
-listed_short (InSet s) items l a = tt
-listed_short (InMap m) items l a =
-    λ q w e. found_short (entries m) q w (subst (AllByRecursion IsShortItem) l a)
-    (sym (get-entries m q) ∙ e)
-listed_short (InQueue q) items l a = tt
-listed_short (InCounter n) items l a = tt
-listed_short (InPool s) items l a = tt
-listed_short (InStock n) items l a = tt
+  empty_short : (kind : Kind) → HoldsShort f (contents.empty kind)
+  empty_short Kind.Set = tt
+  empty_short Kind.Map = none_short
+  empty_short Kind.Queue = tt
+  empty_short Kind.Counter = tt
+  empty_short Kind.Pool = tt
+  empty_short Kind.Stock = tt
 
-pub short_loaded : (s t : List Collection) (name : List ℕ) (kind : Kind) (items : List Item) →
-    Loads s name kind items t → AllByRecursion IsShortItem items → AreShort s → AreShort t
-short_loaded s t name kind items m a h =
-    subst AreShort (sym m.is) (short_more s (record { name = name; content = m.content })
-    (listed_short m.content items m.lists a) h)
+  pub short_made : (s t : List Collection) (name : List ℕ) (kind : Kind) → Makes s name kind t →
+      AreShort f s → AreShort f t
+  short_made s t name kind m a = subst (AreShort f) (sym m.is)
+      (short_more s (record { name = name; content = contents.empty kind }) (empty_short kind) a)
+
+  -- What is found among entries of short values is short.
+  found_short : (es : List (ℕ × List ℕ)) (q : ℕ) (w : List ℕ) →
+      AllByRecursion (IsShortItem f) (map (λ e. Item.Entry e.0 e.1) es) →
+      find nat_cmp q es ≡ Some w →
+      length w ≤ max_value f
+  found_short [] q w a e = absurd (cc)
+  found_short (x ∷ es) q w a e = put_short (eq_by_cmp nat_cmp q x.0) x.1 w (find nat_cmp q es) a.0
+      (found_short es q w a.1) e
+
+  listed_short : (k : Content) (items : List Item) → ListsContent items k →
+      AllByRecursion (IsShortItem f) items → HoldsShort f k
+  listed_short (InSet s) items l a = tt
+  listed_short (InMap m) items l a =
+      λ q w e. found_short (entries m) q w (subst (AllByRecursion (IsShortItem f)) l a)
+      (sym (get-entries m q) ∙ e)
+  listed_short (InQueue q) items l a = tt
+  listed_short (InCounter n) items l a = tt
+  listed_short (InPool s) items l a = tt
+  listed_short (InStock n) items l a = tt
+
+  pub short_loaded : (s t : List Collection) (name : List ℕ) (kind : Kind) (items : List Item) →
+      Loads s name kind items t → AllByRecursion (IsShortItem f) items → AreShort f s → AreShort f t
+  short_loaded s t name kind items m a h =
+      subst (AreShort f) (sym m.is) (short_more s (record { name = name; content = m.content })
+      (listed_short m.content items m.lists a) h)
 
 -- So many runs reach a stock exactly where they reach its number.
 stock_within : (v n : ℕ) → counters.IsWithin (pos v) n → stocks.IsWithin v n
@@ -293,81 +319,82 @@ items_reached n (InPool s) items lists reached =
 items_reached n (InStock v) items lists reached =
     subst (AllByRecursion (IsReached n)) (sym lists) (number_within v n reached, tt)
 
--- ---- the items of a content
+module _ (f : Format) where
+  -- ---- the items of a content
 
-module _ (kind : Kind) where
-  abbrev pub AreItems : List Item → Type 0
-  AreItems items = AllByRecursion (λ i. IsShortItem i × IsItemOf kind i) items
+  module _ (kind : Kind) where
+    abbrev pub AreItems : List Item → Type 0
+    AreItems items = AllByRecursion (λ i. IsShortItem f i × IsItemOf kind i) items
 
-elements_are : (ns : List ℕ) → AreItems Kind.Set (map Item.Element ns)
-elements_are [] = tt
-elements_are (n ∷ ns) = ((tt, tt), elements_are ns)
+  elements_are : (ns : List ℕ) → AreItems Kind.Set (map Item.Element ns)
+  elements_are [] = tt
+  elements_are (n ∷ ns) = ((tt, tt), elements_are ns)
 
-pool_are : (ns : List ℕ) → AreItems Kind.Pool (map Item.Element ns)
-pool_are [] = tt
-pool_are (n ∷ ns) = ((tt, tt), pool_are ns)
+  pool_are : (ns : List ℕ) → AreItems Kind.Pool (map Item.Element ns)
+  pool_are [] = tt
+  pool_are (n ∷ ns) = ((tt, tt), pool_are ns)
 
-pairs_are : (n : ℕ) (p : ℕ × ℕ) (items : List Item) → AreItems Kind.Queue items →
-    AreItems Kind.Queue (replicate n (Item.Pair p.0 p.1) ++ items)
-pairs_are zero p items are = are
-pairs_are (suc n) p items are = ((tt, tt), pairs_are n p items are)
+  pairs_are : (n : ℕ) (p : ℕ × ℕ) (items : List Item) → AreItems Kind.Queue items →
+      AreItems Kind.Queue (replicate n (Item.Pair p.0 p.1) ++ items)
+  pairs_are zero p items are = are
+  pairs_are (suc n) p items are = ((tt, tt), pairs_are n p items are)
 
-queue_are : (es : List ((ℕ × ℕ) × ℕ)) →
-    AreItems Kind.Queue (flat_map (λ e. replicate (suc e.1) (Item.Pair e.0.0 e.0.1)) es)
-queue_are [] = tt
-queue_are (e ∷ es) = pairs_are (suc e.1) e.0
-    (flat_map (λ e. replicate (suc e.1) (Item.Pair e.0.0 e.0.1)) es) (queue_are es)
+  queue_are : (es : List ((ℕ × ℕ) × ℕ)) →
+      AreItems Kind.Queue (flat_map (λ e. replicate (suc e.1) (Item.Pair e.0.0 e.0.1)) es)
+  queue_are [] = tt
+  queue_are (e ∷ es) = pairs_are (suc e.1) e.0
+      (flat_map (λ e. replicate (suc e.1) (Item.Pair e.0.0 e.0.1)) es) (queue_are es)
 
-not_found : (x : ℕ) (es : List (ℕ × List ℕ)) → T (below_all nat_cmp x es) →
-    finmaps.find nat_cmp x es ≡ None
-not_found x [] h = refl
-not_found x (e ∷ es) h = ap (λ o. cond (is_eq o) (Some e.1) (finmaps.find nat_cmp x es))
-    (is_less (nat_cmp x e.0) (first_of_both _ _ h)) ∙ not_found x es (second_of_both _ _ h)
+  not_found : (x : ℕ) (es : List (ℕ × List ℕ)) → T (below_all nat_cmp x es) →
+      finmaps.find nat_cmp x es ≡ None
+  not_found x [] h = refl
+  not_found x (e ∷ es) h = ap (λ o. cond (is_eq o) (Some e.1) (finmaps.find nat_cmp x es))
+      (is_less (nat_cmp x e.0) (first_of_both _ _ h)) ∙ not_found x es (second_of_both _ _ h)
 
-no_value : {X : Type 0} (o : Option X) (x : X) → o ≡ None → o ≡ Some x → ⊥
-no_value None x none some = cc
-no_value (Some y) x none some = cc
+  no_value : {X : Type 0} (o : Option X) (x : X) → o ≡ None → o ≡ Some x → ⊥
+  no_value None x none some = cc
+  no_value (Some y) x none some = cc
 
-later_short : (e : ℕ × List ℕ) (es : List (ℕ × List ℕ)) → T (below_all nat_cmp e.0 es) →
-    ((q : ℕ) (w : List ℕ) → finmaps.find nat_cmp q (e ∷ es) ≡ Some w → length w ≤ 256) →
-    (q : ℕ) (w : List ℕ) → finmaps.find nat_cmp q es ≡ Some w → length w ≤ 256
-later_short e es below short q w found =
-    ⊎_elim
-    (λ (same : q ≡ e.0). absurd (no_value (finmaps.find nat_cmp q es) w
-    (ap (λ k. finmaps.find nat_cmp k es) same ∙ not_found e.0 es below) found))
-    (λ (other : q ≡ e.0 → ⊥). short q w
-    (ap (λ o. cond o (Some e.1) (finmaps.find nat_cmp q es))
-    (not_tied (nat_cmp q e.0) (λ k. other (finmaps.nat_cmp-IsAntisymmetric q e.0 k))) ∙ found))
-    (cases_eq q e.0)
+  later_short : (e : ℕ × List ℕ) (es : List (ℕ × List ℕ)) → T (below_all nat_cmp e.0 es) →
+      ((q : ℕ) (w : List ℕ) → finmaps.find nat_cmp q (e ∷ es) ≡ Some w → length w ≤ max_value f) →
+      (q : ℕ) (w : List ℕ) → finmaps.find nat_cmp q es ≡ Some w → length w ≤ max_value f
+  later_short e es below short q w found =
+      ⊎_elim
+      (λ (same : q ≡ e.0). absurd (no_value (finmaps.find nat_cmp q es) w
+      (ap (λ k. finmaps.find nat_cmp k es) same ∙ not_found e.0 es below) found))
+      (λ (other : q ≡ e.0 → ⊥). short q w
+      (ap (λ o. cond o (Some e.1) (finmaps.find nat_cmp q es))
+      (not_tied (nat_cmp q e.0) (λ k. other (finmaps.nat_cmp-IsAntisymmetric q e.0 k))) ∙ found))
+      (cases_eq q e.0)
 
--- What stands in a map is what is found there.
-entries_are : (es : List (ℕ × List ℕ)) → T (is_sorted nat_cmp es) →
-    ((q : ℕ) (w : List ℕ) → finmaps.find nat_cmp q es ≡ Some w → length w ≤ 256) →
-    AreItems Kind.Map (map (λ e. Item.Entry e.0 e.1) es)
-entries_are [] sorted short = tt
-entries_are (e ∷ es) sorted short = (
-  (
-    short e.0 e.1 (ap (λ o. cond (is_eq o) (Some e.1) (finmaps.find nat_cmp e.0 es))
-        (tied_itself nat_cmp_total e.0)),
-    tt,
-  ),
-  entries_are es (second_of_both _ _ sorted)
-      (later_short e es (first_of_both _ _ sorted) short),
-)
+  -- What stands in a map is what is found there.
+  entries_are : (es : List (ℕ × List ℕ)) → T (is_sorted nat_cmp es) →
+      ((q : ℕ) (w : List ℕ) → finmaps.find nat_cmp q es ≡ Some w → length w ≤ max_value f) →
+      AreItems Kind.Map (map (λ e. Item.Entry e.0 e.1) es)
+  entries_are [] sorted short = tt
+  entries_are (e ∷ es) sorted short = (
+    (
+      short e.0 e.1 (ap (λ o. cond (is_eq o) (Some e.1) (finmaps.find nat_cmp e.0 es))
+          (tied_itself nat_cmp_total e.0)),
+      tt,
+    ),
+    entries_are es (second_of_both _ _ sorted)
+        (later_short e es (first_of_both _ _ sorted) short),
+  )
 
-pub content_items : (k : Content) (items : List Item) → HoldsShort k → ListsContent items k →
-    AreItems (kind_of_content k) items
-content_items (InSet s) items short lists =
-    subst (AreItems Kind.Set) (sym lists.are) (elements_are lists.numbers)
-content_items (InMap m) items short lists =
-    subst (AreItems Kind.Map) (sym lists)
-    (entries_are (finmaps.entries m) (finmaps.entries_sorted m)
-    (λ q w found. short q w (finmaps.get-entries m q ∙ found)))
-content_items (InQueue q) items short lists =
-    subst (AreItems Kind.Queue) (sym lists) (queue_are (finmaps.entries q))
-content_items (InCounter n) items short lists =
-    subst (AreItems Kind.Counter) (sym lists) ((tt, tt), tt)
-content_items (InPool s) items short lists =
-    subst (AreItems Kind.Pool) (sym lists.are) (pool_are lists.numbers)
-content_items (InStock n) items short lists =
-    subst (AreItems Kind.Stock) (sym lists) ((tt, tt), tt)
+  pub content_items : (k : Content) (items : List Item) → HoldsShort f k → ListsContent items k →
+      AreItems (kind_of_content k) items
+  content_items (InSet s) items short lists =
+      subst (AreItems Kind.Set) (sym lists.are) (elements_are lists.numbers)
+  content_items (InMap m) items short lists =
+      subst (AreItems Kind.Map) (sym lists)
+      (entries_are (finmaps.entries m) (finmaps.entries_sorted m)
+      (λ q w found. short q w (finmaps.get-entries m q ∙ found)))
+  content_items (InQueue q) items short lists =
+      subst (AreItems Kind.Queue) (sym lists) (queue_are (finmaps.entries q))
+  content_items (InCounter n) items short lists =
+      subst (AreItems Kind.Counter) (sym lists) ((tt, tt), tt)
+  content_items (InPool s) items short lists =
+      subst (AreItems Kind.Pool) (sym lists.are) (pool_are lists.numbers)
+  content_items (InStock n) items short lists =
+      subst (AreItems Kind.Stock) (sym lists) ((tt, tt), tt)

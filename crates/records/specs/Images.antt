@@ -3,6 +3,7 @@
 use Rattle.std.specs.Prelude.{◌≡◌, ℕ, ◌<◌, List, [], ◌∷◌, ◌++◌, map}
 use Rattle.std.specs.List.{AllByRecursion}
 use Rattle.calls.specs.declared.item.Item.{Item}
+use Rattle.calls.specs.declared.format.Format.{Format}
 use Rattle.calls.specs.Contents.{Collection, kind_of_content}
 use Rattle.calls.specs.Transactions.{Entry, Asked, PutOff}
 use Rattle.catalog.specs.Holdings.{ListsContent}
@@ -39,14 +40,14 @@ abbrev pub Rise : List ℕ → Type 0
 Rise [] = Unit {0}
 Rise (n ∷ ns) = AllByRecursion (λ m. n < m) ns × Rise ns
 
--- The records are an image: the marks, which are a number above all that were entered and the wear;
--- the collections; the numbers that were live, rising; what these had asked for, in the order
--- asked; and the end.
-pub record IsImage (next wear : ℕ) (shown : List Collection) (numbers : List ℕ)
+-- The records are an image in a format: the marks, which are a number above all that were entered
+-- and the wear; the collections; the numbers that were live, rising; what these had asked for, in
+-- the order asked; and the end.
+pub record IsImage (format : Format) (next wear : ℕ) (shown : List Collection) (numbers : List ℕ)
     (live rs : List Record) : Type 0 where
   pub told : List Record
   pub tells : TellOf shown told
   pub rise : Rise numbers
   pub all_live : AllByRecursion IsLiveRecord live
-  pub is : rs ≡ Record.Marks next wear ∷
+  pub is : rs ≡ Record.Marks format next wear ∷
       (told ++ (map Record.Begin numbers ++ (live ++ Record.ImageEnd ∷ [])))

@@ -1,9 +1,10 @@
 //! What a journal and a checkpoint image say, record by record, the one spelling of each record,
 //! and collections that records tell of.
 //!
-//! **What it promises.** `decode` reads a body to the one list of records that it spells, or says
-//! that it spells none (`one_spelling`, `one_list`). `Coded` is what the layers above ask of
-//! collections that images tell of: their items, in an order from which they are loaded again.
+//! **What it promises.** `decode` reads the one record that bytes begin with, and answers what is
+//! behind it, or says that they begin with none; so a body spells one list of records at most
+//! (`one_spelling`, `one_list`). `Coded` is what the layers above ask of collections that images
+//! tell of: their items, in an order from which they are loaded again.
 //!
 //! **Where its argument stands.** The grammar is `record_format` (`specs/Records`), which writes;
 //! `record_reading` reads, and has the laws that each spelling is read back. Here is what ties
@@ -19,10 +20,9 @@ mod coded;
 mod decoding;
 mod sound;
 
-pub use calls::Item;
 pub use coded::Coded;
 pub use decoding::{decode, one_list, one_spelling};
 pub use record_format::{
-    CallRecord, LaterRecord, Record, call_len, encode, encode_call, encoded_len, fits_call,
-    fits_item, fits_reply, is_reached,
+    CallRecord, LaterRecord, Record, call_len, encode, encoded_len, fits_call, fits_item,
+    fits_reply, is_reached, is_short_item, is_short_reply,
 };

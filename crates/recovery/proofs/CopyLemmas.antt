@@ -4,18 +4,20 @@ use Rattle.std.proofs.Common.{◌≡◌, ◌≢◌, ◌⊎◌, inl, inr, ℕ, �
 use Rattle.std.proofs.Common.{List, [], ◌∷◌, ◌++◌, length, map, take, drop, get_or, refl, sym, ◌∙◌}
 use Rattle.std.proofs.Common.{ap, subst, arith, Bool, false, true≢false, Vec, Result, Ok, Err}
 use Rattle.std.proofs.Common.{IfOk, OnOk, min, ◌-◌, All, length-append, drop_of_length-le}
-use Rattle.std.proofs.Common.{add-one}
+use Rattle.std.proofs.Common.{add-one, cond, nat_lt, true}
 use Rattle.std.specs.Result.{is_err}
 use Rattle.std.specs.Prelude.{Contains}
 use Rattle.std.specs.declared.alloc.Global.{Global}
 use Rattle.std.specs.FinMap as maps
 use Rattle.std.specs.List.{AllByRecursion}
-use Rattle.std.proofs.lemmas.Bool.{cases_eq}
+use Rattle.std.proofs.lemmas.Bool.{cases_eq, ltb-false}
 use Rattle.std.proofs.lemmas.List.{append-nil}
 use Rattle.std.proofs.lemmas.List.Elements.{All-get_or}
 use Rattle.std.proofs.Math.Seq.{drop-cons}
+use Rattle.calls.specs.declared.format.Format.{Format}
 use Rattle.calls.specs.declared.refusal.Refusal.{Refusal}
-use Rattle.calls.specs.Contents.{Collection}
+use Rattle.calls.specs.Formats.{max_area, Allows}
+use Rattle.calls.specs.Contents.{Content, InMap, Collection}
 use Rattle.calls.specs.Transactions.{Leads}
 use Rattle.disk_model.specs.Disk.{Torn, IsAtRest, LeavesOnly, ReadsOnly}
 use Rattle.disk_model.proofs.Walk.{started, and_then, weaker, leaves_now}
@@ -29,12 +31,11 @@ use Rattle.catalog.specs.Places.{IsWithin}
 use Rattle.catalog.specs.Meaning.{catalog_meaning, catalog_making}
 use Rattle.record_format.specs.declared.record.Record.{Record}
 use Rattle.record_format.specs.Records.{spelling}
-use Rattle.record_format.specs.Short.{AreShort}
+use Rattle.record_format.specs.Short.{HoldsShort, AreShort}
 use Rattle.records.specs.Images.{IsImage}
 use Rattle.machine.specs.Machines.{resting, IsUpheld}
 use Rattle.machine.specs.Sound.{IsSound as IsSoundState}
 use Rattle.machine.proofs.LiveNumbers.{nobody}
-use Rattle.machine.proofs.Steps as steps
 use Rattle.blocks.specs.Packings.{joined, AreWhole}
 use Rattle.blocks.specs.Wholes.{IsWhole, body_of}
 use Rattle.blocks.specs.declared.block.Image.{Image}
@@ -45,13 +46,14 @@ use Rattle.checkpoint.specs.Imaging.{IsTooLong, IsBeingLaid, bodies_of, left_of}
 use Rattle.checkpoint.specs.ImageAnswers.{IsOneFewer}
 use Rattle.checkpoint.proofs.Blocks.{bytes_in, length-whole}
 use Rattle.checkpoint.proofs.GroupLemmas.{whole_bodies}
-use Rattle.repetition.specs.Journals.{Holds, StandsFor, records_in}
+use Rattle.repetition.specs.Journals.{IsHeader, Holds, StandsFor, records_in}
+use Rattle.gate_block.specs.Layout.{area_in_use}
 use Rattle.repetition.specs.Steps.{State}
 use Rattle.repetition.specs.Reading.{Named, Progress, Unread, InCollections, InJournal, Closes}
 use Rattle.repetition.specs.Reading.{Reads, AreAccepted, IsSound, Settles}
-use Rattle.repetition.proofs.CatalogLaws.{laws}
 use Rattle.repetition.proofs.Lists.{leads_append}
-use Rattle.repetition.proofs.Grammar.{records_spelt}
+use Rattle.repetition.proofs.Formats.{allows_self, value_later}
+use Rattle.repetition.proofs.OneFormat.{accepted_on, accepted_holds, repeats_format}
 use Rattle.repetition.proofs.Contents.{content_behind}
 use Rattle.undoing.specs.Undoing.{Undo, IsUndoRecord}
 use Rattle.undoing.proofs.UndoRecords.{undo_acts}
@@ -59,7 +61,7 @@ use Rattle.recovery.specs.Heads.{HasNoHeader}
 use Rattle.recovery.specs.Formats.{IsRoomFor, IsHeadOf, IsMaking, IsShut}
 use Rattle.recovery.specs.Openings.{IsRead, IsFindRefusal}
 use Rattle.recovery.specs.Copies.{IsFilledWith, IsStoreOf, IsImageOf, SpellsImageOf, IsCopyOf}
-use Rattle.recovery.specs.Copies.{IsTooLarge, IsCopyAnswer}
+use Rattle.recovery.specs.Copies.{IsTooLarge, IsCopyAnswer, SpellsCopyOf, copied_as}
 use Rattle.recovery.specs.Finding.{IsStored}
 use Rattle.recovery.specs.Surveys.{image_len}
 use Rattle.recovery.proofs.ImageItems.{told_reads}
@@ -76,21 +78,17 @@ none_in (x ∷ xs) none = absurd (none x (0, omega arith, refl))
 
 -- it shows no number and no call
 pub rested_image : (next : ℕ) (s : State) (rs : List Record) → TellsState (λ v. v) next s rs →
-    IsUpheld catalog_meaning catalog_making AreShort
-    (IsSoundState catalog_meaning catalog_making) s → s.live ≡ maps.empty →
-    IsImage next s.wear s.now [] [] rs
-rested_image next s rs tells upheld idle =
-    let sound = upheld.holds in
-    let none : s.entries ≡ [] =
-    (steps.none_live catalog_meaning catalog_making laws.rules s sound sound.content idle
-    sound.settled).0 in
+    s.entries ≡ [] → s.live ≡ maps.empty →
+    IsImage s.format next s.wear s.now [] [] rs
+rested_image next s rs tells none idle =
     let quiet : live_records s ≡ [] =
     ap (λ es. live_records (record s { entries = es })) none in
     let nobody_there : tells.numbers ≡ [] =
     none_in tells.numbers (λ n held.
     nobody n (subst (λ m. Lives m n) idle ((tells.are_live n).0 held))) in
-    subst (λ l. IsImage next s.wear s.now [] l rs) quiet
-    (subst (λ ns. IsImage next s.wear s.now ns (live_records s) rs) nobody_there tells.is_image)
+    subst (λ l. IsImage s.format next s.wear s.now [] l rs) quiet
+    (subst (λ ns. IsImage s.format next s.wear s.now ns (live_records s) rs) nobody_there
+    tells.is_image)
 
 -- its end leads to the journal
 ends : (next : ℕ) (s t : State) (last : Option Named) → Closes s last t → Settles t →
@@ -99,62 +97,81 @@ ends next s t None closes settles = (t, closes, (settles, refl))
 ends next s t (Some x) closes settles = (t, closes, (settles, refl))
 
 -- it is read, and leads to the state
-pub image_accepted : (next wear : ℕ) (xs : List Collection) (rs : List Record) →
-    IsImage next wear xs [] [] rs → AreNamed xs → AreDistinct (names_of xs) →
+pub image_accepted : (f : Format) (next wear : ℕ) (xs : List Collection) (rs : List Record) →
+    IsImage f next wear xs [] [] rs → AreShort f xs → AreNamed xs → AreDistinct (names_of xs) →
     length (names_of xs) ≤ 256 → IsWithin xs wear → wear ≤ 2 ^ 61 + 65536 →
-    AreAccepted rs next (resting xs wear) 0
-image_accepted next wear xs rs image good distinct few within worn =
-    let telling = told_reads next wear xs image.told image.tells good distinct few within in
-    let p : Progress = InCollections next (resting [] wear) None in
+    AreAccepted f rs next (resting f xs wear) 0
+image_accepted f next wear xs rs image short good distinct few within worn =
+    let telling = told_reads f next wear xs image.told image.tells short good distinct few within in
+    let p : Progress = InCollections next (resting f [] wear) None in
     let there : Progress = InCollections next telling.state telling.last in
-    let goal : Progress = InJournal next (resting xs wear) 0 in
-    subst (λ l. Leads Reads l Unread goal) (sym image.is) (
+    let goal : Progress = InJournal next (resting f xs wear) 0 in
+    subst (λ l. Leads Reads l (Unread f) goal) (sym image.is) (
       p,
-      (worn, refl),
+      (allows_self f, worn, refl),
       leads_append Reads image.told (Record.ImageEnd ∷ []) p there goal telling.leads (
         goal,
-        ends next telling.state (resting xs wear) telling.last telling.closes (xs, refl),
+        ends next telling.state (resting f xs wear) telling.last telling.closes (xs, refl),
         refl,
       ),
     )
 
 -- ---- what an opening finds, as an image
 
--- the machine that was found, with the blocks that are its image
-pub spells : (bytes : List ℕ) (area : Area) (state undone : State) (next count : ℕ)
+-- what is short in a format is so in a later one
+content_later : (f g : Format) → Allows f g → (k : Content) → HoldsShort f k → HoldsShort g k
+content_later f g later (InMap m) short = λ k v there. value_later f g (length v) later
+    (short k v there)
+content_later f g later k short = tt
+
+pub all_later : (f g : Format) → Allows f g → (s : List Collection) → AreShort f s → AreShort g s
+all_later f g later [] short = tt
+all_later f g later (x ∷ s) short =
+    (content_later f g later x.content short.0, all_later f g later s short.1)
+
+-- the machine that was found, in a later format, with the blocks that are its image
+abbrev pub spells : (f : Format) (bytes : List ℕ) (area : Area) (state undone : State)
+    (next count : ℕ)
     (undoing : List Record) (blocks : List (Vec ℕ Global)) →
     IsStored bytes area state next count → Undo state undoing undone →
     AllByRecursion IsUndoRecord undoing →
     IsUpheld catalog_meaning catalog_making AreShort
     (IsSoundState catalog_meaning catalog_making) undone →
-    IsPackedImage (λ v. v) next undone blocks → SpellsImageOf bytes blocks
-spells bytes area state undone next count undoing blocks stored undo marks upheld packed =
+    (later : Allows undone.format f) →
+    IsPackedImage (λ v. v) next (resting f undone.now undone.wear) blocks →
+    SpellsImageOf f bytes blocks
+spells f bytes area state undone next count undoing blocks stored undo marks upheld later packed =
     let read = stored.loaded.is_read in
     let rs : List Record = records_in packed.groups in
-    let is_image : IsImage next undone.wear undone.now [] [] rs =
-    rested_image next undone rs packed.tells upheld undo.over in
+    let is_image : IsImage f next undone.wear undone.now [] [] rs =
+    rested_image next (resting f undone.now undone.wear) rs packed.tells refl refl in
     let named = repeats_named undoing state undone undo.leads
-    (accepted_named (records_in stored.loaded.blocks) next state count read.accepted) in
+    (accepted_named stored.version (records_in stored.loaded.blocks) next state count
+    read.accepted) in
     let worn = upheld.unworn in
     let low : undone.wear ≤ 2 ^ 61 + 65536 = omega (arith, worn) in
     record {
       image = packed.groups;
       is_image_of = record {
+        version = stored.version;
         size = size_of area;
         header = stored.header;
         blocks = stored.loaded.blocks;
         next = next;
         state = state;
         count = count;
-        is_read = subst (λ k. IsRead k (size_of area) bytes stored.loaded.blocks next state count)
+        is_read = subst (λ k. IsRead stored.version k (size_of area) bytes stored.loaded.blocks next
+            state count)
             stored.picks read;
         undoing = undoing;
         undone = undone;
         marks = marks;
         undo = undo;
+        later = subst (λ g. Allows g f) (repeats_format undoing state undone undo.leads) later;
         is_image = is_image;
         good = packed.good;
-        accepted = image_accepted next undone.wear undone.now rs is_image named.0 named.1
+        accepted = image_accepted f next undone.wear undone.now rs is_image
+            (all_later undone.format f later undone.now upheld.spells) named.0 named.1
             upheld.few_names upheld.reached low;
         packed = packed.packed.0;
         not_empty = packed.packed.1;
@@ -176,37 +193,51 @@ some_blocks next s blocks packed none =
     let is = packed.tells.is_image.is in
     absurd (omega (arith, ap length (sym (ap joined groups) ∙ is)))
 
+-- ---- the format of a copy
+
+pub copied_later : (f : Format) (area : ℕ) → Allows f (copied_as f area)
+copied_later Format.One area = tt
+copied_later Format.Two area = tt
+
+fits_as : (b : Bool) (area : ℕ) → (b ≡ false → area ≤ max_area Format.One) → area ≤ 2 ^ 36 →
+    area ≤ max_area (cond b Format.Two Format.One)
+fits_as true area small large = large
+fits_as false area small large = small refl
+
+pub copied_fits : (f : Format) (area : ℕ) → area ≤ 2 ^ 36 → area ≤ max_area (copied_as f area)
+copied_fits Format.Two area large = large
+copied_fits Format.One area large =
+    fits_as (nat_lt (max_area Format.One) area) area
+    (λ small. ltb-false (max_area Format.One) area small) large
+
 -- ---- the store that holds it
 
 -- what a store stands for is what its records lead to, once all that was live is undone
-old_content : (old : List ℕ) (image : List (List Record)) (of : IsImageOf old image)
+old_content : (f : Format) (old : List ℕ) (image : List (List Record)) (of : IsImageOf f old image)
     (content : List Collection) → StandsFor old content → of.undone.now ≡ content
-old_content old image of content stood =
-    let holds : Holds old of.blocks = record {
-      size = of.size;
-      header = of.header;
-      row = of.is_read.row_is;
-      spelt = records_spelt None (records_in of.blocks) of.is_read.good;
-    } in
-    content_behind (records_in of.blocks) of.next of.state of.count of.is_read.accepted of.undoing
+old_content f old image of content stood =
+    let holds : Holds old of.blocks =
+    accepted_holds of.version of.size old of.blocks of.next of.state of.count of.header
+    of.is_read.row_is of.is_read.good of.is_read.accepted in
+    content_behind of.version (records_in of.blocks) of.next of.state of.count of.is_read.accepted
+    of.undoing
     of.undone of.undo.leads of.undo.over (undo_acts of.undoing of.marks) old content stood
     (ap records_in (one_held old of.blocks stood.blocks holds stood.holds))
 
-module _ (old : List ℕ) (area : ℕ) (image : List (List Record)) (of : IsImageOf old image)
-    (bytes : List ℕ) (store : IsStoreOf area (map spelling image) bytes) where
+module _ (f : Format) (old : List ℕ) (image : List (List Record)) (of : IsImageOf f old image)
+    (version : Format) (allowed : Allows version f) (size : ℕ)
+    (bytes : List ℕ) (header : IsHeader version size bytes)
+    (row_is : IsRow (map spelling image) (area_in_use size bytes)) where
   abbrev rested : State
-  rested = resting of.undone.now of.undone.wear
+  rested = resting f of.undone.now of.undone.wear
 
-  holds : Holds bytes image
-  holds = record {
-    size = area;
-    header = store.header;
-    row = subst (λ b. IsRow (map spelling image) (part b area bytes))
-        (sym (picks_first area bytes store.root)) store.row_is;
-    spelt = records_spelt None (records_in image) of.good;
-  }
+  pub there : AreAccepted version (records_in image) of.next rested 0
+  there = accepted_on f version (records_in image) of.next rested 0 of.accepted of.good allowed
 
-  sound : IsSound bytes
+  abbrev holds : Holds bytes image
+  holds = accepted_holds version size bytes image of.next rested 0 header row_is of.good there
+
+  abbrev pub sound : IsSound bytes
   sound = record {
     blocks = image;
     holds = holds;
@@ -214,41 +245,50 @@ module _ (old : List ℕ) (area : ℕ) (image : List (List Record)) (of : IsImag
     next = of.next;
     end = rested;
     count = 0;
-    accepted = of.accepted;
+    accepted = there;
   }
 
   -- so does the one that holds the image alone
   is_there : (other : List Collection) → StandsFor bytes other → of.undone.now ≡ other
   is_there other stands =
-      content_behind (records_in image) of.next rested 0 of.accepted [] rested refl refl refl bytes
+      content_behind version (records_in image) of.next rested 0 there [] rested refl refl refl
+      bytes
       other stands (ap records_in (one_held bytes image stands.blocks holds stands.holds))
 
-  stands : (content : List Collection) → StandsFor old content → StandsFor bytes content
+  pub stands : (content : List Collection) → StandsFor old content → StandsFor bytes content
   stands content stood =
       let one = stands_for_one bytes sound in
-      subst (StandsFor bytes) (sym (is_there one.0 one.1) ∙ old_content old image of content stood)
+      subst (StandsFor bytes) (sym (is_there one.0 one.1) ∙
+      old_content f old image of content stood)
       one.1
 
-  copy_of : IsCopyOf old area bytes
-  copy_of = record {
-    image = image;
-    is_image_of = of;
-    is_store = store;
-    sound = sound;
-    stands = stands;
-  }
-
 -- the blocks that spell it are written
-pub copied : (old : List ℕ) (area : ℕ) (blocks : List (Vec ℕ Global)) (bytes : List ℕ) →
-    SpellsImageOf old blocks → IsStoreOf area (bodies_of blocks) bytes → IsCopyOf old area bytes
-copied old area blocks bytes spelt store =
-    copy_of old area spelt.image spelt.is_image_of bytes
-    (subst (λ b. IsStoreOf area b bytes) (whole_bodies blocks spelt.image spelt.whole) store)
+pub copied : (f : Format) (old : List ℕ) (area : ℕ) (blocks : List (Vec ℕ Global))
+    (bytes : List ℕ) → SpellsCopyOf f old area blocks → IsStoreOf f area (bodies_of blocks) bytes →
+    IsCopyOf old area bytes
+copied f old area blocks bytes spelt store =
+    let image = spelt.spells.image in
+    let is : IsStoreOf f area (map spelling image) bytes =
+    subst (λ b. IsStoreOf f area b bytes) (whole_bodies blocks image spelt.spells.whole) store in
+    let row : IsRow (map spelling image) (area_in_use area bytes) =
+    subst (λ b. IsRow (map spelling image) (part b area bytes))
+    (sym (picks_first area bytes is.root)) is.row_is in
+    record {
+      format = f;
+      image = image;
+      is_image_of = spelt.spells.is_image_of;
+      format_is = spelt.format_is;
+      is_store = is;
+      sound = sound f old image spelt.spells.is_image_of f (allows_self f) area bytes is.header row;
+      stands = stands f old image spelt.spells.is_image_of f (allows_self f) area bytes is.header
+          row;
+    }
 
 -- they need more room than there is
-pub too_large : (old : List ℕ) (area : ℕ) (blocks : List (Vec ℕ Global)) →
-    SpellsImageOf old blocks → IsTooLong area blocks → IsTooLarge old area
-too_large old area blocks spelt long = record {
+pub too_large : (f : Format) (old : List ℕ) (area : ℕ) (blocks : List (Vec ℕ Global)) →
+    SpellsImageOf f old blocks → IsTooLong area blocks → IsTooLarge old area
+too_large f old area blocks spelt long = record {
+  format = f;
   image = spelt.image;
   is_image_of = spelt.is_image_of;
   over = subst (λ b. area < length (row b) + 1) (whole_bodies blocks spelt.image spelt.whole) long;
@@ -257,22 +297,22 @@ too_large old area blocks spelt long = record {
 -- ---- the gate of the head
 
 -- behind its open gate, what was filled is a store
-pub store_there : (area : ℕ) (bodies : List (List ℕ)) (old new : List ℕ) →
-    IsRoomFor area (length old) → IsFilledWith area bodies old → Torn 8 1 old new →
-    get_or new 8 0 ≡ 167 → IsStoreOf area bodies new
-store_there area bodies old new room filled torn opened = record {
-  header = header_there area old new room filled.head torn opened;
-  root = root_there area old new room filled.head torn;
+pub store_there : (version : Format) (area : ℕ) (bodies : List (List ℕ)) (old new : List ℕ) →
+    IsRoomFor version area (length old) → IsFilledWith version area bodies old → Torn 8 1 old new →
+    get_or new 8 0 ≡ 167 → IsStoreOf version area bodies new
+store_there version area bodies old new room filled torn opened = record {
+  header = header_there version area old new room filled.head torn opened;
+  root = root_there version area old new room filled.head torn;
   row_is = subst (λ l. IsRow bodies (take area l))
       (sym (rest_kept 4096 8 1 old new (omega arith) torn)) filled.row_is;
 }
 
-pub store_or_no_store : (area : ℕ) (bodies : List (List ℕ)) (old new : List ℕ) →
-    IsRoomFor area (length old) → IsFilledWith area bodies old → Torn 8 1 old new →
-    HasNoHeader new ⊎ IsStoreOf area bodies new
-store_or_no_store area bodies old new room filled torn =
+pub store_or_no_store : (version : Format) (area : ℕ) (bodies : List (List ℕ)) (old new : List ℕ) →
+    IsRoomFor version area (length old) → IsFilledWith version area bodies old → Torn 8 1 old new →
+    HasNoHeader new ⊎ IsStoreOf version area bodies new
+store_or_no_store version area bodies old new room filled torn =
     elim (cases_eq (get_or new 8 0) 167) [
-      | inl opened ↦ inr (store_there area bodies old new room filled torn opened)
+      | inl opened ↦ inr (store_there version area bodies old new room filled torn opened)
       | inr closed ↦ inl (shut new closed)
     ]
 
@@ -316,7 +356,8 @@ module _ {D : Type 0} (seen : D → List ℕ) (may_leave : D → List ℕ → Ty
       ((c : List ℕ) → may_leave old c → IsShut c) → LeavesOnly moment left_since old new IsShut
   stop_on w v old mid new behind so_far counts_now step now =
       let run = so_far.stop now in
-      and_then moment left_since old mid new IsShut (LeavesElsewhere (may_leave mid) v.area) run step
+      and_then moment left_since old mid new IsShut (LeavesElsewhere (may_leave mid) v.area) run
+      step
       (λ c left. byte_same (base_of v.area) (size_of v.area) 8 left.0 c
       (omega (arith, behind, so_far.base)) left.2
       ∙ leaves_now moment left_since old mid IsShut (may_leave mid) run counts_now left.0 left.1)
@@ -398,19 +439,19 @@ none_yet area image bytes position = record {
   all = refl;
 }
 
-some_bodies : (bs : List (Vec ℕ Global)) → bs ≢ [] → bodies_of bs ≢ []
+pub some_bodies : (bs : List (Vec ℕ Global)) → bs ≢ [] → bodies_of bs ≢ []
 some_bodies [] some none = some refl
 some_bodies (b ∷ bs) some none = absurd (omega (arith, ap length none))
 
 -- all are laid, and the head is written
-pub filled_with : (area : Area) (size : ℕ) (image : Image) (mid new : List ℕ) →
+pub filled_with : (version : Format) (area : Area) (size : ℕ) (image : Image) (mid new : List ℕ) →
     base_of area ≡ 4096 → size_of area ≡ size → position_of area ≡ 0 →
     image.blocks.items ≢ [] → (bytes : List ℕ) →
     ((bodies : List (List ℕ)) → bodies ≢ [] →
     IsBeingLaid (record { area = area; image = image }) bytes bodies →
-    IsRow bodies (part (base_of area) (size_of area) mid)) → IsHeadOf size new →
-    drop 4096 new ≡ drop 4096 mid → IsFilledWith size (bodies_of image.blocks.items) new
-filled_with area size image mid new base size_is position some bytes laid head behind =
+    IsRow bodies (part (base_of area) (size_of area) mid)) → IsHeadOf version size new →
+    drop 4096 new ≡ drop 4096 mid → IsFilledWith version size (bodies_of image.blocks.items) new
+filled_with version area size image mid new base size_is position some bytes laid head behind =
     let bodies : List (List ℕ) = bodies_of image.blocks.items in
     let row : IsRow bodies (part (base_of area) (size_of area) mid) =
     laid bodies (some_bodies image.blocks.items some) (none_yet area image bytes position) in
@@ -439,19 +480,21 @@ making_weaker P Q old c f (inr (inr made)) = inr (inr (f c made))
 
 -- what is made of the image is a copy, where the old disk read true
 pub making_copy : {D : Type 0} (seen : D → List ℕ) (moment : D → ℕ)
-    (left_since : D → ℕ → List ℕ → Type 0) (is_honest : Type 0) (old : List ℕ) (area : ℕ)
-    (blocks : List (Vec ℕ Global)) (before after : D) → (is_honest → SpellsImageOf old blocks) →
+    (left_since : D → ℕ → List ℕ → Type 0) (is_honest : Type 0) (f : Format) (old : List ℕ)
+    (area : ℕ)
+    (blocks : List (Vec ℕ Global)) (before after : D) →
+    (is_honest → SpellsCopyOf f old area blocks) →
     LeavesOnly moment left_since before after
-    (IsMaking (IsStoreOf area (bodies_of blocks)) (seen before)) →
+    (IsMaking (IsStoreOf f area (bodies_of blocks)) (seen before)) →
     LeavesOnly moment left_since before after
     (IsMaking (λ bytes. is_honest → IsCopyOf old area bytes) (seen before))
-making_copy seen moment left_since is_honest old area blocks before after spelt run =
+making_copy seen moment left_since is_honest f old area blocks before after spelt run =
     weaker moment left_since before after
-    (IsMaking (IsStoreOf area (bodies_of blocks)) (seen before))
+    (IsMaking (IsStoreOf f area (bodies_of blocks)) (seen before))
     (IsMaking (λ bytes. is_honest → IsCopyOf old area bytes) (seen before)) run
-    (λ c made. making_weaker (IsStoreOf area (bodies_of blocks))
+    (λ c made. making_weaker (IsStoreOf f area (bodies_of blocks))
     (λ bytes. is_honest → IsCopyOf old area bytes) (seen before) c
-    (λ bytes store true_read. copied old area blocks bytes (spelt true_read) store) made)
+    (λ bytes store true_read. copied f old area blocks bytes (spelt true_read) store) made)
 
 -- a disk that nobody touched
 pub unread : {D : Type 0} (seen : D → List ℕ) (may_leave : D → List ℕ → Type 0) (moment : D → ℕ)

@@ -1,12 +1,15 @@
 -- What the writes of a format leave.
 use Rattle.std.proofs.Common.{◌≡◌, ◌≢◌, ◌⊎◌, inl, inr, ℕ, ◌+◌, ◌-◌, ◌*◌, ◌%◌, ◌≤◌, List, [], ◌∷◌}
-use Rattle.std.proofs.Common.{◌++◌, length, take, drop, get_or, codes, refl, sym, ◌∙◌, ap, subst}
+use Rattle.std.proofs.Common.{◌++◌, length, take, drop, get_or, refl, sym, ◌∙◌, ap, subst}
 use Rattle.std.proofs.Common.{arith, append_assoc}
 use Rattle.std.specs.Prelude.{Result, Ok, Err, IsErr, OnOk, None}
 use Rattle.std.specs.Int.{w64, to_be_bytes}
 use Rattle.std.proofs.lemmas.List.{take-append-drop, take-take, drop-take, drop-drop, get_or-drop}
 use Rattle.std.proofs.lemmas.List.{get_or-take}
 use Rattle.std.proofs.lemmas.Bool.{cases_eq}
+use Rattle.calls.specs.declared.format.Format.{Format}
+use Rattle.calls.specs.declared.refusal.Refusal.{Refusal}
+use Rattle.calls.specs.Formats.{number_of}
 use Rattle.disk_model.specs.Disk.{Overwritten, Torn, IsAtRest, LeavesOnly, WasTorn, Follows}
 use Rattle.disk_model.specs.Disk.{Elapses, HasCause}
 use Rattle.disk_model.specs.declared.disk.Fault.{Fault}
@@ -17,13 +20,15 @@ use Rattle.gate_block.specs.Row.{IsRow, part, row}
 use Rattle.gate_block.proofs.Parts.{written_there}
 use Rattle.record_format.specs.declared.record.Record.{Record}
 use Rattle.record_format.specs.Records.{spelling, number, AreRecords}
-use Rattle.repetition.specs.Journals.{Holds, IsHeader}
+use Rattle.record_format.specs.Records.{marks_tag}
+use Rattle.repetition.specs.Journals.{letters_of, Holds, IsHeader}
+use Rattle.repetition.proofs.Formats.{allows_self}
 use Rattle.gate_block.specs.Layout.{base_in_use, area_in_use}
 use Rattle.repetition.specs.Steps.{empty_state}
 use Rattle.repetition.specs.Reading.{InCollections, InJournal, AreAccepted}
 use Rattle.recovery.specs.Heads.{HasNoHeader}
 use Rattle.recovery.specs.Formats.{empty_area, IsHeadOf, IsFilled, IsEmptyStore, IsRoomFor}
-use Rattle.recovery.specs.Formats.{IsMaking, IsShut}
+use Rattle.recovery.specs.Formats.{IsMaking, IsShut, IsFormatAnswer}
 
 -- ---- parts that a write leaves
 
@@ -65,14 +70,23 @@ byte_kept n at k old new apart torn =
     one_byte n old
 
 -- the image of nothing as a block, byte by byte
-pub empty_image : 167 ∷ 0 ∷ 0 ∷ 0 ∷ 18 ∷ 11 ∷ 0 ∷ 0 ∷ 0 ∷ 0 ∷ 0 ∷ 0 ∷ 0 ∷ 1 ∷ 0 ∷ 0 ∷ 0 ∷ 0 ∷ 0 ∷
-    0 ∷ 0 ∷ 0 ∷ 12 ∷ 0 ∷ [] ≡ empty_area
+pub empty_image : (f : Format) →
+    167 ∷ 0 ∷ 0 ∷ 0 ∷ 18 ∷ marks_tag f ∷ 0 ∷ 0 ∷ 0 ∷ 0 ∷ 0 ∷ 0 ∷ 0 ∷ 1 ∷ 0 ∷ 0 ∷ 0 ∷ 0 ∷ 0 ∷
+    0 ∷ 0 ∷ 0 ∷ 12 ∷ 0 ∷ [] ≡ empty_area f
 unfolding number
-empty_image = refl
+empty_image Format.One = refl
+empty_image Format.Two = refl
 
-image_length : length (spelling (Record.Marks 1 0 ∷ (Record.ImageEnd ∷ []))) ≡ 18
+pub area_length : (f : Format) → length (empty_area f) ≡ 24
 unfolding number
-image_length = refl
+area_length Format.One = refl
+area_length Format.Two = refl
+
+image_length : (f : Format) →
+    length (spelling (Record.Marks f 1 0 ∷ (Record.ImageEnd ∷ []))) ≡ 18
+unfolding number
+image_length Format.One = refl
+image_length Format.Two = refl
 
 -- what a write does not meet stays
 pub rest_kept : (n at k : ℕ) (old new : List ℕ) → at + k ≤ n → Torn at k old new →
@@ -90,7 +104,15 @@ there at n bytes old new long inside is =
 
 -- ---- the three writes of the head
 
-module _ (area : ℕ) (letters said root : List ℕ) (b c d e : List ℕ) (room : 4096 ≤ length b)
+pub letters_long : (f : Format) (letters : List ℕ) → letters ≡ letters_of f → length letters ≡ 8
+letters_long Format.One letters is = ap length is
+letters_long Format.Two letters is = ap length is
+
+pub letters_short : (f : Format) (letters : List ℕ) → letters ≡ letters_of f → length letters ≤ 8
+letters_short f letters is = omega (arith, letters_long f letters is)
+
+module _ (version : Format) (area : ℕ) (letters said root : List ℕ) (b c d e : List ℕ)
+    (room : 4096 ≤ length b)
     (letters_long : length letters ≡ 8) (said_long : length said ≡ 8) (root_is : root ≡ 0 ∷ [])
     (second : Overwritten 512 root b c) (third : Overwritten 0 letters c d)
     (fourth : Overwritten 9 said d e) where
@@ -110,7 +132,8 @@ module _ (area : ℕ) (letters said root : List ℕ) (b c d e : List ℕ) (room 
       (overwritten_torn 9 said d e
       (omega (arith, room, said_long, torn_second.size, torn_third.size)) fourth)
 
-  pub head_written : letters ≡ codes "BOOSTED1" → said ≡ to_be_bytes w64 area → IsHeadOf area e
+  pub head_written : letters ≡ letters_of version → said ≡ to_be_bytes w64 area →
+      IsHeadOf version area e
   head_written letters_are said_is = record {
     letters = kept_part 0 8 9 8 d e (inl (omega arith)) torn_fourth ∙
         there 0 8 letters c d letters_long (omega arith) third ∙ letters_are;
@@ -128,10 +151,11 @@ module _ (area : ℕ) (letters said root : List ℕ) (b c d e : List ℕ) (room 
       rest_kept 4096 512 1 b c (omega arith) torn_second
 
 -- the head and the image of nothing
-pub filled : (area : ℕ) (image a b e : List ℕ) → 4120 ≤ length a → length image ≡ 24 →
-    Overwritten 4096 image a b → image ≡ empty_area → IsHeadOf area e →
-    drop 4096 e ≡ drop 4096 b → IsFilled area e
-filled area image a b e room long first image_is head behind = record {
+pub filled : (version : Format) (area : ℕ) (image a b e : List ℕ) → 4120 ≤ length a →
+    length image ≡ 24 →
+    Overwritten 4096 image a b → image ≡ empty_area version → IsHeadOf version area e →
+    drop 4096 e ≡ drop 4096 b → IsFilled version area e
+filled version area image a b e room long first image_is head behind = record {
   head = head;
   image = ap (take 24) behind ∙ there 4096 24 image a b long (omega (arith, room)) first ∙ image_is;
 }
@@ -139,16 +163,17 @@ filled area image a b e room long first image_is head behind = record {
 -- ---- the gate of the head
 
 -- behind its open gate, what was filled is an empty store
-module _ (area : ℕ) (old new : List ℕ) (room : IsRoomFor area (length old))
-    (head : IsHeadOf area old) (torn : Torn 8 1 old new) where
-  head_kept : IsHeadOf area new
+module _ (version : Format) (area : ℕ) (old new : List ℕ)
+    (room : IsRoomFor version area (length old))
+    (head : IsHeadOf version area old) (torn : Torn 8 1 old new) where
+  head_kept : IsHeadOf version area new
   head_kept = record {
     letters = kept_part 0 8 8 1 old new (inl (omega arith)) torn ∙ head.letters;
     area_is = kept_part 9 8 8 1 old new (inr (omega arith)) torn ∙ head.area_is;
     root = kept_part 512 1 8 1 old new (inr (omega arith)) torn ∙ head.root;
   }
 
-  pub header_there : get_or new 8 0 ≡ 167 → IsHeader area new
+  pub header_there : get_or new 8 0 ≡ 167 → IsHeader version area new
   header_there opened = record {
     letters = head_kept.letters;
     gate = opened;
@@ -166,22 +191,25 @@ pub picks_first : (area : ℕ) (bytes : List ℕ) → get_or bytes 512 0 ≡ 0 �
     base_in_use area bytes ≡ 4096
 picks_first area bytes root = ap (λ r. 4096 + area * (r % 2)) root ∙ omega arith
 
-module _ (area : ℕ) (old new : List ℕ) (room : IsRoomFor area (length old))
-    (filled : IsFilled area old) (torn : Torn 8 1 old new) (opened : get_or new 8 0 ≡ 167) where
-  header : IsHeader area new
-  header = header_there area old new room filled.head torn opened
+module _ (version : Format) (area : ℕ) (old new : List ℕ)
+    (room : IsRoomFor version area (length old))
+    (filled : IsFilled version area old) (torn : Torn 8 1 old new)
+    (opened : get_or new 8 0 ≡ 167) where
+  header : IsHeader version area new
+  header = header_there version area old new room filled.head torn opened
 
   in_use : base_in_use area new ≡ 4096
-  in_use = picks_first area new (root_there area old new room filled.head torn)
+  in_use = picks_first area new (root_there version area old new room filled.head torn)
 
-  image_there : take 24 (part 4096 area new) ≡ empty_area
+  image_there : take 24 (part 4096 area new) ≡ empty_area version
   image_there = take-take 24 area (drop 4096 new) (omega (arith, room.not_small)) ∙
       kept_part 4096 24 8 1 old new (inr (omega arith)) torn ∙ filled.image
 
-  row_there : IsRow (spelling (Record.Marks 1 0 ∷ (Record.ImageEnd ∷ [])) ∷ [])
+  row_there : IsRow (spelling (Record.Marks version 1 0 ∷ (Record.ImageEnd ∷ [])) ∷ [])
       (area_in_use area new)
   row_there =
-      let bodies : List (List ℕ) = spelling (Record.Marks 1 0 ∷ (Record.ImageEnd ∷ [])) ∷ [] in
+      let bodies : List (List ℕ) = spelling (Record.Marks version 1 0 ∷ (Record.ImageEnd ∷ [])) ∷
+      [] in
       let at : area_in_use area new ≡ part 4096 area new = ap (λ b. part b area new) in_use in
       record {
         gate = 0;
@@ -192,14 +220,14 @@ module _ (area : ℕ) (old new : List ℕ) (room : IsRoomFor area (length old))
         closed = omega arith;
         all_fit = (
           record {
-            not_empty = omega (arith, image_length);
-            short = omega (arith, image_length);
+            not_empty = omega (arith, image_length version);
+            short = omega (arith, image_length version);
           },
           tt,
         );
       }
 
-  good : AreRecords None (Record.Marks 1 0 ∷ (Record.ImageEnd ∷ []))
+  good : AreRecords None (Record.Marks version 1 0 ∷ (Record.ImageEnd ∷ []))
   good = (
     record {
       fits = (omega arith, omega arith);
@@ -209,27 +237,34 @@ module _ (area : ℕ) (old new : List ℕ) (room : IsRoomFor area (length old))
     (record { fits = tt; suits = tt; sound = tt }, tt),
   )
 
-  empty_accepted : AreAccepted (Record.Marks 1 0 ∷ (Record.ImageEnd ∷ [])) 1 empty_state 0
+  empty_accepted : AreAccepted version (Record.Marks version 1 0 ∷ (Record.ImageEnd ∷ [])) 1
+      (empty_state version) 0
   empty_accepted = (
-    InCollections 1 empty_state None,
-    (omega arith, refl),
-    (InJournal 1 empty_state 0, (empty_state, refl, (([], refl), refl)), refl),
+    InCollections 1 (empty_state version) None,
+    (allows_self version, omega arith, refl),
+    (InJournal 1 (empty_state version) 0, (empty_state version, refl, (([], refl), refl)), refl),
   )
 
-  pub empty_store : IsEmptyStore new
+  abbrev holds : Holds new ((Record.Marks version 1 0 ∷ (Record.ImageEnd ∷ [])) ∷ [])
+  holds = record {
+    version = version;
+    size = area;
+    header = header;
+    format = version;
+    allowed = allows_self version;
+    row = row_there;
+    spelt = ((good.0.fits, good.0.suits), ((good.1.0.fits, good.1.0.suits), tt));
+    of_format = (refl, (tt, tt));
+  }
+
+  pub empty_store : IsEmptyStore version new
   empty_store =
-      let blocks : List (List Record) = (Record.Marks 1 0 ∷ (Record.ImageEnd ∷ [])) ∷ [] in
-      let holds : Holds new blocks = record {
-        size = area;
-        header = header;
-        row = row_there;
-        spelt = ((good.0.fits, good.0.suits), ((good.1.0.fits, good.1.0.suits), tt));
-      } in
+      let blocks : List (List Record) = (Record.Marks version 1 0 ∷ (Record.ImageEnd ∷ [])) ∷ [] in
       record {
         area = area;
         header = header;
         filled = record {
-          head = head_kept area old new room filled.head torn;
+          head = head_kept version area old new room filled.head torn;
           image = kept_part 4096 24 8 1 old new (inr (omega arith)) torn ∙ filled.image;
         };
         sound = record {
@@ -237,14 +272,14 @@ module _ (area : ℕ) (old new : List ℕ) (room : IsRoomFor area (length old))
           holds = holds;
           good = good;
           next = 1;
-          end = empty_state;
+          end = empty_state version;
           count = 0;
           accepted = empty_accepted;
         };
         stands = record {
           blocks = blocks;
           holds = holds;
-          image = Record.Marks 1 0 ∷ (Record.ImageEnd ∷ []);
+          image = Record.Marks version 1 0 ∷ (Record.ImageEnd ∷ []);
           journal = [];
           split = refl;
           all_journal = tt;
@@ -266,8 +301,9 @@ pub shut_at_rest : {D : Type 0} (seen : D → List ℕ) (may_leave : D → List 
     get_or c 8 0 ≡ 0
 shut_at_rest seen may_leave disk rest closed c left = ap (λ l. get_or l 8 0) (rest c left) ∙ closed
 
-pub still_room : (area a b c : ℕ) → IsRoomFor area a → b ≡ a → c ≡ b → IsRoomFor area c
-still_room area a b c room first second =
+pub still_room : (version : Format) (area a b c : ℕ) → IsRoomFor version area a → b ≡ a → c ≡ b →
+    IsRoomFor version area c
+still_room version area a b c room first second =
     record {
       not_small = room.not_small;
       not_large = room.not_large;
@@ -276,14 +312,15 @@ still_room area a b c room first second =
 
 -- a closed gate leaves no store
 pub shut : (bytes : List ℕ) → get_or bytes 8 0 ≢ 167 → HasNoHeader bytes
-shut bytes closed size header = closed header.gate
+shut bytes closed version size header = closed header.gate
 
 -- with any value for its gate, what was filled is an empty store or none
-pub store_or_none : (area : ℕ) (old new : List ℕ) → IsRoomFor area (length old) → IsFilled area old →
-    Torn 8 1 old new → HasNoHeader new ⊎ IsEmptyStore new
-store_or_none area old new room filled torn =
+pub store_or_none : (version : Format) (area : ℕ) (old new : List ℕ) →
+    IsRoomFor version area (length old) → IsFilled version area old →
+    Torn 8 1 old new → HasNoHeader new ⊎ IsEmptyStore version new
+store_or_none version area old new room filled torn =
     elim (cases_eq (get_or new 8 0) 167) [
-      | inl opened ↦ inr (empty_store area old new room filled torn opened)
+      | inl opened ↦ inr (empty_store version area old new room filled torn opened)
       | inr closed ↦ inl (shut new closed)
     ]
 
@@ -345,8 +382,9 @@ module _ {D : Type 0} (may_leave : D → List ℕ → Type 0) (moment : D → �
   past mid new at k so_far apart wrote =
       shut_past_write may_leave moment left_since old mid new at k so_far apart wrote.0 wrote.1
 
-  pub past_image : (one : D) → Wrote 4096 24 old one → StaysShut may_leave moment left_since old one
-  past_image one image = past old one 4096 24
+  pub past_image : (one : D) (n : ℕ) → Wrote 4096 n old one →
+      StaysShut may_leave moment left_since old one
+  past_image one n image = past old one 4096 n
       (stays_shut may_leave moment left_since old only_now now) (inl (omega arith)) image
 
   module _ (two : D) (root : Wrote 512 1 old two) where
@@ -354,9 +392,9 @@ module _ {D : Type 0} (may_leave : D → List ℕ → Type 0) (moment : D → �
     past_root = past old two 512 1 (stays_shut may_leave moment left_since old only_now now)
         (inl (omega arith)) root
 
-    module _ (three : D) (letters : Wrote 0 8 two three) where
+    module _ (three : D) (n : ℕ) (short : n ≤ 8) (letters : Wrote 0 n two three) where
       pub past_letters : StaysShut may_leave moment left_since old three
-      past_letters = past two three 0 8 past_root (inr (omega arith)) letters
+      past_letters = past two three 0 n past_root (inr (omega (arith, short))) letters
 
       pub past_area : (four : D) (k : ℕ) → Wrote 9 k three four →
           StaysShut may_leave moment left_since old four
@@ -419,3 +457,18 @@ caused first before now r told early same cause = record {
   later = omega (arith, early, cause.later);
   risen = λ err. rises_before first before now early cause.later (cause.risen (same err));
 }
+
+-- ---- a version by its number
+
+pub one_number : (f g : Format) → number_of f ≡ number_of g → f ≡ g
+one_number Format.One Format.One e = refl
+one_number Format.Two Format.Two e = refl
+one_number Format.One Format.Two e = absurd (omega (arith, e))
+one_number Format.Two Format.One e = absurd (omega (arith, e))
+
+pub answer_as : (P Q risen : Type 0) (r : Result (Unit {0}) Refusal) → (P → Q) → (Q → P) →
+    IsFormatAnswer P risen r → IsFormatAnswer Q risen r
+answer_as P Q risen (Ok done) f h a = f a
+answer_as P Q risen (Err Refusal.BadArg) f h a = λ q. a (h q)
+answer_as P Q risen (Err Refusal.Fault) f h a = (f a.0, a.1)
+answer_as P Q risen (Err e) f h a = absurd a

@@ -5,6 +5,7 @@ use Rattle.std.proofs.Common.{append_assoc}
 use Rattle.std.specs.List.{AllByRecursion}
 use Rattle.std.proofs.lemmas.List.{length-map}
 use Rattle.std.proofs.lemmas.Option.{slice_get_within, slice_get_read}
+use Rattle.calls.specs.declared.format.Format.{Format}
 use Rattle.calls.specs.declared.kind.Kind.{Kind}
 use Rattle.calls.specs.declared.item.Item.{Item}
 use Rattle.calls.specs.Contents.{Collection}
@@ -18,12 +19,13 @@ use Rattle.catalog.proofs.Orders.{listed_in_order, first_is_item, in_order_rise,
 use Rattle.record_format.specs.declared.record.Record.{Record}
 use Rattle.records.specs.Images.{TellsOf, TellOf}
 use Rattle.record_format.specs.Reached.{IsReached}
-use Rattle.records.proofs.Items.{items_reached}
+use Rattle.record_format.specs.Short.{IsShortItem, HoldsShort, AreShort}
+use Rattle.records.proofs.Items.{items_reached, content_items}
 use Rattle.machine.specs.Machines.{resting}
 use Rattle.repetition.specs.Steps.{State}
 use Rattle.repetition.specs.Reading.{Named, Progress, InCollections, Closes, Reads}
 use Rattle.repetition.proofs.Lists.{leads_append}
-use Rattle.boosted.proofs.Each.{each_front, each_back}
+use Rattle.boosted.proofs.Each.{each_front, each_back, weaker}
 
 -- ---- items in order
 
@@ -51,20 +53,21 @@ abbrev named : List ℕ → Kind → List Item → Named
 named name kind items = record { name = name; kind = kind; items = items }
 
 items_read : (next : ℕ) (s : State) (name : List ℕ) (kind : Kind) (done todo : List Item) →
-    AreInOrder kind (done ++ todo) → AllByRecursion (IsReached s.wear) todo →
+    AreInOrder kind (done ++ todo) → AllByRecursion (IsShortItem s.format) todo →
+    AllByRecursion (IsReached s.wear) todo →
     Leads Reads (map Record.Item todo) (InCollections next s (Some (named name kind done)))
     (InCollections next s (Some (named name kind (done ++ todo))))
-items_read next s name kind done [] order reached =
+items_read next s name kind done [] order short reached =
     ap (λ l. InCollections next s (Some (named name kind l))) (sym (append-nil done))
-items_read next s name kind done (i ∷ todo) order reached =
+items_read next s name kind done (i ∷ todo) order short reached =
     let assoc = append_assoc done (i ∷ []) todo in (
       InCollections next s (Some (named name kind (done ++ i ∷ []))),
-      (follows_front kind done i todo order, reached.0, refl),
+      (follows_front kind done i todo order, short.0, reached.0, refl),
       subst (λ l. Leads Reads (map Record.Item todo)
           (InCollections next s (Some (named name kind (done ++ i ∷ []))))
           (InCollections next s (Some (named name kind l)))) assoc
           (items_read next s name kind (done ++ i ∷ []) todo
-          (subst (AreInOrder kind) (sym assoc) order) reached.1),
+          (subst (AreInOrder kind) (sym assoc) order) short.1 reached.1),
     )
 
 -- Records lead from there to where this state is reached once the last collection is told whole.
@@ -74,14 +77,15 @@ pub record IsTelling (next : ℕ) (rs : List Record) (p : Progress) (goal : Stat
   pub leads : Leads Reads rs p (InCollections next state last)
   pub closes : Closes state last goal
 
-collection_read : (next wear : ℕ) (ys : List Collection) (x : Collection) (rs : List Record) →
-    TellsOf x rs → IsNew (names_of ys) x.name → Reaches x.content wear →
+collection_read : (f : Format) (next wear : ℕ) (ys : List Collection) (x : Collection)
+    (rs : List Record) →
+    TellsOf x rs → HoldsShort f x.content → IsNew (names_of ys) x.name → Reaches x.content wear →
     IsWithin (ys ++ x ∷ []) wear →
-    (s : State) (last : Option Named) → Closes s last (resting ys wear) →
-    IsTelling next rs (InCollections next s last) (resting (ys ++ x ∷ []) wear)
-collection_read next wear ys x rs tells new reached within s last closes =
+    (s : State) (last : Option Named) → Closes s last (resting f ys wear) →
+    IsTelling next rs (InCollections next s last) (resting f (ys ++ x ∷ []) wear)
+collection_read f next wear ys x rs tells short new reached within s last closes =
     let kind = kind_of_content x.content in
-    let before : State = resting ys wear in
+    let before : State = resting f ys wear in
     record {
       state = before;
       last = Some (named x.name kind tells.items);
@@ -91,6 +95,8 @@ collection_read next wear ys x rs tells new reached within s last closes =
             (before, closes, new, refl),
             items_read next before x.name kind [] tells.items
                 (listed_in_order x.content tells.items tells.lists)
+                (weaker (λ i. IsShortItem f i × IsItemOf kind i) (IsShortItem f) (λ i is. is.0)
+                tells.items (content_items f x.content tells.items short tells.lists))
                 (items_reached wear x.content tells.items tells.lists reached),
           );
       closes = record {
@@ -141,25 +147,30 @@ next_new ys x xs good distinct few = record {
 
 -- ---- all collections
 
-collections_read : (next wear : ℕ) (xs ys : List Collection) (rs : List Record) → TellOf xs rs →
+collections_read : (f : Format) (next wear : ℕ) (xs ys : List Collection) (rs : List Record) →
+    TellOf xs rs →
+    AreShort f (ys ++ xs) →
     AreNamed (ys ++ xs) → AreDistinct (names_of (ys ++ xs)) → length (names_of (ys ++ xs)) ≤ 256 →
     IsWithin (ys ++ xs) wear →
-    (s : State) (last : Option Named) → Closes s last (resting ys wear) →
-    IsTelling next rs (InCollections next s last) (resting (ys ++ xs) wear)
-collections_read next wear [] ys rs tells good distinct few within s last closes = record {
+    (s : State) (last : Option Named) → Closes s last (resting f ys wear) →
+    IsTelling next rs (InCollections next s last) (resting f (ys ++ xs) wear)
+collections_read f next wear [] ys rs tells short good distinct few within s last closes = record {
   state = s;
   last = last;
   leads = subst (λ l. Leads Reads l (InCollections next s last) (InCollections next s last))
       (sym tells) refl;
-  closes = subst (λ l. Closes s last (resting l wear)) (sym (append-nil ys)) closes;
+  closes = subst (λ l. Closes s last (resting f l wear)) (sym (append-nil ys)) closes;
 }
-collections_read next wear (x ∷ xs) ys rs tells good distinct few within s last closes =
+collections_read f next wear (x ∷ xs) ys rs tells short good distinct few within s last closes =
     let assoc : (ys ++ x ∷ []) ++ xs ≡ ys ++ x ∷ xs = append_assoc ys (x ∷ []) xs in
     let each = subst (λ l. IsWithin l wear) (sym assoc) within in
-    let one = collection_read next wear ys x tells.0 tells.3 (next_new ys x xs good distinct few)
+    let one = collection_read f next wear ys x tells.0 tells.3
+    (each_back (λ x. HoldsShort f x.content) ys (x ∷ xs) short).0
+    (next_new ys x xs good distinct few)
     (each_back (λ x. Reaches x.content wear) ys (x ∷ xs) within).0
     (each_front (λ x. Reaches x.content wear) (ys ++ x ∷ []) xs each) s last closes in
-    let more = collections_read next wear xs (ys ++ x ∷ []) tells.1 tells.4
+    let more = collections_read f next wear xs (ys ++ x ∷ []) tells.1 tells.4
+    (subst (AreShort f) (sym assoc) short)
     (subst AreNamed (sym assoc) good)
     (subst (λ l. AreDistinct (names_of l)) (sym assoc) distinct)
     (subst (λ l. length (names_of l) ≤ 256) (sym assoc) few) each one.state one.last
@@ -172,12 +183,14 @@ collections_read next wear (x ∷ xs) ys rs tells good distinct few within s las
           (leads_append Reads tells.0 tells.1 (InCollections next s last)
           (InCollections next one.state one.last) (InCollections next more.state more.last)
           one.leads more.leads);
-      closes = subst (λ l. Closes more.state more.last (resting l wear)) assoc more.closes;
+      closes = subst (λ l. Closes more.state more.last (resting f l wear)) assoc more.closes;
     }
 
 -- From the marks on all collections are read.
-pub told_reads : (next wear : ℕ) (xs : List Collection) (rs : List Record) → TellOf xs rs →
+pub told_reads : (f : Format) (next wear : ℕ) (xs : List Collection) (rs : List Record) →
+    TellOf xs rs → AreShort f xs →
     AreNamed xs → AreDistinct (names_of xs) → length (names_of xs) ≤ 256 → IsWithin xs wear →
-    IsTelling next rs (InCollections next (resting [] wear) None) (resting xs wear)
-told_reads next wear xs rs tells good distinct few within =
-    collections_read next wear xs [] rs tells good distinct few within (resting [] wear) None refl
+    IsTelling next rs (InCollections next (resting f [] wear) None) (resting f xs wear)
+told_reads f next wear xs rs tells short good distinct few within =
+    collections_read f next wear xs [] rs tells short good distinct few within (resting f [] wear)
+    None refl

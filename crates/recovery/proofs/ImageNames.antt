@@ -3,6 +3,7 @@ use Rattle.std.proofs.Common.{◌≡◌, ◌⊎◌, inl, inr, ⊎_elim, ℕ, zer
 use Rattle.std.proofs.Common.{[], ◌∷◌, ◌++◌, length, slice_get, refl, sym, ◌∙◌, ap, subst}
 use Rattle.std.specs.Prelude.{MatchOption}
 use Rattle.std.specs.List.{AllByRecursion}
+use Rattle.calls.specs.declared.format.Format.{Format}
 use Rattle.calls.specs.declared.call.Call.{Call}
 use Rattle.calls.specs.Names.{IsName}
 use Rattle.calls.specs.Contents.{Content, Collection, after_at, does}
@@ -130,7 +131,7 @@ holds_well r s t row well = absurd row
 
 -- So are those of what was read so far.
 abbrev pub IsWell : Progress → Type 0
-IsWell Unread = Unit {0}
+IsWell (Unread version) = Unit {0}
 IsWell (InCollections next s last) = AreWell s.now
 IsWell (InNumbers next s) = AreWell s.now
 IsWell (InCalls next s) = AreWell s.now
@@ -151,11 +152,12 @@ none_well : AreWell []
 none_well = (tt, λ name j k a b. absurd (cc))
 
 pub reads_well : (p : Progress) (r : Record) (q : Progress) → Reads p r q → IsWell p → IsWell q
-reads_well Unread (Record.Marks next wear) q reads well = subst IsWell (sym reads.1) none_well
+reads_well (Unread version) (Record.Marks format next wear) q reads well =
+    subst IsWell (sym reads.2) none_well
 reads_well (InCollections next s last) (Record.Name kind name) q reads well =
     subst IsWell (sym reads.3) (closed_well s reads.0 last reads.1 well)
 reads_well (InCollections next s (Some x)) (Record.Item i) q reads well =
-    subst IsWell (sym reads.2) well
+    subst IsWell (sym reads.3) well
 reads_well (InCollections next s last) r q reads well =
     live_well next reads.0 r q reads.2 (closed_well s reads.0 last reads.1 well)
 reads_well (InNumbers next s) r q reads well = live_well next s r q reads well
@@ -172,9 +174,10 @@ run_well [] p q run well = subst IsWell run well
 run_well (r ∷ rs) p q run well = run_well rs run.0 q run.2 (reads_well p r run.0 run.1 well)
 
 -- Names are good and each at one place: in what an image and a journal lead to,
-pub accepted_named : (rs : List Record) (n : ℕ) (s : State) (k : ℕ) → AreAccepted rs n s k →
+pub accepted_named : (version : Format) (rs : List Record) (n : ℕ) (s : State) (k : ℕ) →
+    AreAccepted version rs n s k →
     AreNamed s.now × AreDistinct (names_of s.now)
-accepted_named rs n s k run = run_well rs Unread (InJournal n s k) run tt
+accepted_named version rs n s k run = run_well rs (Unread version) (InJournal n s k) run tt
 
 -- and behind records that the machine repeats, where they were before.
 pub repeats_named : (rs : List Record) (s t : State) → Repeats rs s t →

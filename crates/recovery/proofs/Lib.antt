@@ -6,4 +6,6 @@ pub mod FindLemmas
 pub mod Stores
 pub mod ImageItems
 pub mod ImageNames
+pub mod OpenedStores
 mod CopyLemmas
+mod UpgradeLemmas

@@ -5,6 +5,7 @@ use Rattle.std.proofs.Common.{take-append-drop, Bool, true, false, true≢false,
 use Rattle.std.proofs.Common.{Err}
 use Rattle.std.proofs.Common.{MatchOption, Vec}
 use Rattle.std.specs.declared.alloc.Global.{Global}
+use Rattle.calls.specs.declared.format.Format.{Format}
 use Rattle.calls.specs.declared.kind.Kind.{Kind}
 use Rattle.calls.specs.declared.refusal.Refusal.{Refusal}
 use Rattle.calls.specs.Transactions.{Leads}
@@ -30,33 +31,37 @@ use Rattle.repetition.specs.Reading.{InJournal, Reads, AreAccepted, last_named}
 use Rattle.repetition.specs.Repetitions.{LeadsTo, IsFit, IsDamageOr, progress_of, count_of}
 use Rattle.repetition.specs.Repetitions.{AlikeProgress}
 use Rattle.recovery.specs.Openings.{AreSound, IsFirstFault, IsSpoilt, IsLoadRefusal}
-use Rattle.recovery.specs.Loading.{IsLoaded, HoldsImage, IsImagePart, is_imaging, image_behind}
+use Rattle.recovery.specs.Loading.{IsLoaded, StartsWithImage, IsImagePart, is_imaging, image_behind}
 use Rattle.repetition.proofs.Lists.{flat_map-append, leads_split}
 use Rattle.boosted.proofs.Each.{each_append}
 use Rattle.repetition.proofs.RepeatLemmas.{leads_to_nothing, one_group, last_named-append}
 use Rattle.repetition.proofs.RepeatLemmas.{records_append, records_front, records_back}
 use Rattle.undoing.proofs.Walks.{rises_before}
 
--- What was read of the area's bytes, up to its next gate.
-pub record HasRead (bytes : List ℕ) (position : ℕ) (kind : Option Kind) (stage : Stage)
+-- What was read of the area's bytes, up to its next gate, on a disk of the version.
+pub record HasRead (version : Format) (bytes : List ℕ) (position : ℕ) (kind : Option Kind)
+    (stage : Stage)
     (next : ℕ) : Type 0 where
   pub blocks : List (List Record)
   pub good : AreRecords None (records_in blocks)
   pub named : kind ≡ last_named None (records_in blocks)
-  pub reached : LeadsTo (records_in blocks) (progress_of stage next)
+  pub reached : LeadsTo version (records_in blocks) (progress_of stage next)
   pub position_is : position ≡ length (row (map spelling blocks))
   pub stood : bytes ≡ row (map spelling blocks) ++ drop position bytes
   pub bodies : AllByRecursion IsBody (map spelling blocks)
   pub only : (others : List (List Record)) → AreRecords None (records_in others) →
       IsRow (map spelling others) bytes → (rest : List (List Record)) × (others ≡ blocks ++ rest)
 
-pub nothing_read : (bytes : List ℕ) (position : ℕ) (kind : Option Kind) (stage : Stage) (next : ℕ) →
-    position ≡ 0 → kind ≡ None → stage ≡ Stage.Unread → HasRead bytes position kind stage next
-nothing_read bytes position kind stage next none unnamed unread = record {
+pub nothing_read : (version : Format) (bytes : List ℕ) (position : ℕ) (kind : Option Kind)
+    (stage : Stage) (next : ℕ) →
+    position ≡ 0 → kind ≡ None → stage ≡ Stage.Unread version →
+    HasRead version bytes position kind stage next
+nothing_read version bytes position kind stage next none unnamed unread = record {
   blocks = [];
   good = tt;
   named = unnamed;
-  reached = subst (λ s. LeadsTo [] (progress_of s next)) (sym unread) leads_to_nothing;
+  reached = subst (λ s. LeadsTo version [] (progress_of s next)) (sym unread)
+      (leads_to_nothing version);
   position_is = none;
   stood = ap (λ n. drop n bytes) (sym none);
   bodies = tt;
@@ -97,28 +102,32 @@ next_group blocks others bytes body position here good is rest split stands =
 -- Records of a body lead on from where the reading stands.
 abbrev pub ReadsOn : Option Kind → Stage → ℕ → List ℕ → Option Kind → Stage → ℕ → Type 0
 ReadsOn kind stage next body later now above =
-    (rs : List Record) → LeadsTo rs (progress_of stage next) →
+    (version : Format) (rs : List Record) → LeadsTo version rs (progress_of stage next) →
     (group : List Record) × AreRecords kind group × (body ≡ spelling group) ×
-    (later ≡ last_named kind group) × LeadsTo (rs ++ group) (progress_of now above)
+    (later ≡ last_named kind group) × LeadsTo version (rs ++ group) (progress_of now above)
 
 -- No records of the body lead on.
 abbrev pub ReadsNowhere : Option Kind → Stage → ℕ → List ℕ → Type 0
 ReadsNowhere kind stage next body =
-    (rs group : List Record) → LeadsTo rs (progress_of stage next) → AreRecords kind group →
-    body ≡ spelling group → (q : Progress) → Leads Reads (rs ++ group) Unread q → ⊥
+    (version : Format) (rs group : List Record) → LeadsTo version rs (progress_of stage next) →
+    AreRecords kind group →
+    body ≡ spelling group → (q : Progress) → Leads Reads (rs ++ group) (Unread version) q → ⊥
 
 -- The image has not ended.
 abbrev pub EndsNowhere : Stage → ℕ → Type 0
-EndsNowhere stage next = (rs : List Record) → LeadsTo rs (progress_of stage next) →
-    (n : ℕ) (s : State) (count : ℕ) → AreAccepted rs n s count → ⊥
+EndsNowhere stage next = (version : Format) (rs : List Record) →
+    LeadsTo version rs (progress_of stage next) →
+    (n : ℕ) (s : State) (count : ℕ) → AreAccepted version rs n s count → ⊥
 
 -- one block more
-pub reads_on : (bytes body : List ℕ) (position after : ℕ) (kind later : Option Kind)
-    (stage now : Stage) (next above : ℕ) → HasRead bytes position kind stage next →
+pub reads_on : (version : Format) (bytes body : List ℕ) (position after : ℕ)
+    (kind later : Option Kind)
+    (stage now : Stage) (next above : ℕ) → HasRead version bytes position kind stage next →
     StandsAt bytes position body → after ≡ position + 5 + length body
-    → ReadsOn kind stage next body later now above → HasRead bytes after later now above
-reads_on bytes body position after kind later stage now next above so_far stands after_is repeats =
-    let found = repeats (records_in so_far.blocks) so_far.reached in
+    → ReadsOn kind stage next body later now above → HasRead version bytes after later now above
+reads_on version bytes body position after kind later stage now next above so_far stands after_is
+    repeats =
+    let found = repeats version (records_in so_far.blocks) so_far.reached in
     let group : List Record = found.0 in
     let spelled_is : spelling group ≡ body = sym found.2 in
     let blocks : List (List Record) = so_far.blocks ++ group ∷ [] in
@@ -146,7 +155,7 @@ reads_on bytes body position after kind later stage now next above so_far stands
       named = found.3 ∙ ap (λ k. last_named k group) so_far.named ∙
           sym (last_named-append None (records_in so_far.blocks) group) ∙
           ap (last_named None) records;
-      reached = subst (λ l. LeadsTo l (progress_of now above)) records found.4;
+      reached = subst (λ l. LeadsTo version l (progress_of now above)) records found.4;
       position_is = omega (
         arith,
         after_is,
@@ -175,14 +184,15 @@ reads_on bytes body position after kind later stage now next above so_far stands
 -- ---- the image
 
 -- The image has not ended, or it is the first of these blocks.
-abbrev pub HasImageSoFar : (imaging : Bool) → List (List Record) → (position image : ℕ) → Type 0
-HasImageSoFar true blocks position image = image ≡ position
-HasImageSoFar false blocks position image = IsImagePart blocks image
+abbrev pub HasImageSoFar : (imaging : Bool) → Format → List (List Record) → (position image : ℕ) →
+    Type 0
+HasImageSoFar true version blocks position image = image ≡ position
+HasImageSoFar false version blocks position image = IsImagePart version blocks image
 
 -- behind the end of an image only records of the journal are read
 stays_journal : (rs : List Record) (n : ℕ) (s : State) (k : ℕ) (stage : Stage) (next : ℕ) →
     Leads Reads rs (InJournal n s k) (progress_of stage next) → is_imaging stage ≡ false
-stays_journal [] n s k Stage.Unread next leads = absurd cc
+stays_journal [] n s k (Stage.Unread v) next leads = absurd cc
 stays_journal [] n s k (Stage.Collections x) next leads = absurd cc
 stays_journal [] n s k (Stage.Numbers x) next leads = absurd cc
 stays_journal [] n s k (Stage.Calls x) next leads = absurd cc
@@ -192,65 +202,76 @@ stays_journal (r ∷ rs) n s k stage next leads =
     (subst (λ p. Leads Reads rs p (progress_of stage next)) leads.1.2 leads.2)
 
 -- what no image leads to is no journal
-no_image_yet : (rs : List Record) (stage : Stage) (next : ℕ) → is_imaging stage ≡ true →
-    LeadsTo rs (progress_of stage next) → (n : ℕ) (s : State) (k : ℕ) → AreAccepted rs n s k → ⊥
-no_image_yet rs Stage.Unread next imaging reached n s k accepted = reached.only _ accepted
-no_image_yet rs (Stage.Collections x) next imaging reached n s k accepted = reached.only _ accepted
-no_image_yet rs (Stage.Numbers x) next imaging reached n s k accepted = reached.only _ accepted
-no_image_yet rs (Stage.Calls x) next imaging reached n s k accepted = reached.only _ accepted
-no_image_yet rs (Stage.Journal x c) next imaging reached n s k accepted =
+no_image_yet : (version : Format) (rs : List Record) (stage : Stage) (next : ℕ) →
+    is_imaging stage ≡ true →
+    LeadsTo version rs (progress_of stage next) → (n : ℕ) (s : State) (k : ℕ) →
+    AreAccepted version rs n s k → ⊥
+no_image_yet version rs (Stage.Unread v) next imaging reached n s k accepted =
+    reached.only _ accepted
+no_image_yet version rs (Stage.Collections x) next imaging reached n s k accepted =
+    reached.only _ accepted
+no_image_yet version rs (Stage.Numbers x) next imaging reached n s k accepted =
+    reached.only _ accepted
+no_image_yet version rs (Stage.Calls x) next imaging reached n s k accepted =
+    reached.only _ accepted
+no_image_yet version rs (Stage.Journal x c) next imaging reached n s k accepted =
     absurd (true≢false (sym imaging))
 
 -- so it is behind a journal
 in_journal : (group : List Record) (t : Progress) (now : Stage) (above n : ℕ) (s : State) (k : ℕ) →
     AlikeProgress t (InJournal n s k) → Leads Reads group t (progress_of now above) →
     is_imaging now ≡ false
-in_journal group Unread now above n s k alike leads = absurd alike
+in_journal group (Unread v) now above n s k alike leads = absurd alike
 in_journal group (InCollections m u x) now above n s k alike leads = absurd alike
 in_journal group (InNumbers m u) now above n s k alike leads = absurd alike
 in_journal group (InCalls m u) now above n s k alike leads = absurd alike
 in_journal group (InJournal m u j) now above n s k alike leads =
     stays_journal group m u j now above leads
 
-stays_ended : (rs group : List Record) (stage now : Stage) (next above : ℕ) →
-    LeadsTo rs (progress_of stage next) → Leads Reads (rs ++ group) Unread (progress_of now above) →
+stays_ended : (version : Format) (rs group : List Record) (stage now : Stage) (next above : ℕ) →
+    LeadsTo version rs (progress_of stage next) →
+    Leads Reads (rs ++ group) (Unread version) (progress_of now above) →
     is_imaging stage ≡ false → is_imaging now ≡ false
-stays_ended rs group Stage.Unread now next above reached leads is = absurd (true≢false is)
-stays_ended rs group (Stage.Collections x) now next above reached leads is =
+stays_ended version rs group (Stage.Unread v) now next above reached leads is =
     absurd (true≢false is)
-stays_ended rs group (Stage.Numbers x) now next above reached leads is = absurd (true≢false is)
-stays_ended rs group (Stage.Calls x) now next above reached leads is = absurd (true≢false is)
-stays_ended rs group (Stage.Journal x c) now next above reached leads is =
-    let split = leads_split Reads rs group Unread (progress_of now above) leads in
+stays_ended version rs group (Stage.Collections x) now next above reached leads is =
+    absurd (true≢false is)
+stays_ended version rs group (Stage.Numbers x) now next above reached leads is =
+    absurd (true≢false is)
+stays_ended version rs group (Stage.Calls x) now next above reached leads is =
+    absurd (true≢false is)
+stays_ended version rs group (Stage.Journal x c) now next above reached leads is =
+    let split = leads_split Reads rs group (Unread version) (progress_of now above) leads in
     in_journal group split.0 now above next x c (reached.only split.0 split.1) split.2
 
 -- an image that has ended is accepted
-is_accepted : (rs : List Record) (stage : Stage) (next : ℕ) → LeadsTo rs (progress_of stage next) →
-    is_imaging stage ≡ false → (n : ℕ) × (s : State) × (k : ℕ) × AreAccepted rs n s k
-is_accepted rs Stage.Unread next reached is = absurd (true≢false is)
-is_accepted rs (Stage.Collections x) next reached is = absurd (true≢false is)
-is_accepted rs (Stage.Numbers x) next reached is = absurd (true≢false is)
-is_accepted rs (Stage.Calls x) next reached is = absurd (true≢false is)
-is_accepted rs (Stage.Journal x c) next reached is = (next, x, c, reached.leads)
+is_accepted : (version : Format) (rs : List Record) (stage : Stage) (next : ℕ) →
+    LeadsTo version rs (progress_of stage next) →
+    is_imaging stage ≡ false → (n : ℕ) × (s : State) × (k : ℕ) × AreAccepted version rs n s k
+is_accepted version rs (Stage.Unread v) next reached is = absurd (true≢false is)
+is_accepted version rs (Stage.Collections x) next reached is = absurd (true≢false is)
+is_accepted version rs (Stage.Numbers x) next reached is = absurd (true≢false is)
+is_accepted version rs (Stage.Calls x) next reached is = absurd (true≢false is)
+is_accepted version rs (Stage.Journal x c) next reached is = (next, x, c, reached.leads)
 
 ended_at : (stage : Stage) (next n : ℕ) (s : State) (k : ℕ) →
     progress_of stage next ≡ InJournal n s k → is_imaging stage ≡ false
-ended_at Stage.Unread next n s k is = absurd cc
+ended_at (Stage.Unread v) next n s k is = absurd cc
 ended_at (Stage.Collections x) next n s k is = absurd cc
 ended_at (Stage.Numbers x) next n s k is = absurd cc
 ended_at (Stage.Calls x) next n s k is = absurd cc
 ended_at (Stage.Journal x c) next n s k is = refl
 
-image_step : (was now : Bool) (blocks : List (List Record)) (group : List Record)
+image_step : (version : Format) (was now : Bool) (blocks : List (List Record)) (group : List Record)
     (position after image : ℕ) → after ≡ length (row (map spelling (blocks ++ group ∷ [])))
     → (was ≡ false → now ≡ false)
-    → (was ≡ true → (n : ℕ) (s : State) (k : ℕ) → AreAccepted (records_in blocks) n s k → ⊥)
+    → (was ≡ true → (n : ℕ) (s : State) (k : ℕ) → AreAccepted version (records_in blocks) n s k → ⊥)
     → (now ≡ false →
-    (n : ℕ) × (s : State) × (k : ℕ) × AreAccepted (records_in (blocks ++ group ∷ [])) n s k)
-    → HasImageSoFar was blocks position image →
-    HasImageSoFar now (blocks ++ group ∷ []) after (image_behind was image after)
-image_step true true blocks group position after image at stays fresh ended so_far = refl
-image_step true false blocks group position after image at stays fresh ended so_far =
+    (n : ℕ) × (s : State) × (k : ℕ) × AreAccepted version (records_in (blocks ++ group ∷ [])) n s k)
+    → HasImageSoFar was version blocks position image →
+    HasImageSoFar now version (blocks ++ group ∷ []) after (image_behind was image after)
+image_step version true true blocks group position after image at stays fresh ended so_far = refl
+image_step version true false blocks group position after image at stays fresh ended so_far =
     let end = ended refl in record {
       before = blocks;
       last = group;
@@ -263,43 +284,51 @@ image_step true false blocks group position after image at stays fresh ended so_
       not_before = fresh refl;
       len_is = at;
     }
-image_step false true blocks group position after image at stays fresh ended so_far =
+image_step version false true blocks group position after image at stays fresh ended so_far =
     absurd (true≢false (stays refl))
-image_step false false blocks group position after image at stays fresh ended so_far = record {
-  before = so_far.before;
-  last = so_far.last;
-  journal = so_far.journal ++ group ∷ [];
-  are = ap (λ l. l ++ group ∷ []) so_far.are ∙
-      append_assoc so_far.before (so_far.last ∷ so_far.journal) (group ∷ []);
-  next = so_far.next;
-  state = so_far.state;
-  count = so_far.count;
-  ended = so_far.ended;
-  not_before = so_far.not_before;
-  len_is = so_far.len_is;
-}
+image_step version false false blocks group position after image at stays fresh ended so_far =
+    record {
+      before = so_far.before;
+      last = so_far.last;
+      journal = so_far.journal ++ group ∷ [];
+      are = ap (λ l. l ++ group ∷ []) so_far.are ∙
+          append_assoc so_far.before (so_far.last ∷ so_far.journal) (group ∷ []);
+      next = so_far.next;
+      state = so_far.state;
+      count = so_far.count;
+      ended = so_far.ended;
+      not_before = so_far.not_before;
+      len_is = so_far.len_is;
+    }
 
 -- one block more
-pub image_on : (bytes body : List ℕ) (position after : ℕ) (kind later : Option Kind)
-    (stage now : Stage) (next above image : ℕ) (so_far : HasRead bytes position kind stage next)
+pub image_on : (version : Format) (bytes body : List ℕ) (position after : ℕ)
+    (kind later : Option Kind)
+    (stage now : Stage) (next above image : ℕ)
+    (so_far : HasRead version bytes position kind stage next)
     (stands : StandsAt bytes position body) (after_is : after ≡ position + 5 + length body)
     (repeats : ReadsOn kind stage next body later now above)
-    → HasImageSoFar (is_imaging stage) so_far.blocks position image
-    → HasImageSoFar (is_imaging now)
-    (reads_on bytes body position after kind later stage now next above so_far stands after_is
+    → HasImageSoFar (is_imaging stage) version so_far.blocks position image
+    → HasImageSoFar (is_imaging now) version
+    (reads_on version bytes body position after kind later stage now next above so_far stands
+    after_is
     repeats).blocks after (image_behind (is_imaging stage) image after)
 unfolding reads_on
-image_on bytes body position after kind later stage now next above image so_far stands after_is
+image_on version bytes body position after kind later stage now next above image so_far stands
+    after_is
     repeats has =
-    let found = repeats (records_in so_far.blocks) so_far.reached in
-    let new = reads_on bytes body position after kind later stage now next above so_far stands
+    let found = repeats version (records_in so_far.blocks) so_far.reached in
+    let new = reads_on version bytes body position after kind later stage now next above so_far
+    stands
     after_is repeats in
-    image_step (is_imaging stage) (is_imaging now) so_far.blocks found.0 position after image
+    image_step version (is_imaging stage) (is_imaging now) so_far.blocks found.0 position after
+    image
     new.position_is
-    (stays_ended (records_in so_far.blocks) found.0 stage now next above so_far.reached
+    (stays_ended version (records_in so_far.blocks) found.0 stage now next above so_far.reached
     found.4.leads)
-    (λ is. no_image_yet (records_in so_far.blocks) stage next is so_far.reached)
-    (λ is. is_accepted (records_in (so_far.blocks ++ found.0 ∷ [])) now above new.reached is) has
+    (λ is. no_image_yet version (records_in so_far.blocks) stage next is so_far.reached)
+    (λ is. is_accepted version (records_in (so_far.blocks ++ found.0 ∷ [])) now above new.reached
+    is) has
 
 behind_inside : (imaging : Bool) (image position after : ℕ) → image ≤ position → position ≤ after →
     image_behind imaging image after ≤ after
@@ -326,33 +355,39 @@ one_body bytes b c p first second =
     first.fits second.fits (sym (split b first) ∙ split c second)).0
 
 -- the first fault, where no block goes on and no end is right
-first_fault : (base : ℕ) (bytes : List ℕ) (position place : ℕ) (kind : Option Kind) (stage : Stage)
-    (next : ℕ) → HasRead bytes position kind stage next → place ≡ base + position
+first_fault : (version : Format) (base : ℕ) (bytes : List ℕ) (position place : ℕ)
+    (kind : Option Kind) (stage : Stage)
+    (next : ℕ) → HasRead version bytes position kind stage next → place ≡ base + position
     → ((group : List Record) → StandsAt bytes position (spelling group) →
     ReadsNowhere kind stage next (spelling group))
-    → (get_or bytes position 0 ≢ 167 → EndsNowhere stage next) → IsFirstFault base bytes place
-first_fault base bytes position place kind stage next so_far place_is no_block no_end = record {
-  blocks = so_far.blocks;
-  good = so_far.good;
-  position = position;
-  behind = so_far.position_is;
-  stood = so_far.stood;
-  place_is = place_is;
-  begins = (progress_of stage next, so_far.reached.leads);
-  no_block = λ group good stands q run. no_block group stands (records_in so_far.blocks) group
-      so_far.reached (subst (λ k. AreRecords k group) (sym so_far.named) good) refl q run;
-  no_end = λ closed n s count accepted. no_end closed (records_in so_far.blocks) so_far.reached n s
-      count accepted;
-}
+    → (get_or bytes position 0 ≢ 167 → EndsNowhere stage next) →
+    IsFirstFault version base bytes place
+first_fault version base bytes position place kind stage next so_far place_is no_block no_end =
+    record {
+      blocks = so_far.blocks;
+      good = so_far.good;
+      position = position;
+      behind = so_far.position_is;
+      stood = so_far.stood;
+      place_is = place_is;
+      begins = (progress_of stage next, so_far.reached.leads);
+      no_block = λ group good stands q run. no_block group stands version (records_in so_far.blocks)
+          group
+          so_far.reached (subst (λ k. AreRecords k group) (sym so_far.named) good) refl q run;
+      no_end = λ closed n s count accepted. no_end closed version (records_in so_far.blocks)
+          so_far.reached n s
+          count accepted;
+    }
 
 -- ---- refusals
 
 -- a broken gate stands behind no beginning of sound blocks
-pub broken_is_refused : (base size : ℕ) (disk : List ℕ) (position : ℕ) (kind : Option Kind)
-    (stage : Stage) (next : ℕ) → HasRead (part base size disk) position kind stage next →
+pub broken_is_refused : (version : Format) (base size : ℕ) (disk : List ℕ) (position : ℕ)
+    (kind : Option Kind)
+    (stage : Stage) (next : ℕ) → HasRead version (part base size disk) position kind stage next →
     IsBroken (part base size disk) position
-    → (others : List (List Record)) → AreSound base size disk others → ⊥
-broken_is_refused base size disk position kind stage next so_far broken others sound =
+    → (others : List (List Record)) → AreSound version base size disk others → ⊥
+broken_is_refused version base size disk position kind stage next so_far broken others sound =
     let rest = so_far.only others sound.is_read.good sound.is_read.row_is in
     let parts : map spelling others ≡ map spelling so_far.blocks ++ map spelling rest.0 =
     ap (map spelling) rest.1 ∙ map-append spelling so_far.blocks rest.0 in
@@ -361,12 +396,14 @@ broken_is_refused base size disk position kind stage next so_far broken others s
     broken
 
 -- a body that is refused is that of no sound block
-pub refused_body : (base size : ℕ) (disk body : List ℕ) (position : ℕ) (kind : Option Kind)
-    (stage : Stage) (next : ℕ) → HasRead (part base size disk) position kind stage next →
+pub refused_body : (version : Format) (base size : ℕ) (disk body : List ℕ) (position : ℕ)
+    (kind : Option Kind)
+    (stage : Stage) (next : ℕ) → HasRead version (part base size disk) position kind stage next →
     StandsAt (part base size disk) position body
     → ReadsNowhere kind stage next body → (others : List (List Record)) →
-    AreSound base size disk others → ⊥
-refused_body base size disk body position kind stage next so_far stands refuses others sound =
+    AreSound version base size disk others → ⊥
+refused_body version base size disk body position kind stage next so_far stands refuses others
+    sound =
     let rest = so_far.only others sound.is_read.good sound.is_read.row_is in
     let g = next_group so_far.blocks others (part base size disk) body position so_far.position_is
     sound.is_read.good sound.is_read.row_is rest.0 rest.1 stands in
@@ -375,9 +412,10 @@ refused_body base size disk body position kind stage next so_far stands refuses 
     ap (λ l. records_in so_far.blocks ++ records_in l) g.2 ∙
     sym (append_assoc (records_in so_far.blocks) g.0 (records_in g.1)) in
     let end : Progress = InJournal sound.next sound.end sound.count in
-    let split = leads_split Reads (records_in so_far.blocks ++ g.0) (records_in g.1) Unread end
-    (subst (λ l. Leads Reads l Unread end) parts sound.is_read.accepted) in
-    refuses (records_in so_far.blocks) g.0 so_far.reached
+    let split = leads_split Reads (records_in so_far.blocks ++ g.0) (records_in g.1)
+    (Unread version) end
+    (subst (λ l. Leads Reads l (Unread version) end) parts sound.is_read.accepted) in
+    refuses version (records_in so_far.blocks) g.0 so_far.reached
     (subst (λ k. AreRecords k g.0) (sym so_far.named) g.4) (sym g.3) split.0 split.1
 
 no_left : (rest : List (List Record)) → map spelling rest ≡ [] → rest ≡ []
@@ -385,11 +423,13 @@ no_left [] e = refl
 no_left (r ∷ rest) e = absurd cc
 
 -- nor is an end that is refused the end of sound blocks
-pub refused_end : (base size : ℕ) (disk : List ℕ) (position : ℕ) (kind : Option Kind)
-    (stage : Stage) (next : ℕ) → HasRead (part base size disk) position kind stage next →
+pub refused_end : (version : Format) (base size : ℕ) (disk : List ℕ) (position : ℕ)
+    (kind : Option Kind)
+    (stage : Stage) (next : ℕ) → HasRead version (part base size disk) position kind stage next →
     get_or (part base size disk) position 0 ≢ 167
-    → EndsNowhere stage next → (others : List (List Record)) → AreSound base size disk others → ⊥
-refused_end base size disk position kind stage next so_far closed refuses others sound =
+    → EndsNowhere stage next → (others : List (List Record)) →
+    AreSound version base size disk others → ⊥
+refused_end version base size disk position kind stage next so_far closed refuses others sound =
     let rest = so_far.only others sound.is_read.good sound.is_read.row_is in
     let parts : map spelling others ≡ map spelling so_far.blocks ++ map spelling rest.0 =
     ap (map spelling) rest.1 ∙ map-append spelling so_far.blocks rest.0 in
@@ -399,17 +439,18 @@ refused_end base size disk position kind stage next so_far closed refuses others
     sound.is_read.row_is) closed) in
     let same : others ≡ so_far.blocks =
     rest.1 ∙ ap (λ l. so_far.blocks ++ l) none ∙ append-nil so_far.blocks in
-    refuses (records_in so_far.blocks) so_far.reached sound.next sound.end sound.count
-    (subst (λ l. AreAccepted (records_in l) sound.next sound.end sound.count) same
+    refuses version (records_in so_far.blocks) so_far.reached sound.next sound.end sound.count
+    (subst (λ l. AreAccepted version (records_in l) sound.next sound.end sound.count) same
     sound.is_read.accepted)
 
 -- ---- the end
 
 -- all was read where the gate behind it is closed
-pub row_read : (bytes : List ℕ) (position : ℕ) (kind : Option Kind) (stage : Stage) (next : ℕ)
-    (so_far : HasRead bytes position kind stage next) → position < length bytes →
+pub row_read : (version : Format) (bytes : List ℕ) (position : ℕ) (kind : Option Kind)
+    (stage : Stage) (next : ℕ)
+    (so_far : HasRead version bytes position kind stage next) → position < length bytes →
     get_or bytes position 0 ≢ 167 → IsRow (map spelling so_far.blocks) bytes
-row_read bytes position kind stage next so_far inside closed = record {
+row_read version bytes position kind stage next so_far inside closed = record {
   gate = get_or bytes position 0;
   rest = drop (position + 1) bytes;
   is = so_far.stood ∙ at_drop_more (λ l. row (map spelling so_far.blocks) ++ l) bytes position 0
@@ -429,7 +470,8 @@ length-part base size disk inside =
 -- the area's bytes up to it were read.
 pub record IsLoading {D : Type 0} (seen : D → List ℕ) (may_leave : D → List ℕ → Type 0)
     (moment : D → ℕ) (left_since : D → ℕ → List ℕ → Type 0) (is_honest : D → Type 0)
-    (fault_count : D → ℕ) (old new : D) (base size : ℕ) (area : Area) (kind : Option Kind)
+    (fault_count : D → ℕ) (old new : D) (version : Format) (base size : ℕ) (area : Area)
+    (kind : Option Kind)
     (stage : Stage) (next place image : ℕ) : Type 0 where
   -- what the device tells
   pub reads : ReadsOnly seen may_leave moment left_since old new
@@ -443,24 +485,28 @@ pub record IsLoading {D : Type 0} (seen : D → List ℕ) (may_leave : D → Lis
   -- what was read
   pub fit : IsFit stage
   pub few : count_of stage ≤ position_of area
-  pub has_read : is_honest new → HasRead (part base size (seen old)) (position_of area) kind stage
+  pub has_read : is_honest new → HasRead version (part base size (seen old)) (position_of area) kind
+      stage
       next
   -- what of it is the image
   pub inside : image ≤ position_of area
   pub image_is : (true_read : is_honest new) →
-      HasImageSoFar (is_imaging stage) (has_read true_read).blocks (position_of area) image
+      HasImageSoFar (is_imaging stage) version (has_read true_read).blocks (position_of area) image
 
 -- before the first block
 pub loading_starts : {D : Type 0} (seen : D → List ℕ) (may_leave : D → List ℕ → Type 0)
     (moment : D → ℕ) (left_since : D → ℕ → List ℕ → Type 0) (is_honest : D → Type 0)
-    (fault_count : D → ℕ) (disk : D) (base size : ℕ) (area : Area) (kind : Option Kind)
+    (fault_count : D → ℕ) (disk : D) (version : Format) (base size : ℕ) (area : Area)
+    (kind : Option Kind)
     (stage : Stage) (next : ℕ)
     → ((c : List ℕ) → left_since disk (moment disk) c → may_leave disk c) → base_of area ≡ base →
     size_of area ≡ size → position_of area ≡ 0 → has_failed area ≡ false → kind ≡ None →
-    stage ≡ Stage.Unread
-    → IsLoading seen may_leave moment left_since is_honest fault_count disk disk base size area kind
+    stage ≡ Stage.Unread version
+    → IsLoading seen may_leave moment left_since is_honest fault_count disk disk version base size
+    area kind
     stage next base 0
-loading_starts seen may_leave moment left_since is_honest fault_count disk base size area kind stage
+loading_starts seen may_leave moment left_since is_honest fault_count disk version base size area
+    kind stage
     next only_now base_is size_is none fine unnamed unread = record {
       reads = record {
         same = refl;
@@ -475,14 +521,16 @@ loading_starts seen may_leave moment left_since is_honest fault_count disk base 
       place_is = omega (arith, none);
       fit = subst IsFit (sym unread) tt;
       few = let zero_count : count_of stage ≡ 0 = ap count_of unread in omega (arith, zero_count);
-      has_read = λ true_read. nothing_read (part base size (seen disk)) (position_of area) kind
+      has_read = λ true_read. nothing_read version (part base size (seen disk)) (position_of area)
+          kind
           stage
           next none unnamed unread;
       inside = omega arith;
       image_is = λ true_read.
-          let blocks = (nothing_read (part base size (seen disk)) (position_of area) kind stage next
+          let blocks = (nothing_read version (part base size (seen disk)) (position_of area) kind
+          stage next
           none unnamed unread).blocks in
-          subst (λ s. HasImageSoFar (is_imaging s) blocks (position_of area) 0) (sym unread)
+          subst (λ s. HasImageSoFar (is_imaging s) version blocks (position_of area) 0) (sym unread)
           (sym none);
     }
 
@@ -505,8 +553,8 @@ damage_refusal place damaged rises spoils (Refusal.Damaged p) f d = subst spoils
 damage_refusal place damaged rises spoils e f d = absurd d
 
 -- Where the disk read true, the area is spoilt at that place.
-abbrev pub Spoils : Type 0 → ℕ → ℕ → List ℕ → ℕ → Type 0
-Spoils is_honest base size bytes place = is_honest → IsSpoilt base size bytes place
+abbrev pub Spoils : Type 0 → Format → ℕ → ℕ → List ℕ → ℕ → Type 0
+Spoils is_honest version base size bytes place = is_honest → IsSpoilt version base size bytes place
 
 -- a closed gate, where no block was found
 closed_gate : (found : Option (Vec ℕ Global)) (bytes : List ℕ) (p : ℕ) →
@@ -524,9 +572,11 @@ same_place (Some v) was now none found = absurd (none v refl)
 -- one call for the next block, on a disk that was read so far
 module _ {D : Type 0} {seen : D → List ℕ} {may_leave : D → List ℕ → Type 0} {moment : D → ℕ}
     {left_since : D → ℕ → List ℕ → Type 0} {is_honest : D → Type 0} {fault_count : D → ℕ}
-    {old mid : D} {base size : ℕ} {area : Area} {kind : Option Kind} {stage : Stage}
+    {old mid : D} {version : Format} {base size : ℕ} {area : Area} {kind : Option Kind}
+    {stage : Stage}
     {next place image : ℕ}
-    (l : IsLoading seen may_leave moment left_since is_honest fault_count old mid base size area
+    (l : IsLoading seen may_leave moment left_since is_honest fault_count old mid version base size
+    area
     kind stage next place image) (new : D)
     (reads : ReadsOnly seen may_leave moment left_since mid new)
     (honest : is_honest new → is_honest mid) (faults : fault_count mid ≤ fault_count new) where
@@ -535,14 +585,15 @@ module _ {D : Type 0} {seen : D → List ℕ} {may_leave : D → List ℕ → Ty
       ap (λ n. part base n (seen mid)) l.size_is ∙ ap (part base size) l.reads.same
 
   -- of what was read, where the disk reads true to the end
-  so_far : is_honest new → HasRead (part base size (seen old)) (position_of area) kind stage next
+  so_far : is_honest new → HasRead version (part base size (seen old)) (position_of area) kind stage
+      next
   so_far true_read = l.has_read (honest true_read)
 
   pub gate_refused : (T : Type 0) (after : Bool) (e : Refusal) →
       IsNextAnswer {T = T} (has_failed area) after (Rises (fault_count mid) (fault_count new))
       (IsDamage (is_honest new) area (seen mid)) (Err e)
       → IsLoadRefusal (Rises (fault_count old) (fault_count new))
-      (Spoils (is_honest new) base size (seen old)) e
+      (Spoils (is_honest new) version base size (seen old)) e
   gate_refused T after e answer =
       next_refusal T (has_failed area) after _ _ (IsDamage (is_honest new) area (seen mid)) _ e
       l.fine (rises_before (fault_count old) (fault_count mid) (fault_count new) l.faults
@@ -551,11 +602,13 @@ module _ {D : Type 0} {seen : D → List ℕ} {may_leave : D → List ℕ → Ty
       let broken : IsBroken (part base size (seen old)) (position_of area) =
       subst (λ b. IsBroken b (position_of area)) bytes_same (damage.broken true_read) in
       record {
-        fault = first_fault base (part base size (seen old)) (position_of area) p kind stage next
+        fault = first_fault version base (part base size (seen old)) (position_of area) p kind stage
+            next
             (so_far true_read) (damage.here ∙ ap (λ b. b + position_of area) l.base_is)
-            (λ group stands rs other reached good is q run. broken.no_block (spelling group) stands)
-            (λ closed rs reached n s count accepted. closed broken.opened);
-        unsound = λ blocks sound. broken_is_refused _ _ _ _ _ _ _ (so_far true_read) broken blocks
+            (λ group stands v rs other reached good is q run. broken.no_block (spelling group)
+            stands)
+            (λ closed v rs reached n s count accepted. closed broken.opened);
+        unsound = λ blocks sound. broken_is_refused _ _ _ _ _ _ _ _ (so_far true_read) broken blocks
             sound;
       })
       answer
@@ -564,20 +617,22 @@ module _ {D : Type 0} {seen : D → List ℕ} {may_leave : D → List ℕ → Ty
       (is_honest new → StandsAt (bytes_of area (seen mid)) (position_of area) body)
       → IsDamageOr place (ReadsNowhere kind stage next body) e
       → IsLoadRefusal (Rises (fault_count old) (fault_count new))
-      (Spoils (is_honest new) base size (seen old)) e
+      (Spoils (is_honest new) version base size (seen old)) e
   body_refused body e stands damage =
-      damage_refusal place _ _ (Spoils (is_honest new) base size (seen old)) e
+      damage_refusal place _ _ (Spoils (is_honest new) version base size (seen old)) e
       (λ refuses true_read.
       let stood : StandsAt (part base size (seen old)) (position_of area) body =
       subst (λ b. StandsAt b (position_of area) body) bytes_same (stands true_read) in
       record {
-        fault = first_fault base (part base size (seen old)) (position_of area) place kind stage
+        fault = first_fault version base (part base size (seen old)) (position_of area) place kind
+            stage
             next (so_far true_read) l.place_is
-            (λ group there rs other reached good is q run. refuses rs other reached good
+            (λ group there v rs other reached good is q run. refuses v rs other reached good
             (one_body _ body (spelling group) (position_of area) stood there ∙ is) q run)
-            (λ closed rs reached n s count accepted. closed
+            (λ closed v rs reached n s count accepted. closed
             (gate_open _ body (position_of area) stood));
-        unsound = λ blocks sound. refused_body base size (seen old) body (position_of area) kind
+        unsound = λ blocks sound. refused_body version base size (seen old) body (position_of area)
+            kind
             stage next (so_far true_read) stood refuses blocks sound;
       })
       damage
@@ -591,7 +646,8 @@ module _ {D : Type 0} {seen : D → List ℕ} {may_leave : D → List ℕ → Ty
       → later_image ≡ image_behind (is_imaging stage) image (position_of after)
       → ReadsOn kind stage next body later now above → IsFit now →
       count_of now ≤ count_of stage + length body
-      → IsLoading seen may_leave moment left_since is_honest fault_count old new base size after
+      → IsLoading seen may_leave moment left_since is_honest fault_count old new version base size
+      after
       later now above later_place later_image
   loads_on after body later now above later_place later_image stands base_is size_is fine
       position_is later_is image_is repeats fit few = record {
@@ -604,7 +660,7 @@ module _ {D : Type 0} {seen : D → List ℕ} {may_leave : D → List ℕ → Ty
         place_is = omega (arith, later_is, l.place_is, position_is);
         fit = fit;
         few = omega (arith, few, l.few, position_is);
-        has_read = λ true_read. reads_on (part base size (seen old)) body (position_of area)
+        has_read = λ true_read. reads_on version (part base size (seen old)) body (position_of area)
             (position_of after) kind later stage now next above (l.has_read (honest true_read))
             (subst (λ b. StandsAt b (position_of area) body) bytes_same (stands true_read))
             position_is
@@ -612,7 +668,8 @@ module _ {D : Type 0} {seen : D → List ℕ} {may_leave : D → List ℕ → Ty
         inside = rw image_is (behind_inside (is_imaging stage) image (position_of area)
             (position_of after) l.inside (omega (arith, position_is)));
         image_is = λ true_read. rw image_is
-            (image_on (part base size (seen old)) body (position_of area) (position_of after) kind
+            (image_on version (part base size (seen old)) body (position_of area)
+            (position_of after) kind
             later stage now next above image (l.has_read (honest true_read))
             (subst (λ b. StandsAt b (position_of area) body) bytes_same (stands true_read))
             position_is repeats (l.image_is (honest true_read)));
@@ -623,21 +680,23 @@ module _ {D : Type 0} {seen : D → List ℕ} {may_leave : D → List ℕ → Ty
       (is_honest new → Finds (bytes_of area (seen mid)) (position_of area) (body_in found))
       → IsDamageOr place (EndsNowhere stage next) e
       → IsLoadRefusal (Rises (fault_count old) (fault_count new))
-      (Spoils (is_honest new) base size (seen old)) e
+      (Spoils (is_honest new) version base size (seen old)) e
   end_refused found e none finds damage =
-      damage_refusal place _ _ (Spoils (is_honest new) base size (seen old)) e
+      damage_refusal place _ _ (Spoils (is_honest new) version base size (seen old)) e
       (λ refuses true_read.
       let closed : get_or (part base size (seen old)) (position_of area) 0 ≢ 167 =
       subst (λ b. get_or b (position_of area) 0 ≢ 167) bytes_same
       (closed_gate found (bytes_of area (seen mid)) (position_of area) none
       (finds true_read)) in
       record {
-        fault = first_fault base (part base size (seen old)) (position_of area) place kind stage
+        fault = first_fault version base (part base size (seen old)) (position_of area) place kind
+            stage
             next (so_far true_read) l.place_is
-            (λ group there rs other reached good is q run. closed
+            (λ group there v rs other reached good is q run. closed
             (gate_open _ (spelling group) (position_of area) there))
-            (λ shut rs reached n s count accepted. refuses rs reached n s count accepted);
-        unsound = λ blocks sound. refused_end base size (seen old) (position_of area) kind stage
+            (λ shut v rs reached n s count accepted. refuses v rs reached n s count accepted);
+        unsound = λ blocks sound. refused_end version base size (seen old) (position_of area) kind
+            stage
             next (so_far true_read) closed refuses blocks sound;
       })
       damage
@@ -649,7 +708,7 @@ module _ {D : Type 0} {seen : D → List ℕ} {may_leave : D → List ℕ → Ty
       → MatchOption found (position_of after ≡ position_of area)
       (λ body. position_of after ≡ position_of area + 5 + length body.items)
       → (n : ℕ) (s : State) (count : ℕ) → progress_of stage next ≡ InJournal n s count →
-      is_honest new → IsLoaded base size (seen old) s n count (position_of after)
+      is_honest new → IsLoaded version base size (seen old) s n count (position_of after)
   loads after found none finds inside under position_is n s count journal true_read =
       let p : position_of after ≡ position_of area =
       same_place found (position_of area) (position_of after) none position_is in
@@ -662,9 +721,10 @@ module _ {D : Type 0} {seen : D → List ℕ} {may_leave : D → List ℕ → Ty
         blocks = read.blocks;
         is_read = record {
           good = read.good;
-          row_is = row_read (part base size (seen old)) (position_of area) kind stage next read
+          row_is = row_read version (part base size (seen old)) (position_of area) kind stage next
+              read
               (omega (arith, under, p, length-part base size (seen old) inside)) closed;
-          accepted = subst (λ q. Leads Reads (records_in read.blocks) Unread q) journal
+          accepted = subst (λ q. Leads Reads (records_in read.blocks) (Unread version) q) journal
               read.reached.leads;
         };
         position = p ∙ read.position_is;
@@ -677,7 +737,7 @@ module _ {D : Type 0} {seen : D → List ℕ} {may_leave : D → List ℕ → Ty
       → MatchOption found (position_of after ≡ position_of area)
       (λ body. position_of after ≡ position_of area + 5 + length body.items)
       → (n : ℕ) (s : State) (count : ℕ) → progress_of stage next ≡ InJournal n s count →
-      is_honest new → HoldsImage base size (seen old) image
+      is_honest new → StartsWithImage version base size (seen old) image
   unfolding loads
   ends_image after found none finds inside under position_is n s count journal true_read =
       let read = l.has_read (honest true_read) in record {
@@ -685,6 +745,6 @@ module _ {D : Type 0} {seen : D → List ℕ} {may_leave : D → List ℕ → Ty
         good = read.good;
         row_is = (loads after found none finds inside under position_is n s count journal
             true_read).is_read.row_is;
-        image = subst (λ b. HasImageSoFar b read.blocks (position_of area) image)
+        image = subst (λ b. HasImageSoFar b version read.blocks (position_of area) image)
             (ended_at stage next n s count journal) (l.image_is (honest true_read));
       }

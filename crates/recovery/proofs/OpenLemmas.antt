@@ -4,8 +4,9 @@ use Rattle.std.proofs.Common.{length, take, drop, get_or, map, refl, sym, ◌∙
 use Rattle.std.proofs.Common.{append_assoc, length-append, None}
 use Rattle.std.proofs.lemmas.List.{append-nil, map-append, take-take, drop-take, get_or-take}
 use Rattle.std.specs.List.{AllByRecursion}
+use Rattle.calls.specs.declared.format.Format.{Format}
 use Rattle.calls.specs.Contents.{Collection}
-use Rattle.calls.specs.Transactions.{Serial, committed}
+use Rattle.calls.specs.Transactions.{Leads, Serial, committed}
 use Rattle.disk_model.specs.Disk.{ReadsOnly, IsAtRest, LeavesOnly}
 use Rattle.disk_model.proofs.Walk.{and_then, reads_rest}
 use Rattle.gate_block.specs.declared.area.Area.{Area}
@@ -16,7 +17,9 @@ use Rattle.gate_block.proofs.Unique.{row_unique}
 use Rattle.record_format.specs.declared.record.Record.{Record}
 use Rattle.record_format.specs.Records.{spelling, IsRecord, AreRecords}
 use Rattle.record_format.specs.Acts.{acts_of}
-use Rattle.txn.specs.Books.{BookState, opened}
+use Rattle.record_format.specs.Short.{IsOf}
+use Rattle.records.specs.Images.{IsImage}
+use Rattle.txn.specs.Books.{BookState}
 use Rattle.repetition.specs.Journals.{Holds, IsHeader, StandsFor, IsJournalRecord, records_in}
 use Rattle.gate_block.specs.Layout.{base_in_use, area_in_use}
 use Rattle.repetition.specs.Steps.{State, Steps, Repeats}
@@ -25,10 +28,11 @@ use Rattle.repetition.specs.Repetitions.{AreRead}
 use Rattle.undoing.specs.Undoing.{Undo, IsUndoRecord, AreBlocksOf, blocks_len}
 use Rattle.undoing.specs.Appending.{IsAt, HoldsFirst, IsAppended}
 use Rattle.recovery.specs.Finding.{IsStored}
-use Rattle.recovery.specs.Openings.{IsRead, IsOpened, HasNoRoom, KeepsContent}
+use Rattle.recovery.specs.Openings.{IsRead, IsOpened, HasNoRoom, KeepsContent, book_of}
 use Rattle.repetition.proofs.Lists.{leads_append, leads_split, flat_map-append}
 use Rattle.boosted.proofs.Each.{each_append, each_front, each_back}
 use Rattle.repetition.proofs.Grammar.{records_spelt, same_blocks}
+use Rattle.repetition.proofs.OneFormat.{accepted_holds}
 use Rattle.repetition.proofs.RepeatLemmas.{records_append, read_records}
 use Rattle.repetition.proofs.Parts.{journal_reads}
 use Rattle.repetition.proofs.Contents.{acts_of-append, content_behind}
@@ -48,9 +52,9 @@ byte_same base size n old new lt outside =
     sym (get_or-take base new n 0 lt) ∙ ap (λ l. get_or l n 0) outside.before ∙
     get_or-take base old n 0 lt
 
-header_same : (base size area : ℕ) (old new : List ℕ) → 4096 ≤ base →
-    SameOutside base area old new → IsHeader size old → IsHeader size new
-header_same base size area old new far outside header = record {
+pub header_same : (version : Format) (base size area : ℕ) (old new : List ℕ) → 4096 ≤ base →
+    SameOutside base area old new → IsHeader version size old → IsHeader version size new
+header_same version base size area old new far outside header = record {
   letters = front_same base area 8 old new (omega (arith, far)) outside ∙ header.letters;
   gate = byte_same base area 8 old new (omega (arith, far)) outside ∙ header.gate;
   area = sym (drop-take 9 8 new) ∙
@@ -61,12 +65,13 @@ header_same base size area old new far outside header = record {
   whole = outside.same_size ∙ header.whole;
 }
 
-picks_same : (base size area : ℕ) (old new : List ℕ) → 4096 ≤ base → SameOutside base area old new →
+pub picks_same : (base size area : ℕ) (old new : List ℕ) → 4096 ≤ base →
+    SameOutside base area old new →
     base_in_use size new ≡ base_in_use size old
 picks_same base size area old new far outside =
     ap (λ r. 4096 + size * (r % 2)) (byte_same base area 512 old new (omega (arith, far)) outside)
 
-far_off : (base size : ℕ) (bytes : List ℕ) → base ≡ base_in_use size bytes → 4096 ≤ base
+pub far_off : (base size : ℕ) (bytes : List ℕ) → base ≡ base_in_use size bytes → 4096 ≤ base
 far_off base size bytes is = let r : ℕ = get_or bytes 512 0 in elim_far base size (r % 2) is
   where
     elim_far : (base size r : ℕ) → base ≡ 4096 + size * r → 4096 ≤ base
@@ -75,8 +80,9 @@ far_off base size bytes is = let r : ℕ = get_or bytes 512 0 in elim_far base s
         behind : (base more : ℕ) → base ≡ 4096 + more → 4096 ≤ base
         behind base more is = omega (arith, is)
 
-pub one_size : (n m : ℕ) (bytes : List ℕ) → IsHeader n bytes → IsHeader m bytes → n ≡ m
-one_size n m bytes a b = omega (arith, a.whole, b.whole)
+pub one_size : (v w : Format) (n m : ℕ) (bytes : List ℕ) → IsHeader v n bytes → IsHeader w m bytes →
+    n ≡ m
+one_size v w n m bytes a b = omega (arith, a.whole, b.whole)
 
 pub records_in-append : (front back : List (List Record)) →
     records_in (front ++ back) ≡ records_in front ++ records_in back
@@ -98,29 +104,33 @@ module _ (old : List ℕ) (area : Area) (state : State) (next count : ℕ)
   abbrev blocks : List (List Record)
   blocks = stored.loaded.blocks
 
-  abbrev read : IsRead (base_of area) (size_of area) old blocks next state count
+  abbrev read : IsRead stored.version (base_of area) (size_of area) old blocks next state count
   read = stored.loaded.is_read
 
   pub stands_there : IsAt area old (map spelling blocks)
   stands_there = record { row_is = read.row_is; position = stored.loaded.position }
 
   pub opens : (after : Area) (new : List ℕ) (book : BookState (List Collection)) →
-      IsAppended records area after old new → book ≡ opened undone.now next undone.wear →
+      IsAppended records area after old new → book ≡ book_of undone next →
       IsOpened old book after new
   opens after new book appended book_is =
       let b : base_of after ≡ base_of area = appended.same_base in
       let n : size_of after ≡ size_of area = appended.same_size in record {
-        header = subst (λ k. IsHeader k old) (sym n) stored.header;
+        version = stored.version;
+        header = subst (λ k. IsHeader stored.version k old) (sym n) stored.header;
         picks = b ∙ stored.picks ∙ ap (λ k. base_in_use k old) (sym n);
         blocks = blocks;
         next = next;
         state = state;
         count = count;
-        is_read = subst (λ k. IsRead k (size_of after) old blocks next state count) (sym b)
-            (subst (λ k. IsRead (base_of area) k old blocks next state count) (sym n) read);
+        is_read = subst (λ k. IsRead stored.version k (size_of after) old blocks next state count)
+            (sym b)
+            (subst (λ k. IsRead stored.version (base_of area) k old blocks next state count) (sym n)
+            read);
         undoing = records;
         undone = undone;
         undo = undo;
+        marks = marks;
         book_is = book_is;
         written = appended.written;
         in_blocks = appended.in_blocks;
@@ -148,9 +158,12 @@ module _ (old : List ℕ) (area : Area) (state : State) (next count : ℕ)
   pub has_no_room : size_of area ≤ position_of area + blocks_len (length records) → HasNoRoom old
   has_no_room over =
       let written = in_blocks records in
-      let at : IsRead (base_in_use (size_of area) old) (size_of area) old blocks next state count =
-      subst (λ k. IsRead k (size_of area) old blocks next state count) stored.picks read in
+      let at : IsRead stored.version (base_in_use (size_of area) old) (size_of area) old blocks next
+      state count =
+      subst (λ k. IsRead stored.version k (size_of area) old blocks next state count) stored.picks
+      read in
       record {
+        version = stored.version;
         size = size_of area;
         header = stored.header;
         blocks = blocks;
@@ -188,7 +201,8 @@ module _ (old : List ℕ) (area : Area) (state : State) (next count : ℕ)
   same_held : (held : List (List Record)) → Holds old held → blocks ≡ held
   same_held held holds =
       let size : holds.size ≡ size_of area =
-      one_size holds.size (size_of area) old holds.header stored.header in
+      one_size holds.version stored.version holds.size (size_of area) old holds.header
+      stored.header in
       let there : area_in_use holds.size old ≡ part (base_of area) (size_of area) old =
       ap (λ n. area_in_use n old) size ∙
       ap (λ b. part b (size_of area) old) (sym stored.picks) in
@@ -202,7 +216,8 @@ module _ (old : List ℕ) (area : Area) (state : State) (next count : ℕ)
   -- the content that the bytes stand for is what the records lead to
   pub content_is : (content : List Collection) → StandsFor old content → undone.now ≡ content
   content_is content stands =
-      content_behind (records_in blocks) next state count read.accepted records undone undo.leads
+      content_behind stored.version (records_in blocks) next state count read.accepted records
+      undone undo.leads
       undo.over (undo_acts records marks) old content stands
       (ap records_in (same_held stands.blocks stands.holds))
 
@@ -218,38 +233,44 @@ module _ (old : List ℕ) (area : Area) (state : State) (next count : ℕ)
     far : 4096 ≤ base_of area
     far = far_off (base_of area) (size_of area) old stored.picks
 
-    holds_all : Holds c (blocks ++ front)
-    holds_all = record {
-      size = size_of area;
-      header = header_same (base_of area) (size_of area) (size_of area) old c far holds.elsewhere
-          stored.header;
-      row =
-          subst (λ b. IsRow (map spelling (blocks ++ front)) (part b (size_of area) c))
-          (stored.picks ∙ sym (picks_same (base_of area) (size_of area) (size_of area) old c far
-          holds.elsewhere))
-          (subst (λ l. IsRow l (bytes_of area c)) (sym (map-append spelling blocks front))
-          holds.row_is);
-      spelt = records_spelt None (records_in (blocks ++ front)) (good front undo_front);
-    }
+    -- where the first of the records lead
+    abbrev split : (t : State) × Repeats (records_in front) state t × Repeats holds.more t undone
+    split = leads_split Steps (records_in front) holds.more state undone
+        (subst (λ l. Repeats l state undone) holds.is undo.leads)
+
+    abbrev more : (n k : ℕ) × Leads Reads (records_in front) (InJournal next state count)
+        (InJournal n split.0 k)
+    more = journal_reads (records_in front) next state split.0 count split.1
+
+    accepted_all : AreAccepted stored.version (records_in (blocks ++ front)) more.0 split.0 more.1
+    accepted_all =
+        subst (λ l. AreAccepted stored.version l more.0 split.0 more.1)
+        (sym (records_in-append blocks front))
+        (leads_append Reads (records_in blocks) (records_in front) (Unread stored.version)
+        (InJournal next state count) (InJournal more.0 split.0 more.1) read.accepted more.2)
+
+    abbrev holds_all : Holds c (blocks ++ front)
+    holds_all = accepted_holds stored.version (size_of area) c (blocks ++ front) more.0 split.0
+        more.1
+        (header_same stored.version (base_of area) (size_of area) (size_of area) old c far
+        holds.elsewhere
+        stored.header)
+        (subst (λ b. IsRow (map spelling (blocks ++ front)) (part b (size_of area) c))
+        (stored.picks ∙ sym (picks_same (base_of area) (size_of area) (size_of area) old c far
+        holds.elsewhere))
+        (subst (λ l. IsRow l (bytes_of area c)) (sym (map-append spelling blocks front))
+        holds.row_is)) (good front undo_front) accepted_all
 
     pub stop_sound : IsSound c
-    stop_sound =
-        let split = leads_split Steps (records_in front) holds.more state undone
-        (subst (λ l. Repeats l state undone) holds.is undo.leads) in
-        let more = journal_reads (records_in front) next state split.0 count split.1 in record {
-          blocks = blocks ++ front;
-          holds = holds_all;
-          good = good front undo_front;
-          next = more.0;
-          end = split.0;
-          count = more.1;
-          accepted =
-              subst (λ l. AreAccepted l more.0 split.0 more.1)
-              (sym (records_in-append blocks front))
-              (leads_append Reads (records_in blocks) (records_in front) Unread
-              (InJournal next state count) (InJournal more.0 split.0 more.1) read.accepted
-              more.2);
-        }
+    stop_sound = record {
+      blocks = blocks ++ front;
+      holds = holds_all;
+      good = good front undo_front;
+      next = more.0;
+      end = split.0;
+      count = more.1;
+      accepted = accepted_all;
+    }
 
     pub stop_stands : (content : List Collection) → StandsFor old content → StandsFor c content
     stop_stands content stands =
@@ -261,13 +282,20 @@ module _ (old : List ℕ) (area : Area) (state : State) (next count : ℕ)
         ap (λ l. acts_of (records_in stands.blocks) ++ l)
         (sym (undo_acts (records_in front) undo_front)) ∙
         sym (acts_of-append (records_in stands.blocks) (records_in front)) ∙
-        ap acts_of (sym all) in record {
+        ap acts_of (sym all) in
+        let parts : records_in (blocks ++ front) ≡
+        stands.image ++ (stands.journal ++ records_in front) =
+        all ∙ ap (λ l. l ++ records_in front) stands.split ∙
+        append_assoc stands.image stands.journal (records_in front) in
+        let same_format : stands.holds.format ≡ holds_all.format =
+        (subst (AllByRecursion (IsOf holds_all.format))
+        (parts ∙ ap (λ l. l ++ (stands.journal ++ records_in front)) stands.is_image.is)
+        holds_all.of_format).0 in record {
           blocks = blocks ++ front;
           holds = holds_all;
           image = stands.image;
           journal = stands.journal ++ records_in front;
-          split = all ∙ ap (λ l. l ++ records_in front) stands.split ∙
-              append_assoc stands.image stands.journal (records_in front);
+          split = parts;
           all_journal = each_append IsJournalRecord stands.journal (records_in front)
               stands.all_journal (undo_journal (records_in front) undo_front);
           next = stands.next;
@@ -275,7 +303,8 @@ module _ (old : List ℕ) (area : Area) (state : State) (next count : ℕ)
           shown = stands.shown;
           numbers = stands.numbers;
           live = stands.live;
-          is_image = stands.is_image;
+          is_image = subst (λ f. IsImage f stands.next stands.wear stands.shown stands.numbers
+              stands.live stands.image) same_format stands.is_image;
           start = stands.start;
           leads = stands.leads;
           serial = subst (λ a. Serial (committed a) stands.start content) silent stands.serial;

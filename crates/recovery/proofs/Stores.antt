@@ -12,16 +12,19 @@ use Rattle.record_format.specs.Acts.{acts_of}
 use Rattle.txn.specs.Books.{BookState}
 use Rattle.repetition.specs.Journals.{Holds, StandsFor, records_in}
 use Rattle.repetition.specs.Reading.{IsSound}
-use Rattle.repetition.proofs.Grammar.{records_spelt, same_blocks}
+use Rattle.repetition.proofs.Grammar.{same_blocks}
+use Rattle.repetition.proofs.OneFormat.{accepted_holds}
 use Rattle.repetition.proofs.Parts.{IsParts}
 use Rattle.repetition.proofs.Contents.{parts, content, stands_for, only_content}
 use Rattle.recovery.specs.Openings.{IsOpened}
 use Rattle.recovery.proofs.OpenLemmas.{one_size}
 
 -- bytes hold one list of blocks at most
-pub one_held : (bytes : List ℕ) (bs cs : List (List Record)) → Holds bytes bs → Holds bytes cs → bs ≡ cs
+pub one_held : (bytes : List ℕ) (bs cs : List (List Record)) → Holds bytes bs → Holds bytes cs →
+    bs ≡ cs
 one_held bytes bs cs b c =
-    let size : c.size ≡ b.size = one_size c.size b.size bytes c.header b.header in
+    let size : c.size ≡ b.size = one_size c.version b.version c.size b.size bytes c.header
+    b.header in
     let row : IsRow (map spelling cs) (area_in_use b.size bytes) =
     subst (λ n. IsRow (map spelling cs) (area_in_use n bytes)) size c.row in
     same_blocks None bs cs b.spelt c.spelt
@@ -32,7 +35,8 @@ pub stands_for_one : (bytes : List ℕ) → IsSound bytes → (c : List Collecti
     ((other : List Collection) → StandsFor bytes other → c ≡ other)
 stands_for_one bytes sound =
     let rs = records_in sound.blocks in
-    let p : IsParts rs sound.end = parts rs sound.next sound.end sound.count sound.accepted in
+    let p : IsParts rs sound.end = parts sound.holds.version rs sound.next sound.end sound.count
+    sound.accepted in
     let one : (other : List Collection) → StandsFor bytes other →
     content rs sound.end p p.journal sound.end p.repeats ≡ other =
     λ other stands.
@@ -49,13 +53,10 @@ pub opened_sound : (old new : List ℕ) (book : BookState (List Collection)) (ar
     IsOpened old book area new → IsSound old
 opened_sound old new book area opened = record {
   blocks = opened.blocks;
-  holds = record {
-    size = size_of area;
-    header = opened.header;
-    row = subst (λ b. IsRow (map spelling opened.blocks) (part b (size_of area) old)) opened.picks
-        opened.is_read.row_is;
-    spelt = records_spelt None (records_in opened.blocks) opened.is_read.good;
-  };
+  holds = accepted_holds opened.version (size_of area) old opened.blocks opened.next opened.state
+      opened.count opened.header
+      (subst (λ b. IsRow (map spelling opened.blocks) (part b (size_of area) old)) opened.picks
+      opened.is_read.row_is) opened.is_read.good opened.is_read.accepted;
   good = opened.is_read.good;
   next = opened.next;
   end = opened.state;

@@ -1,12 +1,15 @@
 -- What a copy makes of a store, and why it is refused.
 use Rattle.std.specs.Prelude.{◌≡◌, ℕ, ◌+◌, ◌<◌, List, [], length, map, get_or, Vec, None}
-use Rattle.std.specs.Prelude.{Result, Ok, Err}
+use Rattle.std.specs.Prelude.{Result, Ok, Err, cond, nat_lt}
 use Rattle.std.specs.List.{AllByRecursion}
 use Rattle.std.specs.declared.alloc.Global.{Global}
+use Rattle.calls.specs.declared.format.Format.{Format}
 use Rattle.calls.specs.declared.refusal.Refusal.{Refusal}
+use Rattle.calls.specs.Formats.{max_area, Allows}
 use Rattle.calls.specs.Contents.{Collection}
 use Rattle.gate_block.specs.Row.{row, IsRow, part}
 use Rattle.gate_block.specs.Layout.{base_in_use}
+use Rattle.gate_block.specs.Layout.{areas_at, root_at}
 use Rattle.record_format.specs.declared.record.Record.{Record}
 use Rattle.record_format.specs.Records.{spelling, AreRecords}
 use Rattle.records.specs.Images.{IsImage}
@@ -22,69 +25,90 @@ use Rattle.recovery.specs.Openings.{IsRead, IsOpenRefusal}
 
 -- ---- bytes that are written
 
--- A head but for its gate, and in the first area, which it picks, a row of these blocks.
-pub record IsFilledWith (area : ℕ) (bodies : List (List ℕ)) (bytes : List ℕ) : Type 0 where
-  pub head : IsHeadOf area bytes
-  pub row_is : IsRow bodies (part 4096 area bytes)
+-- A head of this version but for its gate, and in the first area, which it picks, a row of these
+-- blocks.
+pub record IsFilledWith (version : Format) (area : ℕ) (bodies : List (List ℕ))
+    (bytes : List ℕ) : Type 0 where
+  pub head : IsHeadOf version area bytes
+  pub row_is : IsRow bodies (part areas_at area bytes)
 
--- A head with an open gate, for areas of this size, a root byte that picks the first area, and in
--- it a row of these blocks.
-pub record IsStoreOf (area : ℕ) (bodies : List (List ℕ)) (bytes : List ℕ) : Type 0 where
-  pub header : IsHeader area bytes
-  pub root : get_or bytes 512 0 ≡ 0
-  pub row_is : IsRow bodies (part 4096 area bytes)
+-- A head of this version with an open gate, for areas of this size, a root byte that picks the
+-- first area, and in it a row of these blocks.
+pub record IsStoreOf (version : Format) (area : ℕ) (bodies : List (List ℕ)) (bytes : List ℕ) : Type
+    0 where
+  pub header : IsHeader version area bytes
+  pub root : get_or bytes root_at 0 ≡ 0
+  pub row_is : IsRow bodies (part areas_at area bytes)
 
 -- ---- the settled content of a store
 
--- The blocks are an image of what the store in these bytes holds once all that was live is undone:
--- the collections with their items, and the marks of the next number and of the wear, those of an
--- opening. No transaction is live in it. Each block is as full as it can be.
-pub record IsImageOf (bytes : List ℕ) (image : List (List Record)) : Type 0 where
+-- The blocks are an image in the format of what the store in these bytes holds once all that was
+-- live is undone: the collections with their items, and the marks of the next number and of the
+-- wear, those of an opening. No transaction is live in it. Each block is as full as it can be.
+pub record IsImageOf (format : Format) (bytes : List ℕ) (image : List (List Record)) : Type 0 where
   -- the head of the store
+  pub version : Format
   pub size : ℕ
-  pub header : IsHeader size bytes
+  pub header : IsHeader version size bytes
   -- what is read of the area in use
   pub blocks : List (List Record)
   pub next : ℕ
   pub state : State
   pub count : ℕ
-  pub is_read : IsRead (base_in_use size bytes) size bytes blocks next state count
+  pub is_read : IsRead version (base_in_use size bytes) size bytes blocks next state count
   -- what undoes all that was live
   pub undoing : List Record
   pub undone : State
   pub marks : AllByRecursion IsUndoRecord undoing
   pub undo : Undo state undoing undone
   -- the image of what it leads to, and that it is read as that
-  pub is_image : IsImage next undone.wear undone.now [] [] (records_in image)
+  pub later : Allows state.format format
+  pub is_image : IsImage format next undone.wear undone.now [] [] (records_in image)
   pub good : AreRecords None (records_in image)
-  pub accepted : AreAccepted (records_in image) next (resting undone.now undone.wear) 0
+  pub accepted : AreAccepted format (records_in image) next (resting format undone.now undone.wear)
+      0
   -- its blocks
   pub packed : ArePacked image
   pub not_empty : AllByRecursion (λ records. 0 < length records) image
 
 -- The blocks are whole, and spell such an image.
-pub record SpellsImageOf (bytes : List ℕ) (blocks : List (Vec ℕ Global)) : Type 0 where
+pub record SpellsImageOf (format : Format) (bytes : List ℕ) (blocks : List (Vec ℕ Global)) : Type
+    0 where
   pub image : List (List Record)
-  pub is_image_of : IsImageOf bytes image
+  pub is_image_of : IsImageOf format bytes image
   pub whole : AreWhole blocks image
 
 -- ---- a copy
+
+-- the format of a copy, where the area in use is of this one and those of the copy have this size
+abbrev pub copied_as : Format → (area : ℕ) → Format
+copied_as Format.Two area = Format.Two
+copied_as Format.One area = cond (nat_lt (max_area Format.One) area) Format.Two Format.One
+
+-- The blocks spell the image that a copy with areas of this size has, which is of this format.
+pub record SpellsCopyOf (format : Format) (bytes : List ℕ) (area : ℕ)
+    (blocks : List (Vec ℕ Global)) : Type 0 where
+  pub spells : SpellsImageOf format bytes blocks
+  pub format_is : format ≡ copied_as spells.is_image_of.state.format area
 
 -- The bytes are a copy of the store in the old ones, with areas of this size: the first area is in
 -- use, and holds an image of the settled content of the old store, with no journal behind it. They
 -- are sound, and stand for the content that the old ones stand for.
 pub record IsCopyOf (old : List ℕ) (area : ℕ) (bytes : List ℕ) : Type 0 where
+  pub format : Format
   pub image : List (List Record)
-  pub is_image_of : IsImageOf old image
-  pub is_store : IsStoreOf area (map spelling image) bytes
+  pub is_image_of : IsImageOf format old image
+  pub format_is : format ≡ copied_as is_image_of.state.format area
+  pub is_store : IsStoreOf format area (map spelling image) bytes
   pub sound : IsSound bytes
   pub stands : (content : List Collection) → StandsFor old content → StandsFor bytes content
 
 -- The image of the settled content does not fit in an area of this size, with a closed gate behind
 -- it.
 pub record IsTooLarge (old : List ℕ) (area : ℕ) : Type 0 where
+  pub format : Format
   pub image : List (List Record)
-  pub is_image_of : IsImageOf old image
+  pub is_image_of : IsImageOf format old image
   pub over : area < length (row (map spelling image)) + 1
 
 -- When each answer of a copy comes.

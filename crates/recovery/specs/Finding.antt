@@ -1,7 +1,9 @@
 -- A store as it was found, with its losers undone in memory.
-use Rattle.std.specs.Prelude.{◌≡◌, ℕ, ◌+◌, ◌≤◌, ◌^◌, false, List, length}
+use Rattle.std.specs.Prelude.{◌≡◌, ℕ, ◌+◌, ◌≤◌, false, List, length}
 use Rattle.std.specs.FinMap as maps
 use Rattle.std.specs.List.{AllByRecursion}
+use Rattle.calls.specs.declared.format.Format.{Format}
+use Rattle.calls.specs.Formats.{max_area, widest}
 use Rattle.gate_block.specs.declared.area.Area.{Area}
 use Rattle.gate_block.specs.Area.{base_of, size_of, position_of, has_failed}
 use Rattle.record_format.specs.declared.record.Record.{Record}
@@ -15,16 +17,18 @@ use Rattle.recovery.specs.Loading.{IsLoaded}
 
 -- The head picks the area, and that holds what leads to the state.
 pub record IsStored (bytes : List ℕ) (area : Area) (state : State) (next count : ℕ) : Type 0 where
-  pub header : IsHeader (size_of area) bytes
+  pub version : Format
+  pub header : IsHeader version (size_of area) bytes
   pub picks : base_of area ≡ base_in_use (size_of area) bytes
-  pub loaded : IsLoaded (base_of area) (size_of area) bytes state next count (position_of area)
+  pub loaded : IsLoaded version (base_of area) (size_of area) bytes state next count
+      (position_of area)
 
 -- The area is one of the two of a disk of so many bytes, has not failed, and has so much room
 -- behind its next gate.
 pub record IsPlaced (area : Area) (bytes room : ℕ) : Type 0 where
   pub fine : has_failed area ≡ false
   pub one : IsOneOfTwo area bytes
-  pub small : size_of area ≤ 2 ^ 30
+  pub small : size_of area ≤ max_area widest
   pub behind : room + position_of area ≡ size_of area
 
 -- From a state that stands there, where the disk read true, the records of the undoing lead to the

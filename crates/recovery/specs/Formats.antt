@@ -1,21 +1,31 @@
 -- What a format makes, and what a stop in it leaves.
-use Rattle.std.specs.Prelude.{◌≡◌, ◌⊎◌, ℕ, ◌+◌, ◌*◌, ◌^◌, ◌≤◌, List, [], ◌∷◌, ◌++◌, take, drop}
-use Rattle.std.specs.Prelude.{codes, get_or, Result, Ok, Err}
+use Rattle.std.specs.Prelude.{◌≡◌, ◌⊎◌, ℕ, ◌+◌, ◌*◌, ◌≤◌, List, [], ◌∷◌, ◌++◌, take, drop}
+use Rattle.std.specs.Prelude.{get_or, Result, Ok, Err}
 use Rattle.std.specs.Int.{w64, to_be_bytes}
+use Rattle.calls.specs.declared.format.Format.{Format}
 use Rattle.calls.specs.declared.refusal.Refusal.{Refusal}
+use Rattle.calls.specs.Formats.{max_area, number_of}
+use Rattle.calls.specs.Limits.{min_area}
 use Rattle.disk_model.specs.Disk.{Torn}
 use Rattle.gate_block.specs.Row.{row}
+use Rattle.gate_block.specs.Layout.{gate_at, areas_at, root_at, size_at}
 use Rattle.record_format.specs.declared.record.Record.{Record}
 use Rattle.record_format.specs.Records.{spelling}
-use Rattle.repetition.specs.Journals.{IsHeader, StandsFor}
+use Rattle.repetition.specs.Journals.{letters_of, IsHeader, StandsFor}
 use Rattle.repetition.specs.Reading.{IsSound}
 use Rattle.recovery.specs.Heads.{HasNoHeader}
 
--- a disk of so many bytes has room for two areas of this size, and no more
-pub record IsRoomFor (area bytes : ℕ) : Type 0 where
-  pub not_small : 65536 ≤ area
-  pub not_large : area ≤ 2 ^ 30
-  pub whole : bytes ≡ 4096 + 2 * area
+-- a disk of the version that has so many bytes has room for two areas of this size, and no more
+pub record IsRoomFor (version : Format) (area bytes : ℕ) : Type 0 where
+  pub not_small : min_area ≤ area
+  pub not_large : area ≤ max_area version
+  pub whole : bytes ≡ areas_at + 2 * area
+
+-- there is a version of this number, of which it has
+pub record IsRoomAs (number area bytes : ℕ) : Type 0 where
+  pub version : Format
+  pub numbered : number ≡ number_of version
+  pub room : IsRoomFor version area bytes
 
 -- When each answer of a format comes.
 abbrev pub IsFormatAnswer : Type 0 → Type 0 → Result (Unit {0}) Refusal → Type 0
@@ -24,32 +34,34 @@ IsFormatAnswer is_room is_risen (Err Refusal.BadArg) = is_room → ⊥
 IsFormatAnswer is_room is_risen (Err Refusal.Fault) = is_room × is_risen
 IsFormatAnswer is_room is_risen (Err e) = ⊥
 
--- The area of an empty store: one block, of the image of nothing, and a closed gate.
-abbrev pub empty_area : List ℕ
-empty_area = row (spelling (Record.Marks 1 0 ∷ (Record.ImageEnd ∷ [])) ∷ []) ++ 0 ∷ []
+-- The area of an empty store of the format: one block, of the image of nothing, and a closed gate.
+abbrev pub empty_area : Format → List ℕ
+empty_area format = row (spelling (Record.Marks format 1 0 ∷ (Record.ImageEnd ∷ [])) ∷ []) ++ 0 ∷ []
 
--- The head of a store with areas of this size, but for its gate, and a root byte that picks the
--- first area.
-pub record IsHeadOf (area : ℕ) (bytes : List ℕ) : Type 0 where
-  pub letters : take 8 bytes ≡ codes "BOOSTED1"
-  pub area_is : take 8 (drop 9 bytes) ≡ to_be_bytes w64 area
-  pub root : take 1 (drop 512 bytes) ≡ 0 ∷ []
+-- The head of a store of this version with areas of this size, but for its gate, and a root byte
+-- that picks the first area.
+pub record IsHeadOf (version : Format) (area : ℕ) (bytes : List ℕ) : Type 0 where
+  pub letters : take 8 bytes ≡ letters_of version
+  pub area_is : take 8 (drop size_at bytes) ≡ to_be_bytes w64 area
+  pub root : take 1 (drop root_at bytes) ≡ 0 ∷ []
 
--- The bytes of an empty store with areas of this size, but for the gate of its head.
-pub record IsFilled (area : ℕ) (bytes : List ℕ) : Type 0 where
-  pub head : IsHeadOf area bytes
-  pub image : take 24 (drop 4096 bytes) ≡ empty_area
+-- The bytes of an empty store of this version with areas of this size, but for the gate of its
+-- head. Its area is of the format of the same number.
+pub record IsFilled (version : Format) (area : ℕ) (bytes : List ℕ) : Type 0 where
+  pub head : IsHeadOf version area bytes
+  pub image : take 24 (drop areas_at bytes) ≡ empty_area version
 
 -- the gate of the head is closed, as 0
 abbrev pub IsShut : List ℕ → Type 0
-IsShut bytes = get_or bytes 8 0 ≡ 0
+IsShut bytes = get_or bytes gate_at 0 ≡ 0
 
--- The bytes are those of a format: a head with an open gate, a root byte that picks the first area,
--- and in it the image of nothing alone. They are sound, and stand for a store with no collection.
-pub record IsEmptyStore (bytes : List ℕ) : Type 0 where
+-- The bytes are those of a new store of this version: a head with an open gate, a root byte that
+-- picks the first area, and in it the image of nothing alone. They are sound, and stand for a store
+-- with no collection.
+pub record IsEmptyStore (version : Format) (bytes : List ℕ) : Type 0 where
   pub area : ℕ
-  pub header : IsHeader area bytes
-  pub filled : IsFilled area bytes
+  pub header : IsHeader version area bytes
+  pub filled : IsFilled version area bytes
   pub sound : IsSound bytes
   pub stands : StandsFor bytes []
 
@@ -59,5 +71,5 @@ abbrev pub IsMaking : (List ℕ → Type 0) → List ℕ → List ℕ → Type 0
 IsMaking is_made old bytes = Torn 8 1 old bytes ⊎ (HasNoHeader bytes ⊎ is_made bytes)
 
 -- What a stop in a format may leave: the store that is made is an empty one.
-abbrev pub IsFormatting : List ℕ → List ℕ → Type 0
-IsFormatting old bytes = IsMaking IsEmptyStore old bytes
+abbrev pub IsFormatting : (version : Format) → List ℕ → List ℕ → Type 0
+IsFormatting version old bytes = IsMaking (IsEmptyStore version) old bytes

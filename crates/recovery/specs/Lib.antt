@@ -5,3 +5,4 @@ pub mod Loading
 pub mod Finding
 pub mod Copies
 pub mod Surveys
+pub mod Upgrades

@@ -1,20 +1,23 @@
 -- What an area was read to hold.
 use Rattle.std.specs.Prelude.{◌≡◌, ℕ, List, [], ◌∷◌, ◌++◌, length, map, Bool, true, false, None}
 use Rattle.gate_block.specs.Row.{row, IsRow, part}
+use Rattle.calls.specs.declared.format.Format.{Format}
 use Rattle.record_format.specs.declared.record.Record.{Record}
 use Rattle.record_format.specs.Records.{spelling, AreRecords}
 use Rattle.repetition.specs.declared.stage.Stage.{Stage}
-use Rattle.repetition.specs.Journals.{records_in}
+use Rattle.repetition.specs.Journals.{IsHeader, records_in}
 use Rattle.repetition.specs.Reading.{AreAccepted}
 use Rattle.repetition.specs.Steps.{State}
 use Rattle.recovery.specs.Openings.{IsRead}
 
--- The area is a row of blocks up to this position, of an image and a journal of so many records,
--- which lead to the state; the number is above every number that they enter.
-pub record IsLoaded (base size : ℕ) (bytes : List ℕ) (state : State) (next count place : ℕ) : Type
+-- The area of a disk of this version is a row of blocks up to this position, of an image and a
+-- journal of so many records, which lead to the state; the number is above every number that they
+-- enter.
+pub record IsLoaded (version : Format) (base size : ℕ) (bytes : List ℕ) (state : State)
+    (next count place : ℕ) : Type
     0 where
   pub blocks : List (List Record)
-  pub is_read : IsRead base size bytes blocks next state count
+  pub is_read : IsRead version base size bytes blocks next state count
   pub position : place ≡ length (row (map spelling blocks))
 
 -- ---- the image in front of the journal
@@ -32,7 +35,7 @@ image_behind false end position = end
 -- The image takes the first of the blocks, so many bytes: it ends behind the first block behind
 -- which the records are accepted, the one that has the record of its end. What stands behind that
 -- block is the journal.
-pub record IsImagePart (blocks : List (List Record)) (len : ℕ) : Type 0 where
+pub record IsImagePart (version : Format) (blocks : List (List Record)) (len : ℕ) : Type 0 where
   pub before : List (List Record)
   pub last : List Record
   pub journal : List (List Record)
@@ -40,13 +43,20 @@ pub record IsImagePart (blocks : List (List Record)) (len : ℕ) : Type 0 where
   pub next : ℕ
   pub state : State
   pub count : ℕ
-  pub ended : AreAccepted (records_in (before ++ last ∷ [])) next state count
-  pub not_before : (n : ℕ) (s : State) (k : ℕ) → AreAccepted (records_in before) n s k → ⊥
+  pub ended : AreAccepted version (records_in (before ++ last ∷ [])) next state count
+  pub not_before : (n : ℕ) (s : State) (k : ℕ) → AreAccepted version (records_in before) n s k → ⊥
   pub len_is : len ≡ length (row (map spelling (before ++ last ∷ [])))
 
--- The area is a row of blocks, whose image takes so many bytes.
-pub record HoldsImage (base size : ℕ) (bytes : List ℕ) (len : ℕ) : Type 0 where
+-- The area of a disk of this version is a row of blocks, whose image takes so many bytes.
+pub record StartsWithImage (version : Format) (base size : ℕ) (bytes : List ℕ) (len : ℕ) : Type
+    0 where
   pub blocks : List (List Record)
   pub good : AreRecords None (records_in blocks)
   pub row_is : IsRow (map spelling blocks) (part base size bytes)
-  pub image : IsImagePart blocks len
+  pub image : IsImagePart version blocks len
+
+-- So it is of the version that the header tells.
+pub record HoldsImage (base size : ℕ) (bytes : List ℕ) (len : ℕ) : Type 0 where
+  pub version : Format
+  pub header : IsHeader version size bytes
+  pub starts : StartsWithImage version base size bytes len

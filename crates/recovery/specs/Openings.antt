@@ -3,6 +3,7 @@ use Rattle.std.specs.Prelude.{◌≡◌, ◌≢◌, [], ◌++◌, ℕ, ◌+◌, 
 use Rattle.std.specs.Prelude.{map, None}
 use Rattle.std.specs.List.{AllByRecursion}
 use Rattle.std.specs.FinMap as maps
+use Rattle.calls.specs.declared.format.Format.{Format}
 use Rattle.calls.specs.declared.refusal.Refusal.{Refusal}
 use Rattle.calls.specs.Contents.{Collection}
 use Rattle.calls.specs.Transactions.{Leads}
@@ -16,42 +17,45 @@ use Rattle.txn.specs.Books.{BookState, opened}
 use Rattle.recovery.specs.declared.report.Report.{Report}
 use Rattle.repetition.specs.Journals.{IsHeader, StandsFor, records_in}
 use Rattle.gate_block.specs.Layout.{base_in_use, area_in_use}
+use Rattle.gate_block.specs.Row.{open_gate}
 use Rattle.repetition.specs.Steps.{State}
 use Rattle.repetition.specs.Reading.{Progress, Unread, Reads, last_named, AreAccepted, IsSound}
 use Rattle.repetition.specs.Repetitions.{AreRead}
-use Rattle.undoing.specs.Undoing.{Undo, AreBlocksOf}
+use Rattle.undoing.specs.Undoing.{Undo, IsUndoRecord, AreBlocksOf}
 
--- The area is a row of these blocks, of an image and a journal of so many records, which lead to
--- the state; the number is above every number that they enter.
-pub record IsRead (base size : ℕ) (bytes : List ℕ) (blocks : List (List Record)) (next : ℕ)
+-- The area of a disk of this version is a row of these blocks, of an image and a journal of so many
+-- records, which lead to the state; the number is above every number that they enter.
+pub record IsRead (version : Format) (base size : ℕ) (bytes : List ℕ) (blocks : List (List Record))
+    (next : ℕ)
     (state : State) (count : ℕ) : Type 0 where
   pub good : AreRecords None (records_in blocks)
   pub row_is : IsRow (map spelling blocks) (part base size bytes)
-  pub accepted : AreAccepted (records_in blocks) next state count
+  pub accepted : AreAccepted version (records_in blocks) next state count
 
 -- Blocks that an opening takes: those of an accepted image and journal.
-pub record AreSound (base size : ℕ) (bytes : List ℕ) (blocks : List (List Record)) : Type 0 where
+pub record AreSound (version : Format) (base size : ℕ) (bytes : List ℕ)
+    (blocks : List (List Record)) : Type 0 where
   pub next : ℕ
   pub end : State
   pub count : ℕ
-  pub is_read : IsRead base size bytes blocks next end count
+  pub is_read : IsRead version base size bytes blocks next end count
 
--- At this place of the disk stands the first fault of an area. Before it stand whole blocks, whose
--- records are read. There the gate is open, and no block stands with which the reading goes on; or
--- it is closed, and the image has not ended.
-pub record IsFirstFault (base : ℕ) (area : List ℕ) (place : ℕ) : Type 0 where
+-- At this place of a disk of this version stands the first fault of an area. Before it stand whole
+-- blocks, whose records are read. There the gate is open, and no block stands with which the
+-- reading goes on; or it is closed, and the image has not ended.
+pub record IsFirstFault (version : Format) (base : ℕ) (area : List ℕ) (place : ℕ) : Type 0 where
   pub blocks : List (List Record)
   pub good : AreRecords None (records_in blocks)
   pub position : ℕ
   pub behind : position ≡ length (row (map spelling blocks))
   pub stood : area ≡ row (map spelling blocks) ++ drop position area
   pub place_is : place ≡ base + position
-  pub begins : (p : Progress) × Leads Reads (records_in blocks) Unread p
+  pub begins : (p : Progress) × Leads Reads (records_in blocks) (Unread version) p
   pub no_block : (group : List Record) → AreRecords (last_named None (records_in blocks)) group →
       StandsAt area position (spelling group) → (p : Progress) →
-      Leads Reads (records_in blocks ++ group) Unread p → ⊥
-  pub no_end : get_or area position 0 ≢ 167 → (next : ℕ) (s : State) (count : ℕ) →
-      AreAccepted (records_in blocks) next s count → ⊥
+      Leads Reads (records_in blocks ++ group) (Unread version) p → ⊥
+  pub no_end : get_or area position 0 ≢ open_gate → (next : ℕ) (s : State) (count : ℕ) →
+      AreAccepted version (records_in blocks) next s count → ⊥
 
 -- Why an area could not be loaded: for want of memory, for a counted fault, or for damage at the
 -- place.
@@ -62,17 +66,22 @@ IsLoadRefusal is_risen is_damaged (Refusal.Damaged place) = is_damaged place
 IsLoadRefusal is_risen is_damaged e = ⊥
 
 -- The area has its first fault at this place, so no sound blocks stand there.
-pub record IsSpoilt (base size : ℕ) (bytes : List ℕ) (place : ℕ) : Type 0 where
-  pub fault : IsFirstFault base (part base size bytes) place
-  pub unsound : (blocks : List (List Record)) → AreSound base size bytes blocks → ⊥
+pub record IsSpoilt (version : Format) (base size : ℕ) (bytes : List ℕ) (place : ℕ) : Type 0 where
+  pub fault : IsFirstFault version base (part base size bytes) place
+  pub unsound : (blocks : List (List Record)) → AreSound version base size bytes blocks → ⊥
 
 -- The bytes are damaged, first at this place: the area that their head picks has its first fault
 -- there, and they are not sound.
 pub record IsDamagedAt (bytes : List ℕ) (place : ℕ) : Type 0 where
+  pub version : Format
   pub size : ℕ
-  pub header : IsHeader size bytes
-  pub fault : IsFirstFault (base_in_use size bytes) (area_in_use size bytes) place
+  pub header : IsHeader version size bytes
+  pub fault : IsFirstFault version (base_in_use size bytes) (area_in_use size bytes) place
   pub unsound : IsSound bytes → ⊥
+
+-- the book of a state in which nothing is live
+abbrev pub book_of : State → (next : ℕ) → BookState (List Collection)
+book_of s next = opened s.format s.now next s.wear
 
 -- A store was opened: its head picks the area, and that was read. Whatever was live is undone, and
 -- the records of the undoing stand in blocks behind the others, in the area and nowhere else. The
@@ -80,19 +89,21 @@ pub record IsDamagedAt (bytes : List ℕ) (place : ℕ) : Type 0 where
 pub record IsOpened (old : List ℕ) (book : BookState (List Collection)) (area : Area)
     (new : List ℕ) : Type 0 where
   -- the head of the store
-  pub header : IsHeader (size_of area) old
+  pub version : Format
+  pub header : IsHeader version (size_of area) old
   pub picks : base_of area ≡ base_in_use (size_of area) old
   -- what was read of the area
   pub blocks : List (List Record)
   pub next : ℕ
   pub state : State
   pub count : ℕ
-  pub is_read : IsRead (base_of area) (size_of area) old blocks next state count
+  pub is_read : IsRead version (base_of area) (size_of area) old blocks next state count
   -- what undoes all that was live, and the book behind it
   pub undoing : List Record
   pub undone : State
   pub undo : Undo state undoing undone
-  pub book_is : book ≡ opened undone.now next undone.wear
+  pub marks : AllByRecursion IsUndoRecord undoing
+  pub book_is : book ≡ book_of undone next
   -- the blocks of that, and where they stand
   pub written : List (List Record)
   pub in_blocks : AreBlocksOf undoing written
@@ -114,14 +125,15 @@ pub record IsReadyStore {D : Type 0} (seen : D → List ℕ) (may_leave : D → 
 -- The blocks of the undoing do not fit behind the others.
 pub record HasNoRoom (bytes : List ℕ) : Type 0 where
   -- the head of the store
+  pub version : Format
   pub size : ℕ
-  pub header : IsHeader size bytes
+  pub header : IsHeader version size bytes
   -- what is read of the area in use
   pub blocks : List (List Record)
   pub next : ℕ
   pub state : State
   pub count : ℕ
-  pub is_read : IsRead (base_in_use size bytes) size bytes blocks next state count
+  pub is_read : IsRead version (base_in_use size bytes) size bytes blocks next state count
   -- what undoes all that was live
   pub undoing : List Record
   pub undone : State
@@ -159,14 +171,15 @@ KeepsContent seen may_leave moment left_since old new =
 -- records in the journal.
 pub record IsReport (bytes : List ℕ) (report : Report) : Type 0 where
   -- the head of the store
+  pub version : Format
   pub size : ℕ
-  pub header : IsHeader size bytes
+  pub header : IsHeader version size bytes
   -- what is read of the area in use
   pub blocks : List (List Record)
   pub next : ℕ
   pub state : State
   pub count : ℕ
-  pub is_read : IsRead (base_in_use size bytes) size bytes blocks next state count
+  pub is_read : IsRead version (base_in_use size bytes) size bytes blocks next state count
   -- what is told of that
   pub collections : report.collections ≡ length state.now
   pub unfinished : report.unfinished ≡ maps.len state.live

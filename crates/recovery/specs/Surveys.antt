@@ -4,6 +4,7 @@ use Rattle.std.specs.declared.alloc.Global.{Global}
 use Rattle.gate_block.specs.declared.area.Area.{Area}
 use Rattle.gate_block.specs.Row.{row}
 use Rattle.gate_block.specs.Area.{base_of, size_of, position_of}
+use Rattle.gate_block.specs.Layout.{areas_at}
 use Rattle.record_format.specs.declared.record.Record.{Record}
 use Rattle.images.specs.Images.{IsPackedImage}
 use Rattle.checkpoint.specs.Imaging.{bodies_of}
@@ -29,7 +30,7 @@ pub record IsImageLen (next : ℕ) (state : State) (len : ℕ) : Type 0 where
 pub record IsSurvey (area : Area) (undone : State) (next : ℕ) (undoing : List Record) (image : ℕ)
     (report : Report) (survey : Survey) : Type 0 where
   pub area_is : survey.area ≡ size_of area
-  pub first : IsTrue survey.first ↔ (base_of area ≡ 4096)
+  pub first : IsTrue survey.first ↔ (base_of area ≡ areas_at)
   pub used : survey.used ≡ position_of area + 1
   pub image_is : survey.image ≡ image
   pub journal : survey.image + survey.journal + 1 ≡ survey.used

@@ -1,10 +1,12 @@
 // Copying a store to another disk.
 ghost use Rattle.std.specs.Prelude.{◌≡◌, ◌≢◌, ◌≤◌, ◌<◌, ◌+◌, ◌⊎◌, ℕ, List, [], length, IfErr};
 ghost use Rattle.std.specs.Prelude.{OnOk, IsErrOf, false};
+ghost use Rattle.calls.specs.declared.format.Format.{Format};
 ghost use Rattle.calls.specs.declared.refusal.Refusal.{Refusal};
 ghost use Rattle.disk_model.specs.Disk.{LeavesOnly, ReadsOnly, Rises, HasCause, IsAtRest};
 ghost use Rattle.gate_block.specs.Row.{row, IsRow, part};
 ghost use Rattle.gate_block.specs.Area.{base_of, size_of, position_of, has_failed};
+ghost use Rattle.gate_block.specs.Layout.{areas_at};
 ghost use Rattle.checkpoint.specs.Imaging.{IsTooLong, IsBeingLaid, bodies_of, left_of};
 ghost use Rattle.recovery.specs.Heads.{HasNoHeader};
 ghost use Rattle.recovery.specs.Openings.{IsDamagedAt};
@@ -15,7 +17,7 @@ ghost use Rattle.recovery.specs.Copies.{IsTooLarge, IsCopyAnswer};
 use crate::formatting::{is_room_for, write_head};
 use crate::settling::settled_image;
 use blocks::Image;
-use calls::Refusal;
+use calls::{Format, Refusal};
 use checkpoint::{Laying, is_too_long};
 use disk_model::{Disk, Fault, write_and_sync};
 use gate_block::Area;
@@ -27,7 +29,8 @@ use std::alloc::Global;
 /// whose undoing no longer fits in its area is copied as any other. The new disk gets the settled
 /// content: a head, a root byte that picks the first area, and in it the image of that content with
 /// no journal behind it. The next number and the wear are those of an opening. The copy is of
-/// format 1.
+/// format 2, head and area, where the area in use of the old disk is or the new areas are over 2^30
+/// bytes, and else of format 1.
 ///
 /// The gate of the new disk's head is closed and synced first, and opened last. A stop at any
 /// moment of the call, with the new disk at rest before it, leaves there the old bytes with any
@@ -36,7 +39,7 @@ use std::alloc::Global;
 /// It takes the time and memory of an opening, and of one copy of the content, which is spelled
 /// whole before anything is written.
 ///
-/// Refused BadArg where the area is below 65,536 or over 2^30 bytes, or where the new disk has
+/// Refused BadArg where the area is below 65,536 or over 2^36 bytes, or where the new disk has
 /// another size than 4096 and two areas, with no disk touched; NotAStore and Damaged as `inspect`
 /// says; NoMemory; Full where an area has no room for the image and a closed gate behind it; Fault
 /// where one of the disks failed. Each leaves the new disk as it was, but a Fault of that disk.
@@ -47,7 +50,7 @@ pub fn copy<D: Disk, E: Disk>(
     area: u64,
 ) -> Result<(), Refusal>
     // What it answers, of a disk that read true.
-    ensures answer { IsCopyAnswer (IsRoomFor area (length (E.seen new.old)))
+    ensures answer { IsCopyAnswer (IsRoomFor Format.Two area (length (E.seen new.old)))
         (Rises (D.fault_count old.old) (D.fault_count old.new) ⊎
         Rises (E.fault_count new.old) (E.fault_count new.new))
         (D.is_honest old.new → HasNoHeader (D.seen old.old))
@@ -71,44 +74,44 @@ pub fn copy<D: Disk, E: Disk>(
     ensures faults { (D.fault_count old.old ≤ D.fault_count old.new) ×
         (E.fault_count new.old ≤ E.fault_count new.new) }
 {
-    if !is_room_for(new, area) {
+    if !is_room_for(new, Format::Two, area) {
         return Err(Refusal::BadArg);
     }
-    let image = settled_image(alloc, old)?;
+    let (image, version) = settled_image(alloc, old, area)?;
     if is_too_long(&image, area) {
         return Err(Refusal::Full);
     }
-    match write_copy(new, area, image) {
+    match write_copy(new, version, area, image) {
         Ok(()) => Ok(()),
         Err(_) => Err(Refusal::Fault),
     }
 }
 
 // Closes the gate of the head, writes a store of the image behind it, and opens the gate.
-fn write_copy<D: Disk>(disk: &mut D, area: u64, image: Image) -> Result<(), Fault>
-    requires room { IsRoomFor area (length (D.seen disk.old)) }
+fn write_copy<D: Disk>(disk: &mut D, version: Format, area: u64, image: Image) -> Result<(), Fault>
+    requires room { IsRoomFor version area (length (D.seen disk.old)) }
     requires some { image.blocks.items ≢ [] }
     requires fits { IsTooLong area image.blocks.items → ⊥ }
-    ensures written { OnOk result (IsStoreOf area (bodies_of image.blocks.items)
+    ensures written { OnOk result (IsStoreOf version area (bodies_of image.blocks.items)
         (D.seen disk.new)) }
     ensures durable { OnOk result (IsAtRest D.seen D.may_leave disk.new) }
     ensures size { length (D.seen disk.new) ≡ length (D.seen disk.old) }
     ensures stop { IsAtRest D.seen D.may_leave disk.old →
         LeavesOnly D.moment D.left_since disk.old disk.new
-        (IsMaking (IsStoreOf area (bodies_of image.blocks.items)) (D.seen disk.old)) }
+        (IsMaking (IsStoreOf version area (bodies_of image.blocks.items)) (D.seen disk.old)) }
     ensures cause { HasCause (D.fault_count disk.old) (D.fault_count disk.new) result }
 {
     write_and_sync(disk, GATE_AT, &[0])?;
-    fill_with(disk, area, image)?;
+    fill_with(disk, version, area, image)?;
     write_and_sync(disk, GATE_AT, &[OPEN])
 }
 
 // Writes all of a store of the image but the gate of its head.
-fn fill_with<D: Disk>(disk: &mut D, area: u64, image: Image) -> Result<(), Fault>
-    requires room { IsRoomFor area (length (D.seen disk.old)) }
+fn fill_with<D: Disk>(disk: &mut D, version: Format, area: u64, image: Image) -> Result<(), Fault>
+    requires room { IsRoomFor version area (length (D.seen disk.old)) }
     requires some { image.blocks.items ≢ [] }
     requires fits { IsTooLong area image.blocks.items → ⊥ }
-    ensures filled { OnOk result (IsFilledWith area (bodies_of image.blocks.items)
+    ensures filled { OnOk result (IsFilledWith version area (bodies_of image.blocks.items)
         (D.seen disk.new)) }
     ensures durable { OnOk result (IsAtRest D.seen D.may_leave disk.new) }
     ensures size { length (D.seen disk.new) ≡ length (D.seen disk.old) }
@@ -121,12 +124,12 @@ fn fill_with<D: Disk>(disk: &mut D, area: u64, image: Image) -> Result<(), Fault
         image,
     };
     lay_all(disk, laying)?;
-    write_head(disk, area)
+    write_head(disk, version, area)
 }
 
 // Lays the blocks of an image that are left, one behind the other.
 fn lay_all<D: Disk>(disk: &mut D, mut laying: Laying) -> Result<(), Fault>
-    requires behind { 4096 ≤ base_of laying.area }
+    requires behind { areas_at ≤ base_of laying.area }
     requires fine { has_failed laying.area ≡ false }
     requires room { position_of laying.area + length (row (bodies_of (left_of laying))) <
         size_of laying.area }

@@ -1,5 +1,6 @@
 // Finding a store: what its area in use holds, with the losers undone in memory.
-ghost use Rattle.std.specs.Prelude.{◌≡◌, ◌≤◌, ◌+◌, ◌^◌, ℕ, length, IfOk, IfErr, IsOkUnless};
+ghost use Rattle.std.specs.Prelude.{◌≡◌, ◌≤◌, ◌+◌, ℕ, length, IfOk, IfErr, IsOkUnless};
+ghost use Rattle.calls.specs.Limits.{number_end};
 ghost use Rattle.disk_model.specs.Disk.{ReadsOnly, Rises};
 ghost use Rattle.gate_block.specs.Area.{base_of, size_of, position_of};
 ghost use Rattle.recovery.specs.Heads.{HasNoHeader};
@@ -37,7 +38,7 @@ pub struct Found {
     pub image: u64,
     pub records: Vec<Record>,
     pub report: Report,
-    ghost bound: { (1 ≤ next) × (next ≤ 2 ^ 61) },
+    ghost bound: { (1 ≤ next) × (next ≤ number_end) },
     ghost inside: { image ≤ position_of area },
 }
 
@@ -92,13 +93,13 @@ pub fn find<D: Disk>(alloc: Global, disk: &mut D) -> Result<Found, Refusal>
     ensures honest { D.is_honest disk.new → D.is_honest disk.old }
     ensures faults { D.fault_count disk.old ≤ D.fault_count disk.new }
 {
-    let (base, size) = area_in_use(disk)?;
+    let (base, size, version) = area_in_use(disk)?;
     let Loaded {
         repeated,
         area,
         place,
         image,
-    } = load(alloc, disk, base, size)?;
+    } = load(alloc, disk, version, base, size)?;
     let Repeated {
         mut machine,
         next,

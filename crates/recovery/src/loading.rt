@@ -1,11 +1,12 @@
 // Reading an area.
 ghost use Rattle.std.specs.Prelude.{◌≡◌, ◌≤◌, ◌<◌, ◌+◌, ◌^◌, ℕ, length, IfOk, IfErr, false};
+ghost use Rattle.calls.specs.declared.format.Format.{Format};
 ghost use Rattle.disk_model.specs.Disk.{ReadsOnly, Rises};
 ghost use Rattle.gate_block.specs.Area.{base_of, size_of, position_of, has_failed};
 ghost use Rattle.recovery.specs.Openings.{IsLoadRefusal, IsSpoilt};
-ghost use Rattle.recovery.specs.Loading.{IsLoaded, HoldsImage, is_imaging, image_behind};
+ghost use Rattle.recovery.specs.Loading.{IsLoaded, StartsWithImage, is_imaging, image_behind};
 
-use calls::Refusal;
+use calls::{Format, Refusal};
 use disk_model::Disk;
 use gate_block::{Area, BLOCK_HEAD};
 use repetition::{Repeated, Repetition, Stage};
@@ -22,32 +23,39 @@ pub struct Loaded {
     pub image: u64,
 }
 
-/// Reads the records of all blocks of an area, one block at a time.
+/// Reads the records of all blocks of an area of a disk of this version, one block at a time.
 ///
 /// Refused NoMemory, Fault where the disk failed, and Damaged with the position of the gate of the
 /// block in which the first damage stands.
-pub fn load<D: Disk>(alloc: Global, disk: &mut D, base: u64, size: u64) -> Result<Loaded, Refusal>
+pub fn load<D: Disk>(
+    alloc: Global,
+    disk: &mut D,
+    version: Format,
+    base: u64,
+    size: u64,
+) -> Result<Loaded, Refusal>
     requires room { 0 < size }
     requires fits { base + size < 2 ^ 63 }
     requires disk { base + size ≤ length (D.seen disk.old) }
     ensures loaded { IfOk result (λ x. D.is_honest disk.new →
-        IsLoaded base size (D.seen disk.old) x.repeated.machine x.repeated.next x.repeated.count
+        IsLoaded version base size (D.seen disk.old) x.repeated.machine x.repeated.next
+        x.repeated.count
         (position_of x.area)) }
     ensures area { IfOk result (λ x. (base_of x.area ≡ base) × (size_of x.area ≡ size) ×
         (has_failed x.area ≡ false)) }
     ensures place { IfOk result (λ x. x.place ≡ base + position_of x.area) }
     ensures image { IfOk result (λ x. D.is_honest disk.new →
-        HoldsImage base size (D.seen disk.old) x.image) }
+        StartsWithImage version base size (D.seen disk.old) x.image) }
     ensures inside { IfOk result (λ x. x.image ≤ position_of x.area) }
     ensures refused { IfErr result (IsLoadRefusal
         (Rises (D.fault_count disk.old) (D.fault_count disk.new))
-        (λ place. D.is_honest disk.new → IsSpoilt base size (D.seen disk.old) place)) }
+        (λ place. D.is_honest disk.new → IsSpoilt version base size (D.seen disk.old) place)) }
     ensures reads { ReadsOnly D.seen D.may_leave D.moment D.left_since disk.old disk.new }
     ensures honest { D.is_honest disk.new → D.is_honest disk.old }
     ensures faults { D.fault_count disk.old ≤ D.fault_count disk.new }
 {
     let mut area = Area::start(base, size, 0);
-    let mut repetition = Repetition::new();
+    let mut repetition = Repetition::new(version);
     let mut place = base;
     let mut image = 0;
     loop {

@@ -1,8 +1,10 @@
 // Opening a store.
-ghost use Rattle.std.specs.Prelude.{◌≡◌, ◌≤◌, ◌<◌, ◌+◌, ◌^◌, List, [], length, IfOk, IfErr, IsTrue};
+ghost use Rattle.std.specs.Prelude.{◌≡◌, ◌≤◌, ◌<◌, ◌+◌, List, [], length, IfOk, IfErr, IsTrue};
 ghost use Rattle.std.specs.Prelude.{◌↔◌, false};
 ghost use Rattle.calls.specs.Contents.{Collection};
 ghost use Rattle.calls.specs.declared.refusal.Refusal.{Refusal};
+ghost use Rattle.calls.specs.Formats.{max_area, widest};
+ghost use Rattle.calls.specs.Limits.{number_end};
 ghost use Rattle.disk_model.specs.Disk.{ReadsOnly, Rises, IsAtRest};
 ghost use Rattle.gate_block.specs.Area.{has_failed};
 ghost use Rattle.checkpoint.specs.Keepers.{IsOneOfTwo, IsFresh};
@@ -11,7 +13,7 @@ ghost use Rattle.txn.specs.Books.{opened};
 ghost use Rattle.recovery.specs.Heads.{HasNoHeader};
 ghost use Rattle.undoing.specs.Undoing.{blocks_len};
 ghost use Rattle.recovery.specs.Openings.{IsOpened, IsDamagedAt, HasNoRoom, IsReadyStore};
-ghost use Rattle.recovery.specs.Openings.{IsOpenRefusal, KeepsContent};
+ghost use Rattle.recovery.specs.Openings.{IsOpenRefusal, KeepsContent, book_of};
 
 use crate::finding::{Found, find};
 use calls::Refusal;
@@ -19,39 +21,49 @@ use catalog::Catalog;
 use checkpoint::Keeper;
 use disk_model::Disk;
 use gate_block::Area;
+use machine::Machine;
 use std::alloc::Global;
 use txn::Book;
 use undoing::{append_all, blocks_len, make_room};
 
 // Whether so many records of an undoing fit, in blocks, in so many bytes, with a gate behind them.
 fn fits(room: u64, count: usize) -> bool
-    requires { room ≤ 2 ^ 30 }
+    requires { room ≤ max_area widest }
     ensures { IsTrue result ↔ (blocks_len count < room) }
 {
     blocks_len(count as u64) < room
 }
 
-// Opens the store on a disk.
-fn open_on<D: Disk>(alloc: Global, disk: &mut D) -> Result<(Book<Catalog>, Area), Refusal>
+/// A store whose losers are undone, in memory and on its disk.
+#[derive(Drop)]
+pub(crate) struct Settled {
+    pub machine: Machine<Catalog>,
+    /// A number above every number that was entered.
+    pub next: u64,
+    pub area: Area,
+    ghost bound: { (1 ≤ next) × (next ≤ number_end) },
+}
+
+/// Undoes the losers of the store on a disk, and writes the records of that, as `open` says.
+pub(crate) fn settle<D: Disk>(alloc: Global, disk: &mut D) -> Result<Settled, Refusal>
     // What it answers, of a disk that read true.
     ensures opened { IfOk result (λ x. D.is_honest disk.new →
-        IsOpened (D.seen disk.old) x.0 x.1 (D.seen disk.new)) }
+        IsOpened (D.seen disk.old) (book_of x.machine x.next) x.area (D.seen disk.new)) }
     ensures content { (content : List Collection) → StandsFor (D.seen disk.old) content →
-        IfOk result (λ x. D.is_honest disk.new → x.0.state.now ≡ content) }
+        IfOk result (λ x. D.is_honest disk.new → x.machine.now ≡ content) }
     // What a stop leaves.
     ensures kept { D.is_honest disk.new →
         KeepsContent D.seen D.may_leave D.moment D.left_since disk.old disk.new }
     // What the disk holds then.
     ensures untouched { IfOk result
-        (λ x. D.is_honest disk.new → (o : IsOpened (D.seen disk.old) x.0 x.1 (D.seen disk.new)) →
+        (λ x. D.is_honest disk.new → (o : IsOpened (D.seen disk.old) (book_of x.machine x.next)
+        x.area (D.seen disk.new)) →
         o.undoing ≡ [] → ReadsOnly D.seen D.may_leave D.moment D.left_since disk.old disk.new) }
     ensures durable { IfOk result (λ x. D.is_honest disk.new →
         IsAtRest D.seen D.may_leave disk.old → IsAtRest D.seen D.may_leave disk.new) }
-    // Nothing is live or pending in the book, whatever the disk told.
-    ensures rests { IfOk result (λ x. x.0 ≡ opened x.0.state.now x.0.next x.0.state.wear) }
     // Where the area is.
-    ensures area { IfOk result (λ x. (has_failed x.1 ≡ false) ×
-        IsOneOfTwo x.1 (length (D.seen disk.new))) }
+    ensures area { IfOk result (λ x. (has_failed x.area ≡ false) ×
+        IsOneOfTwo x.area (length (D.seen disk.new))) }
     // Why it is refused, and that nothing is written then, but at a Fault.
     ensures refused { IfErr result (IsOpenRefusal
         (Rises (D.fault_count disk.old) (D.fault_count disk.new))
@@ -79,8 +91,21 @@ fn open_on<D: Disk>(alloc: Global, disk: &mut D) -> Result<(Book<Catalog>, Area)
     }
     let buffer = make_room(alloc)?;
     append_all(disk, &mut area, records.as_slice(), buffer)?;
+    Ok(Settled {
+        machine,
+        next,
+        area,
+    })
+}
+
+// The book of a machine in which nothing is live.
+fn book_of(alloc: Global, machine: Machine<Catalog>, next: u64) -> Book<Catalog>
+    requires { (1 ≤ next) × (next ≤ number_end) }
+    ensures { result ≡ book_of machine next }
+{
     let wear = machine.wear();
-    Ok((Book::new(alloc, machine.into_parts(), next, wear), area))
+    let format = machine.format();
+    Book::new(alloc, format, machine.into_parts(), next, wear)
 }
 
 /// Opens the store on a disk, in the manner of ARIES: reads the area in use and repeats all its
@@ -115,7 +140,8 @@ pub fn open<D: Disk>(alloc: Global, disk: D) -> Result<(Book<Catalog>, Keeper<D>
     ensures untouched { IfOk result
         (λ x. D.is_honest x.1.disk → (o : IsOpened (D.seen disk) x.0 x.1.area (D.seen x.1.disk)) →
         o.undoing ≡ [] → ReadsOnly D.seen D.may_leave D.moment D.left_since disk x.1.disk) }
-    ensures rests { IfOk result (λ x. x.0 ≡ opened x.0.state.now x.0.next x.0.state.wear) }
+    ensures rests { IfOk result (λ x. x.0 ≡
+        opened x.0.state.format x.0.state.now x.0.next x.0.state.wear) }
     ensures fresh { IfOk result (λ x. IsFresh x.1) }
     ensures ready { IfOk result (λ x. D.is_honest x.1.disk → IsAtRest D.seen D.may_leave disk →
         IsReadyStore D.seen D.may_leave (D.seen disk) x.0 x.1.area x.1.disk) }
@@ -135,8 +161,14 @@ pub fn open<D: Disk>(alloc: Global, disk: D) -> Result<(Book<Catalog>, Keeper<D>
     ensures size_in_refusal { IfErr result (λ x. length (D.seen x.1) ≡ length (D.seen disk)) }
 {
     let mut disk = disk;
-    match open_on(alloc, &mut disk) {
-        Ok((book, area)) => Ok((book, Keeper::new(disk, area))),
+    match settle(alloc, &mut disk) {
+        Ok(
+            Settled {
+                machine,
+                next,
+                area,
+            },
+        ) => Ok((book_of(alloc, machine, next), Keeper::new(disk, area))),
         Err(refusal) => Err((refusal, disk)),
     }
 }

@@ -1,28 +1,39 @@
 // The settled content of a store, as an image.
-ghost use Rattle.std.specs.Prelude.{◌≡◌, ◌≢◌, ◌≤◌, ◌^◌, [], IfOk, IfErr, IsOkUnless};
+ghost use Rattle.std.specs.Prelude.{◌≡◌, ◌≢◌, ◌≤◌, [], IfOk, IfErr, IsOkUnless};
+ghost use Rattle.calls.specs.declared.format.Format.{Format};
+ghost use Rattle.calls.specs.Formats.{max_area, Allows};
+ghost use Rattle.calls.specs.Formats.{widest};
+ghost use Rattle.calls.specs.Limits.{number_end};
 ghost use Rattle.disk_model.specs.Disk.{ReadsOnly, Rises};
+ghost use Rattle.machine.specs.Machines.{resting};
 ghost use Rattle.images.specs.Images.{IsPackedImage};
 ghost use Rattle.recovery.specs.Heads.{HasNoHeader};
 ghost use Rattle.recovery.specs.Openings.{IsDamagedAt, IsFindRefusal};
-ghost use Rattle.recovery.specs.Copies.{SpellsImageOf};
+ghost use Rattle.recovery.specs.Copies.{SpellsCopyOf, copied_as};
 ghost use Rattle.recovery.specs.Surveys.{image_len};
 
 use crate::finding::{Found, find};
 use blocks::Image;
-use calls::Refusal;
+use calls::{Format, Refusal};
 use catalog::Catalog;
 use disk_model::Disk;
 use images::image_blocks;
 use machine::Machine;
 use std::alloc::Global;
 
-/// The image of the settled content of the store on a disk. Nothing is written.
+/// The image of the settled content of the store on a disk, for areas of this size of another disk,
+/// and its format. Nothing is written.
 ///
 /// Refused NotAStore, Damaged, Fault and NoMemory as `inspect` says.
-pub(crate) fn settled_image<D: Disk>(alloc: Global, disk: &mut D) -> Result<Image, Refusal>
-    ensures image { IfOk result (λ image. D.is_honest disk.new →
-        SpellsImageOf (D.seen disk.old) image.blocks.items) }
-    ensures some { IfOk result (λ image. image.blocks.items ≢ []) }
+pub(crate) fn settled_image<D: Disk>(
+    alloc: Global,
+    disk: &mut D,
+    area: u64,
+) -> Result<(Image, Format), Refusal>
+    ensures image { IfOk result (λ x. D.is_honest disk.new →
+        SpellsCopyOf x.1 (D.seen disk.old) area x.0.blocks.items) }
+    ensures bound { IfOk result (λ x. area ≤ max_area widest → area ≤ max_area x.1) }
+    ensures some { IfOk result (λ x. x.0.blocks.items ≢ []) }
     ensures refused { IfErr result (IsFindRefusal
         (Rises (D.fault_count disk.old) (D.fault_count disk.new))
         (D.is_honest disk.new → HasNoHeader (D.seen disk.old))
@@ -33,7 +44,39 @@ pub(crate) fn settled_image<D: Disk>(alloc: Global, disk: &mut D) -> Result<Imag
 {
     let Found { machine, next, .. } = find(alloc, disk)?;
     machine.upheld();
-    image_of(alloc, &machine, next)
+    let format = copied_as(machine.format(), area);
+    let machine = in_format(alloc, machine, format);
+    let image = image_of(alloc, &machine, next)?;
+    Ok((image, format))
+}
+
+/// The machine of the same content in a later format, where nothing is live in it.
+pub(crate) fn in_format(
+    alloc: Global,
+    machine: Machine<Catalog>,
+    format: Format,
+) -> Machine<Catalog>
+    requires later { Allows machine.format format }
+    ensures { result ≡ resting format machine.now machine.wear }
+{
+    let wear = machine.wear();
+    Machine::new(alloc, format, machine.into_parts(), wear)
+}
+
+// The format of a copy of a store whose area in use is of this one, with areas of this size.
+fn copied_as(format: Format, area: u64) -> Format
+    ensures { result ≡ copied_as format area }
+{
+    match format {
+        Format::Two => Format::Two,
+        Format::One => {
+            if area > Format::One.max_area() {
+                Format::Two
+            } else {
+                Format::One
+            }
+        }
+    }
 }
 
 /// The image of a machine with the mark of the next number, in whole blocks.
@@ -44,9 +87,10 @@ pub(crate) fn image_of(
     machine: &Machine<Catalog>,
     next: u64,
 ) -> Result<Image, Refusal>
-    requires { (1 ≤ next) × (next ≤ 2 ^ 61) }
+    requires { (1 ≤ next) × (next ≤ number_end) }
     ensures image { IfOk result (λ image. IsPackedImage (λ v. v) next machine.now
         image.blocks.items) }
+    ensures start { IfOk result (λ image. (image.end ≡ 0) × (image.place ≡ 0)) }
     ensures refusal { IsOkUnless result Refusal.NoMemory }
 {
     Ok(Image {

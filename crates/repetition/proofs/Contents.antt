@@ -3,11 +3,13 @@ use Rattle.std.proofs.Common.{◌≡◌, ℕ, List, [], ◌∷◌, ◌++◌, map
 use Rattle.std.proofs.Common.{append_assoc, append-nil}
 use Rattle.std.specs.List.{AllByRecursion}
 use Rattle.std.specs.FinMap as maps
+use Rattle.calls.specs.declared.format.Format.{Format}
 use Rattle.calls.specs.Contents.{Collection}
 use Rattle.calls.specs.Transactions.{Transaction, Whole, Made, Event, Entry, Leads, Does}
 use Rattle.calls.specs.Transactions.{RunsWhole, Serial, calls_of, laters_of, own, committed}
 use Rattle.calls.specs.Transactions.{committed_after}
 use Rattle.record_format.specs.declared.record.Record.{Record}
+use Rattle.record_format.specs.Short.{IsOf}
 use Rattle.record_format.specs.Acts.{acts_of, acts_of_record}
 use Rattle.records.specs.Images.{TellOf, IsLiveRecord, IsImage, owned_entries}
 use Rattle.machine.specs.Machine.{IsSettled}
@@ -77,10 +79,11 @@ live_told (Record.LiveLater l ∷ live) es all =
     (rest.0 ∙ append_assoc es first (owned_entries live), rest.1)
 live_told (r ∷ live) es all = absurd all.0
 
-image_told : (n w : ℕ) (shown : List Collection) (ns : List ℕ) (live image : List Record) →
-    IsImage n w shown ns live image →
+image_told : (f : Format) (n w : ℕ) (shown : List Collection) (ns : List ℕ)
+    (live image : List Record) →
+    IsImage f n w shown ns live image →
     (gathered [] (acts_of image) ≡ owned_entries live) × (committed (acts_of image) ≡ [])
-image_told n w shown ns live image is =
+image_told f n w shown ns live image is =
     let begins : List Record = map Record.Begin ns in
     let acts : acts_of image ≡ acts_of begins ++ acts_of live =
     ap acts_of is.is ∙ acts_of-append is.told (begins ++ (live ++ Record.ImageEnd ∷ [])) ∙
@@ -113,15 +116,17 @@ module _ (rs : List Record) (s : State) (p : IsParts rs s) where
   start = p.settles.0
 
   pub first_sound : txn.IsSound catalog_meaning catalog_making p.first
-  first_sound = loaded_sound catalog_meaning catalog_making laws.rules held p.shown p.wear p.first
+  first_sound = loaded_sound catalog_meaning catalog_making laws.rules held p.format p.shown p.wear
+      p.first
       start p.leads p.settles.1
 
   pub entries_are : p.first.entries ≡ owned_entries p.live
-  entries_are = (loaded_entries catalog_meaning held p.shown p.wear p.first p.leads).entries ∙
+  entries_are = (loaded_entries catalog_meaning held p.format p.shown p.wear p.first
+      p.leads).entries ∙
       owned_begins p.numbers p.live
 
   now_is : p.first.now ≡ p.shown
-  now_is = (loaded_entries catalog_meaning held p.shown p.wear p.first p.leads).now
+  now_is = (loaded_entries catalog_meaning held p.format p.shown p.wear p.first p.leads).now
 
   -- From a content of which the live calls lead to what the image shows, they lead to the first
   -- state, and the other way round.
@@ -159,7 +164,7 @@ module _ (rs : List Record) (s : State) (p : IsParts rs s) where
     behind : committed (acts_of (p.image ++ js)) ≡
         committed_after (owned_entries p.live) (acts_of js)
     behind =
-        let said = image_told p.next p.wear p.shown p.numbers p.live p.image p.is_image in
+        let said = image_told p.format p.next p.wear p.shown p.numbers p.live p.image p.is_image in
         ap committed (acts_of-append p.image js) ∙
         committed_append (acts_of p.image) (acts_of js) [] ∙
         ap (λ l. l ++ committed_after (gathered [] (acts_of p.image)) (acts_of js)) said.1
@@ -192,7 +197,9 @@ module _ (rs : List Record) (s : State) (p : IsParts rs s) where
       shown = p.shown;
       numbers = p.numbers;
       live = p.live;
-      is_image = p.is_image;
+      is_image = subst (λ f. IsImage f p.next p.wear p.shown p.numbers p.live p.image)
+          (subst (AllByRecursion (IsOf holds.format)) (split ∙ ap (λ l. l ++ js) p.is_image.is)
+          holds.of_format).0 p.is_image;
       start = start;
       leads = shows_start;
       serial = subst (λ l. Serial (committed (acts_of l)) start content) (sym split) serial;
@@ -203,7 +210,8 @@ module _ (rs : List Record) (s : State) (p : IsParts rs s) where
         acts_of (records_in stands.blocks) ≡ acts_of (p.image ++ js) →
         p.image ++ p.journal ≡ stands.image ++ stands.journal → content ≡ other
     only_content bytes other stands acts parts =
-        let same = one_image p.next stands.next p.wear stands.wear p.shown stands.shown p.numbers
+        let same = one_image p.format stands.holds.format p.next stands.next p.wear stands.wear
+        p.shown stands.shown p.numbers
         stands.numbers p.live stands.live p.image stands.image p.journal stands.journal
         p.is_image stands.is_image parts in
         let shows : Shows stands.start =
@@ -219,9 +227,10 @@ module _ (rs : List Record) (s : State) (p : IsParts rs s) where
 
 -- ---- an accepted image and journal
 
-module _ (rs : List Record) (n : ℕ) (s : State) (k : ℕ) (accepted : AreAccepted rs n s k) where
+module _ (version : Format) (rs : List Record) (n : ℕ) (s : State) (k : ℕ)
+    (accepted : AreAccepted version rs n s k) where
   abbrev pub parts : IsParts rs s
-  parts = parts_of rs n s k accepted
+  parts = parts_of version rs n s k accepted
 
   -- Records behind it lead on from its first state too.
   pub on_from_first : (more : List Record) (t : State) → Repeats more s t →

@@ -8,7 +8,9 @@ use Rattle.std.specs.List.{filter}
 use Rattle.std.specs.FinMap as maps
 use Rattle.std.proofs.lemmas.List.Elements.{All-contains, Contains-get_or, Contains-push}
 use Rattle.std.proofs.lemmas.List.Elements.{Contains-push_cases, Contains-append_left}
+use Rattle.calls.specs.declared.format.Format.{Format}
 use Rattle.calls.specs.declared.kind.Kind.{Kind}
+use Rattle.calls.specs.Formats.{Allows}
 use Rattle.calls.specs.declared.call.Call.{Call}
 use Rattle.calls.specs.declared.reply.Reply.{Reply}
 use Rattle.calls.specs.declared.need.Need.{Need}
@@ -32,6 +34,7 @@ use Rattle.machine.proofs.Journalled.{GoesUnheard}
 use Rattle.record_format.specs.declared.record.Record.{Record}
 use Rattle.record_format.specs.Acts.{event_of}
 use Rattle.repetition.specs.Steps.{State, Steps}
+use Rattle.repetition.proofs.Formats.{allows_self, short_later, reply_later}
 use Rattle.repetition.specs.Lagging.{IsInVain, IsThinned, Lags}
 use Rattle.catalog.specs.Meaning.{catalog_meaning, catalog_making}
 
@@ -317,16 +320,25 @@ falls_still m n lives k falls =
 
 -- ---- step by step, of a state beside the other: other transactions, entries and needs
 
-abbrev beside : State → Statuses → List (ℕ × Entry) → List Hold → State
-beside t l es hs = record { now = t.now; live = l; entries = es; holds = hs; wear = t.wear }
+abbrev beside : State → Format → Statuses → List (ℕ × Entry) → List Hold → State
+beside t f l es hs = record {
+  now = t.now;
+  live = l;
+  entries = es;
+  holds = hs;
+  wear = t.wear;
+  format = f;
+}
 
-lags_beside : (t : State) (l : Statuses) (es : List (ℕ × Entry)) (hs : List Hold) →
+lags_beside : (t : State) (f : Format) → Allows t.format f →
+    (l : Statuses) (es : List (ℕ × Entry)) (hs : List Hold) →
     Behind l t.live → IsThinned t.live es t.entries →
-    ((h : Hold) → Contains hs h → Contains t.holds h) → Lags (beside t l es hs) t
-lags_beside t l es hs behind thin fewer =
+    ((h : Hold) → Contains hs h → Contains t.holds h) → Lags (beside t f l es hs) t
+lags_beside t f later l es hs behind thin fewer =
     record {
       now = refl;
       wear = refl;
+      format = later;
       few = behind.few;
       lives = behind.lives;
       falls = behind.falls;
@@ -342,30 +354,31 @@ room_of_fewer wear more few all bound less room = omega arith
 begin_room : (wear few all bound : ℕ) → few ≤ all → wear + 1 + all ≤ bound → wear + 1 + few ≤ bound
 begin_room wear few all bound less room = omega arith
 
-module _ (t : State) (l : Statuses) (es : List (ℕ × Entry)) (hs : List Hold)
+module _ (t : State) (f : Format) (later : Allows t.format f) (l : Statuses) (es : List (ℕ × Entry))
+    (hs : List Hold)
     (behind : Behind l t.live) (thin : IsThinned t.live es t.entries)
     (fewer : (h : Hold) → Contains hs h → Contains t.holds h) where
   -- who runs in the second runs in the first, with the same entries
-  runs : (n : ℕ) → IsRunning t n → IsRunning (beside t l es hs) n
+  runs : (n : ℕ) → IsRunning t n → IsRunning (beside t f l es hs) n
   runs n run = record {
     live = (behind.lives n).1 run.live;
     standing = λ falls. run.standing (behind.falls n falls);
   }
 
   make_lags : (name : List ℕ) (kind : Kind) (u : State) → MakeRow catalog_making t name kind u →
-      (v : State) × MakeRow catalog_making (beside t l es hs) name kind v × Lags v u
+      (v : State) × MakeRow catalog_making (beside t f l es hs) name kind v × Lags v u
   make_lags name kind u row = (
-    beside (record t { now = row.next }) l es hs,
+    beside (record t { now = row.next }) f l es hs,
     record { new = row.new; next = row.next; made = row.made; is = refl },
-    subst (Lags (beside (record t { now = row.next }) l es hs)) (sym row.is)
-        (lags_beside (record t { now = row.next }) l es hs behind thin fewer),
+    subst (Lags (beside (record t { now = row.next }) f l es hs)) (sym row.is)
+        (lags_beside (record t { now = row.next }) f later l es hs behind thin fewer),
   )
 
   begin_lags : (n : ℕ) (u : State) → BeginRow t n u →
-      (v : State) × BeginRow (beside t l es hs) n v × Lags v u
+      (v : State) × BeginRow (beside t f l es hs) n v × Lags v u
   begin_lags n u row =
       let next : State = record t { live = maps.insert t.live n false; wear = t.wear + 1 } in
-      let there : State = beside next (maps.insert l n false) es hs in (
+      let there : State = beside next f (maps.insert l n false) es hs in (
         there,
         record {
           can = record {
@@ -377,7 +390,7 @@ module _ (t : State) (l : Statuses) (es : List (ℕ × Entry)) (hs : List Hold)
               (thinned_length t.live es t.entries thin) row.room;
           is = refl;
         },
-        subst (Lags there) (sym row.is) (lags_beside next (maps.insert l n false) es hs
+        subst (Lags there) (sym row.is) (lags_beside next f later (maps.insert l n false) es hs
             (behind_begun l t.live behind n row.can.fresh)
             (thinned_more t.live es t.entries thin (maps.insert t.live n false)
             (λ k falls. (falls_fresh t.live n row.can.fresh k).0 falls))
@@ -395,7 +408,7 @@ module _ (t : State) (l : Statuses) (es : List (ℕ × Entry)) (hs : List Hold)
       once (c, left, (x, subst (λ xs. Contains xs (Asked x)) (same_own n run) asked, at, leaves))
 
   call_lags : (n : ℕ) (e : Event) (u : State) → CallRow catalog_meaning t n e u →
-      (v : State) × CallRow catalog_meaning (beside t l es hs) n e v × Lags v u
+      (v : State) × CallRow catalog_meaning (beside t f l es hs) n e v × Lags v u
   call_lags n e u row =
       let added = hold n e.at (need_of e.call e.reply) in
       let can = row.can in
@@ -405,12 +418,17 @@ module _ (t : State) (l : Statuses) (es : List (ℕ × Entry)) (hs : List Hold)
         holds = u.holds;
         wear = t.wear + 1;
       } in
-      let there : State = beside next l (es ++ (n, Asked e) ∷ []) (hs ++ added ∷ []) in (
+      let there : State = beside next f l (es ++ (n, Asked e) ∷ []) (hs ++ added ∷ []) in (
         there,
         record {
           can = record {
             running = runs n can.running;
-            asked = can.asked;
+            asked = (
+              can.asked.0,
+              can.asked.1,
+              short_later t.format f later e.call can.asked.2,
+            );
+            told = reply_later t.format f later e.reply can.told;
             few = subst (λ xs. length xs < 1024) (sym (same_own n can.running)) can.few;
             answered = can.answered;
             once = still_once n e can.running can.once;
@@ -422,13 +440,13 @@ module _ (t : State) (l : Statuses) (es : List (ℕ × Entry)) (hs : List Hold)
           is = refl;
         },
         subst (Lags there) (sym row.is)
-            (lags_beside next l (es ++ (n, Asked e) ∷ []) (hs ++ added ∷ []) behind
+            (lags_beside next f later l (es ++ (n, Asked e) ∷ []) (hs ++ added ∷ []) behind
             (thinned_push t.live es t.entries thin (n, Asked e))
             (fewer_added hs t.holds fewer u.holds added row.holds)),
       )
 
   later_lags : (n at : ℕ) (call : Call) (u : State) → LaterRow catalog_meaning t n at call u →
-      (v : State) × LaterRow catalog_meaning (beside t l es hs) n at call v × Lags v u
+      (v : State) × LaterRow catalog_meaning (beside t f l es hs) n at call v × Lags v u
   later_lags n at call u row =
       let added = hold n at (need_of call Reply.Done) in
       let can = row.can in
@@ -437,7 +455,7 @@ module _ (t : State) (l : Statuses) (es : List (ℕ × Entry)) (hs : List Hold)
         holds = u.holds;
         wear = t.wear + 1;
       } in
-      let there : State = beside next l (es ++ (n, PutOff at call) ∷ []) (hs ++ added ∷ []) in (
+      let there : State = beside next f l (es ++ (n, PutOff at call) ∷ []) (hs ++ added ∷ []) in (
         there,
         record {
           can = record {
@@ -453,14 +471,14 @@ module _ (t : State) (l : Statuses) (es : List (ℕ × Entry)) (hs : List Hold)
           is = refl;
         },
         subst (Lags there) (sym row.is)
-            (lags_beside next l (es ++ (n, PutOff at call) ∷ []) (hs ++ added ∷ []) behind
+            (lags_beside next f later l (es ++ (n, PutOff at call) ∷ []) (hs ++ added ∷ []) behind
             (thinned_push t.live es t.entries thin (n, PutOff at call))
             (fewer_added hs t.holds fewer u.holds added row.holds)),
       )
 
   -- a transaction goes
   left_lags : (n : ℕ) (u : State) → Lives t.live n → IsLeft t n u →
-      (v : State) × IsLeft (beside t l es hs) n v × Lags v u
+      (v : State) × IsLeft (beside t f l es hs) n v × Lags v u
   left_lags n u lives left =
       let next : State = record t {
         live = maps.remove t.live n;
@@ -468,17 +486,17 @@ module _ (t : State) (l : Statuses) (es : List (ℕ × Entry)) (hs : List Hold)
         holds = u.holds;
       } in
       let still : List Hold = without_owner hs t.holds fewer n in
-      let there : State = beside next (maps.remove l n) (others n es) still in (
+      let there : State = beside next f (maps.remove l n) (others n es) still in (
         there,
         record { holds = filtered_is_given_up n hs still refl; is = refl },
         subst (Lags there) (sym left.is)
-            (lags_beside next (maps.remove l n) (others n es) still
+            (lags_beside next f later (maps.remove l n) (others n es) still
             (behind_left l t.live behind n lives) (thinned_others t.live es t.entries thin n)
             (fewer_given_up hs t.holds fewer u.holds n left.holds)),
       )
 
   ended_lags : (n : ℕ) (u : State) → EndedRow t n u →
-      (v : State) × EndedRow (beside t l es hs) n v × Lags v u
+      (v : State) × EndedRow (beside t f l es hs) n v × Lags v u
   ended_lags n u row =
       let went = left_lags n u row.live row.left in (
         went.0,
@@ -491,7 +509,7 @@ module _ (t : State) (l : Statuses) (es : List (ℕ × Entry)) (hs : List Hold)
       )
 
   back_lags : (n : ℕ) (u : State) → BackRow catalog_meaning t n u →
-      (v : State) × BackRow catalog_meaning (beside t l es hs) n v × Lags v u
+      (v : State) × BackRow catalog_meaning (beside t f l es hs) n v × Lags v u
   back_lags n u row =
       let newest = thinned_newest t.live es t.entries thin n row.call row.rest row.newest in
       let next : State = record t {
@@ -500,7 +518,7 @@ module _ (t : State) (l : Statuses) (es : List (ℕ × Entry)) (hs : List Hold)
         entries = row.rest;
         wear = t.wear + 1;
       } in
-      let there : State = beside next (fallen l n) newest.0 hs in (
+      let there : State = beside next f (fallen l n) newest.0 hs in (
         there,
         record {
           live = (behind.lives n).1 row.live;
@@ -512,7 +530,8 @@ module _ (t : State) (l : Statuses) (es : List (ℕ × Entry)) (hs : List Hold)
           is = refl;
         },
         subst (Lags there) (sym row.is)
-            (lags_beside next (fallen l n) newest.0 hs (behind_felled l t.live behind n row.live)
+            (lags_beside next f later (fallen l n) newest.0 hs
+            (behind_felled l t.live behind n row.live)
             (thinned_more t.live newest.0 row.rest newest.2 (fallen t.live n)
             (falls_still t.live n row.live)) fewer),
       )
@@ -532,55 +551,57 @@ module _ (t : State) (l : Statuses) (es : List (ℕ × Entry)) (hs : List Hold)
   )
 
   -- a step of which no record tells
-  unheard_lags : (u : State) → GoesUnheard t u → Lags (beside t l es hs) u
+  unheard_lags : (u : State) → GoesUnheard t u → Lags (beside t f l es hs) u
   unheard_lags u step =
       let next : State = record t { live = u.live; holds = u.holds } in
       let still = still_behind u.live step.falls in
-      subst (Lags (beside t l es hs)) (sym step.is)
-      (lags_beside next l es hs still.0 still.1 (λ h inside. step.more h (fewer h inside)))
+      subst (Lags (beside t f l es hs)) (sym step.is)
+      (lags_beside next f later l es hs still.0 still.1 (λ h inside. step.more h (fewer h inside)))
 
-module _ (t : State) (l : Statuses) (es : List (ℕ × Entry)) (hs : List Hold)
+module _ (t : State) (f : Format) (later : Allows t.format f) (l : Statuses) (es : List (ℕ × Entry))
+    (hs : List Hold)
     (behind : Behind l t.live) (thin : IsThinned t.live es t.entries)
     (fewer : (h : Hold) → Contains hs h → Contains t.holds h) where
   -- what it put off runs, and it goes
   commit_lags : (n : ℕ) (u : State) → CommitRow catalog_meaning t n u →
-      (v : State) × CommitRow catalog_meaning (beside t l es hs) n v × Lags v u
+      (v : State) × CommitRow catalog_meaning (beside t f l es hs) n v × Lags v u
   commit_lags n u row =
-      let same = sym (same_own t l es hs behind thin fewer n row.running) in
+      let same = sym (same_own t f later l es hs behind thin fewer n row.running) in
       let ran : State = record t {
         now = row.next;
         wear = t.wear + length (laters_of (own n t.entries));
       } in
-      let went = left_lags ran l es hs behind thin fewer n u row.running.live row.left in (
+      let went = left_lags ran f later l es hs behind thin fewer n u row.running.live row.left in (
         went.0,
         record {
-          running = runs t l es hs behind thin fewer n row.running;
+          running = runs t f later l es hs behind thin fewer n row.running;
           next = row.next;
           runs = subst (λ xs. Leads (Does catalog_meaning) (laters_of xs) t.now row.next) same
               row.runs;
-          left = subst (λ xs. IsLeft (record (beside t l es hs)
+          left = subst (λ xs. IsLeft (record (beside t f l es hs)
               { now = row.next; wear = t.wear + length (laters_of xs) }) n went.0) same went.1;
         },
         went.2,
       )
 
   beside_step : (r : Record) (u : State) → Steps t r u →
-      (v : State) × Steps (beside t l es hs) r v × Lags v u
-  beside_step (Record.Make kind name) u row = make_lags t l es hs behind thin fewer name kind u row
-  beside_step (Record.Begin n) u row = begin_lags t l es hs behind thin fewer n u row
+      (v : State) × Steps (beside t f l es hs) r v × Lags v u
+  beside_step (Record.Make kind name) u row =
+      make_lags t f later l es hs behind thin fewer name kind u row
+  beside_step (Record.Begin n) u row = begin_lags t f later l es hs behind thin fewer n u row
   beside_step (Record.Call c) u row =
-      call_lags t l es hs behind thin fewer c.number (event_of c) u row
+      call_lags t f later l es hs behind thin fewer c.number (event_of c) u row
   beside_step (Record.Later c) u row =
-      later_lags t l es hs behind thin fewer c.number c.collection c.call u row
+      later_lags t f later l es hs behind thin fewer c.number c.collection c.call u row
   beside_step (Record.Commit n) u row = commit_lags n u row
-  beside_step (Record.Back n) u row = back_lags t l es hs behind thin fewer n u row
-  beside_step (Record.Ended n) u row = ended_lags t l es hs behind thin fewer n u row
+  beside_step (Record.Back n) u row = back_lags t f later l es hs behind thin fewer n u row
+  beside_step (Record.Ended n) u row = ended_lags t f later l es hs behind thin fewer n u row
   beside_step other u row = absurd row
 
 -- ---- a state that lags goes along
 
 -- a state that lags stands beside the other
-is_beside : (s t : State) → Lags s t → s ≡ beside t s.live s.entries s.holds
+is_beside : (s t : State) → Lags s t → s ≡ beside t s.format s.live s.entries s.holds
 is_beside s t lag =
     ap (λ now. let v : State = record {
       now = now;
@@ -588,6 +609,7 @@ is_beside s t lag =
       entries = s.entries;
       holds = s.holds;
       wear = s.wear;
+      format = s.format;
     } in v) lag.now
     ∙ ap (λ wear. let v : State = record {
       now = t.now;
@@ -595,13 +617,20 @@ is_beside s t lag =
       entries = s.entries;
       holds = s.holds;
       wear = wear;
+      format = s.format;
     } in v) lag.wear
 
 behind_of : (s t : State) → Lags s t → Behind s.live t.live
 behind_of s t lag = record { few = lag.few; lives = lag.lives; falls = lag.falls }
 
 pub lags_self : (s : State) → Lags s s
-lags_self s = lags_beside s s.live s.entries s.holds
+lags_self s = lags_beside s s.format (allows_self s.format) s.live s.entries s.holds
+    (record { few = refl; lives = λ n. (λ h. h, λ h. h); falls = λ n h. h })
+    (thinned_self s.live s.entries) (λ h inside. inside)
+
+-- the same state in a later format
+pub lags_format : (s : State) (f : Format) → Allows s.format f → Lags (record s { format = f }) s
+lags_format s f later = lags_beside s f later s.live s.entries s.holds
     (record { few = refl; lives = λ n. (λ h. h, λ h. h); falls = λ n h. h })
     (thinned_self s.live s.entries) (λ h inside. inside)
 
@@ -609,12 +638,14 @@ pub lags_step : (s t : State) → Lags s t → (r : Record) (u : State) → Step
     (v : State) × Steps s r v × Lags v u
 lags_step s t lag r u row =
     subst (λ w. (v : State) × Steps w r v × Lags v u) (sym (is_beside s t lag))
-    (beside_step t s.live s.entries s.holds (behind_of s t lag) lag.entries lag.holds r u row)
+    (beside_step t s.format lag.format s.live s.entries s.holds (behind_of s t lag) lag.entries
+    lag.holds r u row)
 
 pub lags_unheard : (s t : State) → Lags s t → (u : State) → GoesUnheard t u → Lags s u
 lags_unheard s t lag u step =
     subst (λ w. Lags w u) (sym (is_beside s t lag))
-    (unheard_lags t s.live s.entries s.holds (behind_of s t lag) lag.entries lag.holds u step)
+    (unheard_lags t s.format lag.format s.live s.entries s.holds (behind_of s t lag) lag.entries
+    lag.holds u step)
 
 pub lags_calls : (s t : State) → Lags s t →
     calls_of (map (λ e. e.1) s.entries) ≡ calls_of (map (λ e. e.1) t.entries)

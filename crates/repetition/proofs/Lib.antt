@@ -7,3 +7,6 @@ pub mod Contents
 pub mod ReadLemmas
 pub mod RepeatLemmas
 pub mod LagLemmas
+pub mod Formats
+pub mod OneFormat
+pub mod Resting

@@ -2,6 +2,7 @@
 use Rattle.std.proofs.Common.{◌≡◌, ℕ, List, [], ◌∷◌, ◌++◌, map, refl, sym, ◌∙◌, ap, subst}
 use Rattle.std.proofs.Common.{append_assoc}
 use Rattle.std.specs.List.{AllByRecursion}
+use Rattle.calls.specs.declared.format.Format.{Format}
 use Rattle.calls.specs.declared.kind.Kind.{Kind}
 use Rattle.calls.specs.declared.item.Item.{Item}
 use Rattle.calls.specs.Contents.{Collection, kind_of_content}
@@ -167,18 +168,18 @@ grouped told numbers live journal end =
     ap (λ l. told ++ l) (append_assoc numbers (live ++ end ∷ []) journal) ∙
     ap (λ l. told ++ (numbers ++ l)) (append_assoc live (end ∷ []) journal)
 
-pub one_image : (n m w v : ℕ) (shown other : List Collection) (numbers also : List ℕ)
-    (live too image again journal behind : List Record) → IsImage n w shown numbers live image →
-    IsImage m v other also too again → image ++ journal ≡ again ++ behind
+pub one_image : (f g : Format) (n m w v : ℕ) (shown other : List Collection) (numbers also : List ℕ)
+    (live too image again journal behind : List Record) → IsImage f n w shown numbers live image →
+    IsImage g m v other also too again → image ++ journal ≡ again ++ behind
     → IsSameImage shown other numbers also live too journal behind
-one_image n m w v shown other numbers also live too image again journal behind a b e =
+one_image f g n m w v shown other numbers also live too image again journal behind a b e =
     let left : List Record = map Record.Begin numbers ++ (live ++ Record.ImageEnd ∷ journal) in
     let right : List Record = map Record.Begin also ++ (too ++ Record.ImageEnd ∷ behind) in
-    let both : Record.Marks n w ∷ (a.told ++ left) ≡ Record.Marks m v ∷ (b.told ++ right) =
+    let both : Record.Marks f n w ∷ (a.told ++ left) ≡ Record.Marks g m v ∷ (b.told ++ right) =
     sym (ap (λ l. l ++ journal) a.is ∙
-    ap (λ l. Record.Marks n w ∷ l) (grouped a.told (map Record.Begin numbers) live journal
+    ap (λ l. Record.Marks f n w ∷ l) (grouped a.told (map Record.Begin numbers) live journal
     Record.ImageEnd)) ∙ e ∙ ap (λ l. l ++ behind) b.is ∙
-    ap (λ l. Record.Marks m v ∷ l) (grouped b.told (map Record.Begin also) too behind
+    ap (λ l. Record.Marks g m v ∷ l) (grouped b.told (map Record.Begin also) too behind
     Record.ImageEnd) in
     let telling = one_front IsTelling a.told b.told left right (told_tell shown a.told a.tells)
     (told_tell other b.told b.tells) (numbers_end_telling numbers live journal a.all_live)

@@ -3,6 +3,7 @@ use Rattle.std.proofs.Common.{◌≡◌, ℕ, ◌+◌, ◌<◌, ◌⊎◌, inl, 
 use Rattle.std.proofs.Common.{None, Some, refl, sym, ◌∙◌, ap, subst, append_assoc, append-nil}
 use Rattle.std.proofs.Common.{false}
 use Rattle.std.specs.List.{AllByRecursion}
+use Rattle.calls.specs.declared.format.Format.{Format}
 use Rattle.calls.specs.declared.kind.Kind.{Kind}
 use Rattle.calls.specs.declared.item.Item.{Item}
 use Rattle.calls.specs.Contents.{Content, Collection, kind_of_content}
@@ -318,7 +319,7 @@ collections_rest (Record.Item i ∷ rs) n m s None end k run = absurd run.1.2
 collections_rest (Record.Item i ∷ rs) n m s (Some x) end k run =
     item_rest i rs s x end (collections_rest rs n m s
     (Some (record { name = x.name; kind = x.kind; items = x.items ++ i ∷ [] })) end k
-    (subst (λ p. Leads Reads rs p (InJournal m end k)) run.1.2 run.2))
+    (subst (λ p. Leads Reads rs p (InJournal m end k)) run.1.3 run.2))
 collections_rest (r ∷ rs) n m s last end k run =
     behind_collections r rs n m s run.1.0 last end k run.0 run.1.1 run.1.2 run.2
 
@@ -328,6 +329,7 @@ collections_rest (r ∷ rs) n m s last end k run =
 -- the end.
 pub record IsParts (rs : List Record) (end : State) : Type 0 where
   -- what the image shows
+  pub format : Format
   pub next : ℕ
   pub wear : ℕ
   pub shown : List Collection
@@ -337,10 +339,10 @@ pub record IsParts (rs : List Record) (end : State) : Type 0 where
   pub image : List Record
   pub journal : List Record
   pub is : rs ≡ image ++ journal
-  pub is_image : IsImage next wear shown numbers live image
+  pub is_image : IsImage format next wear shown numbers live image
   -- where they lead
   pub first : State
-  pub leads : Leads HoldsLive (map Record.Begin numbers ++ live) (resting shown wear) first
+  pub leads : Leads HoldsLive (map Record.Begin numbers ++ live) (resting format shown wear) first
   pub settles : Settles first
   pub repeats : Repeats journal first end
 
@@ -352,19 +354,21 @@ regroup told numbers live journal end =
     ap (λ l. told ++ l) (sym (append_assoc numbers (live ++ end ∷ []) journal)) ∙
     sym (append_assoc told (numbers ++ (live ++ end ∷ [])) journal)
 
-marked : (first wear : ℕ) (rs : List Record) (end : State) → MoreRest rs (resting [] wear) end →
-    IsParts (Record.Marks first wear ∷ rs) end
-marked first wear rs end c =
+marked : (format : Format) (first wear : ℕ) (rs : List Record) (end : State) →
+    MoreRest rs (resting format [] wear) end →
+    IsParts (Record.Marks format first wear ∷ rs) end
+marked format first wear rs end c =
     let r = c.rest in record {
+      format = format;
       next = first;
       wear = wear;
       shown = c.more;
       numbers = r.numbers;
       live = r.live;
-      image = Record.Marks first wear ∷
+      image = Record.Marks format first wear ∷
           (c.told ++ (map Record.Begin r.numbers ++ (r.live ++ Record.ImageEnd ∷ [])));
       journal = r.journal;
-      is = ap (λ l. Record.Marks first wear ∷ l)
+      is = ap (λ l. Record.Marks format first wear ∷ l)
           (c.is ∙ ap (λ l. c.told ++ l) r.is ∙
           regroup c.told (map Record.Begin r.numbers) r.live r.journal Record.ImageEnd);
       is_image = record {
@@ -375,15 +379,17 @@ marked first wear rs end c =
         is = refl;
       };
       first = r.first;
-      leads = subst (λ v. Leads HoldsLive (map Record.Begin r.numbers ++ r.live) (resting v wear)
+      leads = subst (λ v. Leads HoldsLive (map Record.Begin r.numbers ++ r.live)
+          (resting format v wear)
           r.first) c.now_is r.leads;
       settles = r.settles;
       repeats = r.repeats;
     }
 
-pub parts_of : (rs : List Record) (n : ℕ) (s : State) (k : ℕ) → AreAccepted rs n s k → IsParts rs s
-parts_of [] n s k run = absurd (cc)
-parts_of (Record.Marks first wear ∷ rs) n s k run =
-    marked first wear rs s (collections_rest rs first n (resting [] wear) None s k
-    (subst (λ p. Leads Reads rs p (InJournal n s k)) run.1.1 run.2))
-parts_of (r ∷ rs) n s k run = absurd run.1
+pub parts_of : (version : Format) (rs : List Record) (n : ℕ) (s : State) (k : ℕ) →
+    AreAccepted version rs n s k → IsParts rs s
+parts_of version [] n s k run = absurd (cc)
+parts_of version (Record.Marks format first wear ∷ rs) n s k run =
+    marked format first wear rs s (collections_rest rs first n (resting format [] wear) None s k
+    (subst (λ p. Leads Reads rs p (InJournal n s k)) run.1.2 run.2))
+parts_of version (r ∷ rs) n s k run = absurd run.1

@@ -46,6 +46,7 @@ closes_alike s t u v (Some x) like a b =
       entries = like.entries;
       holds = like.holds;
       wear = like.wear;
+      format = like.format;
     } in
     subst (λ w. Alike w t) (sym b.is) (subst (Alike (record u { now = b.next })) (sym a.is) moved)
 
@@ -216,31 +217,6 @@ asked_none s (Record.LiveCall c) is none n u v like live = none u live.0 like li
 asked_none s (Record.LiveLater l) is none n u v like live = none u live.0 like live.1
 asked_none s r is none n u v like live = absurd is
 
-settles_alike : (s u : State) → Alike u s → Settles u → Settles s
-settles_alike s u like settled = (
-  settled.0,
-  subst (λ es. Leads (Does catalog_meaning) (calls_of (map (λ e. e.1) es)) settled.0
-      s.now) like.entries (subst (λ now. Leads (Does catalog_meaning)
-      (calls_of (map (λ e. e.1) u.entries)) settled.0 now) like.now settled.1),
-)
-
-end_leads_on : (s : State) (n : ℕ) → Settles s → LiveLeads s Record.ImageEnd (Stage.Journal s 0) n
-end_leads_on s n settled = record {
-  reads = (settled, refl);
-  alike = λ u v like live. subst (λ q. AlikeProgress q (InJournal n s 0)) (sym live.1)
-      (refl, like, refl);
-}
-
-pub end_leads : (s : State) (r : Record) (b : Stage) → r ≡ Record.ImageEnd → b ≡ Stage.Journal s 0 →
-    Settles s → (n : ℕ) → LiveLeads s r b n
-end_leads s r b is stage settled n =
-    subst (λ q. LiveLeads s q b n) (sym is)
-    (subst (λ c. LiveLeads s Record.ImageEnd c n) (sym stage) (end_leads_on s n settled))
-
-pub end_none : (s : State) (r : Record) → r ≡ Record.ImageEnd → (Settles s → ⊥) → IsNoLive s r
-end_none s r is unsettled = subst (IsNoLive s) (sym is)
-    (λ n u v like live. unsettled (settles_alike s u like live.0))
-
 pub other_none : (s : State) (r : Record) → ((c : CallRecord) → r ≡ Record.LiveCall c → ⊥) →
     ((l : LaterRecord) → r ≡ Record.LiveLater l → ⊥) → (r ≡ Record.ImageEnd → ⊥) →
     ((k : ℕ) → r ≡ Record.Begin k → ⊥) → IsNoLive s r
@@ -251,21 +227,6 @@ other_none s (Record.Begin k) call later end begin n u v like live = begin k ref
 other_none s r call later end begin n u v like live = live
 
 -- from the numbers that were live
-module _ (n : ℕ) (s : State) (r : Record) where
-  numbers_alike : (b : Stage) → LiveLeads s r b n → (u v : Progress) →
-      AlikeProgress u (InNumbers n s) → Reads u r v →
-      AlikeProgress v (progress_of b (number_behind n r))
-  numbers_alike b live (InNumbers m w) v like reads =
-      live.alike w v like.1 (subst (λ k. ReadsLive k w r v) like.0 reads)
-  numbers_alike b live u v like reads = absurd like
-
-  pub numbers_take : (b : Stage) → LiveLeads s r b n →
-      Takes (InNumbers n s) r (progress_of b (number_behind n r))
-  numbers_take b live = record { reads = live.reads; alike = numbers_alike b live }
-
-  pub numbers_stuck : IsNoLive s r → IsStuck (InNumbers n s) r
-  numbers_stuck none (InNumbers m w) v like reads = none m w v like.1 reads
-  numbers_stuck none u v like reads = absurd like
 
 reads_asked : (n : ℕ) (s : State) (r : Record) (p : Progress) → (IsBegin r → ⊥) →
     ReadsLive n s r p → Reads (InCalls n s) r p
@@ -297,19 +258,10 @@ module _ (n : ℕ) (s : State) (r : Record) where
   calls_stuck none (InCalls m w) v like reads = none m w v like.1 (asked_reads m w r v reads)
   calls_stuck none u v like reads = absurd like
 
-begin_refused : (n m : ℕ) (w : State) (r : Record) (v : Progress) → IsBegin r →
-    Reads (InCalls m w) r v → ⊥
-begin_refused n m w (Record.Begin k) v is reads = reads
-begin_refused n m w r v is reads = absurd is
-
-pub begin_stuck : (n : ℕ) (s : State) (r : Record) → IsBegin r → IsStuck (InCalls n s) r
-begin_stuck n s r is (InCalls m w) v like reads = begin_refused n m w r v is reads
-begin_stuck n s r is u v like reads = absurd like
-
 -- ---- the journal
 
 same_number : (n : ℕ) (r : Record) (s t : State) → Steps s r t → number_behind n r ≡ next_after n r
-same_number n (Record.Marks k wear) s t step = absurd step
+same_number n (Record.Marks format k wear) s t step = absurd step
 same_number n r s t step = refl
 
 module _ (n : ℕ) (s : State) (count : ℕ) (r : Record) where

@@ -3,6 +3,7 @@
 use Rattle.std.proofs.Common.{◌≡◌, ℕ, ◌+◌, ◌<◌, ◌≤◌, List, [], ◌∷◌, ◌++◌, length, append_assoc}
 use Rattle.std.proofs.Common.{length-append, refl, sym, ◌∙◌, ap, subst, arith, Result, Ok, Err}
 use Rattle.std.proofs.Common.{IfOk, IfErr, Option, None}
+use Rattle.calls.specs.declared.format.Format.{Format}
 use Rattle.calls.specs.declared.kind.Kind.{Kind}
 use Rattle.calls.specs.declared.refusal.Refusal.{Refusal}
 use Rattle.calls.specs.Transactions.{Leads}
@@ -20,44 +21,31 @@ use Rattle.repetition.specs.Repetitions.{AreRead, progress_of, count_of}
 use Rattle.repetition.proofs.Grammar.{not_empty}
 use Rattle.repetition.proofs.Lists.{leads_push, leads_split, flat_map-append}
 
-pub leads_to_nothing : LeadsTo [] Unread
-leads_to_nothing = record {
+pub leads_to_nothing : (version : Format) → LeadsTo version [] (Unread version)
+leads_to_nothing version = record {
   leads = refl;
-  only = λ q run. subst (λ v. AlikeProgress v Unread) run tt;
+  only = λ q run. subst (λ v. AlikeProgress v (Unread version)) run refl;
 }
 
 -- one record more
-pub leads_to_more : (rs : List Record) (r : Record) (p q : Progress) → LeadsTo rs p → Takes p r q →
-    LeadsTo (rs ++ r ∷ []) q
-leads_to_more rs r p q so_far takes = record {
-  leads = leads_push Reads rs r Unread p q so_far.leads takes.reads;
+pub leads_to_more : (version : Format) (rs : List Record) (r : Record) (p q : Progress) →
+    LeadsTo version rs p → Takes p r q →
+    LeadsTo version (rs ++ r ∷ []) q
+leads_to_more version rs r p q so_far takes = record {
+  leads = leads_push Reads rs r (Unread version) p q so_far.leads takes.reads;
   only = λ v run.
-      let split = leads_split Reads rs (r ∷ []) Unread v run in
+      let split = leads_split Reads rs (r ∷ []) (Unread version) v run in
       subst (λ w. AlikeProgress w q) split.2.2
       (takes.alike split.0 split.2.0 (so_far.only split.0 split.1) split.2.1);
 }
 
 -- records that lead nowhere
-pub stuck_is_refused : (rs more : List Record) (r : Record) (p q : Progress) → LeadsTo rs p →
-    IsStuck p r → Leads Reads (rs ++ r ∷ more) Unread q → ⊥
-stuck_is_refused rs more r p q so_far stuck run =
-    let split = leads_split Reads rs (r ∷ more) Unread q run in
+pub stuck_is_refused : (version : Format) (rs more : List Record) (r : Record) (p q : Progress) →
+    LeadsTo version rs p →
+    IsStuck p r → Leads Reads (rs ++ r ∷ more) (Unread version) q → ⊥
+stuck_is_refused version rs more r p q so_far stuck run =
+    let split = leads_split Reads rs (r ∷ more) (Unread version) q run in
     stuck split.0 split.2.0 (so_far.only split.0 split.1) split.2.1
-
--- an area that ends within its image
-pub not_ended : (stage : Stage) (n : ℕ) →
-    ((s : State) (count : ℕ) → stage ≡ Stage.Journal s count → ⊥) → (rs : List Record) →
-    LeadsTo rs (progress_of stage n) → (next : ℕ) (t : State) (count : ℕ) →
-    AreAccepted rs next t count → ⊥
-not_ended Stage.Unread n other rs so_far next t count accepted =
-    so_far.only (InJournal next t count) accepted
-not_ended (Stage.Collections x) n other rs so_far next t count accepted =
-    so_far.only (InJournal next t count) accepted
-not_ended (Stage.Numbers x) n other rs so_far next t count accepted =
-    so_far.only (InJournal next t count) accepted
-not_ended (Stage.Calls x) n other rs so_far next t count accepted =
-    so_far.only (InJournal next t count) accepted
-not_ended (Stage.Journal s k) n other rs so_far next t count accepted = other s k refl
 
 -- refusals
 
@@ -164,8 +152,8 @@ pub record IsReading (body rest : List ℕ) (first : Option Kind) (a : Stage) (a
   pub good : AreRecords first done
   pub is : body ≡ spelling done ++ rest
   pub named : kind ≡ last_named first done
-  pub reaches : (rs : List Record) → LeadsTo rs (progress_of a above) →
-      LeadsTo (rs ++ done) (progress_of b next)
+  pub reaches : (version : Format) (rs : List Record) → LeadsTo version rs (progress_of a above) →
+      LeadsTo version (rs ++ done) (progress_of b next)
   pub fit : IsFit b
   pub few : count_of b + length rest ≤ count_of a + length body
 
@@ -176,7 +164,8 @@ reading_starts body first a above fit = record {
   good = tt;
   is = refl;
   named = refl;
-  reaches = λ rs reached. subst (λ l. LeadsTo l (progress_of a above)) (sym (append-nil rs))
+  reaches = λ version rs reached. subst (λ l. LeadsTo version l (progress_of a above))
+      (sym (append-nil rs))
       reached;
   fit = fit;
   few = omega arith;
@@ -200,10 +189,10 @@ module _ (body rest : List ℕ) (first : Option Kind) (a : Stage) (above : ℕ) 
         ap (λ l. spelling so_far.done ++ l) (append-nil (spelled r))));
     named = named ∙ ap (λ k. named_by k r) so_far.named ∙
         sym (last_named-append first so_far.done (r ∷ []));
-    reaches = λ rs reached. subst (λ l. LeadsTo l (progress_of c after))
+    reaches = λ version rs reached. subst (λ l. LeadsTo version l (progress_of c after))
         (append_assoc rs so_far.done (r ∷ []))
-        (leads_to_more (rs ++ so_far.done) r (progress_of b next) (progress_of c after)
-        (so_far.reaches rs reached) takes);
+        (leads_to_more version (rs ++ so_far.done) r (progress_of b next) (progress_of c after)
+        (so_far.reaches version rs reached) takes);
     fit = fit;
     few = omega (
       arith,
@@ -231,15 +220,17 @@ module _ (body rest : List ℕ) (first : Option Kind) (a : Stage) (above : ℕ) 
       no_tail kind tail.0 rest some tail.2 tail.3 none
 
   pub stuck_body : (behind : List ℕ) (r : Record) → Begins kind rest r behind →
-      IsStuck (progress_of b next) r → (rs group : List Record) → LeadsTo rs (progress_of a above) →
+      IsStuck (progress_of b next) r → (version : Format) (rs group : List Record) →
+      LeadsTo version rs (progress_of a above) →
       AreRecords first group → body ≡ spelling group
-      → (q : Progress) → Leads Reads (rs ++ group) Unread q → ⊥
-  stuck_body behind r begins stuck rs group reached good is q run =
+      → (q : Progress) → Leads Reads (rs ++ group) (Unread version) q → ⊥
+  stuck_body behind r begins stuck version rs group reached good is q run =
       let tail = left group good is in
       let more = read_front kind (r ∷ []) tail.0 behind (begins.is, tt) tail.3
       (tail.2 ∙ begins.parts ∙ ap (λ l. l ++ behind) (sym (append-nil (spelled r)))) in
       let parts : rs ++ group ≡ (rs ++ so_far.done) ++ r ∷ more.0 =
       ap (λ g. rs ++ g) (tail.1 ∙ ap (λ l. so_far.done ++ l) more.1) ∙
       sym (append_assoc rs so_far.done (r ∷ more.0)) in
-      stuck_is_refused (rs ++ so_far.done) more.0 r (progress_of b next) q
-      (so_far.reaches rs reached) stuck (subst (λ l. Leads Reads l Unread q) parts run)
+      stuck_is_refused version (rs ++ so_far.done) more.0 r (progress_of b next) q
+      (so_far.reaches version rs reached) stuck
+      (subst (λ l. Leads Reads l (Unread version) q) parts run)

@@ -2,6 +2,7 @@
 -- of it.
 use Rattle.std.specs.Prelude.{◌≡◌, ◌↔◌, ◌⊎◌, ℕ, List, [], ◌∷◌, Contains}
 use Rattle.std.specs.FinMap as maps
+use Rattle.calls.specs.Formats.{Allows}
 use Rattle.calls.specs.Transactions.{Entry, Asked, PutOff}
 use Rattle.abstract_locks.specs.declared.table.Hold.{Hold}
 use Rattle.undo_log.specs.Logs.{Statuses, Lives, Falls}
@@ -19,10 +20,12 @@ IsThinned live few (e ∷ all) = (IsInVain live e × IsThinned live few all) ⊎
     ((rest : List (ℕ × Entry)) × (few ≡ e ∷ rest) × IsThinned live rest all)
 
 -- The first state lags behind the second. The same transactions are live, but one may be falling in
--- the second alone; some of what falling ones put off, and some of the needs held, may be missing.
+-- the second alone; some of what falling ones put off, and some of the needs held, may be missing;
+-- and the first may be of a later format.
 pub record Lags (s t : State) : Type 0 where
   pub now : s.now ≡ t.now
   pub wear : s.wear ≡ t.wear
+  pub format : Allows t.format s.format
   pub few : maps.len s.live ≡ maps.len t.live
   pub lives : (n : ℕ) → Lives s.live n ↔ Lives t.live n
   pub falls : (n : ℕ) → Falls s.live n → Falls t.live n

@@ -1,15 +1,19 @@
 -- The records of an area, read one after another: what each of them asks, and where it leads. This
 -- is the grammar of image and journal with all that is tested; and sound bytes.
-use Rattle.std.specs.Prelude.{◌≡◌, ℕ, ◌+◌, ◌≤◌, ◌^◌, max, List, [], ◌∷◌, ◌++◌, Option, Some, None}
+use Rattle.std.specs.Prelude.{◌≡◌, ℕ, ◌+◌, ◌≤◌, max, List, [], ◌∷◌, ◌++◌, Option, Some, None}
 use Rattle.calls.specs.declared.kind.Kind.{Kind}
+use Rattle.calls.specs.declared.format.Format.{Format}
+use Rattle.calls.specs.Formats.{Allows}
 use Rattle.calls.specs.declared.item.Item.{Item}
 use Rattle.calls.specs.Contents.{Collection}
 use Rattle.calls.specs.Transactions.{Leads}
+use Rattle.calls.specs.Limits.{max_wear}
 use Rattle.catalog.specs.Making.{names_of, IsNew}
 use Rattle.catalog.specs.Holdings.{Follows}
 use Rattle.record_format.specs.declared.record.Record.{Record}
 use Rattle.record_format.specs.Records.{named_by, AreRecords}
 use Rattle.record_format.specs.Reached.{IsReached}
+use Rattle.record_format.specs.Short.{IsShortItem}
 use Rattle.machine.specs.Machine.{IsSettled}
 use Rattle.machine.specs.Machines.{resting}
 use Rattle.loader.specs.Loading.{LoadRow, LiveSteps}
@@ -25,7 +29,8 @@ pub record Named : Type 0 where
 
 -- What was read so far. The number is above every number that was entered.
 pub data Progress : Type 0 where
-  Unread : Progress
+  -- nothing, on a disk of this version
+  Unread : (version : Format) → Progress
   -- collections, and the one of which the image tells now
   InCollections : (next : ℕ) → State → Option Named → Progress
   -- the numbers that were live, and what they had asked for
@@ -70,13 +75,14 @@ ReadsLive next s r p = ⊥
 
 -- The record leads from what was read before it to this.
 abbrev pub Reads : Progress → Record → Progress → Type 0
-Reads Unread (Record.Marks next wear) p =
-    (wear ≤ 2 ^ 61 + 65536) × (p ≡ InCollections next (resting [] wear) None)
+Reads (Unread version) (Record.Marks format next wear) p =
+    Allows version format × (wear ≤ max_wear) ×
+    (p ≡ InCollections next (resting format [] wear) None)
 Reads (InCollections next s last) (Record.Name kind name) p =
     (t : State) × Closes s last t × IsNew (names_of t.now) name ×
     (p ≡ InCollections next t (Some (record { name = name; kind = kind; items = [] })))
 Reads (InCollections next s (Some x)) (Record.Item i) p =
-    Follows x.kind x.items i × IsReached s.wear i ×
+    Follows x.kind x.items i × IsShortItem s.format i × IsReached s.wear i ×
     (p ≡ InCollections next s (Some
     (record { name = x.name; kind = x.kind; items = x.items ++ i ∷ [] })))
 Reads (InCollections next s last) r p = (t : State) × Closes s last t × ReadsLive next t r p
@@ -87,10 +93,12 @@ Reads (InJournal next s count) r p =
     (t : State) × Steps s r t × (p ≡ InJournal (next_after next r) t (count + 1))
 Reads q r p = ⊥
 
--- The records are an image that can be read and a journal of so many records that the machine
--- repeats: they lead to the state, and the number is above every number that they enter.
-abbrev pub AreAccepted : List Record → (next : ℕ) → State → (count : ℕ) → Type 0
-AreAccepted rs next s count = Leads Reads rs Unread (InJournal next s count)
+-- On a disk of this version the records are an image that can be read and a journal of so many
+-- records that the machine repeats: they lead to the state, whose format is that of the image's
+-- marks, and the number is above every number that they enter.
+abbrev pub AreAccepted : (version : Format) → List Record → (next : ℕ) → State → (count : ℕ) →
+    Type 0
+AreAccepted version rs next s count = Leads Reads rs (Unread version) (InJournal next s count)
 
 -- The bytes are sound: what the area in use holds is read without a fault. Transactions may be live
 -- at its end.
@@ -101,4 +109,4 @@ pub record IsSound (bytes : List ℕ) : Type 0 where
   pub next : ℕ
   pub end : State
   pub count : ℕ
-  pub accepted : AreAccepted (records_in blocks) next end count
+  pub accepted : AreAccepted holds.version (records_in blocks) next end count

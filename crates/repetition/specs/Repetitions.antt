@@ -4,6 +4,7 @@ use Rattle.std.specs.Option.{option_map}
 use Rattle.std.specs.List.{AllByRecursion}
 use Rattle.std.specs.FinMap as maps
 use Rattle.calls.specs.declared.kind.Kind.{Kind}
+use Rattle.calls.specs.declared.format.Format.{Format}
 use Rattle.calls.specs.declared.refusal.Refusal.{Refusal}
 use Rattle.calls.specs.Names.{IsName}
 use Rattle.calls.specs.Transactions.{Leads}
@@ -20,17 +21,18 @@ use Rattle.repetition.specs.Reading.{InJournal, Reads, ReadsLive, next_after}
 
 -- The same progress, but for the order in which the needs are kept.
 abbrev pub AlikeProgress : Progress → Progress → Type 0
-AlikeProgress Unread Unread = Unit {0}
+AlikeProgress (Unread v) (Unread w) = v ≡ w
 AlikeProgress (InCollections m u x) (InCollections n s y) = (m ≡ n) × Alike u s × (x ≡ y)
 AlikeProgress (InNumbers m u) (InNumbers n s) = (m ≡ n) × Alike u s
 AlikeProgress (InCalls m u) (InCalls n s) = (m ≡ n) × Alike u s
 AlikeProgress (InJournal m u j) (InJournal n s k) = (m ≡ n) × Alike u s × (j ≡ k)
 AlikeProgress p q = ⊥
 
--- The records lead to this progress, and to no other but in the order of the needs.
-pub record LeadsTo (rs : List Record) (p : Progress) : Type 0 where
-  pub leads : Leads Reads rs Unread p
-  pub only : (q : Progress) → Leads Reads rs Unread q → AlikeProgress q p
+-- On a disk of this version the records lead to this progress, and to no other but in the order of
+-- the needs.
+pub record LeadsTo (version : Format) (rs : List Record) (p : Progress) : Type 0 where
+  pub leads : Leads Reads rs (Unread version) p
+  pub only : (q : Progress) → Leads Reads rs (Unread version) q → AlikeProgress q p
 
 -- The record leads from the one to the other, and from each progress like the one to one like the
 -- other.
@@ -47,21 +49,21 @@ IsStuck p r = (u v : Progress) → AlikeProgress u p → Reads u r v → ⊥
 abbrev pub named_of : Told → Named
 named_of x = record { name = x.name; kind = x.kind; items = x.items.items }
 
--- The collection of which an image tells now has a good name, and items in order that have a
--- spelling.
-pub record IsTold (x : Told) : Type 0 where
+-- The collection of which an image tells now has a good name, and items in order that are short
+-- enough for the format.
+pub record IsTold (format : Format) (x : Told) : Type 0 where
   pub name : IsName x.name
-  pub short : AllByRecursion IsShortItem x.items.items
+  pub short : AllByRecursion (IsShortItem format) x.items.items
   pub order : (x.items.items ≡ []) ⊎ AreInOrder x.kind x.items.items
 
 -- What holds of every stage: no transaction is live before all collections are told.
 abbrev pub IsFit : Stage → Type 0
-IsFit (Stage.Collections x) = (x.loader.live ≡ maps.empty) × IfSome x.last IsTold
+IsFit (Stage.Collections x) = (x.loader.live ≡ maps.empty) × IfSome x.last (IsTold x.loader.format)
 IsFit other = Unit {0}
 
 -- the progress at this stage, with that number above every number that was entered
 abbrev pub progress_of : Stage → (next : ℕ) → Progress
-progress_of Stage.Unread next = Unread
+progress_of (Stage.Unread version) next = Unread version
 progress_of (Stage.Collections x) next = InCollections next x.loader (option_map named_of x.last)
 progress_of (Stage.Numbers s) next = InNumbers next s
 progress_of (Stage.Calls s) next = InCalls next s
@@ -74,7 +76,7 @@ count_of other = 0
 
 -- the next number once the record is there: the marks of an image say one
 abbrev pub number_behind : ℕ → Record → ℕ
-number_behind next (Record.Marks first wear) = first
+number_behind next (Record.Marks format first wear) = first
 number_behind next r = next_after next r
 
 -- The record leads from one stage to another, whatever the next number is;

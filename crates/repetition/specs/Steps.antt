@@ -1,5 +1,6 @@
 -- The machine over records, on named collections.
 use Rattle.std.specs.Prelude.{List, []}
+use Rattle.calls.specs.declared.format.Format.{Format}
 use Rattle.calls.specs.Contents.{Collection}
 use Rattle.calls.specs.Transactions.{Leads}
 use Rattle.record_format.specs.declared.record.Record.{Record}
@@ -19,6 +20,6 @@ Steps s r t = machine.Steps catalog_meaning catalog_making s r t
 abbrev pub Repeats : List Record → State → State → Type 0
 Repeats rs s t = Leads Steps rs s t
 
--- the state of an empty store
-abbrev pub empty_state : State
-empty_state = resting [] 0
+-- the state of an empty store of the format
+abbrev pub empty_state : Format → State
+empty_state format = resting format [] 0

@@ -5,7 +5,6 @@ ghost use Rattle.std.specs.FinMap as maps;
 ghost use Rattle.std.specs.Option.{option_map};
 ghost use Rattle.calls.specs.Names.{IsName};
 ghost use Rattle.catalog.specs.Making.{names_of, IsNew};
-ghost use Rattle.record_format.specs.Short.{IsShortItem};
 ghost use Rattle.record_format.specs.declared.record.Record.{Record};
 ghost use Rattle.record_format.specs.Records.{IsRecord};
 ghost use Rattle.machine.specs.Machines.{Alike};
@@ -18,11 +17,11 @@ ghost use Rattle.repetition.specs.Repetitions.{count_of, named_of};
 
 use crate::stage::{Collections, Stage, Told};
 use calls::limits::{MAX_COLLECTIONS, MAX_WEAR};
-use calls::{Item, Kind, Name, Refusal};
+use calls::{Format, Item, Kind, Name, Refusal};
 use catalog::{Catalog, Parts, follows};
 use loader::Loader;
 use machine::Machine;
-use records::{Record, is_reached};
+use records::{Record, is_reached, is_short_item};
 use std::alloc::Global;
 
 impl Stage {
@@ -38,7 +37,7 @@ impl Stage {
         ensures err { IfErr result (IsDamageOr place (IsNoStep self entry)) }
     {
         match self {
-            Stage::Unread => read_marks(alloc, entry, place),
+            Stage::Unread(version) => read_marks(alloc, version, entry, place),
             Stage::Collections(told) => told.read(alloc, entry, place),
             Stage::Numbers(loader) => read_live(loader, entry, place),
             Stage::Calls(loader) => read_asked(loader, entry, place),
@@ -47,16 +46,16 @@ impl Stage {
     }
 }
 
-// Reads the first record: the marks of an image.
-fn read_marks(alloc: Global, entry: Record, place: u64) -> Result<Stage, Refusal>
-    ensures ok { IfOk result (LeadsOn Stage.Unread entry) }
+// Reads the first record: the marks of an image, of a format that the disk may have.
+fn read_marks(alloc: Global, version: Format, entry: Record, place: u64) -> Result<Stage, Refusal>
+    ensures ok { IfOk result (LeadsOn (Stage.Unread version) entry) }
     ensures fit { IfOk result IsFit }
     ensures few { IfOk result (λ stage. count_of stage ≡ 0) }
-    ensures err { IfErr result (IsDamageOr place (IsNoStep Stage.Unread entry)) }
+    ensures err { IfErr result (IsDamageOr place (IsNoStep (Stage.Unread version) entry)) }
 {
     match entry {
-        Record::Marks { wear, .. } if wear <= MAX_WEAR => {
-            let loader = Loader::new(alloc, Catalog::new(alloc), wear);
+        Record::Marks { format, wear, .. } if wear <= MAX_WEAR && version.allows(format) => {
+            let loader = Loader::new(alloc, format, Catalog::new(alloc), wear);
             Ok(Stage::Collections(Collections { loader, last: None }))
         }
         other => {
@@ -132,7 +131,6 @@ impl Collections {
     // Reads an item of the collection of which the image tells now.
     fn item(self, item: Item, place: u64) -> Result<Stage, Refusal>
         requires fit { IsFit (Stage.Collections self) }
-        requires short { IsShortItem item }
         ensures ok { IfOk result (LeadsOn (Stage.Collections self) (Record.Item item)) }
         ensures fit { IfOk result IsFit }
         ensures few { IfOk result (λ stage. count_of stage ≡ 0) }
@@ -145,7 +143,10 @@ impl Collections {
             drop(loader);
             return Err(Refusal::Damaged(place));
         };
-        if !follows(told.kind, told.items.as_slice(), &item) || !is_reached(&item, loader.wear()) {
+        if !follows(told.kind, told.items.as_slice(), &item)
+            || !is_short_item(loader.format(), &item)
+            || !is_reached(&item, loader.wear())
+        {
             drop(item);
             drop(told);
             drop(loader);
@@ -168,7 +169,7 @@ impl Collections {
 // Puts a collection that is told whole at the end.
 fn load(mut loader: Loader<Catalog>, told: Told, place: u64) -> Result<Loader<Catalog>, Refusal>
     requires quiet { loader.live ≡ maps.empty }
-    requires told { IsTold told }
+    requires told { IsTold loader.format told }
     ensures ok { IfOk result (Closes loader (Some (named_of told))) }
     ensures quiet { IfOk result (λ now. now.live ≡ maps.empty) }
     ensures err { IfErr result (IsDamageOr place

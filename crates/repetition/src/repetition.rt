@@ -2,7 +2,9 @@
 ghost use Rattle.std.specs.Prelude.{◌≡◌, ◌≤◌, ◌<◌, ◌+◌, ◌^◌, ℕ, List, ◌++◌, length, IfOk, IfErr};
 ghost use Rattle.std.specs.Prelude.{Option, None};
 ghost use Rattle.calls.specs.declared.kind.Kind.{Kind};
+ghost use Rattle.calls.specs.declared.format.Format.{Format};
 ghost use Rattle.calls.specs.Transactions.{Leads};
+ghost use Rattle.calls.specs.Limits.{number_end};
 ghost use Rattle.record_format.specs.declared.record.Record.{Record};
 ghost use Rattle.record_format.specs.Records.{spelling, IsRecord, AreRecords, named_by};
 ghost use Rattle.repetition.specs.declared.stage.Stage.{Stage};
@@ -13,7 +15,7 @@ ghost use Rattle.repetition.specs.Repetitions.{LeadsTo, Takes, IsStuck, IsDamage
 ghost use Rattle.repetition.specs.Repetitions.{IsFit, progress_of, count_of, number_behind};
 
 use crate::stage::Stage;
-use calls::{Kind, Refusal};
+use calls::{Format, Kind, Refusal};
 use catalog::Catalog;
 use machine::Machine;
 use records::{Record, decode};
@@ -27,7 +29,7 @@ pub struct Repetition {
     pub next: u64,
     /// The kind that was named last.
     pub kind: Option<Kind>,
-    ghost bound: { (1 ≤ next) × (next ≤ 2 ^ 61) },
+    ghost bound: { (1 ≤ next) × (next ≤ number_end) },
 }
 
 /// What a whole area leads to.
@@ -38,17 +40,17 @@ pub struct Repeated {
     pub next: u64,
     /// How many records of the journal were repeated.
     pub count: u64,
-    ghost bound: { (1 ≤ next) × (next ≤ 2 ^ 61) },
+    ghost bound: { (1 ≤ next) × (next ≤ number_end) },
 }
 
 impl Repetition {
-    /// Before the first record.
-    pub fn new() -> Self
-        ensures stage { result.stage ≡ Stage.Unread }
+    /// Before the first record of an area, on a disk of this version.
+    pub fn new(version: Format) -> Self
+        ensures stage { result.stage ≡ Stage.Unread version }
         ensures kind { result.kind ≡ None }
     {
         Self {
-            stage: Stage::Unread,
+            stage: Stage::Unread(version),
             next: 1,
             kind: None,
         }
@@ -59,18 +61,19 @@ impl Repetition {
     pub fn read_body(self, alloc: Global, body: &[u8], place: u64) -> Result<Self, Refusal>
         requires fit { IsFit self.stage }
         requires few { count_of self.stage + length body.now < 2 ^ 64 }
-        ensures ok { IfOk result (λ now. (rs : List Record) →
-            LeadsTo rs (progress_of self.stage self.next) →
+        ensures ok { IfOk result (λ now. (version : Format) (rs : List Record) →
+            LeadsTo version rs (progress_of self.stage self.next) →
             (group : List Record) × AreRecords self.kind group × (body.now ≡ spelling group) ×
             (now.kind ≡ last_named self.kind group)
-            × LeadsTo (rs ++ group) (progress_of now.stage now.next)) }
+            × LeadsTo version (rs ++ group) (progress_of now.stage now.next)) }
         ensures fit { IfOk result (λ now. IsFit now.stage) }
         ensures few { IfOk result (λ now. count_of now.stage ≤ count_of self.stage + length
             body.now) }
         ensures err { IfErr result (IsDamageOr place
-            ((rs group : List Record) → LeadsTo rs (progress_of self.stage self.next) →
+            ((version : Format) (rs group : List Record) →
+            LeadsTo version rs (progress_of self.stage self.next) →
             AreRecords self.kind group → body.now ≡ spelling group → (q : Progress) →
-            Leads Reads (rs ++ group) Unread q → ⊥)) }
+            Leads Reads (rs ++ group) (Unread version) q → ⊥)) }
     {
         let mut so_far = self;
         let mut rest = body;
@@ -94,8 +97,9 @@ impl Repetition {
         ensures ok { IfOk result (λ all. progress_of self.stage self.next ≡
             InJournal all.next all.machine all.count) }
         ensures err { IfErr result (IsDamageOr place
-            ((rs : List Record) → LeadsTo rs (progress_of self.stage self.next) →
-            (next : ℕ) (s : State) (count : ℕ) → AreAccepted rs next s count → ⊥)) }
+            ((version : Format) (rs : List Record) →
+            LeadsTo version rs (progress_of self.stage self.next) →
+            (next : ℕ) (s : State) (count : ℕ) → AreAccepted version rs next s count → ⊥)) }
     {
         let Self { stage, next, .. } = self;
         match stage {
@@ -135,9 +139,9 @@ impl Repetition {
 // A number above the record's, where it enters one, and above those before.
 fn number_after(next: u64, entry: &Record) -> u64
     requires good { IsSomeRecord entry.now }
-    requires bound { (1 ≤ next) × (next ≤ 2 ^ 61) }
+    requires bound { (1 ≤ next) × (next ≤ number_end) }
     ensures is { result ≡ number_behind next entry.now }
-    ensures bound { (1 ≤ result) × (result ≤ 2 ^ 61) }
+    ensures bound { (1 ≤ result) × (result ≤ number_end) }
 {
     match entry {
         Record::Marks { next, .. } => *next,

@@ -1,5 +1,5 @@
 // How far the reading of an area has come.
-use calls::{Item, Kind, Name};
+use calls::{Format, Item, Kind, Name};
 use catalog::Catalog;
 use loader::Loader;
 use machine::Machine;
@@ -22,8 +22,8 @@ pub struct Collections {
 /// What an area was read to hold so far.
 #[derive(Drop)]
 pub enum Stage {
-    /// No record.
-    Unread,
+    /// No record, on a disk of this version.
+    Unread(Format),
     /// Collections of an image.
     Collections(Collections),
     /// All collections, and the numbers of transactions that were live.

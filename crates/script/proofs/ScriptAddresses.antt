@@ -25,10 +25,3 @@ client_is_first line text front back n rest e split first none is =
     let parts = same_split 32 (decimal n) rest front back (behind_letter line text rest n e is ∙ split)
     (decimal_whole n (omega arith)) first in
     none n is.client (sym parts.0)
-
-pub is_of_client : (line text front back : List ℕ) (n : ℕ) → line ≡ codes "c" ++ text →
-    text ≡ front ++ 32 ∷ back → IsClient n × (front ≡ decimal n) → IsOfClient n back line
-is_of_client line text front back n e split is = record {
-  client = is.0;
-  is = e ∙ ap (λ (t : List ℕ). codes "c" ++ t) (split ∙ ap (λ (t : List ℕ). t ++ 32 ∷ back) is.1);
-}

@@ -64,80 +64,7 @@ said_has (Operation.Call (Call.Spend n)) v args can same =
 said_has (Operation.Call Call.Level) v args can same = absurd (one_of_two Verb.Level v args same)
 said_has (Operation.Call (Call.Fill n)) v args can same = absurd can
 
--- the verbs that stand alone
-abbrev pub IsAlone : Verb → Type 0
-IsAlone Verb.Take = Unit {0}
-IsAlone Verb.Least = Unit {0}
-IsAlone Verb.Read = Unit {0}
-IsAlone Verb.Draw = Unit {0}
-IsAlone Verb.Level = Unit {0}
-IsAlone v = ⊥
-
-lone : (v w : Verb) → ◌≡◌ {A = Option (Verb × Option (List ℕ))} (Some (v, None)) (Some (w, None)) →
-    IsAlone v → IsAlone w
-lone v w same is =
-    let pair : ◌≡◌ {A = Verb × Option (List ℕ)} (v, None) (w, None) = cc in
-    subst IsAlone (ap (λ (x : Verb × Option (List ℕ)). x.0) pair) is
-
-two_of_one : (v w : Verb) (a : List ℕ) →
-    ◌≡◌ {A = Option (Verb × Option (List ℕ))} (Some (v, Some a)) (Some (w, None)) → ⊥
-two_of_one v w a same =
-    let pair : ◌≡◌ {A = Verb × Option (List ℕ)} (v, Some a) (w, None) = cc in
-    let none : Some a ≡ None = ap (λ (x : Verb × Option (List ℕ)). x.1) pair in
-    cc
-
-pub said_alone : (o : Operation) (v : Verb) → CanBeDone o → said o ≡ Some (v, None) → IsAlone v
-said_alone (Operation.Remove k) v can same = absurd (two_of_one Verb.Remove v _ same)
-said_alone (Operation.Call (Call.Contains x)) v can same =
-    absurd (two_of_one Verb.Contains v _ same)
-said_alone (Operation.Call (Call.SetAdd x)) v can same = absurd (two_of_one Verb.Add v _ same)
-said_alone (Operation.Call (Call.SetRemove x)) v can same = absurd can
-said_alone (Operation.Call (Call.Get k)) v can same = absurd (two_of_one Verb.Get v _ same)
-said_alone (Operation.Call (Call.Put k b)) v can same = absurd (two_of_one Verb.Put v _ same)
-said_alone (Operation.Call (Call.MapRemove k)) v can same = absurd can
-said_alone (Operation.Call (Call.Ceiling k)) v can same = absurd (two_of_one Verb.Ceiling v _ same)
-said_alone (Operation.Call (Call.QueueAdd p g)) v can same = absurd (two_of_one Verb.Add v _ same)
-said_alone (Operation.Call Call.Take) v can same = lone Verb.Take v same tt
-said_alone (Operation.Call Call.Least) v can same = lone Verb.Least v same tt
-said_alone (Operation.Call (Call.Pluck p g)) v can same = absurd can
-said_alone (Operation.Call (Call.Bump n)) v can same = absurd (two_of_one Verb.Bump v _ same)
-said_alone (Operation.Call Call.Read) v can same = lone Verb.Read v same tt
-said_alone (Operation.Call Call.Draw) v can same = lone Verb.Draw v same tt
-said_alone (Operation.Call (Call.Release x)) v can same = absurd (two_of_one Verb.Release v _ same)
-said_alone (Operation.Call (Call.Free x)) v can same = absurd can
-said_alone (Operation.Call (Call.Spend n)) v can same = absurd (two_of_one Verb.Spend v _ same)
-said_alone (Operation.Call Call.Level) v can same = lone Verb.Level v same tt
-said_alone (Operation.Call (Call.Fill n)) v can same = absurd can
-
 -- ---- one key, and two words
-
--- behind the other verbs stands one key, or nothing can stand
-pub keyed_has : (v : Verb) (text : List ℕ) → (v ≡ Verb.Add → ⊥) → (v ≡ Verb.Put → ⊥) →
-    (v ≡ Verb.Bump → ⊥) → HasArguments v text → IsKeyed v × IsKey text
-keyed_has Verb.Contains text a p b has = (tt, has)
-keyed_has Verb.Add text a p b has = absurd (a refl)
-keyed_has Verb.Remove text a p b has = (tt, has)
-keyed_has Verb.Get text a p b has = (tt, has)
-keyed_has Verb.Put text a p b has = absurd (p refl)
-keyed_has Verb.Ceiling text a p b has = (tt, has)
-keyed_has Verb.Take text a p b has = absurd has
-keyed_has Verb.Least text a p b has = absurd has
-keyed_has Verb.Bump text a p b has = absurd (b refl)
-keyed_has Verb.Read text a p b has = absurd has
-keyed_has Verb.Draw text a p b has = absurd has
-keyed_has Verb.Release text a p b has = (tt, has)
-keyed_has Verb.Spend text a p b has = (tt, has)
-keyed_has Verb.Level text a p b has = absurd has
-
--- what is found of a key is found of the verb with it
-pub on_key_gives : (found : Option Operation) (v : Verb) (key : ℕ) (text : List ℕ) →
-    (v ≡ Verb.Add → ⊥) → (v ≡ Verb.Put → ⊥) → (v ≡ Verb.Bump → ⊥) → text ≡ decimal key →
-    IfSome found (λ o. CanBeDone o × (said o ≡ Some (v, Some (decimal key)))) →
-    IfNone found (IsKeyed v → ⊥) →
-    MatchOption found (HasArguments v text → ⊥) (λ o. CanBeDone o × (said o ≡ Some (v, Some text)))
-on_key_gives None v key text a p b is some none = λ has. none (keyed_has v text a p b has).0
-on_key_gives (Some o) v key text a p b is some none =
-    (some.0, some.1 ∙ ap (λ t. Some (v, Some t)) (sym is))
 
 -- behind the word add stands one key where there is no space,
 pub added_key : (text : List ℕ) → All (λ b. b ≢ 32) text → HasArguments Verb.Add text → IsKey text
@@ -185,44 +112,6 @@ verb_whole Verb.Release = whole_by_test (codes "release") refl
 verb_whole Verb.Spend = whole_by_test (codes "spend") refl
 verb_whole Verb.Level = whole_by_test (codes "level") refl
 
--- the verb that a text is: its first, second or third letter tells
-abbrev read_verb : List ℕ → Verb
-read_verb t =
-    if get_or t 0 0 == 97 then Verb.Add
-    else if get_or t 0 0 == 98 then Verb.Bump
-    else if get_or t 0 0 == 100 then Verb.Draw
-    else if get_or t 0 0 == 103 then Verb.Get
-    else if get_or t 0 0 == 115 then Verb.Spend
-    else if get_or t 2 0 == 118 then Verb.Level
-    else if get_or t 0 0 == 108 then Verb.Least
-    else if get_or t 0 0 == 112 then Verb.Put
-    else if get_or t 0 0 == 116 then Verb.Take
-    else if get_or t 1 0 == 111 then Verb.Contains
-    else if get_or t 2 0 == 105 then Verb.Ceiling
-    else if get_or t 2 0 == 109 then Verb.Remove
-    else if get_or t 2 0 == 97 then Verb.Read
-    else Verb.Release
-
-read_back : (v : Verb) → read_verb (verb_text v) ≡ v
-read_back Verb.Contains = refl
-read_back Verb.Add = refl
-read_back Verb.Remove = refl
-read_back Verb.Get = refl
-read_back Verb.Put = refl
-read_back Verb.Ceiling = refl
-read_back Verb.Take = refl
-read_back Verb.Least = refl
-read_back Verb.Bump = refl
-read_back Verb.Read = refl
-read_back Verb.Draw = refl
-read_back Verb.Release = refl
-read_back Verb.Spend = refl
-read_back Verb.Level = refl
-
--- no two verbs are one text
-pub same_verb : (v w : Verb) → verb_text v ≡ verb_text w → v ≡ w
-same_verb v w is = sym (read_back v) ∙ ap read_verb is ∙ read_back w
-
 -- each verb, in the order of the program's table
 abbrev pub verbs : List Verb
 verbs = Verb.Contains ∷ Verb.Add ∷ Verb.Remove ∷ Verb.Get ∷ Verb.Put ∷ Verb.Ceiling ∷
@@ -247,28 +136,6 @@ no_verb text none Verb.Draw = none 10 (omega arith)
 no_verb text none Verb.Release = none 11 (omega arith)
 no_verb text none Verb.Spend = none 12 (omega arith)
 no_verb text none Verb.Level = none 13 (omega arith)
-
--- what is found behind a verb is found behind the word
-pub word_gives : {E : Type 0} (r : Result (Option Operation) E) (v : Verb) (word rest : List ℕ) →
-    word ≡ verb_text v →
-    IfOk r (λ found. MatchOption found (HasArguments v rest → ⊥)
-    (λ o. CanBeDone o × (said o ≡ Some (v, Some rest)))) →
-    IfOk r (λ found. MatchOption found ((w : Verb) → word ≡ verb_text w → HasArguments w rest → ⊥)
-    (λ o. CanBeDone o × (operation_text o ≡ word ++ 32 ∷ rest)))
-word_gives (Ok None) v word rest is none =
-    λ w same has. none (subst (λ u. HasArguments u rest) (same_verb w v (sym same ∙ is)) has)
-word_gives (Ok (Some o)) v word rest is some =
-    (some.0, ap said_text some.1 ∙ ap (λ t. t ++ 32 ∷ rest) (sym is))
-word_gives (Err why) v word rest is h = tt
-
-pub lone_gives : (found : Option Operation) (v : Verb) (word : List ℕ) → word ≡ verb_text v →
-    MatchOption found ((o : Operation) → CanBeDone o → said o ≡ Some (v, None) → ⊥)
-    (λ o. CanBeDone o × (said o ≡ Some (v, None))) →
-    MatchOption found ((w : Verb) (o : Operation) → word ≡ verb_text w → CanBeDone o →
-    said o ≡ Some (w, None) → ⊥) (λ o. CanBeDone o × (operation_text o ≡ word))
-lone_gives None v word is none =
-    λ w o same can e. none o can (e ∙ ap (λ u. Some (u, None)) (same_verb w v (sym same ∙ is)))
-lone_gives (Some o) v word is some = (some.0, ap said_text some.1 ∙ sym is)
 
 -- ---- operations
 

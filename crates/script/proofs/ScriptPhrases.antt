@@ -85,14 +85,6 @@ pub fill_gives : (found : Option Call) (text rest : List ℕ) → text ≡ codes
 fill_gives None text rest e none = λ c. fill_is_number text rest c e none
 fill_gives (Some c) text rest e is = (is.0, e ∙ sym is.1)
 
--- a text of neither word puts nothing off
-pub no_later : (text : List ℕ) (c : Call) →
-    ((rest : List ℕ) → text ≡ codes "bump " ++ rest → ⊥) →
-    ((rest : List ℕ) → text ≡ codes "fill " ++ rest → ⊥) → CanBePutOff c → text ≡ later_text c → ⊥
-no_later text (Call.Bump n) b f can is = b (signed_decimal n) is
-no_later text (Call.Fill n) b f can is = f (decimal n) is
-no_later text c b f can is = can
-
 pub no_later_without_space : (text : List ℕ) (r : Request) → All (λ b. b ≢ 32) text →
     IsLaterOf r text → ⊥
 no_later_without_space text (Request.Later name c) whole is =
@@ -194,20 +186,6 @@ make_is_request text rest (Request.Make kind name) e is =
     record { said = is.0; is = e ∙ ap (λ (t : List ℕ). codes "make " ++ t) is.1 }
 make_is_request text rest r e is = absurd is
 
-pub no_request : (text : List ℕ) (r : Request) → (text ≡ codes "begin" → ⊥) →
-    (text ≡ codes "commit" → ⊥) → (text ≡ codes "abort" → ⊥) → (text ≡ codes "kept" → ⊥)
-    → ((rest : List ℕ) → text ≡ codes "call " ++ rest → ⊥) →
-    ((rest : List ℕ) → text ≡ codes "later " ++ rest → ⊥) →
-    ((rest : List ℕ) → text ≡ codes "make " ++ rest → ⊥) → IsRequestOf r text → ⊥
-no_request text (Request.Make kind name) b c a k l p m is = m (kind_text kind ++ 32 ∷ name) is.is
-no_request text Request.Begin b c a k l p m is = b is.is
-no_request text (Request.Call name o) b c a k l p m is = l (name ++ 32 ∷ operation_text o) is.is
-no_request text (Request.Later name call) b c a k l p m is =
-    p (name ++ 32 ∷ later_text call) is.is
-no_request text Request.Commit b c a k l p m is = c is.is
-no_request text Request.Abort b c a k l p m is = a is.is
-no_request text Request.Kept b c a k l p m is = k is.is
-
 -- What is found under one meaning is found under another that says the same.
 found_gives : {A E : Type 0} {P Q : A → Type 0} → ((a : A) → P a → Q a) → ((a : A) → Q a → P a) →
     (r : Result (Option A) E) → IfOk r (λ found. MatchOption found ((a : A) → P a → ⊥) P) →
@@ -300,13 +278,6 @@ pub client_gives : {E : Type 0} (r : Result (Option Action) E) (line rest : List
     (λ a. IsLineOf a line))
 client_gives r line rest e k =
     found_gives (λ a. client_is_line line rest a e) (λ a. line_is_client line rest a e k) r
-
-pub no_line : (line : List ℕ) (a : Action) → (line ≡ codes "turn" → ⊥) →
-    (line ≡ codes "checkpoint" → ⊥) → ((rest : List ℕ) → line ≡ codes "c" ++ rest → ⊥) →
-    IsLineOf a line → ⊥
-no_line line (Action.Client n r) t k c is = c (decimal n ++ 32 ∷ request_text r) is.is
-no_line line Action.Turn t k c is = t is.is
-no_line line Action.Checkpoint t k c is = k is.is
 
 -- a test that failed
 pub denied : {P : Type 0} (b : Bool) → (IsTrue b ↔ P) → b ≡ false → P → ⊥

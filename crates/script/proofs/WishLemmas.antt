@@ -102,12 +102,6 @@ no_space text rest front back before rs e whole none read are =
     let first = first_of rest front back some.0 e whole some.1 in
     none first.2 first.4
 
--- the last call
-pub reads_last : (text rest : List ℕ) (before : List Request) (r : Request) →
-    All (λ b. b ≢ 59) rest → IsPart r rest → AreRead text before rest →
-    AreCallsOf (before ++ r ∷ []) text
-reads_last text rest before r whole is read = read.whole (r ∷ []) (inl (refl, (is, whole)))
-
 pub no_last : (text rest : List ℕ) (before rs : List Request) → All (λ b. b ≢ 59) rest →
     ((r : Request) → IsPart r rest → ⊥) → AreRead text before rest → AreCallsOf rs text → ⊥
 no_last text rest before rs whole none read are =
@@ -119,76 +113,3 @@ no_last text rest before rs whole none read are =
     at (r ∷ more) (inr others) = not_whole 59 rest others.0 (32 ∷ others.1) others.2 whole
 
 -- ---- wishes
-
--- the first letter, and the first, third and fifth as one number
-abbrev letter : List ℕ → ℕ
-letter t = get_or t 0 35
-
-abbrev letters : List ℕ → ℕ
-letters t = (get_or t 0 0 * 256 + get_or t 2 0) * 256 + get_or t 4 0
-
-passed_letter : (line : List ℕ) → IsPassedOver line → letter line ≡ 35
-passed_letter [] is = refl
-passed_letter (b ∷ line) is = is
-
-asked_letter : (r : Request) → letter (request_text r) ≡ 100 → ⊥
-asked_letter (Request.Make kind name) is = omega (arith, is)
-asked_letter Request.Begin is = omega (arith, is)
-asked_letter (Request.Call name o) is = omega (arith, is)
-asked_letter (Request.Later name n) is = omega (arith, is)
-asked_letter Request.Commit is = omega (arith, is)
-asked_letter Request.Abort is = omega (arith, is)
-asked_letter Request.Kept is = omega (arith, is)
-
-asked_letters : (r : Request) → letters (request_text r) ≡ letters (codes "keep ") → ⊥
-asked_letters (Request.Make kind name) is = omega (arith, is)
-asked_letters Request.Begin is = omega (arith, is)
-asked_letters (Request.Call name o) is = omega (arith, is)
-asked_letters (Request.Later name n) is = omega (arith, is)
-asked_letters Request.Commit is = omega (arith, is)
-asked_letters Request.Abort is = omega (arith, is)
-asked_letters Request.Kept is = omega (arith, is)
-
--- behind the word do stand calls and nothing else
-pub wish_is_do : (line rest : List ℕ) (w : Wish) → line ≡ codes "do " ++ rest → IsWishOf w line →
-    (rs : List Request) × AreCallsOf rs rest
-wish_is_do line rest Wish.Nothing e is =
-    let other : 100 ≡ 35 = ap letter (sym e) ∙ passed_letter line is in
-    absurd (omega (arith, other))
-wish_is_do line rest (Wish.Ask r) e is = absurd (asked_letter r (ap letter (sym is.is ∙ e)))
-wish_is_do line rest (Wish.Do calls) e is =
-    let same = append_cancel_left (codes "do ") rest is.0 (sym e ∙ is.1) in
-    (calls.items, subst (AreCallsOf calls.items) (sym same) is.2)
-wish_is_do line rest (Wish.DoAndKeep calls) e is =
-    let other = ap letter (sym e ∙ is.1) in absurd (omega (arith, other))
-wish_is_do line rest w e is =
-    let other = ap letter (sym e ∙ is) in absurd (omega (arith, other))
-
--- behind the word keep and a space stand calls and nothing else
-pub wish_is_keep : (line rest : List ℕ) (w : Wish) → line ≡ codes "keep " ++ rest →
-    IsWishOf w line → (rs : List Request) × AreCallsOf rs rest
-wish_is_keep line rest Wish.Nothing e is =
-    let other : 107 ≡ 35 = ap letter (sym e) ∙ passed_letter line is in
-    absurd (omega (arith, other))
-wish_is_keep line rest (Wish.Ask r) e is = absurd (asked_letters r (ap letters (sym is.is ∙ e)))
-wish_is_keep line rest (Wish.Do calls) e is =
-    let other = ap letter (sym e ∙ is.1) in absurd (omega (arith, other))
-wish_is_keep line rest (Wish.DoAndKeep calls) e is =
-    let same = append_cancel_left (codes "keep ") rest is.0 (sym e ∙ is.1) in
-    (calls.items, subst (AreCallsOf calls.items) (sym same) is.2)
-wish_is_keep line rest w e is =
-    let other = ap letters (sym e ∙ is) in absurd (omega (arith, other))
-
--- a line that none of the words begins
-pub no_wish : (line : List ℕ) (w : Wish) → (IsPassedOver line → ⊥) → (line ≡ codes "wait" → ⊥) →
-    (line ≡ codes "keep" → ⊥) → (line ≡ codes "bye" → ⊥)
-    → ((rest : List ℕ) → line ≡ codes "do " ++ rest → ⊥)
-    → ((rest : List ℕ) → line ≡ codes "keep " ++ rest → ⊥) →
-    ((r : Request) → IsRequestOf r line → ⊥) → IsWishOf w line → ⊥
-no_wish line Wish.Nothing n w k b d a r is = n is
-no_wish line (Wish.Ask q) n w k b d a r is = r q is
-no_wish line Wish.Wait n w k b d a r is = w is
-no_wish line Wish.Keep n w k b d a r is = k is
-no_wish line (Wish.Do calls) n w k b d a r is = d is.0 is.1
-no_wish line (Wish.DoAndKeep calls) n w k b d a r is = a is.0 is.1
-no_wish line Wish.Bye n w k b d a r is = b is

@@ -1,10 +1,11 @@
 -- What the lines of a script do that are one client's, and what each is answered.
-use Rattle.std.specs.Prelude.{◌≡◌, ◌≢◌, ◌⊎◌, ℕ, ◌<◌, ◌≤◌, ◌^◌, Bool, true, false, List, []}
+use Rattle.std.specs.Prelude.{◌≡◌, ◌≢◌, ◌⊎◌, ℕ, ◌<◌, ◌≤◌, Bool, true, false, List, []}
 use Rattle.std.specs.Prelude.{◌∷◌, ◌++◌, Option, None, Some, Result, Ok, Err}
 use Rattle.calls.specs.declared.call.Call.{Call}
 use Rattle.calls.specs.declared.kind.Kind.{Kind}
 use Rattle.calls.specs.declared.reply.Reply.{Reply}
 use Rattle.calls.specs.declared.refusal.Refusal.{Refusal}
+use Rattle.calls.specs.Limits.{number_end}
 use Rattle.txn.specs.declared.steps.Action.{Action}
 use Rattle.txn.specs.declared.steps.Target.{Target}
 use Rattle.clients.specs.declared.naming.Naming.{Ghosts}
@@ -67,7 +68,7 @@ module _ {J : Type 0} (j : Ghosts J) where
 
   -- A transaction begins under a number that is drawn, unless one is open.
   abbrev pub Begins : SessionState → Result ℕ Refusal → SessionState → Type 0
-  Begins old (Ok n) new = IsClosed old.known × (n < 2 ^ 61) ×
+  Begins old (Ok n) new = IsClosed old.known × (n < number_end) ×
       calls.Draws j.next old.known n new.known ×
       (new.known.phase ≡ Phase.Drawn n) × (new.ticket ≡ old.ticket)
   Begins old (Err e) new =

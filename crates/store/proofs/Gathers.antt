@@ -66,18 +66,6 @@ repeats_both f g h first last = record {
 }
 
 module _ {J : Type 0} (j : Ghosts J) where
-  -- It has what is not frozen, and the book's side knows that.
-  pub holds_unfrozen : (of_book of_keeper : AccordState) (g : GatherState) →
-      of_book.table ≡ j.gathering → of_keeper.table ≡ j.awaited → g.frozen ≡ None →
-      IsKnown of_book g →
-      IsGatherer j (record { gather = g; of_book = of_book; of_keeper = of_keeper })
-  holds_unfrozen of_book of_keeper g book keeper none known = record {
-    gathering = book;
-    awaited = keeper;
-    unfrozen = λ same. known;
-    frozen = λ some. absurd (some none);
-  }
-
   -- It has what is frozen, and the keeper's side knows that.
   pub holds_frozen : (of_book of_keeper : AccordState) (g : GatherState) →
       of_book.table ≡ j.gathering → of_keeper.table ≡ j.awaited → g.frozen ≢ None →
@@ -89,25 +77,3 @@ module _ {J : Type 0} (j : Ghosts J) where
     unfrozen = λ none. absurd (some none);
     frozen = λ same. repeats;
   }
-
-  -- A copy was taken, and some calls repeated.
-  pub holds_copied : (far of_keeper : AccordState) (g h : GatherState) →
-      far ≡ record { table = j.gathering; gather = g } → of_keeper.table ≡ j.awaited →
-      g.frozen ≡ None → Repeats g h →
-      IsGatherer j (record { gather = h; of_book = far; of_keeper = of_keeper })
-  holds_copied far of_keeper g h far_is keeper none repeats =
-      holds_unfrozen far of_keeper h (ap (λ (a : AccordState). a.table) far_is) keeper
-      (repeats.frozen ∙ none)
-      (inr (subst (λ v. Repeats v h) (sym (ap (λ (a : AccordState). a.gather) far_is)) repeats))
-
-  -- What was not frozen is given up, or not.
-  pub holds_rest : (far of_keeper : AccordState) (g h : GatherState) →
-      far.table ≡ j.gathering → of_keeper.table ≡ j.awaited → h.frozen ≡ None →
-      (g.frozen ≡ None → IsKnown far g) → (h ≡ g) ⊎ (h ≡ nothing_gathered) →
-      IsGatherer j (record { gather = h; of_book = far; of_keeper = of_keeper })
-  holds_rest far of_keeper g h book keeper none known (inl same) =
-      holds_unfrozen far of_keeper h book keeper none
-      (subst (IsKnown far) (sym same)
-      (known (ap (λ (v : GatherState). v.frozen) (sym same) ∙ none)))
-  holds_rest far of_keeper g h book keeper none known (inr new) =
-      holds_unfrozen far of_keeper h book keeper none (inl new)

@@ -1,4 +1,5 @@
 -- Each step of the keeper keeps what lies under its lock.
+use Rattle.calls.specs.declared.format.Format.{Format}
 use Rattle.std.proofs.Common.{◌≡◌, ◌≢◌, inl, inr, ℕ, ◌+◌, ◌≤◌, Some, None, Result, Ok, Err, List}
 use Rattle.std.proofs.Common.{[], ◌∷◌, ◌++◌, length, refl, sym, ap, ◌∙◌, subst, arith}
 use Rattle.std.proofs.Common.{append_assoc, ◌<◌, max, take}
@@ -34,7 +35,7 @@ use Rattle.checkpoint.specs.Stored.{AreReadTo}
 use Rattle.checkpoint.proofs.GroupLemmas.{uncrossed_front}
 use Rattle.checkpoint.proofs.ReceivedLemmas.{received_none}
 use Rattle.world.specs.Pasts.{mark_behind, mark_flipped}
-use Rattle.world.proofs.Begins as begins
+use Rattle.recovery.proofs.OpenedStores as openings
 use Rattle.world.proofs.GatherLemmas.{begun_same}
 use Rattle.world.proofs.KeeperSteps.{mark_rises, mark_is, some_received}
 use Rattle.world.proofs.PastLemmas.{prefix_take, yields_fewer}
@@ -102,14 +103,15 @@ module _ {D : Type 0} (g : disks.Ghosts D) where
   -- ---- opening
 
   -- nothing was received by a keeper that was just opened
-  opening : (start : List Collection) (wear : ℕ) (keeper : KeeperState D)
-      (blocks : List (List Record)) → AreReadTo blocks (resting start wear) → IsFresh keeper →
-      IsInUse g.seen g.may_leave keeper.area keeper.disk blocks → (records : List Record)
-      (now : State) → AreRecorded start wear records now [] →
-      HasReceived g.seen g.may_leave start wear records now [] [] [] keeper
-  opening start wear keeper blocks read fresh in_use records now recorded =
-      let stands = opened_stands start wear [] blocks records now read recorded in
-      received_none g.seen g.may_leave start wear blocks keeper read fresh in_use records now
+  opening : (format : Format) (start : List Collection) (wear : ℕ) (keeper : KeeperState D)
+      (blocks : List (List Record)) → AreReadTo blocks (resting format start wear) →
+      IsFresh keeper →
+      IsInUse g.seen g.may_leave format keeper.area keeper.disk blocks → (records : List Record)
+      (now : State) → AreRecorded format start wear records now [] →
+      HasReceived g.seen g.may_leave format start wear records now [] [] [] keeper
+  opening format start wear keeper blocks read fresh in_use records now recorded =
+      let stands = opened_stands format start wear [] blocks records now read recorded in
+      received_none g.seen g.may_leave format start wear blocks keeper read fresh in_use records now
       recorded.good stands.0 stands.1
 
   module _ {J : Type 0} (j : Ghosts J) where
@@ -120,15 +122,18 @@ module _ {D : Type 0} (g : disks.Ghosts D) where
         let sound = named.sound s in
         let told = sound.is_opened in
         let start = sym (ap (λ (b : Book). b.state.now) told.book_is) ∙ named.start in
+        let format = sym (ap (λ (b : Book). b.state.format) told.book_is) ∙ named.format in
         let wear = sym (ap (λ (b : Book). b.state.wear) told.book_is) ∙ named.wear in
         let blocks = told.blocks ++ told.written in
-        let read = begins.are_read g.seen g.may_leave sound.bytes o.book o.keeper.disk
-        o.keeper.area told sound.ready in
-        let had = opening j.start j.wear o.keeper blocks
-        (subst (λ c. AreReadTo blocks (resting c j.wear)) start
-        (subst (λ n. AreReadTo blocks (resting told.undone.now n)) wear read)) fresh
-        (begins.in_use g.seen g.may_leave sound.bytes o.book o.keeper.disk o.keeper.area told
-        sound.ready) records now recorded in (
+        let read = openings.are_read sound.bytes o.book o.keeper.area (g.seen o.keeper.disk) told in
+        let had = opening j.format j.start j.wear o.keeper blocks
+        (subst (λ c. AreReadTo blocks (resting j.format c j.wear)) start
+        (subst (λ f. AreReadTo blocks (resting f told.undone.now j.wear)) format
+        (subst (λ n. AreReadTo blocks (resting told.undone.format told.undone.now n)) wear read)))
+        fresh
+        (subst (λ f. IsInUse g.seen g.may_leave f o.keeper.area o.keeper.disk blocks) format
+        (openings.in_use g.seen g.may_leave sound.bytes o.book o.keeper.disk o.keeper.area told
+        sound.ready)) records now recorded in (
           ([], had),
           record {
             later = omega (arith, named.opened_at);
@@ -226,21 +231,23 @@ module _ {D : Type 0} (g : disks.Ghosts D) where
             sym (append_assoc (records_in parts.0) (records_in parts.1) begin.0) ∙
                 ap (λ l. l ++ begin.0) (sym both) ∙ begin.1,
           ) in
-          let recorded' : AreRecorded j.start j.wear records state receiver.noted =
-          subst (AreRecorded j.start j.wear records state) brings.receives.noted recorded in
+          let recorded' : AreRecorded j.format j.start j.wear records state receiver.noted =
+          subst (AreRecorded j.format j.start j.wear records state) brings.receives.noted
+          recorded in
           let ends = frozen_ends receiver.noted in
           let apart' : Uncrossed ends groups =
           subst (λ gs. Uncrossed (frozen_ends gs) groups) brings.receives.noted apart in
           let had = is.received s records state parts.0 recorded' parts.3 begin'
           (uncrossed_front ends parts.0 parts.1 (subst (Uncrossed ends) parts.2 apart')) in
           let images = had.0.0 in
-          let kept = brings.keeps j.start j.wear records state ends images receiver.received
+          let kept = brings.keeps j.format j.start j.wear records state ends images
+          receiver.received
           brings.more groups brings.receives carried' begin apart' had.0.1 in (
             (
               images,
-              subst (λ bs. HasReceived g.seen g.may_leave j.start j.wear records state
+              subst (λ bs. HasReceived g.seen g.may_leave j.format j.start j.wear records state
                   (frozen_ends after.noted) images bs l) (sym all)
-                  (subst (λ gs. HasReceived g.seen g.may_leave j.start j.wear records state
+                  (subst (λ gs. HasReceived g.seen g.may_leave j.format j.start j.wear records state
                   (frozen_ends gs) images (receiver.received ++ brings.more) l)
                   (sym brings.receives.noted) kept.0),
             ),
@@ -280,7 +287,8 @@ module _ {D : Type 0} (g : disks.Ghosts D) where
       noted = is.noted;
       received = λ s records state groups recorded carried begin apart.
           let had = is.received s records state groups recorded carried begin apart in
-          let kept = keeps j.start j.wear records state (frozen_ends receiver.noted) had.0.0
+          let kept = keeps j.format j.start j.wear records state (frozen_ends receiver.noted)
+          had.0.0
           receiver.received had.0.1 in (
             (had.0.0, kept.0),
             leaves_on records k l had.1 kept.1,
@@ -332,9 +340,11 @@ module _ {D : Type 0} (g : disks.Ghosts D) where
       received = λ s records state groups recorded carried begin apart.
           let had = is.received s records state groups recorded carried begin apart in
           let there = is.noted (some_frozen near.gather image packs) in
-          let of = each_among (PacksImages j.start j.wear records state) near.gather receiver.noted
+          let of = each_among (PacksImages j.format j.start j.wear records state) near.gather
+          receiver.noted
           recorded.stand there image packs in
-          let kept = keeps j.start j.wear records state (frozen_ends receiver.noted) had.0.0
+          let kept = keeps j.format j.start j.wear records state (frozen_ends receiver.noted)
+          had.0.0
           receiver.received of.begun of.is_for of.stands had.0.1 in
           let same = (begun_same k image l r answers).1 in (
             (begun_with of.begun had.0.0 r, kept.0),
@@ -412,8 +422,9 @@ turn_brings g k l before after left back r answers keeps stage =
     record {
       more = got.0;
       receives = received_back before after got.0 left back got.1;
-      keeps = λ start wear records now freezes images received more groups takes carried begin apart
-          had. keeps start wear records now freezes images received more groups
+      keeps =
+          λ format start wear records now freezes images received more groups takes carried begin apart
+          had. keeps format start wear records now freezes images received more groups
           (received_there before after more left same given takes) carried begin apart had;
       stage = stage;
       rises = rises;

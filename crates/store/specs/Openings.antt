@@ -40,6 +40,7 @@ pub record IsNamed {J D : Type 0} (j : Ghosts J) (g : disks.Ghosts D) (o : Opene
   pub gathering : o.tables.gathering ≡ j.gathering
   pub awaited : o.tables.awaited ≡ j.awaited
   pub start : o.book.state.now ≡ j.start
+  pub format : o.book.state.format ≡ j.format
   pub wear : o.book.state.wear ≡ j.wear
   pub next : o.book.next ≡ j.next
   pub opened_at : g.moment o.keeper.disk ≡ j.opened_at
@@ -59,6 +60,7 @@ naming_of g o = record {
   gathering = o.tables.gathering;
   awaited = o.tables.awaited;
   start = o.book.state.now;
+  format = o.book.state.format;
   wear = o.book.state.wear;
   next = o.book.next;
   opened_at = g.moment o.keeper.disk;

@@ -60,7 +60,7 @@ mod store;
 mod vault;
 
 pub use checkpointing::{Checkpoint, Checkpointer};
-pub use clients::{Attempt, Client, Naming, Phase, Seen, Signal, Ticket, Transaction};
+pub use clients::{Attempt, Client, Naming, Seen, Signal, Ticket, Transaction};
 pub use committing::Committer;
 pub use opened::Opened;
 pub use store::Store;

@@ -1,7 +1,8 @@
 // A store that was opened and has no name yet.
-ghost use Rattle.std.specs.Prelude.{◌≡◌, ◌≤◌, ◌^◌, List, IfOk, IfErr, IsOkUnless};
+ghost use Rattle.std.specs.Prelude.{◌≡◌, ◌≤◌, List, IfOk, IfErr, IsOkUnless};
 ghost use Rattle.calls.specs.Contents.{Collection};
 ghost use Rattle.calls.specs.declared.refusal.Refusal.{Refusal};
+ghost use Rattle.calls.specs.Limits.{number_end};
 ghost use Rattle.disk_model.specs.Disk.{ReadsOnly, Rises, IsAtRest};
 ghost use Rattle.repetition.specs.Journals.{StandsFor};
 ghost use Rattle.recovery.specs.Heads.{HasNoHeader};
@@ -120,13 +121,13 @@ impl<D: Disk> Model for Opened<D> {
     ghost view = { λ o. record { book = o.book; keeper = o.keeper; tables = o.parts } };
 
     ghost invariant = { λ o. (o.parts.from ≡ o.book.next) × IsFresh o.keeper ×
-        (o.book ≡ opened o.book.state.now o.book.next o.book.state.wear) };
+        (o.book ≡ opened o.book.state.format o.book.state.now o.book.next o.book.state.wear) };
 }
 
 impl Parts {
     // Parts of a store whose numbers begin there. Refused only for want of memory.
     fn new(alloc: Global, from: u64) -> Result<Parts, Refusal>
-        requires { from ≤ 2 ^ 61 }
+        requires { from ≤ number_end }
         ensures from { IfOk result (λ p. p.from ≡ from) }
         ensures refusal { IsOkUnless result Refusal.NoMemory }
     {

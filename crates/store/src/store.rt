@@ -22,8 +22,8 @@ use txn::Book;
 
 /// A store of named collections that threads share. The book, which runs transactions in memory,
 /// lies under one lock, the keeper of the disk under another, and what is gathered for an image
-/// under a third, which checkpointers alone take. No device is called under the book's lock, so no
-/// client waits for the disk but in `Client::wait`.
+/// under a third, which checkpointers alone take. No device is called under the book's lock, so a
+/// client waits for the disk only in `Client::wait`, and where many records wait for it already.
 pub struct Store<D: Disk, J: Naming> {
     desk: DeskLock<J>,
     vault: Mutex<Vault<D, J>>,

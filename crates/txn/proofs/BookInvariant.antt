@@ -1,4 +1,5 @@
 -- Every step of a book leaves what holds of every book.
+use Rattle.calls.specs.declared.format.Format.{Format}
 use Rattle.std.proofs.Common.{◌≡◌, ℕ, ◌+◌, ◌*◌, ◌<◌, ◌≤◌, ◌^◌, ◌⊎◌, inl, inr, ◌↔◌, Contains, max}
 use Rattle.std.proofs.Common.{false, None, ⊎_elim, Bool, true, Result, Ok, Err, List, []}
 use Rattle.std.proofs.Common.{◌∷◌, ◌++◌, length, refl, sym, ◌∙◌, ap, subst, arith}
@@ -58,7 +59,8 @@ ended_is_record n number = let below = number.below in
     record { fits = omega arith; suits = tt; sound = number }
 
 -- Room that is made, and nothing else, leaves what holds of a book.
-pub reserved_keeps : {S : Type 0} {meaning : Meaning S ℕ} {making : Making S} {short : S → Type 0}
+pub reserved_keeps : {S : Type 0} {meaning : Meaning S ℕ} {making : Making S}
+    {short : Format → S → Type 0}
     {s t : State S} (w w' : Waiting) {places next : ℕ} {m n : GatheringState} → t ≡ s → n ≡ m →
     waiting w' ≡ waiting w → freezes w' ≡ freezes w → w'.handed ≡ w.handed →
     IsKept meaning making short (IsSound meaning making) (book_of s w places next m) →
@@ -69,7 +71,7 @@ reserved_keeps {S} {meaning} {making} {short} {s} {t} w w' {places} {next} {m} {
     (sym (reserved_same s t w w' places next m n same noted waits marks handed)) kept
 
 module _ {S : Type 0} (meaning : Meaning S ℕ) (making : Making S)
-    (short : S → Type 0) (laws : BookLaws meaning making short) where
+    (short : Format → S → Type 0) (laws : BookLaws meaning making short) where
   abbrev Sound : State S → Type 0
   Sound s = IsSound meaning making s
 
@@ -362,16 +364,17 @@ module _ {S : Type 0} (meaning : Meaning S ℕ) (making : Making S)
         })
 
   -- A book that was opened.
-  pub opened_kept : (now : S) (next wear : ℕ) → meaning.within now wear → wear ≤ 2 ^ 61 + 65536 →
-      (1 ≤ next) × (next ≤ 2 ^ 61) → length (making.names now) ≤ 256 → short now →
-      Kept (opened now next wear)
-  opened_kept now next wear reached unworn fits few spells =
+  pub opened_kept : (format : Format) (now : S) (next wear : ℕ) → meaning.within now wear →
+      wear ≤ 2 ^ 61 + 65536 →
+      (1 ≤ next) × (next ≤ 2 ^ 61) → length (making.names now) ≤ 256 → short format now →
+      Kept (opened format now next wear)
+  opened_kept format now next wear reached unworn fits few spells =
       let none = maps.len-empty nat_cmp Bool in
       record {
         records = tt;
         few_pending = omega arith;
         frozen = λ f there. let none = there.1 in absurd (omega arith);
-        upheld = resting_upheld meaning making short laws now wear reached unworn few spells;
+        upheld = resting_upheld meaning making short laws format now wear reached unworn few spells;
         below = λ n lives. absurd (nobody n lives);
         next = fits;
         positions = omega arith;

@@ -1,4 +1,5 @@
 -- A book from its parts, before and after a step.
+use Rattle.calls.specs.declared.format.Format.{Format}
 use Rattle.std.proofs.Common.{◌≡◌, ℕ, suc, ◌+◌, ◌<◌, List, [], ◌∷◌, ◌++◌, length, sym}
 use Rattle.std.proofs.Common.{◌∙◌, ap, arith, inr, subst, ◌⊎◌, ◌↔◌, Contains}
 use Rattle.std.specs.Prelude.{Result, Ok, Err, OnErr, IfErr, IsOkUnless}
@@ -64,11 +65,11 @@ module _ {S : Type 0} (s : State S) (w : Waiting) (places next : ℕ) where
       }
 
 -- a book with no live transaction and nothing pending
-pub opened_is : {S : Type 0} (now : S) (s : State S) (w : Waiting) (wear next : ℕ)
-    (n : GatheringState) → s ≡ resting now wear → waiting w ≡ [] → freezes w ≡ [] →
+pub opened_is : {S : Type 0} (format : Format) (now : S) (s : State S) (w : Waiting) (wear next : ℕ)
+    (n : GatheringState) → s ≡ resting format now wear → waiting w ≡ [] → freezes w ≡ [] →
     w.handed ≡ record { end = 0; place = 0 } → n ≡ none_begun →
-    book_of s w 0 next n ≡ opened now next wear
-opened_is {S} now s w wear next n state records marks handed none =
+    book_of s w 0 next n ≡ opened format now next wear
+opened_is {S} format now s w wear next n state records marks handed none =
     let with : State S → List Record → List ℕ → Handed → GatheringState → BookState S =
     λ v pending marks h m. record {
       state =
@@ -82,10 +83,10 @@ opened_is {S} now s w wear next n state records marks handed none =
       gathering = m;
     } in
     ap (λ v. with v (waiting w) (freezes w) w.handed n) state
-    ∙ ap (λ v. with (resting now wear) v (freezes w) w.handed n) records
-    ∙ ap (λ v. with (resting now wear) [] v w.handed n) marks
-    ∙ ap (λ v. with (resting now wear) [] [] v n) handed
-    ∙ ap (λ v. with (resting now wear) [] [] (record { end = 0; place = 0 }) v) none
+    ∙ ap (λ v. with (resting format now wear) v (freezes w) w.handed n) records
+    ∙ ap (λ v. with (resting format now wear) [] v w.handed n) marks
+    ∙ ap (λ v. with (resting format now wear) [] [] v n) handed
+    ∙ ap (λ v. with (resting format now wear) [] [] (record { end = 0; place = 0 }) v) none
 
 -- What refuses a making in the collections refuses it in the book.
 pub make_refused : {S : Type 0} (names : List (List ℕ)) (b : Standing S) (name : List ℕ)
@@ -112,7 +113,7 @@ new_refused names name e is = is
 pub ask_refused : {S : Type 0} (meaning : Meaning S ℕ) (making : Making S)
     (b c : BookState S) (n at : ℕ) (call : Call)
     (result : Result (Unit {0}) Refusal) →
-    IsOpen (CanAsk meaning b.state.now at call) (standing b) n →
+    IsOpen (CanAsk meaning b.state.format b.state.now at call) (standing b) n →
     IsUnhindered meaning (standing b) n at call → OnErr result (c ≡ b) →
     IsOkUnless result Refusal.NoMemory →
     IfErr result

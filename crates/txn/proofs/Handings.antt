@@ -1,4 +1,5 @@
 -- What a book has handed over goes on with each of its steps.
+use Rattle.calls.specs.declared.format.Format.{Format}
 use Rattle.std.proofs.Common.{◌≡◌, inl, inr, ⊎_elim, ℕ, ◌<◌, Bool, true, false, Option}
 use Rattle.std.proofs.Common.{None, Result, Ok, Err, List, [], ◌∷◌, ◌++◌, length, refl, sym}
 use Rattle.std.proofs.Common.{◌∙◌, ap}
@@ -112,17 +113,17 @@ frozen_not collections b c g h Refusal.Outrun froze = froze.1
 frozen_not collections b c g h e froze = absurd froze.0
 
 module _ {S : Type 0} (meaning : Meaning S ℕ) (making : Making S)
-    (collections : S → List Collection) (start : S) (wear : ℕ) where
+    (collections : S → List Collection) (format : Format) (start : S) (wear : ℕ) where
   abbrev Handed : List BookStep → BookState S → List Block → List (List Record) → List ℕ →
       List Image → Type 0
   Handed steps book handed groups freezes images =
-      HasHanded meaning making collections start wear steps book handed groups freezes images
+      HasHanded meaning making collections format start wear steps book handed groups freezes images
 
   abbrev Imaged : List BookStep → Image → Type 0
-  Imaged steps image = IsImageIn meaning making collections start wear steps image
+  Imaged steps image = IsImageIn meaning making collections format start wear steps image
 
   -- A book that was opened has handed nothing over.
-  pub opens : (next : ℕ) → Handed [] (opened start next wear) [] [] [] []
+  pub opens : (next : ℕ) → Handed [] (opened format start next wear) [] [] [] []
   opens next = record {
     legal = refl;
     good = tt;
@@ -156,9 +157,10 @@ module _ {S : Type 0} (meaning : Meaning S ℕ) (making : Making S)
     step action = record { client = client; action = action }
 
     legal_on : (action : Action) → Row meaning making (standing b) action (standing c) →
-        IsLegal meaning making (opening start wear) (steps ++ step action ∷ []) (standing c)
+        IsLegal meaning making (opening format start wear) (steps ++ step action ∷ []) (standing c)
     legal_on action row = Leads-push (λ (u : Standing S) (x : BookStep) (v : Standing S).
-        Row meaning making u x.action v) steps (step action) (opening start wear) (standing b)
+        Row meaning making u x.action v) steps (step action) (opening format start wear)
+        (standing b)
         (standing c) had.legal row
 
     still_imaged : (action : Action) → AllByRecursion (Imaged (steps ++ step action ∷ [])) images
@@ -169,7 +171,7 @@ module _ {S : Type 0} (meaning : Meaning S ℕ) (making : Making S)
     pub taken_left : (action : Action) → Takes meaning making b action c →
         IsTaken meaning making b (records_then steps action) c
     taken_left action takes = leaves meaning making b c (shown_by no_calls steps)
-        (history_shown meaning making start wear steps (standing b) had.legal) action takes
+        (history_shown meaning making format start wear steps (standing b) had.legal) action takes
 
     -- One step more that hands nothing over.
     pub takes_on : (action : Action) → Takes meaning making b action c →

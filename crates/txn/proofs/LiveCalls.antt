@@ -1,4 +1,5 @@
 -- The calls that steps show are those of the state to which they lead.
+use Rattle.calls.specs.declared.format.Format.{Format}
 use Rattle.std.proofs.Common.{◌≡◌, ℕ, ◌==◌, ⊎_elim, Bool, true, false, Some, None, Result}
 use Rattle.std.proofs.Common.{Ok, Err, List, [], ◌∷◌, ◌++◌, map, drop, cond, reverse, refl, sym}
 use Rattle.std.proofs.Common.{◌∙◌}
@@ -222,9 +223,10 @@ all_shown meaning making (x ∷ steps) live b c shown legal =
     all_shown meaning making steps (shows live x.action) legal.0 c
     (one_shown meaning making live b legal.0 shown x.action legal.1) legal.2
 
-pub history_shown : {S : Type 0} (meaning : Meaning S ℕ) (making : Making S) (start : S) (wear : ℕ)
+pub history_shown : {S : Type 0} (meaning : Meaning S ℕ) (making : Making S) (format : Format)
+    (start : S) (wear : ℕ)
     (steps : List BookStep) (c : Standing S) →
-    IsLegal meaning making (opening start wear) steps c →
+    IsLegal meaning making (opening format start wear) steps c →
     AreShown (shown_by no_calls steps) c.state.entries
-history_shown meaning making start wear steps c legal =
-    all_shown meaning making steps no_calls (opening start wear) c (λ n. refl) legal
+history_shown meaning making format start wear steps c legal =
+    all_shown meaning making steps no_calls (opening format start wear) c (λ n. refl) legal

@@ -1,11 +1,13 @@
 -- A book: the state that its records lead to, and the records that wait for a block.
-use Rattle.std.specs.Prelude.{◌≡◌, ◌⊎◌, ℕ, ◌+◌, ◌*◌, ◌<◌, ◌≤◌, ◌^◌, max, Bool, List, [], ◌∷◌, ◌++◌}
+use Rattle.calls.specs.declared.format.Format.{Format}
+use Rattle.std.specs.Prelude.{◌≡◌, ◌⊎◌, ℕ, ◌+◌, ◌*◌, ◌<◌, ◌≤◌, max, Bool, List, [], ◌∷◌, ◌++◌}
 use Rattle.std.specs.Prelude.{length, Contains, None, Result}
 use Rattle.std.specs.FinMap as maps
 use Rattle.std.specs.List.{AllByRecursion}
 use Rattle.calls.specs.declared.kind.Kind.{Kind}
 use Rattle.calls.specs.declared.refusal.Refusal.{Refusal}
 use Rattle.calls.specs.Contents.{Collection}
+use Rattle.calls.specs.Limits.{max_pending, number_end}
 use Rattle.undo_log.specs.Logs.{Lives}
 use Rattle.boosted.specs.Meaning.{Meaning}
 use Rattle.catalog.specs.Making.{Making}
@@ -39,9 +41,9 @@ pub record BookState (S : Type 0) : Type 0 where
   pub gathering : GatheringState
 
 -- a book that was opened
-abbrev pub opened : {S : Type 0} → S → (next wear : ℕ) → BookState S
-opened now next wear = record {
-  state = resting now wear;
+abbrev pub opened : {S : Type 0} → Format → S → (next wear : ℕ) → BookState S
+opened format now next wear = record {
+  state = resting format now wear;
   pending = [];
   freezes = [];
   end = 0;
@@ -71,7 +73,7 @@ position b = b.end + length b.pending
 -- The state is c's now, and the step's record waits behind the others. What is noted of the step
 -- while the book is gathered stands apart.
 pub record Appends {S : Type 0} (b : BookState S) (r : Record) (c : BookState S) : Type 0 where
-  pub room : length b.pending < 16384
+  pub room : length b.pending < max_pending
   pub is : c ≡ record b {
     state =
         c.state;
@@ -119,18 +121,18 @@ CutAnswers b sends full result c =
 
 -- ---- what holds of every book
 
--- short: no value in the collections is too long to be spelled. sound: what holds of every state
+-- short: no value in the collections is too long for the format. sound: what holds of every state
 -- that the machine reaches.
-module _ {S : Type 0} (meaning : Meaning S ℕ) (making : Making S) (short : S → Type 0)
+module _ {S : Type 0} (meaning : Meaning S ℕ) (making : Making S) (short : Format → S → Type 0)
     (sound : State S → Type 0) where
   pub record IsKept (b : BookState S) : Type 0 where
     pub records : AllByRecursion (IsRecord None) b.pending
-    pub few_pending : length b.pending ≤ 16384
+    pub few_pending : length b.pending ≤ max_pending
     -- each freeze stands behind a record that waits
     pub frozen : (f : ℕ) → Contains b.freezes f → (b.end < f) × (f ≤ b.end + length b.pending)
     pub upheld : IsUpheld meaning making short sound b.state
     pub below : (n : ℕ) → Lives b.state.live n → n < b.next
-    pub next : (1 ≤ b.next) × (b.next ≤ 2 ^ 61)
+    pub next : (1 ≤ b.next) × (b.next ≤ number_end)
     -- a record is a unit of wear, the one Commit or Ended of a Begin, or a Make
     pub positions : b.end + length b.pending + maps.len b.state.live ≤ 2 * b.state.wear + length
         (making.names b.state.now)

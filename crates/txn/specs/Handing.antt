@@ -1,4 +1,5 @@
 -- What a book has handed over since it was opened, and the images of it.
+use Rattle.calls.specs.declared.format.Format.{Format}
 use Rattle.std.specs.Prelude.{◌≡◌, ◌⊎◌, ℕ, ◌<◌, List, ◌++◌, length, Contains, None}
 use Rattle.std.specs.List.{AllByRecursion}
 use Rattle.calls.specs.Contents.{Collection}
@@ -25,9 +26,9 @@ IsBetween groups book position =
     (position ≡ length (joined first)))
     ⊎ ((book.end < position) × Contains book.freezes position)
 
--- start, wear: of the book that was opened.
+-- format, start, wear: of the book that was opened.
 module _ {S : Type 0} (meaning : Meaning S ℕ) (making : Making S)
-    (collections : S → List Collection) (start : S) (wear : ℕ) where
+    (collections : S → List Collection) (format : Format) (start : S) (wear : ℕ) where
   -- The image is one of the book after a beginning of the steps: it shows what stood there, and has
   -- the position behind the last record, and the count of commits and makes, that were there.
   pub record IsImageIn (steps : List BookStep) (image : Image) : Type 0 where
@@ -35,7 +36,7 @@ module _ {S : Type 0} (meaning : Meaning S ℕ) (making : Making S)
     pub rest : List BookStep
     pub begins : steps ≡ first ++ rest
     pub there : Standing S
-    pub legal : IsLegal meaning making (opening start wear) first there
+    pub legal : IsLegal meaning making (opening format start wear) first there
     pub next : ℕ
     pub packed : IsPackedImage collections next there.state image.blocks.items
     pub end : image.end ≡ length (records_by first)
@@ -46,7 +47,7 @@ module _ {S : Type 0} (meaning : Meaning S ℕ) (making : Making S)
   -- positions, which no block crosses, and the images are of it.
   pub record HasHanded (steps : List BookStep) (book : BookState S) (handed : List Block)
       (groups : List (List Record)) (freezes : List ℕ) (images : List Image) : Type 0 where
-    pub legal : IsLegal meaning making (opening start wear) steps (standing book)
+    pub legal : IsLegal meaning making (opening format start wear) steps (standing book)
     pub good : AllByRecursion (IsRecord None) (records_by steps)
     pub carried : Carries 0 0 handed groups
     pub records : records_by steps ≡ joined groups ++ book.pending

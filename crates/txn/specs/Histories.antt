@@ -9,6 +9,7 @@ use Rattle.calls.specs.Reads.{reads}
 use Rattle.calls.specs.Transactions.{Leads, Event, Asked, PutOff, Transaction, Act, Begins, Asks}
 use Rattle.calls.specs.Transactions.{Commits}
 use Rattle.calls.specs.Transactions.{Creates, committed, Serial}
+use Rattle.calls.specs.Limits.{max_pending}
 use Rattle.record_format.specs.declared.record.Record.{Record}
 use Rattle.record_format.specs.Acts.{places}
 use Rattle.machine.specs.Machine.{State}
@@ -116,7 +117,7 @@ uncounted x = record x { action = without_count x.action }
 
 -- One record more waits.
 pub record Adds {S : Type 0} (s : Standing S) (r : Record) (t : Standing S) : Type 0 where
-  pub room : s.pending < 16384
+  pub room : s.pending < max_pending
   pub is : t ≡ record s {
     state =
         t.state;

@@ -1,5 +1,6 @@
 -- The rows of a book's histories: when each step gets which answer, and what it leaves.
-use Rattle.std.specs.Prelude.{◌≡◌, ℕ, ◌<◌, ◌≤◌, ◌^◌, ◌⊎◌, Bool, true, false, List}
+use Rattle.calls.specs.declared.format.Format.{Format}
+use Rattle.std.specs.Prelude.{◌≡◌, ℕ, ◌<◌, ◌≤◌, ◌⊎◌, Bool, true, false, List}
 use Rattle.std.specs.Prelude.{length, Some, None, Result, Ok, Err}
 use Rattle.std.specs.FinMap as maps
 use Rattle.calls.specs.declared.call.Call.{Call}
@@ -16,6 +17,7 @@ use Rattle.boosted.specs.Meaning.{CanAsk, CanDefer, AskRefused, DeferRefused, Me
 use Rattle.catalog.specs.Making as naming
 use Rattle.catalog.specs.Making.{Making, IsPlaceOf, FindRefused}
 use Rattle.calls.specs.Names.{IsName}
+use Rattle.calls.specs.Limits.{max_live, max_calls, max_pending, number_end}
 use Rattle.record_format.specs.declared.record.Record.{Record}
 use Rattle.record_format.specs.Records.{record_of_call, IsNumber}
 use Rattle.machine.specs.Machine.{State, IsRunning, CanBegin, BeginRow, CommitRow}
@@ -33,11 +35,11 @@ pub record Standing (S : Type 0) : Type 0 where
   pub places : ℕ
 
 -- where the histories of an opened book begin
-abbrev pub opening : {S : Type 0} → S → (wear : ℕ) → Standing S
-opening now wear = record { state = resting now wear; pending = 0; places = 0 }
+abbrev pub opening : {S : Type 0} → Format → S → (wear : ℕ) → Standing S
+opening format now wear = record { state = resting format now wear; pending = 0; places = 0 }
 
 abbrev pub IsFull : {S : Type 0} → Standing S → Type 0
-IsFull b = 16384 ≤ b.pending
+IsFull b = max_pending ≤ b.pending
 
 -- ---- refusals
 
@@ -54,16 +56,16 @@ MakeRefused names b name e = (IsFull b → ⊥) × naming.MakeRefused names name
 -- The number may begin, and its record has room.
 pub record CanEnter {S : Type 0} (b : Standing S) (n : ℕ) : Type 0 where
   pub begins : CanBegin b.state n
-  pub unworn : b.state.wear < 2 ^ 61
-  pub room : b.pending < 16384
+  pub unworn : b.state.wear < number_end
+  pub room : b.pending < max_pending
 
 abbrev pub EnterRefused : {S : Type 0} → Standing S → ℕ → Refusal → Type 0
 EnterRefused b n Refusal.BadArg = IsNumber n → ⊥
 EnterRefused b n Refusal.AlreadyLive = IsNumber n × Lives b.state.live n
 EnterRefused b n Refusal.TooManyLive =
-    IsNumber n × (Lives b.state.live n → ⊥) × (64 ≤ maps.len b.state.live)
-EnterRefused b n Refusal.Worn = CanBegin b.state n × (2 ^ 61 ≤ b.state.wear)
-EnterRefused b n Refusal.Backlog = CanBegin b.state n × (b.state.wear < 2 ^ 61) × IsFull b
+    IsNumber n × (Lives b.state.live n → ⊥) × (max_live ≤ maps.len b.state.live)
+EnterRefused b n Refusal.Worn = CanBegin b.state n × (number_end ≤ b.state.wear)
+EnterRefused b n Refusal.Backlog = CanBegin b.state n × (b.state.wear < number_end) × IsFull b
 EnterRefused b n Refusal.NoMemory = CanEnter b n
 EnterRefused b n e = ⊥
 
@@ -71,19 +73,21 @@ EnterRefused b n e = ⊥
 pub record IsOpen {S : Type 0} (ask : Type 0) (b : Standing S) (n : ℕ) : Type 0 where
   pub running : IsRunning b.state n
   pub asked : ask
-  pub unworn : b.state.wear < 2 ^ 61
-  pub few : length (own n b.state.entries) < 1024
-  pub room : b.pending < 16384
+  pub unworn : b.state.wear < number_end
+  pub few : length (own n b.state.entries) < max_calls
+  pub room : b.pending < max_pending
 
 -- It is not running, or has no room for what it can ask, and is refused so.
 abbrev pub OpenRefused : {S : Type 0} → (ask : Type 0) → Standing S → ℕ → Refusal → Type 0
 OpenRefused ask b n Refusal.NoSuchTxn = Lives b.state.live n → ⊥
 OpenRefused ask b n Refusal.Falling = Falls b.state.live n
-OpenRefused ask b n Refusal.Worn = IsRunning b.state n × ask × (2 ^ 61 ≤ b.state.wear)
+OpenRefused ask b n Refusal.Worn = IsRunning b.state n × ask × (number_end ≤ b.state.wear)
 OpenRefused ask b n Refusal.TooManyCalls =
-    IsRunning b.state n × ask × (b.state.wear < 2 ^ 61) × (1024 ≤ length (own n b.state.entries))
+    IsRunning b.state n × ask × (b.state.wear < number_end) ×
+    (max_calls ≤ length (own n b.state.entries))
 OpenRefused ask b n Refusal.Backlog =
-    IsRunning b.state n × ask × (b.state.wear < 2 ^ 61) × (length (own n b.state.entries) < 1024) ×
+    IsRunning b.state n × ask × (b.state.wear < number_end) ×
+    (length (own n b.state.entries) < max_calls) ×
     IsFull b
 OpenRefused ask b n e = ⊥
 
@@ -113,9 +117,9 @@ module _ {S : Type 0} (meaning : Meaning S ℕ) where
   -- one that has room as above.
   abbrev pub CallRefused : Standing S → (n at : ℕ) → Call → Refusal → Type 0
   CallRefused b n at call e =
-      OpenRefused (CanAsk meaning b.state.now at call) b n e ⊎
-      ((IsRunning b.state n × AskRefused meaning b.state.now at call e) ⊎
-      (IsOpen (CanAsk meaning b.state.now at call) b n × AskedInVain b n at call e))
+      OpenRefused (CanAsk meaning b.state.format b.state.now at call) b n e ⊎
+      ((IsRunning b.state n × AskRefused meaning b.state.format b.state.now at call e) ⊎
+      (IsOpen (CanAsk meaning b.state.format b.state.now at call) b n × AskedInVain b n at call e))
 
   -- A call that could be put off is refused so, where the transaction has room for it: another one
   -- holds a need in its way, or none does and memory is wanted.
@@ -171,25 +175,25 @@ module _ {S X : Type 0} (meaning : Meaning S ℕ) (making : Making S) (at : X �
   -- A call is made: one that only reads leaves no record, where there would be room for it.
   abbrev pub IsMade : (only_reads : Bool) → X → ℕ → Event → X → Type 0
   IsMade true x n e y =
-      ReadRow meaning (at x).state n e (at y).state × ((at x).pending < 16384) × Moves x y
+      ReadRow meaning (at x).state n e (at y).state × ((at x).pending < max_pending) × Moves x y
   IsMade false x n e y = CallRow meaning (at x).state n e (at y).state × Appends x (record_of n e) y
 
   -- The newest call is undone: of one that only reads no record tells.
   abbrev pub IsUndone : X → ℕ → X → Type 0
   IsUndone x n y =
       (WrittenBackRow meaning (at x).state n (at y).state × Appends x (Record.Back n) y) ⊎
-      (UnreadRow (at x).state n (at y).state × ((at x).pending < 16384) × Moves x y)
+      (UnreadRow (at x).state n (at y).state × ((at x).pending < max_pending) × Moves x y)
 
   -- A call on the collection of a number.
   abbrev pub CallAnswers : X → (n p : ℕ) → Call → Result Reply Refusal → X → Type 0
   CallAnswers x n p call (Ok reply) y =
       IsMade (reads call reply) x n (record { at = p; call = call; reply = reply }) y ×
-      ((at x).state.wear < 2 ^ 61)
+      ((at x).state.wear < number_end)
   CallAnswers x n p call (Err e) y = (y ≡ x) × CallRefused meaning (at x) n p call e
 
   abbrev pub LaterAnswers : X → (n p : ℕ) → Call → Result (Unit {0}) Refusal → X → Type 0
   LaterAnswers x n p call (Ok done) y =
-      LaterRow meaning (at x).state n p call (at y).state × ((at x).state.wear < 2 ^ 61) ×
+      LaterRow meaning (at x).state n p call (at y).state × ((at x).state.wear < number_end) ×
       Appends x (later_record n p call) y
   LaterAnswers x n p call (Err e) y = (y ≡ x) × LaterRefused meaning (at x) n p call e
 
@@ -211,7 +215,7 @@ module _ {S X : Type 0} (meaning : Meaning S ℕ) (making : Making S) (at : X �
   Answers x (Action.Make name kind (Err e)) y =
       (y ≡ x) × MakeRefused (making.names (at x).state.now) (at x) name e
   Answers x (Action.Enter n (Ok done)) y =
-      BeginRow (at x).state n (at y).state × ((at x).state.wear < 2 ^ 61) ×
+      BeginRow (at x).state n (at y).state × ((at x).state.wear < number_end) ×
       Appends x (Record.Begin n) y
   Answers x (Action.Enter n (Err e)) y = (y ≡ x) × EnterRefused (at x) n e
   Answers x (Action.Call n (Target.Number p) call a) y = CallAnswers x n p call a y
@@ -228,7 +232,7 @@ module _ {S X : Type 0} (meaning : Meaning S ℕ) (making : Making S) (at : X �
   Answers x (Action.Commit n (Err e)) y = (y ≡ x) × CommitRefused (at x) n e
   Answers x (Action.Back n (Ok true)) y = IsUndone x n y
   Answers x (Action.Back n (Ok false)) y =
-      FallRow (at x).state n (at y).state × ((at x).pending < 16384) × Moves x y
+      FallRow (at x).state n (at y).state × ((at x).pending < max_pending) × Moves x y
   Answers x (Action.Back n (Err e)) y = (y ≡ x) × BackRefused (at x) n e
   Answers x (Action.Ended n (Ok done)) y =
       EndedRow (at x).state n (at y).state × Appends x (Record.Ended n) y

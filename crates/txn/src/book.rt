@@ -1,5 +1,5 @@
 // The book: transactions on shared collections, one step at a time.
-ghost use Rattle.std.specs.Prelude.{◌≡◌, ℕ, ◌<◌, ◌≤◌, ◌^◌, ◌+◌, [], ◌∷◌, ◌++◌, IfOk, IfErr};
+ghost use Rattle.std.specs.Prelude.{◌≡◌, ℕ, ◌<◌, ◌≤◌, ◌+◌, [], ◌∷◌, ◌++◌, IfOk, IfErr};
 ghost use Rattle.std.specs.Prelude.{OnOk, OnErr, Ok, Err, IsOkUnless, length, true, false};
 ghost use Rattle.std.specs.Prelude.{◌↔◌, IsNone, IfSome};
 ghost use Rattle.calls.specs.Names.{IsName};
@@ -10,7 +10,7 @@ ghost use Rattle.abstract_locks.specs.Holds.{IsClear};
 ghost use Rattle.calls.specs.declared.reply.Reply.{Reply};
 ghost use Rattle.boosted.specs.Meaning.{CanAsk, CanDefer};
 ghost use Rattle.catalog.specs.Making.{IsPlaceOf, FindRefused};
-ghost use Rattle.record_format.specs.Short.{AreShort, IsShortReply};
+ghost use Rattle.record_format.specs.Short.{AreShort};
 ghost use Rattle.machine.specs.Machine.{IsRunning, IsSettled, CanCall};
 ghost use Rattle.txn.specs.declared.steps.Action.{Action};
 ghost use Rattle.txn.specs.declared.steps.Target.{Target};
@@ -25,11 +25,12 @@ ghost use Rattle.machine.specs.Transactions.{RunsWhole};
 ghost use Rattle.machine.specs.Sound.{IsSound};
 ghost use Rattle.calls.specs.Rules.{need_of};
 ghost use Rattle.calls.specs.Reads.{reads};
+ghost use Rattle.calls.specs.Limits.{max_collections, max_pending, number_end, max_wear};
 
 use crate::undoing::count_journalled;
 use blocks::{NextBlock, Outbox, Pending};
 use calls::limits::{MAX_CALLS, MAX_LIVE, MAX_PENDING, NUMBER_END};
-use calls::{Call, Kind, Name, Refusal, Reply};
+use calls::{Call, Format, Kind, Name, Refusal, Reply};
 use catalog::Parts;
 use gathering::Gathering;
 use images::Gather;
@@ -93,26 +94,26 @@ impl<B: Parts + Coded> Model for Book<B> {
 
     ghost view = { λ b. book_of b.machine b.pending b.places b.next b.gathering };
 
-    ghost invariant = { λ b. IsKept B.meaning B.making (λ s. AreShort (B.collections s))
+    ghost invariant = { λ b. IsKept B.meaning B.making (λ f s. AreShort f (B.collections s))
         (IsSound B.meaning B.making)
         (book_of b.machine b.pending b.places b.next b.gathering) };
 }
 
 impl<B: Parts + Coded> Book<B> {
-    /// A book of collections that were opened, with no live transaction and nothing pending. `next`
-    /// is above every number that was entered before, and `wear` is what the collections are
-    /// within.
-    pub fn new(alloc: Global, parts: B, next: u64, wear: u64) -> Self
+    /// A book of collections that were opened in a store of the format, with no live transaction
+    /// and nothing pending. `next` is above every number that was entered before, and `wear` is
+    /// what the collections are within.
+    pub fn new(alloc: Global, format: Format, parts: B, next: u64, wear: u64) -> Self
         requires within { B.meaning.within parts wear }
-        requires worn { wear ≤ 2 ^ 61 + 65536 }
-        requires next { (1 ≤ next) × (next ≤ 2 ^ 61) }
-        requires short { AreShort (B.collections parts) }
-        requires few { length (B.making.names parts) ≤ 256 }
-        ensures { result ≡ opened parts next wear }
+        requires worn { wear ≤ max_wear }
+        requires next { (1 ≤ next) × (next ≤ number_end) }
+        requires short { AreShort format (B.collections parts) }
+        requires few { length (B.making.names parts) ≤ max_collections }
+        ensures { result ≡ opened format parts next wear }
     {
         Self {
             alloc,
-            machine: Machine::new(alloc, parts, wear),
+            machine: Machine::new(alloc, format, parts, wear),
             pending: Pending::new(alloc),
             places: 0,
             next,
@@ -142,8 +143,8 @@ impl<B: Parts + Coded> Book<B> {
         self.pending.len()
     }
 
-    /// The block that `cut` hands over next: how many records it has, and how many bytes spell them.
-    /// None where no record waits. It takes no memory, and is no step.
+    /// The block that `cut` hands over next: how many records it has, and how many bytes spell
+    /// them. None where no record waits. It takes no memory, and is no step.
     pub fn next_block(&self) -> Option<NextBlock>
         ensures none { IsNone result ↔ (self.now.pending ≡ []) }
         ensures next { IfSome result (IsNextBlock self.now.pending self.now.freezes self.now.end) }
@@ -151,8 +152,8 @@ impl<B: Parts + Coded> Book<B> {
         self.pending.next_block()
     }
 
-    /// The position behind the last record, counted since the book was opened: how many records were
-    /// handed over or wait. This is no step.
+    /// The position behind the last record, counted since the book was opened: how many records
+    /// were handed over or wait. This is no step.
     pub fn position(&self) -> u64
         ensures { result ≡ position self.now }
     {
@@ -171,7 +172,7 @@ impl<B: Parts + Coded> Book<B> {
     /// What holds of every book: its records have a spelling, its counts and numbers are in range,
     /// and what the laws of the collections give. It does nothing.
     pub fn upheld(&self)
-        ensures { IsKept B.meaning B.making (λ s. AreShort (B.collections s))
+        ensures { IsKept B.meaning B.making (λ f s. AreShort f (B.collections s))
             (IsSound B.meaning B.making) self.now }
     {
         let _ = &self.places;
@@ -414,7 +415,8 @@ impl<B: Parts + Coded> Book<B> {
 
     // Makes the call that gets the reply.
     fn ask(&mut self, number: u64, col: u8, call: &Call, reply: &Reply) -> Result<(), Refusal>
-        requires open { IsOpen (CanAsk B.meaning self.old.state.now col call.now)
+        requires open { IsOpen (CanAsk B.meaning self.old.state.format self.old.state.now col
+            call.now)
             (standing self.old) number }
         requires answered { B.meaning.answers self.old.state.now col call.now reply.now }
         ensures ok { OnOk result (Takes B.meaning B.making self.old
@@ -435,11 +437,11 @@ impl<B: Parts + Coded> Book<B> {
 
     // Makes the call, under its record unless it only reads.
     fn make_call(&mut self, number: u64, col: u8, call: &Call, reply: &Reply) -> Result<(), Refusal>
-        requires open { IsOpen (CanAsk B.meaning self.old.state.now col call.now)
+        requires open { IsOpen (CanAsk B.meaning self.old.state.format self.old.state.now col
+            call.now)
             (standing self.old) number }
         requires can { CanCall B.meaning self.old.state number
             (record { at = col; call = call.now; reply = reply.now }) }
-        requires short { IsShortReply reply.now }
         ensures ok { OnOk result (Takes B.meaning B.making self.old
             (Action.Call number (Target.Number col) call.now (Ok reply.now)) self.new) }
         ensures same { OnErr result (self.new ≡ self.old) }
@@ -457,7 +459,8 @@ impl<B: Parts + Coded> Book<B> {
 
     // Notes the call, which only reads.
     fn note_read(&mut self, number: u64, at: u8, call: &Call, reply: &Reply) -> Result<(), Refusal>
-        requires open { IsOpen (CanAsk B.meaning self.old.state.now at call.now)
+        requires open { IsOpen (CanAsk B.meaning self.old.state.format self.old.state.now
+            at call.now)
             (standing self.old) number }
         requires can { CanCall B.meaning self.old.state number
             (record { at = at; call = call.now; reply = reply.now }) }
@@ -477,12 +480,12 @@ impl<B: Parts + Coded> Book<B> {
 
     // Makes the call, which does not only read, under its record, from its parts.
     fn note_call(&mut self, number: u64, col: u8, call: &Call, reply: &Reply) -> Result<(), Refusal>
-        requires open { IsOpen (CanAsk B.meaning self.old.state.now col call.now)
+        requires open { IsOpen (CanAsk B.meaning self.old.state.format self.old.state.now col
+            call.now)
             (standing self.old) number }
         requires can { CanCall B.meaning self.old.state number
             (record { at = col; call = call.now; reply = reply.now }) }
         requires written { reads call.now reply.now ≡ false }
-        requires short { IsShortReply reply.now }
         ensures ok { OnOk result (Takes B.meaning B.making self.old
             (Action.Call number (Target.Number col) call.now (Ok reply.now)) self.new) }
         ensures same { OnErr result (self.new ≡ self.old) }
@@ -538,7 +541,7 @@ impl<B: Parts + Coded> Book<B> {
 
     // Whether a record more may wait.
     fn check_backlog(&self) -> Result<(), Refusal>
-        ensures ok { OnOk result (length self.now.pending < 16384) }
+        ensures ok { OnOk result (length self.now.pending < max_pending) }
         ensures err { IfErr result (λ e. (e ≡ Refusal.Backlog) × IsFull (standing self.now)) }
     {
         if self.pending.len() >= MAX_PENDING {
@@ -594,13 +597,14 @@ impl<B: Parts + Coded> Book<B> {
 
     // Whether the transaction can ask for the call, and has room for it.
     fn check_call(&self, number: u64, col: u8, call: &Call) -> Result<(), Refusal>
-        ensures ok { OnOk result (IsOpen (CanAsk B.meaning self.now.state.now col call.now)
+        ensures ok { OnOk result (IsOpen
+            (CanAsk B.meaning self.now.state.format self.now.state.now col call.now)
             (standing self.now) number) }
         ensures err { IfErr result (CallRefused B.meaning (standing self.now) number col
             call.now) }
     {
         self.check_running(number)?;
-        self.machine.parts().askable(col, call)?;
+        self.machine.askable(col, call)?;
         self.check_room(number)
     }
 

@@ -14,8 +14,10 @@
 //! live lists and what is owed are the `ledger`'s, the spelling of records is that of `blocks`.
 //!
 //! **To change it.** A new step is a method of `Book`, an `Action` in `steps.rt`, a row in
-//! `specs/Rows`, and a case in `Takings`, `BookInvariant`, `Handings` and `Goings`. A new refusal
-//! of a step is a line of its row. A new kind or mode touches nothing here.
+//! `specs/Rows` and in `specs/Histories`, and a case in `Takings`, `LiveCalls`, `BookHistory`,
+//! `Readings` and `BookInvariant`; one that stands apart from the table, as a cut does, has one in
+//! `Handings` too. A new refusal of a step is a line of its row. A new kind or mode touches nothing
+//! here.
 #![tactic(auto)]
 
 mod book;
@@ -23,9 +25,7 @@ mod history;
 mod steps;
 mod undoing;
 
-pub use blocks::{Block, NextBlock, Outbox};
+pub use blocks::{Block, Outbox};
 pub use book::Book;
 pub use history::{images, one_history};
-pub use loader::Loader;
-pub use machine::Machine;
 pub use steps::{Action, BookStep, Target};

@@ -9,7 +9,8 @@ pub enum Target {
     Named(Name, Option<u8>),
 }
 
-/// What a book did, and what it answered. The first number of each is that of the transaction.
+/// What a book did, and what it answered. Where a step is of a transaction, the first number is the
+/// transaction's.
 pub enum Action {
     /// Makes an empty collection: a committed transaction of its own. It answers the count of
     /// commits and makes since the book was opened, this one included.
@@ -30,7 +31,7 @@ pub enum Action {
     Cut(u64, Result<bool, Refusal>),
     /// Copies the next collection for an image. It answers whether one is not copied yet.
     Gather(Result<bool, Refusal>),
-    /// Marks where an image stands: one that is taken at once, or what was gathered.
+    /// Marks where the image stands that was gathered.
     Freeze(Result<(), Refusal>),
 }
 

@@ -101,20 +101,6 @@ pub record IsTakingBack (n : ℕ) (first s : State) (before records : List Recor
   pub others : (m : ℕ) → (m ≡ n → ⊥) → own m s.entries ≡ own m first.entries
   pub undo : AllByRecursion IsUndoRecord before → IsNumber n → AllByRecursion IsUndoRecord records
 
-pub taking_starts : (n : ℕ) (s : State) (before : List Record) → Lives s.live n →
-    IsTakingBack n s s before before
-taking_starts n s before lives = record {
-  count = 0;
-  is = sym (append-nil before);
-  leads = refl;
-  calls = omega arith;
-  lives = lives;
-  live = λ m. (λ l. l, λ l. l);
-  many = refl;
-  others = λ m other. refl;
-  undo = λ undo number. undo;
-}
-
 pub replicate-push : {X : Type 0} (k : ℕ) (x : X) → replicate k x ++ x ∷ [] ≡ replicate (k + 1) x
 replicate-push k x = replicate-append-replicate k 1 x
 

@@ -20,11 +20,6 @@ undo_len (Record.Back n) u = omega (arith, length-number 8 n)
 undo_len (Record.Ended n) u = omega (arith, length-number 8 n)
 undo_len r u = absurd u
 
-pub undo_fits : (r : Record) → IsUndoRecord r → Fits r
-undo_fits (Record.Back n) u = omega (arith, u.below)
-undo_fits (Record.Ended n) u = omega (arith, u.below)
-undo_fits r u = absurd u
-
 pub undo_record : (r : Record) → IsUndoRecord r → IsRecord None r
 undo_record (Record.Back n) u = record { fits = omega (arith, u.below); suits = tt; sound = u }
 undo_record (Record.Ended n) u = record { fits = omega (arith, u.below); suits = tt; sound = u }

@@ -402,14 +402,6 @@ module _ {D : Type 0} (seen : D → List ℕ) (may_leave : D → List ℕ → Ty
       no_block records [] bs none are = refl
       no_block records (b ∷ done) bs none are = absurd (omega (arith, none, are.0))
 
-  -- nor is one on its way
-  pub some_records : {records rest : List Record} {before area : Area} {old disk : D}
-      {buffer : List ℕ} {capacity : ℕ} →
-      IsAppending records rest before area old disk buffer capacity → 0 < length rest →
-      length records ≡ 0 → ⊥
-  some_records {records} {rest} l some none =
-      omega (arith, some, none, ap length l.split, length-append (records_in l.done) rest)
-
   -- all are appended where none is left
   pub appended : {records rest : List Record} {before area : Area} {old disk : D} {buffer : List ℕ}
       {capacity : ℕ} → IsAppending records rest before area old disk buffer capacity →

@@ -1,4 +1,5 @@
 -- The image of a book that is frozen stands for all of its records.
+use Rattle.calls.specs.declared.format.Format.{Format}
 use Rattle.std.proofs.Common.{◌≡◌, ◌≢◌, ℕ, ◌≤◌, List, [], ◌∷◌, ◌++◌, length, refl, sym}
 use Rattle.std.proofs.Common.{◌∙◌, ap, subst, arith, append_assoc, length-append}
 use Rattle.std.specs.Prelude.{Vec}
@@ -40,28 +41,16 @@ use Rattle.recovery.proofs.ImageNames.{accepted_named, repeats_named}
 use Rattle.world.proofs.ImageReading.{frozen_reads}
 use Rattle.catalog.specs.Meaning.{catalog_meaning, catalog_making}
 
--- an image begins with its marks, so it is in some block
-no_groups : (bs : List (Vec ℕ Global)) (gs : List (List Record)) → AreWhole bs gs → bs ≡ [] →
-    gs ≡ []
-no_groups [] [] whole none = refl
-no_groups [] (g ∷ gs) whole none = absurd whole
-no_groups (b ∷ bs) gs whole none = absurd cc
-
-pub some_gathered : (next wear : ℕ) (xs : List Collection) (live : List Record)
-    (bs : List (Vec ℕ Global)) → IsPacked (TellsGathered next wear xs live) bs → bs ≢ []
-some_gathered next wear xs live bs packed none =
-    let empty : joined packed.groups ≡ [] =
-    ap joined (no_groups bs packed.groups packed.whole none) in
-    absurd (omega (arith, ap length (sym packed.tells.is ∙ empty)))
-
 -- A book that is frozen and a keeper that has received blocks of it: the image stands for all
 -- records, and the keeper may hold its end.
-module _ {D : Type 0} (g : Ghosts D) (start : List Collection) (wear : ℕ) (steps : List BookStep)
+module _ {D : Type 0} (g : Ghosts D) (format : Format) (start : List Collection) (wear : ℕ)
+    (steps : List BookStep)
     (book : BookState) (received waits : List Block) (groups : List (List Record))
     (between freezes : List ℕ) (images : List Image) (begun : List BegunImage) (k : KeeperState D)
-    (handed : HasHanded catalog_meaning catalog_making (λ v. v) start wear steps book
+    (handed : HasHanded catalog_meaning catalog_making (λ v. v) format start wear steps book
     (received ++ waits) groups between images)
-    (keeps : HasReceived g.seen g.may_leave start wear (records_by steps) (journalled book.state)
+    (keeps : HasReceived g.seen g.may_leave format start wear (records_by steps)
+    (journalled book.state)
     freezes begun received k)
     (kept : IsKept catalog_meaning catalog_making AreShort (IsSound catalog_meaning catalog_making)
     book) where
@@ -69,7 +58,8 @@ module _ {D : Type 0} (g : Ghosts D) (start : List Collection) (wear : ℕ) (ste
   names_good : AreNamed book.state.now × AreDistinct (names_of book.state.now)
   names_good =
       let stands = keeps.stands in
-      let first = accepted_named (records_in keeps.old) stands.are_read.next stands.base
+      let first = accepted_named stands.are_read.version (records_in keeps.old) stands.are_read.next
+      stands.base
       stands.are_read.count stands.are_read.accepted in
       let last = repeats_named stands.since stands.base stands.state stands.repeats first in
       subst (λ (v : List Collection). AreNamed v × AreDistinct (names_of v)) stands.lags.now last
@@ -88,7 +78,8 @@ module _ {D : Type 0} (g : Ghosts D) (start : List Collection) (wear : ℕ) (ste
     packed = is.packed.groups
 
     -- it is read up to a state that lags behind the book's
-    is_read : (s : State) × Leads Reads (joined packed) Unread (InJournal book.next s 0) ×
+    is_read : (s : State) × Leads Reads (joined packed) (Unread Format.One)
+        (InJournal book.next s 0) ×
         Lags s (journalled book.state)
     is_read = frozen_reads book kept names_good.0 names_good.1 image.blocks.items is.packed
 
@@ -96,15 +87,17 @@ module _ {D : Type 0} (g : Ghosts D) (start : List Collection) (wear : ℕ) (ste
     begins = record { covered = records_by steps; blocks = packed }
 
     -- and stands for all records
-    pub stands : StandIn start wear (records_by steps) (journalled book.state) packed
+    pub stands : StandIn format start wear (records_by steps) (journalled book.state) packed
         (records_by steps)
     stands =
         let old = keeps.stands in
-        (stands_whole start wear (records_by steps) (journalled book.state) packed old.trail
-        (all_lead start wear (records_by steps) (journalled book.state) keeps.old keeps.covered old)
-        old.trails
+        (stands_whole format start wear (records_by steps) (journalled book.state) packed old.trail
+        (all_lead format start wear (records_by steps) (journalled book.state) keeps.old
+        keeps.covered old)
+        old.trails old.of_book
         is_read.0
         (record {
+          version = Format.One;
           next = book.next;
           count = 0;
           good = is.packed.good;

@@ -51,16 +51,13 @@ pub packed_before : (g h : GatherState) (image : Image) → Repeats g h → Pack
 packed_before g h image repeats packs = record {
   frozen = packs.frozen;
   is_frozen = sym repeats.frozen ∙ packs.is_frozen;
-  packed = subst (λ ps. IsPacked (TellsGathered packs.frozen.marks.next packs.frozen.marks.wear
+  packed = subst (λ ps. IsPacked (TellsGathered packs.frozen.marks.format packs.frozen.marks.next
+      packs.frozen.marks.wear
       (gathered ps) packs.frozen.live) image.blocks.items)
       (repeated_same g.parts h.parts g.effects h.effects repeats.repeated) packs.packed;
   end = packs.end;
   place = packs.place;
 }
-
--- an image that is packed has a block
-pub packed_some : (g : GatherState) (image : Image) → Packs g image → image.blocks.items ≡ [] → ⊥
-packed_some g image packs = freezes.some_gathered _ _ _ _ _ packs.packed
 
 -- ---- what the steps are to the book
 
@@ -91,6 +88,7 @@ module _ {D : Type 0} (g : Ghosts D) (start : List Collection) (past : Past) (w 
   pub regathered : (h : GatherState) → ((image : Image) → Packs h image → Packs w.gather image) →
       HasPast g.seen g.may_leave start past (record w { gather = h })
   regathered h before = record {
+    format = had.format;
     wear = had.wear;
     steps = had.steps;
     are = had.are;
@@ -113,17 +111,18 @@ module _ {D : Type 0} (g : Ghosts D) (start : List Collection) (past : Past) (w 
       (all : records_by (had.steps ++ alone_step action ∷ []) ≡ records_by had.steps) where
     past_still : (t : BookState) (h : GatherState) (l : KeeperState D) (freezes : List ℕ) →
         t.state ≡ w.book.state →
-        HasHanded catalog_meaning catalog_making (λ v. v) start had.wear
+        HasHanded catalog_meaning catalog_making (λ v. v) had.format start had.wear
         (had.steps ++ alone_step action ∷ []) t (had.received ++ w.transit) had.groups freezes
         had.images →
-        HasReceived g.seen g.may_leave start had.wear (records_by had.steps)
+        HasReceived g.seen g.may_leave had.format start had.wear (records_by had.steps)
         (journalled w.book.state) freezes had.begun had.received l →
-        ((image : Image) → Packs h image → StandsForBook start had.wear
+        ((image : Image) → Packs h image → StandsForBook had.format start had.wear
         (had.steps ++ alone_step action ∷ []) (journalled t.state) image) →
         w.keeper.mark ≡ l.mark →
         HasPast g.seen g.may_leave start (past ++ x ∷ [])
         (record w { book = t; gather = h; keeper = l })
     past_still t h l freezes same handed keeps packs mark = record {
+      format = had.format;
       wear = had.wear;
       steps = had.steps ++ alone_step action ∷ [];
       are = are_push past x had.steps (alone_step action ∷ []) had.are
@@ -135,9 +134,10 @@ module _ {D : Type 0} (g : Ghosts D) (start : List Collection) (past : Past) (w 
       handed = handed;
       begun = had.begun;
       are_begun = had.are_begun;
-      keeps = subst (λ rs. HasReceived g.seen g.may_leave start had.wear rs
+      keeps = subst (λ rs. HasReceived g.seen g.may_leave had.format start had.wear rs
           (journalled t.state) freezes had.begun had.received l) (sym all)
-          (subst (λ s. HasReceived g.seen g.may_leave start had.wear (records_by had.steps)
+          (subst (λ s. HasReceived g.seen g.may_leave had.format start had.wear
+          (records_by had.steps)
           (journalled s) freezes had.begun had.received l) (sym same) keeps);
       packs = packs;
       marked = had.marked ∙ mark;
@@ -158,10 +158,12 @@ module _ {D : Type 0} (g : Ghosts D) (start : List Collection) (past : Past) (w 
       let same = ap (λ (v : BookState). v.state) is in
       past_still (Step.Gather, outcome Answer.Gathered r) (Action.Gather r) (gather_action r) refl
       (gather_tells r) all t h w.keeper had.freezes same
-      (gathers_on catalog_meaning catalog_making (λ v. v) start had.wear had.steps w.book t
+      (gathers_on catalog_meaning catalog_making (λ v. v) had.format start had.wear had.steps w.book
+      t
       (had.received ++ w.transit) had.groups had.freezes had.images had.handed None r is)
       had.keeps
-      (λ image packs. stands_still start had.wear had.steps step (journalled w.book.state)
+      (λ image packs. stands_still had.format start had.wear had.steps step
+      (journalled w.book.state)
       (journalled t.state) image all (ap journalled same) (had.packs image (before image packs)))
       refl
 
@@ -179,11 +181,13 @@ module _ {D : Type 0} (g : Ghosts D) (start : List Collection) (past : Past) (w 
       (frozen_not (λ v. v) w.book t w.gather m e froze) in
       past_still (Step.Freeze, Answer.Refused e) (Action.Freeze (Err e)) refl refl refl all t h
       w.keeper had.freezes same
-      (freezes_nothing catalog_meaning catalog_making (λ v. v) start had.wear had.steps w.book t
+      (freezes_nothing catalog_meaning catalog_making (λ v. v) had.format start had.wear had.steps
+      w.book t
       (had.received ++ w.transit) had.groups had.freezes had.images had.handed None w.gather m e
       froze (Err e))
       had.keeps
-      (λ image packs. stands_still start had.wear had.steps step (journalled w.book.state)
+      (λ image packs. stands_still had.format start had.wear had.steps step
+      (journalled w.book.state)
       (journalled t.state) image all (ap journalled same) (had.packs image (before image packs)))
       refl
 
@@ -210,39 +214,45 @@ module _ {D : Type 0} (g : Ghosts D) (start : List Collection) (past : Past) (w 
       all_records = records_by-push had.steps step ∙ append-nil (records_by had.steps)
 
       frozen_stands : (image : Image) → Packs m image →
-          StandsForBook start had.wear (had.steps ++ step ∷ []) (journalled t.state) image
+          StandsForBook had.format start had.wear (had.steps ++ step ∷ []) (journalled t.state)
+          image
       frozen_stands image packs =
           let is = image_of image packs in
-          let begun = freezes.begins g start had.wear had.steps w.book had.received w.transit
+          let begun = freezes.begins g had.format start had.wear had.steps w.book had.received
+          w.transit
           had.groups had.freezes had.freezes had.images had.begun w.keeper had.handed had.keeps kept
           image is in
           record {
-            is_in = imaged_now catalog_meaning catalog_making (λ v. v) start had.wear had.steps
+            is_in = imaged_now catalog_meaning catalog_making (λ v. v) had.format start had.wear
+                had.steps
                 w.book t (had.received ++ w.transit) had.groups had.freezes had.images had.handed
                 None (Action.Freeze r) image is;
             begun = begun;
-            is_for = freezes.is_for g start had.wear had.steps w.book had.received w.transit
+            is_for = freezes.is_for g had.format start had.wear had.steps w.book had.received
+                w.transit
                 had.groups had.freezes had.freezes had.images had.begun w.keeper had.handed
                 had.keeps kept image is;
-            stands = subst (λ l. StandIn start had.wear l (journalled t.state) begun.blocks
+            stands = subst (λ l. StandIn had.format start had.wear l (journalled t.state)
+                begun.blocks
                 begun.covered) (sym all_records)
-                (subst (λ s. StandIn start had.wear (records_by had.steps) (journalled s)
+                (subst (λ s. StandIn had.format start had.wear (records_by had.steps) (journalled s)
                 begun.blocks begun.covered) (sym same_state)
-                (freezes.stands g start had.wear had.steps w.book had.received w.transit
+                (freezes.stands g had.format start had.wear had.steps w.book had.received w.transit
                 had.groups had.freezes had.freezes had.images had.begun w.keeper had.handed
                 had.keeps kept image is));
           }
 
-      frozen_handed : HasHanded catalog_meaning catalog_making (λ v. v) start had.wear
+      frozen_handed : HasHanded catalog_meaning catalog_making (λ v. v) had.format start had.wear
           (had.steps ++ step ∷ []) t (had.received ++ w.transit) had.groups
           (position w.book ∷ had.freezes) had.images
-      frozen_handed = freezes_gathered catalog_meaning catalog_making (λ v. v) start had.wear
+      frozen_handed = freezes_gathered catalog_meaning catalog_making (λ v. v) had.format start
+          had.wear
           had.steps w.book t (had.received ++ w.transit) had.groups had.freezes had.images
           had.handed None w.gather m r froze
 
     -- the end is held, or what was gathered is given up
     held_past : (l : KeeperState D) (r : Result (Unit {0}) Refusal) → w.keeper.mark ≡ l.mark →
-        HasReceived g.seen g.may_leave start had.wear (records_by had.steps)
+        HasReceived g.seen g.may_leave had.format start had.wear (records_by had.steps)
         (journalled w.book.state) (held_with (position w.book) had.freezes r) had.begun had.received
         l →
         HasPast g.seen g.may_leave start
@@ -273,14 +283,17 @@ module _ {D : Type 0} (g : Ghosts D) (start : List Collection) (past : Past) (w 
         (record w { book = t; gather = if_held r m; keeper = l })
         × Yielded g start past w had (Step.Freeze, outcome (alone Answer.Frozen) r) l
     freeze_past l r keeps mark =
-        let first = freezes.received_begins g start had.wear had.steps w.book had.received
+        let first = freezes.received_begins g had.format start had.wear had.steps w.book
+        had.received
         w.transit had.groups had.freezes had.freezes had.images had.begun w.keeper had.handed
         had.keeps kept in
-        let on = keeps start had.wear (records_by had.steps) (journalled w.book.state) had.freezes
+        let on = keeps had.format start had.wear (records_by had.steps) (journalled w.book.state)
+        had.freezes
         had.begun had.received first.0 first.1 first.2
-        (freezes.covers_received g start had.wear had.steps w.book had.received w.transit
+        (freezes.covers_received g had.format start had.wear had.steps w.book had.received w.transit
         had.groups had.freezes had.freezes had.images had.begun w.keeper had.handed had.keeps kept)
-        (freezes.covers_use g start had.wear had.steps w.book had.received w.transit had.groups
+        (freezes.covers_use g had.format start had.wear had.steps w.book had.received w.transit
+        had.groups
         had.freezes had.freezes had.images had.begun w.keeper had.handed had.keeps kept)
         had.keeps in (
           held_past l r mark on.0,
@@ -290,19 +303,21 @@ module _ {D : Type 0} (g : Ghosts D) (start : List Collection) (past : Past) (w 
 
   -- An image that is packed is begun, or refused, and nothing is gathered then.
   module _ (image : Image) (packs : Packs w.gather image) where
-    abbrev stands : StandsForBook start had.wear had.steps (journalled w.book.state) image
+    abbrev stands : StandsForBook had.format start had.wear had.steps (journalled w.book.state)
+        image
     stands = had.packs image packs
 
     begun_past : (l : KeeperState D) (r : Result (Unit {0}) Refusal) (images : List Image)
         (begun : List BegunImage) → AreImagesFor images begun →
-        HasHanded catalog_meaning catalog_making (λ v. v) start had.wear had.steps w.book
+        HasHanded catalog_meaning catalog_making (λ v. v) had.format start had.wear had.steps w.book
         (had.received ++ w.transit) had.groups had.freezes images →
-        HasReceived g.seen g.may_leave start had.wear (records_by had.steps)
+        HasReceived g.seen g.may_leave had.format start had.wear (records_by had.steps)
         (journalled w.book.state) had.freezes begun had.received l → w.keeper.mark ≡ l.mark →
         HasPast g.seen g.may_leave start
         (past ++ (Step.Pack, outcome (alone Answer.Packed) r) ∷ [])
         (record w { gather = none_gathered; keeper = l })
     begun_past l r images begun for handed keeps mark = record {
+      format = had.format;
       wear = had.wear;
       steps = had.steps;
       are = are_still past (Step.Pack, outcome (alone Answer.Packed) r) had.steps had.are refl;
@@ -321,7 +336,7 @@ module _ {D : Type 0} (g : Ghosts D) (start : List Collection) (past : Past) (w 
     }
 
     any_begun : (l : KeeperState D) (r : Result (Unit {0}) Refusal) → w.keeper.mark ≡ l.mark →
-        HasReceived g.seen g.may_leave start had.wear (records_by had.steps)
+        HasReceived g.seen g.may_leave had.format start had.wear (records_by had.steps)
         (journalled w.book.state) had.freezes (begun_with stands.begun had.begun r) had.received l →
         HasPast g.seen g.may_leave start
         (past ++ (Step.Pack, outcome (alone Answer.Packed) r) ∷ [])
@@ -329,7 +344,8 @@ module _ {D : Type 0} (g : Ghosts D) (start : List Collection) (past : Past) (w 
     any_begun l (Ok done) mark has =
         begun_past l (Ok done) (image ∷ had.images) (stands.begun ∷ had.begun)
         (stands.is_for, had.are_begun)
-        (packs_image catalog_meaning catalog_making (λ v. v) start had.wear had.steps w.book w.book
+        (packs_image catalog_meaning catalog_making (λ v. v) had.format start had.wear had.steps
+        w.book w.book
         (had.received ++ w.transit) had.groups had.freezes had.images had.handed None image
         stands.is_in) has mark
     any_begun l (Err e) mark has =
@@ -342,7 +358,8 @@ module _ {D : Type 0} (g : Ghosts D) (start : List Collection) (past : Past) (w 
         (record w { gather = none_gathered; keeper = l })
         × Yielded g start past w had (Step.Pack, outcome (alone Answer.Packed) r) l
     pack_past l r keeps mark =
-        let on = keeps start had.wear (records_by had.steps) (journalled w.book.state) had.freezes
+        let on = keeps had.format start had.wear (records_by had.steps) (journalled w.book.state)
+        had.freezes
         had.begun had.received stands.begun stands.is_for stands.stands had.keeps in (
           any_begun l r mark on.0,
           moments_then g.seen g.may_leave start past w had g.moment g.left_since l.disk

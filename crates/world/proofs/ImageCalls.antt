@@ -1,5 +1,5 @@
 -- What live transactions asked for is read from an image.
-use Rattle.std.proofs.Common.{◌≡◌, ℕ, ◌+◌, ◌<◌, ◌≤◌, ◌^◌, ◌==◌, ◌⊎◌, inl, inr, ⊎_elim, List, []}
+use Rattle.std.proofs.Common.{◌≡◌, ℕ, ◌+◌, ◌<◌, ◌≤◌, ◌^◌, ◌==◌, inl, inr, ⊎_elim, List, []}
 use Rattle.std.proofs.Common.{◌∷◌, ◌++◌, length, map, refl, sym, ◌∙◌, ap, subst, arith, append-nil}
 use Rattle.std.proofs.Common.{append_assoc, eqb-true}
 use Rattle.std.specs.Prelude.{Contains}
@@ -180,7 +180,8 @@ module _ (u : State) (k : Theirs) (shows : Shows u k) where
       })
 
   entry_held : (e : ℕ × Entry) (l : Theirs) → loads.LoadRow rules k (owned e.0 e.1) l →
-      IsAskedEntry e.1 → Placed u.now e.1 → length (own e.0 u.entries) < 1024 → HasRoomToHold u →
+      IsAskedEntry u.format e.1 → Placed u.now e.1 → length (own e.0 u.entries) < 1024 →
+      HasRoomToHold u →
       IsHeld e l
   entry_held (n, Asked x) l row asked placed few room =
       let added = hold n x.at (need_of x.call x.reply) in
@@ -189,6 +190,7 @@ module _ (u : State) (k : Theirs) (shows : Shows u k) where
         leads = record {
           live = (shows.live n).0 row.live;
           asked = (placed, asked.0, asked.1);
+          told = asked.3;
           few = few;
           once = once_left u.entries n x (subst
               (λ l. AllByRecursion (Lacks (theory.left_of rules n l)) (left (n, x))) shows.entries
@@ -258,6 +260,7 @@ pub record HasAsked (next : ℕ) (es : List (ℕ × Entry)) (p : Progress) (u : 
   pub now : state.now ≡ u.now
   pub live : state.live ≡ u.live
   pub wear : state.wear ≡ u.wear
+  pub format : state.format ≡ u.format
   pub entries : state.entries ≡ u.entries ++ es
 
 abbrev HasRoomFor : State → List (ℕ × Entry) → Type 0
@@ -269,7 +272,8 @@ room_for_one u e es room = let long = length-append u.entries (e ∷ es) in omeg
 
 more_asked : (next : ℕ) (e : ℕ × Entry) (es : List (ℕ × Entry)) (p : Progress) (u v : State)
     (l : Theirs) → (v.now ≡ u.now) × (v.live ≡ u.live) × (v.wear ≡ u.wear) ×
-    (v.entries ≡ u.entries ++ e ∷ []) → Reads p (entry_record e) (InCalls next v) →
+    (v.format ≡ u.format) × (v.entries ≡ u.entries ++ e ∷ []) →
+    Reads p (entry_record e) (InCalls next v) →
     HasAsked next es (InCalls next v) v l →
     HasAsked next (e ∷ es) p u l
 more_asked next e es p u v l is reads rest = record {
@@ -281,12 +285,13 @@ more_asked next e es p u v l is reads rest = record {
   now = rest.now ∙ is.0;
   live = rest.live ∙ is.1;
   wear = rest.wear ∙ is.2;
-  entries = rest.entries ∙ ap (λ xs. xs ++ es) is.3 ∙ append_assoc u.entries (e ∷ []) es;
+  format = rest.format ∙ is.3;
+  entries = rest.entries ∙ ap (λ xs. xs ++ es) is.4 ∙ append_assoc u.entries (e ∷ []) es;
 }
 
 pub entries_read : (es : List (ℕ × Entry)) (next : ℕ) (u : State) (p : Progress) (k l : Theirs) →
     AsksAt next u p → Shows u k → loads.Loads rules (all_owned es) k l →
-    AllByRecursion (λ e. IsAskedEntry e.1) es → AllByRecursion (λ e. Placed u.now e.1) es →
+    AllByRecursion (λ e. IsAskedEntry u.format e.1) es → AllByRecursion (λ e. Placed u.now e.1) es →
     ((n : ℕ) → length (own n (u.entries ++ es)) ≤ 1024) → HasRoomFor u (u.entries ++ es) →
     HasAsked next es p u l
 entries_read [] next u p k l asks shows w asked placed few room = record {
@@ -298,6 +303,7 @@ entries_read [] next u p k l asks shows w asked placed few room = record {
   now = refl;
   live = refl;
   wear = refl;
+  format = refl;
   entries = sym (append-nil u.entries);
 }
 entries_read (e ∷ es) next u p k l asks shows w asked placed few room =
@@ -311,6 +317,6 @@ entries_read (e ∷ es) next u p k l asks shows w asked placed few room =
     asked.1 placed.1
     (subst (λ xs. (n : ℕ) → length (own n xs) ≤ 1024) (sym assoc) few)
     (subst (HasRoomFor u) (sym assoc) room) in
-    more_asked next e es p u v l (refl, refl, refl, refl)
+    more_asked next e es p u v l (refl, refl, refl, refl, refl)
     (asks (entry_record e) (InCalls next v) (entry_later e) (entry_reads next e u v one.leads))
     rest

@@ -5,6 +5,8 @@ use Rattle.std.specs.Prelude.{◌↔◌, Contains, Vec}
 use Rattle.std.specs.declared.alloc.Global.{Global}
 use Rattle.std.specs.FinMap as maps
 use Rattle.std.specs.Ordering.{nat_cmp}
+use Rattle.calls.specs.declared.format.Format.{Format}
+use Rattle.calls.specs.Formats.{Allows}
 use Rattle.calls.specs.Contents.{Collection}
 use Rattle.calls.specs.Transactions.{Entry, Leads, calls_of, own}
 use Rattle.abstract_locks.specs.declared.table.Hold.{Hold}
@@ -35,6 +37,7 @@ use Rattle.repetition.specs.Steps.{State}
 use Rattle.repetition.specs.Reading.{Progress, Unread, InCollections, InJournal, Reads, Settles}
 use Rattle.repetition.specs.Lagging.{Lags, IsThinned}
 use Rattle.repetition.proofs.CatalogLaws.{laws}
+use Rattle.repetition.proofs.Formats.{allows_self}
 use Rattle.repetition.proofs.Lists.{leads_append}
 use Rattle.repetition.proofs.ReadLemmas.{IsBehind}
 use Rattle.recovery.proofs.ImageItems.{told_reads, IsTelling}
@@ -61,7 +64,14 @@ module _ (s : State) (upheld : IsUpheld catalog_meaning catalog_making AreShort
 
   -- the state with them and nothing that they asked for
   abbrev standing : State
-  standing = record { now = s.now; live = begun; entries = []; holds = []; wear = s.wear }
+  standing = record {
+    now = s.now;
+    live = begun;
+    entries = [];
+    holds = [];
+    wear = s.wear;
+    format = s.format;
+  }
 
   all_above : AreAbove maps.empty ns
   all_above = all_held (λ n. (m : ℕ) → Lives maps.empty m → m < n) ns
@@ -83,12 +93,13 @@ module _ (s : State) (upheld : IsUpheld catalog_meaning catalog_making AreShort
       omega (arith, none, all, many)
 
   numbers_lead : (next : ℕ) (p : Progress) → ((n : ℕ) → Lives s.live n → n < next) →
-      StandsAt next (resting s.now s.wear) p → IsStanding next (map Record.Begin ns) p standing
+      StandsAt next (resting s.format s.now s.wear) p →
+      IsStanding next (map Record.Begin ns) p standing
   numbers_lead next p below stands =
       let none = maps.len-empty nat_cmp Bool in
       let many = as_many ns s.live rise are in
       let few = upheld.few_live in
-      numbers_read ns next (resting s.now s.wear) p stands rise
+      numbers_read ns next (resting s.format s.now s.wear) p stands rise
       (all_held IsNumber ns (λ n held. upheld.numbers n ((are n).0 held)))
       (all_held (λ n. n < next) ns (λ n held. below n ((are n).0 held))) all_above
       (omega (arith, none, many, few))
@@ -136,7 +147,7 @@ module _ (s : State) (upheld : IsUpheld catalog_meaning catalog_making AreShort
   asked_lead next p asks =
       entries_read kept_here next standing p (loads.loaded rules m.now m.live []) (image_of rules m)
       asks standing_shown image_read
-      (kept_each (λ e. IsAskedEntry e.1) s.live s.entries upheld.asked)
+      (kept_each (λ e. IsAskedEntry s.format e.1) s.live s.entries upheld.asked)
       (kept_each (λ e. Placed s.now e.1) s.live s.entries
       (all_placed s.entries upheld.holds.content s.now upheld.holds.settled))
       few_kept room_kept
@@ -144,7 +155,8 @@ module _ (s : State) (upheld : IsUpheld catalog_meaning catalog_making AreShort
   -- ---- the state behind them
 
   module _ (v : State) (shows : Shows v (image_of rules m)) (now : v.now ≡ s.now)
-      (live : v.live ≡ begun) (wear : v.wear ≡ s.wear) (entries : v.entries ≡ kept_here) where
+      (live : v.live ≡ begun) (wear : v.wear ≡ s.wear) (entries : v.entries ≡ kept_here)
+      (format : v.format ≡ s.format) where
     settles : Settles v
     settles = (
       upheld.holds.content,
@@ -169,6 +181,7 @@ module _ (s : State) (upheld : IsUpheld catalog_meaning catalog_making AreShort
     lags = record {
       now = now;
       wear = wear;
+      format = subst (λ f. Allows s.format f) (sym format) (allows_self s.format);
       few = ap maps.len live ∙ begun_len;
       lives = λ n. subst (λ l. Lives l n ↔ Lives s.live n) (sym live) (begun_lives n);
       falls = λ n falls. absurd (none_falls n (subst (λ l. Falls l n) live falls));
@@ -192,11 +205,13 @@ module _ (s : State) (upheld : IsUpheld catalog_meaning catalog_making AreShort
         leads_append Reads (map entry_record kept_here) (Record.ImageEnd ∷ []) p asked.there goal
             asked.leads (
               goal,
-              asked.asks Record.ImageEnd goal tt
-                  (settles v asked.shows asked.now asked.live asked.wear asked.entries, refl),
+              asked.asks Record.ImageEnd goal tt (
+                settles v asked.shows asked.now asked.live asked.wear asked.entries asked.format,
+                refl,
+              ),
               refl,
             ),
-        lags v asked.shows asked.now asked.live asked.wear asked.entries,
+        lags v asked.shows asked.now asked.live asked.wear asked.entries asked.format,
       )
 
   later_behind : (r : Record) → IsLater r → IsBehind r
@@ -219,14 +234,15 @@ module _ (s : State) (upheld : IsUpheld catalog_meaning catalog_making AreShort
       )
 
   told_rest : (next : ℕ) (told : List Record) (p : Progress) →
-      ((n : ℕ) → Lives s.live n → n < next) → IsTelling next told p (resting s.now s.wear) →
+      ((n : ℕ) → Lives s.live n → n < next) →
+      IsTelling next told p (resting s.format s.now s.wear) →
       Rests next (told ++ (map Record.Begin ns ++
       (map entry_record kept_here ++ Record.ImageEnd ∷ []))) p
   told_rest next told p below telling =
       let there : Progress = InCollections next telling.state telling.last in
       let rest = numbers_rest next there
       (numbers_lead next there below (collections_stand next telling.state
-      (resting s.now s.wear) telling.last telling.closes)) in (
+      (resting s.format s.now s.wear) telling.last telling.closes)) in (
         rest.0,
         leads_append Reads told
             (map Record.Begin ns ++ (map entry_record kept_here ++ Record.ImageEnd ∷ [])) p there
@@ -235,24 +251,25 @@ module _ (s : State) (upheld : IsUpheld catalog_meaning catalog_making AreShort
       )
 
   image_lead : (next : ℕ) (live rs : List Record) → live ≡ map entry_record kept_here →
-      IsImage next s.wear s.now ns live rs → ((n : ℕ) → Lives s.live n → n < next) →
-      AreNamed s.now → AreDistinct (names_of s.now) → Rests next rs Unread
+      IsImage s.format next s.wear s.now ns live rs → ((n : ℕ) → Lives s.live n → n < next) →
+      AreNamed s.now → AreDistinct (names_of s.now) → Rests next rs (Unread Format.One)
   image_lead next live rs live_is image below good distinct =
-      let p : Progress = InCollections next (resting [] s.wear) None in
+      let p : Progress = InCollections next (resting s.format [] s.wear) None in
       let rest = told_rest next image.told p below
-      (told_reads next s.wear s.now image.told image.tells good distinct upheld.few_names
+      (told_reads s.format next s.wear s.now image.told image.tells upheld.spells good distinct
+      upheld.few_names
       upheld.reached) in
       let worn = upheld.unworn in
       let low : s.wear ≤ 2 ^ 61 + 65536 = omega arith in
-      let is : Record.Marks next s.wear ∷
+      let is : Record.Marks s.format next s.wear ∷
       (image.told ++ (map Record.Begin ns ++
       (map entry_record kept_here ++ Record.ImageEnd ∷ []))) ≡ rs =
-      ap (λ l. Record.Marks next s.wear ∷
+      ap (λ l. Record.Marks s.format next s.wear ∷
       (image.told ++ (map Record.Begin ns ++ (l ++ Record.ImageEnd ∷ [])))) (sym live_is) ∙
       sym image.is in (
         rest.0,
-        subst (λ l. Leads Reads l Unread (InJournal next rest.0 0)) is
-            (p, (low, refl), rest.1),
+        subst (λ l. Leads Reads l (Unread Format.One) (InJournal next rest.0 0)) is
+            (p, (tt, low, refl), rest.1),
         rest.2,
       )
 
@@ -261,7 +278,7 @@ pub frozen_reads : (b : BookState (List Collection)) →
     IsKept catalog_meaning catalog_making AreShort (IsSound catalog_meaning catalog_making) b →
     AreNamed b.state.now → AreDistinct (names_of b.state.now) → (blocks : List (Vec ℕ Global)) →
     (packed : IsPackedImage (λ v. v) b.next b.state blocks) →
-    (s : State) × Leads Reads (joined packed.groups) Unread (InJournal b.next s 0) ×
+    (s : State) × Leads Reads (joined packed.groups) (Unread Format.One) (InJournal b.next s 0) ×
     Lags s (journalled b.state)
 frozen_reads b kept good distinct blocks packed =
     let tells = packed.tells in

@@ -176,13 +176,14 @@ module _ {D : Type 0} (g : Ghosts D) (start : List Collection) (past : Past) (w 
             ap (λ l. l ++ w.book.pending)
             (sym (ap records_in parts.2 ∙ joined-append first more)) ∙ sym had.handed.records,
       ) in
-      let on = turns start had.wear (records_by had.steps) (journalled w.book.state)
+      let on = turns had.format start had.wear (records_by had.steps) (journalled w.book.state)
       had.freezes had.begun had.received bs first received parts.3 begins
       (uncrossed_front had.freezes first more
       (subst (Uncrossed had.freezes) parts.2
       (none_crossed had.groups w.book had.handed.end had.freezes had.handed.between))) had.keeps in
       let told = turn_told w.mark r in (
         record {
+          format = had.format;
           wear = had.wear;
           steps = had.steps;
           are = are_still past x had.steps had.are refl;
@@ -190,7 +191,8 @@ module _ {D : Type 0} (g : Ghosts D) (start : List Collection) (past : Past) (w 
           groups = had.groups;
           freezes = had.freezes;
           images = had.images;
-          handed = subst (λ l. HasHanded catalog_meaning catalog_making (λ v. v) start had.wear
+          handed = subst (λ l. HasHanded catalog_meaning catalog_making (λ v. v) had.format start
+              had.wear
               had.steps w.book l had.groups had.freezes had.images) all had.handed;
           begun = had.begun;
           are_begun = had.are_begun;
@@ -209,9 +211,10 @@ module _ {D : Type 0} (g : Ghosts D) (start : List Collection) (past : Past) (w 
       HasPast g.seen g.may_leave start (past ++ x ∷ []) (record w { keeper = l; mark = mark })
       × Yielded x l
   imaged x l mark none images same rises tells =
-      let on = images start had.wear (records_by had.steps) (journalled w.book.state)
+      let on = images had.format start had.wear (records_by had.steps) (journalled w.book.state)
       had.freezes had.begun had.received had.keeps in (
         record {
+          format = had.format;
           wear = had.wear;
           steps = had.steps;
           are = are_still past x had.steps had.are none;

@@ -118,19 +118,6 @@ of_cut b c g sends full r cut =
 
 -- ---- what is gathered
 
--- nothing is of every book
-pub of_none : (b : BookState) → IsOfBook b none_gathered
-of_none b = record {
-  gathered = record { new = λ mark. (refl, refl); along = λ under. absurd (under.0 refl) };
-  over = λ frozen. absurd (frozen refl);
-}
-
-pub of_unless : (b : BookState) (frozen : Option FrozenState) (e : Refusal) (g : GatherState) →
-    IsOfBook b g → IsOfBook b (unless_outrun frozen e g)
-of_unless b None Refusal.Outrun g of = of_none b
-of_unless b None e g of = of
-of_unless b (Some frozen) e g of = of
-
 before : (b : BookState) (g h : GatherState) → Repeats g h → IsUnderWay b.gathering h →
     IsUnderWay b.gathering g
 before b g h repeats under =

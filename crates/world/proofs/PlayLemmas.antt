@@ -29,7 +29,7 @@ pub one_history : {D : Type 0} (seen : D → List ℕ) (may_leave : D → List �
     (start : List Collection) (past : Past) (w : Parts D) →
     HasPast seen may_leave start past w → IsOneHistory start past w.book
 one_history seen may_leave start past w had =
-    let comes = comes_to start had.wear had.steps (standing w.book) had.handed.legal in
+    let comes = comes_to had.format start had.wear had.steps (standing w.book) had.handed.legal in
     record {
       content = comes.content;
       settled = comes.is_settled;

@@ -1,5 +1,6 @@
 -- What a journal tells of transactions without their calls that only read stands for what these
 -- transactions give, with all their calls.
+use Rattle.calls.specs.declared.format.Format.{Format}
 use Rattle.std.proofs.Common.{◌≡◌, ℕ, ◌≤◌, List, [], ◌∷◌, length, map, take, drop, refl}
 use Rattle.std.proofs.Common.{sym, ◌∙◌, ap, subst, arith, length-append}
 use Rattle.std.proofs.lemmas.List.{take-map, take-append-le, take-append-drop, length-map}
@@ -94,15 +95,16 @@ with_reads start ts end run m few c y =
 
 -- ---- histories of a book of named collections
 
-module _ (start : List Collection) (wear : ℕ) (steps : List BookStep)
+module _ (format : Format) (start : List Collection) (wear : ℕ) (steps : List BookStep)
     (c : Standing (List Collection))
-    (legal : IsLegal catalog_meaning catalog_making (opening start wear) steps c) where
+    (legal : IsLegal catalog_meaning catalog_making (opening format start wear) steps c) where
   -- What a history comes to.
   pub comes_to : ComesTo (IsSound catalog_meaning catalog_making) (λ v. v)
-      (IsSettled catalog_meaning) (opening start wear) steps c
+      (IsSettled catalog_meaning) (opening format start wear) steps c
   comes_to = history catalog_meaning catalog_making laws.rules (λ (s : List Collection). s)
-      (λ s at call r h. h) (λ s at call r h. refl) (λ u v name kind m. m) steps (opening start wear)
-      c (opened_sound catalog_meaning catalog_making laws.rules start wear) refl legal
+      (λ s at call r h. h) (λ s at call r h. refl) (λ u v name kind m. m) steps
+      (opening format start wear)
+      c (opened_sound catalog_meaning catalog_making laws.rules format start wear) refl legal
 
   -- As many transactions are journalled as are committed.
   pub as_many_committed : length (committed_of (records_by steps)) ≡ length (committed_by steps)

@@ -1,4 +1,5 @@
 -- One step more of a world: its past goes on.
+use Rattle.calls.specs.declared.format.Format.{Format}
 use Rattle.std.proofs.Common.{◌≡◌, ⊎_elim, ℕ, ◌≤◌, Bool, Option, Some, None}
 use Rattle.std.proofs.Common.{Result, Ok, Err, List, [], ◌∷◌, ◌++◌, length, take, refl, sym, ◌∙◌}
 use Rattle.std.proofs.Common.{ap}
@@ -42,63 +43,74 @@ use Rattle.catalog.specs.Meaning.{catalog_meaning, catalog_making}
 -- ---- the records of a book grow
 
 received_leads : {D : Type 0} (seen : D → List ℕ) (may_leave : D → List ℕ → Type 0)
-    (start : List Collection) (wear : ℕ) (records : List Record) (now : State) (freezes : List ℕ)
+    (format : Format) (start : List Collection) (wear : ℕ) (records : List Record) (now : State)
+    (freezes : List ℕ)
     (images : List BegunImage) (received : List Block) (k : KeeperState D) →
-    HasReceived seen may_leave start wear records now freezes images received k →
+    HasReceived seen may_leave format start wear records now freezes images received k →
     (rs : List Record) (next : State) → AllByRecursion (IsRecord None) rs → Repeats rs now next →
-    HasReceived seen may_leave start wear (records ++ rs) next freezes images received k
-received_leads seen may_leave start wear records now freezes images received k had [] next good
+    HasReceived seen may_leave format start wear (records ++ rs) next freezes images received k
+received_leads seen may_leave format start wear records now freezes images received k had [] next
+    good
     leads =
-    subst (λ l. HasReceived seen may_leave start wear l next freezes images received k)
+    subst (λ l. HasReceived seen may_leave format start wear l next freezes images received k)
     (sym (append-nil records))
-    (subst (λ s. HasReceived seen may_leave start wear records s freezes images received k) leads
+    (subst (λ s. HasReceived seen may_leave format start wear records s freezes images received k)
+    leads
     had)
-received_leads seen may_leave start wear records now freezes images received k had (r ∷ rs) next
+received_leads seen may_leave format start wear records now freezes images received k had (r ∷ rs)
+    next
     good leads =
-    let one = received_push seen may_leave start wear records now freezes images received k had r
+    let one = received_push seen may_leave format start wear records now freezes images received k
+    had r
     leads.0 leads.1 good.0 in
-    subst (λ l. HasReceived seen may_leave start wear l next freezes images received k)
+    subst (λ l. HasReceived seen may_leave format start wear l next freezes images received k)
     (append_assoc records (r ∷ []) rs)
-    (received_leads seen may_leave start wear (records ++ r ∷ []) leads.0 freezes images received k
+    (received_leads seen may_leave format start wear (records ++ r ∷ []) leads.0 freezes images
+    received k
     one rs next good.1 leads.2)
 
 -- What stands for a beginning of them still does.
-stands_leads : (start : List Collection) (wear : ℕ) (records : List Record) (now : State)
+stands_leads : (format : Format) (start : List Collection) (wear : ℕ) (records : List Record)
+    (now : State)
     (blocks : List (List Record)) (covered : List Record) →
-    StandIn start wear records now blocks covered → (rs : List Record) (next : State) →
-    Repeats rs now next → StandIn start wear (records ++ rs) next blocks covered
-stands_leads start wear records now blocks covered stands [] next leads =
-    subst (λ l. StandIn start wear l next blocks covered) (sym (append-nil records))
-    (subst (λ s. StandIn start wear records s blocks covered) leads stands)
-stands_leads start wear records now blocks covered stands (r ∷ rs) next leads =
-    let one = stands_push start wear records now blocks covered r leads.0 leads.1 stands in
-    subst (λ l. StandIn start wear l next blocks covered) (append_assoc records (r ∷ []) rs)
-    (stands_leads start wear (records ++ r ∷ []) leads.0 blocks covered one.0 rs next leads.2)
+    StandIn format start wear records now blocks covered → (rs : List Record) (next : State) →
+    Repeats rs now next → StandIn format start wear (records ++ rs) next blocks covered
+stands_leads format start wear records now blocks covered stands [] next leads =
+    subst (λ l. StandIn format start wear l next blocks covered) (sym (append-nil records))
+    (subst (λ s. StandIn format start wear records s blocks covered) leads stands)
+stands_leads format start wear records now blocks covered stands (r ∷ rs) next leads =
+    let one = stands_push format start wear records now blocks covered r leads.0 leads.1 stands in
+    subst (λ l. StandIn format start wear l next blocks covered) (append_assoc records (r ∷ []) rs)
+    (stands_leads format start wear (records ++ r ∷ []) leads.0 blocks covered one.0 rs next
+    leads.2)
 
 -- An image stands for a book with a step more, where its blocks do.
-pub stands_on : (start : List Collection) (wear : ℕ) (steps : List BookStep) (x : BookStep)
-    (now next : State) (image : Image) → StandsForBook start wear steps now image →
+pub stands_on : (format : Format) (start : List Collection) (wear : ℕ) (steps : List BookStep)
+    (x : BookStep)
+    (now next : State) (image : Image) → StandsForBook format start wear steps now image →
     ((blocks : List (List Record)) (covered : List Record) →
-    StandIn start wear (records_by steps) now blocks covered →
-    StandIn start wear (records_by (steps ++ x ∷ [])) next blocks covered) →
-    StandsForBook start wear (steps ++ x ∷ []) next image
-stands_on start wear steps x now next image stands goes = record {
+    StandIn format start wear (records_by steps) now blocks covered →
+    StandIn format start wear (records_by (steps ++ x ∷ [])) next blocks covered) →
+    StandsForBook format start wear (steps ++ x ∷ []) next image
+stands_on format start wear steps x now next image stands goes = record {
   is_in =
-      images_more catalog_meaning catalog_making (λ v. v) start wear steps x image stands.is_in;
+      images_more catalog_meaning catalog_making (λ v. v) format start wear steps x image
+      stands.is_in;
   begun = stands.begun;
   is_for = stands.is_for;
   stands = goes stands.begun.blocks stands.begun.covered stands.stands;
 }
 
 -- It stands for it where the step adds no record, and leaves the state.
-pub stands_still : (start : List Collection) (wear : ℕ) (steps : List BookStep) (x : BookStep)
+pub stands_still : (format : Format) (start : List Collection) (wear : ℕ) (steps : List BookStep)
+    (x : BookStep)
     (now next : State) (image : Image) → records_by (steps ++ x ∷ []) ≡ records_by steps →
-    next ≡ now → StandsForBook start wear steps now image →
-    StandsForBook start wear (steps ++ x ∷ []) next image
-stands_still start wear steps x now next image all same stands =
-    stands_on start wear steps x now next image stands
-    (λ blocks covered stood. subst (λ l. StandIn start wear l next blocks covered) (sym all)
-    (subst (λ s. StandIn start wear (records_by steps) s blocks covered) (sym same) stood))
+    next ≡ now → StandsForBook format start wear steps now image →
+    StandsForBook format start wear (steps ++ x ∷ []) next image
+stands_still format start wear steps x now next image all same stands =
+    stands_on format start wear steps x now next image stands
+    (λ blocks covered stood. subst (λ l. StandIn format start wear l next blocks covered) (sym all)
+    (subst (λ s. StandIn format start wear (records_by steps) s blocks covered) (sym same) stood))
 
 -- The pending records behind a step are good; nothing is asked of them behind one that adds none.
 abbrev pub AreGoodBehind : Step → BookState → Type 0
@@ -135,7 +147,8 @@ module _ {D : Type 0} (seen : D → List ℕ) (may_leave : D → List ℕ → Ty
     (had : HasPast seen may_leave start past w) where
   -- the mark counts transactions that the records commit
   few_kept : w.keeper.mark ≤ length (committed_of (records_by had.steps))
-  few_kept = mark_few seen may_leave start had.wear (records_by had.steps) (journalled w.book.state)
+  few_kept = mark_few seen may_leave had.format start had.wear (records_by had.steps)
+      (journalled w.book.state)
       had.freezes had.begun had.received w.keeper had.keeps
 
   -- What is yielded of what the records commit is yielded of what the past did.
@@ -146,7 +159,7 @@ module _ {D : Type 0} (seen : D → List ℕ) (may_leave : D → List ℕ → Ty
       subst (λ m. Yields start (committed_in past) (take m (committed_in past)) c) (sym had.marked)
       (subst (λ ts. Yields start ts (take w.keeper.mark ts) c)
       (sym (committed_are past had.steps had.are))
-      (history_yields start had.wear had.steps (books.standing w.book) had.handed.legal
+      (history_yields had.format start had.wear had.steps (books.standing w.book) had.handed.legal
       w.keeper.mark few_kept c y))
 
   -- what a stop leaves now, or at a moment, is what the past yields that goes on so
@@ -182,7 +195,8 @@ module _ {D : Type 0} (seen : D → List ℕ) (may_leave : D → List ℕ → Ty
       (Yields start (committed_of (records_by had.steps))
       (take w.keeper.mark (committed_of (records_by had.steps))))
       (Yields start (committed_in past) (take w.mark (committed_in past)))
-      (still_kept seen may_leave start had.wear (records_by had.steps) (journalled w.book.state)
+      (still_kept seen may_leave had.format start had.wear (records_by had.steps)
+      (journalled w.book.state)
       had.freezes had.begun had.received w.keeper had.keeps moment left_since only_now) yields_now
 
   -- and what it yields that goes on
@@ -193,7 +207,8 @@ module _ {D : Type 0} (seen : D → List ℕ) (may_leave : D → List ℕ → Ty
       (Yields start (committed_in (past ++ x ∷ [])) (take w.mark (committed_in past)))
   quiet moment left_since only_now x =
       moments_then moment left_since w.keeper.disk x
-      (still_kept seen may_leave start had.wear (records_by had.steps) (journalled w.book.state)
+      (still_kept seen may_leave had.format start had.wear (records_by had.steps)
+      (journalled w.book.state)
       had.freezes had.begun had.received w.keeper had.keeps moment left_since only_now)
 
   -- the mark counts transactions that are committed
@@ -203,13 +218,14 @@ module _ {D : Type 0} (seen : D → List ℕ) (may_leave : D → List ℕ → Ty
     few_kept,
     had.marked,
     ap length (committed_are past had.steps had.are),
-    as_many_committed start had.wear had.steps (books.standing w.book) had.handed.legal,
+    as_many_committed had.format start had.wear had.steps (books.standing w.book) had.handed.legal,
   )
 
   -- a step in which the book and the keeper take no part
   pub passes : (x : Step × Answer) → action_of x.0 x.1 ≡ None → told x.0 x.1 ≤ w.mark →
       HasPast seen may_leave start (past ++ x ∷ []) w
   passes x none tells = record {
+    format = had.format;
     wear = had.wear;
     steps = had.steps;
     are = are_still past x had.steps had.are none;
@@ -235,45 +251,54 @@ module _ {D : Type 0} (seen : D → List ℕ) (may_leave : D → List ℕ → Ty
   takes x action t is tells took good =
       let step = alone_step action in
       let rs = records_then had.steps action in
-      let left = taken_left catalog_meaning catalog_making (λ v. v) start had.wear had.steps w.book
+      let left = taken_left catalog_meaning catalog_making (λ v. v) had.format start had.wear
+      had.steps w.book
       t
       (had.received ++ w.transit) had.groups had.freezes had.images had.handed None action took in
       let more : AllByRecursion (IsRecord None) rs = each_back (IsRecord None) w.book.pending rs
       (subst (AllByRecursion (IsRecord None)) left.pending good) in
-      let keeps : HasReceived seen may_leave start had.wear (records_by had.steps ++ rs)
+      let keeps : HasReceived seen may_leave had.format start had.wear (records_by had.steps ++ rs)
       (journalled t.state) had.freezes had.begun had.received w.keeper =
       ⊎_elim
       (λ (leads : Repeats rs (journalled w.book.state) (journalled t.state)).
-      received_leads seen may_leave start had.wear (records_by had.steps)
+      received_leads seen may_leave had.format start had.wear (records_by had.steps)
       (journalled w.book.state) had.freezes had.begun had.received w.keeper had.keeps rs
       (journalled t.state) more leads)
-      (λ unheard. subst (λ l. HasReceived seen may_leave start had.wear l (journalled t.state)
+      (λ unheard. subst (λ l. HasReceived seen may_leave had.format start had.wear l
+      (journalled t.state)
       had.freezes had.begun had.received w.keeper)
       (sym (append-nil (records_by had.steps)) ∙
       ap (λ l. records_by had.steps ++ l) (sym unheard.0))
-      (received_unheard seen may_leave start had.wear (records_by had.steps)
+      (received_unheard seen may_leave had.format start had.wear (records_by had.steps)
       (journalled w.book.state) had.freezes had.begun had.received w.keeper had.keeps
       (journalled t.state) unheard.1))
       left.leads in
       let all : records_by had.steps ++ rs ≡ records_by (had.steps ++ step ∷ []) =
       sym (records_by-push had.steps step) in
       let goes : (blocks : List (List Record)) (covered : List Record) →
-      StandIn start had.wear (records_by had.steps) (journalled w.book.state) blocks covered →
-      StandIn start had.wear (records_by (had.steps ++ step ∷ [])) (journalled t.state) blocks
+      StandIn had.format start had.wear (records_by had.steps) (journalled w.book.state) blocks
+      covered →
+      StandIn had.format start had.wear (records_by (had.steps ++ step ∷ [])) (journalled t.state)
+      blocks
       covered =
-      λ blocks covered stands. subst (λ l. StandIn start had.wear l (journalled t.state) blocks
+      λ blocks covered stands. subst (λ l. StandIn had.format start had.wear l (journalled t.state)
+      blocks
       covered) all
       (⊎_elim
       (λ (leads : Repeats rs (journalled w.book.state) (journalled t.state)).
-      stands_leads start had.wear (records_by had.steps) (journalled w.book.state) blocks covered
+      stands_leads had.format start had.wear (records_by had.steps) (journalled w.book.state) blocks
+      covered
       stands rs (journalled t.state) leads)
-      (λ unheard. subst (λ l. StandIn start had.wear l (journalled t.state) blocks covered)
+      (λ unheard. subst (λ l. StandIn had.format start had.wear l (journalled t.state) blocks
+      covered)
       (sym (append-nil (records_by had.steps)) ∙
       ap (λ l. records_by had.steps ++ l) (sym unheard.0))
-      (stands_unheard start had.wear (records_by had.steps) (journalled w.book.state) blocks covered
+      (stands_unheard had.format start had.wear (records_by had.steps) (journalled w.book.state)
+      blocks covered
       (journalled t.state) unheard.1 stands).0)
       left.leads) in
       record {
+        format = had.format;
         wear = had.wear;
         steps = had.steps ++ step ∷ [];
         are = are_push past x had.steps (step ∷ []) had.are
@@ -282,14 +307,17 @@ module _ {D : Type 0} (seen : D → List ℕ) (may_leave : D → List ℕ → Ty
         groups = had.groups;
         freezes = had.freezes;
         images = had.images;
-        handed = takes_on catalog_meaning catalog_making (λ v. v) start had.wear had.steps w.book t
+        handed = takes_on catalog_meaning catalog_making (λ v. v) had.format start had.wear
+            had.steps w.book t
             (had.received ++ w.transit) had.groups had.freezes had.images had.handed None action
             took good;
         begun = had.begun;
         are_begun = had.are_begun;
-        keeps = subst (λ l. HasReceived seen may_leave start had.wear l (journalled t.state)
+        keeps = subst (λ l. HasReceived seen may_leave had.format start had.wear l
+            (journalled t.state)
             had.freezes had.begun had.received w.keeper) all keeps;
-        packs = λ image packed. stands_on start had.wear had.steps step (journalled w.book.state)
+        packs = λ image packed. stands_on had.format start had.wear had.steps step
+            (journalled w.book.state)
             (journalled t.state) image (had.packs image packed) goes;
         marked = had.marked;
         told = greatest_told-push past x.0 x.1 w.mark had.told tells;
@@ -301,7 +329,8 @@ module _ {D : Type 0} (seen : D → List ℕ) (may_leave : D → List ℕ → Ty
       HasPast seen may_leave start (past ++ (Step.Cut, outcome Answer.Cut a) ∷ [])
       (record w { book = t; transit = waits })
   cuts a t waits cut =
-      let on = cuts_on catalog_meaning catalog_making (λ v. v) start had.wear had.steps w.book t
+      let on = cuts_on catalog_meaning catalog_making (λ v. v) had.format start had.wear had.steps
+      w.book t
       (had.received ++ w.transit) had.groups had.freezes had.images had.handed None
       (λ bs. waits ≡ w.transit ++ bs) (4 ≤ length w.transit) a cut in
       let step = alone_step (Action.Cut on.0 a) in
@@ -310,6 +339,7 @@ module _ {D : Type 0} (seen : D → List ℕ) (may_leave : D → List ℕ → Ty
       let same : journalled t.state ≡ journalled w.book.state =
       ap (λ (x : BookState). journalled x.state) cut.1 in
       record {
+        format = had.format;
         wear = had.wear;
         steps = had.steps ++ step ∷ [];
         are = are_push past (Step.Cut, outcome Answer.Cut a) had.steps (step ∷ []) had.are
@@ -318,17 +348,20 @@ module _ {D : Type 0} (seen : D → List ℕ) (may_leave : D → List ℕ → Ty
         groups = had.groups ++ on.2;
         freezes = had.freezes;
         images = had.images;
-        handed = subst (λ l. HasHanded catalog_meaning catalog_making (λ v. v) start had.wear
+        handed = subst (λ l. HasHanded catalog_meaning catalog_making (λ v. v) had.format start
+            had.wear
             (had.steps ++ step ∷ []) t l (had.groups ++ on.2) had.freezes had.images)
             (append_assoc had.received w.transit on.1 ∙ ap (λ l. had.received ++ l) (sym on.3))
             on.4;
         begun = had.begun;
         are_begun = had.are_begun;
-        keeps = subst (λ l. HasReceived seen may_leave start had.wear l (journalled t.state)
+        keeps = subst (λ l. HasReceived seen may_leave had.format start had.wear l
+            (journalled t.state)
             had.freezes had.begun had.received w.keeper) (sym all)
-            (subst (λ s. HasReceived seen may_leave start had.wear (records_by had.steps) s
+            (subst (λ s. HasReceived seen may_leave had.format start had.wear (records_by had.steps)
+            s
             had.freezes had.begun had.received w.keeper) (sym same) had.keeps);
-        packs = λ image packed. stands_still start had.wear had.steps step
+        packs = λ image packed. stands_still had.format start had.wear had.steps step
             (journalled w.book.state) (journalled t.state) image all same (had.packs image packed);
         marked = had.marked;
         told = greatest_told-push past Step.Cut (outcome Answer.Cut a) w.mark had.told

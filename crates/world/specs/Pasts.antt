@@ -1,10 +1,11 @@
 -- Pasts: steps with their answers; what they have committed, and what was acknowledged.
-use Rattle.std.specs.Prelude.{◌≡◌, ℕ, ◌+◌, ◌<◌, ◌≤◌, ◌^◌, max, List, [], ◌∷◌, ◌++◌, length, take}
+use Rattle.std.specs.Prelude.{◌≡◌, ℕ, ◌+◌, ◌<◌, ◌≤◌, max, List, [], ◌∷◌, ◌++◌, length, take}
 use Rattle.std.specs.Prelude.{map, Option, Some, None, Result, Ok, Err}
 use Rattle.std.specs.List.{flat_map, AllByRecursion}
 use Rattle.calls.specs.Contents.{Collection}
 use Rattle.calls.specs.Transactions.{Transaction, Serial}
 use Rattle.calls.specs.declared.refusal.Refusal.{Refusal}
+use Rattle.calls.specs.Limits.{number_end}
 use Rattle.checkpoint.specs.declared.turn.Turn.{Turn}
 use Rattle.blocks.specs.declared.block.Block.{Block}
 use Rattle.machine.specs.Machine.{IsSettled}
@@ -149,8 +150,8 @@ CoreStep s waiting mark x t waits =
 -- A draw gives the next number, and none gives it again; from 2 ^ 61 on it is refused. No other
 -- step draws.
 abbrev pub IsDraw : ℕ → Answer → ℕ → Type 0
-IsDraw next (Answer.Drawn n) after = (n ≡ next) × (n < 2 ^ 61) × (after ≡ next + 1)
-IsDraw next (Answer.Refused Refusal.Worn) after = (2 ^ 61 ≤ next) × (after ≡ next)
+IsDraw next (Answer.Drawn n) after = (n ≡ next) × (n < number_end) × (after ≡ next + 1)
+IsDraw next (Answer.Refused Refusal.Worn) after = (number_end ≤ next) × (after ≡ next)
 IsDraw next a after = ⊥
 
 abbrev pub Draws : ℕ → Step × Answer → ℕ → Type 0

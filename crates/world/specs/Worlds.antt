@@ -1,5 +1,6 @@
 -- The past of a world: a relation between a world and the steps that led to it, which no field
 -- stores.
+use Rattle.calls.specs.declared.format.Format.{Format}
 use Rattle.std.specs.Prelude.{◌≡◌, ◌≢◌, ℕ, ◌≤◌, List, [], ◌++◌, None}
 use Rattle.calls.specs.Contents.{Collection}
 use Rattle.record_format.specs.declared.record.Record.{Record}
@@ -52,17 +53,19 @@ parts_of book gather keeper transit mark = record {
 
 -- The image is one of the book after a beginning of its steps, and stands for the records up to
 -- there. The records of all steps lead to the state now.
-pub record StandsForBook (start : List Collection) (wear : ℕ) (steps : List BookStep) (now : State)
+pub record StandsForBook (format : Format) (start : List Collection) (wear : ℕ)
+    (steps : List BookStep) (now : State)
     (image : Image) : Type 0 where
-  pub is_in : IsImageIn catalog_meaning catalog_making (λ v. v) start wear steps image
+  pub is_in : IsImageIn catalog_meaning catalog_making (λ v. v) format start wear steps image
   pub begun : BegunImage
   pub is_for : IsImageFor image begun
-  pub stands : StandIn start wear (records_by steps) now begun.blocks begun.covered
+  pub stands : StandIn format start wear (records_by steps) now begun.blocks begun.covered
 
 -- The world is one to which the steps of the past, with their answers, led from the start.
 pub record HasPast {D : Type 0} (seen : D → List ℕ) (may_leave : D → List ℕ → Type 0)
     (start : List Collection) (past : Past) (w : Parts D) : Type 0 where
-  -- the wear of the book that was opened, and its steps since
+  -- the format and the wear of the book that was opened, and its steps since
+  pub format : Format
   pub wear : ℕ
   pub steps : List BookStep
   pub are : AreBookSteps past steps
@@ -73,17 +76,18 @@ pub record HasPast {D : Type 0} (seen : D → List ℕ) (may_leave : D → List 
   pub groups : List (List Record)
   pub freezes : List ℕ
   pub images : List Image
-  pub handed : HasHanded catalog_meaning catalog_making (λ v. v) start wear steps w.book
+  pub handed : HasHanded catalog_meaning catalog_making (λ v. v) format start wear steps w.book
       (received ++ w.transit) groups freezes images
   -- what the keeper made of these blocks and images: an image that is being written, or in use, is
   -- one of them, and a stop now leaves what `Yields` says of the transactions that the mark tells
   pub begun : List BegunImage
   pub are_begun : AreImagesFor images begun
-  pub keeps : HasReceived seen may_leave start wear (records_by steps) (journalled w.book.state)
+  pub keeps : HasReceived seen may_leave format start wear (records_by steps)
+      (journalled w.book.state)
       freezes begun received w.keeper
   -- whatever image is packed of what is gathered, which is frozen then, may be begun
   pub packs : (image : Image) → Packs w.gather image →
-      StandsForBook start wear steps (journalled w.book.state) image
+      StandsForBook format start wear steps (journalled w.book.state) image
   -- the mark is the keeper's, and what was told is kept
   pub marked : w.mark ≡ w.keeper.mark
   pub told : greatest_told past ≤ w.mark

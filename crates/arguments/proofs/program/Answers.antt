@@ -23,10 +23,12 @@ returns c =
     c.flagged_command-stat.ensures c.in_ok-program-7.ensures is_6 in
     let is_8 = with_gives c.copy_command-copy.result _ _ _ _
     c.copy_command-copy.ensures c.in_ok-program-8.ensures is_7 in
-    let is_9 = with_gives c.lint_command-lint.result _ _ _ _
-    c.lint_command-lint.ensures c.in_ok-program-9.ensures is_8 in
-    IfOk-weaker c.with-10.result _ _
+    let is_9 = with_gives c.disk_command-upgrade.result _ _ _ _
+    c.disk_command-upgrade.ensures c.in_ok-program-9.ensures is_8 in
+    let is_10 = with_gives c.lint_command-lint.result _ _ _ _
+    c.lint_command-lint.ensures c.in_ok-program-10.ensures is_9 in
+    IfOk-weaker c.with-11.result _ _
     (λ whole h. h (ap (λ f. f.has_globals) c.about-demo.ensures ∙ c.new.ensures.local) ∙
-    ap₂ with_subcommand is_9
+    ap₂ with_subcommand is_10
     (ap (λ (a : App). a.top) (ap app_of_fields c.about-demo.ensures ∙ c.new.ensures.app)))
-    c.with-10.ensures
+    c.with-11.ensures

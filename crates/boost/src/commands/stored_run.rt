@@ -1,5 +1,6 @@
 // A stored script, run on a disk in memory.
 ghost use Rattle.std.specs.Prelude.{OnOk, IfOk, IfErr};
+ghost use Rattle.calls.specs.declared.format.Format.{Format};
 ghost use Rattle.disk_model.specs.Disk.{IsAtRest};
 ghost use Rattle.recovery.specs.Formats.{IsEmptyStore};
 ghost use Rattle.boost.specs.Commands.{IsOfStore};
@@ -10,6 +11,7 @@ use crate::commands::{play_lines, show};
 use calls::Refusal;
 use calls::limits::MIN_AREA;
 use disk_model::{Disk, MemDisk};
+use gate_block::layout::AREAS_AT;
 use recovery::format;
 use script::parse;
 use std::alloc::Global;
@@ -20,7 +22,7 @@ pub const STORED_RUN: &[u8] =
     b"c1 make counter hits\nc1 begin\nc1 call hits bump 1\nc1 commit\nc1 kept\nturn\nc1 kept\nturn\n";
 
 // How many bytes its disk has: what stands before the areas, and two of the least areas.
-const SIZE: u64 = 4096 + 2 * MIN_AREA;
+const SIZE: u64 = AREAS_AT + 2 * MIN_AREA;
 
 /// Runs the script on a disk of its own, and prints what the lines answer and what they leave.
 pub fn demo<O: Write>(alloc: Global, out: &mut O) -> Result<(), Failure<'static>>
@@ -41,7 +43,7 @@ pub fn demo<O: Write>(alloc: Global, out: &mut O) -> Result<(), Failure<'static>
 
 // An empty store in memory.
 fn demo_disk(alloc: Global) -> Result<MemDisk, Failure<'static>>
-    ensures empty { IfOk result (λ disk. IsEmptyStore (⟦<MemDisk as Disk>⟧.seen disk)) }
+    ensures empty { IfOk result (λ disk. IsEmptyStore Format.One (⟦<MemDisk as Disk>⟧.seen disk)) }
     ensures at_rest { IfOk result (λ disk.
         IsAtRest ⟦<MemDisk as Disk>⟧.seen ⟦<MemDisk as Disk>⟧.may_leave disk) }
     ensures why { IfErr result IsOfStore }

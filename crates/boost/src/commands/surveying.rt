@@ -6,19 +6,18 @@ ghost use Rattle.record_format.specs.Records.{spelled, FitsItem};
 ghost use Rattle.boost.specs.Commands.{IsOfStore};
 
 use crate::commands::failure::Failure;
-use calls::{Item, Kind, Name, check_name};
+use calls::{Format, Item, Kind, Name, check_name};
 use catalog::{Catalog, Shown};
 use record_format::{Record, encoded_len, fits_item};
 use recovery::Survey;
 use std::alloc::AllocError;
 use std::io::Write;
 
-// The format of what is written: stores begin with `BOOSTED1`.
-const FORMAT: u64 = 1;
-
-/// Tells what room a store takes and has, and of each collection its kind, its name, how many items
-/// it holds and how many bytes it takes in an image: in lines, or as one JSON object.
+/// Tells the format of a store, what room it takes and has, and of each collection its kind, its
+/// name, how many items it holds and how many bytes it takes in an image: in lines, or as one JSON
+/// object.
 pub fn tell_survey<O: Write>(
+    format: Format,
     survey: &Survey,
     catalog: &Catalog,
     json: bool,
@@ -27,18 +26,18 @@ pub fn tell_survey<O: Write>(
     ensures { IfErr result IsOfStore }
 {
     if json {
-        write_numbers_json(survey, out)?;
+        write_numbers_json(format, survey, out)?;
         write_collections_json(catalog, out)
     } else {
-        write_numbers(survey, out)?;
+        write_numbers(format, survey, out)?;
         write_collections(catalog, out)
     }
 }
 
 // The numbers that are told, with their names.
-fn numbers_of(survey: &Survey) -> [(&'static str, u64); 12] {
+fn numbers_of(format: Format, survey: &Survey) -> [(&'static str, u64); 12] {
     [
-        ("format", FORMAT),
+        ("format", u64::from(format.number())),
         ("area", survey.area),
         ("in_use", u64::from(!survey.first)),
         ("used", survey.used),
@@ -69,10 +68,14 @@ fn opens(survey: &Survey) -> bool
     }
 }
 
-fn write_numbers<O: Write>(survey: &Survey, out: &mut O) -> Result<(), Failure<'static>>
+fn write_numbers<O: Write>(
+    format: Format,
+    survey: &Survey,
+    out: &mut O,
+) -> Result<(), Failure<'static>>
     ensures { IfErr result IsOfStore }
 {
-    for (name, number) in numbers_of(survey) {
+    for (name, number) in numbers_of(format, survey) {
         writeln!(out, "{name} {number}")?;
     }
     let answer = if opens(survey) { "yes" } else { "no" };
@@ -80,11 +83,15 @@ fn write_numbers<O: Write>(survey: &Survey, out: &mut O) -> Result<(), Failure<'
     Ok(())
 }
 
-fn write_numbers_json<O: Write>(survey: &Survey, out: &mut O) -> Result<(), Failure<'static>>
+fn write_numbers_json<O: Write>(
+    format: Format,
+    survey: &Survey,
+    out: &mut O,
+) -> Result<(), Failure<'static>>
     ensures { IfErr result IsOfStore }
 {
     write!(out, "{{")?;
-    for (name, number) in numbers_of(survey) {
+    for (name, number) in numbers_of(format, survey) {
         write!(out, "\"{name}\":{number},")?;
     }
     write!(out, "\"opens\":{},", opens(survey))?;

@@ -2,7 +2,7 @@
 use crate::bench::calling::Content;
 use crate::bench::trouble::Trouble;
 use crate::bench::workload::Workload;
-use calls::{Call, Kind, Refusal};
+use calls::{Call, Format, Kind, Refusal};
 use catalog::Catalog;
 use checkpoint::Inbox;
 use rand_pcg::Pcg32;
@@ -99,7 +99,7 @@ struct BookBench {
 impl BookBench {
     // A book with an empty collection of the workload's kind, and a counter for other transactions.
     fn new(alloc: Global, content: Content) -> Result<BookBench, Refusal> {
-        let mut book = Book::new(alloc, Catalog::new(alloc), 1, 0);
+        let mut book = Book::new(alloc, Format::One, Catalog::new(alloc), 1, 0);
         book.make(content.collection, content.workload.kind())?;
         book.make("others", Kind::Counter)?;
         Ok(BookBench {

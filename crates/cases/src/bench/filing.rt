@@ -4,6 +4,7 @@ ghost use Rattle.std.specs.Prelude.{◌<◌, ◌^◌};
 use crate::bench::trouble::Trouble;
 use crate::bench::workload::Workload;
 use disk_model::{FileDisk, Unknown};
+use gate_block::layout::AREAS_AT;
 use recovery::format;
 use std::alloc::{AllocError, Global};
 use std::fs::{File, OpenOptions};
@@ -14,7 +15,7 @@ use std::rt::Files;
 const AREA: u64 = 1 << 26;
 
 /// The size of a store's file, in bytes, where no maps lie beside what clients call.
-pub const FILE_SIZE: u64 = 4096 + 2 * AREA;
+pub const FILE_SIZE: u64 = AREAS_AT + 2 * AREA;
 
 // The size of an area that takes an image of a map of 1,000 values of 100 bytes, and has 150,000
 // bytes behind it.
@@ -39,7 +40,7 @@ pub fn make_disk<R: Files<File = File> + AllocGlobal>(
     let path = path_in(rt.alloc(), folder)?;
     let file = options().create(true).truncate(true).open(rt, path)?;
     let area = area_of(workload);
-    file.set_len(4096 + 2 * area)?;
+    file.set_len(AREAS_AT + 2 * area)?;
     let mut disk = FileDisk::open(file)?;
     format(&mut disk, area)?;
     Ok(disk)

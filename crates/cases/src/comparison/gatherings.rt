@@ -2,13 +2,14 @@
 ghost use Rattle.std.specs.Prelude.{◌≡◌, ◌+◌, ◌<◌, ◌^◌, Some, IfOk, IfSome, IsTrue, length};
 ghost use Rattle.std.specs.Prelude.{slice_get};
 ghost use Rattle.calls.specs.Contents.{AnswersAt};
+ghost use Rattle.calls.specs.Formats.{widest};
 ghost use Rattle.calls.specs.Rules.{IsShort};
 ghost use Rattle.cases.specs.Gatherings.{IsGoing, HasRun, CanRun};
 
 use crate::comparison::sequence::Sequence;
 use boosted::Boosted;
 use calls::limits::NUMBER_END;
-use calls::{Bytes, Call, Kind, Refusal};
+use calls::{Bytes, Call, Format, Kind, Refusal};
 use catalog::{Catalog, NamedHolding, Parts};
 use images::{Effect, Gather, Marks, image_blocks};
 use machine::Machine;
@@ -95,7 +96,7 @@ impl Gathering {
         requires position { effect.position ≡ self.old.position + 1 }
         requires unworn { self.old.position < 2 ^ 61 }
         requires answered { AnswersAt self.old.catalog effect.collection effect.call effect.reply }
-        requires short { IsShort effect.call }
+        requires short { IsShort widest effect.call }
         ensures { IsGoing self.new }
     {
         self.effects.reserve(1)?;
@@ -147,8 +148,9 @@ impl Gathering {
             mut effects,
             position,
         } = self;
-        let machine = Machine::new(alloc, catalog, position);
+        let machine = Machine::new(alloc, Format::Two, catalog, position);
         let marks = Marks {
+            format: Format::Two,
             next: 1,
             wear: position,
             end: position,

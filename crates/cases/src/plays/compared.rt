@@ -1,4 +1,4 @@
-// What the store that threads share answers otherwise than the program.
+// What is answered otherwise than by the program.
 use crate::plays::runs::{Ran, text};
 use crate::plays::told::Told;
 use std::str::Lines;
@@ -6,6 +6,8 @@ use std::str::Lines;
 /// How many scripts and lines were compared, and how much was answered otherwise.
 #[derive(Clone, Copy)]
 pub struct Compared {
+    /// The way on which scripts are played once more.
+    pub way: &'static str,
     pub scripts: u64,
     pub lines: u64,
     pub unlike: u64,
@@ -13,11 +15,14 @@ pub struct Compared {
 
 impl Compared {
     /// Before the first script.
-    pub const NONE: Compared = Compared {
-        scripts: 0,
-        lines: 0,
-        unlike: 0,
-    };
+    pub fn new(way: &'static str) -> Self {
+        Self {
+            way,
+            scripts: 0,
+            lines: 0,
+            unlike: 0,
+        }
+    }
 
     /// Compares what a script was answered by the program with what it was answered through the
     /// store. Tells what is not the same.
@@ -28,6 +33,13 @@ impl Compared {
         }
         self.compare_lines(text(&one.out), text(&other.out), told);
         self.compare_lines(text(&one.err), text(&other.err), told);
+    }
+
+    /// Compares what the requests of a script were answered by the program with what they were
+    /// answered otherwise. Tells what is not the same.
+    pub fn compare_texts(&mut self, one: &str, other: &str, told: &mut Told) {
+        self.scripts = self.scripts.saturating_add(1);
+        self.compare_lines(one, other, told);
     }
 
     // Compares lines one by one.
@@ -60,19 +72,20 @@ impl Compared {
     // Notes that something was answered otherwise, and tells it.
     fn note(&mut self, found: &str, told: &mut Told) {
         self.unlike = self.unlike.saturating_add(1);
-        told.tell(format_args!("through the store: {found}"));
+        told.tell(format_args!("{}: {found}", self.way));
     }
 
     /// Tells how much was compared, unless nothing was.
     pub fn tell(&self, told: &mut Told) {
         let Compared {
+            way,
             scripts,
             lines,
             unlike,
         } = *self;
         if scripts > 0 {
             told.tell(format_args!(
-                "through the store: {scripts} scripts, {lines} lines, {unlike} answered otherwise"
+                "{way}: {scripts} scripts, {lines} lines, {unlike} answered otherwise"
             ));
         }
     }

@@ -1,5 +1,5 @@
 // What the lines of cases ask of a disk and of a script.
-use crate::plays::runs::{carry_out, to_check, to_format, to_show, to_show_read_only, to_stat};
+use crate::plays::runs::{carry_out, to_check, to_show, to_show_read_only, to_stat, to_upgrade};
 use crate::plays::told::Told;
 use crate::plays::values::{not_understood, number};
 use crate::plays::workbench::Workbench;
@@ -55,7 +55,8 @@ pub fn ask(
         "copy" => runs::copy(alloc, bench, rest, told),
         "check" => carry_out(alloc, bench, to_check(alloc), told),
         "demo" => carry_out(alloc, bench, Task::Demo, told),
-        "format" => carry_out(alloc, bench, to_format(alloc, number(rest)?), told),
+        "format" => runs::format(alloc, bench, rest, told),
+        "upgrade" => carry_out(alloc, bench, to_upgrade(alloc), told),
         "steps" => steps::take(alloc, bench, told),
         _ => ask_of_disk(alloc, bench, word, rest, told),
     }

@@ -1,9 +1,9 @@
 // Commands that are carried out on the disk of a case.
 use crate::plays::disks::bytes_of;
-use crate::plays::through_store;
 use crate::plays::told::Told;
-use crate::plays::values::numbers;
+use crate::plays::values::{area_and_version, numbers};
 use crate::plays::workbench::Workbench;
+use crate::plays::{talked, through_store};
 use boost::{Task, run, run_copy};
 use disk_model::{Disk, MemDisk};
 use std::alloc::Global;
@@ -94,12 +94,20 @@ pub fn to_check(alloc: Global) -> Task {
     }
 }
 
-/// A task that formats, with areas of so many bytes.
-pub fn to_format(alloc: Global, area: u64) -> Task {
+/// A task that formats, with areas of so many bytes, in the format of the number.
+pub fn to_format(alloc: Global, area: u64, version: u8) -> Task {
     Task::Format {
         disk: String::new(alloc),
         area,
+        version,
         reserve: false,
+    }
+}
+
+/// A task that brings a store to format 2.
+pub fn to_upgrade(alloc: Global) -> Task {
+    Task::Upgrade {
+        disk: String::new(alloc),
     }
 }
 
@@ -136,6 +144,13 @@ pub fn copy(alloc: Global, bench: &mut Workbench, text: &str, told: &mut Told) -
     Ok(())
 }
 
+/// Formats the disk of the case, with areas of so many bytes, in the format of the number behind
+/// them, or else in format 1, and tells what that answered.
+pub fn format(alloc: Global, bench: &mut Workbench, text: &str, told: &mut Told) -> io::Result<()> {
+    let (area, version) = area_and_version(text)?;
+    carry_out(alloc, bench, to_format(alloc, area, version), told)
+}
+
 /// Carries a task out on the disk of the case with the script that was written, which is empty
 /// then, and tells what it answered: of its output as many of the last lines as the case wants.
 pub fn carry_out(
@@ -152,8 +167,8 @@ pub fn carry_out(
     Ok(())
 }
 
-/// Plays the script that was written, and once more through the store that threads share: what that
-/// answers or leaves otherwise is told too.
+/// Plays the script that was written, once more through the store that threads share, and once more
+/// as a talk: what these answer or leave otherwise is told too.
 pub fn play(
     rt: &(impl Wait + AllocGlobal),
     bench: &mut Workbench,
@@ -161,6 +176,7 @@ pub fn play(
 ) -> io::Result<()> {
     let alloc = rt.alloc();
     let beside = bench.copy(alloc)?;
+    let spoken_to = bench.copy(alloc)?;
     let script = bench.take_script(alloc);
     let disk = bench.take_disk(alloc)?;
     let (ran, disk) = run_on(alloc, to_play(alloc), disk, script.as_slice());
@@ -168,7 +184,8 @@ pub fn play(
     ran.tell(bench.take_last(), told);
     let (played, beside) = through_store::play(rt, beside, script.as_slice())?;
     bench.compared.compare(&ran, &played.ran, told);
-    compare_disks(alloc, bench, beside, told)
+    compare_disks(alloc, bench, beside, told)?;
+    talked::compare(rt, bench, spoken_to, script.as_slice(), &ran, told)
 }
 
 // Compares what the disk of the case holds with what the other one does.

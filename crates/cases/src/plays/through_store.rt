@@ -17,17 +17,17 @@ const CLIENTS: usize = 64;
 // So many bytes of answers are written without more memory.
 const ROOM: usize = 1 << 16;
 
-// The clients of a script on a store, its committer and its checkpointer.
+/// The clients of a script on a store, its committer and its checkpointer.
 #[derive(Drop)]
-struct Stage<'c, 's, D: Disk, J: Naming> {
-    sessions: Vec<Session<'c, 's, J>>,
-    committer: Committer<'s, D, J>,
+pub struct Stage<'c, 's, D: Disk, J: Naming> {
+    pub sessions: Vec<Session<'c, 's, J>>,
+    pub committer: &'c mut Committer<'s, D, J>,
     checkpointer: Checkpointer<'s, D, J>,
     has_failed: bool,
 }
 
-// The clients of a script.
-fn clients<'s, D: Disk, J: Naming, R: Wait + AllocGlobal>(
+/// The clients of a script.
+pub fn clients<'s, D: Disk, J: Naming, R: Wait + AllocGlobal>(
     rt: &R,
     store: &'s Store<D, J>,
 ) -> Result<Vec<Client<'s, J>>, Refusal> {
@@ -50,23 +50,36 @@ fn sessions<'c, 's, J: Naming>(
 }
 
 impl<'c, 's, D: Disk, J: Naming> Stage<'c, 's, D, J> {
-    // Before the first line.
-    fn new<R: Wait + AllocGlobal>(
+    /// Before the first line.
+    pub fn new<R: Wait + AllocGlobal>(
         rt: &R,
         store: &'s Store<D, J>,
         clients: &'c mut [Client<'s, J>],
+        committer: &'c mut Committer<'s, D, J>,
     ) -> Result<Self, Refusal> {
         Ok(Self {
             sessions: sessions(rt.alloc(), clients)?,
-            committer: store.committer(rt),
+            committer,
             checkpointer: store.checkpointer(rt),
             has_failed: false,
         })
     }
 
-    // What a line answers. Whether the disk has failed is noted.
-    fn answer<R: Wait>(&mut self, rt: &R, action: &Action) -> Said {
-        match self.act(rt, action) {
+    /// What a line answers. Whether the disk has failed is noted.
+    pub fn answer<R: Wait>(&mut self, rt: &R, action: &Action) -> Said {
+        let done = self.act(rt, action);
+        self.said(done)
+    }
+
+    /// What a request of a client of this number is answered.
+    pub fn asked<R: Wait>(&mut self, rt: &R, client: usize, request: &Request) -> Said {
+        let done = self.ask(rt, client, request);
+        self.said(done)
+    }
+
+    // What is said of what was done or refused.
+    fn said(&mut self, done: Result<Said, Refusal>) -> Said {
+        match done {
             Ok(said) => said,
             Err(refusal) => {
                 self.has_failed |= matches!(refusal, Refusal::Fault | Refusal::Failed);
@@ -90,6 +103,20 @@ impl<'c, 's, D: Disk, J: Naming> Stage<'c, 's, D, J> {
             Some(session) => Ok(session.say(rt, request)),
             // each of the 64 has a session
             None => Err(Refusal::Worn),
+        }
+    }
+
+    /// The number of the first client that has a transaction open.
+    pub fn busy_client(&self) -> Option<usize> {
+        let at = self.sessions.iter().position(|session| session.is_open())?;
+        Some(at.wrapping_add(1))
+    }
+
+    /// What the first client is told of its last ticket.
+    pub fn end_of_first<R: Wait>(&mut self, rt: &R) -> End {
+        match self.sessions.first_mut() {
+            Some(session) => session.end(rt),
+            None => End::NoTicket,
         }
     }
 
@@ -149,7 +176,8 @@ fn play_on<D: Disk, J: Naming, R: Wait + AllocGlobal>(
     ends: &mut Vec<u8>,
 ) -> Result<(), Failure<'static>> {
     let mut clients = clients(rt, store)?;
-    let mut stage = Stage::new(rt, store, clients.as_mut_slice())?;
+    let mut committer = store.committer(rt);
+    let mut stage = Stage::new(rt, store, clients.as_mut_slice(), &mut committer)?;
     stage.play(rt, lines, out)?;
     if stage.has_failed {
         stage.tell_ends(rt, ends)?;

@@ -44,6 +44,17 @@ pub fn numbers(text: &str) -> io::Result<(u64, u64)> {
     Ok((number(first)?, number(second)?))
 }
 
+/// How many bytes an area has, and the number of a format, which is 1 where none stands there.
+pub fn area_and_version(text: &str) -> io::Result<(u64, u8)> {
+    let Some((area, version)) = text.split_once(" ") else {
+        return Ok((number(text)?, 1));
+    };
+    match version.parse() {
+        Ok(version) => Ok((number(area)?, version)),
+        Err(_) => Err(not_understood()),
+    }
+}
+
 /// The bytes of words of base 16, of which each has whole bytes.
 pub fn bytes(alloc: Global, text: &str) -> io::Result<Vec<u8>> {
     let mut all = Vec::new(alloc);

@@ -4,15 +4,17 @@ use crate::plays::disks::{at_rest, bytes_at};
 use crate::plays::values::number;
 use calls::limits::MIN_AREA;
 use disk_model::{Disk, MemDisk};
+use gate_block::layout::AREAS_AT;
 use recovery::format;
 use std::alloc::{AllocError, Global};
 use std::{io, mem};
 
 // The size of a disk with two of the least areas.
-const SIZE: u64 = 4096 + 2 * MIN_AREA;
+const SIZE: u64 = AREAS_AT + 2 * MIN_AREA;
 
 /// A disk in memory, which of its calls is to fail (0 for none), a script, and how many lines of
-/// what the next run prints are told. Behind them is how the scripts compare through the store.
+/// what the next run prints are told. Behind them is how the scripts compare through the store, and
+/// in a talk.
 #[derive(Drop)]
 pub struct Workbench {
     pub disk: MemDisk,
@@ -20,6 +22,7 @@ pub struct Workbench {
     pub script: Vec<u8>,
     pub last: usize,
     pub compared: Compared,
+    pub talked: Compared,
 }
 
 impl Workbench {
@@ -30,7 +33,8 @@ impl Workbench {
             fail_in: 0,
             script: Vec::new(alloc),
             last: usize::MAX,
-            compared: Compared::NONE,
+            compared: Compared::new("through the store"),
+            talked: Compared::new("in a talk"),
         })
     }
 

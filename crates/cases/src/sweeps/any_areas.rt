@@ -6,14 +6,12 @@ use crate::plays::told::Told;
 use crate::plays::values::numbers;
 use crate::plays::workbench::{Workbench, empty_store};
 use disk_model::MemDisk;
+use gate_block::layout::AREAS_AT;
 use rand_core::utils::NextWord;
 use rand_pcg::Pcg32;
 use std::alloc::{AllocError, Global};
 use std::io;
 use std::sync::Wait;
-
-// Where the area in use begins, and where its journal does where it is empty.
-const AREA_AT: u64 = 4096;
 
 const JOURNAL_AT: u64 = 4119;
 
@@ -104,8 +102,8 @@ fn drawn(
     ground: &[u8],
 ) -> io::Result<(u64, MemDisk)> {
     let (at, bytes) = match number % 4 {
-        0 => (AREA_AT + 1, draw(alloc, chance, 65_535, 0xff)?),
-        1 => (AREA_AT, block(alloc, chance)?),
+        0 => (AREAS_AT + 1, draw(alloc, chance, 65_535, 0xff)?),
+        1 => (AREAS_AT, block(alloc, chance)?),
         2 => (JOURNAL_AT, block(alloc, chance)?),
         _ => return scratched(alloc, chance, ground),
     };

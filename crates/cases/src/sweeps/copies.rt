@@ -23,7 +23,7 @@ pub fn stop_copy(
     let (size, area) = numbers(line)?;
     let old = bench.bytes(alloc)?;
     let empty = MemDisk::new(alloc, size)?;
-    let (_, new) = run_on(alloc, to_format(alloc, area), empty, &[]);
+    let (_, new) = run_on(alloc, to_format(alloc, area, 1), empty, &[]);
     let new = bytes_of(alloc, new)?;
     let (shown, _) = run_on(
         alloc,

@@ -3,8 +3,9 @@
 use crate::plays::disks::{all_as, at_rest, bytes_of};
 use crate::plays::runs::{Ran, copy_on, run_on, text, to_check, to_format, to_play, to_show};
 use crate::plays::told::Told;
-use crate::plays::values::number;
+use crate::plays::values::area_and_version;
 use crate::plays::workbench::Workbench;
+use crate::sweeps::upgrades::stop_upgrading;
 use boost::Task;
 use disk_model::{Disk, MemDisk};
 use std::alloc::{AllocError, Global};
@@ -25,9 +26,14 @@ pub enum Trial<'a> {
         shown: &'a str,
         checked: &'a str,
     },
-    // The disk is formatted, with areas of so many bytes.
+    // The disk is formatted, with areas of so many bytes, in the format of the number.
     Format {
         area: u64,
+        version: u8,
+    },
+    // The store is brought to format 2. The text is what it shows before.
+    Upgrade {
+        shown: &'a str,
     },
     // The store in the bytes of another disk is copied to it, with areas of so many bytes. The text
     // is what that store shows.
@@ -97,12 +103,17 @@ fn show_and_check(alloc: Global, disk: MemDisk) -> (Ran, Ran) {
 pub fn stop_format(
     alloc: Global,
     bench: &mut Workbench,
-    area: &str,
+    text: &str,
     told: &mut Told,
 ) -> io::Result<()> {
-    let area = number(area)?;
+    let (area, version) = area_and_version(text)?;
     let bytes = bench.bytes(alloc)?;
-    stop_in_each_way(alloc, Trial::Format { area }, bytes.as_slice(), told)
+    stop_in_each_way(
+        alloc,
+        Trial::Format { area, version },
+        bytes.as_slice(),
+        told,
+    )
 }
 
 /// Does it on disks of these bytes, and stops it at each call in turn and behind the last one, in
@@ -184,7 +195,8 @@ fn stop_at(
             front,
         } => stop_play(alloc, disk, script, k, picks, shown, front),
         Trial::Opening { shown, checked } => stop_open(alloc, disk, k, picks, shown, checked),
-        Trial::Format { area } => stop_making(alloc, disk, area, k, picks),
+        Trial::Format { area, version } => stop_making(alloc, disk, area, version, k, picks),
+        Trial::Upgrade { shown } => return stop_upgrading(alloc, disk, k, picks, shown),
         Trial::Copy { old, shown, area } => {
             return stop_copying(alloc, old, shown, disk, area, k, picks);
         }
@@ -192,9 +204,9 @@ fn stop_at(
     Ok(stopped?)
 }
 
-// Carries a task out on a disk with a failure at this call, and stops the disk. Answers also
-// whether the call was reached.
-fn run_until(
+/// Carries a task out on a disk with a failure at this call, and stops the disk. Answers also
+/// whether the call was reached.
+pub fn run_until(
     alloc: Global,
     task: Task,
     disk: MemDisk,
@@ -326,10 +338,11 @@ fn stop_making(
     alloc: Global,
     disk: MemDisk,
     area: u64,
+    version: u8,
     k: u64,
     picks: &[(u64, u8)],
 ) -> Result<(bool, String), AllocError> {
-    let task = to_format(alloc, area);
+    let task = to_format(alloc, area, version);
     let (_, is_reached, disk) = run_until(alloc, task, disk, &[], k, picks);
     let (shown, _) = run_on(alloc, to_show(alloc), disk, &[]);
     let told = format!(in alloc; "shows\n{}{}", text(&shown.out), text(&shown.err))?;

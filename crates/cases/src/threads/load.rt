@@ -8,6 +8,7 @@ use crate::texts::tell_refusal;
 use background::Work;
 use calls::Refusal;
 use disk_model::{FileDisk, Unknown};
+use gate_block::layout::AREAS_AT;
 use plain::Plain;
 use recovery::format;
 use std::alloc::{AllocGlobal, Global};
@@ -103,7 +104,7 @@ pub fn run<R: Threads + Wait + Clock + Files<File = File> + AllocGlobal + Sync>(
         .write(true)
         .create(true)
         .open(rt, "load.disk")?;
-    file.set_len(4096 + 2 * AREA)?;
+    file.set_len(AREAS_AT + 2 * AREA)?;
     let mut plain = Plain::new(rt.alloc());
     let served = serve(rt, FileDisk::open(file)?, &mut plain, told);
     tell_refusal(served, told);

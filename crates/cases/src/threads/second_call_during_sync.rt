@@ -8,6 +8,7 @@ use crate::texts::tell_refusal;
 use calls::Refusal;
 use calls::limits::MIN_AREA;
 use disk_model::MemDisk;
+use gate_block::layout::AREAS_AT;
 use held_disk::HeldDisk;
 use recovery::format;
 use serving::serve_any;
@@ -17,7 +18,7 @@ use std::thread::Threads;
 use store::Opened;
 
 // The size of the disk.
-const SIZE: u64 = 4096 + 2 * MIN_AREA;
+const SIZE: u64 = AREAS_AT + 2 * MIN_AREA;
 
 // Whether a call was answered during the sync of a commit of another client.
 fn is_answered_in_sync<R: Threads + Wait + AllocGlobal + Sync>(rt: &R) -> Result<bool, Refusal> {

@@ -11,7 +11,8 @@ returns-in-Format-clause-any_moment g c = rw c.in-Format.is c.format_disk.ensure
 
 pub returns-in-Format-clause-why : goal.returns-in-Format-clause-why
 returns-in-Format-clause-why g c =
-    rw c.in-Format.is (other_undone (Task.Format c.in-Format.disk c.in-Format.area c.in-Format.reserve)
+    rw c.in-Format.is (other_undone
+    (Task.Format c.in-Format.disk c.in-Format.area c.in-Format.version c.in-Format.reserve)
     c.args.script.now (c.format_disk.result.1 ≡ c.args.disk)
     c.format_disk.result.0 (λ is. is) c.format_disk.ensures.why)
 
@@ -38,6 +39,18 @@ returns-in-Stat-clause-why g c =
     rw c.in-Stat.is (other_undone (Task.Stat c.in-Stat.disk c.in-Stat.json) c.args.script.now
     (c.stat.result.1 ≡ c.args.disk)
     c.stat.result.0 (λ is. is) c.stat.ensures.why)
+
+pub returns-in-Upgrade-clause-done : goal.returns-in-Upgrade-clause-done
+returns-in-Upgrade-clause-done g c = rw c.in-Upgrade.is c.upgrade_store.ensures.done
+
+pub returns-in-Upgrade-clause-any_moment : goal.returns-in-Upgrade-clause-any_moment
+returns-in-Upgrade-clause-any_moment g c = rw c.in-Upgrade.is c.upgrade_store.ensures.kept
+
+pub returns-in-Upgrade-clause-why : goal.returns-in-Upgrade-clause-why
+returns-in-Upgrade-clause-why g c =
+    rw c.in-Upgrade.is (other_undone (Task.Upgrade c.in-Upgrade.disk) c.args.script.now
+    (c.upgrade_store.result.1 ≡ c.args.disk)
+    c.upgrade_store.result.0 (λ is. is) c.upgrade_store.ensures.why)
 
 pub returns-in-Demo-clause-why : goal.returns-in-Demo-clause-why
 returns-in-Demo-clause-why g c =

@@ -1,3 +1,4 @@
+use Rattle.calls.specs.Formats.{widest}
 use Rattle.std.proofs.Common.{◌≡◌, ℕ, ◌<◌, ◌≤◌, zero, suc, List, ◌∷◌, length, refl, sym, subst, ap}
 use Rattle.std.proofs.Common.{◌∙◌, arith, [], Some, slice_get}
 use Rattle.std.specs.Option.{unwrap_or}
@@ -9,6 +10,7 @@ use Rattle.calls.specs.declared.refusal.Refusal.{Refusal}
 use Rattle.calls.specs.Contents.{Collection}
 use Rattle.catalog.specs.Holdings.{ShowRefused}
 use Rattle.record_format.specs.Short.{HoldsShort}
+use Rattle.records.proofs.Items.{widest_all}
 use Rattle.gathering.proofs.gathering.next_part.Goals as goal
 
 pub overflow_cast-copied : goal.overflow_cast-copied
@@ -50,8 +52,8 @@ returns-clause-short g c =
     let xs = g.B.Parts.collections in
     let there = sym (ap (λ s. slice_get (xs s) c.args.copied) c.parts-parts.ensures) ∙
     c.in_ok-copy.ensures.ok in
-    at_place (λ x. HoldsShort x.content) (xs c.args.machine.now.now) c.args.copied _
-    c.upheld.ensures.spells there
+    at_place (λ x. HoldsShort widest x.content) (xs c.args.machine.now.now) c.args.copied _
+    (widest_all c.args.machine.now.format (xs c.args.machine.now.now) c.upheld.ensures.spells) there
 
 pub returns-in_err-copy-clause-refusal : goal.returns-in_err-copy-clause-refusal
 returns-in_err-copy-clause-refusal g c =

@@ -1,3 +1,4 @@
+use Rattle.calls.specs.Formats.{widest}
 use Rattle.std.proofs.Common.{ℕ, ◌<◌, length, sym, subst}
 use Rattle.std.specs.List.{AllByRecursion}
 use Rattle.std.proofs.lemmas.Result.{IfOk-weaker}
@@ -8,6 +9,7 @@ use Rattle.record_format.specs.Records.{IsNumber}
 use Rattle.record_format.specs.Short.{AreShort}
 use Rattle.machine.specs.Machines.{IsAskedEntry}
 use Rattle.machine.proofs.BookLaws.{BookLaws, book_laws}
+use Rattle.machine.proofs.ShortValues.{widest_entry}
 use Rattle.machine.proofs.Steps as steps
 use Rattle.blocks.specs.Drafts.{ArePacked}
 use Rattle.blocks.specs.Packings.{joined, AreWhole}
@@ -18,20 +20,20 @@ use Rattle.images.proofs.freezing.image_blocks.Goals as goal
 
 -- the laws of the collections
 laws : (g : Over) → BookLaws g.B.Boosted.meaning g.B.Parts.making
-    (λ s. AreShort (g.B.Parts.collections s))
+    (λ f s. AreShort f (g.B.Parts.collections s))
 laws g = book_laws g.met.B.Boosted.laws g.met.B.Parts.laws g.met.B.Coded.told
 
 abbrev IsGood : ℕ × Entry → Type 0
-IsGood e = IsNumber e.0 × IsAskedEntry e.1
+IsGood e = IsNumber e.0 × IsAskedEntry widest e.1
 
 pub live_records-requires-clause-asked : goal.live_records-requires-clause-asked
 live_records-requires-clause-asked g c =
     let s = c.args.machine.now in
     let up = c.upheld.ensures in
     subst (AllByRecursion IsGood) (sym c.live.ensures.entries)
-    (each_both (λ e. Lives s.live e.0) (λ e. IsAskedEntry e.1) IsGood s.entries
+    (each_both (λ e. Lives s.live e.0) (λ e. IsAskedEntry s.format e.1) IsGood s.entries
     (steps.alive g.B.Boosted.meaning g.B.Parts.making (laws g).rules s up.holds) up.asked
-    (λ e lives asked. (up.numbers e.0 lives, asked)))
+    (λ e lives asked. (up.numbers e.0 lives, widest_entry s.format e.1 asked)))
 
 pub returns-clause-image : goal.returns-clause-image
 returns-clause-image g c =
@@ -43,11 +45,11 @@ returns-clause-image g c =
     (subst (λ l. TellsTransactions l c.live.result.now.entries live) c.live.ensures.live
     c.in_ok-live.ensures.told) in
     let writes = writes_as
-    (TellsGathered next s.wear (collections s.now) c.deref.result.now)
+    (TellsGathered s.format next s.wear (collections s.now) c.deref.result.now)
     (TellsState collections next s)
     (joined c.new-packer.result) (joined c.push_image.new.packer) c.in_ok-push_image.ensures.told
     (λ rs tells. tells_state collections next s live told rs
-    (subst (λ l. TellsGathered next s.wear (collections s.now) l rs) c.deref.ensures.value
+    (subst (λ l. TellsGathered s.format next s.wear (collections s.now) l rs) c.deref.ensures.value
     tells)) in
     IfOk-weaker c.finish.result
     (λ blocks. AreWhole blocks.items c.push_image.new.packer × ArePacked c.push_image.new.packer ×

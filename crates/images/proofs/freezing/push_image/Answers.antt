@@ -14,11 +14,13 @@ returns-clause-told g c =
     let s = c.args.machine.now in
     let a = c.args.packer.now in
     let marks = c.in_ok-push.ensures.written ∙
-    ap (λ w. joined a ++ Record.Marks c.args.next w ∷ []) c.wear.ensures in
+    ap (λ f. joined a ++ Record.Marks f c.args.next c.wear.result ∷ []) c.format.ensures ∙
+    ap (λ w. joined a ++ Record.Marks s.format c.args.next w ∷ []) c.wear.ensures in
     let told = subst (λ v. Writes (joined c.push.new.self) (joined c.push_collections.new.packer)
     (TellOf (g.B.Parts.collections v))) c.parts.ensures c.in_ok-push_collections.ensures.told in
     on_ok_weaker c.push-2.result
-    (λ end. whole_writes c.args.next s.wear (g.B.Parts.collections s.now) c.args.live.now (joined a)
+    (λ end. whole_writes s.format c.args.next s.wear (g.B.Parts.collections s.now) c.args.live.now
+    (joined a)
     (joined c.push.new.self) (joined c.push_collections.new.packer)
     (joined c.push_records.new.packer) (joined c.push-2.new.self) c.requires marks told
     c.in_ok-push_records.ensures.told end)

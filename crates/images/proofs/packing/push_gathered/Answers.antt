@@ -16,7 +16,7 @@ pub returns-clause-told : goal.returns-clause-told
 returns-clause-told g c =
     let f = c.args.frozen.now in
     on_ok_weaker c.push-2.result
-    (λ end. whole_writes f.marks.next f.marks.wear
+    (λ end. whole_writes f.marks.format f.marks.next f.marks.wear
     (gathered (copies_of g.P.Part.collection c.args.copies.now)) f.live.items
     (joined c.args.packer.now) (joined c.push.new.self) (joined c.push_copies.new.packer)
     (joined c.push_records.new.packer) (joined c.push-2.new.self) c.requires.can_stand

@@ -1,3 +1,4 @@
+use Rattle.calls.specs.Formats.{widest}
 use Rattle.std.proofs.Common.{sym, ◌∙◌, ap, subst, ◌++◌, map, rules}
 use Rattle.std.specs.List.{AllByRecursion}
 use Rattle.std.proofs.lemmas.List.{append-nil}
@@ -20,7 +21,7 @@ push_item-requires c =
     (search rules) (search rules)) c.loop-item.yielded c.loop-item.item-iterator
     c.loop-item.yielded_by c.next.result c.next.new.self c.in-Some.item c.in-Some.is
     c.next.ensures.steps in
-    each_at IsShortItem all _ c.in-Some.item c.requires turn.0 turn.1
+    each_at (IsShortItem widest) all _ c.in-Some.item c.requires turn.0 turn.1
 
 pub loop-item-preserved : goal.loop-item-preserved
 loop-item-preserved c = (

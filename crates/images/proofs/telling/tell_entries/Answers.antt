@@ -1,3 +1,4 @@
+use Rattle.calls.specs.Formats.{widest}
 use Rattle.std.proofs.Common.{◌≡◌, ℕ, map, sym, ◌∙◌, ap, subst}
 use Rattle.std.specs.List.{AllByRecursion, flat_map}
 use Rattle.calls.specs.Transactions.{Entry}
@@ -10,7 +11,7 @@ use Rattle.images.proofs.ImageRecords.{logged_none, logged_this, logged_one, log
 use Rattle.images.proofs.telling.tell_entries.Goals as goal
 
 abbrev IsGood : ℕ × Entry → Type 0
-IsGood e = IsNumber e.0 × IsAskedEntry e.1
+IsGood e = IsNumber e.0 × IsAskedEntry widest e.1
 
 pub loop-owned-init : goal.loop-owned-init
 loop-owned-init c = logged_none (live_record c.args.live.now.live) IsGood c.args.told.now.items _

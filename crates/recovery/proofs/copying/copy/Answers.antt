@@ -40,25 +40,27 @@ returns-then-is_too_long-clause-stop g c =
 pub returns-then-is_too_long-clause-answer : goal.returns-then-is_too_long-clause-answer
 returns-then-is_too_long-clause-answer g c = (
   c.is_room_for.ensures.0 c.if-not-is_room_for.false,
-  λ true_read. too_large (g.D.Disk.seen c.args.old.now) c.args.area
-      c.in_ok-image.image.blocks.items (c.in_ok-image.ensures.image true_read)
+  λ true_read. too_large c.in_ok-image.version (g.D.Disk.seen c.args.old.now) c.args.area
+      c.in_ok-image.image.blocks.items (c.in_ok-image.ensures.image true_read).spells
       (c.is_too_long.ensures.0 c.if-is_too_long.true),
 )
 
 pub returns-in-Ok-clause-copied : goal.returns-in-Ok-clause-copied
 returns-in-Ok-clause-copied g c =
-    λ true_read. copied (g.D.Disk.seen c.args.old.now) c.args.area
+    λ true_read. copied c.in_ok-image.version (g.D.Disk.seen c.args.old.now) c.args.area
     c.in_ok-image.image.blocks.items (g.E.Disk.seen c.write_copy.new.disk)
     (c.in_ok-image.ensures.image true_read) c.in-Ok.ensures.written
 
 pub returns-in-Ok-clause-stop : goal.returns-in-Ok-clause-stop
 returns-in-Ok-clause-stop g c = λ rest.
     making_copy g.E.Disk.seen g.E.Disk.moment g.E.Disk.left_since _
-    (g.D.Disk.seen c.args.old.now) c.args.area c.in_ok-image.image.blocks.items c.args.new.now
+    c.in_ok-image.version (g.D.Disk.seen c.args.old.now) c.args.area
+    c.in_ok-image.image.blocks.items c.args.new.now
     c.write_copy.new.disk c.in_ok-image.ensures.image (c.write_copy.ensures.stop rest)
 
 pub returns-in-Err-clause-stop : goal.returns-in-Err-clause-stop
 returns-in-Err-clause-stop g c = λ rest.
     making_copy g.E.Disk.seen g.E.Disk.moment g.E.Disk.left_since _
-    (g.D.Disk.seen c.args.old.now) c.args.area c.in_ok-image.image.blocks.items c.args.new.now
+    c.in_ok-image.version (g.D.Disk.seen c.args.old.now) c.args.area
+    c.in_ok-image.image.blocks.items c.args.new.now
     c.write_copy.new.disk c.in_ok-image.ensures.image (c.write_copy.ensures.stop rest)

@@ -16,15 +16,16 @@ returns-in_err-fill_with-clause-stop g c =
     c.in_ok-write_and_sync.ensures.durable closed in
     filling g.D.Disk.seen g.D.Disk.may_leave g.D.Disk.moment g.D.Disk.left_since
     c.args.disk.now c.write_and_sync.new.disk c.fill_with.new.disk
-    (IsStoreOf c.args.area (bodies_of c.args.image.blocks.items)) rest
+    (IsStoreOf c.args.version c.args.area (bodies_of c.args.image.blocks.items)) rest
     c.write_and_sync.ensures.any_moment (c.fill_with.ensures.stop shut)
 
 pub returns-clause-written : goal.returns-clause-written
 returns-clause-written g c =
-    let room = still_room c.args.area _ _ _ c.requires.room c.write_and_sync.ensures.seen.size
+    let room = still_room c.args.version c.args.area _ _ _ c.requires.room
+    c.write_and_sync.ensures.seen.size
     c.fill_with.ensures.size in
     ok_then c.write_and_sync-2.result c.write_and_sync-2.ensures.written
-    (λ written. store_there c.args.area (bodies_of c.args.image.blocks.items)
+    (λ written. store_there c.args.version c.args.area (bodies_of c.args.image.blocks.items)
     (g.D.Disk.seen c.fill_with.new.disk)
     (g.D.Disk.seen c.write_and_sync-2.new.disk) room c.in_ok-fill_with.ensures.filled
     c.write_and_sync-2.ensures.seen
@@ -39,14 +40,16 @@ returns-clause-stop g c =
     c.in_ok-write_and_sync.ensures.written in
     let shut = shut_at_rest g.D.Disk.seen g.D.Disk.may_leave c.write_and_sync.new.disk
     c.in_ok-write_and_sync.ensures.durable closed in
-    let room = still_room c.args.area _ _ _ c.requires.room c.write_and_sync.ensures.seen.size
+    let room = still_room c.args.version c.args.area _ _ _ c.requires.room
+    c.write_and_sync.ensures.seen.size
     c.fill_with.ensures.size in
     opening g.D.Disk.seen g.D.Disk.may_leave g.D.Disk.moment g.D.Disk.left_since
     c.args.disk.now c.write_and_sync.new.disk c.fill_with.new.disk
-    (IsStoreOf c.args.area (bodies_of c.args.image.blocks.items)) rest
+    (IsStoreOf c.args.version c.args.area (bodies_of c.args.image.blocks.items)) rest
     c.write_and_sync.ensures.any_moment
     c.write_and_sync-2.new.disk (c.fill_with.ensures.stop shut) c.in_ok-fill_with.ensures.durable
-    (λ bytes. store_or_no_store c.args.area (bodies_of c.args.image.blocks.items) _ bytes room
+    (λ bytes. store_or_no_store c.args.version c.args.area (bodies_of c.args.image.blocks.items) _
+    bytes room
     c.in_ok-fill_with.ensures.filled) c.write_and_sync-2.ensures.any_moment
 
 pub returns-clause-durable : goal.returns-clause-durable

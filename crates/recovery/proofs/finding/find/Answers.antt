@@ -1,9 +1,10 @@
-use Rattle.std.proofs.Common.{◌∙◌, length, arith, ap, subst}
+use Rattle.std.proofs.Common.{◌∙◌, length, arith, ap, subst, sym}
 use Rattle.std.proofs.lemmas.Result.{err_from_is_err_and}
-use Rattle.gate_block.specs.Area.{position_of}
+use Rattle.gate_block.specs.Area.{base_of, size_of, position_of}
 use Rattle.disk_model.specs.Disk.{Rises}
 use Rattle.recovery.specs.Openings.{IsLoadRefusal}
-use Rattle.recovery.specs.Loading.{IsLoaded}
+use Rattle.repetition.specs.Journals.{IsHeader}
+use Rattle.recovery.specs.Loading.{IsLoaded, StartsWithImage}
 use Rattle.undoing.proofs.Walks.{rises_before}
 use Rattle.recovery.proofs.LoadLemmas.{Spoils}
 use Rattle.recovery.proofs.FindLemmas.{head_find_refusal, load_find_refusal, stored_there}
@@ -23,12 +24,13 @@ returns-in_err-repeated-clause-refused g c =
     c.from_residual-in_err-repeated.ensures.1 in
     rw (p.1, p.2)
     (load_find_refusal _ _ _ (g.D.Disk.is_honest c.load.new.disk) (g.D.Disk.seen c.args.disk.now)
-    c.in_ok-base.size c.in_ok-base.base c.in_err-repeated.field-0.0
+    c.in_ok-base.version c.in_ok-base.size c.in_ok-base.base c.in_err-repeated.field-0.0
     (rises_before _ _ _ c.area_in_use.ensures.faults c.load.ensures.faults)
     (λ true_read. c.in_ok-base.ensures.header (c.load.ensures.honest true_read))
     (subst (λ b. IsLoadRefusal (Rises (g.D.Disk.fault_count c.area_in_use.new.disk)
     (g.D.Disk.fault_count c.load.new.disk))
-    (Spoils (g.D.Disk.is_honest c.load.new.disk) c.in_ok-base.base c.in_ok-base.size b)
+    (Spoils (g.D.Disk.is_honest c.load.new.disk) c.in_ok-base.version c.in_ok-base.base
+    c.in_ok-base.size b)
     c.in_err-repeated.field-0.0)
     c.area_in_use.ensures.reads.same c.in_err-repeated.ensures.refused))
 
@@ -39,15 +41,16 @@ returns-clause-found g c =
     let old = g.D.Disk.seen c.args.disk.now in
     let base = c.in_ok-base.base in
     let size = c.in_ok-base.size in
+    let version = c.in_ok-base.version in
     record {
       state = found.repeated.machine;
       undo = c.in_ok-records.ensures.undo;
       marks = c.in_ok-records.ensures.records;
       stored = λ true_read.
           let header = c.in_ok-base.ensures.header (c.load.ensures.honest true_read) in
-          stored_there old found.area base size found.repeated.machine found.repeated.next
+          stored_there old found.area version base size found.repeated.machine found.repeated.next
           found.repeated.count header.0 header.1 area.0 area.1
-          (subst (λ b. IsLoaded base size b found.repeated.machine found.repeated.next
+          (subst (λ b. IsLoaded version base size b found.repeated.machine found.repeated.next
           found.repeated.count (position_of found.area)) c.area_in_use.ensures.reads.same
           (c.in_ok-repeated.ensures.loaded true_read));
       placed = record {
@@ -59,6 +62,22 @@ returns-clause-found g c =
       };
       collections = c.len.ensures.len ∙ ap length c.parts.ensures;
       unfinished = c.count_live.ensures;
+    }
+
+pub returns-clause-image : goal.returns-clause-image
+returns-clause-image g c = λ true_read.
+    let found = c.in_ok-repeated.field-0 in
+    let area = c.in_ok-repeated.ensures.area in
+    let old = g.D.Disk.seen c.args.disk.now in
+    let version = c.in_ok-base.version in
+    let header = c.in_ok-base.ensures.header (c.load.ensures.honest true_read) in record {
+      version = version;
+      header = subst (λ n. IsHeader version n old) (sym area.1) header.0;
+      starts = subst (λ b. StartsWithImage version b (size_of found.area) old found.image)
+          (sym area.0) (subst (λ n. StartsWithImage version c.in_ok-base.base n old found.image)
+          (sym area.1)
+          (subst (λ b. StartsWithImage version c.in_ok-base.base c.in_ok-base.size b found.image)
+          c.area_in_use.ensures.reads.same (c.in_ok-repeated.ensures.image true_read)));
     }
 
 pub load-requires : goal.load-requires

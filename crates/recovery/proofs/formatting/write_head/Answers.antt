@@ -1,6 +1,7 @@
-use Rattle.std.proofs.Common.{length, drop, codes, refl, ap, subst, sym, arith, Err, ◌≡◌}
+use Rattle.std.proofs.Common.{length, drop, refl, ap, subst, sym, arith, Err, ◌≡◌}
 use Rattle.recovery.proofs.FormatLemmas.{past_root, past_letters, past_area, shut_past_sync}
-use Rattle.recovery.proofs.FormatLemmas.{head_written, behind_kept, on_any, caused}
+use Rattle.recovery.proofs.FormatLemmas.{head_written, behind_kept, letters_long, letters_short}
+use Rattle.recovery.proofs.FormatLemmas.{on_any, caused}
 use Rattle.recovery.specs.Formats.{IsHeadOf}
 use Rattle.recovery.proofs.formatting.write_head.Goals as goal
 
@@ -15,27 +16,32 @@ returns-in_err-write_at-2-clause-stop g c = λ shut.
     (past_letters g.D.Disk.may_leave g.D.Disk.moment g.D.Disk.left_since c.args.disk.now
     (g.met.D.Disk.only_now c.args.disk.now) shut
     _ (c.write_at.ensures.stop, c.write_at.ensures.time)
-    _ (c.write_at-2.ensures.stop, c.write_at-2.ensures.time)).since
+    _ _ (letters_short c.args.version _ c.letters.ensures)
+    (c.write_at-2.ensures.stop, c.write_at-2.ensures.time)).since
 
 pub returns-in_err-write_at-3-clause-stop : goal.returns-in_err-write_at-3-clause-stop
 returns-in_err-write_at-3-clause-stop g c = λ shut.
     (past_area g.D.Disk.may_leave g.D.Disk.moment g.D.Disk.left_since c.args.disk.now
     (g.met.D.Disk.only_now c.args.disk.now) shut
     _ (c.write_at.ensures.stop, c.write_at.ensures.time)
-    _ (c.write_at-2.ensures.stop, c.write_at-2.ensures.time)
+    _ _ (letters_short c.args.version _ c.letters.ensures)
+    (c.write_at-2.ensures.stop, c.write_at-2.ensures.time)
     _ _ (c.write_at-3.ensures.stop, c.write_at-3.ensures.time)).since
 
 pub returns-clause-head : goal.returns-clause-head
 returns-clause-head g c =
-    let done = head_written c.args.area _ c.to_be_bytes.result _ _ _ _ _ c.requires refl
+    let done = head_written c.args.version c.args.area _ c.to_be_bytes.result _ _ _ _ _ c.requires
+    (letters_long c.args.version _ c.letters.ensures)
     (ap length c.to_be_bytes.ensures) refl c.in_ok-write_at.ensures.written
-    c.in_ok-write_at-2.ensures.written c.in_ok-write_at-3.ensures.written refl
+    c.in_ok-write_at-2.ensures.written c.in_ok-write_at-3.ensures.written c.letters.ensures
     c.to_be_bytes.ensures in
-    on_any c.sync.result (subst (IsHeadOf c.args.area) (sym c.sync.ensures.seen) done)
+    on_any c.sync.result (subst (IsHeadOf c.args.version c.args.area) (sym c.sync.ensures.seen)
+    done)
 
 pub returns-clause-behind : goal.returns-clause-behind
 returns-clause-behind g c =
-    let done = behind_kept c.args.area (codes "BOOSTED1") c.to_be_bytes.result _ _ _ _ _ c.requires refl
+    let done = behind_kept c.args.version c.args.area _ c.to_be_bytes.result _ _ _ _ _ c.requires
+    (letters_long c.args.version _ c.letters.ensures)
     (ap length c.to_be_bytes.ensures) refl c.in_ok-write_at.ensures.written
     c.in_ok-write_at-2.ensures.written c.in_ok-write_at-3.ensures.written in
     on_any c.sync.result
@@ -49,7 +55,8 @@ returns-clause-stop g c = λ shut.
     (past_area g.D.Disk.may_leave g.D.Disk.moment g.D.Disk.left_since c.args.disk.now
     (g.met.D.Disk.only_now c.args.disk.now) shut
     _ (c.write_at.ensures.stop, c.write_at.ensures.time)
-    _ (c.write_at-2.ensures.stop, c.write_at-2.ensures.time)
+    _ _ (letters_short c.args.version _ c.letters.ensures)
+    (c.write_at-2.ensures.stop, c.write_at-2.ensures.time)
     _ _ (c.write_at-3.ensures.stop, c.write_at-3.ensures.time))
     c.sync.ensures.stop c.sync.ensures.time).since
 

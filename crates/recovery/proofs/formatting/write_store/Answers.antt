@@ -13,15 +13,17 @@ returns-in_err-fill-clause-stop g c =
     let shut = shut_at_rest g.D.Disk.seen g.D.Disk.may_leave c.write_and_sync.new.disk
     c.in_ok-write_and_sync.ensures.durable closed in
     filling g.D.Disk.seen g.D.Disk.may_leave g.D.Disk.moment g.D.Disk.left_since
-    c.args.disk.now c.write_and_sync.new.disk c.fill.new.disk IsEmptyStore rest
+    c.args.disk.now c.write_and_sync.new.disk c.fill.new.disk (IsEmptyStore c.args.version)
+    rest
     c.write_and_sync.ensures.any_moment (c.fill.ensures.stop shut)
 
 pub returns-clause-empty : goal.returns-clause-empty
 returns-clause-empty g c =
-    let room = still_room c.args.area _ _ _ c.requires c.write_and_sync.ensures.seen.size
+    let room = still_room c.args.version c.args.area _ _ _ c.requires
+    c.write_and_sync.ensures.seen.size
     c.fill.ensures.size in
     ok_then c.write_and_sync-2.result c.write_and_sync-2.ensures.written
-    (λ written. empty_store c.args.area (g.D.Disk.seen c.fill.new.disk)
+    (λ written. empty_store c.args.version c.args.area (g.D.Disk.seen c.fill.new.disk)
     (g.D.Disk.seen c.write_and_sync-2.new.disk) room c.in_ok-fill.ensures.filled
     c.write_and_sync-2.ensures.seen
     (byte_written 8 167 (g.D.Disk.seen c.fill.new.disk) (g.D.Disk.seen c.write_and_sync-2.new.disk)
@@ -35,13 +37,15 @@ returns-clause-stop g c =
     c.in_ok-write_and_sync.ensures.written in
     let shut = shut_at_rest g.D.Disk.seen g.D.Disk.may_leave c.write_and_sync.new.disk
     c.in_ok-write_and_sync.ensures.durable closed in
-    let room = still_room c.args.area _ _ _ c.requires c.write_and_sync.ensures.seen.size
+    let room = still_room c.args.version c.args.area _ _ _ c.requires
+    c.write_and_sync.ensures.seen.size
     c.fill.ensures.size in
     opening g.D.Disk.seen g.D.Disk.may_leave g.D.Disk.moment g.D.Disk.left_since
-    c.args.disk.now c.write_and_sync.new.disk c.fill.new.disk IsEmptyStore rest
+    c.args.disk.now c.write_and_sync.new.disk c.fill.new.disk (IsEmptyStore c.args.version)
+    rest
     c.write_and_sync.ensures.any_moment
     c.write_and_sync-2.new.disk (c.fill.ensures.stop shut) c.in_ok-fill.ensures.durable
-    (λ bytes. store_or_none c.args.area _ bytes room c.in_ok-fill.ensures.filled)
+    (λ bytes. store_or_none c.args.version c.args.area _ bytes room c.in_ok-fill.ensures.filled)
     c.write_and_sync-2.ensures.any_moment
 
 pub returns-clause-durable : goal.returns-clause-durable

@@ -4,8 +4,9 @@ use Rattle.byteorder.specs.Endian.{big_number}
 use Rattle.recovery.proofs.HeadLemmas.{size_said}
 use Rattle.recovery.proofs.head.said_size.Goals as goal
 
-pub returns-then-whole-size-clause-some : goal.returns-then-whole-size-clause-some
-returns-then-whole-size-clause-some c =
+pub returns-then-is_size-clause-some : goal.returns-then-is_size-clause-some
+returns-then-is_size-clause-some c =
+    let room = c.is_size.ensures.0 c.if-is_size.true in
     let marked = c.is_marked.ensures.0 c.if-is_marked.true in
     let all : take (length c.args.head.now - 9) (drop 9 c.args.head.now) ≡ drop 9 c.args.head.now =
     take_all (length c.args.head.now - 9) (drop 9 c.args.head.now)
@@ -20,7 +21,7 @@ returns-then-whole-size-clause-some c =
       gate = marked.1;
       area = size_said c.args.head.now c.read_u64-size.result c.requires
           (λ i. (c.type_inv.head i).fits) said;
-      not_small = omega (arith, c.if-size-ge-MIN_AREA.true);
-      not_large = omega (arith, c.if-size-le-MAX_AREA.true);
-      whole = c.if-whole-size.true;
+      not_small = room.not_small;
+      not_large = room.not_large;
+      whole = room.whole;
     }

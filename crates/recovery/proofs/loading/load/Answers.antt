@@ -44,7 +44,7 @@ returns-in_err-repetition-in-Ok-Some-clause-refused g c =
 pub loop-body-init : goal.loop-body-init
 loop-body-init g c =
     loading_starts g.D.Disk.seen g.D.Disk.may_leave g.D.Disk.moment g.D.Disk.left_since
-    g.D.Disk.is_honest g.D.Disk.fault_count c.args.disk.now c.args.base c.args.size
+    g.D.Disk.is_honest g.D.Disk.fault_count c.args.disk.now c.args.version c.args.base c.args.size
     c.start-area.result _ _ _
     (g.met.D.Disk.only_now c.args.disk.now) c.start-area.ensures.base c.start-area.ensures.size
     c.start-area.ensures.position c.start-area.ensures.failed c.new-repetition.ensures.kind

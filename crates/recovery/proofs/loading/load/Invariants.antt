@@ -7,7 +7,7 @@ abbrev pub invariant-loop-body : goal.invariant-loop-body
 invariant-loop-body g l =
     IsLoading g.D.Disk.seen g.D.Disk.may_leave g.D.Disk.moment g.D.Disk.left_since
     g.D.Disk.is_honest g.D.Disk.fault_count
-    l.fn.disk l.disk l.fn.base l.fn.size l.area l.repetition.kind l.repetition.stage
+    l.fn.disk l.disk l.fn.version l.fn.base l.fn.size l.area l.repetition.kind l.repetition.stage
     l.repetition.next l.place l.image
 
 abbrev pub decreases-loop-body : goal.decreases-loop-body

@@ -2,6 +2,7 @@ use Rattle.std.proofs.Common.{sym, subst, true≢false}
 use Rattle.std.specs.Prelude.{IfErr}
 use Rattle.std.proofs.lemmas.Result.{IfErr-weaker}
 use Rattle.boosted.specs.Kinds.{IsOf, IsWrong}
+use Rattle.calls.specs.Formats.{widest}
 use Rattle.boosted.specs.Meaning.{AskRefusal}
 use Rattle.catalog.specs.Holdings.{content_of}
 use Rattle.catalog.proofs.Entries.{belongs_there, kind_there, asked_there, none_at, none_past}
@@ -31,7 +32,7 @@ returns-in-Some-clause-err c =
     let call = c.args.call.now in
     IfErr-weaker c.check_asked.result _ _
     (asked_there c.args.self.now c.args.at k call c.in-Some.ensures)
-    (subst (λ j. IfErr c.check_asked.result (AskRefusal (IsOf j call) (IsWrong j call) call))
+    (subst (λ j. IfErr c.check_asked.result (AskRefusal widest (IsOf j call) (IsWrong j call) call))
     c.kind.ensures c.check_asked.ensures.err)
 
 pub returns-in-None-clause-ok : goal.returns-in-None-clause-ok

@@ -11,7 +11,7 @@ use Rattle.gathering.proofs.gathering.Gathering.back.Goals as goal
 
 -- the laws of the collections
 laws : (g : Over) → BookLaws g.B.Boosted.meaning g.B.Parts.making
-    (λ s. AreShort (g.B.Parts.collections s))
+    (λ f s. AreShort f (g.B.Parts.collections s))
 laws g = book_laws g.met.B.Boosted.laws g.met.B.Parts.laws g.met.B.Coded.told
 
 pub returns-then-not-self-clause-noted : goal.returns-then-not-self-clause-noted
@@ -20,7 +20,7 @@ returns-then-not-self-clause-noted g c =
     let meaning = g.B.Boosted.meaning in
     on_ok_weaker c.back.result
     (λ (row : BackRow meaning c.args.machine.now c.args.number c.back.new.self). let u =
-    row_undoing meaning g.B.Parts.making (λ s. AreShort (g.B.Parts.collections s))
+    row_undoing meaning g.B.Parts.making (λ f s. AreShort f (g.B.Parts.collections s))
     (laws g) c.args.machine.now c.back.new.self c.upheld.ensures c.args.number c.args.position
     row in
     record {

@@ -1,3 +1,4 @@
+use Rattle.calls.specs.Formats.{widest}
 use Rattle.std.proofs.Common.{map, sym, ◌∙◌, ap, subst, ◌≡◌}
 use Rattle.std.specs.List.{AllByRecursion}
 use Rattle.boosted.proofs.Each.{weaker}
@@ -14,7 +15,7 @@ use Rattle.gathering.proofs.gathering.Gathering.commit.Goals as goal
 
 -- the laws of the collections
 laws : (g : Over) → BookLaws g.B.Boosted.meaning g.B.Parts.making
-    (λ s. AreShort (g.B.Parts.collections s))
+    (λ f s. AreShort f (g.B.Parts.collections s))
 laws g = book_laws g.met.B.Boosted.laws g.met.B.Parts.laws g.met.B.Coded.told
 
 pub note_all-requires-clause-short : goal.note_all-requires-clause-short
@@ -25,7 +26,7 @@ note_all-requires-clause-short g c =
     (λ (e : Event). Disposable e.call) (λ e l. l.0) ls
     (laters_disposable g.B.Boosted.meaning g.B.Parts.making (laws g).rules s c.upheld.ensures.holds
     c.args.number) in
-    subst (AllByRecursion (λ e. IsShort e.call))
+    subst (AllByRecursion (λ e. IsShort widest e.call))
     (sym (c.in_ok-laters.ensures.ok ∙ ap (λ es. map (effect_at c.args.position) (laters_of es))
     (c.entries_of-entries.ensures ∙ ap (own c.args.number) c.live.ensures.entries)))
     (each_short c.args.position ls (late_short ls late))

@@ -1,5 +1,6 @@
 use Rattle.std.proofs.Common.{ℕ, sym, ◌∙◌, ap, subst}
 use Rattle.std.specs.List.{AllByRecursion}
+use Rattle.calls.specs.Formats.{widest}
 use Rattle.calls.specs.Transactions.{Entry}
 use Rattle.undo_log.specs.Logs.{Lives}
 use Rattle.boosted.proofs.Each.{each_both}
@@ -7,6 +8,7 @@ use Rattle.record_format.specs.Records.{IsNumber}
 use Rattle.record_format.specs.Short.{AreShort}
 use Rattle.machine.specs.Machines.{IsAskedEntry}
 use Rattle.machine.proofs.BookLaws.{BookLaws, book_laws}
+use Rattle.machine.proofs.ShortValues.{widest_entry}
 use Rattle.machine.proofs.Steps as steps
 use Rattle.images.specs.declared.gather.Marks.{Marks}
 use Rattle.images.specs.Gathers.{GatherState, gathered, caught_up}
@@ -19,20 +21,20 @@ use Rattle.gathering.proofs.gathering.Gathering.freeze.Goals as goal
 
 -- the laws of the collections
 laws : (g : Over) → BookLaws g.B.Boosted.meaning g.B.Parts.making
-    (λ s. AreShort (g.B.Parts.collections s))
+    (λ f s. AreShort f (g.B.Parts.collections s))
 laws g = book_laws g.met.B.Boosted.laws g.met.B.Parts.laws g.met.B.Coded.told
 
 abbrev IsGood : ℕ × Entry → Type 0
-IsGood e = IsNumber e.0 × IsAskedEntry e.1
+IsGood e = IsNumber e.0 × IsAskedEntry widest e.1
 
 pub freeze-requires-clause-asked : goal.freeze-requires-clause-asked
 freeze-requires-clause-asked g c =
     let s = c.args.machine.now in
     let up = c.upheld.ensures in
     subst (AllByRecursion IsGood) (sym c.live.ensures.entries)
-    (each_both (λ e. Lives s.live e.0) (λ e. IsAskedEntry e.1) IsGood s.entries
+    (each_both (λ e. Lives s.live e.0) (λ e. IsAskedEntry s.format e.1) IsGood s.entries
     (steps.alive g.B.Boosted.meaning g.B.Parts.making (laws g).rules s up.holds) up.asked
-    (λ e lives asked. (up.numbers e.0 lives, asked)))
+    (λ e lives asked. (up.numbers e.0 lives, widest_entry s.format e.1 asked)))
 
 pub returns-clause-holds : goal.returns-clause-holds
 returns-clause-holds g c =
@@ -46,12 +48,31 @@ returns-clause-holds g c =
     (sym c.self.view_is) c.requires.along in
     record {
       frozen = record {
-        marks = record { next = c.args.next; wear = c.wear.result; end = p; place = c.args.place };
+        marks = record {
+          format = c.format.result;
+          next = c.args.next;
+          wear = c.wear.result;
+          end = p;
+          place = c.args.place;
+        };
         live = froze.records;
       };
       is_frozen = ap (λ (h : GatherState). h.frozen) froze.is;
-      marks = ap (λ w. let m : Marks =
-          record { next = c.args.next; wear = w; end = p; place = c.args.place } in m)
+      marks = ap (λ f. let m : Marks = record {
+        format = f;
+        next = c.args.next;
+        wear = c.wear.result;
+        end = p;
+        place = c.args.place;
+      } in m) c.format.ensures
+          ∙ ap (λ w. let m : Marks =
+          record {
+            format = s.format;
+            next = c.args.next;
+            wear = w;
+            end = p;
+            place = c.args.place;
+          } in m)
           c.wear.ensures;
       tells = subst (λ es. TellsTransactions s.live es froze.records) c.live.ensures.entries
           (subst (λ l. TellsTransactions l c.live.result.now.entries froze.records)

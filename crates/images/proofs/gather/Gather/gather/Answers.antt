@@ -1,3 +1,4 @@
+use Rattle.calls.specs.Formats.{widest}
 use Rattle.std.proofs.Common.{◌≤◌, ◌++◌, ◌∷◌, [], IfSome, subst, sym}
 use Rattle.std.specs.List.{AllByRecursion}
 use Rattle.std.proofs.lemmas.List.{map-append}
@@ -24,7 +25,7 @@ invariant_of-self-2 g c =
       | in-Some w ↦
           let added : Stamped g.row.P.Denot =
           record { part = w.in-Some.part; stamp = c.args.stamp } in
-          let short = subst (λ o. IfSome o (λ p. HoldsShort (g.P.Part.collection p).content))
+          let short = subst (λ o. IfSome o (λ p. HoldsShort widest (g.P.Part.collection p).content))
           w.in-Some.is c.requires.short in
           rw (
             w.self-inside-is,

@@ -22,7 +22,8 @@ returns-clause-ok g c =
     record {
       frozen = frozen_of f;
       is_frozen = ap (option_map frozen_of) c.in-Some.is;
-      packed = subst (λ ps. IsPacked (TellsGathered f.marks.next f.marks.wear (gathered ps)
+      packed = subst (λ ps. IsPacked (TellsGathered f.marks.format f.marks.next f.marks.wear
+          (gathered ps)
           f.live.items) c.in_ok-pack-in-Some.field-0.items) same
           c.in_ok-pack-in-Some.ensures.image;
       end = refl;

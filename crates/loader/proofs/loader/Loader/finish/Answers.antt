@@ -14,7 +14,7 @@ use Rattle.loader.proofs.loader.Loader.finish.Goals as goal
 
 -- the laws of the collections
 laws : (g : Over) → BookLaws g.B.Boosted.meaning g.B.Parts.making
-    (λ s. AreShort (g.B.Parts.collections s))
+    (λ f s. AreShort f (g.B.Parts.collections s))
 laws g = book_laws g.met.B.Boosted.laws g.met.B.Parts.laws g.met.B.Coded.told
 
 pub redo-requires : goal.redo-requires
@@ -22,7 +22,7 @@ redo-requires g c =
     let noted = ap (λ log. let l : Log = log in l.entries) c.live.ensures in
     subst (λ l. HasRoomBack g.B.Boosted.meaning (calls_of (map (λ e. e.1) l)) c.self.inside.parts)
     (sym noted) (room_back g.B.Boosted.meaning g.B.Parts.making
-    (λ s. AreShort (g.B.Parts.collections s)) (laws g) _ c.self.invariant.0)
+    (λ f s. AreShort f (g.B.Parts.collections s)) (laws g) _ c.self.invariant.0)
 
 pub of_parts-requires : goal.of_parts-requires
 of_parts-requires g c =
@@ -34,9 +34,10 @@ of_parts-requires g c =
     let settled = subst (λ l. Leads (Does g.B.Boosted.meaning) (calls_of (map (λ e. e.1) l))
     done.1.0 i.parts) noted done.1.1 in
     subst (λ v. IsUpheld g.B.Boosted.meaning g.B.Parts.making
-    (λ s. AreShort (g.B.Parts.collections s)) (IsSound g.B.Boosted.meaning g.B.Parts.making)
-    (state_with v i.ledger i.wear)) (sym done.0)
-    (settled_upheld g.B.Boosted.meaning g.B.Parts.making (λ s. AreShort (g.B.Parts.collections s))
+    (λ f s. AreShort f (g.B.Parts.collections s)) (IsSound g.B.Boosted.meaning g.B.Parts.making)
+    (state_with i.format v i.ledger i.wear)) (sym done.0)
+    (settled_upheld g.B.Boosted.meaning g.B.Parts.making
+    (λ f s. AreShort f (g.B.Parts.collections s))
     (laws g) _ c.self.invariant.0 done.1.0 settled)
 
 pub returns-clause-machine : goal.returns-clause-machine

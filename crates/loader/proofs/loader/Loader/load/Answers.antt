@@ -1,7 +1,7 @@
 use Rattle.std.proofs.Common.{Ok, refl, sym, ◌∙◌, ap, subst}
 use Rattle.std.specs.List.{AllByRecursion}
 use Rattle.record_format.specs.Reached.{IsReached}
-use Rattle.record_format.specs.Short.{AreShort}
+use Rattle.record_format.specs.Short.{AreShort, IsShortItem}
 use Rattle.records.proofs.Items.{short_loaded}
 use Rattle.machine.specs.Machine.{State}
 use Rattle.machine.specs.Machines.{unmade}
@@ -17,14 +17,14 @@ use Rattle.loader.proofs.loader.Loader.load.Goals.{in-Ok, in-Err}
 
 -- the laws of the collections
 laws : (g : Over) → BookLaws g.B.Boosted.meaning g.B.Parts.making
-    (λ s. AreShort (g.B.Parts.collections s))
+    (λ f s. AreShort f (g.B.Parts.collections s))
 laws g = book_laws g.met.B.Boosted.laws g.met.B.Parts.laws g.met.B.Coded.told
 
 pub returns-then-not-are_reached : goal.returns-then-not-are_reached
 returns-then-not-are_reached g c =
     let i = c.self.inside in
     let none = read_unreached g.B.Parts.collections g.B.Boosted.meaning g.B.Parts.making
-    g.met.B.Coded.told i.parts (needs_of i.ledger) (log_of i.ledger) i.wear c.args.name.now
+    g.met.B.Coded.told i.format i.parts (needs_of i.ledger) (log_of i.ledger) i.wear c.args.name.now
     c.args.kind c.args.items.items
     (λ reached. let yes = c.are_reached.ensures.1
     (subst (AllByRecursion (IsReached i.wear)) (sym c.as_slice.ensures.value) reached) in
@@ -43,14 +43,19 @@ reached g c = subst (AllByRecursion (IsReached c.self.inside.wear)) c.as_slice.e
 
 pub invariant_of-self : goal.invariant_of-self
 invariant_of-self g c = (
-  read_kept g.B.Boosted.meaning g.B.Parts.making (λ s. AreShort (g.B.Parts.collections s)) (laws g)
+  read_kept g.B.Boosted.meaning g.B.Parts.making (λ f s. AreShort f (g.B.Parts.collections s))
+      (laws g)
       g.B.Parts.collections g.met.B.Coded.told
-      (λ s t name kind items loads. short_loaded (g.B.Parts.collections s) (g.B.Parts.collections t)
+      (λ f s t name kind items loads. short_loaded f (g.B.Parts.collections s)
+      (g.B.Parts.collections t)
       name kind items loads)
-      c.self.inside.parts (needs_of c.self.inside.ledger) (log_of c.self.inside.ledger)
+      c.self.inside.format c.self.inside.parts (needs_of c.self.inside.ledger)
+      (log_of c.self.inside.ledger)
       c.self.inside.wear c.args.name.now c.args.kind c.args.items.items c.load.new.self
       c.load.result c.self.invariant.0
-      (ap (λ (s : State _). s.live) c.self.view_is ∙ c.requires.none_live) c.requires.short
+      (ap (λ (s : State _). s.live) c.self.view_is ∙ c.requires.none_live)
+      (subst (λ (s : State _). AllByRecursion (IsShortItem s.format) c.args.items.items)
+      (sym c.self.view_is) c.requires.short)
       (reached g c) c.load.ensures.new c.load.ensures.loads c.load.ensures.not
       c.load.ensures.as_before,
   c.self.invariant.1,
@@ -64,9 +69,9 @@ returns g c =
           (subst (λ (s : State _). LoadAnswers
           (LoadRow g.B.Parts.collections g.B.Boosted.meaning g.B.Parts.making s c.args.name.now
           c.args.kind c.args.items.items) s (Ok w.in-Ok.loaded)
-          (state_with c.load.new.self i.ledger i.wear)) c.self.view_is
+          (state_with i.format c.load.new.self i.ledger i.wear)) c.self.view_is
           (read_answered g.B.Parts.collections g.B.Boosted.meaning g.B.Parts.making
-          g.met.B.Coded.told i.parts (needs_of i.ledger) (log_of i.ledger) i.wear
+          g.met.B.Coded.told i.format i.parts (needs_of i.ledger) (log_of i.ledger) i.wear
           c.args.name.now c.args.kind c.args.items.items
           c.load.new.self w.in-Ok.loaded (reached g c) c.self.invariant.0.reached
           w.in-Ok.ensures.new w.in-Ok.ensures.loads w.in-Ok.ensures.not))
@@ -74,9 +79,9 @@ returns g c =
           (subst (λ (s : State _). LoadAnswers
           (LoadRow g.B.Parts.collections g.B.Boosted.meaning g.B.Parts.making s c.args.name.now
           c.args.kind c.args.items.items) s (unmade w.in-Err.refusal)
-          (state_with c.load.new.self i.ledger i.wear)) c.self.view_is
+          (state_with i.format c.load.new.self i.ledger i.wear)) c.self.view_is
           (read_refused g.B.Parts.collections g.B.Boosted.meaning g.B.Parts.making
-          g.met.B.Coded.told i.parts (needs_of i.ledger) (log_of i.ledger) i.wear
+          g.met.B.Coded.told i.format i.parts (needs_of i.ledger) (log_of i.ledger) i.wear
           c.args.name.now c.args.kind c.args.items.items
           c.load.new.self w.in-Err.refusal w.in-Err.ensures.as_before w.in-Err.ensures.err))
     ]

@@ -15,7 +15,7 @@ use Rattle.loader.proofs.loader.Loader.note_call.Goals as goal
 
 -- the laws of the collections
 laws : (g : Over) → BookLaws g.B.Boosted.meaning g.B.Parts.making
-    (λ s. AreShort (g.B.Parts.collections s))
+    (λ f s. AreShort f (g.B.Parts.collections s))
 laws g = book_laws g.met.B.Boosted.laws g.met.B.Parts.laws g.met.B.Coded.told
 
 pub note_call-requires-clause-clear : goal.note_call-requires-clause-clear
@@ -30,15 +30,15 @@ note_call-requires-clause-clear g c =
 
 -- what was noted
 step : (g : Over) (c : goal.After-note_call g) → let i = c.self.inside in
-    HeldCallRow g.B.Boosted.meaning (state_with i.parts i.ledger i.wear) c.args.number
-    (event_of c.args.asked) (state_with i.parts c.note_call.new.self i.wear)
+    HeldCallRow g.B.Boosted.meaning (state_with i.format i.parts i.ledger i.wear) c.args.number
+    (event_of c.args.asked) (state_with i.format i.parts c.note_call.new.self i.wear)
 step g c =
     let i = c.self.inside in
     let n = c.args.number in
     let e = event_of c.args.asked in
     let can = subst (λ (s : State _). CanHoldCall g.B.Boosted.meaning s n e) (sym c.self.view_is)
     c.requires.can in
-    held_row i.parts (needs_of i.ledger) (log_of i.ledger) i.wear n g.B.Boosted.meaning e
+    held_row i.format i.parts (needs_of i.ledger) (log_of i.ledger) i.wear n g.B.Boosted.meaning e
     c.reserve.new.self.holds (needs_of c.note_call.new.self) (log_of c.reserve.new.self)
     (log_of c.note_call.new.self) can
     c.in_ok-reserve.ensures.holds (subst
@@ -49,9 +49,9 @@ step g c =
 
 pub invariant_of-self-2 : goal.invariant_of-self-2
 invariant_of-self-2 g c = (
-  call_upheld g.B.Boosted.meaning g.B.Parts.making (λ s. AreShort (g.B.Parts.collections s))
+  call_upheld g.B.Boosted.meaning g.B.Parts.making (λ f s. AreShort f (g.B.Parts.collections s))
       (laws g) _ c.self.invariant.0 c.args.number (event_of c.args.asked) _ c.requires.pairs
-      c.requires.short (step g c),
+      (step g c),
   subst (λ l. IsLast l c.self.inside.last)
       (sym (c.note_call.ensures.live ∙ c.in_ok-reserve.ensures.live)) c.self.invariant.1,
 )

@@ -13,20 +13,21 @@ use Rattle.loader.proofs.loader.Loader.note_later.Goals as goal
 
 -- the laws of the collections
 laws : (g : Over) → BookLaws g.B.Boosted.meaning g.B.Parts.making
-    (λ s. AreShort (g.B.Parts.collections s))
+    (λ f s. AreShort f (g.B.Parts.collections s))
 laws g = book_laws g.met.B.Boosted.laws g.met.B.Parts.laws g.met.B.Coded.told
 
 -- what was noted
 step : (g : Over) (c : goal.After-note_later g) → let i = c.self.inside in
-    HeldLaterRow g.B.Boosted.meaning (state_with i.parts i.ledger i.wear) c.args.number
-    c.args.put.at c.args.put.call (state_with i.parts c.note_later.new.self i.wear)
+    HeldLaterRow g.B.Boosted.meaning (state_with i.format i.parts i.ledger i.wear) c.args.number
+    c.args.put.at c.args.put.call (state_with i.format i.parts c.note_later.new.self i.wear)
 step g c =
     let i = c.self.inside in
     let n = c.args.number in
     let put = c.args.put in
     let can = subst (λ (s : State _). CanHoldLater g.B.Boosted.meaning s n put.at put.call)
     (sym c.self.view_is) c.requires in
-    held_later_row i.parts (needs_of i.ledger) (log_of i.ledger) i.wear n g.B.Boosted.meaning put.at
+    held_later_row i.format i.parts (needs_of i.ledger) (log_of i.ledger) i.wear n
+    g.B.Boosted.meaning put.at
     put.call c.reserve.new.self.holds (needs_of c.note_later.new.self)
     (log_of c.reserve.new.self) (log_of c.note_later.new.self) can
     c.in_ok-reserve.ensures.holds (subst
@@ -37,7 +38,7 @@ step g c =
 
 pub invariant_of-self-2 : goal.invariant_of-self-2
 invariant_of-self-2 g c = (
-  later_upheld g.B.Boosted.meaning g.B.Parts.making (λ s. AreShort (g.B.Parts.collections s))
+  later_upheld g.B.Boosted.meaning g.B.Parts.making (λ f s. AreShort f (g.B.Parts.collections s))
       (laws g) _ c.self.invariant.0 c.args.number c.args.put.at c.args.put.call _ (step g c),
   subst (λ l. IsLast l c.self.inside.last)
       (sym (c.note_later.ensures.live ∙ c.in_ok-reserve.ensures.live)) c.self.invariant.1,

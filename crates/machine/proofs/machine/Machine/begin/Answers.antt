@@ -13,28 +13,29 @@ use Rattle.machine.proofs.machine.Machine.begin.Goals as goal
 
 -- the laws of the collections
 laws : (g : Over) → BookLaws g.B.Boosted.meaning g.B.Parts.making
-    (λ s. AreShort (g.B.Parts.collections s))
+    (λ f s. AreShort f (g.B.Parts.collections s))
 laws g = book_laws g.met.B.Boosted.laws g.met.B.Parts.laws g.met.B.Coded.told
 
 -- the step that was taken
 step : (g : Over) (c : goal.After-self-1 g) → let i = c.self.inside in
-    BeginRow (state_with i.parts i.ledger i.wear) c.args.number
-    (state_with i.parts c.enter.new.self (i.wear + 1))
+    BeginRow (state_with i.format i.parts i.ledger i.wear) c.args.number
+    (state_with i.format i.parts c.enter.new.self (i.wear + 1))
 step g c =
     let i = c.self.inside in
     let room = subst (λ (s : State _). HasRoomFor s 0) (sym c.self.view_is) c.requires.room in
     record {
       can = subst (λ (s : State _). CanBegin s c.args.number) (sym c.self.view_is) c.requires.can;
       room = omega arith;
-      is = sym (still_held i.parts (needs_of i.ledger) (needs_of c.enter.new.self)
+      is = sym (still_held i.format i.parts (needs_of i.ledger) (needs_of c.enter.new.self)
           (log_of c.enter.new.self) (i.wear + 1) c.in_ok-enter.ensures.holds)
-          ∙ begun_is i.parts (needs_of i.ledger) (log_of i.ledger) i.wear c.args.number
+          ∙ begun_is i.format i.parts (needs_of i.ledger) (log_of i.ledger) i.wear c.args.number
           (log_of c.enter.new.self) c.in_ok-enter.ensures.live c.in_ok-enter.ensures.entries;
     }
 
 pub invariant_of-self-2 : goal.invariant_of-self-2
 invariant_of-self-2 g c = begin_upheld g.B.Boosted.meaning g.B.Parts.making
-    (λ s. AreShort (g.B.Parts.collections s)) (laws g) _ c.self.invariant c.args.number _ (step g c)
+    (λ f s. AreShort f (g.B.Parts.collections s)) (laws g) _ c.self.invariant c.args.number _
+    (step g c)
 
 pub returns-clause-ok : goal.returns-clause-ok
 returns-clause-ok g c = rw (← c.self.view_is) (step g c)

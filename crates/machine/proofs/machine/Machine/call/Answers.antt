@@ -14,13 +14,13 @@ use Rattle.machine.proofs.machine.Machine.call.Goals as goal
 
 -- the laws of the collections
 laws : (g : Over) → BookLaws g.B.Boosted.meaning g.B.Parts.making
-    (λ s. AreShort (g.B.Parts.collections s))
+    (λ f s. AreShort f (g.B.Parts.collections s))
 laws g = book_laws g.met.B.Boosted.laws g.met.B.Parts.laws g.met.B.Coded.told
 
 -- the step that was taken
 step : (g : Over) (c : goal.After-self-1 g) → let i = c.self.inside in
-    CallRow g.B.Boosted.meaning (state_with i.parts i.ledger i.wear) c.args.number
-    (event_of c.args.asked) (state_with c.run.new.self c.note_call.new.self (i.wear + 1))
+    CallRow g.B.Boosted.meaning (state_with i.format i.parts i.ledger i.wear) c.args.number
+    (event_of c.args.asked) (state_with i.format c.run.new.self c.note_call.new.self (i.wear + 1))
 step g c =
     let i = c.self.inside in
     let n = c.args.number in
@@ -28,7 +28,7 @@ step g c =
     let can = subst (λ (s : State _). CanCall g.B.Boosted.meaning s n e) (sym c.self.view_is)
     c.requires.can in
     let room = subst (λ (s : State _). HasRoomFor s 1) (sym c.self.view_is) c.requires.room in
-    called_row i.parts (needs_of i.ledger) (log_of i.ledger) i.wear n g.B.Boosted.meaning e
+    called_row i.format i.parts (needs_of i.ledger) (log_of i.ledger) i.wear n g.B.Boosted.meaning e
     c.run.new.self c.reserve.new.self.holds (needs_of c.note_call.new.self)
     (log_of c.reserve.new.self) (log_of c.note_call.new.self) can room
     c.in_ok-reserve.ensures.holds (subst
@@ -39,7 +39,7 @@ step g c =
 
 pub invariant_of-self-2 : goal.invariant_of-self-2
 invariant_of-self-2 g c = call_upheld g.B.Boosted.meaning g.B.Parts.making
-    (λ s. AreShort (g.B.Parts.collections s)) (laws g) _ c.self.invariant c.args.number
+    (λ f s. AreShort f (g.B.Parts.collections s)) (laws g) _ c.self.invariant c.args.number
     (event_of c.args.asked) _ (step g c)
 
 pub returns-clause-ok : goal.returns-clause-ok

@@ -13,13 +13,13 @@ use Rattle.machine.proofs.machine.Machine.ended.Goals as goal
 
 -- the laws of the collections
 laws : (g : Over) → BookLaws g.B.Boosted.meaning g.B.Parts.making
-    (λ s. AreShort (g.B.Parts.collections s))
+    (λ f s. AreShort f (g.B.Parts.collections s))
 laws g = book_laws g.met.B.Boosted.laws g.met.B.Parts.laws g.met.B.Coded.told
 
 -- the transaction is taken out
 step : (g : Over) (c : goal.After-remove g) → let i = c.self.inside in
-    EndedRow (state_with i.parts i.ledger i.wear) c.args.number
-    (state_with i.parts c.remove.new.self i.wear)
+    EndedRow (state_with i.format i.parts i.ledger i.wear) c.args.number
+    (state_with i.format i.parts c.remove.new.self i.wear)
 step g c =
     let i = c.self.inside in
     record {
@@ -27,14 +27,15 @@ step g c =
           c.requires.live;
       undone = subst (λ (s : State _). HasNoCall c.args.number s.entries) (sym c.self.view_is)
           c.requires.undone;
-      left = left_row i.parts (needs_of i.ledger) (log_of i.ledger) i.wear c.args.number
+      left = left_row i.format i.parts (needs_of i.ledger) (log_of i.ledger) i.wear c.args.number
           (needs_of c.remove.new.self) (log_of c.remove.new.self) c.remove.ensures.live
           c.remove.ensures.entries c.remove.ensures.holds;
     }
 
 pub invariant_of-self : goal.invariant_of-self
 invariant_of-self g c = ended_upheld g.B.Boosted.meaning g.B.Parts.making
-    (λ s. AreShort (g.B.Parts.collections s)) (laws g) _ c.self.invariant c.args.number _ (step g c)
+    (λ f s. AreShort f (g.B.Parts.collections s)) (laws g) _ c.self.invariant c.args.number _
+    (step g c)
 
 pub returns : goal.returns
 returns g c = rw (← c.self.view_is) (step g c)

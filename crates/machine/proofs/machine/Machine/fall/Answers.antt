@@ -14,19 +14,20 @@ use Rattle.machine.proofs.machine.Machine.fall.Goals as goal
 
 -- the laws of the collections
 laws : (g : Over) → BookLaws g.B.Boosted.meaning g.B.Parts.making
-    (λ s. AreShort (g.B.Parts.collections s))
+    (λ f s. AreShort f (g.B.Parts.collections s))
 laws g = book_laws g.met.B.Boosted.laws g.met.B.Parts.laws g.met.B.Coded.told
 
 -- the step that was taken
 step : (g : Over) (c : goal.After-fall g) → let i = c.self.inside in
-    FallRow (state_with i.parts i.ledger i.wear) c.args.number
-    (state_with i.parts c.fall.new.self i.wear)
+    FallRow (state_with i.format i.parts i.ledger i.wear) c.args.number
+    (state_with i.format i.parts c.fall.new.self i.wear)
 step g c =
     let i = c.self.inside in
-    subst (λ (s : State _). FallRow (state_with i.parts i.ledger i.wear) c.args.number s)
-    (still_held i.parts (needs_of i.ledger) (needs_of c.fall.new.self) (log_of c.fall.new.self)
+    subst (λ (s : State _). FallRow (state_with i.format i.parts i.ledger i.wear) c.args.number s)
+    (still_held i.format i.parts (needs_of i.ledger) (needs_of c.fall.new.self)
+    (log_of c.fall.new.self)
     i.wear c.fall.ensures.holds)
-    (fall_done i.parts (needs_of i.ledger) (log_of i.ledger) i.wear c.args.number
+    (fall_done i.format i.parts (needs_of i.ledger) (log_of i.ledger) i.wear c.args.number
     (log_of c.fall.new.self) (subst (λ (s : State _). Lives s.live c.args.number)
     (sym c.self.view_is) c.requires.live)
     (subst (λ (s : State _). HasNoCall c.args.number s.entries) (sym c.self.view_is)
@@ -34,7 +35,8 @@ step g c =
 
 pub invariant_of-self : goal.invariant_of-self
 invariant_of-self g c = fall_upheld g.B.Boosted.meaning g.B.Parts.making
-    (λ s. AreShort (g.B.Parts.collections s)) (laws g) _ c.self.invariant c.args.number _ (step g c)
+    (λ f s. AreShort f (g.B.Parts.collections s)) (laws g) _ c.self.invariant c.args.number _
+    (step g c)
 
 pub returns : goal.returns
 returns g c = rw (← c.self.view_is) (step g c)

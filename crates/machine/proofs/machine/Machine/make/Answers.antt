@@ -11,23 +11,25 @@ use Rattle.machine.proofs.machine.Machine.make.Goals as goal
 
 -- the laws of the collections
 laws : (g : Over) → BookLaws g.B.Boosted.meaning g.B.Parts.making
-    (λ s. AreShort (g.B.Parts.collections s))
+    (λ f s. AreShort f (g.B.Parts.collections s))
 laws g = book_laws g.met.B.Boosted.laws g.met.B.Parts.laws g.met.B.Coded.told
 
 -- the collection is made
 step : (g : Over) (c : goal.Else-prove g) → let i = c.self.inside in
-    MakeRow g.B.Parts.making (state_with i.parts i.ledger i.wear) c.args.name.now c.args.kind
-    (state_with c.make.new.self i.ledger i.wear)
+    MakeRow g.B.Parts.making (state_with i.format i.parts i.ledger i.wear) c.args.name.now
+    c.args.kind
+    (state_with i.format c.make.new.self i.ledger i.wear)
 step g c =
     let i = c.self.inside in
     let made = c.in_ok-at.ensures.ok in
-    made_row g.met.B.Parts.laws i.parts (needs_of i.ledger) (log_of i.ledger) i.wear c.args.name.now
+    made_row g.met.B.Parts.laws i.format i.parts (needs_of i.ledger) (log_of i.ledger) i.wear
+    c.args.name.now
     c.args.kind c.make.new.self c.in_ok-at.at made.0 made.1 (omega (arith, c.if-prove.false))
     made.2
 
 pub invariant_of-self-2 : goal.invariant_of-self-2
 invariant_of-self-2 g c = make_upheld g.B.Boosted.meaning g.B.Parts.making
-    (λ s. AreShort (g.B.Parts.collections s)) (laws g) _ c.self.invariant c.args.name.now
+    (λ f s. AreShort f (g.B.Parts.collections s)) (laws g) _ c.self.invariant c.args.name.now
     c.args.kind _ (step g c)
 
 pub returns-clause-ok : goal.returns-clause-ok

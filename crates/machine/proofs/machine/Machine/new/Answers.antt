@@ -11,15 +11,18 @@ use Rattle.machine.proofs.machine.Machine.new.Goals as goal
 
 -- the laws of the collections
 laws : (g : Over) → BookLaws g.B.Boosted.meaning g.B.Parts.making
-    (λ s. AreShort (g.B.Parts.collections s))
+    (λ f s. AreShort f (g.B.Parts.collections s))
 laws g = book_laws g.met.B.Boosted.laws g.met.B.Parts.laws g.met.B.Coded.told
 
 pub invariant_of-result : goal.invariant_of-result
 invariant_of-result g c =
-    subst (IsUpheld g.B.Boosted.meaning g.B.Parts.making (λ s. AreShort (g.B.Parts.collections s))
+    subst (IsUpheld g.B.Boosted.meaning g.B.Parts.making
+    (λ f s. AreShort f (g.B.Parts.collections s))
     (IsSound g.B.Boosted.meaning g.B.Parts.making))
-    (sym (resting_is c.args.parts (needs_of c.new.result) (log_of c.new.result) c.args.wear
+    (sym (resting_is c.args.format c.args.parts (needs_of c.new.result) (log_of c.new.result)
+    c.args.wear
     c.new.ensures.holds c.new.ensures.live c.new.ensures.entries))
-    (resting_upheld g.B.Boosted.meaning g.B.Parts.making (λ s. AreShort (g.B.Parts.collections s))
-    (laws g) c.args.parts c.args.wear c.requires.within c.requires.worn c.requires.few
+    (resting_upheld g.B.Boosted.meaning g.B.Parts.making
+    (λ f s. AreShort f (g.B.Parts.collections s))
+    (laws g) c.args.format c.args.parts c.args.wear c.requires.within c.requires.worn c.requires.few
     c.requires.short)

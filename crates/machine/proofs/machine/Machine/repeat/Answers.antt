@@ -6,7 +6,7 @@ use Rattle.machine.proofs.machine.Machine.repeat.Goals as goal
 
 -- the laws of the collections
 laws : (g : Over) → BookLaws g.B.Boosted.meaning g.B.Parts.making
-    (λ s. AreShort (g.B.Parts.collections s))
+    (λ f s. AreShort f (g.B.Parts.collections s))
 laws g = book_laws g.met.B.Boosted.laws g.met.B.Parts.laws g.met.B.Coded.told
 
 pub returns : goal.returns

@@ -16,7 +16,7 @@ pub returns-in-Err-clause-err : goal.returns-in-Err-clause-err
 returns-in-Err-clause-err c =
     (unread_damage c.loop-rest.so_far.kind c.args.place c.loop-rest.rest.now c.in-Err.refusal _
     c.in-Err.ensures.refused
-    (λ none rs group reached good is q run.
+    (λ none version rs group reached good is q run.
     unread_is_refused c.args.body.now c.loop-rest.rest.now _ _ _ _ _ _ c.loop-rest.invariant
     (some_left (length c.loop-rest.rest.now) c.is_empty.result c.is_empty.ensures
     c.loop-rest-test.true) none group good is))

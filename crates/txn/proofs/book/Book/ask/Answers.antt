@@ -13,27 +13,26 @@ use Rattle.txn.proofs.book.Book.ask.Goals as goal
 
 -- the laws of the collections
 laws : (g : Over) → BookLaws g.B.Boosted.meaning g.B.Parts.making
-    (λ s. AreShort (g.B.Parts.collections s))
+    (λ f s. AreShort f (g.B.Parts.collections s))
 laws g = book_laws g.met.B.Boosted.laws g.met.B.Parts.laws g.met.B.Coded.told
-
-pub make_call-requires-clause-short : goal.make_call-requires-clause-short
-make_call-requires-clause-short g c =
-    let answered = subst (λ b. g.B.Boosted.meaning.answers b.state.now c.args.col c.args.call.now
-    c.args.reply.now) (sym c.self.view_is) c.requires.answered in
-    (laws g).short_replies c.self.inside.machine.now c.args.col
-    c.args.call.now c.args.reply.now c.self.invariant.upheld.spells answered
 
 pub make_call-requires-clause-can : goal.make_call-requires-clause-can
 make_call-requires-clause-can g c =
     subst (λ b. CanCall g.B.Boosted.meaning b.state c.args.number
     (record { at = c.args.col; call = c.args.call.now; reply = c.args.reply.now }))
     c.self.view_is (record {
-      running = (subst (λ b. IsOpen (CanAsk g.B.Boosted.meaning b.state.now c.args.col
+      running = (subst (λ b. IsOpen (CanAsk g.B.Boosted.meaning b.state.format b.state.now
+          c.args.col
           c.args.call.now) (standing b) c.args.number) (sym c.self.view_is)
           c.requires.open).running;
-      asked = (subst (λ b. IsOpen (CanAsk g.B.Boosted.meaning b.state.now c.args.col
+      asked = (subst (λ b. IsOpen (CanAsk g.B.Boosted.meaning b.state.format b.state.now c.args.col
           c.args.call.now) (standing b) c.args.number) (sym c.self.view_is) c.requires.open).asked;
-      few = (subst (λ b. IsOpen (CanAsk g.B.Boosted.meaning b.state.now c.args.col c.args.call.now)
+      told = (laws g).short_replies c.self.inside.machine.format c.self.inside.machine.now
+          c.args.col c.args.call.now c.args.reply.now c.self.invariant.upheld.spells
+          (subst (λ b. g.B.Boosted.meaning.answers b.state.now c.args.col c.args.call.now
+          c.args.reply.now) (sym c.self.view_is) c.requires.answered);
+      few = (subst (λ b. IsOpen (CanAsk g.B.Boosted.meaning b.state.format b.state.now c.args.col
+          c.args.call.now)
           (standing b) c.args.number) (sym c.self.view_is) c.requires.open).few;
       answered = subst (λ b. g.B.Boosted.meaning.answers b.state.now c.args.col c.args.call.now
           c.args.reply.now) (sym c.self.view_is) c.requires.answered;
@@ -52,7 +51,8 @@ returns-clause-err g c =
     (book_of i.machine i.pending i.places i.next i.gathering) _ c.args.number c.args.col
     c.args.call.now
     c.make_call.result
-    (subst (λ b. IsOpen (CanAsk g.B.Boosted.meaning b.state.now c.args.col c.args.call.now)
+    (subst (λ b. IsOpen (CanAsk g.B.Boosted.meaning b.state.format b.state.now c.args.col
+    c.args.call.now)
     (standing b) c.args.number) (sym c.self.view_is) c.requires.open) (
       c.args.reply.now,
       answered,

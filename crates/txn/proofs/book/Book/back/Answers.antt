@@ -44,7 +44,7 @@ back-requires-clause-live g c =
 
 -- the laws of the collections
 laws : (g : Over) → BookLaws g.B.Boosted.meaning g.B.Parts.making
-    (λ s. AreShort (g.B.Parts.collections s))
+    (λ f s. AreShort f (g.B.Parts.collections s))
 laws g = book_laws g.met.B.Boosted.laws g.met.B.Parts.laws g.met.B.Coded.told
 
 -- the step that was taken
@@ -69,12 +69,12 @@ step g c =
 
 pub invariant_of-self : goal.invariant_of-self
 invariant_of-self g c = fall_keeps g.B.Boosted.meaning g.B.Parts.making
-    (λ s. AreShort (g.B.Parts.collections s)) (laws g) _ c.self.invariant c.args.number _
+    (λ f s. AreShort f (g.B.Parts.collections s)) (laws g) _ c.self.invariant c.args.number _
     c.fall.ensures refl
 
 pub invariant_of-self-then-newest_reads : goal.invariant_of-self-then-newest_reads
 invariant_of-self-then-newest_reads g c = unread_keeps g.B.Boosted.meaning g.B.Parts.making
-    (λ s. AreShort (g.B.Parts.collections s)) (laws g) _ c.self.invariant c.args.number _
+    (λ f s. AreShort f (g.B.Parts.collections s)) (laws g) _ c.self.invariant c.args.number _
     c.unread.ensures refl
 
 pub returns-then-newest_reads-clause-settled : goal.returns-then-newest_reads-clause-settled
@@ -84,7 +84,7 @@ returns-then-newest_reads-clause-settled g c = rw (← c.self.view_is)
 
 pub invariant_of-self-2 : goal.invariant_of-self-2
 invariant_of-self-2 g c = let done = step g c in
-    back_keeps g.B.Boosted.meaning g.B.Parts.making (λ s. AreShort (g.B.Parts.collections s))
+    back_keeps g.B.Boosted.meaning g.B.Parts.making (λ f s. AreShort f (g.B.Parts.collections s))
     (laws g) _ c.self.invariant c.args.number _ done.0.back done.1
 
 pub returns-clause-answer : goal.returns-clause-answer

@@ -7,8 +7,7 @@ pub returns-in_err-askable-clause-err : goal.returns-in_err-askable-clause-err
 returns-in_err-askable-clause-err g c =
     let p = err_from_is_err_and c.from_residual-in_err-askable.result
     c.from_residual-in_err-askable.ensures.1 in
-    let there = subst (λ s. AskRefused g.B.Boosted.meaning s c.args.col c.args.call.now
-    c.in_err-askable.field-0.0) c.parts.ensures c.in_err-askable.ensures.err in
-    let refused = subst (λ b. AskRefused g.B.Boosted.meaning b.state.now c.args.col c.args.call.now
-    c.in_err-askable.field-0.0) c.self.view_is there in
+    let refused = subst (λ b. AskRefused g.B.Boosted.meaning b.state.format b.state.now c.args.col
+    c.args.call.now
+    c.in_err-askable.field-0.0) c.self.view_is c.in_err-askable.ensures.err in
     rw (p.1, p.2) (inr (inl (c.in_ok-check_running.ensures.ok, refused)))

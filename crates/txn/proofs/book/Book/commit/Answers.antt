@@ -37,7 +37,7 @@ commit-requires g c = subst (λ (b : BookState _). IsRunning b.state c.args.numb
 
 -- the laws of the collections
 laws : (g : Over) → BookLaws g.B.Boosted.meaning g.B.Parts.making
-    (λ s. AreShort (g.B.Parts.collections s))
+    (λ f s. AreShort f (g.B.Parts.collections s))
 laws g = book_laws g.met.B.Boosted.laws g.met.B.Parts.laws g.met.B.Coded.told
 
 -- the step that was taken
@@ -58,7 +58,7 @@ step g c =
 
 pub invariant_of-self-2 : goal.invariant_of-self-2
 invariant_of-self-2 g c = commit_keeps g.B.Boosted.meaning g.B.Parts.making
-    (λ s. AreShort (g.B.Parts.collections s)) (laws g) _ c.self.invariant c.args.number _
+    (λ f s. AreShort f (g.B.Parts.collections s)) (laws g) _ c.self.invariant c.args.number _
     (step g c).0 (step g c).1
 
 pub returns-clause-answer : goal.returns-clause-answer
@@ -84,7 +84,7 @@ returns-clause-goes g c =
     (laters_disposable meaning g.B.Parts.making (laws g).rules s c.self.invariant.upheld.holds
     c.args.number) in
     let next = c.next_position-position.ensures ∙ ap (λ b. position b + 1) (sym c.self.view_is) in
-    let fits = commit_fits meaning g.B.Parts.making (λ s. AreShort (g.B.Parts.collections s))
+    let fits = commit_fits meaning g.B.Parts.making (λ f s. AreShort f (g.B.Parts.collections s))
     (laws g)
     s c.self.invariant.upheld c.args.number in
     let runs = subst (λ t. Leads (Does meaning) ls s.now t)

@@ -23,7 +23,7 @@ push-requires-clause-room g c =
 
 -- the laws of the collections
 laws : (g : Over) → BookLaws g.B.Boosted.meaning g.B.Parts.making
-    (λ s. AreShort (g.B.Parts.collections s))
+    (λ f s. AreShort f (g.B.Parts.collections s))
 laws g = book_laws g.met.B.Boosted.laws g.met.B.Parts.laws g.met.B.Coded.told
 
 pub begin-requires-clause-can : goal.begin-requires-clause-can
@@ -36,7 +36,7 @@ begin-requires-clause-room g c =
     let can = subst (λ b. CanEnter (standing b) c.args.number) (sym c.self.view_is)
     c.in_ok-check_enter.ensures.ok in
     let room = enter_room g.B.Boosted.meaning g.B.Parts.making
-    (λ s. AreShort (g.B.Parts.collections s)) (laws g) c.self.inside.machine
+    (λ f s. AreShort f (g.B.Parts.collections s)) (laws g) c.self.inside.machine
     c.self.invariant.upheld can.unworn in
     omega arith
 
@@ -63,7 +63,7 @@ step g c =
 
 pub invariant_of-self-2 : goal.invariant_of-self-2
 invariant_of-self-2 g c = enter_keeps g.B.Boosted.meaning g.B.Parts.making
-    (λ s. AreShort (g.B.Parts.collections s)) (laws g) _ c.self.invariant c.args.number _
+    (λ f s. AreShort f (g.B.Parts.collections s)) (laws g) _ c.self.invariant c.args.number _
     (step g c).0 (step g c).2
 
 pub returns-clause-answer : goal.returns-clause-answer

@@ -12,14 +12,14 @@ use Rattle.txn.proofs.book.Book.freeze.Goals as goal
 
 -- the laws of the collections
 laws : (g : Over) → BookLaws g.B.Boosted.meaning g.B.Parts.making
-    (λ s. AreShort (g.B.Parts.collections s))
+    (λ f s. AreShort f (g.B.Parts.collections s))
 laws g = book_laws g.met.B.Boosted.laws g.met.B.Parts.laws g.met.B.Coded.told
 
 pub invariant_of-self-2 : goal.invariant_of-self-2
 invariant_of-self-2 g c =
     let i = c.self.inside in
     let made = c.in_ok-reserve_seal.ensures in
-    freeze_keeps g.B.Boosted.meaning g.B.Parts.making (λ s. AreShort (g.B.Parts.collections s))
+    freeze_keeps g.B.Boosted.meaning g.B.Parts.making (λ f s. AreShort f (g.B.Parts.collections s))
     (laws g) _ c.self.invariant
     (book_of i.machine c.seal.new.self i.places i.next c.freeze.new.self)
     (only_sealed i.machine i.pending c.seal.new.self i.places i.next c.freeze.new.self

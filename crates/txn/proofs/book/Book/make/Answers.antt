@@ -25,7 +25,7 @@ use Rattle.txn.proofs.book.Book.make.Goals as goal
 
 -- the laws of the collections
 laws : (g : Over) → BookLaws g.B.Boosted.meaning g.B.Parts.making
-    (λ s. AreShort (g.B.Parts.collections s))
+    (λ f s. AreShort f (g.B.Parts.collections s))
 laws g = book_laws g.met.B.Boosted.laws g.met.B.Parts.laws g.met.B.Coded.told
 
 -- the step that was taken
@@ -55,7 +55,7 @@ returns-clause-answer g c = rw (← c.self.view_is) ((step g c).0, (step g c).1,
 
 pub invariant_of-self-2 : goal.invariant_of-self-2
 invariant_of-self-2 g c = make_keeps g.B.Boosted.meaning g.B.Parts.making
-    (λ s. AreShort (g.B.Parts.collections s)) (laws g) _ c.self.invariant c.args.name.now
+    (λ f s. AreShort f (g.B.Parts.collections s)) (laws g) _ c.self.invariant c.args.name.now
     c.args.kind _ (step g c).0 (step g c).1
 
 pub returns-clause-settled : goal.returns-clause-settled

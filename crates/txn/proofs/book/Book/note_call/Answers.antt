@@ -15,6 +15,7 @@ use Rattle.txn.proofs.CallRecords.{is_record}
 use Rattle.txn.proofs.book.Book.note_call.Given.{Over}
 use Rattle.machine.specs.Machine.{State}
 use Rattle.gathering.proofs.Running.{are_run}
+use Rattle.records.proofs.Items.{widest_call, widest_reply}
 use Rattle.std.proofs.Common.{◌∙◌, ap, [], ◌∷◌, ◌+◌}
 use Rattle.undo_log.specs.Entries.{event_of}
 use Rattle.gathering.specs.Gatherings.{noted, effect_at}
@@ -30,7 +31,7 @@ use Rattle.txn.proofs.book.Book.note_call.Goals as goal
 
 -- the laws of the collections
 laws : (g : Over) → BookLaws g.B.Boosted.meaning g.B.Parts.making
-    (λ s. AreShort (g.B.Parts.collections s))
+    (λ f s. AreShort f (g.B.Parts.collections s))
 laws g = book_laws g.met.B.Boosted.laws g.met.B.Parts.laws g.met.B.Coded.told
 
 pub call-requires-clause-can : goal.call-requires-clause-can
@@ -43,17 +44,18 @@ call-requires-clause-can g c =
 
 pub call-requires-clause-room : goal.call-requires-clause-room
 call-requires-clause-room g c =
-    let asked = subst (λ b. IsOpen (CanAsk g.B.Boosted.meaning b.state.now c.args.col
+    let asked = subst (λ b. IsOpen (CanAsk g.B.Boosted.meaning b.state.format b.state.now c.args.col
     c.args.call.now) (standing b) c.args.number) (sym c.self.view_is) c.requires.open in
-    (call_room g.B.Boosted.meaning g.B.Parts.making (λ s. AreShort (g.B.Parts.collections s))
+    (call_room g.B.Boosted.meaning g.B.Parts.making (λ f s. AreShort f (g.B.Parts.collections s))
     (laws g) c.self.inside.machine c.self.invariant.upheld c.args.number c.args.col
     c.args.call.now asked.running asked.few asked.unworn).0
 
 -- the call can be asked for, and gets the reply
 asks : (g : Over) (c : goal.After-push_call g) → let i = c.self.inside in
-    IsOpen (CanAsk g.B.Boosted.meaning i.machine.now c.args.col c.args.call.now)
+    IsOpen (CanAsk g.B.Boosted.meaning i.machine.format i.machine.now c.args.col c.args.call.now)
     (standing (book_of i.machine i.pending i.places i.next i.gathering)) c.args.number
-asks g c = subst (λ b. IsOpen (CanAsk g.B.Boosted.meaning b.state.now c.args.col c.args.call.now)
+asks g c = subst (λ b. IsOpen (CanAsk g.B.Boosted.meaning b.state.format b.state.now c.args.col
+    c.args.call.now)
     (standing b) c.args.number) (sym c.self.view_is) c.requires.open
 
 answered : (g : Over) (c : goal.After-push_call g) →
@@ -107,7 +109,7 @@ invariant_of-self-2 g c =
     ((g.met.B.Coded.told.answers c.self.inside.machine.now c.args.col c.args.call.now
     c.args.reply.now).0 (answered g c)) (c.fits_call.ensures.fits.0 c.if-prove.false)
     (c.fits_reply.ensures.fits.0 c.if-prove-2.false) in
-    call_keeps g.B.Boosted.meaning g.B.Parts.making (λ s. AreShort (g.B.Parts.collections s))
+    call_keeps g.B.Boosted.meaning g.B.Parts.making (λ f s. AreShort f (g.B.Parts.collections s))
     (laws g) _ c.self.invariant c.args.number (event g c) _ (step g c).0 (step g c).1 good
 
 pub returns-clause-settled : goal.returns-clause-settled
@@ -129,7 +131,7 @@ returns-clause-goes g c =
     (effect_at (position old + 1) e ∷ []) s.wear c.self.invariant.upheld.reached (omega arith)
     (are_run g.B.Boosted.meaning (position old + 1) (e ∷ []) s.now c.call.new.machine.now
     (c.call.new.machine.now, (row.can.answered, ap (λ (v : State _). v.now) row.is), refl)
-    (row.can.asked.2, tt))
+    (widest_call s.format e.call row.can.asked.2, tt))
     (c.in_ok-call.ensures.noted ∙ ap
     (λ q. noted i.gathering (effect_at q (event_of c.in_ok-asked.asked) ∷ [])) next ∙
     ap (λ v. noted i.gathering (effect_at (position old + 1) v ∷ [])) c.in_ok-asked.ensures.ok)
@@ -192,13 +194,15 @@ push_call-requires-clause-room g c =
 
 pub prove-unreachable-requires : goal.prove-unreachable-requires
 prove-unreachable-requires g c =
-    let yes = c.fits_call.ensures.short.1 c.requires.open.asked.2 in
+    let yes = c.fits_call.ensures.short.1
+    (widest_call c.args.self.now.state.format c.args.call.now c.requires.open.asked.2) in
     let no' = c.if-prove.true in
     cc
 
 pub prove-unreachable-requires-2 : goal.prove-unreachable-requires-2
 prove-unreachable-requires-2 g c =
-    let yes = c.fits_reply.ensures.short.1 c.requires.short in
+    let yes = c.fits_reply.ensures.short.1
+    (widest_reply c.args.self.now.state.format c.args.reply.now c.requires.can.told) in
     let no' = c.if-prove-2.true in
     cc
 

@@ -20,7 +20,7 @@ use Rattle.txn.proofs.book.Book.note_read.Goals as goal
 
 -- the laws of the collections
 laws : (g : Over) → BookLaws g.B.Boosted.meaning g.B.Parts.making
-    (λ s. AreShort (g.B.Parts.collections s))
+    (λ f s. AreShort f (g.B.Parts.collections s))
 laws g = book_laws g.met.B.Boosted.laws g.met.B.Parts.laws g.met.B.Coded.told
 
 pub read-requires-clause-can : goal.read-requires-clause-can
@@ -33,9 +33,9 @@ read-requires-clause-can g c =
 
 pub read-requires-clause-room : goal.read-requires-clause-room
 read-requires-clause-room g c =
-    let asked = subst (λ b. IsOpen (CanAsk g.B.Boosted.meaning b.state.now c.args.at
+    let asked = subst (λ b. IsOpen (CanAsk g.B.Boosted.meaning b.state.format b.state.now c.args.at
     c.args.call.now) (standing b) c.args.number) (sym c.self.view_is) c.requires.open in
-    (call_room g.B.Boosted.meaning g.B.Parts.making (λ s. AreShort (g.B.Parts.collections s))
+    (call_room g.B.Boosted.meaning g.B.Parts.making (λ f s. AreShort f (g.B.Parts.collections s))
     (laws g) c.self.inside.machine c.self.invariant.upheld c.args.number c.args.at
     c.args.call.now asked.running asked.few asked.unworn).0
 
@@ -58,7 +58,7 @@ pub returns-clause-ok : goal.returns-clause-ok
 returns-clause-ok g c =
     let i = c.self.inside in
     let old = book_of i.machine i.pending i.places i.next i.gathering in
-    let asked = subst (λ b. IsOpen (CanAsk g.B.Boosted.meaning b.state.now c.args.at
+    let asked = subst (λ b. IsOpen (CanAsk g.B.Boosted.meaning b.state.format b.state.now c.args.at
     c.args.call.now) (standing b) c.args.number) (sym c.self.view_is) c.requires.open in
     rw (← c.self.view_is) (
       subst (λ b. IsMade g.B.Boosted.meaning g.B.Parts.making standing Appends Moves b old
@@ -69,7 +69,8 @@ returns-clause-ok g c =
 
 pub invariant_of-self-2 : goal.invariant_of-self-2
 invariant_of-self-2 g c = read_keeps g.B.Boosted.meaning g.B.Parts.making
-    (λ s. AreShort (g.B.Parts.collections s)) (laws g) _ c.self.invariant c.args.number (event g c)
+    (λ f s. AreShort f (g.B.Parts.collections s)) (laws g) _ c.self.invariant c.args.number
+    (event g c)
     _ (step g c) refl
 
 pub returns-clause-settled : goal.returns-clause-settled

@@ -27,7 +27,7 @@ use Rattle.txn.proofs.book.Book.put_off.Goals as goal
 
 -- the laws of the collections
 laws : (g : Over) → BookLaws g.B.Boosted.meaning g.B.Parts.making
-    (λ s. AreShort (g.B.Parts.collections s))
+    (λ f s. AreShort f (g.B.Parts.collections s))
 laws g = book_laws g.met.B.Boosted.laws g.met.B.Parts.laws g.met.B.Coded.told
 
 pub later-requires-clause-room : goal.later-requires-clause-room
@@ -35,7 +35,7 @@ later-requires-clause-room g c =
     let put = c.args.put in
     let asked = subst (λ b. IsOpen (CanDefer g.B.Boosted.meaning b.state.now put.at put.call)
     (standing b) c.args.number) (sym c.self.view_is) c.requires.open in
-    (call_room g.B.Boosted.meaning g.B.Parts.making (λ s. AreShort (g.B.Parts.collections s))
+    (call_room g.B.Boosted.meaning g.B.Parts.making (λ f s. AreShort f (g.B.Parts.collections s))
     (laws g) c.self.inside.machine c.self.invariant.upheld c.args.number put.at put.call
     asked.running asked.few asked.unworn).0
 
@@ -63,7 +63,7 @@ step g c =
 
 pub invariant_of-self-2 : goal.invariant_of-self-2
 invariant_of-self-2 g c = later_keeps g.B.Boosted.meaning g.B.Parts.making
-    (λ s. AreShort (g.B.Parts.collections s)) (laws g) _ c.self.invariant c.args.number
+    (λ f s. AreShort f (g.B.Parts.collections s)) (laws g) _ c.self.invariant c.args.number
     c.args.put.at c.args.put.call _ (step g c).0 (step g c).1 (omega (arith, c.if-prove.false))
 
 pub returns-clause-settled : goal.returns-clause-settled

@@ -10,7 +10,7 @@ use Rattle.txn.proofs.book.Book.undoing.Goals as goal
 
 -- the laws of the collections
 laws : (g : Over) → BookLaws g.B.Boosted.meaning g.B.Parts.making
-    (λ s. AreShort (g.B.Parts.collections s))
+    (λ f s. AreShort f (g.B.Parts.collections s))
 laws g = book_laws g.met.B.Boosted.laws g.met.B.Parts.laws g.met.B.Coded.told
 
 pub count_journalled-requires-clause-owned : goal.count_journalled-requires-clause-owned

@@ -6,5 +6,5 @@ use Rattle.txn.proofs.book.Book.upheld.Goals as goal
 
 pub returns : goal.returns
 returns g c =
-    subst (IsKept g.B.Boosted.meaning g.B.Parts.making (λ s. AreShort (g.B.Parts.collections s))
+    subst (IsKept g.B.Boosted.meaning g.B.Parts.making (λ f s. AreShort f (g.B.Parts.collections s))
     (IsSound g.B.Boosted.meaning g.B.Parts.making)) c.self.view_is c.self.invariant

@@ -1,11 +1,10 @@
 use Rattle.std.proofs.Common.{◌≡◌, ◌+◌, ◌<◌, ◌≤◌, ⊎_elim, ℕ, List, length, sym, ◌∙◌, ap, subst}
 use Rattle.std.proofs.Common.{arith, true≢false, refl}
 use Rattle.std.proofs.lemmas.Result.{err_from_is_err_and}
-use Rattle.calls.specs.Contents.{Collection}
 use Rattle.disk_model.specs.Disk.{ReadsOnly}
 use Rattle.gate_block.specs.Area.{base_of, size_of, position_of}
 use Rattle.record_format.specs.declared.record.Record.{Record}
-use Rattle.txn.specs.Books.{BookState, opened}
+use Rattle.recovery.specs.Openings.{book_of}
 use Rattle.checkpoint.proofs.Apart.{inside}
 use Rattle.undoing.specs.Undoing.{blocks_len}
 use Rattle.undoing.specs.Appending.{IsAppended}
@@ -14,7 +13,7 @@ use Rattle.undoing.proofs.Walks.{rises_before}
 use Rattle.recovery.proofs.OpenLemmas.{keeps_content, keeps_on, opens, content_is, has_no_room}
 use Rattle.recovery.proofs.OpenLemmas.{where_it_stands, nothing_undone}
 use Rattle.recovery.proofs.FindLemmas.{find_open_refusal, one_of_two}
-use Rattle.recovery.proofs.opening.open_on.Goals as goal
+use Rattle.recovery.proofs.opening.settle.Goals as goal
 
 pub returns-in_err-machine-clause-refused : goal.returns-in_err-machine-clause-refused
 returns-in_err-machine-clause-refused g c =
@@ -81,18 +80,13 @@ returns-clause-opened g c = λ true_read.
     c.as_slice.ensures.value c.in_ok-append_all.ensures.appended) in
     opens old x.area found.state x.next x.report.records
     (found.stored (c.append_all.ensures.honest true_read)) records x.machine found.undo
-    found.marks c.append_all.new.area new c.new.result appended
-    (c.new.ensures ∙ ap (λ (s : List Collection). opened s x.next c.wear-wear.result)
-    c.into_parts.ensures.parts ∙ ap (λ (w : ℕ). opened x.machine.now x.next w)
-    c.wear-wear.ensures)
+    found.marks c.append_all.new.area new (book_of x.machine x.next) appended refl
 
 pub returns-clause-content : goal.returns-clause-content
 returns-clause-content g c = λ content stands true_read.
     let x = c.in_ok-machine.field-0 in
     let found = c.in_ok-machine.ensures.found in
-    let parts : c.into_parts.result ≡ x.machine.now = c.into_parts.ensures.parts in
-    ap (λ (b : BookState (List Collection)). b.state.now) c.new.ensures ∙ parts
-    ∙ content_is (g.D.Disk.seen c.args.disk.now) x.area found.state x.next x.report.records
+    content_is (g.D.Disk.seen c.args.disk.now) x.area found.state x.next x.report.records
     (found.stored (c.append_all.ensures.honest true_read)) x.records.items x.machine found.undo
     found.marks content stands
 
@@ -119,7 +113,7 @@ returns-clause-untouched g c = λ true_read o none.
     c.as_slice.ensures.value c.in_ok-append_all.ensures.appended) in
     let nothing : length records ≡ 0 =
     nothing_undone old x.area c.append_all.new.area found.state x.machine x.next
-    x.report.records records c.new.result new
+    x.report.records records (book_of x.machine x.next) new
     (found.stored (c.append_all.ensures.honest true_read)) found.marks appended o none in
     let same : c.append_all.new.disk ≡ c.find.new.disk =
     c.in_ok-append_all.ensures.untouched (ap length c.as_slice.ensures.value ∙ nothing) in
@@ -215,7 +209,3 @@ returns-in_err-append_all-clause-size g c =
 pub returns-clause-size : goal.returns-clause-size
 returns-clause-size g c =
     c.append_all.ensures.size ∙ ap length c.find.ensures.reads.same
-
-pub returns-clause-rests : goal.returns-clause-rests
-returns-clause-rests g c =
-    rw c.new.ensures refl

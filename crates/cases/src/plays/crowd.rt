@@ -1,0 +1,104 @@
+// The clients of a script as one who talks for them all.
+ghost use Rattle.std.specs.Prelude.{◌≡◌, ◌↔◌, ⊤, IsTrue};
+ghost use Rattle.sessions.specs.Sessions.{said_place, IsRefusal};
+
+use crate::plays::through_store::Stage;
+use boost::{Action, End, Line, Request, Said, Speaker};
+use checkpoint::Turn;
+use disk_model::Disk;
+use std::sync::Wait;
+use store::Naming;
+
+// So many turns keep all that a dialogue commits.
+const TURNS: u64 = 1 << 16;
+
+/// Talks for the clients of a script: each line of the talk is the next request of the script, by
+/// whichever client. Turns and checkpoints are taken where they stand in it. Behind the script, or
+/// without one, it is the client with a transaction that talks, and else the first one.
+#[derive(Drop)]
+pub struct Crowd<'l, 'c, 's, D: Disk, J: Naming> {
+    pub stage: Stage<'c, 's, D, J>,
+    lines: &'l [Line],
+    /// How many of the lines were done.
+    done: usize,
+    /// Whether a client has a transaction open.
+    is_busy: bool,
+}
+
+impl<'l, 'c, 's, D: Disk, J: Naming> Crowd<'l, 'c, 's, D, J> {
+    /// Before the first line.
+    pub fn new(stage: Stage<'c, 's, D, J>, lines: &'l [Line]) -> Self {
+        Self {
+            stage,
+            lines,
+            done: 0,
+            is_busy: false,
+        }
+    }
+
+    // Does what stands in the script before the next request, and answers whose that is.
+    fn next_client<R: Wait>(&mut self, rt: &R) -> usize {
+        let lines = self.lines;
+        for line in lines.iter().skip(self.done) {
+            self.done = self.done.wrapping_add(1);
+            match &line.what {
+                Action::Client(number, _) => return usize::from(*number),
+                action => {
+                    let _said = self.stage.answer(rt, action);
+                }
+            }
+        }
+        self.stage.busy_client().unwrap_or(1)
+    }
+}
+
+impl<D: Disk, J: Naming> Speaker for Crowd<'_, '_, '_, D, J> {
+    type Said = Said;
+
+    ghost says = { λ _ _ _ _. ⊤ };
+
+    ghost ends = { λ _ _ _. ⊤ };
+
+    ghost is_open = { λ s. IsTrue s.is_busy };
+
+    ghost placed = { said_place };
+
+    ghost refuses = { IsRefusal };
+
+    fn say<R: Wait>(&mut self, rt: &R, request: &Request) -> Said {
+        let client = self.next_client(rt);
+        let said = self.stage.asked(rt, client, request);
+        self.is_busy = self.stage.busy_client().is_some();
+        said
+    }
+
+    /// There is no committer but this thread: it takes turns until all is kept.
+    fn end<R: Wait>(&mut self, rt: &R) -> End {
+        for _ in 0..TURNS {
+            match self.stage.committer.turn(rt) {
+                Ok(Turn::Idle) | Err(_) => break,
+                Ok(_) => {}
+            }
+        }
+        self.stage.end_of_first(rt)
+    }
+
+    fn is_open(&self) -> bool {
+        self.is_busy
+    }
+
+    fn place(said: &Said) -> Option<u64>
+        ensures { result ≡ said_place said.now }
+    {
+        match said {
+            Said::Placed(place) => Some(*place),
+            _ => None,
+        }
+    }
+
+    fn is_refusal(said: &Said) -> bool
+        ensures { IsTrue result ↔ IsRefusal said.now }
+    {
+        matches!(said, Said::Refused(_))
+    }
+}

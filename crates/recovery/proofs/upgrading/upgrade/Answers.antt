@@ -1,0 +1,51 @@
+use Rattle.std.proofs.Common.{inr}
+use Rattle.undoing.proofs.Walks.{rises_before}
+use Rattle.recovery.proofs.UpgradeLemmas.{ok_two, err_two, both_err, kept_then, upgrade_refusal}
+use Rattle.recovery.proofs.upgrading.upgrade.Goals as goal
+
+pub returns-in-Ok-clause-upgraded : goal.returns-in-Ok-clause-upgraded
+returns-in-Ok-clause-upgraded g c =
+    ok_two c.upgrade_settled.result _ _ _ c.upgrade_settled.ensures.upgraded
+    c.upgrade_settled.ensures.honest
+    (λ new upgraded honest true_read rest. upgraded (g.D.Disk.seen c.args.disk)
+    (c.in-Ok.ensures.opened (honest true_read))
+    (c.in-Ok.ensures.durable (honest true_read) rest))
+
+pub returns-in-Ok-clause-durable : goal.returns-in-Ok-clause-durable
+returns-in-Ok-clause-durable g c =
+    ok_two c.upgrade_settled.result _ _ _ c.upgrade_settled.ensures.durable
+    c.upgrade_settled.ensures.honest
+    (λ new durable honest true_read rest. durable
+    (c.in-Ok.ensures.durable (honest true_read) rest))
+
+pub returns-in-Ok-clause-kept : goal.returns-in-Ok-clause-kept
+returns-in-Ok-clause-kept g c =
+    ok_two c.upgrade_settled.result _ _ _ c.upgrade_settled.ensures.kept
+    c.upgrade_settled.ensures.honest
+    (λ new kept honest true_read. kept_then g.D.Disk.seen g.D.Disk.may_leave g.D.Disk.moment
+    g.D.Disk.left_since c.args.disk c.settle.new.disk new c.in-Ok.settled.machine.now
+    (c.settle.ensures.kept (honest true_read))
+    (λ content stands. c.in-Ok.ensures.content content stands (honest true_read))
+    (λ rest. kept (g.D.Disk.seen c.args.disk) (c.in-Ok.ensures.opened (honest true_read))
+    (c.in-Ok.ensures.durable (honest true_read) rest)))
+
+pub returns-in-Ok-clause-kept_in_refusal : goal.returns-in-Ok-clause-kept_in_refusal
+returns-in-Ok-clause-kept_in_refusal g c =
+    err_two c.upgrade_settled.result _ _ _ c.upgrade_settled.ensures.kept_in_refusal
+    c.upgrade_settled.ensures.honest_in_refusal
+    (λ x kept honest true_read. kept_then g.D.Disk.seen g.D.Disk.may_leave g.D.Disk.moment
+    g.D.Disk.left_since c.args.disk c.settle.new.disk x.1 c.in-Ok.settled.machine.now
+    (c.settle.ensures.kept (honest true_read))
+    (λ content stands. c.in-Ok.ensures.content content stands (honest true_read))
+    (λ rest. kept (g.D.Disk.seen c.args.disk) (c.in-Ok.ensures.opened (honest true_read))
+    (c.in-Ok.ensures.durable (honest true_read) rest)))
+
+pub returns-in-Ok-clause-refused : goal.returns-in-Ok-clause-refused
+returns-in-Ok-clause-refused g c =
+    err_two c.upgrade_settled.result _ _ _ c.upgrade_settled.ensures.refused
+    (both_err c.upgrade_settled.result _ _ c.upgrade_settled.ensures.honest_in_refusal
+    c.upgrade_settled.ensures.faults_in_refusal)
+    (λ x refused told. upgrade_refusal _ _ _ _ _ _ x.0
+    (rises_before _ _ _ c.settle.ensures.faults told.1)
+    (λ long true_read. inr (long (g.D.Disk.seen c.args.disk)
+    (c.in-Ok.ensures.opened (told.0 true_read)))) refused)

@@ -1,0 +1,77 @@
+-- What an upgrade makes of a store, and why it is refused.
+use Rattle.std.specs.Prelude.{◌≡◌, ◌⊎◌, ℕ, List, []}
+use Rattle.calls.specs.declared.format.Format.{Format}
+use Rattle.calls.specs.Contents.{Collection}
+use Rattle.disk_model.specs.Disk.{LeavesOnly}
+use Rattle.disk_model.specs.declared.disk.Disk.{Ghosts}
+use Rattle.calls.specs.declared.refusal.Refusal.{Refusal}
+use Rattle.record_format.specs.declared.record.Record.{Record}
+use Rattle.blocks.specs.declared.block.Image.{Image}
+use Rattle.blocks.specs.Packings.{AreWhole}
+use Rattle.checkpoint.specs.Stored.{StandIn}
+use Rattle.repetition.specs.Journals.{IsHeader, StandsFor}
+use Rattle.repetition.specs.Steps.{State}
+use Rattle.repetition.specs.Reading.{IsSound}
+use Rattle.checkpoint.specs.Keepers.{KeeperState}
+use Rattle.checkpoint.specs.Keeping.{BegunImage, HasReceived}
+use Rattle.recovery.specs.Openings.{HasNoRoom}
+use Rattle.recovery.specs.Copies.{IsTooLarge}
+
+-- The bytes are those of a store whose area in use is of the second format. They are sound, and
+-- stand for the content that the old ones stand for.
+pub record IsUpgraded (old bytes : List ℕ) : Type 0 where
+  pub sound : IsSound bytes
+  pub format : sound.holds.format ≡ Format.Two
+  pub stands : (content : List Collection) → StandsFor old content → StandsFor bytes content
+
+-- The image of the settled content does not fit in an area of the disk, with a closed gate behind
+-- it.
+pub record HasNoRoomForImage (old : List ℕ) : Type 0 where
+  pub version : Format
+  pub size : ℕ
+  pub header : IsHeader version size old
+  pub large : IsTooLarge old size
+
+-- There is no room for the records of the undoing, or none for the image.
+abbrev pub HasNoRoomToUpgrade : List ℕ → Type 0
+HasNoRoomToUpgrade old = HasNoRoom old ⊎ HasNoRoomForImage old
+
+-- ---- the keeper of an upgrade, of which no book is
+
+-- A keeper that was handed nothing since it was opened over this content.
+abbrev pub StandsOver : {D : Type 0} → Ghosts D → Format → List Collection → (wear : ℕ) → State →
+    KeeperState D → Type 0
+StandsOver g format start wear now k = (freezes : List ℕ) × (images : List BegunImage) ×
+    HasReceived g.seen g.may_leave format start wear [] now freezes images [] k
+
+-- a stop since the first of two keepers leaves sound bytes that stand for the content
+abbrev pub LeavesContent : {D : Type 0} → Ghosts D → List Collection → KeeperState D →
+    KeeperState D → Type 0
+LeavesContent g start k l = LeavesOnly g.moment g.left_since k.disk l.disk
+    (λ b. IsSound b × StandsFor b start)
+
+-- What the first of two keepers stood for, the second one stands for too, and so does each stop in
+-- between.
+abbrev pub GoesOn : {D : Type 0} → Ghosts D → KeeperState D → KeeperState D → Type 0
+GoesOn g k l = (format : Format) (start : List Collection) (wear : ℕ) (now : State) →
+    StandsOver g format start wear now k →
+    StandsOver g format start wear now l × LeavesContent g start k l
+
+-- So it is where an image was taken that stands for the content.
+abbrev pub TakesImage : {D : Type 0} → Ghosts D → Image → KeeperState D → KeeperState D → Type 0
+TakesImage g image k l = (format : Format) (start : List Collection) (wear : ℕ) (now : State)
+    (blocks : List (List Record)) → AreWhole image.blocks.items blocks →
+    StandIn format start wear [] now blocks [] →
+    HasReceived g.seen g.may_leave format start wear [] now [] [] [] k →
+    StandsOver g format start wear now l × LeavesContent g start k l
+
+-- Why an image was not taken: as it is too long, or as the disk failed.
+abbrev pub IsTakeRefusal : Type 0 → Type 0 → Refusal → Type 0
+IsTakeRefusal is_risen is_long Refusal.Full = is_long
+IsTakeRefusal is_risen is_long Refusal.Fault = is_risen
+IsTakeRefusal is_risen is_long e = ⊥
+
+-- Why a store that was opened was not brought to the second format.
+abbrev pub IsUpgradeRefusal : Type 0 → Type 0 → Refusal → Type 0
+IsUpgradeRefusal is_risen is_long Refusal.NoMemory = Unit {0}
+IsUpgradeRefusal is_risen is_long e = IsTakeRefusal is_risen is_long e

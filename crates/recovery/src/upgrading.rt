@@ -1,0 +1,223 @@
+// Bringing a store to the second format, in its place.
+ghost use Rattle.std.specs.Prelude.{◌≡◌, ◌≢◌, ◌↔◌, IsTrue, ◌≤◌, ℕ, List, [], length, false};
+ghost use Rattle.std.specs.Prelude.{IfOk, IfErr, OnOk, IsOkUnless};
+ghost use Rattle.calls.specs.declared.format.Format.{Format};
+ghost use Rattle.calls.specs.declared.refusal.Refusal.{Refusal};
+ghost use Rattle.calls.specs.Limits.{number_end};
+ghost use Rattle.disk_model.specs.Disk.{Rises, IsAtRest, LeavesOnly};
+ghost use Rattle.gate_block.specs.Area.{size_of, has_failed, IsReady};
+ghost use Rattle.images.specs.Images.{IsPackedImage};
+ghost use Rattle.machine.specs.Machines.{resting};
+ghost use Rattle.checkpoint.specs.declared.laying.Laying.{Laying};
+ghost use Rattle.checkpoint.specs.declared.stage.Stage.{Stage};
+ghost use Rattle.checkpoint.specs.Imaging.{HasPiece, IsBeingLaid, IsTooLong, bodies_of};
+ghost use Rattle.checkpoint.specs.Keepers.{IsFresh, IsOneOfTwo};
+ghost use Rattle.recovery.specs.Heads.{HasNoHeader};
+ghost use Rattle.recovery.specs.Openings.{IsDamagedAt, IsOpenRefusal, KeepsContent, IsOpened};
+ghost use Rattle.recovery.specs.Openings.{book_of};
+ghost use Rattle.recovery.specs.Upgrades.{IsUpgraded, HasNoRoomToUpgrade, GoesOn, TakesImage};
+ghost use Rattle.recovery.specs.Upgrades.{IsTakeRefusal, IsUpgradeRefusal, HasNoRoomForImage};
+ghost use Rattle.repetition.specs.Journals.{StandsFor};
+ghost use Rattle.repetition.specs.Reading.{IsSound};
+
+use crate::opening::{Settled, settle};
+use crate::settling::{image_of, in_format};
+use blocks::Image;
+use calls::{Format, Refusal};
+use catalog::Catalog;
+use checkpoint::Keeper;
+use disk_model::Disk;
+use machine::Machine;
+use std::alloc::Global;
+
+/// Brings the store on a disk to format 2, in its place: opens it, writes the image of the settled
+/// content in format 2 into the area that is not in use, and makes that the one in use by its root
+/// byte. Where the area in use is of format 2 already, it only opens the store. The head of the
+/// disk stays, with its version.
+///
+/// A stop at any moment of the call, on a disk that was at rest and sound, leaves a store of the
+/// same content, in the format from before or in format 2.
+///
+/// It takes the time and memory of an opening, and of one copy of the content, which is spelled
+/// whole before any of it is written.
+///
+/// Refused NotAStore, Damaged, NoMemory, Full and Fault as `open` says, and NoMemory and Full where
+/// there is none for the image, with what the opening wrote. A refusal hands the disk back.
+pub fn upgrade<D: Disk>(alloc: Global, disk: D) -> Result<D, (Refusal, D)>
+    // What it makes, of a disk that read true.
+    ensures upgraded { IfOk result (λ new. D.is_honest new → IsAtRest D.seen D.may_leave disk →
+        IsUpgraded (D.seen disk) (D.seen new)) }
+    ensures durable { IfOk result (λ new. D.is_honest new → IsAtRest D.seen D.may_leave disk →
+        IsAtRest D.seen D.may_leave new) }
+    // What a stop leaves.
+    ensures kept { IfOk result (λ new. D.is_honest new →
+        KeepsContent D.seen D.may_leave D.moment D.left_since disk new) }
+    ensures kept_in_refusal { IfErr result
+        (λ x. D.is_honest x.1 → KeepsContent D.seen D.may_leave D.moment D.left_since disk x.1) }
+    // Why it is refused.
+    ensures refused { IfErr result (λ x. IsOpenRefusal
+        (Rises (D.fault_count disk) (D.fault_count x.1))
+        (D.is_honest x.1 → HasNoHeader (D.seen disk))
+        (λ place. D.is_honest x.1 → IsDamagedAt (D.seen disk) place)
+        (D.is_honest x.1 → HasNoRoomToUpgrade (D.seen disk)) x.0) }
+    // What the device tells, and its length.
+    ensures honest { IfOk result (λ new. D.is_honest new → D.is_honest disk) }
+    ensures honest_in_refusal { IfErr result (λ x. D.is_honest x.1 → D.is_honest disk) }
+    ensures faults_in_refusal { IfErr result (λ x. D.fault_count disk ≤ D.fault_count x.1) }
+    ensures size { IfOk result (λ new. length (D.seen new) ≡ length (D.seen disk)) }
+    ensures size_in_refusal { IfErr result (λ x. length (D.seen x.1) ≡ length (D.seen disk)) }
+{
+    let mut disk = disk;
+    match settle(alloc, &mut disk) {
+        Ok(settled) => upgrade_settled(alloc, settled, disk),
+        Err(refusal) => Err((refusal, disk)),
+    }
+}
+
+// Brings a store whose losers are undone to the second format.
+fn upgrade_settled<D: Disk>(alloc: Global, settled: Settled, disk: D) -> Result<D, (Refusal, D)>
+    requires fine { has_failed settled.area ≡ false }
+    requires one { IsOneOfTwo settled.area (length (D.seen disk)) }
+    ensures upgraded { IfOk result (λ new. (old : List ℕ) →
+        IsOpened old (book_of settled.machine settled.next) settled.area (D.seen disk) →
+        IsAtRest D.seen D.may_leave disk → IsUpgraded old (D.seen new)) }
+    ensures durable { IfOk result (λ new. IsAtRest D.seen D.may_leave disk →
+        IsAtRest D.seen D.may_leave new) }
+    ensures kept { IfOk result (λ new. (old : List ℕ) →
+        IsOpened old (book_of settled.machine settled.next) settled.area (D.seen disk) →
+        IsAtRest D.seen D.may_leave disk → LeavesOnly D.moment D.left_since disk new
+        (λ b. IsSound b × StandsFor b settled.machine.now)) }
+    ensures kept_in_refusal { IfErr result (λ x. (old : List ℕ) →
+        IsOpened old (book_of settled.machine settled.next) settled.area (D.seen disk) →
+        IsAtRest D.seen D.may_leave disk → LeavesOnly D.moment D.left_since disk x.1
+        (λ b. IsSound b × StandsFor b settled.machine.now)) }
+    ensures refused { IfErr result (λ x. IsUpgradeRefusal
+        (Rises (D.fault_count disk) (D.fault_count x.1))
+        ((old : List ℕ) → IsOpened old (book_of settled.machine settled.next) settled.area
+        (D.seen disk) → HasNoRoomForImage old) x.0) }
+    ensures honest { IfOk result (λ new. D.is_honest new → D.is_honest disk) }
+    ensures honest_in_refusal { IfErr result (λ x. D.is_honest x.1 → D.is_honest disk) }
+    ensures faults_in_refusal { IfErr result (λ x. D.fault_count disk ≤ D.fault_count x.1) }
+    ensures size { IfOk result (λ new. length (D.seen new) ≡ length (D.seen disk)) }
+    ensures size_in_refusal { IfErr result (λ x. length (D.seen x.1) ≡ length (D.seen disk)) }
+{
+    if is_second(settled.machine.format()) {
+        drop(settled);
+        return Ok(disk);
+    }
+    write_second(alloc, settled, disk)
+}
+
+// Whether it is the second format.
+fn is_second(format: Format) -> bool
+    ensures { IsTrue result ↔ (format ≡ Format.Two) }
+{
+    match format {
+        Format::One => false,
+        Format::Two => true,
+    }
+}
+
+// Writes the image of a store whose losers are undone in the second format, and makes its area the
+// one in use.
+fn write_second<D: Disk>(alloc: Global, settled: Settled, disk: D) -> Result<D, (Refusal, D)>
+    requires fine { has_failed settled.area ≡ false }
+    requires one { IsOneOfTwo settled.area (length (D.seen disk)) }
+    ensures upgraded { IfOk result (λ new. (old : List ℕ) →
+        IsOpened old (book_of settled.machine settled.next) settled.area (D.seen disk) →
+        IsAtRest D.seen D.may_leave disk → IsUpgraded old (D.seen new)) }
+    ensures durable { IfOk result (IsAtRest D.seen D.may_leave) }
+    ensures kept { IfOk result (λ new. (old : List ℕ) →
+        IsOpened old (book_of settled.machine settled.next) settled.area (D.seen disk) →
+        IsAtRest D.seen D.may_leave disk → LeavesOnly D.moment D.left_since disk new
+        (λ b. IsSound b × StandsFor b settled.machine.now)) }
+    ensures kept_in_refusal { IfErr result (λ x. (old : List ℕ) →
+        IsOpened old (book_of settled.machine settled.next) settled.area (D.seen disk) →
+        IsAtRest D.seen D.may_leave disk → LeavesOnly D.moment D.left_since disk x.1
+        (λ b. IsSound b × StandsFor b settled.machine.now)) }
+    ensures refused { IfErr result (λ x. IsUpgradeRefusal
+        (Rises (D.fault_count disk) (D.fault_count x.1))
+        ((old : List ℕ) → IsOpened old (book_of settled.machine settled.next) settled.area
+        (D.seen disk) → HasNoRoomForImage old) x.0) }
+    ensures honest { IfOk result (λ new. D.is_honest new → D.is_honest disk) }
+    ensures honest_in_refusal { IfErr result (λ x. D.is_honest x.1 → D.is_honest disk) }
+    ensures faults_in_refusal { IfErr result (λ x. D.fault_count disk ≤ D.fault_count x.1) }
+    ensures size { IfOk result (λ new. length (D.seen new) ≡ length (D.seen disk)) }
+    ensures size_in_refusal { IfErr result (λ x. length (D.seen x.1) ≡ length (D.seen disk)) }
+{
+    let Settled {
+        machine,
+        next,
+        area,
+    } = settled;
+    machine.upheld();
+    match second_image(alloc, machine, next) {
+        Ok(image) => {
+            let mut keeper = Keeper::new(disk, area);
+            match take_image(&mut keeper, image) {
+                Ok(()) => Ok(keeper.into_disk()),
+                Err(refusal) => Err((refusal, keeper.into_disk())),
+            }
+        }
+        Err(refusal) => Err((refusal, disk)),
+    }
+}
+
+// The image in the second format of a machine in which nothing is live.
+fn second_image(alloc: Global, machine: Machine<Catalog>, next: u64) -> Result<Image, Refusal>
+    requires { (1 ≤ next) × (next ≤ number_end) }
+    ensures image { IfOk result (λ image. IsPackedImage (λ v. v) next
+        (resting Format.Two machine.now machine.wear) image.blocks.items) }
+    ensures some { IfOk result (λ image. image.blocks.items ≢ []) }
+    ensures start { IfOk result (λ image. (image.end ≡ 0) × (image.place ≡ 0)) }
+    ensures refusal { IsOkUnless result Refusal.NoMemory }
+{
+    let machine = in_format(alloc, machine, Format::Two);
+    image_of(alloc, &machine, next)
+}
+
+// Writes an image of what a keeper was opened over, and makes its area the one in use.
+fn take_image<D: Disk>(keeper: &mut Keeper<D>, image: Image) -> Result<(), Refusal>
+    requires fresh { IsFresh keeper.old }
+    requires some { image.blocks.items ≢ [] }
+    requires start { (image.end ≡ 0) × (image.place ≡ 0) }
+    ensures takes { TakesImage ⟦<D as Disk>⟧ image keeper.old keeper.new }
+    ensures ready { OnOk result (IsReady D.seen D.may_leave keeper.new.area keeper.new.disk
+        (bodies_of image.blocks.items)) }
+    ensures durable { OnOk result (IsAtRest D.seen D.may_leave keeper.new.disk) }
+    ensures fine { OnOk result (keeper.new.failed ≡ false) }
+    ensures refused { IfErr result (IsTakeRefusal
+        (Rises (D.fault_count keeper.old.disk) (D.fault_count keeper.new.disk))
+        (IsTooLong (size_of keeper.old.area) image.blocks.items)) }
+    ensures honest { D.is_honest keeper.new.disk → D.is_honest keeper.old.disk }
+    ensures faults { D.fault_count keeper.old.disk ≤ D.fault_count keeper.new.disk }
+    ensures size { length (D.seen keeper.new.disk) ≡ length (D.seen keeper.old.disk) }
+{
+    keeper.hold(0, 0)?;
+    keeper.begin_image(image)?;
+    write_out(keeper)
+}
+
+// Writes all that is left of an image in progress, and makes its area the one in use.
+fn write_out<D: Disk>(keeper: &mut Keeper<D>) -> Result<(), Refusal>
+    requires fine { keeper.old.failed ≡ false }
+    requires piece { HasPiece keeper.old.stage }
+    ensures goes { GoesOn ⟦<D as Disk>⟧ keeper.old keeper.new }
+    ensures ready { (w : Laying) (bodies : List (List ℕ)) → keeper.old.stage ≡ Stage.Laid w →
+        bodies ≢ [] → IsBeingLaid w (D.seen keeper.old.disk) bodies →
+        OnOk result (IsReady D.seen D.may_leave keeper.new.area keeper.new.disk bodies) }
+    ensures durable { OnOk result (IsAtRest D.seen D.may_leave keeper.new.disk) }
+    ensures fine { OnOk result (keeper.new.failed ≡ false) }
+    ensures fault { IfErr result (λ e. (e ≡ Refusal.Fault) ×
+        Rises (D.fault_count keeper.old.disk) (D.fault_count keeper.new.disk)) }
+    ensures honest { D.is_honest keeper.new.disk → D.is_honest keeper.old.disk }
+    ensures faults { D.fault_count keeper.old.disk ≤ D.fault_count keeper.new.disk }
+    ensures size { length (D.seen keeper.new.disk) ≡ length (D.seen keeper.old.disk) }
+{
+    'pieces: loop {
+        if !keeper.image_piece()? {
+            keeper.flip()?;
+            return Ok(());
+        }
+    }
+}
