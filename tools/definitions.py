@@ -20,6 +20,7 @@ sys.dont_write_bytecode = True
 from cited import CALL, USE, cited, contract, text_of
 
 ROOT = os.path.dirname(os.path.dirname(os.path.abspath(__file__)))
+WIDTH = 132
 PAGES = {'docs/definitions.list': 'docs/DEFINITIONS.md', 'docs/theorems.list': 'docs/THEOREMS.md'}
 DECLARES = re.compile(r'^(\s*)(?:(?:pub|abbrev|unfoldable) )*(?:record |data )?(\S+)(?= :| \(| \{)')
 ENTRY = re.compile(r'([+-]) (\w+(?:, \w+)*): (.+)', re.S)
@@ -101,7 +102,7 @@ def piece(block, path, names, gone):
 
 
 def quoted(block, gone):
-    """The clauses of a public function that are named, as its source has them."""
+    """The clauses of a public function that are named, as its source has them, in lines of the page's width."""
     path, name, wanted = QUOTE.fullmatch(block).groups()
     lines, clauses, clause = lines_of(path), {}, None
     calls = [(place, match) for place, match in enumerate(map(CALL.match, lines)) if match and match[3] == name and match[2]]
@@ -113,8 +114,9 @@ def quoted(block, gone):
             if clause:
                 clauses.setdefault(clause, []).append(line[len(pad) :])
     gone += [f'{path}: {name} has no clause {word}' for word in wanted.split(', ') if word not in clauses]
-    code = textwrap.dedent('\n'.join('\n'.join(clauses.get(word, [])) for word in wanted.split(', ')))
-    return f'```\n// {name} in {path}\n{code}\n```'
+    texts = (' '.join(map(str.strip, clauses.get(word, []))) for word in wanted.split(', '))
+    code = '\n'.join(textwrap.fill(text, WIDTH, subsequent_indent='    ', break_long_words=False, break_on_hyphens=False) for text in texts)
+    return f'```\n{code}\n```'
 
 
 def reached(files):

@@ -608,7 +608,8 @@ def said(*words):
 
 def the_examples_in_python():
     """Each example prints what it must, though some of its processes die."""
-    for name, printed in (('job_queue', '60 of 60 jobs done, each once\n'), ('quota', '25 of 40 asks granted, 0 left\n'),
+    for name, printed in (('job_queue', '57 of 60 jobs have their result, 3 lie aside\n'),
+                          ('quota', f'20 of 120 asks granted, {[20] * 10} left\n'),
                           ('id_service', '100 identifiers drawn, 100 of them different\none given back: True\n')):
         place = Place()
         place.serve()

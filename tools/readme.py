@@ -1,7 +1,8 @@
 #!/usr/bin/env python3
-"""readme.py [PROGRAM]: runs each command of the README as it stands, and compares what it writes with what stands there.
+"""readme.py [PROGRAM]: runs each command of the README, and of the page of patterns, as it stands, and compares what it
+writes with what stands there.
 
-The blocks marked `console` are run one after another, in a new folder that has `boost` (a link to PROGRAM, or to the script
+The blocks marked `console` of a page are run one after another, in a new folder that has `boost` (a link to PROGRAM, or to the script
 `boost`), `clients` and `contrib`. A line `$ COMMAND` is a command, up to END where it has `<<END`; what follows is what it
 writes to both outputs, but for the lines of the script `boost` on a program that is not proved. A block marked `python`
 is written into the file that its first line names. Blocks of other marks are not run. The status is 0 where all is as it
@@ -14,6 +15,7 @@ import sys
 import tempfile
 
 TOP = os.path.dirname(os.path.dirname(os.path.abspath(__file__)))
+PAGES = ('README.md', 'docs/PATTERNS.md')
 BLOCK = re.compile(r'^```(\w*)\n(.*?)^```$', re.MULTILINE | re.DOTALL)
 # What a run of a program that was never built may need.
 SECONDS = 600
@@ -45,10 +47,10 @@ def run(command, folder):
     return [line for line in lines if not line.startswith('boost: not proved yet')]
 
 
-def check(readme, folder):
-    """Runs the README's commands in a folder. The number of those that were run, and of those that wrote something else."""
+def check(page, folder):
+    """Runs a page's commands in a folder. The number of those that were run, and of those that wrote something else."""
     ran = wrong = 0
-    for mark, text in BLOCK.findall(readme):
+    for mark, text in BLOCK.findall(page):
         if mark == 'python':
             name = text.splitlines()[0].lstrip('# ')
             with open(os.path.join(folder, name), 'w', encoding='utf-8') as file:
@@ -64,17 +66,23 @@ def check(readme, folder):
     return ran, wrong
 
 
-def main():
-    program = os.path.abspath(sys.argv[1]) if len(sys.argv) > 1 else os.path.join(TOP, 'boost')
-    with open(os.path.join(TOP, 'README.md'), encoding='utf-8') as file:
-        readme = file.read()
+def check_page(path, program):
+    """Runs the commands of the page at a path in a new folder, and says whether all wrote what stands there."""
+    with open(os.path.join(TOP, path), encoding='utf-8') as file:
+        page = file.read()
     with tempfile.TemporaryDirectory() as folder:
         os.symlink(program, os.path.join(folder, 'boost'))
         for name in ('clients', 'contrib'):
             os.symlink(os.path.join(TOP, name), os.path.join(folder, name))
-        ran, wrong = check(readme, folder)
-    print(f'{ran} commands of the README run, {wrong} wrong')
-    return 1 if wrong or not ran else 0
+        ran, wrong = check(page, folder)
+    print(f'{path}: {ran} commands run, {wrong} wrong')
+    return ran and not wrong
+
+
+def main():
+    program = os.path.abspath(sys.argv[1]) if len(sys.argv) > 1 else os.path.join(TOP, 'boost')
+    are_right = [check_page(path, program) for path in PAGES]
+    return 0 if all(are_right) else 1
 
 
 if __name__ == '__main__':

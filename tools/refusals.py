@@ -48,6 +48,8 @@ READS = {
     "q": ["call q least"],
     "n": ["call n read"],
     "t": ["call t level"],
+    "j": [f"call j contains {key}" for key in (1, 2, 3)],
+    "u": [f"call u level {key}" for key in (1, 2)],
     "p": [f"call p release {key}" for key in (7, 8)],
 }
 
@@ -63,6 +65,10 @@ DONE = {
                       "turn"]),
     "stock": ("t", ["later t fill 70", "commit", "call t spend 5", "call t spend 100", "later t fill 3000", "abort",
                     "call t spend 20", "later t fill 1", "commit", "turn"]),
+    "picks": ("j", ["call j add 1", "call j add 2", "call j add 3", "commit", "call j pick", "call j pick", "commit", "call j pick",
+                    "abort", "call j pick", "call j pick", "commit", "turn"]),
+    "quotas": ("u", ["call u fill 1 70", "call u fill 2 9", "commit", "call u spend 1 70", "call u spend 1 1", "call u fill 2 5",
+                     "abort", "call u spend 2 4", "commit", "turn"]),
     "pool": ("p", ["call p draw", "call p draw", "call p release 0", "commit", "call p draw", "abort", "turn",
                    "call p draw", "call p draw", "call p draw", "commit"]),
     "checkpoints": ("smqnp", ["call s add 1", "call m put 1 0a", "call q add 5 1", "checkpoint", "call n bump 5",
@@ -76,6 +82,8 @@ FULL = {"room": {160: "refused 18 Full", 161: "not yet", 164: "kept 4"}}
 STORIES = {f"story_{seed}": (stories.EMPTY, stories.story(seed, 40)) for seed in (5, 6, 8)}
 STORIES |= {f"story_{seed}": (stories.wide(), stories.story(seed, 20)) for seed in (25, 38)}
 STORIES["story_41"] = (stories.EMPTY, stories.story(41, 60, stories.SIX_KINDS))
+STORIES["story_44"] = (stories.EMPTY, stories.story(44, 60, stories.WITH_JOBS))
+STORIES["story_47"] = (stories.EMPTY, stories.story(47, 60, stories.SEVEN_KINDS))
 
 LIBRARY = r"""
 #define _GNU_SOURCE
@@ -204,7 +212,7 @@ def read_back(names):
 def script_of(names, done):
     """A script that makes collections and does this, and reads all of them behind each line, in a transaction that is
     begun again once it has ended."""
-    lines = [f"c1 make {stories.SIX_KINDS[name]} {name}" for name in names] + ["c1 begin"]
+    lines = [f"c1 make {stories.SEVEN_KINDS[name]} {name}" for name in names] + ["c1 begin"]
     for line in done:
         lines.append(line if line in ("turn", "checkpoint") else f"c1 {line}")
         lines += ["c1 begin"] if line in ("commit", "abort") else []

@@ -3,7 +3,7 @@
 looks at what they were told and at what the store holds.
 
 Each round writes a script for up to 64 clients, serves it by `boost serve`, and reads what the clients were told. Scripts
-have calls on collections of all six kinds; short transactions and long ones of up to 1,024 calls; commits, aborts, and
+have calls on collections of all seven kinds; short transactions and long ones of up to 1,024 calls; commits, aborts, and
 transactions that are left open; many reads; tries that meet a lock and are taken back, again and again, while another client
 holds it; lines that are refused; and pauses, which are many lines that only ask whether a ticket is kept. A disk is kept from
 round to round, and now and then made anew, with areas of 64 KiB, 1 MiB or 16 MiB.
@@ -36,7 +36,7 @@ BOOST = os.path.join(TOP, "crates/boost_main/out/boost_main")
 
 # Names of the collections, by their kinds.
 NAMES = {"set": ["s", "t"], "map": ["m", "o"], "queue": ["q"], "counter": ["n", "k"], "pool": ["p"],
-         "stock": ["l"]}
+         "stock": ["l"], "quotas": ["u"]}
 AREAS = [1 << 16, 1 << 20, 1 << 24]
 MOST_CALLS = 1024
 # How long a round may take, in seconds.
@@ -134,7 +134,8 @@ class Round:
             f"call {other} put {key} {value}", f"call {other} remove {key}", f"call {other} ceiling {key}", self.of_queue(key),
             self.of_queue(key), f"call {counter} bump {by}", f"call {counter} bump {by}", f"call {counter} read", self.of_pool(),
             self.of_pool(), f"later {counter} bump {by}", f"call l spend {key}", f"call l spend {key}", "call l level",
-            f"later l fill {key}", f"later l fill {key}"])
+            f"later l fill {key}", f"later l fill {key}", f"call {one} pick", f"call u fill {key} {self.chance.randrange(100)}",
+            f"call u spend {key} {self.chance.randrange(100)}", f"call u spend {key} {self.chance.randrange(100)}", f"call u level {key}"])
 
     def of_queue(self, key):
         if len(self.model.held["q"]) > 2 * self.keys:
@@ -220,11 +221,15 @@ def run_again(model, found):
             model.make(found[place][1], found[place][0])
             continue
         for name, call, answer in found[place].calls:
-            reply = (answer, *call) if call[0] == "draw" else model.look(name, call)
+            reply = model.look(name, call)
             if call[0] == "draw":
                 reply = ("id", int(answer.split(" ")[1]))
                 if reply[1] in model.held[name]:
                     raise Wrong(f"place {place}: {reply[1]} was drawn twice")
+            elif call[0] == "pick" and answer.startswith("id "):
+                reply = ("id", int(answer.split(" ")[1]))
+                if reply[1] not in model.held[name]:
+                    raise Wrong(f"place {place}: {reply[1]} was picked and is not there")
             elif answer != text_of(reply):
                 raise Wrong(f"place {place}: {name} {call}: told {answer}, and the model says {text_of(reply)}")
             model.run(name, call, reply)

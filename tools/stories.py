@@ -5,7 +5,7 @@
                               these shows after each place, into crates/cases/data
     tools/stories.py told     prints what the program must print of the stories
 
-The model knows what a store means, and nothing of how the program does it: six kinds of collections with a row for
+The model knows what a store means, and nothing of how the program does it: seven kinds of collections with a row for
 each call and reply, needs that conflict, transactions that are live, what they put off, places, and which blocks a turn
 keeps. What is committed is run whole, one transaction after another, on a store beside, which has to give the same
 replies: what that holds after each place is what a stopped store may show. Only the standard library is used, and every
@@ -21,6 +21,8 @@ MAX = 2**64 - 1
 # The collections of the first stories, and of those behind them.
 KINDS = {"s": "set", "m": "map", "q": "queue", "n": "counter", "p": "pool"}
 SIX_KINDS = KINDS | {"t": "stock"}
+WITH_JOBS = SIX_KINDS | {"j": "set"}
+SEVEN_KINDS = WITH_JOBS | {"u": "quotas"}
 READ, WRITE, ADD, TAKE, GIVE = "read", "write", "add", "take", "give"
 
 
@@ -41,7 +43,8 @@ class Content:
 
     def make(self, name, kind):
         self.kinds[name] = kind
-        self.held[name] = {"set": set, "map": dict, "queue": list, "counter": int, "pool": set, "stock": int}[kind]()
+        self.held[name] = {"set": set, "map": dict, "queue": list, "counter": int, "pool": set, "stock": int,
+                            "quotas": dict}[kind]()
 
     def look(self, name, call):
         """The reply that a call gets now."""
@@ -49,6 +52,9 @@ class Content:
         if what == "draw":
             # which identifier is given is open: here the one behind the greatest that is taken
             return ("id", max(held, default=-1) + 1)
+        if what == "pick":
+            # so is which element is picked: here the least
+            return ("id", min(held)) if held else ("nothing",)
         if what == "release":
             return ("queued",) if args[0] in held else ("absent",)
         if what in ("contains", "add", "remove") and self.kinds[name] == "set":
@@ -60,6 +66,9 @@ class Content:
             return ("entry", keys[0], held[keys[0]]) if keys else ("nothing",)
         if what in ("take", "least"):
             return ("item", *held[0]) if held else ("nothing",)
+        if self.kinds[name] == "quotas":
+            level = held.get(args[0], 0)
+            return {"spend": ("yes",) if args[-1] <= level else ("no",), "level": ("total", level)}.get(what, ("done",))
         if what == "spend":
             return ("yes",) if args[0] <= held else ("no",)
         return ("total", held) if what in ("read", "level") else ("done",)
@@ -69,8 +78,15 @@ class Content:
         held, (what, *args) = self.held[name], call
         if what == "draw":
             held.add(reply[1])
+        elif self.kinds[name] == "quotas":
+            by = {"spend": -args[-1] if reply == ("yes",) else 0, "level": 0}.get(what, args[-1])
+            held[args[0]] = held.get(args[0], 0) + by
+            if not held[args[0]]:
+                del held[args[0]]
         elif what == "free":
             held.remove(args[0])
+        elif what == "pick" and held:
+            held.remove(reply[1])
         elif what == "add" and self.kinds[name] == "set":
             held.add(args[0])
         elif what == "remove" and self.kinds[name] == "set":
@@ -100,6 +116,8 @@ class Content:
             text += f"{kind} {name}\n"
             if kind in ("counter", "stock"):
                 text += f"  {held}\n"
+            elif kind == "quotas":
+                text += "".join(f"  {key} {held[key]}\n" for key in sorted(held))
             elif kind == "map":
                 text += "".join(f"  {key} {hexed(held[key])}\n" for key in sorted(held))
             elif kind == "queue":
@@ -112,15 +130,18 @@ class Content:
 def need(call, reply):
     """What a call with its reply needs: a span of keys, and how."""
     what, *args = call
+    if what == "refund" or len(args) == 2 and what in ("spend", "fill") or what == "level" and args:
+        use = {"refund": GIVE, "fill": WRITE, "spend": TAKE if reply == ("yes",) else READ, "level": READ}[what]
+        return (args[0], args[0], use)
     if what in ("spend", "level", "fill"):
         return (0, MAX, GIVE if what == "fill" else TAKE if reply == ("yes",) else READ)
     if what == "contains" or reply[0] in ("no", "absent") or what == "get":
         return (args[0], args[0], READ)
     if what == "ceiling":
         return (args[0], reply[1] if reply[0] == "entry" else MAX, READ)
+    if what in ("take", "least", "pick") and reply[0] == "nothing":
+        return (0, MAX, READ)
     if what in ("take", "least"):
-        if reply[0] == "nothing":
-            return (0, MAX, READ)
         return (0, reply[1], WRITE if what == "take" else READ)
     if what == "remove" and reply[0] == "nothing":
         return (args[0], args[0], READ)
@@ -128,7 +149,7 @@ def need(call, reply):
         return (args[0], args[0], ADD)
     if what in ("bump", "read"):
         return (0, MAX, ADD if what == "bump" else READ)
-    key = reply[1] if what == "draw" else args[0]
+    key = reply[1] if what in ("draw", "pick") else args[0]
     return (key, key, WRITE)
 
 
@@ -147,8 +168,12 @@ def inverse(call, reply, kind):
         return ("remove", args[0]) if what == "put" else None
     if what == "take":
         return ("add", *reply[1:]) if reply[0] == "item" else None
+    if what == "pick":
+        return ("add", reply[1]) if reply[0] == "id" else None
     if what == "bump":
         return ("bump", -args[0])
+    if kind == "quotas":
+        return {("spend", "yes"): ("refund", *args), ("fill", "done"): ("spend", *args)}.get((what, reply[0]))
     if what == "spend":
         return ("fill", args[0]) if reply == ("yes",) else None
     return ("free", reply[1]) if what == "draw" else None
@@ -275,8 +300,12 @@ class Store:
         transaction = self.entered(client)
         for name, call, reply in transaction.calls:
             beside = self.beside.look(name, call)
-            assert call[0] == "draw" or beside == reply, (call, reply, beside)
-            assert call[0] != "draw" or reply[1] not in self.beside.held[name]
+            if call[0] == "draw":
+                assert reply[1] not in self.beside.held[name]
+            elif call[0] == "pick" and reply[0] == "id":
+                assert reply[1] in self.beside.held[name]
+            else:
+                assert beside == reply, (call, reply, beside)
             self.beside.run(name, call, reply)
         for name, call in transaction.laters:
             self.now.run(name, call, ("done",))
@@ -293,7 +322,8 @@ class Store:
             for name, call, reply in reversed(transaction.calls):
                 back = inverse(call, reply, self.now.kinds[name])
                 if back:
-                    self.now.run(name, back, ("done",))
+                    # a spend takes a fill of quotas back, and finds what was filled in
+                    self.now.run(name, back, ("yes",) if back[0] == "spend" else ("done",))
             self.note(sum(written(call, reply) for _, call, reply in transaction.calls) + 1)
         client.number = None
         return "aborted"
@@ -372,14 +402,17 @@ def wide():
 
 
 def call_line(chance, kinds):
-    """A call that looks like chance, of one of the collections."""
+    """A call that looks like chance, of one of the collections; picks where the set is one of jobs."""
     key, by = chance.randrange(4), chance.randrange(256)
     of_stock = [f"call t spend {key}", f"call t spend {by}", "call t level", f"later t fill {key}"]
+    of_quotas = [f"call u spend {key} {by}", f"call u spend {key} {key}", f"call u level {key}", f"call u fill {key} {by}"]
+    of_jobs = [f"call j add {key}", f"call j add {by}", "call j pick", "call j pick", "call j pick", f"call j contains {key}"]
     return chance.choice([
         f"call s contains {key}", f"call s add {key}", f"call s remove {key}", f"call m get {key}",
         f"call m put {key} {by:02x}", f"call m remove {key}", f"call m ceiling {key}", f"call q add {key} 0",
         "call q take", "call q least", f"call n bump {by}", "call n read", "call p draw", f"call p release {key}",
-        f"later n bump {by}", *(of_stock if "t" in kinds else [])])
+        f"later n bump {by}", *(of_stock if "t" in kinds else []), *(of_jobs if "j" in kinds else []),
+        *(of_quotas if "u" in kinds else [])])
 
 
 def story_line(chance, client, is_open, kinds):
@@ -470,6 +503,11 @@ SWEPT = {
     "loser": ["c1 make counter n", "c1 begin", "c2 begin", "repeat 0 100 c1 call n bump 1", "c2 call n bump 2", "c2 commit", "turn"],
     "spends": ["c1 make stock t", "c1 begin", "c1 later t fill 10", "c1 commit", "turn", "c1 begin", "c2 begin", "c1 call t spend 4",
                "c2 call t spend 6", "c3 begin", "c3 call t spend 1", "c2 later t fill 5", "c1 abort", "c2 commit", "turn", "c2 kept"],
+    "quotas": ["c1 make quotas u", "c1 begin", "c1 call u fill 7 10", "c1 call u fill 9 1", "c1 commit", "turn", "c1 begin", "c2 begin",
+               "c1 call u spend 7 4", "c2 call u spend 7 6", "c3 begin", "c3 call u spend 7 1", "c3 call u spend 9 1", "c1 abort", "c2 commit",
+               "turn", "c2 kept"],
+    "picks": ["c1 make set s", "c1 begin", "c1 call s add 1", "c1 call s add 2", "c1 call s add 3", "c1 commit", "turn", "c1 begin",
+              "c2 begin", "c1 call s pick", "c2 call s pick", "c3 begin", "c3 call s pick", "c1 abort", "c2 commit", "turn", "c2 kept"],
     "release": ["c1 make pool p", "c1 begin", "c1 call p draw", "c1 call p release 0", "c1 call p release 0", "c1 commit", "turn",
                 "c1 begin", "c1 call p draw", "c1 call p release 0", "turn", "c1 kept"],
     "room": ["c1 make map m", "c1 begin", f"repeat 0 100 c1 call m put # {ZEROS}", "c1 commit", "turn", "c1 begin", f"repeat 0 40 c1 call m put # {ZEROS}", "c1 commit", "turn",
@@ -528,14 +566,16 @@ def any_bytes(seed):
 
 def main():
     halted, cases, told = [], [], []
-    for ground, count, seeds, kinds in ((EMPTY, 40, (5, 6, 8), KINDS), (wide(), 20, (25, 38), KINDS), (EMPTY, 60, (41,), SIX_KINDS)):
+    for ground, count, seeds, kinds in ((EMPTY, 40, (5, 6, 8), KINDS), (wide(), 20, (25, 38), KINDS), (EMPTY, 60, (41,), SIX_KINDS),
+                                       (EMPTY, 60, (44,), WITH_JOBS), (EMPTY, 60, (47,), SEVEN_KINDS)):
         for seed in seeds:
             file = f"story_{seed}.shown"
             cased, printed, shown = stopped(f"story {seed} is stopped at each call", file, ground, story(seed, count, kinds))
             halted, told = halted + cased, told + printed
             if sys.argv[1:] != ["told"]:
                 (DATA / file).write_text(shown)
-    for seeds, kinds in ((range(100, 112), KINDS), (range(112, 116), SIX_KINDS)):
+    for seeds, kinds in ((range(100, 112), KINDS), (range(112, 116), SIX_KINDS), (range(116, 120), WITH_JOBS),
+                         (range(120, 124), SEVEN_KINDS)):
         for seed in seeds:
             cased, printed = whole(f"story {seed} is played whole", story(seed, 250, kinds))
             cases, told = cases + cased, told + printed

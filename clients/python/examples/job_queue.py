@@ -1,5 +1,5 @@
-"""job_queue.py FOLDER: workers take jobs of a queue side by side, and some of them die with a job in their hands. No job is lost,
-and none is done twice.
+"""job_queue.py FOLDER: workers hold jobs side by side while they work, and some of them die at it. No job is lost, none is done
+twice, and one that failed three times lies aside.
 
 A server is at FOLDER: `boost listen DISK FOLDER`.
 """
@@ -13,31 +13,43 @@ sys.path.insert(0, os.path.join(os.path.dirname(os.path.abspath(__file__)), '..'
 import boost  # noqa: E402
 
 JOBS = 60
+TRIES = 3
 
 
-def take(t):
-    """Takes the job of the least priority, and notes it as done in the same transaction."""
-    job = t.call('jobs', 'take')
-    if job is not None:
-        priority, tag = job
-        assert t.call('done', 'add', tag), 'a job is done twice'
-        if random.random() < 0.1:
-            os.kill(os.getpid(), signal.SIGKILL)     # the job is in the queue again, as the server takes all of it back
+def result_of(job):
+    """What the work comes to: nothing for every 25th job, which fails. Now and then a worker dies at it."""
+    if random.random() < 0.1:
+        os.kill(os.getpid(), signal.SIGKILL)     # the job is in the set again, as the server takes all of it back
+    return None if job % 25 == 0 else str(job * job).encode()
+
+
+def do_one(t):
+    """Picks a job, works while it holds it, and writes what came of it in the same transaction. None where all are done."""
+    job = t.call('jobs', 'pick')
+    if job is None:
+        return None
+    result = result_of(job)
+    if result is not None:
+        assert t.call('results', 'put', job, result) is None, 'a job is done twice'
+    else:
+        failed = int(t.call('tries', 'get', job) or b'0') + 1
+        t.call('tries', 'put', job, str(failed).encode())
+        t.call('jobs' if failed < TRIES else 'failed', 'add', job)
     return job
 
 
 def work(folder):
     with boost.join(folder) as store:
-        while store.keep(take) is not None:
+        while store.keep(do_one) is not None:
             pass
 
 
 def main(folder):
     with boost.join(folder) as store:
-        store.open_or_make('queue', 'jobs')
-        store.open_or_make('set', 'done')
-        for tag in range(JOBS):
-            store.do(('jobs', 'add', tag % 3, tag), keep=True)
+        for kind, name in (('set', 'jobs'), ('set', 'failed'), ('map', 'results'), ('map', 'tries')):
+            store.open_or_make(kind, name)
+        for job in range(JOBS):
+            store.do(('jobs', 'add', job), keep=True)
     deaths = 0
     workers = []
     for _ in range(4):
@@ -51,8 +63,9 @@ def main(folder):
             workers.append(multiprocessing.Process(target=work, args=(folder,)))
             workers[-1].start()
     with boost.join(folder) as store:
-        done = sum(store.do(*(('done', 'contains', tag) for tag in range(JOBS))))
-    print(f'{done} of {JOBS} jobs done, each once')
+        done = sum(value is not None for value in store.do(*(('results', 'get', job) for job in range(JOBS))))
+        aside = sum(store.do(*(('failed', 'contains', job) for job in range(JOBS))))
+    print(f'{done} of {JOBS} jobs have their result, {aside} lie aside')
     print(f'{deaths} workers died', file=sys.stderr)
 
 

@@ -1,5 +1,5 @@
-"""quota.py FOLDER: programs spend from one account side by side. None is told yes for what is not there, and a filling is in
-nobody's way.
+"""quota.py FOLDER: programs spend from the quotas of customers, and several from the same one side by side. None is told yes for
+what is not there.
 
 A server is at FOLDER: `boost listen DISK FOLDER`.
 """
@@ -10,27 +10,36 @@ import sys
 sys.path.insert(0, os.path.join(os.path.dirname(os.path.abspath(__file__)), '..'))
 import boost  # noqa: E402
 
+CUSTOMERS = 1000
+ASKED = range(0, CUSTOMERS, 100)
+
+
+def fill(t):
+    """Fills the quota of each customer."""
+    for customer in range(CUSTOMERS):
+        t.call('credit', 'fill', customer, 100)
+
 
 def spend(folder, granted):
-    """Asks ten times for ten."""
+    """Asks ten customers' quotas three times for 40."""
     with boost.join(folder) as store:
-        answers = [store.do(('alice', 'spend', 10))[0] for _ in range(10)]
+        answers = [store.do(('credit', 'spend', customer, 40))[0] for _ in range(3) for customer in ASKED]
     with granted.get_lock():
         granted.value += sum(answers)
 
 
 def main(folder):
     with boost.join(folder) as store:
-        store.open_or_make('stock', 'alice')
-        store.keep(lambda t: t.later('alice', 'fill', 250))
+        store.open_or_make('quotas', 'credit')
+        store.keep(fill)
         granted = multiprocessing.Value('i', 0)
         programs = [multiprocessing.Process(target=spend, args=(folder, granted)) for _ in range(4)]
         for program in programs:
             program.start()
         for program in programs:
             program.join()
-        left = store.do(('alice', 'level'))[0]
-    print(f'{granted.value} of 40 asks granted, {left} left')
+        left = [store.do(('credit', 'level', customer))[0] for customer in ASKED]
+    print(f'{granted.value} of 120 asks granted, {left} left')
 
 
 if __name__ == '__main__':

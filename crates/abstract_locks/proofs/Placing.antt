@@ -21,7 +21,6 @@ use Rattle.abstract_locks.proofs.Ordering.{in_front}
 use Rattle.abstract_locks.proofs.Rising.{ArePreceding, rises_left, rises_right}
 use Rattle.abstract_locks.proofs.Rising.{rises_between, exchanged, fresh_between, removed_between}
 use Rattle.abstract_locks.proofs.Rising.{known_added, known_removed, front_of, back_of, some_added}
-use Rattle.abstract_locks.proofs.Rising.{none_removed}
 
 -- ---- all holds, in parts
 

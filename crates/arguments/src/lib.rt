@@ -1,7 +1,7 @@
 //! The program's command line.
 #![tactic(auto)]
 
-ghost use Rattle.std.specs.Prelude.{◌≡◌, ◌↔◌, codes, false, true, map, IfOk, IfErr, Some, IfSome};
+ghost use Rattle.std.specs.Prelude.{◌≡◌, ◌↔◌, codes, false, true, map, IfOk, Some, IfSome};
 ghost use Rattle.std.specs.Prelude.{IsSomeAnd, IsTrue, string_bytes};
 ghost use Rattle.std.specs.Result.{IsOkAnd};
 ghost use Rattle.std.specs.Option.{option_map};

@@ -1,15 +1,13 @@
 -- What a client knew it knows still.
-use Rattle.std.proofs.Common.{List, [], Bool, Result, refl, sym, ap, subst}
-use Rattle.std.proofs.Common.{inl, inr, ◌∙◌}
+use Rattle.std.proofs.Common.{List, [], Bool, refl, sym, ap, subst}
+use Rattle.std.proofs.Common.{◌∙◌}
 use Rattle.std.specs.Prelude.{Contains}
 use Rattle.std.proofs.lemmas.List.{append-nil}
 use Rattle.std.proofs.lemmas.List.Elements.{Contains-append_left}
-use Rattle.calls.specs.declared.refusal.Refusal.{Refusal}
 use Rattle.txn.specs.declared.steps.Action.{Action}
 use Rattle.group_commit.specs.declared.mark.Raised.{Raised}
 use Rattle.clients.specs.declared.naming.Naming.{Ghosts}
-use Rattle.clients.specs.declared.phase.Phase.{Phase}
-use Rattle.clients.specs.Calls.{Acts, Aborts, Hears}
+use Rattle.clients.specs.Calls.{Acts, Hears}
 use Rattle.clients.specs.Known.{Known}
 use Rattle.background.specs.Works.{KnowsStill}
 use Rattle.background.proofs.WorkLemmas.{prefix_through}

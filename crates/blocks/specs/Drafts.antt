@@ -1,6 +1,7 @@
 -- Records spelled into the blocks in which they will be handed over.
 use Rattle.std.specs.Prelude.{◌≡◌, ℕ, ◌+◌, ◌<◌, ◌≤◌, List, [], ◌∷◌, ◌++◌, length, drop}
 use Rattle.calls.specs.Limits.{max_body}
+use Rattle.gate_block.specs.Row.{block_head}
 use Rattle.record_format.specs.declared.record.Record.{Record}
 use Rattle.record_format.specs.Records.{record_of_call, spelled, spelling}
 use Rattle.blocks.specs.declared.noted.Noted.{Noted}
@@ -21,14 +22,14 @@ pub record Drafted : Type 0 where
 
 -- The head is there, and room for so many bytes more and a closed gate.
 pub record HasPlace (d : Drafted) (more : ℕ) : Type 0 where
-  pub head : 5 ≤ d.len
+  pub head : block_head ≤ d.len
   pub room : d.len + more < d.capacity
 
 -- The bytes are five for a head and then the records, with room for a closed gate. Where there is
 -- no record the head may be missing.
 pub record IsDraft (bytes : List ℕ) (capacity : ℕ) (records : List Record) : Type 0 where
-  pub body : drop 5 bytes ≡ spelling records
-  pub head : 0 < length records → (5 ≤ length bytes) × (length bytes < capacity)
+  pub body : drop block_head bytes ≡ spelling records
+  pub head : 0 < length records → (block_head ≤ length bytes) × (length bytes < capacity)
 
 -- The records fill a block, of which one more would not be a part.
 abbrev pub Fills : List Record → List Record → Type 0

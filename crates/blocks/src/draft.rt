@@ -1,8 +1,7 @@
 // A block in the making.
 ghost use Rattle.std.specs.Prelude.{◌≡◌, ◌+◌, ◌≤◌, ◌<◌, ◌^◌, [], ◌∷◌, ◌++◌, ◌↔◌, IsTrue, length};
-ghost use Rattle.std.specs.Prelude.{drop, ◌-◌, vec_len, vec_capacity, OnOk, OnErr, IfSome, IfErr};
+ghost use Rattle.std.specs.Prelude.{drop, ◌-◌, vec_len, vec_capacity, OnOk, OnErr, IfErr};
 ghost use Rattle.std.specs.Prelude.{IsOkUnless};
-ghost use Rattle.std.specs.Int.{w32, to_be_bytes};
 ghost use Rattle.gate_block.specs.Row.{IsBlockOf};
 ghost use Rattle.blocks.specs.Drafts.{HasPlace};
 ghost use Rattle.blocks.specs.Offers.{IsOffered};

@@ -21,7 +21,7 @@ use Rattle.recovery.specs.Finding.{IsFound}
 use Rattle.recovery.specs.Loading.{HoldsImage}
 use Rattle.recovery.specs.Surveys.{IsSurvey}
 use Rattle.recovery.specs.Copies.{IsCopyOf, IsTooLarge, IsCopyAnswer}
-use Rattle.recovery.specs.Upgrades.{IsUpgraded}
+use Rattle.recovery.specs.Upgrades.{IsUpgraded, IsOpenedFirst}
 use Rattle.repetition.specs.Steps.{State}
 use Rattle.gate_block.specs.declared.area.Area.{Area}
 use Rattle.gate_block.specs.Area.{base_of, size_of}
@@ -118,11 +118,12 @@ abbrev pub FormatLeaves : {D : Type 0} (g : Ghosts D) → (number : ℕ) → D �
 FormatLeaves g number old new = IsAtRest g.seen g.may_leave old →
     LeavesOnly g.moment g.left_since old new (IsMaking (IsEmptyAs number) (g.seen old))
 
--- A store at rest was brought to the second format, with its content, and is at rest.
+-- A store at rest was brought to the second format, with its content, and is at rest. One that was of
+-- this format was only opened.
 abbrev pub IsBroughtUp : {D : Type 0} (g : Ghosts D) → D → D → Type 0
-IsBroughtUp g old new = IsAtRest g.seen g.may_leave old →
-    IsUpgraded (g.seen old) (g.seen new) ×
-    IsAtRest g.seen g.may_leave new
+IsBroughtUp g old new = IsOpenedFirst (g.seen old) (g.seen new) ×
+    (IsAtRest g.seen g.may_leave old → IsUpgraded (g.seen old) (g.seen new) ×
+    IsAtRest g.seen g.may_leave new)
 
 -- A store was read and opened, and the disk is as the opening leaves it.
 pub record IsShown {D : Type 0} (g : Ghosts D) (old new : D) : Type 0 where

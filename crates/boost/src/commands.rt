@@ -1,5 +1,5 @@
 // What the program does for a command, on any disk.
-ghost use Rattle.std.specs.Prelude.{◌≡◌, ◌⊎◌, ℕ, List, [], Ok, Err, OnOk, IfOk, IfErr};
+ghost use Rattle.std.specs.Prelude.{◌≡◌, ◌⊎◌, ℕ, List, Ok, Err, OnOk, IfOk, IfErr};
 ghost use Rattle.std.specs.Prelude.{MatchResult, replicate};
 ghost use Rattle.disk_model.specs.Disk.{ReadsOnly};
 ghost use Rattle.recovery.specs.Openings.{KeepsContent};
@@ -324,13 +324,7 @@ fn stat<D: Disk, O: Write>(
     let mut disk = disk;
     match find(alloc, &mut disk) {
         Ok(found) => match found.survey(alloc) {
-            Ok(survey) => {
-                let format = found.machine.format();
-                (
-                    tell_survey(format, &survey, found.collections(), json, out),
-                    disk,
-                )
-            }
+            Ok(survey) => (tell_survey(&survey, found.collections(), json, out), disk),
             Err(refusal) => (Err(Failure::Refused(refusal)), disk),
         },
         Err(refusal) => (Err(Failure::Refused(refusal)), disk),

@@ -17,6 +17,7 @@ use Rattle.calls.specs.Queues as queues
 use Rattle.calls.specs.Counters as counters
 use Rattle.calls.specs.Pools as pools
 use Rattle.calls.specs.Stocks as stocks
+use Rattle.calls.specs.Quotas as quotas
 use Rattle.boosted.specs.Meaning.{Meaning}
 use Rattle.std.proofs.Common.{ℤ, refl}
 use Rattle.calls.proofs.SetLaws.{set_back, set_back_only, set_commutes, set_reads}
@@ -27,6 +28,8 @@ use Rattle.calls.proofs.CounterLaws.{counter_within, counter_starts, counter_rea
 use Rattle.calls.proofs.PoolLaws.{pool_back, pool_back_only, pool_commutes, pool_reads}
 use Rattle.calls.proofs.StockLaws.{stock_back, stock_back_only, stock_commutes, stock_reads}
 use Rattle.calls.proofs.StockLaws.{stock_within, stock_starts}
+use Rattle.calls.proofs.QuotaLaws.{quota_back, quota_back_only, quota_commutes, quota_reads}
+use Rattle.calls.proofs.QuotaLaws.{quota_within, none_within}
 use Rattle.calls.proofs.KindLaws.{set_answered, map_answered, queue_answered, counter_answered}
 use Rattle.calls.proofs.KindLaws.{pool_answered, deferrable_disposable, set_same, map_same}
 use Rattle.calls.proofs.KindLaws.{queue_same, counter_same, set_deferred, map_deferred}
@@ -34,7 +37,8 @@ use Rattle.calls.proofs.KindLaws.{queue_deferred, counter_deferred, pool_deferre
 use Rattle.calls.proofs.KindLaws.{map_leaves, queue_leaves, counter_leaves, pool_leaves}
 use Rattle.calls.proofs.KindLaws.{pool_deferred_stays, pool_past_call, pool_past_later}
 use Rattle.calls.proofs.KindLaws.{pool_past_undoing, stock_answered, stock_same, stock_deferred}
-use Rattle.calls.proofs.KindLaws.{stock_leaves}
+use Rattle.calls.proofs.KindLaws.{stock_leaves, quota_answered, quota_same, quota_deferred}
+use Rattle.calls.proofs.KindLaws.{quota_leaves}
 use Rattle.boosted.specs.Laws.{BoostedLaws}
 
 abbrev pub IsOf : Kind → Call → Type 0
@@ -73,6 +77,9 @@ pool_meaning = meaning_of Kind.Pool pools.Answers pools.after set.empty (λ s n.
 
 abbrev pub stock_meaning : Meaning ℕ (Unit {0})
 stock_meaning = meaning_of Kind.Stock stocks.Answers stocks.after 0 stocks.IsWithin
+
+abbrev pub quotas_meaning : Meaning quotas.Quotas (Unit {0})
+quotas_meaning = meaning_of Kind.Quotas quotas.Answers quotas.after map.empty quotas.IsWithin
 
 -- The laws of one collection of a kind, from those of its calls.
 module _ {S : Type 0} (answers : S → Call → Reply → Type 0) (after : S → Call → Reply → S) where
@@ -138,20 +145,19 @@ module _ {S : Type 0} (answers : S → Call → Reply → Type 0) (after : S →
 pub set_laws : BoostedLaws set_meaning
 set_laws =
     laws_where_same sets.Answers sets.after tt (λ s n c r w h. tt) set_answered set_deferred
-    set_leaves set_reads (λ s m t a ra b rb ask. set_commutes s m t a ra b rb)
-    (λ s t c r ask. set_back s t c r) (λ s t u c r ask. set_back_only s t u c r) set_same
+    set_leaves set_reads set_commutes (λ s t c r ask. set_back s t c r)
+    (λ s t u c r ask. set_back_only s t u c r) set_same
 
 pub map_laws : BoostedLaws map_meaning
 map_laws =
     laws_where_same maps.Answers maps.after tt (λ s n c r w h. tt) map_answered map_deferred
-    map_leaves map_reads (λ s m t a ra b rb ask. map_commutes s m t a ra b rb)
-    (λ s t c r ask. map_back s t c r) (λ s t u c r ask. map_back_only s t u c r) map_same
+    map_leaves map_reads map_commutes (λ s t c r ask. map_back s t c r)
+    (λ s t u c r ask. map_back_only s t u c r) map_same
 
 pub queue_laws : BoostedLaws queue_meaning
 queue_laws =
     laws_where_same queues.Answers queues.after tt (λ s n c r w h. tt) queue_answered
-    queue_deferred queue_leaves queue_reads
-    (λ s m t a ra b rb ask. queue_commutes s m t a ra b rb) queue_back queue_back_only queue_same
+    queue_deferred queue_leaves queue_reads queue_commutes queue_back queue_back_only queue_same
 
 pub counter_laws : BoostedLaws counter_meaning
 counter_laws =
@@ -164,10 +170,15 @@ counter_laws =
 pub pool_laws : BoostedLaws pool_meaning
 pool_laws =
     laws_of pools.Answers pools.after tt (λ s n c r w h. tt) pool_answered pool_deferred
-    pool_leaves pool_reads (λ s m t a ra b rb ask. pool_commutes s m t a ra b rb) pool_back
-    pool_back_only pool_deferred_stays pool_past_call pool_past_later pool_past_undoing
+    pool_leaves pool_reads pool_commutes pool_back pool_back_only pool_deferred_stays
+    pool_past_call pool_past_later pool_past_undoing
 
 pub stock_laws : BoostedLaws stock_meaning
 stock_laws =
     laws_where_same stocks.Answers stocks.after stock_starts stock_within stock_answered
     stock_deferred stock_leaves stock_reads stock_commutes stock_back stock_back_only stock_same
+
+pub quotas_laws : BoostedLaws quotas_meaning
+quotas_laws =
+    laws_where_same quotas.Answers quotas.after (none_within 0) quota_within quota_answered
+    quota_deferred quota_leaves quota_reads quota_commutes quota_back quota_back_only quota_same

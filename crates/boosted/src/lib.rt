@@ -21,6 +21,7 @@ mod counter;
 mod map;
 mod pool;
 mod queue;
+mod quotas;
 mod set;
 mod stock;
 mod table;
@@ -49,7 +50,7 @@ pub trait Boosted: Drop {
         ensures { IsTrue result ↔ meaning.answers self.now at call.now reply.now };
 
     /// Makes the call, answered so. NoMemory leaves the content as before, and comes only for a
-    /// call that puts something in: a SetAdd, a Put, a QueueAdd or a Draw.
+    /// call that puts something in: a SetAdd, a Put, a QueueAdd, a Draw, a QuotaFill or a Refund.
     fn run(&mut self, at: Self::At, call: &Call, reply: &Reply) -> Result<(), Refusal>
         requires can { meaning.answers self.old at call.now reply.now }
         requires room { HasRoom meaning self.old }

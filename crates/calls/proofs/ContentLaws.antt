@@ -7,6 +7,7 @@ use Rattle.calls.specs.Rules.{Apart, Askable, inverse_of, undone_by}
 use Rattle.calls.specs.Counters as counters
 use Rattle.calls.specs.Stocks as stocks
 use Rattle.calls.specs.Contents.{Content, InSet, InMap, InQueue, InCounter, InPool, InStock}
+use Rattle.calls.specs.Contents.{InQuotas}
 use Rattle.calls.specs.Contents.{Answers, after, Collection, AnswersAt, after_at, does}
 use Rattle.calls.proofs.Local.{Swapped}
 use Rattle.calls.proofs.SetLaws.{set_swapped, add_remove, remove_add}
@@ -15,6 +16,7 @@ use Rattle.calls.proofs.QueueLaws.{queue_swapped, add_take_out, take_out_add}
 use Rattle.calls.proofs.PoolLaws.{pool_swapped}
 use Rattle.calls.proofs.CounterLaws.{counter_commutes, back_again, neg_step}
 use Rattle.calls.proofs.StockLaws.{stock_commutes, spent_back, filled_back}
+use Rattle.calls.proofs.QuotaLaws as quota_laws
 use Rattle.std.proofs.lemmas.Int.{ints}
 use Rattle.calls.specs.Bags.{Bag, copies, add}
 use Rattle.calls.proofs.Points.{in_insert, in_remove, get_insert, get_remove}
@@ -34,22 +36,27 @@ module _ {C : Type 0} (Answered : C → Call → Reply → Type 0) (left : C →
 part_swapped : (s : Content) (a : Call) (ra : Reply) (b : Call) (rb : Reply) → Askable a →
     Apart a ra b rb → Answers s a ra → Answers (after s a ra) b rb →
     Swapped Answers after s a ra b rb
-part_swapped (InSet s) a ra b rb ask apart ha hb = let w = set_swapped s a ra b rb apart ha hb in
+part_swapped (InSet s) a ra b rb ask apart ha hb =
+    let w = set_swapped s a ra b rb ask apart ha hb in
     (w.0, w.1, ap InSet w.2)
-part_swapped (InMap s) a ra b rb ask apart ha hb = let w = map_swapped s a ra b rb apart ha hb in
+part_swapped (InMap s) a ra b rb ask apart ha hb =
+    let w = map_swapped s a ra b rb ask apart ha hb in
     (w.0, w.1, ap InMap w.2)
 part_swapped (InQueue s) a ra b rb ask apart ha hb =
-    let w = queue_swapped s a ra b rb apart ha hb in (w.0, w.1, ap InQueue w.2)
+    let w = queue_swapped s a ra b rb ask apart ha hb in (w.0, w.1, ap InQueue w.2)
 part_swapped (InCounter s) a ra b rb ask apart ha hb =
     let w = counter_commutes s _ _ a ra b rb apart (ha, refl) (hb, refl) in
     let v = turned counters.Answers counters.after s _ w.0 a ra b rb w.1 w.2 refl in
     (v.0, v.1, ap InCounter v.2)
-part_swapped (InPool s) a ra b rb ask apart ha hb = let w = pool_swapped s a ra b rb apart ha hb in
+part_swapped (InPool s) a ra b rb ask apart ha hb =
+    let w = pool_swapped s a ra b rb ask apart ha hb in
     (w.0, w.1, ap InPool w.2)
 part_swapped (InStock s) a ra b rb ask apart ha hb =
     let w = stock_commutes s _ _ a ra b rb ask apart (ha, refl) (hb, refl) in
     let v = turned stocks.Answers stocks.after s _ w.0 a ra b rb w.1 w.2 refl in
     (v.0, v.1, ap InStock v.2)
+part_swapped (InQuotas s) a ra b rb ask apart ha hb =
+    let w = quota_laws.quota_swapped s a ra b rb ask apart ha hb in (w.0, w.1, ap InQuotas w.2)
 
 swapped_at : (s : List Collection) (i j : ℕ) (a : Call) (ra : Reply) (b : Call) (rb : Reply) →
     Askable a → (i ≡ j → Apart a ra b rb) → AnswersAt s i a ra →
@@ -98,6 +105,10 @@ part_undone (InSet s) (Call.SetRemove x) Reply.Yes = (
   λ h. ap InSet (sym (add_remove s x h.1)),
   λ h. ((h.0, in_remove s x x refl), ap InSet (sym (remove_add s x h.1))),
 )
+part_undone (InSet s) Call.Pick (Reply.Id x) = (
+  λ h. ap InSet (sym (add_remove s x h.1)),
+  λ h. (((h.0.1, tt), in_remove s x x refl), ap InSet (sym (remove_add s x h.1))),
+)
 part_undone (InMap m) (Call.Put k v) Reply.Nothing = (
   λ h. ap InMap (sym (remove_put m k v h.1)),
   λ h. ((h.0, get_insert m k v k refl), ap InMap (sym (put_remove m k v h.1))),
@@ -130,8 +141,17 @@ part_undone (InStock s) (Call.Spend n) Reply.Yes = (
   λ h. ap InStock (sym (filled_back s n)),
   λ h. (((h.0.0, tt), tt), ap InStock (sym (spent_back s n h.1))),
 )
+part_undone (InQuotas q) (Call.QuotaSpend k n) Reply.Yes = (
+  λ h. ap InQuotas (sym (quota_laws.spent_back q k n)),
+  λ h. ((h.0, tt), ap InQuotas (sym (quota_laws.given_back q k n h.1))),
+)
+part_undone (InQuotas q) (Call.QuotaFill k n) Reply.Done = (
+  λ h. ap InQuotas (sym (quota_laws.given_back q k n h.1)),
+  λ h. ((h.0, quota_laws.filled_there q k n), ap InQuotas (sym (quota_laws.spent_back q k n))),
+)
 part_undone s (Call.SetAdd x) Reply.Yes = (λ h. absurd h.1, λ h. absurd h.1)
 part_undone s (Call.SetRemove x) Reply.Yes = (λ h. absurd h.1, λ h. absurd h.1)
+part_undone s Call.Pick (Reply.Id x) = (λ h. absurd h.1, λ h. absurd h.1)
 part_undone s (Call.Put k v) Reply.Nothing = (λ h. absurd h.1, λ h. absurd h.1)
 part_undone s (Call.Put k v) (Reply.Value o) = (λ h. absurd h.1, λ h. absurd h.1)
 part_undone s (Call.MapRemove k) (Reply.Value o) = (λ h. absurd h.1, λ h. absurd h.1)
@@ -140,6 +160,8 @@ part_undone s Call.Take (Reply.Item p g) = (λ h. absurd h.1, λ h. absurd h.1)
 part_undone s (Call.Bump n) Reply.Done = (λ h. absurd h.1, λ h. absurd h.1)
 part_undone s Call.Draw (Reply.Id x) = (λ h. absurd h.1, λ h. absurd h.1)
 part_undone s (Call.Spend n) Reply.Yes = (λ h. absurd h.1, λ h. absurd h.1)
+part_undone s (Call.QuotaSpend k n) Reply.Yes = (λ h. absurd h.1, λ h. absurd h.1)
+part_undone s (Call.QuotaFill k n) Reply.Done = (λ h. absurd h.1, λ h. absurd h.1)
 part_undone s c r = tt
 
 -- the same of the collection at a place

@@ -18,6 +18,7 @@ use Rattle.calls.specs.Queues as queues
 use Rattle.calls.specs.Counters as counters
 use Rattle.calls.specs.Pools as pools
 use Rattle.calls.specs.Stocks as stocks
+use Rattle.calls.specs.Quotas as quotas
 use Rattle.std.specs.List.{AllByRecursion}
 use Rattle.calls.proofs.Points.{in_remove_other}
 use Rattle.calls.proofs.PoolLaws.{free_kept, free_kept_past_free}
@@ -34,6 +35,7 @@ pub set_answered : (s : sets.NumberSet) (c : Call) (r : Reply) → sets.Answers 
 set_answered s (Call.Contains x) r h = refl
 set_answered s (Call.SetAdd x) r h = refl
 set_answered s (Call.SetRemove x) r h = refl
+set_answered s Call.Pick r h = refl
 set_answered s c r h = absurd h.1
 
 pub map_answered : (s : maps.Table) (c : Call) (r : Reply) → maps.Answers s c r →
@@ -71,6 +73,14 @@ stock_answered s Call.Level r h = refl
 stock_answered s (Call.Fill n) r h = refl
 stock_answered s c r h = absurd h.1
 
+pub quota_answered : (s : quotas.Quotas) (c : Call) (r : Reply) → quotas.Answers s c r →
+    kind_of c ≡ Kind.Quotas
+quota_answered s (Call.QuotaSpend k n) r h = refl
+quota_answered s (Call.QuotaLevel k) r h = refl
+quota_answered s (Call.QuotaFill k n) r h = refl
+quota_answered s (Call.Refund k n) r h = refl
+quota_answered s c r h = absurd h.1
+
 pub deferrable_disposable : (d : Call) → Deferrable d → Disposable d
 deferrable_disposable (Call.Bump n) h = tt
 deferrable_disposable (Call.Fill n) h = tt
@@ -80,7 +90,8 @@ pub leaves_one : (c : Call) (r : Reply) → length (left_by c r) ≤ 1
 leaves_one (Call.Release x) Reply.Queued = omega arith
 leaves_one c r = omega arith
 
--- A later that a set, a map, a queue, a counter or a stock answers, it answers at every content.
+-- A later that a set, a map, a queue, a counter, a stock or quotas answer, they answer at every
+-- content.
 pub set_same : (s t : sets.NumberSet) (d : Call) → Disposable d → sets.Answers s d Reply.Done →
     sets.Answers t d Reply.Done
 set_same s t (Call.Bump n) l h = absurd h.1
@@ -115,6 +126,13 @@ stock_same s t (Call.Fill n) l h = h
 stock_same s t (Call.Bump n) l h = absurd h.1
 stock_same s t (Call.Free x) l h = absurd h.1
 stock_same s t d l h = absurd l
+
+pub quota_same : (s t : quotas.Quotas) (d : Call) → Disposable d → quotas.Answers s d Reply.Done →
+    quotas.Answers t d Reply.Done
+quota_same s t (Call.Bump n) l h = absurd h.1
+quota_same s t (Call.Free x) l h = absurd h.1
+quota_same s t (Call.Fill n) l h = absurd h.1
+quota_same s t d l h = absurd l
 
 -- Only a bump and a filling can be put off: a counter has bumps, and a stock has fillings.
 pub set_deferred : (s : sets.NumberSet) (d : Call) → kind_of d ≡ Kind.Set → Deferrable d →
@@ -152,6 +170,12 @@ pub stock_deferred : (s : ℕ) (d : Call) → kind_of d ≡ Kind.Stock → Defer
 stock_deferred s (Call.Bump n) k l = cc
 stock_deferred s (Call.Fill n) k l = ((l, tt), tt)
 stock_deferred s d k l = absurd l
+
+pub quota_deferred : (s : quotas.Quotas) (d : Call) → kind_of d ≡ Kind.Quotas → Deferrable d →
+    quotas.Answers s d Reply.Done
+quota_deferred s (Call.Bump n) k l = cc
+quota_deferred s (Call.Fill n) k l = cc
+quota_deferred s d k l = absurd l
 
 pub pool_deferred_stays : (s t : sets.NumberSet) (d : Call) → Deferrable d →
     pools.Answers s d Reply.Done → pools.Answers t d Reply.Done
@@ -197,6 +221,7 @@ free_past_undoing s u Call.Draw (Reply.Id y) x apart back t = (
 )
 free_past_undoing s u (Call.SetAdd y) Reply.Yes x apart back t = absurd back.1.0.1
 free_past_undoing s u (Call.SetRemove y) Reply.Yes x apart back t = absurd back.1.0.1
+free_past_undoing s u Call.Pick (Reply.Id y) x apart back t = absurd back.1.0.1
 free_past_undoing s u (Call.Put k v) Reply.Nothing x apart back t = absurd back.1.0.1
 free_past_undoing s u (Call.Put k v) (Reply.Value o) x apart back t = absurd back.1.0.1
 free_past_undoing s u (Call.MapRemove k) (Reply.Value o) x apart back t = absurd back.1.0.1
@@ -204,6 +229,8 @@ free_past_undoing s u (Call.QueueAdd p g) Reply.Done x apart back t = absurd bac
 free_past_undoing s u Call.Take (Reply.Item p g) x apart back t = absurd back.1.0.1
 free_past_undoing s u (Call.Bump n) Reply.Done x apart back t = absurd back.1.0.1
 free_past_undoing s u (Call.Spend n) Reply.Yes x apart back t = absurd back.1.0.1
+free_past_undoing s u (Call.QuotaSpend k n) Reply.Yes x apart back t = absurd back.1.0.1
+free_past_undoing s u (Call.QuotaFill k n) Reply.Done x apart back t = absurd back.1.0.1
 free_past_undoing s u c r x apart back t =
     subst (λ v. pools.Answers v (Call.Free x) Reply.Done) (sym back) t
 
@@ -269,6 +296,11 @@ pub stock_leaves : (s : ℕ) (c : Call) (r : Reply) → stocks.Answers s c r →
 stock_leaves s (Call.Release x) Reply.Queued h = absurd h.1
 stock_leaves s c r h = tt
 
+pub quota_leaves : (s : quotas.Quotas) (c : Call) (r : Reply) → quotas.Answers s c r →
+    AllByRecursion (λ d. quotas.Answers (quotas.after s c r) d Reply.Done) (left_by c r)
+quota_leaves s (Call.Release x) Reply.Queued h = absurd h.1
+quota_leaves s c r h = tt
+
 -- ---- names of kinds
 
 no_space : (xs : List ℕ) → AllByRecursion (λ b. b ≢ 32) xs → (k d : ℕ) → k < length xs →
@@ -303,3 +335,4 @@ kind_whole Kind.Queue = whole_by_test (codes "queue") refl
 kind_whole Kind.Counter = whole_by_test (codes "counter") refl
 kind_whole Kind.Pool = whole_by_test (codes "pool") refl
 kind_whole Kind.Stock = whole_by_test (codes "stock") refl
+kind_whole Kind.Quotas = whole_by_test (codes "quotas") refl

@@ -7,6 +7,9 @@ pub mod QueueLaws
 pub mod MapLaws
 pub mod PoolLaws
 pub mod StockLaws
+pub mod Found
+pub mod QuotaPoints
+pub mod QuotaLaws
 pub mod ContentLaws
 pub mod KindLaws
 pub mod Conflicts

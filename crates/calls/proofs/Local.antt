@@ -7,7 +7,7 @@ use Rattle.calls.specs.declared.need.Mode.{Mode}
 use Rattle.calls.specs.declared.need.Need.{Need}
 use Rattle.calls.specs.declared.call.Call.{Call}
 use Rattle.calls.specs.declared.reply.Reply.{Reply}
-use Rattle.calls.specs.Rules.{InRange, Conflict, Compatible, need_of, Apart}
+use Rattle.calls.specs.Rules.{InRange, Conflict, Compatible, need_of, Apart, Askable}
 
 -- A key is off a need.
 abbrev pub Off : ℕ → Need → Type 0
@@ -46,9 +46,10 @@ pub record IsLocal {C X : Type 0} (Answers : C → Call → Reply → Type 0)
   -- a call that reads changes nothing
   pub reads : (s : C) (c : Call) (r : Reply) → (need_of c r).mode ≡ Mode.Read → Answers s c r →
       after s c r ≡ s
-  -- two that change the same keys side by side may change places
-  pub joins : (s : C) (a : Call) (ra : Reply) (b : Call) (rb : Reply) → Joins (need_of a ra).mode →
-      Joins (need_of b rb).mode → Answers s a ra → Answers (after s a ra) b rb →
+  -- two that change the same keys side by side may change places, if a client can ask for the first
+  pub joins : (s : C) (a : Call) (ra : Reply) (b : Call) (rb : Reply) → Askable a →
+      Joins (need_of a ra).mode → Joins (need_of b rb).mode → Answers s a ra →
+      Answers (after s a ra) b rb →
       Swapped Answers after s a ra b rb
 
 -- What is local stays so where only numbers in range are answered.
@@ -61,7 +62,7 @@ ranged l = record {
   answers = λ s t c r e h. (h.0, l.answers s t c r e h.1);
   on = λ s t c r e h. l.on s t c r e h.1;
   reads = λ s c r m h. l.reads s c r m h.1;
-  joins = λ s a ra b rb ma mb ha hb. let w = l.joins s a ra b rb ma mb ha.1 hb.1 in
+  joins = λ s a ra b rb ask ma mb ha hb. let w = l.joins s a ra b rb ask ma mb ha.1 hb.1 in
       ((hb.0, w.0), (ha.0, w.1), w.2);
 }
 
@@ -144,22 +145,23 @@ module _ {C X : Type 0} {Answers : C → Call → Reply → Type 0} {after : C �
         ap (λ v. after v b rb) ea ∙ eb ∙ sym ea ∙ ap (λ v. after v a ra) (sym eb),
       )
 
-  pub swapped : (s : C) (a : Call) (ra : Reply) (b : Call) (rb : Reply) → Apart a ra b rb →
-      Answers s a ra → Answers (after s a ra) b rb → Swapped Answers after s a ra b rb
-  swapped s a ra b rb apart ha hb =
+  pub swapped : (s : C) (a : Call) (ra : Reply) (b : Call) (rb : Reply) → Askable a →
+      Apart a ra b rb → Answers s a ra → Answers (after s a ra) b rb →
+      Swapped Answers after s a ra b rb
+  swapped s a ra b rb ask apart ha hb =
       ⊎_elim
       (λ d. beside s a ra b rb d ha hb)
       (λ (modes : (((need_of a ra).mode ≡ Mode.Read) × ((need_of b rb).mode ≡ Mode.Read)) ⊎
       (Joins (need_of a ra).mode × Joins (need_of b rb).mode)). ⊎_elim
       (λ (w : ((need_of a ra).mode ≡ Mode.Read) × ((need_of b rb).mode ≡ Mode.Read)). both_read
       s a ra b rb w.0 w.1 ha hb) (λ (w : Joins (need_of a ra).mode × Joins (need_of b rb).mode).
-      local.joins s a ra b rb w.0 w.1 ha hb) modes)
+      local.joins s a ra b rb ask w.0 w.1 ha hb) modes)
       (cases_apart (need_of a ra) (need_of b rb) apart)
 
-  -- The law: calls whose needs do not conflict commute.
-  pub commutes : (s m t : C) (a : Call) (ra : Reply) (b : Call) (rb : Reply) → Apart a ra b rb →
-      Answers s a ra × (m ≡ after s a ra) → Answers m b rb × (t ≡ after m b rb) →
+  -- The law: calls whose needs do not conflict commute, where a client can ask for the first.
+  pub commutes : (s m t : C) (a : Call) (ra : Reply) (b : Call) (rb : Reply) → Askable a →
+      Apart a ra b rb → Answers s a ra × (m ≡ after s a ra) → Answers m b rb × (t ≡ after m b rb) →
       (u : C) × (Answers s b rb × (u ≡ after s b rb)) × (Answers u a ra × (t ≡ after u a ra))
-  commutes s m t a ra b rb apart da db =
-      let w = swapped s a ra b rb apart da.0 (subst (λ v. Answers v b rb) da.1 db.0) in
+  commutes s m t a ra b rb ask apart da db =
+      let w = swapped s a ra b rb ask apart da.0 (subst (λ v. Answers v b rb) da.1 db.0) in
       (after s b rb, (w.0, refl), (w.1, db.1 ∙ ap (λ v. after v b rb) da.1 ∙ w.2))

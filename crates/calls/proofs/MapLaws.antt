@@ -7,7 +7,7 @@ use Rattle.std.specs.FinMap.{get, insert, remove, same_map, nat_cmp-IsAntisymmet
 use Rattle.calls.specs.declared.call.Call.{Call}
 use Rattle.calls.specs.declared.reply.Reply.{Reply}
 use Rattle.calls.specs.declared.need.Mode.{Mode}
-use Rattle.calls.specs.Rules.{need_of, Apart, inverse_of, Undoes}
+use Rattle.calls.specs.Rules.{need_of, Apart, inverse_of, Undoes, Askable}
 use Rattle.calls.specs.Maps.{Table, Row, Answers, after, does}
 use Rattle.calls.proofs.Local.{IsLocal, Agree, Swapped, Joins, ranged, commutes, swapped}
 use Rattle.calls.proofs.Points.{get_insert, get_insert_other, get_remove, get_remove_other}
@@ -102,11 +102,12 @@ local = record {
   answers = answers;
   on = on;
   reads = reads;
-  joins = λ s a ra b rb ma mb ha hb. absurd (no_join s a ra ma ha);
+  joins = λ s a ra b rb ask ma mb ha hb. absurd (no_join s a ra ma ha);
 }
 
 pub map_commutes : (s m t : Table) (a : Call) (ra : Reply) (b : Call) (rb : Reply) →
-    Apart a ra b rb → does s a ra m → does m b rb t → (u : Table) × does s b rb u × does u a ra t
+    Askable a → Apart a ra b rb → does s a ra m → does m b rb t →
+    (u : Table) × does s b rb u × does u a ra t
 map_commutes = commutes (ranged local)
 
 -- The inverse leads back.
@@ -170,6 +171,7 @@ map_back_only s t u (Call.Ceiling k) (Reply.Entry j v) d back = back ∙ d.1
 map_back_only s t u (Call.Ceiling k) Reply.Nothing d back = back ∙ d.1
 map_back_only s t u c r d back = absurd d.0.1
 
-pub map_swapped : (s : Table) (a : Call) (ra : Reply) (b : Call) (rb : Reply) → Apart a ra b rb →
-    Answers s a ra → Answers (after s a ra) b rb → Swapped Answers after s a ra b rb
+pub map_swapped : (s : Table) (a : Call) (ra : Reply) (b : Call) (rb : Reply) → Askable a →
+    Apart a ra b rb → Answers s a ra → Answers (after s a ra) b rb →
+    Swapped Answers after s a ra b rb
 map_swapped = swapped (ranged local)

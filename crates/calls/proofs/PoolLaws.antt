@@ -65,11 +65,11 @@ local = record {
   answers = answers;
   on = on;
   reads = reads;
-  joins = λ s a ra b rb ma mb ha hb. absurd (no_join s a ra ma ha);
+  joins = λ s a ra b rb ask ma mb ha hb. absurd (no_join s a ra ma ha);
 }
 
 pub pool_commutes : (s m t : NumberSet) (a : Call) (ra : Reply) (b : Call) (rb : Reply) →
-    Apart a ra b rb → does s a ra m → does m b rb t →
+    Askable a → Apart a ra b rb → does s a ra m → does m b rb t →
     (u : NumberSet) × does s b rb u × does u a ra t
 pool_commutes = commutes (ranged local)
 
@@ -117,7 +117,7 @@ pub free_kept_past_free : (s : NumberSet) (x y : ℕ) → (x ≡ y → ⊥) →
     Answers (after s (Call.Free y) Reply.Done) (Call.Free x) Reply.Done
 free_kept_past_free s x y e t = (t.0, in_remove_other s y x e ∙ t.1)
 
-pub pool_swapped : (s : NumberSet) (a : Call) (ra : Reply) (b : Call) (rb : Reply) →
+pub pool_swapped : (s : NumberSet) (a : Call) (ra : Reply) (b : Call) (rb : Reply) → Askable a →
     Apart a ra b rb → Answers s a ra → Answers (after s a ra) b rb →
     Swapped Answers after s a ra b rb
 pool_swapped = swapped (ranged local)

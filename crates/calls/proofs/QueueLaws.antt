@@ -141,23 +141,24 @@ joins_next s p g Call.Least (Reply.Item k h) m a = absurd m
 joins_next s p g Call.Least Reply.Nothing m a = absurd m
 joins_next s p g b rb m a = absurd a
 
-joins : (s : Bag) (a : Call) (ra : Reply) (b : Call) (rb : Reply) → Joins (need_of a ra).mode →
-    Joins (need_of b rb).mode → Row s a ra → Row (after s a ra) b rb →
+joins : (s : Bag) (a : Call) (ra : Reply) (b : Call) (rb : Reply) → Askable a →
+    Joins (need_of a ra).mode → Joins (need_of b rb).mode → Row s a ra → Row (after s a ra) b rb →
     Swapped Row after s a ra b rb
-joins s (Call.QueueAdd p g) Reply.Done b rb ma mb ha hb = joins_next s p g b rb mb hb
-joins s Call.Take (Reply.Item k h) b rb ma mb ha hb = absurd ma
-joins s (Call.Pluck k h) Reply.Done b rb ma mb ha hb = absurd ma
-joins s Call.Take Reply.Nothing b rb ma mb ha hb = absurd ma
-joins s Call.Least (Reply.Item k h) b rb ma mb ha hb = absurd ma
-joins s Call.Least Reply.Nothing b rb ma mb ha hb = absurd ma
-joins s a ra b rb ma mb ha hb = absurd ha
+joins s (Call.QueueAdd p g) Reply.Done b rb ask ma mb ha hb = joins_next s p g b rb mb hb
+joins s Call.Take (Reply.Item k h) b rb ask ma mb ha hb = absurd ma
+joins s (Call.Pluck k h) Reply.Done b rb ask ma mb ha hb = absurd ma
+joins s Call.Take Reply.Nothing b rb ask ma mb ha hb = absurd ma
+joins s Call.Least (Reply.Item k h) b rb ask ma mb ha hb = absurd ma
+joins s Call.Least Reply.Nothing b rb ask ma mb ha hb = absurd ma
+joins s a ra b rb ask ma mb ha hb = absurd ha
 
 local : IsLocal Row after cell
 local = record { same = same; off = off; answers = answers; on = on; reads = reads; joins = joins }
 
 -- Calls of a queue whose needs do not conflict commute.
 pub queue_commutes : (s m t : Bag) (a : Call) (ra : Reply) (b : Call) (rb : Reply) →
-    Apart a ra b rb → does s a ra m → does m b rb t → (u : Bag) × does s b rb u × does u a ra t
+    Askable a → Apart a ra b rb → does s a ra m → does m b rb t →
+    (u : Bag) × does s b rb u × does u a ra t
 queue_commutes = commutes (ranged local)
 
 -- The inverse leads back.
@@ -206,6 +207,7 @@ queue_back_only s t u Call.Least Reply.Nothing k d back = back ∙ d.1
 queue_back_only s t u (Call.Pluck p g) r k d back = absurd k
 queue_back_only s t u c r k d back = absurd d.0.1
 
-pub queue_swapped : (s : Bag) (a : Call) (ra : Reply) (b : Call) (rb : Reply) → Apart a ra b rb →
-    Answers s a ra → Answers (after s a ra) b rb → Swapped Answers after s a ra b rb
+pub queue_swapped : (s : Bag) (a : Call) (ra : Reply) (b : Call) (rb : Reply) → Askable a →
+    Apart a ra b rb → Answers s a ra → Answers (after s a ra) b rb →
+    Swapped Answers after s a ra b rb
 queue_swapped = swapped (ranged local)

@@ -19,6 +19,7 @@ read_mode c r is = by_mode (need_of c r).mode is
 pub read_inverse : (c : Call) (r : Reply) → reads c r ≡ true → inverse_of c r ≡ None
 read_inverse (Call.SetAdd x) Reply.Yes is = none_here is
 read_inverse (Call.SetRemove x) Reply.Yes is = none_here is
+read_inverse Call.Pick (Reply.Id x) is = none_here is
 read_inverse (Call.Put k v) Reply.Nothing is = none_here is
 read_inverse (Call.Put k v) (Reply.Value o) is = none_here is
 read_inverse (Call.MapRemove k) (Reply.Value o) is = none_here is
@@ -27,6 +28,8 @@ read_inverse Call.Take (Reply.Item p g) is = none_here is
 read_inverse (Call.Bump n) Reply.Done is = none_here is
 read_inverse Call.Draw (Reply.Id x) is = none_here is
 read_inverse (Call.Spend n) Reply.Yes is = none_here is
+read_inverse (Call.QuotaSpend k n) Reply.Yes is = none_here is
+read_inverse (Call.QuotaFill k n) Reply.Done is = none_here is
 read_inverse c r is = refl
 
 pub read_leaves : (c : Call) (r : Reply) → reads c r ≡ true → left_by c r ≡ []

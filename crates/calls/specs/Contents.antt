@@ -1,5 +1,5 @@
 -- What a collection holds, and what a list of named collections holds.
-use Rattle.std.specs.Prelude.{◌≡◌, ℕ, zero, suc, ℤ, pos, List, [], ◌∷◌, map, replicate, codes}
+use Rattle.std.specs.Prelude.{◌≡◌, ℕ, zero, suc, ℤ, pos, ◌<ℤ◌, List, [], ◌∷◌, map, replicate, codes}
 use Rattle.std.specs.List.{flat_map}
 use Rattle.std.specs.FinMap as maps_of
 use Rattle.std.specs.FinSet as sets_of
@@ -14,6 +14,7 @@ use Rattle.calls.specs.Queues as queues
 use Rattle.calls.specs.Counters as counters
 use Rattle.calls.specs.Pools as pools
 use Rattle.calls.specs.Stocks as stocks
+use Rattle.calls.specs.Quotas as quotas
 
 pub data Content : Type 0 where
   InSet : sets.NumberSet → Content
@@ -22,6 +23,7 @@ pub data Content : Type 0 where
   InCounter : ℤ → Content
   InPool : sets.NumberSet → Content
   InStock : ℕ → Content
+  InQuotas : quotas.Quotas → Content
 
 -- The items of a collection, in their order: a queue's by priority and then tag, each as often as
 -- it is there.
@@ -33,6 +35,7 @@ items_of (InQueue q) = flat_map (λ e. replicate (suc e.1) (Item.Pair e.0.0 e.0.
 items_of (InCounter n) = Item.Number n ∷ []
 items_of (InPool s) = map Item.Element (sets_of.items s)
 items_of (InStock n) = Item.Number (pos n) ∷ []
+items_of (InQuotas q) = map (λ e. Item.Amount e.0 (pos (suc e.1))) (maps_of.entries q)
 
 -- The kind of a content.
 abbrev pub kind_of_content : Content → Kind
@@ -42,6 +45,7 @@ kind_of_content (InQueue q) = Kind.Queue
 kind_of_content (InCounter n) = Kind.Counter
 kind_of_content (InPool s) = Kind.Pool
 kind_of_content (InStock n) = Kind.Stock
+kind_of_content (InQuotas q) = Kind.Quotas
 
 -- The name of a kind in scripts, and in what the program prints.
 abbrev pub kind_text : Kind → List ℕ
@@ -51,6 +55,11 @@ kind_text Kind.Queue = codes "queue"
 kind_text Kind.Counter = codes "counter"
 kind_text Kind.Pool = codes "pool"
 kind_text Kind.Stock = codes "stock"
+kind_text Kind.Quotas = codes "quotas"
+
+-- An amount that a key of quotas has: where it is nothing, the key is not there.
+abbrev pub IsPositive : ℤ → Type 0
+IsPositive n = pos 0 <ℤ n
 
 -- The item is one of a collection of the kind.
 abbrev pub IsItemOf : Kind → Item → Type 0
@@ -60,6 +69,7 @@ IsItemOf Kind.Queue (Item.Pair p g) = Unit {0}
 IsItemOf Kind.Counter (Item.Number n) = Unit {0}
 IsItemOf Kind.Pool (Item.Element x) = Unit {0}
 IsItemOf Kind.Stock (Item.Number (pos n)) = Unit {0}
+IsItemOf Kind.Quotas (Item.Amount k n) = IsPositive n
 IsItemOf kind i = ⊥
 
 -- what a collection holds when it is made
@@ -70,6 +80,7 @@ empty Kind.Queue = InQueue maps_of.empty
 empty Kind.Counter = InCounter (pos 0)
 empty Kind.Pool = InPool sets_of.empty
 empty Kind.Stock = InStock 0
+empty Kind.Quotas = InQuotas maps_of.empty
 
 abbrev pub Answers : Content → Call → Reply → Type 0
 Answers (InSet s) c r = sets.Answers s c r
@@ -78,6 +89,7 @@ Answers (InQueue q) c r = queues.Answers q c r
 Answers (InCounter n) c r = counters.Answers n c r
 Answers (InPool s) c r = pools.Answers s c r
 Answers (InStock n) c r = stocks.Answers n c r
+Answers (InQuotas q) c r = quotas.Answers q c r
 
 abbrev pub after : Content → Call → Reply → Content
 after (InSet s) c r = InSet (sets.after s c r)
@@ -86,6 +98,7 @@ after (InQueue q) c r = InQueue (queues.after q c r)
 after (InCounter n) c r = InCounter (counters.after n c r)
 after (InPool s) c r = InPool (pools.after s c r)
 after (InStock n) c r = InStock (stocks.after n c r)
+after (InQuotas q) c r = InQuotas (quotas.after q c r)
 
 pub record Collection : Type 0 where
   pub name : List ℕ

@@ -6,6 +6,7 @@ pub mod Queues
 pub mod Counters
 pub mod Pools
 pub mod Stocks
+pub mod Quotas
 pub mod Modes
 pub mod Contents
 pub mod Transactions

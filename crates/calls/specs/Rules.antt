@@ -20,8 +20,8 @@ pub record IsStep (n : ℤ) : Type 0 where
   pub above : negsuc (2 ^ 63 - 1) <ℤ n
   pub below : n <ℤ pos (2 ^ 63)
 
--- At once less than 2 ^ 63 is taken out of a stock, or added to it, so that what few steps can
--- reach is bounded as for a counter.
+-- At once less than 2 ^ 63 is taken out of a stock or of a quota, or added to it, so that what few
+-- steps can reach is bounded as for a counter.
 abbrev pub IsAmount : ℕ → Type 0
 IsAmount n = n ≤ 2 ^ 63 - 1
 
@@ -31,6 +31,7 @@ abbrev pub CallInRange : Call → Type 0
 CallInRange (Call.Contains x) = x ≤ top
 CallInRange (Call.SetAdd x) = x ≤ top
 CallInRange (Call.SetRemove x) = x ≤ top
+CallInRange Call.Pick = Unit {0}
 CallInRange (Call.Get k) = k ≤ top
 CallInRange (Call.Put k v) = k ≤ top
 CallInRange (Call.MapRemove k) = k ≤ top
@@ -47,6 +48,10 @@ CallInRange (Call.Free x) = x ≤ top
 CallInRange (Call.Spend n) = IsAmount n
 CallInRange Call.Level = Unit {0}
 CallInRange (Call.Fill n) = IsAmount n
+CallInRange (Call.QuotaSpend k n) = (k ≤ top) × IsAmount n
+CallInRange (Call.QuotaLevel k) = k ≤ top
+CallInRange (Call.QuotaFill k n) = (k ≤ top) × IsAmount n
+CallInRange (Call.Refund k n) = (k ≤ top) × IsAmount n
 
 abbrev pub ReplyInRange : Reply → Type 0
 ReplyInRange (Reply.Entry k v) = k ≤ top
@@ -62,6 +67,7 @@ abbrev pub kind_of : Call → Kind
 kind_of (Call.Contains x) = Kind.Set
 kind_of (Call.SetAdd x) = Kind.Set
 kind_of (Call.SetRemove x) = Kind.Set
+kind_of Call.Pick = Kind.Set
 kind_of (Call.Get k) = Kind.Map
 kind_of (Call.Put k v) = Kind.Map
 kind_of (Call.MapRemove k) = Kind.Map
@@ -78,6 +84,10 @@ kind_of (Call.Free x) = Kind.Pool
 kind_of (Call.Spend n) = Kind.Stock
 kind_of Call.Level = Kind.Stock
 kind_of (Call.Fill n) = Kind.Stock
+kind_of (Call.QuotaSpend k n) = Kind.Quotas
+kind_of (Call.QuotaLevel k) = Kind.Quotas
+kind_of (Call.QuotaFill k n) = Kind.Quotas
+kind_of (Call.Refund k n) = Kind.Quotas
 
 -- A queued release leaves the freeing of its identifier.
 abbrev pub left_by : Call → Reply → List Call
@@ -85,7 +95,7 @@ left_by (Call.Release x) Reply.Queued = Call.Free x ∷ []
 left_by c r = []
 
 -- Two who read the same keys, or two who add at them, do not disturb each other; nor do those who
--- take from a stock and those who give to it.
+-- take from a stock or a quota and those who give to it.
 abbrev pub Compatible : Mode → Mode → Type 0
 Compatible Mode.Read Mode.Read = Unit {0}
 Compatible Mode.Add Mode.Add = Unit {0}
@@ -112,9 +122,12 @@ write_at low high = record { low = low; high = high; mode = Mode.Write }
 abbrev add_at : ℕ → ℕ → Need
 add_at low high = record { low = low; high = high; mode = Mode.Add }
 
--- A call of a stock uses all of it.
+-- A call of a stock uses all of it, and one of quotas a key.
 abbrev whole_in : Mode → Need
 whole_in mode = record { low = 0; high = top; mode = mode }
+
+abbrev key_in : Mode → ℕ → Need
+key_in mode k = record { low = k; high = k; mode = mode }
 
 -- What a call with its reply needs.
 abbrev pub need_of : Call → Reply → Need
@@ -123,6 +136,8 @@ need_of (Call.SetAdd x) Reply.Yes = write_at x x
 need_of (Call.SetAdd x) Reply.No = read_at x x
 need_of (Call.SetRemove x) Reply.Yes = write_at x x
 need_of (Call.SetRemove x) Reply.No = read_at x x
+need_of Call.Pick (Reply.Id x) = write_at x x
+need_of Call.Pick Reply.Nothing = read_at 0 top
 need_of (Call.Get k) r = read_at k k
 need_of (Call.Put k v) r = write_at k k
 need_of (Call.MapRemove k) (Reply.Value v) = write_at k k
@@ -145,6 +160,11 @@ need_of (Call.Spend n) Reply.Yes = whole_in Mode.Take
 need_of (Call.Spend n) Reply.No = whole_in Mode.Read
 need_of Call.Level r = whole_in Mode.Read
 need_of (Call.Fill n) r = whole_in Mode.Give
+need_of (Call.QuotaSpend k n) Reply.Yes = key_in Mode.Take k
+need_of (Call.QuotaSpend k n) Reply.No = key_in Mode.Read k
+need_of (Call.QuotaLevel k) r = key_in Mode.Read k
+need_of (Call.QuotaFill k n) r = key_in Mode.Write k
+need_of (Call.Refund k n) r = key_in Mode.Give k
 -- no other reply is given
 need_of c r = write_at 0 top
 
@@ -156,6 +176,7 @@ Apart a ra b rb = Conflict (need_of a ra) (need_of b rb) → ⊥
 abbrev pub inverse_of : Call → Reply → Option Call
 inverse_of (Call.SetAdd x) Reply.Yes = Some (Call.SetRemove x)
 inverse_of (Call.SetRemove x) Reply.Yes = Some (Call.SetAdd x)
+inverse_of Call.Pick (Reply.Id x) = Some (Call.SetAdd x)
 inverse_of (Call.Put k v) Reply.Nothing = Some (Call.MapRemove k)
 inverse_of (Call.Put k v) (Reply.Value o) = Some (Call.Put k o)
 inverse_of (Call.MapRemove k) (Reply.Value o) = Some (Call.Put k o)
@@ -164,6 +185,8 @@ inverse_of Call.Take (Reply.Item p g) = Some (Call.QueueAdd p g)
 inverse_of (Call.Bump n) Reply.Done = Some (Call.Bump (neg_ℤ n))
 inverse_of Call.Draw (Reply.Id x) = Some (Call.Free x)
 inverse_of (Call.Spend n) Reply.Yes = Some (Call.Fill n)
+inverse_of (Call.QuotaSpend k n) Reply.Yes = Some (Call.Refund k n)
+inverse_of (Call.QuotaFill k n) Reply.Done = Some (Call.QuotaSpend k n)
 inverse_of c r = None
 
 -- The inverse puts no value back.
@@ -174,9 +197,11 @@ PutsNothingBack c r = (k : ℕ) (old : List ℕ) → inverse_of c r ≡ Some (Ca
 abbrev pub undone_by : Call → Reply → Reply
 undone_by (Call.SetAdd x) Reply.Yes = Reply.Yes
 undone_by (Call.SetRemove x) Reply.Yes = Reply.Yes
+undone_by Call.Pick (Reply.Id x) = Reply.Yes
 undone_by (Call.Put k v) Reply.Nothing = Reply.Value v
 undone_by (Call.Put k v) (Reply.Value o) = Reply.Value v
 undone_by (Call.MapRemove k) (Reply.Value o) = Reply.Nothing
+undone_by (Call.QuotaFill k n) Reply.Done = Reply.Yes
 undone_by c r = Reply.Done
 
 -- What a call did, answered so, is taken back: its inverse leads from t to s. Where there is none,
@@ -193,6 +218,9 @@ Askable (Call.Pluck p g) = ⊥
 Askable (Call.Free x) = ⊥
 Askable (Call.Spend n) = IsAmount n
 Askable (Call.Fill n) = ⊥
+Askable (Call.QuotaSpend k n) = IsAmount n
+Askable (Call.QuotaFill k n) = IsAmount n
+Askable (Call.Refund k n) = ⊥
 Askable c = Unit {0}
 
 -- No value that a client puts is longer than the format has it.
@@ -219,6 +247,8 @@ TakesNoMemory (Call.SetAdd x) = ⊥
 TakesNoMemory (Call.Put k v) = ⊥
 TakesNoMemory (Call.QueueAdd p g) = ⊥
 TakesNoMemory Call.Draw = ⊥
+TakesNoMemory (Call.QuotaFill k n) = ⊥
+TakesNoMemory (Call.Refund k n) = ⊥
 TakesNoMemory c = Unit {0}
 
 -- A reply of the call may hold a value, which is copied.
@@ -243,6 +273,8 @@ Pairs (Call.SetAdd x) Reply.Yes = Unit {0}
 Pairs (Call.SetAdd x) Reply.No = Unit {0}
 Pairs (Call.SetRemove x) Reply.Yes = Unit {0}
 Pairs (Call.SetRemove x) Reply.No = Unit {0}
+Pairs Call.Pick (Reply.Id x) = Unit {0}
+Pairs Call.Pick Reply.Nothing = Unit {0}
 Pairs (Call.Get k) (Reply.Value v) = Unit {0}
 Pairs (Call.Get k) Reply.Nothing = Unit {0}
 Pairs (Call.Put k v) Reply.Nothing = Unit {0}
@@ -264,4 +296,8 @@ Pairs (Call.Release x) Reply.Absent = Unit {0}
 Pairs (Call.Spend n) Reply.Yes = Unit {0}
 Pairs (Call.Spend n) Reply.No = Unit {0}
 Pairs Call.Level (Reply.Total v) = Unit {0}
+Pairs (Call.QuotaSpend k n) Reply.Yes = Unit {0}
+Pairs (Call.QuotaSpend k n) Reply.No = Unit {0}
+Pairs (Call.QuotaLevel k) (Reply.Total v) = Unit {0}
+Pairs (Call.QuotaFill k n) Reply.Done = Unit {0}
 Pairs c r = ⊥

@@ -5,7 +5,8 @@ use crate::{Bytes, Kind};
 use std::alloc::AllocError;
 
 /// What a collection can be asked. Elements, keys, priorities, tags and identifiers are any u64. A
-/// client cannot ask `Pluck`, `Free` and `Fill`, which are inverses; a `Fill` it can put off.
+/// client cannot ask `Pluck`, `Free`, `Fill` and `Refund`, which are inverses; a `Fill` it can put
+/// off.
 #[derive(Drop, Debug)]
 pub enum Call {
     /// Whether the element is in the set.
@@ -14,6 +15,8 @@ pub enum Call {
     SetAdd(u64),
     /// Takes the element out of the set.
     SetRemove(u64),
+    /// Takes some element out of the set.
+    Pick,
     /// The value at the key.
     Get(u64),
     /// Puts the value at the key.
@@ -46,6 +49,14 @@ pub enum Call {
     Level,
     /// Adds the amount to the stock.
     Fill(u64),
+    /// Takes the amount, which comes second, out of the quota at the key, if so much is there.
+    QuotaSpend(u64, u64),
+    /// The amount of the quota at the key.
+    QuotaLevel(u64),
+    /// Adds the amount, which comes second, to the quota at the key.
+    QuotaFill(u64, u64),
+    /// Gives the amount, which comes second, back to the quota at the key.
+    Refund(u64, u64),
 }
 
 impl Call {
@@ -56,12 +67,16 @@ impl Call {
         ensures { result ≡ kind_of self.now }
     {
         match self {
-            Call::Contains(_) | Call::SetAdd(_) | Call::SetRemove(_) => Kind::Set,
+            Call::Contains(_) | Call::SetAdd(_) | Call::SetRemove(_) | Call::Pick => Kind::Set,
             Call::Get(_) | Call::Put(_, _) | Call::MapRemove(_) | Call::Ceiling(_) => Kind::Map,
             Call::QueueAdd(_, _) | Call::Take | Call::Least | Call::Pluck(_, _) => Kind::Queue,
             Call::Bump(_) | Call::Read => Kind::Counter,
             Call::Draw | Call::Release(_) | Call::Free(_) => Kind::Pool,
             Call::Spend(_) | Call::Level | Call::Fill(_) => Kind::Stock,
+            Call::QuotaSpend(_, _)
+            | Call::QuotaLevel(_)
+            | Call::QuotaFill(_, _)
+            | Call::Refund(_, _) => Kind::Quotas,
         }
     }
 
@@ -79,14 +94,19 @@ impl Call {
             | (Call::Release(x), Call::Release(y))
             | (Call::Free(x), Call::Free(y))
             | (Call::Spend(x), Call::Spend(y))
-            | (Call::Fill(x), Call::Fill(y)) => x == y,
-            (Call::QueueAdd(p, g), Call::QueueAdd(q, h)) | (Call::Pluck(p, g), Call::Pluck(q, h)) =>
-                p == q && g == h,
+            | (Call::Fill(x), Call::Fill(y))
+            | (Call::QuotaLevel(x), Call::QuotaLevel(y)) => x == y,
+            (Call::QueueAdd(p, g), Call::QueueAdd(q, h))
+            | (Call::Pluck(p, g), Call::Pluck(q, h))
+            | (Call::QuotaSpend(p, g), Call::QuotaSpend(q, h))
+            | (Call::QuotaFill(p, g), Call::QuotaFill(q, h))
+            | (Call::Refund(p, g), Call::Refund(q, h)) => p == q && g == h,
             (Call::Put(key, value), Call::Put(other_key, other_value)) => {
                 key == other_key && value.is_same(other_value)
             }
             (Call::Bump(by), Call::Bump(other_by)) => by == other_by,
-            (Call::Take, Call::Take)
+            (Call::Pick, Call::Pick)
+            | (Call::Take, Call::Take)
             | (Call::Least, Call::Least)
             | (Call::Read, Call::Read)
             | (Call::Draw, Call::Draw)
@@ -104,6 +124,7 @@ impl Call {
             Call::Contains(x) => Ok(Call::Contains(*x)),
             Call::SetAdd(x) => Ok(Call::SetAdd(*x)),
             Call::SetRemove(x) => Ok(Call::SetRemove(*x)),
+            Call::Pick => Ok(Call::Pick),
             Call::Get(key) => Ok(Call::Get(*key)),
             Call::Put(key, value) => Ok(Call::Put(*key, value.clone()?)),
             Call::MapRemove(key) => Ok(Call::MapRemove(*key)),
@@ -120,6 +141,10 @@ impl Call {
             Call::Spend(amount) => Ok(Call::Spend(*amount)),
             Call::Level => Ok(Call::Level),
             Call::Fill(amount) => Ok(Call::Fill(*amount)),
+            Call::QuotaSpend(key, amount) => Ok(Call::QuotaSpend(*key, *amount)),
+            Call::QuotaLevel(key) => Ok(Call::QuotaLevel(*key)),
+            Call::QuotaFill(key, amount) => Ok(Call::QuotaFill(*key, *amount)),
+            Call::Refund(key, amount) => Ok(Call::Refund(*key, *amount)),
         }
     }
 }

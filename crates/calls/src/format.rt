@@ -1,5 +1,5 @@
 // The formats of a store.
-ghost use Rattle.std.specs.Prelude.{◌≡◌, ◌↔◌, ◌≤◌, IsTrue, MatchOption};
+ghost use Rattle.std.specs.Prelude.{◌≡◌, ◌↔◌, IsTrue, MatchOption};
 ghost use Rattle.calls.specs.declared.format.Format.{Format};
 ghost use Rattle.calls.specs.Formats.{max_value, max_area, number_of, Allows};
 

@@ -1,8 +1,8 @@
 // A part of what a collection holds.
 use crate::Bytes;
 
-/// A part of what a collection holds, by the collection's kind. A set, a map, a pool and a queue
-/// have any number of them; a counter and a stock have one.
+/// A part of what a collection holds, by the collection's kind. A set, a map, a pool, a queue and
+/// quotas have any number of them; a counter and a stock have one.
 #[derive(Drop, Debug)]
 pub enum Item {
     /// An element of a set, or a taken identifier of a pool.
@@ -13,4 +13,6 @@ pub enum Item {
     Pair(u64, u64),
     /// The number of a counter, or the amount of a stock.
     Number(i128),
+    /// A key of quotas and its amount, which is at least 1.
+    Amount(u64, i128),
 }

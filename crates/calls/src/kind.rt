@@ -20,16 +20,19 @@ pub enum Kind {
     Pool,
     /// An amount that is never less than nothing, 0 when made.
     Stock,
+    /// At each number an amount that is never less than nothing, 0 when made.
+    Quotas,
 }
 
 // Each kind.
-const KINDS: [Kind; 6] = [
+const KINDS: [Kind; 7] = [
     Kind::Set,
     Kind::Map,
     Kind::Queue,
     Kind::Counter,
     Kind::Pool,
     Kind::Stock,
+    Kind::Quotas,
 ];
 
 impl Kind {
@@ -44,6 +47,7 @@ impl Kind {
             Kind::Counter => "counter",
             Kind::Pool => "pool",
             Kind::Stock => "stock",
+            Kind::Quotas => "quotas",
         }
     }
 

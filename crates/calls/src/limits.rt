@@ -6,7 +6,8 @@ pub const MAX_NAME: usize = 64;
 /// The most bytes of a value of a map in any format.
 pub const MAX_VALUE: usize = 1_024;
 
-/// The most that is taken out of a stock, or added to it, at once: 2 to the 63, less one.
+/// The most that is taken out of a stock or of a quota, or added to it, at once: 2 to the 63, less
+/// one.
 pub const MAX_AMOUNT: u64 = 9_223_372_036_854_775_807;
 
 /// The most collections of a store.

@@ -10,9 +10,9 @@ pub enum Mode {
     Write,
     /// Puts in what another call that adds does not see.
     Add,
-    /// Takes an amount out of a stock.
+    /// Takes an amount out of a stock or of a quota.
     Take,
-    /// Puts an amount into a stock.
+    /// Puts an amount into a stock, or back into a quota.
     Give,
 }
 

@@ -21,7 +21,7 @@ pub enum Reply {
     Entry(u64, Bytes),
     /// A priority and a tag.
     Item(u64, u64),
-    /// The counter's number, or the stock's amount.
+    /// The counter's number, or the amount of the stock or of the quota.
     Total(i128),
     /// An identifier.
     Id(u64),

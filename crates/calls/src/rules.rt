@@ -24,6 +24,8 @@ impl Call {
             (Call::SetAdd(x), Reply::No) => at(*x, Mode::Read),
             (Call::SetRemove(x), Reply::Yes) => at(*x, Mode::Write),
             (Call::SetRemove(x), Reply::No) => at(*x, Mode::Read),
+            (Call::Pick, Reply::Id(x)) => at(*x, Mode::Write),
+            (Call::Pick, Reply::Nothing) => over(0, u64::MAX, Mode::Read),
             (Call::Get(key), _) => at(*key, Mode::Read),
             (Call::Put(key, _), _) => at(*key, Mode::Write),
             (Call::MapRemove(key), Reply::Value(_)) => at(*key, Mode::Write),
@@ -46,6 +48,11 @@ impl Call {
             (Call::Spend(_), Reply::No) => over(0, u64::MAX, Mode::Read),
             (Call::Level, _) => over(0, u64::MAX, Mode::Read),
             (Call::Fill(_), _) => over(0, u64::MAX, Mode::Give),
+            (Call::QuotaSpend(key, _), Reply::Yes) => at(*key, Mode::Take),
+            (Call::QuotaSpend(key, _), Reply::No) => at(*key, Mode::Read),
+            (Call::QuotaLevel(key), _) => at(*key, Mode::Read),
+            (Call::QuotaFill(key, _), _) => at(*key, Mode::Write),
+            (Call::Refund(key, _), _) => at(*key, Mode::Give),
             _ => over(0, u64::MAX, Mode::Write),
         }
     }
@@ -82,12 +89,15 @@ impl Call {
         match (self, reply) {
             (Call::SetAdd(x), Reply::Yes) => Some(Call::SetRemove(*x)),
             (Call::SetRemove(x), Reply::Yes) => Some(Call::SetAdd(*x)),
+            (Call::Pick, Reply::Id(x)) => Some(Call::SetAdd(*x)),
             (Call::Put(key, _), Reply::Nothing) => Some(Call::MapRemove(*key)),
             (Call::QueueAdd(priority, tag), Reply::Done) => Some(Call::Pluck(*priority, *tag)),
             (Call::Take, Reply::Item(priority, tag)) => Some(Call::QueueAdd(*priority, *tag)),
             (Call::Bump(by), Reply::Done) => Some(Call::Bump(-*by)),
             (Call::Draw, Reply::Id(x)) => Some(Call::Free(*x)),
             (Call::Spend(amount), Reply::Yes) => Some(Call::Fill(*amount)),
+            (Call::QuotaSpend(key, amount), Reply::Yes) => Some(Call::Refund(*key, *amount)),
+            (Call::QuotaFill(key, amount), Reply::Done) => Some(Call::QuotaSpend(*key, *amount)),
             _ => None,
         }
     }
@@ -113,10 +123,12 @@ impl Call {
     {
         match (self, reply) {
             (Call::SetAdd(_) | Call::SetRemove(_), Reply::Yes) => Ok(Reply::Yes),
+            (Call::Pick, Reply::Id(_)) => Ok(Reply::Yes),
             (Call::Put(_, value), Reply::Nothing | Reply::Value(_)) => {
                 Ok(Reply::Value(value.clone()?))
             }
             (Call::MapRemove(_), Reply::Value(_)) => Ok(Reply::Nothing),
+            (Call::QuotaFill(_, _), Reply::Done) => Ok(Reply::Yes),
             _ => Ok(Reply::Done),
         }
     }
@@ -134,11 +146,15 @@ impl Call {
                 Call::Get(_) | Call::Put(_, _) | Call::MapRemove(_),
                 Reply::Value(_) | Reply::Nothing,
             ) => true,
+            (Call::Pick, Reply::Id(_) | Reply::Nothing) => true,
             (Call::Ceiling(_), Reply::Entry(_, _) | Reply::Nothing) => true,
             (Call::Take | Call::Least, Reply::Item(_, _) | Reply::Nothing) => true,
             (Call::QueueAdd(_, _) | Call::Bump(_), Reply::Done) => true,
             (Call::Read, Reply::Total(_)) => true,
             (Call::Level, Reply::Total(_)) => true,
+            (Call::QuotaSpend(_, _), Reply::Yes | Reply::No) => true,
+            (Call::QuotaLevel(_), Reply::Total(_)) => true,
+            (Call::QuotaFill(_, _), Reply::Done) => true,
             (Call::Draw, Reply::Id(_)) => true,
             (Call::Release(_), Reply::Queued | Reply::Absent) => true,
             _ => false,
@@ -190,16 +206,21 @@ impl Call {
 
 /// Whether a client can ask for the call. It takes no memory.
 ///
-/// BadArg for Pluck, for Free, for Fill, for a Bump of -2^63, which has no inverse, and for a Spend
-/// of over 2^63 - 1; TooLong for a value over 1,024 bytes, which no format has.
+/// BadArg for Pluck, for Free, for Fill, for Refund, for a Bump of -2^63, which has no inverse, and
+/// for a Spend, a QuotaSpend or a QuotaFill of over 2^63 - 1; TooLong for a value over 1,024 bytes,
+/// which no format has.
 pub fn check_call(call: &Call) -> Result<(), Refusal>
     ensures ok { IsOk result ↔ (Askable call.now × IsShort widest call.now) }
     ensures err { IfErr result (CallRefused call.now) }
 {
     match call {
-        Call::Pluck(_, _) | Call::Free(_) | Call::Fill(_) => Err(Refusal::BadArg),
+        Call::Pluck(_, _) | Call::Free(_) | Call::Fill(_) | Call::Refund(_, _) => {
+            Err(Refusal::BadArg)
+        }
         Call::Bump(i64::MIN) => Err(Refusal::BadArg),
         Call::Spend(amount) if *amount > MAX_AMOUNT => Err(Refusal::BadArg),
+        Call::QuotaSpend(_, amount) if *amount > MAX_AMOUNT => Err(Refusal::BadArg),
+        Call::QuotaFill(_, amount) if *amount > MAX_AMOUNT => Err(Refusal::BadArg),
         Call::Put(_, value) if value.as_slice().len() > MAX_VALUE => Err(Refusal::TooLong),
         _ => Ok(()),
     }

@@ -1,7 +1,7 @@
 -- What is gathered goes along, whatever is done.
 use Rattle.std.proofs.Common.{◌≡◌, ℕ, ◌+◌, ◌<◌, ◌≤◌, ◌^◌, None, Some, List, [], ◌∷◌, ◌++◌}
-use Rattle.std.proofs.Common.{Result, Ok, Err, length, slice_get, refl, sym, ap, subst, arith}
-use Rattle.std.proofs.Common.{length-append, inl, inr}
+use Rattle.std.proofs.Common.{Result, Ok, Err, length, slice_get, sym, ap, subst, arith}
+use Rattle.std.proofs.Common.{length-append, inr}
 use Rattle.std.specs.Prelude.{Option, IfSome, OnOk, OnErr}
 use Rattle.std.specs.Option.{option_map}
 use Rattle.calls.specs.declared.kind.Kind.{Kind}
@@ -12,7 +12,7 @@ use Rattle.calls.specs.Rules.{IsShort}
 use Rattle.calls.specs.Contents.{Collection, AnswersAt, after_at, empty}
 use Rattle.calls.specs.Transactions.{Makes}
 use Rattle.boosted.proofs.Each.{each_append, weaker}
-use Rattle.boosted.specs.Meaning.{CanAsk, CanDefer}
+use Rattle.boosted.specs.Meaning.{CanDefer}
 use Rattle.catalog.specs.Meaning.{catalog_meaning}
 use Rattle.catalog.specs.Laws.Catalogs.{catalog_laws, making_laws}
 use Rattle.catalog.specs.Places.{IsWithin}

@@ -29,7 +29,7 @@ pub record CanRun (xs : List Collection) (at : ℕ) (c : Call) : Type 0 where
 -- What is gathered goes along with the collections, on which there is room for more calls.
 pub record Goes (xs : List Collection) (g : GatherState) (later : List Effect) (position : ℕ) :
     Type 0 where
-  pub has_run : HasRun xs 6 position
+  pub has_run : HasRun xs 7 position
   pub unworn : position ≤ 2 ^ 61
   pub follows : Follows g later xs
   pub came : CameBy g later position

@@ -2,7 +2,8 @@
 use Rattle.std.proofs.Common.{◌≡◌, ◌↔◌, ◌-◌, length, get_or, take, drop, take-append-drop, ℕ, zero}
 use Rattle.std.proofs.Common.{suc, ◌<◌, ◌≤◌, ◌⊎◌, ◌&&◌, true, false, replicate, List, [], ◌∷◌, ◌++◌}
 use Rattle.std.proofs.Common.{map, refl, sym, ◌∙◌, ap, subst, inl, inr, ⊎_elim, arith, Ordering}
-use Rattle.std.proofs.Common.{Less, Equal, Greater, ◌+◌, Some, None, cond, pos}
+use Rattle.std.proofs.Common.{Less, Equal, Greater, ◌+◌, Some, None, cond, ℤ, pos, negsuc}
+use Rattle.std.proofs.lemmas.Int.{ints}
 use Rattle.std.specs.Prelude.{T}
 use Rattle.std.specs.List.{AllByRecursion}
 use Rattle.std.specs.List.Sorted.{IsStrictlySortedBy}
@@ -20,13 +21,13 @@ use Rattle.calls.specs.declared.kind.Kind.{Kind}
 use Rattle.calls.specs.declared.item.Item.{Item}
 use Rattle.calls.specs.Bags.{pair_cmp, Bag, copies_of, copies, add}
 use Rattle.calls.specs.Contents.{Content, InSet, InMap, InQueue, InCounter, InPool, InStock}
-use Rattle.calls.specs.Contents.{empty, kind_of_content, IsItemOf}
+use Rattle.calls.specs.Contents.{InQuotas, empty, kind_of_content, IsItemOf, IsPositive}
 use Rattle.collections.specs.Items.{bag_from, IsRising}
 use Rattle.catalog.specs.Holdings.{ListsContent, pair_item, AreItems, Precedes, Rise, AreInOrder}
 use Rattle.catalog.specs.Holdings.{Follows, with_item, filled}
-use Rattle.catalog.proofs.Listings.{entry_item, entry_items, spread, pair_items}
+use Rattle.catalog.proofs.Listings.{entry_item, entry_items, spread, pair_items, quota_item}
+use Rattle.catalog.proofs.Listings.{quota_items}
 use Rattle.std.specs.FinMap.{nat_cmp-IsAntisymmetric}
-use Rattle.calls.specs.Maps.{Table}
 use Rattle.calls.proofs.BagPoints.{not_tied, pair_cmp_total, pair_cmp-IsAntisymmetric, pair_cases}
 use Rattle.calls.proofs.BagPoints.{copies-add}
 use Rattle.calls.proofs.BagPoints.{copies-add_other, same_bag}
@@ -45,6 +46,7 @@ kind_with (InQueue q) (Item.Pair p g) = refl
 kind_with (InCounter n) (Item.Number m) = refl
 kind_with (InPool s) (Item.Element x) = refl
 kind_with (InStock n) (Item.Number (pos m)) = refl
+kind_with (InQuotas q) (Item.Amount k (pos n)) = refl
 kind_with k x = refl
 
 kind_empty : (kind : Kind) → kind_of_content (empty kind) ≡ kind
@@ -54,6 +56,7 @@ kind_empty Kind.Queue = refl
 kind_empty Kind.Counter = refl
 kind_empty Kind.Pool = refl
 kind_empty Kind.Stock = refl
+kind_empty Kind.Quotas = refl
 
 pub kind_filled : (kind : Kind) (items : List Item) →
     kind_of_content (filled (empty kind) items) ≡ kind
@@ -170,6 +173,23 @@ entries_in_order : (es : List (ℕ × List ℕ)) → T (is_sorted nat_cmp es) �
 entries_in_order [] s = tt
 entries_in_order (e ∷ es) s = rise_entries e es s
 
+positive : (n : ℕ) → IsPositive (pos (suc n))
+positive n = omega (arith, ints)
+
+rise_amounts : (e : ℕ × ℕ) (es : List (ℕ × ℕ)) → T (is_sorted nat_cmp (e ∷ es)) →
+    Rise Kind.Quotas (quota_item e) (map quota_item es)
+rise_amounts e [] s = positive e.1
+rise_amounts e (f ∷ es) s =
+    let low : T (below_all nat_cmp e.0 (f ∷ es)) = first_of_both _ _ s in (
+      (below_of e.0 f.0 (is_less _ (first_of_both _ _ low)), positive e.1, positive f.1),
+      rise_amounts f es (second_of_both _ _ s),
+    )
+
+amounts_in_order : (es : List (ℕ × ℕ)) → T (is_sorted nat_cmp es) →
+    AreInOrder Kind.Quotas (map quota_item es)
+amounts_in_order [] s = tt
+amounts_in_order (e ∷ es) s = rise_amounts e es s
+
 rise_spread : (x : ℕ × ℕ) (n : ℕ) (es : List ((ℕ × ℕ) × ℕ)) → T (below_all pair_cmp x es) →
     T (is_sorted pair_cmp es) → Rise Kind.Queue (pair_item x)
     (replicate n (pair_item x) ++ spread es)
@@ -195,6 +215,9 @@ listed_in_order (InQueue q) items l =
     subst (AreInOrder Kind.Queue) (sym l) (spread_in_order (maps.entries q) (maps.entries_sorted q))
 listed_in_order (InCounter n) items l = subst (AreInOrder Kind.Counter) (sym l) tt
 listed_in_order (InStock n) items l = subst (AreInOrder Kind.Stock) (sym l) tt
+listed_in_order (InQuotas q) items l =
+    subst (AreInOrder Kind.Quotas) (sym l)
+    (amounts_in_order (maps.entries q) (maps.entries_sorted q))
 listed_in_order (InPool s) items l =
     subst (AreInOrder Kind.Pool) (sym l.are) (taken_in_order l.numbers l.rising)
 
@@ -270,6 +293,55 @@ map_lists : (es : List (ℕ × List ℕ)) → IsStrictlySortedBy nat_cmp (keys_o
 map_lists es s = subst (ListsContent (map entry_item es)) (sym (filled_map es))
     (entry_items (maps.from_entries es) es s refl)
 
+-- The amounts whose keys rise behind a first one.
+pub record Amounts (e : ℕ × ℕ) (xs : List Item) : Type 0 where
+  pub amounts : List (ℕ × ℕ)
+  pub are : xs ≡ map quota_item amounts
+  pub rising : IsStrictlySortedBy nat_cmp (e.0 ∷ keys_of amounts)
+
+amounts_of : (e : ℕ × ℕ) (xs : List Item) → Rise Kind.Quotas (quota_item e) xs → Amounts e xs
+unfolding IsStrictlySortedBy
+amounts_of e [] h = record { amounts = []; are = refl; rising = (tt, tt) }
+amounts_of e (Item.Amount k (pos (suc n)) ∷ ys) h =
+    let r = amounts_of (k, n) ys h.1 in
+    record {
+      amounts = (k, n) ∷ r.amounts;
+      are = ap (λ l. Item.Amount k (pos (suc n)) ∷ l) r.are;
+      rising = (
+        (less_of e.0 k h.0.0, all_above e.0 k (keys_of r.amounts) h.0.0 r.rising.0),
+        r.rising,
+      );
+    }
+amounts_of e (Item.Amount k (pos zero) ∷ ys) h = absurd (omega (arith, ints, h.0.2))
+amounts_of e (Item.Amount k (negsuc n) ∷ ys) h = absurd (omega (arith, ints, h.0.2))
+amounts_of e (y ∷ ys) h = absurd h.0
+
+filled_quotas : (es : List (ℕ × ℕ)) →
+    filled (InQuotas maps.empty) (map quota_item es) ≡ InQuotas (maps.from_entries es)
+filled_quotas [] = refl
+filled_quotas (e ∷ es) = ap (λ k. with_item k (quota_item e)) (filled_quotas es)
+
+quotas_lists : (es : List (ℕ × ℕ)) → IsStrictlySortedBy nat_cmp (keys_of es) →
+    Lists Kind.Quotas (map quota_item es)
+quotas_lists es s = subst (ListsContent (map quota_item es)) (sym (filled_quotas es))
+    (quota_items (maps.from_entries es) es s refl)
+
+first_positive : (k : ℕ) (n : ℤ) (xs : List Item) → Rise Kind.Quotas (Item.Amount k n) xs →
+    IsPositive n
+first_positive k n [] h = h
+first_positive k n (Item.Amount j m ∷ ys) h = h.0.1
+first_positive k n (y ∷ ys) h = absurd h.0
+
+amounts_list : (k : ℕ) (n : ℤ) (xs : List Item) → IsPositive n →
+    Rise Kind.Quotas (Item.Amount k n) xs → Lists Kind.Quotas (Item.Amount k n ∷ xs)
+unfolding IsStrictlySortedBy
+amounts_list k (pos (suc n)) xs p h =
+    let r = amounts_of (k, n) xs h in
+    subst (λ l. Lists Kind.Quotas (Item.Amount k (pos (suc n)) ∷ l)) (sym r.are)
+    (quotas_lists ((k, n) ∷ r.amounts) r.rising)
+amounts_list k (pos zero) xs p h = absurd (omega (arith, ints, p))
+amounts_list k (negsuc n) xs p h = absurd (omega (arith, ints, p))
+
 -- The pairs that rise behind a first one.
 pub record Pairs (x : ℕ × ℕ) (xs : List Item) : Type 0 where
   pub pairs : List (ℕ × ℕ)
@@ -335,6 +407,9 @@ in_order_lists Kind.Counter (x ∷ (y ∷ ys)) h = absurd h.0
 in_order_lists Kind.Stock [] h = absurd h
 in_order_lists Kind.Stock (Item.Number (pos n) ∷ []) h = refl
 in_order_lists Kind.Stock (x ∷ (y ∷ ys)) h = absurd h.0
+in_order_lists Kind.Quotas [] h = quotas_lists [] tt
+in_order_lists Kind.Quotas (Item.Amount k n ∷ xs) h =
+    amounts_list k n xs (first_positive k n xs h) h
 in_order_lists Kind.Set (x ∷ []) h = absurd h
 in_order_lists Kind.Set (x ∷ (y ∷ ys)) h = absurd h.0
 in_order_lists Kind.Pool (x ∷ []) h = absurd h
@@ -345,6 +420,8 @@ in_order_lists Kind.Queue (x ∷ []) h = absurd h
 in_order_lists Kind.Queue (x ∷ (y ∷ ys)) h = absurd h.0
 in_order_lists Kind.Counter (x ∷ []) h = absurd h
 in_order_lists Kind.Stock (x ∷ []) h = absurd h
+in_order_lists Kind.Quotas (x ∷ []) h = absurd h
+in_order_lists Kind.Quotas (x ∷ (y ∷ ys)) h = absurd h.0
 
 -- ---- both ways
 
@@ -365,6 +442,7 @@ last_is_item Kind.Set (Item.Element x) (Item.Element y) p = tt
 last_is_item Kind.Map (Item.Entry k v) (Item.Entry j w) p = tt
 last_is_item Kind.Queue (Item.Pair p g) (Item.Pair q h) b = tt
 last_is_item Kind.Pool (Item.Element x) (Item.Element y) p = tt
+last_is_item Kind.Quotas (Item.Amount x m) (Item.Amount y n) p = p.2
 last_is_item kind x y p = absurd p
 
 rise_push : (kind : Kind) (first : Item) (front : List Item) (last i : Item) →
@@ -387,6 +465,7 @@ in_order_rise Kind.Queue x xs h = h
 in_order_rise Kind.Counter x xs h = h
 in_order_rise Kind.Pool x xs h = h
 in_order_rise Kind.Stock x xs h = h
+in_order_rise Kind.Quotas x xs h = h
 
 pub rise_in_order : (kind : Kind) (x : Item) (xs : List Item) → Rise kind x xs →
     AreInOrder kind (x ∷ xs)
@@ -396,6 +475,7 @@ rise_in_order Kind.Queue x xs h = h
 rise_in_order Kind.Counter x xs h = h
 rise_in_order Kind.Pool x xs h = h
 rise_in_order Kind.Stock x xs h = h
+rise_in_order Kind.Quotas x xs h = h
 
 -- Behind items in order one more is in order where it may stand behind the last.
 pub follows_last : (kind : Kind) (front : List Item) (last i : Item) →
@@ -449,7 +529,8 @@ follows_nothing kind items i none =
     subst (λ l. IsItemOf kind i ↔ Follows kind l i) (sym (empty_of items empty))
     (follows_none kind i)
 
-entries_again : (m : Table) → maps.from_entries (maps.entries m) ≡ m
+entries_again : {X : Type 0} (m : maps.FinMap nat_cmp X) →
+    maps.from_entries (maps.entries m) ≡ m
 entries_again m = maps.same_map nat_cmp_total nat_cmp-IsAntisymmetric
     (maps.from_entries (maps.entries m)) m
     (λ q. maps.get-from_entries nat_cmp_total (maps.entries m) q ∙ sym (maps.get-entries m q))
@@ -531,6 +612,9 @@ what_items_fill (InQueue q) items l =
     ap InQueue (counts_again q)
 what_items_fill (InCounter n) items l = ap (filled (empty Kind.Counter)) l
 what_items_fill (InStock n) items l = ap (filled (empty Kind.Stock)) l
+what_items_fill (InQuotas q) items l =
+    ap (filled (InQuotas maps.empty)) l ∙ filled_quotas (maps.entries q) ∙
+    ap InQuotas (entries_again q)
 what_items_fill (InPool s) items l =
     ap (filled (InPool sets.empty)) l.are ∙ filled_pool l.numbers ∙ ap InPool l.members
 
@@ -548,4 +632,5 @@ first_is_item Kind.Set (Item.Element x) (Item.Element y) p = tt
 first_is_item Kind.Map (Item.Entry k v) (Item.Entry j w) p = tt
 first_is_item Kind.Queue (Item.Pair p g) (Item.Pair q h) b = tt
 first_is_item Kind.Pool (Item.Element x) (Item.Element y) p = tt
+first_is_item Kind.Quotas (Item.Amount x m) (Item.Amount y n) p = p.1
 first_is_item kind x y p = absurd p

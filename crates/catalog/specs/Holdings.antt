@@ -10,6 +10,7 @@ use Rattle.calls.specs.Sets.{NumberSet}
 use Rattle.calls.specs.Maps.{Table}
 use Rattle.calls.specs.Bags.{Bag}
 use Rattle.calls.specs.Contents.{Content, InSet, InMap, InQueue, InCounter, InPool, InStock}
+use Rattle.calls.specs.Contents.{InQuotas, IsPositive}
 use Rattle.calls.specs.Contents.{Collection, IsItemOf, items_of, kind_of_content}
 use Rattle.std.specs.List.{AllByRecursion}
 use Rattle.std.specs.declared.string.String.{String}
@@ -24,10 +25,11 @@ use Rattle.calls.specs.declared.refusal.Refusal.{Refusal}
 use Rattle.catalog.specs.declared.shown.Shown.{Shown}
 use Rattle.calls.specs.declared.kind.Kind.{Kind}
 use Rattle.calls.specs.Bags as bags
+use Rattle.calls.specs.Quotas as quotas
 use Rattle.catalog.specs.Making.{IsNew, NewRefused}
 
 abbrev Shape : Type 0
-Shape = NumberSet ⊎ (Table ⊎ (Bag ⊎ (ℤ ⊎ (NumberSet ⊎ ℕ))))
+Shape = NumberSet ⊎ (Table ⊎ (Bag ⊎ (ℤ ⊎ (NumberSet ⊎ (ℕ ⊎ quotas.Quotas)))))
 
 abbrev shape_of : Content → Shape
 shape_of (InSet s) = inl s
@@ -35,7 +37,8 @@ shape_of (InMap m) = inr (inl m)
 shape_of (InQueue q) = inr (inr (inl q))
 shape_of (InCounter n) = inr (inr (inr (inl n)))
 shape_of (InPool s) = inr (inr (inr (inr (inl s))))
-shape_of (InStock n) = inr (inr (inr (inr (inr n))))
+shape_of (InStock n) = inr (inr (inr (inr (inr (inl n)))))
+shape_of (InQuotas q) = inr (inr (inr (inr (inr (inr q)))))
 
 abbrev content_from : Shape → Content
 content_from (inl s) = InSet s
@@ -43,7 +46,8 @@ content_from (inr (inl m)) = InMap m
 content_from (inr (inr (inl q))) = InQueue q
 content_from (inr (inr (inr (inl n)))) = InCounter n
 content_from (inr (inr (inr (inr (inl s))))) = InPool s
-content_from (inr (inr (inr (inr (inr n))))) = InStock n
+content_from (inr (inr (inr (inr (inr (inl n)))))) = InStock n
+content_from (inr (inr (inr (inr (inr (inr q)))))) = InQuotas q
 
 abbrev shape_gives : (c : Content) → content_from (shape_of c) ≡ c
 shape_gives (InSet s) = refl
@@ -52,13 +56,15 @@ shape_gives (InQueue q) = refl
 shape_gives (InCounter n) = refl
 shape_gives (InPool s) = refl
 shape_gives (InStock n) = refl
+shape_gives (InQuotas q) = refl
 
 abbrev content_code : Coded Content
 content_code =
     code_by Shape (coded⊎ (sets.code coded_ℕ)
     (coded⊎ (maps.code coded_ℕ (coded_list coded_ℕ))
     (coded⊎ (maps.code (coded× coded_ℕ coded_ℕ) coded_ℕ)
-    (coded⊎ coded_ℤ (coded⊎ (sets.code coded_ℕ) coded_ℕ)))))
+    (coded⊎ coded_ℤ (coded⊎ (sets.code coded_ℕ)
+    (coded⊎ coded_ℕ (maps.code coded_ℕ coded_ℕ)))))))
     shape_of content_from shape_gives
 
 -- the code of a collection
@@ -78,6 +84,7 @@ content_of (Holding.Queue q) = InQueue q
 content_of (Holding.Counter n) = InCounter n
 content_of (Holding.Pool s) = InPool s
 content_of (Holding.Stock n) = InStock n
+content_of (Holding.Quotas q) = InQuotas q
 
 -- The collections that the entries stand for, in their order.
 abbrev pub collections_of : List (String Global × Holding) → List Collection
@@ -142,6 +149,7 @@ Precedes Kind.Set (Item.Element x) (Item.Element y) = x < y
 Precedes Kind.Map (Item.Entry k v) (Item.Entry j w) = k < j
 Precedes Kind.Queue (Item.Pair p g) (Item.Pair q h) = (p < q) ⊎ ((p ≡ q) × (g ≤ h))
 Precedes Kind.Pool (Item.Element x) (Item.Element y) = x < y
+Precedes Kind.Quotas (Item.Amount x m) (Item.Amount y n) = (x < y) × IsPositive m × IsPositive n
 Precedes kind x y = ⊥
 
 -- The items, behind a first one, are in order.
@@ -168,6 +176,7 @@ with_item (InQueue q) (Item.Pair p g) = InQueue (bags.add q (p, g))
 with_item (InCounter n) (Item.Number m) = InCounter m
 with_item (InPool s) (Item.Element x) = InPool (sets.insert s x)
 with_item (InStock n) (Item.Number (pos m)) = InStock m
+with_item (InQuotas q) (Item.Amount k (pos n)) = InQuotas (quotas.with_level q k n)
 with_item k i = k
 
 -- The content with all of the items put into it, the last one first.

@@ -4,9 +4,11 @@ use Rattle.std.specs.Prelude.{ℕ, zero, suc, ◌≤◌, List, [], ◌∷◌, le
 use Rattle.std.specs.List.{AllByRecursion}
 use Rattle.calls.specs.declared.call.Call.{Call}
 use Rattle.calls.specs.declared.refusal.Refusal.{Refusal}
-use Rattle.calls.specs.Contents.{Content, InCounter, InStock, Collection, kind_of_content}
+use Rattle.calls.specs.Contents.{Content, InCounter, InStock, InQuotas, Collection}
+use Rattle.calls.specs.Contents.{kind_of_content}
 use Rattle.calls.specs.Counters as counters
 use Rattle.calls.specs.Stocks as stocks
+use Rattle.calls.specs.Quotas as quotas
 use Rattle.boosted.specs.Kinds.{IsOf}
 
 -- There is a member at the place, and P holds of it.
@@ -29,10 +31,11 @@ Misplaced s at c Refusal.NoSuchCollection = length s ≤ at
 Misplaced s at c Refusal.WrongKind = At (λ x. IsOf (kind_of_content x.content) c → ⊥) s at
 Misplaced s at c r = ⊥
 
--- n runs can reach the content: only a counter and a stock have a bound.
+-- n runs can reach the content: only a counter, a stock and quotas have a bound.
 abbrev pub Reaches : Content → ℕ → Type 0
 Reaches (InCounter v) n = counters.IsWithin v n
 Reaches (InStock v) n = stocks.IsWithin v n
+Reaches (InQuotas q) n = quotas.IsWithin q n
 Reaches s n = Unit {0}
 
 -- n runs can reach each content.

@@ -1,15 +1,14 @@
 // Named collections, in the order of making.
-ghost use Rattle.std.specs.Prelude.{◌≡◌, ◌≤◌, ◌↔◌, [], ◌∷◌, ◌++◌, false, IsTrue, length};
-ghost use Rattle.std.specs.Prelude.{string_bytes, IfOk, IsOk, IfErr, OnOk, OnErr, IsOkUnless};
+ghost use Rattle.std.specs.Prelude.{◌≡◌, ◌≤◌, [], ◌∷◌, ◌++◌, false, IsTrue, length};
+ghost use Rattle.std.specs.Prelude.{IfOk, IsOk, IfErr, OnOk, OnErr, IsOkUnless};
 ghost use Rattle.std.specs.Option.{option_map};
 ghost use Rattle.calls.specs.Contents.{AnswersAt, after_at};
-ghost use Rattle.calls.specs.Names.{IsName};
 ghost use Rattle.calls.specs.Rules.{TakesNoMemory};
 ghost use Rattle.calls.specs.Limits.{max_collections};
 ghost use Rattle.boosted.specs.Meaning.{HasRoom};
 ghost use Rattle.catalog.specs.Holdings.{content_of, Shows, ShowRefused, AreItems, Loads};
 ghost use Rattle.catalog.specs.Holdings.{LoadRefused};
-ghost use Rattle.catalog.specs.Places.{At, content_at, Belongs, Misplaced};
+ghost use Rattle.catalog.specs.Places.{At, content_at};
 ghost use Rattle.catalog.specs.Making.{names_of, AreDistinct, IsNew};
 ghost use Rattle.catalog.specs.Meaning.{catalog_meaning, catalog_making};
 ghost use Rattle.catalog.specs.Laws.Catalogs.{making_laws};

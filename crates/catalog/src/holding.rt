@@ -3,7 +3,7 @@ ghost use Rattle.std.specs.Prelude.{◌≡◌, ◌⊎◌, ◌↔◌, IsTrue, IsO
 ghost use Rattle.std.specs.Prelude.{◌∷◌, map, List};
 ghost use Rattle.calls.specs.declared.reply.Reply.{Reply};
 ghost use Rattle.calls.specs.Contents.{Answers, after, empty, kind_of_content, items_of, InMap};
-ghost use Rattle.calls.specs.Contents.{InQueue, Content, IsItemOf};
+ghost use Rattle.calls.specs.Contents.{InQueue, InQuotas, Content, IsItemOf};
 ghost use Rattle.calls.specs.Rules.{Askable, TakesNoMemory, AsksForValue};
 ghost use Rattle.boosted.specs.Kinds.{IsOf};
 ghost use Rattle.boosted.specs.Meaning.{IsRoomy};
@@ -14,7 +14,7 @@ ghost use Rattle.calls.specs.declared.item.Item.{Item};
 
 use boosted::Boosted;
 use calls::{Call, Item, Kind, Refusal, Reply};
-use collections::{CounterCol, MapCol, PoolCol, QueueCol, SetCol, StockCol};
+use collections::{CounterCol, MapCol, PoolCol, QueueCol, QuotasCol, SetCol, StockCol};
 use std::alloc::{AllocError, Global};
 use std::collections::btree_set::Iter;
 
@@ -27,6 +27,7 @@ pub enum Holding {
     Counter(CounterCol),
     Pool(PoolCol),
     Stock(StockCol),
+    Quotas(QuotasCol),
 }
 
 impl Holding {
@@ -41,6 +42,7 @@ impl Holding {
             Kind::Counter => Holding::Counter(CounterCol::new()),
             Kind::Pool => Holding::Pool(PoolCol::new(alloc)),
             Kind::Stock => Holding::Stock(StockCol::new()),
+            Kind::Quotas => Holding::Quotas(QuotasCol::new(alloc)),
         }
     }
 
@@ -55,6 +57,7 @@ impl Holding {
             Holding::Counter(_) => Kind::Counter,
             Holding::Pool(_) => Kind::Pool,
             Holding::Stock(_) => Kind::Stock,
+            Holding::Quotas(_) => Kind::Quotas,
         }
     }
 
@@ -69,6 +72,7 @@ impl Holding {
             Holding::Counter(counter) => Ok(Holding::Counter(counter.copy())),
             Holding::Pool(pool) => Ok(Holding::Pool(pool.copy()?)),
             Holding::Stock(stock) => Ok(Holding::Stock(stock.copy())),
+            Holding::Quotas(quotas) => Ok(Holding::Quotas(quotas.copy()?)),
         }
     }
 
@@ -83,6 +87,7 @@ impl Holding {
             Holding::Counter(counter) => Boosted::fits(counter, (), call, reply),
             Holding::Pool(pool) => Boosted::fits(pool, (), call, reply),
             Holding::Stock(stock) => Boosted::fits(stock, (), call, reply),
+            Holding::Quotas(quotas) => Boosted::fits(quotas, (), call, reply),
         }
     }
 
@@ -102,6 +107,7 @@ impl Holding {
             Holding::Counter(counter) => Boosted::look(counter, (), call),
             Holding::Pool(pool) => Boosted::look(pool, (), call),
             Holding::Stock(stock) => Boosted::look(stock, (), call),
+            Holding::Quotas(quotas) => Boosted::look(quotas, (), call),
         }
     }
 
@@ -123,6 +129,7 @@ impl Holding {
             Holding::Counter(counter) => Boosted::run(counter, (), call, reply),
             Holding::Pool(pool) => Boosted::run(pool, (), call, reply),
             Holding::Stock(stock) => Boosted::run(stock, (), call, reply),
+            Holding::Quotas(quotas) => Boosted::run(quotas, (), call, reply),
         }
     }
 }
@@ -139,6 +146,7 @@ impl Holding {
             Holding::Counter(counter) => one_number(counter.total(), alloc),
             Holding::Pool(pool) => elements_of(pool.iter(), alloc),
             Holding::Stock(stock) => one_number(stock.level(), alloc),
+            Holding::Quotas(quotas) => amounts_of(quotas, alloc),
         }
     }
 }
@@ -173,6 +181,16 @@ fn items_of_pairs(pairs: &[(u64, u64)], alloc: Global) -> Result<Vec<Item>, Allo
         .iter()
         .map(|(priority, tag)| Item::Pair(*priority, *tag))
         .collect(alloc)
+}
+
+fn amounts_of(quotas: &QuotasCol, alloc: Global) -> Result<Vec<Item>, AllocError>
+    ensures { IfOk result (λ items. items.items ≡ items_of (InQuotas quotas.now)) }
+{
+    let mut items = Vec::new(alloc);
+    for (key, less_one) in quotas.iter() {
+        items.push(Item::Amount(*key, (*less_one + 1) as i128))?;
+    }
+    Ok(items)
 }
 
 fn one_number(number: i128, alloc: Global) -> Result<Vec<Item>, AllocError>
@@ -233,6 +251,7 @@ fn precedes(kind: Kind, first: &Item, second: &Item) -> bool
         (Kind::Set | Kind::Pool, Item::Element(x), Item::Element(y)) => x < y,
         (Kind::Map, Item::Entry(key, _), Item::Entry(next, _)) => key < next,
         (Kind::Queue, Item::Pair(p, g), Item::Pair(q, h)) => p < q || (p == q && g <= h),
+        (Kind::Quotas, Item::Amount(x, m), Item::Amount(y, n)) => x < y && *m > 0 && *n > 0,
         _ => false,
     }
 }
@@ -246,6 +265,7 @@ fn is_item_of(kind: Kind, item: &Item) -> bool
         (Kind::Queue, Item::Pair(_, _)) => true,
         (Kind::Counter, Item::Number(_)) => true,
         (Kind::Stock, Item::Number(n)) => *n >= 0,
+        (Kind::Quotas, Item::Amount(_, n)) => *n > 0,
         _ => false,
     }
 }
@@ -288,6 +308,7 @@ impl Holding {
                 *stock = StockCol::with_amount(n as u128);
                 Ok(())
             }
+            (Holding::Quotas(quotas), Item::Amount(key, n)) if n >= 0 => quotas.put(key, n as u128),
             _ => Ok(()),
         }
     }

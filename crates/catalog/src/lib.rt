@@ -1,4 +1,4 @@
-//! A catalog: named collections of the six kinds, whose calls can be undone.
+//! A catalog: named collections of the seven kinds, whose calls can be undone.
 //!
 //! **What it promises.** Contracts see a list of named contents. A call on one of them has the
 //! replies, the need and the inverse that it has on the collection alone, and leaves the others

@@ -1,5 +1,5 @@
 // An image on its way into the area that is not in use.
-ghost use Rattle.std.specs.Prelude.{◌≡◌, ◌↔◌, ◌≢◌, ◌<◌, ◌≤◌, ◌+◌, ℕ, List, [], length, false};
+ghost use Rattle.std.specs.Prelude.{◌≡◌, ◌↔◌, ◌<◌, ◌≤◌, ◌+◌, ℕ, List, length, false};
 ghost use Rattle.std.specs.Prelude.{IsTrue, OnOk, OnErr, IfOk, IfErr};
 ghost use Rattle.disk_model.specs.Disk.{LeavesOnly, Rises};
 ghost use Rattle.gate_block.specs.Row.{row, SameOutside};

@@ -9,11 +9,11 @@ use Rattle.txn.specs.declared.steps.BookStep.{BookStep}
 use Rattle.clients.specs.declared.naming.Naming.{Ghosts}
 use Rattle.clients.specs.declared.phase.Phase.{Phase}
 use Rattle.clients.specs.Attempts.{done_since, IsOfCalls, IsRefusedEntry, IsOpenUnder, Attempts}
-use Rattle.clients.specs.Attempts.{IsAttempt, IsCalled, Adds, IsBegun, number_of}
+use Rattle.clients.specs.Attempts.{IsAttempt, IsCalled, Adds}
 use Rattle.clients.specs.Calls.{IsOpen, Acts, Does}
-use Rattle.clients.specs.Known.{Known, IsSeen, Grows, step_of}
+use Rattle.clients.specs.Known.{Known, Grows, step_of}
 use Rattle.boosted.proofs.Each.{each_append}
-use Rattle.clients.proofs.Seeing.{grows_none, grows_then, moves_then}
+use Rattle.clients.proofs.Seeing.{grows_then, moves_then}
 
 -- ---- what was done since
 

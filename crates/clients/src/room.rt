@@ -1,5 +1,6 @@
 // How much of an area a block may take.
 ghost use Rattle.std.specs.Prelude.{◌↔◌, ◌+◌, ◌<◌, ◌≤◌, ◌^◌, IsTrue};
+ghost use Rattle.gate_block.specs.Row.{block_head};
 ghost use Rattle.undoing.specs.Undoing.{blocks_len};
 
 use gate_block::BLOCK_HEAD;
@@ -27,7 +28,7 @@ impl Room {
     /// Whether a block with a body of so many bytes fits, and behind it such an undoing.
     pub fn fits(&self, body: u64, undoing: u64) -> bool
         requires { body < 2 ^ 32 }
-        ensures { IsTrue result ↔ (5 + body + blocks_len undoing < self.now.free) }
+        ensures { IsTrue result ↔ (block_head + body + blocks_len undoing < self.now.free) }
     {
         blocks_len(undoing) < self.free.saturating_sub(BLOCK_HEAD as u64 + body)
     }

@@ -10,41 +10,43 @@ use Rattle.std.specs.Map.{lookup}
 use Rattle.std.specs.FinMap as map
 use Rattle.std.specs.BTreeMap as tree
 use Rattle.std.specs.BTreeMap.Range.{IsLeBy, IsRangeOf}
-use Rattle.calls.specs.Maps.{Table, IsCeiling, HasNoCeiling}
-
-abbrev Tree : Type 0
-Tree = tree.BTreeMap ℕ (List ℕ)
-
--- The map of the entries.
-abbrev pub table_of : Tree → Table
-table_of t = map.from_entries t.entries
-
-find-lookup : (es : List (ℕ × List ℕ)) (q : ℕ) →
-    map.find nat_cmp q es ≡ lookup (tree.is_at (nat_cmp q)) es
-find-lookup [] q = refl
-find-lookup (e ∷ es) q = ap (cond (eq_by_cmp nat_cmp q e.0) (Some e.1)) (find-lookup es q)
-
-pub get-table_of : (t : Tree) (q : ℕ) → map.get (table_of t) q ≡ tree.get nat_cmp t q
-get-table_of t q = map.get-from_entries nat_cmp_total t.entries q ∙ find-lookup t.entries q
+use Rattle.calls.specs.Maps.{IsCeiling, HasNoCeiling}
 
 turned : (k q : ℕ) → eq_by_cmp nat_cmp k q ≡ eq_by_cmp nat_cmp q k
 turned k q = (eq_by_cmp_equiv nat_cmp_total).symm k q
 
-pub table_of-insert : (t n : Tree) (k : ℕ) (v : List ℕ) → tree.Updates nat_cmp t n k (Some v) →
-    table_of n ≡ map.insert (table_of t) k v
-table_of-insert t n k v u = map.same_map nat_cmp_total map.nat_cmp-IsAntisymmetric _ _ (λ q.
-    get-table_of n q ∙ u.0 q
-    ∙ ap (λ b. cond b (Some v) (tree.get nat_cmp t q)) (turned k q) ∙
-    ap (cond (eq_by_cmp nat_cmp q k) (Some v)) (sym (get-table_of t q))
-    ∙ sym (map.get-insert nat_cmp_total (table_of t) k v q))
+module _ {X : Type 0} where
+  -- The map of the entries.
+  abbrev pub table_of : tree.BTreeMap ℕ X → map.FinMap nat_cmp X
+  table_of t = map.from_entries t.entries
 
-pub table_of-remove : (t n : Tree) (k : ℕ) → tree.Updates nat_cmp t n k None →
-    table_of n ≡ map.remove (table_of t) k
-table_of-remove t n k u = map.same_map nat_cmp_total map.nat_cmp-IsAntisymmetric _ _ (λ q.
-    get-table_of n q ∙ u.0 q
-    ∙ ap (λ b. cond b None (tree.get nat_cmp t q)) (turned k q) ∙
-    ap (cond (eq_by_cmp nat_cmp q k) None) (sym (get-table_of t q))
-    ∙ sym (map.get-remove nat_cmp_total (table_of t) k q))
+  find-lookup : (es : List (ℕ × X)) (q : ℕ) →
+      map.find nat_cmp q es ≡ lookup (tree.is_at (nat_cmp q)) es
+  find-lookup [] q = refl
+  find-lookup (e ∷ es) q = ap (cond (eq_by_cmp nat_cmp q e.0) (Some e.1)) (find-lookup es q)
+
+  pub get-table_of : (t : tree.BTreeMap ℕ X) (q : ℕ) →
+      map.get (table_of t) q ≡ tree.get nat_cmp t q
+  get-table_of t q = map.get-from_entries nat_cmp_total t.entries q ∙ find-lookup t.entries q
+
+  pub table_of-insert : (t n : tree.BTreeMap ℕ X) (k : ℕ) (v : X) →
+      tree.Updates nat_cmp t n k (Some v) → table_of n ≡ map.insert (table_of t) k v
+  table_of-insert t n k v u = map.same_map nat_cmp_total map.nat_cmp-IsAntisymmetric _ _ (λ q.
+      get-table_of n q ∙ u.0 q
+      ∙ ap (λ b. cond b (Some v) (tree.get nat_cmp t q)) (turned k q) ∙
+      ap (cond (eq_by_cmp nat_cmp q k) (Some v)) (sym (get-table_of t q))
+      ∙ sym (map.get-insert nat_cmp_total (table_of t) k v q))
+
+  pub table_of-remove : (t n : tree.BTreeMap ℕ X) (k : ℕ) → tree.Updates nat_cmp t n k None →
+      table_of n ≡ map.remove (table_of t) k
+  table_of-remove t n k u = map.same_map nat_cmp_total map.nat_cmp-IsAntisymmetric _ _ (λ q.
+      get-table_of n q ∙ u.0 q
+      ∙ ap (λ b. cond b None (tree.get nat_cmp t q)) (turned k q) ∙
+      ap (cond (eq_by_cmp nat_cmp q k) None) (sym (get-table_of t q))
+      ∙ sym (map.get-remove nat_cmp_total (table_of t) k q))
+
+abbrev Tree : Type 0
+Tree = tree.BTreeMap ℕ (List ℕ)
 
 upto : (a b : ℕ) → IsLeBy nat_cmp a b → a ≤ b
 upto a b h = ⊎_elim

@@ -1,4 +1,4 @@
-//! The six kinds of collection: what each answers to a call, and what the call leaves.
+//! The seven kinds of collection: what each answers to a call, and what the call leaves.
 #![tactic(auto)]
 
 mod counter;
@@ -6,6 +6,7 @@ mod heap;
 mod map;
 mod pool;
 mod queue;
+mod quotas;
 mod set;
 mod stock;
 
@@ -13,5 +14,6 @@ pub use counter::CounterCol;
 pub use map::MapCol;
 pub use pool::PoolCol;
 pub use queue::QueueCol;
+pub use quotas::QuotasCol;
 pub use set::SetCol;
 pub use stock::StockCol;

@@ -1,11 +1,11 @@
 // A set of numbers.
 ghost use Rattle.std.specs.Prelude.{◌≡◌, ◌↔◌, IsTrue, IsOk, IfOk, OnOk, OnErr, IsOkUnless};
-ghost use Rattle.std.specs.Prelude.{IsOkAnd};
+ghost use Rattle.std.specs.Prelude.{IsOkAnd, MatchOption, true};
 ghost use Rattle.std.specs.FinSet as set;
 ghost use Rattle.std.specs.List.Sorted.{IsStrictlySortedBy};
 ghost use Rattle.std.specs.Ordering.{nat_cmp};
 ghost use Rattle.calls.specs.Rules.{TakesNoMemory};
-ghost use Rattle.calls.specs.Sets.{Answers, after, CanLook};
+ghost use Rattle.calls.specs.Sets.{Answers, after, CanLook, IsEmpty};
 
 use calls::{Call, Refusal, Reply};
 use std::alloc::{AllocError, Global};
@@ -74,8 +74,18 @@ impl SetCol {
         self.elements.contains(&element)
     }
 
-    /// The reply that a call of a set gets now. It takes no memory and is never refused. Its cost
-    /// is logarithmic in the number of elements.
+    // The least element.
+    fn least(&self) -> Option<u64>
+        ensures { MatchOption result (IsEmpty self.now) (λ x. set.contains self.now x ≡ true) }
+    {
+        match self.elements.first() {
+            None => None,
+            Some(&least) => Some(least),
+        }
+    }
+
+    /// The reply that a call of a set gets now. A Pick gets the least element. It takes no memory
+    /// and is never refused. Its cost is logarithmic in the number of elements.
     pub fn look(&self, call: &Call) -> Result<Reply, Refusal>
         requires { CanLook self.now call.now }
         ensures { IsOkAnd result (λ reply. Answers self.now call.now reply) }
@@ -95,6 +105,10 @@ impl SetCol {
                     Ok(Reply::No)
                 }
             }
+            Call::Pick => match self.least() {
+                None => Ok(Reply::Nothing),
+                Some(element) => Ok(Reply::Id(element)),
+            },
             _ => unreachable!(),
         }
     }
@@ -111,6 +125,8 @@ impl SetCol {
             (Call::SetAdd(element), Reply::No) => self.has(*element),
             (Call::SetRemove(element), Reply::Yes) => self.has(*element),
             (Call::SetRemove(element), Reply::No) => !self.has(*element),
+            (Call::Pick, Reply::Id(element)) => self.has(*element),
+            (Call::Pick, Reply::Nothing) => self.least().is_none(),
             _ => false,
         }
     }
@@ -141,6 +157,10 @@ impl SetCol {
                 Ok(())
             }
             (Call::SetRemove(element), Reply::Yes) => {
+                self.elements.remove(element);
+                Ok(())
+            }
+            (Call::Pick, Reply::Id(element)) => {
                 self.elements.remove(element);
                 Ok(())
             }

@@ -1,9 +1,9 @@
 // A disk in memory, with all that a stop may do to a disk.
 ghost use Rattle.std.specs.Prelude.{◌≡◌, ◌↔◌, ◌⊎◌, ◌+◌, ◌≤◌, ◌<◌, ◌^◌, ◌-◌, List, ℕ, length, take};
-ghost use Rattle.std.specs.Prelude.{drop, replicate, false, true, IfOk, OnOk, OnErr, IsTrue, refl};
+ghost use Rattle.std.specs.Prelude.{drop, replicate, false, true, IfOk, OnOk, OnErr, IsTrue};
 ghost use Rattle.disk_model.specs.Marks.{Leaves, marked, picked, picked_one, leaves_seen};
 ghost use Rattle.disk_model.specs.Marks.{leaves_size};
-ghost use Rattle.disk_model.specs.Disk.{Overwritten, Only, IsAtRest, Torn, Follows, Elapses};
+ghost use Rattle.disk_model.specs.Disk.{Overwritten, Only, IsAtRest, Torn, Follows};
 ghost use Rattle.disk_model.specs.Disk.{HasCause};
 ghost use Rattle.disk_model.specs.Moments.{moments, HadLeft, only_left, WasAt};
 ghost use Rattle.std.proofs.Common.{inl};

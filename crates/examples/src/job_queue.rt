@@ -1,128 +1,186 @@
-//! A job queue in a store in a file: two threads put jobs in, and two take them out, the most urgent
-//! first. A job is taken, done and its result written in one transaction, so it is done once; each
-//! worker gives a job up first, which is there again. This file is a whole example, to be copied.
+//! A job queue in a store in a file. Four workers do jobs side by side: each picks a job of a set,
+//! works while it holds it, and writes the result in the same transaction. Who gives up, or dies,
+//! has its job taken back by the store. A job that fails is tried again, and lies aside once it
+//! failed three times. It can be stopped at any time and started again. This file is a whole
+//! example, to be copied.
 
 use fizgaloms::{
     AllocGlobal, Attempt, Call, Client, Clock, Kind, MIN_AREA, Naming, Refusal, Reply, StoreFile,
-    Transaction, Wait, Work, keep, open_or_format, open_or_make, transact, value_of_number,
+    Transaction, Wait, Work, keep, number_of, open_or_format, open_or_make, transact,
+    value_of_number,
 };
-use std::alloc::Global;
 use std::fs::File;
 use std::rt::Files;
 use std::thread::{self, Threads};
 use std::time::Duration;
 
-// How many jobs each of two producers puts in, and each of two workers does.
-const EACH: u64 = 20;
+const JOBS: u64 = 40;
+
+// How often a job is tried.
+const TRIES: u64 = 3;
+
+// What the work comes to: nothing for every thirteenth job, which fails.
+fn result_of(job: u64) -> Option<u64> {
+    if job % 13 == 0 {
+        None
+    } else {
+        Some(job.wrapping_mul(job))
+    }
+}
 
 // A transaction, which answers how many jobs it is about.
 #[derive(Clone, Copy)]
-enum Step {
+enum Step<'r, R> {
     Put(u64),
     GiveUp,
-    Do(Global),
-    Count,
+    Do(&'r R),
+    Count(&'static str),
 }
 
-impl Transaction for Step {
+impl<R: Clock + AllocGlobal> Transaction for Step<'_, R> {
     type Output = u64;
 
     fn make_calls<A: Attempt>(&self, attempt: &mut A) -> Result<u64, Refusal> {
         match *self {
-            Step::Put(job) => attempt.call("jobs", &Call::QueueAdd(job % 3, job))?,
+            Step::Put(job) => put(attempt, job),
             Step::GiveUp => {
-                attempt.call("jobs", &Call::Take)?;
-                return Err(Refusal::Unfinished);
+                attempt.call("jobs", &Call::Pick)?;
+                Err(Refusal::Unfinished)
             }
-            Step::Do(alloc) => {
-                let Reply::Item(_, job) = attempt.call("jobs", &Call::Take)? else {
-                    return Ok(0);
-                };
-                let square = value_of_number(alloc, job.wrapping_mul(job))?;
-                attempt.call("results", &Call::Put(job, square))?
-            }
-            Step::Count => return count(attempt),
-        };
-        Ok(1)
+            Step::Do(rt) => do_one(rt, attempt),
+            Step::Count(collection) => count(attempt, collection),
+        }
     }
 }
 
-// How many jobs have their result.
-fn count<A: Attempt>(attempt: &mut A) -> Result<u64, Refusal> {
+// Puts a job in, unless it was done.
+fn put<A: Attempt>(attempt: &mut A, job: u64) -> Result<u64, Refusal> {
+    let is_done = attempt.call("done", &Call::Contains(job))?;
+    if let Reply::No = is_done {
+        attempt.call("jobs", &Call::SetAdd(job))?;
+    }
+    Ok(1)
+}
+
+// Does a job, and holds it meanwhile. While others hold theirs, `Nothing` is answered to nobody, as
+// a job may come back.
+fn do_one<R: Clock + AllocGlobal, A: Attempt>(rt: &R, attempt: &mut A) -> Result<u64, Refusal> {
+    let Reply::Id(job) = attempt.call("jobs", &Call::Pick)? else {
+        return Ok(0);
+    };
+    thread::sleep(rt, Duration::from_millis(1));
+    match result_of(job) {
+        Some(result) => {
+            let value = value_of_number(rt.alloc(), result)?;
+            attempt.call("results", &Call::Put(job, value))?;
+            attempt.call("done", &Call::SetAdd(job))?;
+        }
+        None => put_back(rt, attempt, job)?,
+    }
+    Ok(1)
+}
+
+// Puts a job that failed back, or aside where it failed too often.
+fn put_back<R: AllocGlobal, A: Attempt>(rt: &R, attempt: &mut A, job: u64) -> Result<(), Refusal> {
+    let failed = match attempt.call("tries", &Call::Get(job))? {
+        Reply::Value(value) => number_of(&value).unwrap_or(0),
+        _ => 0,
+    };
+    let failed = failed.wrapping_add(1);
+    let value = value_of_number(rt.alloc(), failed)?;
+    attempt.call("tries", &Call::Put(job, value))?;
+    if failed < TRIES {
+        attempt.call("jobs", &Call::SetAdd(job))?;
+    } else {
+        attempt.call("failed", &Call::SetAdd(job))?;
+        attempt.call("done", &Call::SetAdd(job))?;
+    }
+    Ok(())
+}
+
+// How many jobs the set has.
+fn count<A: Attempt>(attempt: &mut A, collection: &str) -> Result<u64, Refusal> {
     let mut found = 0u64;
-    for job in 0..2 * EACH {
-        let reply = attempt.call("results", &Call::Get(job))?;
-        found = found.wrapping_add(u64::from(matches!(reply, Reply::Value(_))));
+    for job in 0..JOBS {
+        let reply = attempt.call(collection, &Call::Contains(job))?;
+        found = found.wrapping_add(u64::from(matches!(reply, Reply::Yes)));
     }
     Ok(found)
 }
 
-// What threads do, from this part on: 0 and 1 put jobs in, 2 and 3 do them, and 4 counts. Each
-// answers how many jobs it did or counted. It tries so often, a millisecond apart.
-#[derive(Drop)]
-struct Parts(usize);
+// What the threads of a run do.
+#[derive(Clone, Copy)]
+enum Part {
+    /// One puts all jobs in.
+    Putting,
+    /// Four do them, until none is left. Each gives a job up first.
+    Working,
+    /// One counts those that are done and those that failed.
+    Counting,
+}
 
-const TRIES: u32 = 100_000;
-
-impl Work for Parts {
-    type Output = Result<u64, Refusal>;
+impl Work for Part {
+    type Output = Result<(u64, u64), Refusal>;
 
     fn work<J: Naming, R: Wait + Clock + AllocGlobal>(
         &self,
         rt: &R,
         client: &mut Client<'_, J>,
-        thread: usize,
-    ) -> Result<u64, Refusal> {
-        open_or_make(rt, client, "jobs", Kind::Queue)?;
-        open_or_make(rt, client, "results", Kind::Map)?;
-        let part = self.0.wrapping_add(thread);
-        if part == 2 || part == 3 {
-            let _given_up = transact(rt, client, &Step::GiveUp);
+        _thread: usize,
+    ) -> Result<(u64, u64), Refusal> {
+        for name in ["jobs", "done", "failed"] {
+            open_or_make(rt, client, name, Kind::Set)?;
         }
-        let mut done = 0u64;
-        for _ in 0..TRIES {
-            if done >= EACH {
-                break;
-            }
-            let step = match part {
-                0 => Step::Put(done),
-                1 => Step::Put(done.wrapping_add(EACH)),
-                2 | 3 => Step::Do(rt.alloc()),
-                _ => Step::Count,
-            };
-            let (some, _ticket) = keep(rt, client, &step)?;
-            done = done.wrapping_add(some);
-            if some == 0 {
-                thread::sleep(rt, Duration::from_millis(1));
-            }
+        for name in ["results", "tries"] {
+            open_or_make(rt, client, name, Kind::Map)?;
         }
-        Ok(if part < 2 { 0 } else { done })
+        match self {
+            Part::Putting => {
+                for job in 0..JOBS {
+                    keep(rt, client, &Step::<R>::Put(job))?;
+                }
+            }
+            Part::Working => {
+                let _given_up = transact(rt, client, &Step::<R>::GiveUp);
+                for _ in rt.forever() {
+                    if keep(rt, client, &Step::Do(rt))?.0 == 0 {
+                        break;
+                    }
+                }
+            }
+            Part::Counting => {}
+        }
+        let (done, _ticket) = transact(rt, client, &Step::<R>::Count("done"))?;
+        let (failed, _ticket) = transact(rt, client, &Step::<R>::Count("failed"))?;
+        Ok((done, failed))
     }
 }
 
-// Opens the file, has threads do their parts from this one on, and answers how many jobs they did.
-fn do_parts<R: Threads + Wait + Clock + Files<File = File> + AllocGlobal + Sync>(
+// Opens the file, has threads do their part, and answers what the last one counted at its end.
+fn do_part<R: Threads + Wait + Clock + Files<File = File> + AllocGlobal + Sync>(
     rt: &R,
-    first: usize,
+    part: Part,
     threads: usize,
-) -> anyhow::Result<u64> {
+) -> anyhow::Result<(u64, u64)> {
     let disk: StoreFile = open_or_format(rt, "jobs.disk", MIN_AREA)?;
-    let (answers, _closed) = fizgaloms::run(rt, disk, &Parts(first), threads);
-    let mut jobs = 0u64;
-    for some in answers? {
-        jobs = jobs.wrapping_add(some?);
+    let (answers, _closed) = fizgaloms::run(rt, disk, &part, threads);
+    let mut counts = (0, 0);
+    for answer in answers? {
+        counts = answer?;
     }
-    Ok(jobs)
+    Ok(counts)
 }
 
-/// Does jobs, and counts their results once the file was opened again. Prints both.
+/// Puts jobs in, does them, and counts them once the file was opened again. Prints what came of it.
 pub fn run<R: Threads + Wait + Clock + Files<File = File> + Print + AllocGlobal + Sync>(
     rt: &R,
 ) -> anyhow::Result<()> {
-    println!(rt; "{} jobs are done", do_parts(rt, 0, 4)?)?;
+    do_part(rt, Part::Putting, 1)?;
+    do_part(rt, Part::Working, 4)?;
+    let (done, failed) = do_part(rt, Part::Counting, 1)?;
     println!(rt;
-        "{} have their result once the file was opened again",
-        do_parts(rt, 4, 1)?
+        "{} jobs have their result once the file was opened again, and {failed} lie aside",
+        done.wrapping_sub(failed)
     )?;
     Ok(())
 }

@@ -1,97 +1,124 @@
-//! A quota: four threads spend from two accounts that have a limit, in a store in a file. Each
-//! account is a stock, so what it has left never falls below zero, and those who spend from it side
-//! by side don't wait for each other. This file is a whole example, to be copied.
+//! Quotas of a thousand customers, in a store in a file: four threads spend from them, and from the
+//! same customer's side by side. What a customer has left never falls below zero, and nobody waits
+//! for anybody. This file is a whole example, to be copied.
 
 use fizgaloms::{
-    AllocGlobal, Attempt, Call, Client, Clock, Kind, MIN_AREA, Naming, Refusal, Reply, StoreFile,
-    Transaction, Wait, Work, keep, open_or_format, open_or_make,
+    AllocGlobal, Attempt, Call, Client, Clock, Kind, Naming, Refusal, Reply, StoreFile,
+    Transaction, Wait, Work, keep, open_or_format, open_or_make, transact,
 };
 use std::fs::File;
 use std::rt::Files;
 use std::thread::Threads;
 
-const THREADS: usize = 4;
+const AREA: u64 = 1 << 20;
 
-// How often each thread asks each account, for how much, and what an account is filled up with.
-const ASKS: usize = 5;
+const CUSTOMERS: u64 = 1_000;
 
-const ASKED: u64 = 10;
-
+// What each quota is filled by.
 const LIMIT: u64 = 100;
 
-// A transaction that fills an account up, or spends from it where it has as much: whether it did.
+const THREADS: usize = 4;
+
+// Each thread asks every tenth customer's quota so often, for so much.
+const ASKS: u64 = 3;
+
+const ASKED: u64 = 40;
+
+// A transaction that fills all quotas, or spends from a customer's where it has as much. It answers
+// how many quotas it changed.
 #[derive(Clone, Copy)]
 enum Change {
-    Fill(&'static str),
-    Spend(&'static str),
+    Fill,
+    Spend(u64),
 }
 
 impl Transaction for Change {
-    type Output = bool;
+    type Output = u64;
 
-    fn make_calls<A: Attempt>(&self, attempt: &mut A) -> Result<bool, Refusal> {
+    fn make_calls<A: Attempt>(&self, attempt: &mut A) -> Result<u64, Refusal> {
         match *self {
-            Change::Fill(account) => attempt.later(account, &Call::Fill(LIMIT)).map(|_| true),
-            Change::Spend(account) => {
-                Ok(matches!(attempt.call(account, &Call::Spend(ASKED))?, Reply::Yes))
+            Change::Fill => fill_all(attempt),
+            Change::Spend(customer) => {
+                let reply = attempt.call("quotas", &Call::QuotaSpend(customer, ASKED))?;
+                Ok(u64::from(matches!(reply, Reply::Yes)))
             }
         }
     }
 }
 
-// Makes a change so often, and answers how often it was made.
-#[derive(Clone, Copy)]
-struct Changes(Change, usize);
+fn fill_all<A: Attempt>(attempt: &mut A) -> Result<u64, Refusal> {
+    for customer in 0..CUSTOMERS {
+        attempt.call("quotas", &Call::QuotaFill(customer, LIMIT))?;
+    }
+    Ok(CUSTOMERS)
+}
 
-impl Work for Changes {
-    type Output = Result<usize, Refusal>;
+// What the threads of a run do: one fills the quotas, or four spend.
+#[derive(Clone, Copy)]
+enum Part {
+    Filling,
+    Spending,
+}
+
+impl Work for Part {
+    type Output = Result<u64, Refusal>;
 
     fn work<J: Naming, R: Wait + Clock + AllocGlobal>(
         &self,
         rt: &R,
         client: &mut Client<'_, J>,
         _thread: usize,
-    ) -> Result<usize, Refusal> {
-        for account in ["alice", "bob"] {
-            open_or_make(rt, client, account, Kind::Stock)?;
+    ) -> Result<u64, Refusal> {
+        open_or_make(rt, client, "quotas", Kind::Quotas)?;
+        match self {
+            Part::Filling => Ok(keep(rt, client, &Change::Fill)?.0),
+            Part::Spending => spend(rt, client),
         }
-        let mut made = 0usize;
-        for _ in 0..self.1 {
-            made = made.wrapping_add(usize::from(keep(rt, client, &self.0)?.0));
-        }
-        Ok(made)
     }
 }
 
-// Opens the file, fills both accounts up, and has threads spend from them. Prints how many asks
-// were granted.
-fn spend_all<R: Threads + Wait + Clock + Files<File = File> + Print + AllocGlobal + Sync>(
+// Asks, and waits for the last answer to be kept. How many asks were granted.
+fn spend<J: Naming, R: Wait + Clock>(rt: &R, client: &mut Client<'_, J>) -> Result<u64, Refusal> {
+    let mut granted = 0u64;
+    let mut last = None;
+    for _ in 0..ASKS {
+        for customer in (0..CUSTOMERS).step_by(10) {
+            let (some, ticket) = transact(rt, client, &Change::Spend(customer))?;
+            granted = granted.wrapping_add(some);
+            last = Some(ticket);
+        }
+    }
+    if let Some(ticket) = last {
+        client.wait(rt, &ticket)?;
+    }
+    Ok(granted)
+}
+
+// Has threads do a part on the disk, and answers what they changed, and the disk.
+fn do_part<R: Threads + Wait + Clock + AllocGlobal + Sync>(
     rt: &R,
-) -> anyhow::Result<()> {
-    let mut disk: StoreFile = open_or_format(rt, "quota.disk", MIN_AREA)?;
-    for account in ["alice", "bob"] {
-        let (_filled, closed) = fizgaloms::run(rt, disk, &Changes(Change::Fill(account), 1), 1);
-        let (spent, closed) = fizgaloms::run(
-            rt,
-            closed.disk,
-            &Changes(Change::Spend(account), ASKS),
-            THREADS,
-        );
-        disk = closed.disk;
-        let mut granted = 0usize;
-        for some in spent? {
-            granted = granted.wrapping_add(some?);
-        }
-        println!(rt; "{account}: {granted} of {} asks granted", THREADS * ASKS)?;
+    disk: StoreFile,
+    part: Part,
+    threads: usize,
+) -> anyhow::Result<(u64, StoreFile)> {
+    let (answers, closed) = fizgaloms::run(rt, disk, &part, threads);
+    let mut changed = 0u64;
+    for some in answers? {
+        changed = changed.wrapping_add(some?);
     }
-    Ok(())
+    Ok((changed, closed.disk))
 }
 
-/// Spends from the accounts, and once more when the file was opened again.
+/// Fills the quotas and spends from them, and does so once more when the file was opened again.
+/// Prints how many asks were granted.
 pub fn run<R: Threads + Wait + Clock + Files<File = File> + Print + AllocGlobal + Sync>(
     rt: &R,
 ) -> anyhow::Result<()> {
-    spend_all(rt)?;
-    println!(rt; "filled up, and opened again")?;
-    spend_all(rt)
+    for _ in 0..2u32 {
+        let disk: StoreFile = open_or_format(rt, "quota.disk", AREA)?;
+        let (filled, disk) = do_part(rt, disk, Part::Filling, 1)?;
+        let (granted, _disk) = do_part(rt, disk, Part::Spending, THREADS)?;
+        println!(rt; "{filled} quotas are filled, and {granted} of 1200 asks granted")?;
+    }
+    Ok(())
 }

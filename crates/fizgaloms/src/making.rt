@@ -66,5 +66,6 @@ fn question(kind: Kind) -> Call {
         Kind::Counter => Call::Read,
         Kind::Pool => Call::Draw,
         Kind::Stock => Call::Level,
+        Kind::Quotas => Call::QuotaLevel(0),
     }
 }

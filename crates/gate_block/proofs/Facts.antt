@@ -1,16 +1,15 @@
 -- What the store above uses of rows of blocks: the block at the next gate, lengths, and an area
 -- that was just read.
 use Rattle.std.proofs.Common.{◌≡◌, ◌≢◌, ℕ, suc, ◌+◌, ◌<◌, ◌≤◌, List, [], ◌∷◌, ◌++◌, length, take}
-use Rattle.std.proofs.Common.{drop, get_or, refl, sym, ◌∙◌, ap, subst, arith, append_assoc}
+use Rattle.std.proofs.Common.{drop, get_or, refl, sym, ◌∙◌, ap, arith, append_assoc}
 use Rattle.std.proofs.Common.{length-append, length-drop, take-append-drop}
 use Rattle.std.proofs.lemmas.List.{take_at, drop_at, append-nil, get_or-drop, get_or-take}
-use Rattle.std.proofs.lemmas.List.{length-take-le}
 use Rattle.std.specs.List.{AllByRecursion}
-use Rattle.disk_model.specs.Disk.{LeavesOnly, ReadsOnly, IsAtRest}
+use Rattle.disk_model.specs.Disk.{LeavesOnly, IsAtRest}
 use Rattle.disk_model.proofs.Walk.{leaves_now}
 use Rattle.gate_block.specs.declared.area.Area.{Area}
 use Rattle.gate_block.specs.Row.{block, row, IsBody, IsRow, StandsAt, IsBroken}
-use Rattle.gate_block.specs.Area.{bytes_of, size_of, base_of, position_of, IsReady, LeavesBlocks}
+use Rattle.gate_block.specs.Area.{bytes_of, position_of, IsReady, LeavesBlocks}
 use Rattle.gate_block.proofs.Unique.{first_block}
 
 five_more : (n : ℕ) → suc (suc (suc (suc (suc n)))) ≡ 5 + n

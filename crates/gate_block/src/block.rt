@@ -2,7 +2,7 @@
 ghost use Rattle.std.specs.Prelude.{◌≡◌, ◌+◌, ◌-◌, ◌≤◌, ◌<◌, ◌∷◌, ◌++◌, [], length, drop, vec_len};
 ghost use Rattle.std.specs.Prelude.{vec_capacity};
 ghost use Rattle.std.specs.Int.{w32, to_be_bytes};
-ghost use Rattle.gate_block.specs.Row.{open_gate};
+ghost use Rattle.gate_block.specs.Row.{block_head, open_gate};
 ghost use Rattle.calls.specs.Limits.{max_body};
 
 use crate::layout::OPEN;
@@ -14,8 +14,8 @@ pub const BLOCK_HEAD: usize = 5;
 /// the body's length into that room, and a closed gate behind the body. It takes no memory, and
 /// copies nothing of the body.
 pub fn close_block(bytes: &mut Vec<u8>)
-    requires head { 5 ≤ length bytes.old.items }
-    requires short { length bytes.old.items ≤ 5 + max_body }
+    requires head { block_head ≤ length bytes.old.items }
+    requires short { length bytes.old.items ≤ block_head + max_body }
     requires room { vec_len bytes.old < vec_capacity bytes.old }
     ensures block { bytes.new.items ≡ open_gate ∷
         (to_be_bytes w32 (length bytes.old.items - 5) ++ (drop 5 bytes.old.items ++ 0 ∷ [])) }

@@ -3,7 +3,7 @@ ghost use Rattle.std.specs.Prelude.{◌≡◌, ◌≢◌, [], ◌∷◌, ◌++�
 ghost use mathlib.Core.List.{IsPrefix};
 ghost use Rattle.calls.specs.declared.refusal.Refusal.{Refusal};
 ghost use Rattle.group_commit.specs.Lines.{IsLonger, mine_of, stepped, with_client, seeing};
-ghost use Rattle.group_commit.specs.Histories.{Sits, IsTold, boarded, nobody};
+ghost use Rattle.group_commit.specs.Histories.{Sits, boarded, nobody};
 ghost use Rattle.group_commit.specs.Histories.{without_first, first_alone};
 
 use crate::view::{

@@ -168,7 +168,7 @@ impl Drop for Drawer {
 }
 
 impl Model for Drawer {
-    ghost use Rattle.std.specs.Prelude.{◌≡◌, ◌+◌, [], length};
+    ghost use Rattle.std.specs.Prelude.{◌≡◌, ◌+◌, []};
     ghost use Rattle.group_commit.specs.Numbers.{DrawerState};
 
     ghost Value = { DrawerState };

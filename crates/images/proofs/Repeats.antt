@@ -4,7 +4,7 @@ use Rattle.std.proofs.Common.{◌≡◌, ℕ, zero, suc, ◌<◌, ◌≤◌, Boo
 use Rattle.std.proofs.Common.{[]}
 use Rattle.std.proofs.Common.{◌∷◌, ◌++◌, length, map, refl, sym, ◌∙◌, ap, subst, arith}
 use Rattle.std.proofs.Common.{append_assoc}
-use Rattle.std.proofs.Common.{slice_set, get_or, Option, Some}
+use Rattle.std.proofs.Common.{slice_set, get_or, Option}
 use Rattle.std.proofs.lemmas.Bool.{le-ltb}
 use Rattle.std.specs.List.{AllByRecursion}
 use Rattle.calls.specs.Contents.{after}
@@ -16,7 +16,6 @@ use Rattle.images.specs.Gathers.{CopyState, gathered, with_effect, with_effect_a
 use Rattle.images.specs.Gathers.{CanRepeat, CanRepeatAt, CanCatchUp, HaveRepeated, FrozenState}
 use Rattle.boosted.proofs.Each.{each_append}
 use Rattle.images.specs.Gathers.{IsGathered}
-use Rattle.images.specs.Images.{CanStand}
 
 -- ---- one call
 

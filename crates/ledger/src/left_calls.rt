@@ -1,5 +1,5 @@
 // What calls of live transactions have left to the commits.
-ghost use Rattle.std.specs.Prelude.{◌≡◌, ◌↔◌, map, Contains, IsTrue};
+ghost use Rattle.std.specs.Prelude.{◌↔◌, map, Contains, IsTrue};
 ghost use Rattle.calls.specs.Rules.{left_by};
 ghost use Rattle.undo_log.specs.Entries.{entry_of, stamped_entry};
 ghost use Rattle.ledger.specs.LeftCalls.{IsLeftAmong, IsLeftBy};

@@ -80,11 +80,11 @@ fn in_arguments<'a>(verb: &'a str, text: &'a str, wanted: &[Thing]) -> (&'a str,
 fn in_call<'a>(name: &'a str, text: &'a str) -> (&'a str, Why) {
     let (verb, rest) = front(text);
     match verb {
-        "take" | "least" | "read" | "draw" | "level" => in_arguments(verb, rest, &[]),
-        "contains" | "remove" | "get" | "ceiling" | "release" | "spend" => {
+        "take" | "least" | "read" | "draw" | "pick" => in_arguments(verb, rest, &[]),
+        "contains" | "remove" | "get" | "ceiling" | "release" | "level" => {
             in_arguments(verb, rest, &[Thing::Natural])
         }
-        "add" => in_arguments(verb, rest, &[Thing::Natural, Thing::Natural]),
+        "add" | "spend" | "fill" => in_arguments(verb, rest, &[Thing::Natural, Thing::Natural]),
         "put" => in_arguments(verb, rest, &[Thing::Natural, Thing::Value]),
         "bump" => in_arguments(verb, rest, &[Thing::Number]),
         _ => at_word(name, text, Thing::Call),
@@ -105,7 +105,7 @@ fn in_put_off_call<'a>(name: &'a str, text: &'a str) -> (&'a str, Why) {
 fn in_making<'a>(make: &'a str, text: &'a str) -> (&'a str, Why) {
     let (kind, rest) = front(text);
     match kind {
-        "set" | "map" | "queue" | "counter" | "pool" | "stock" => {
+        "set" | "map" | "queue" | "counter" | "pool" | "stock" | "quotas" => {
             in_arguments(kind, rest, &[Thing::Name])
         }
         _ => at_word(make, text, Thing::Kind),

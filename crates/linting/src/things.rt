@@ -20,7 +20,7 @@ impl Display for Thing {
         f.write_str(match self {
             Thing::Action => "turn, checkpoint or client, c1 to c64",
             Thing::Request => "request: make, begin, call, later, commit, abort or kept",
-            Thing::Kind => "kind: set, map, queue, counter, pool or stock",
+            Thing::Kind => "kind: set, map, queue, counter, pool, stock or quotas",
             Thing::Name => "name",
             Thing::Call => "call of a collection",
             Thing::PutOffCall => "call that can be put off: bump or fill",

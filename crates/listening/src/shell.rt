@@ -18,7 +18,7 @@ pub const WELCOME: &[u8] = b"boost 1. `help` lists what you may ask, `end` ends.
 
 /// What a person may ask.
 pub const HELP: &[u8] = b"\
-make KIND NAME       makes a collection: a set, map, queue, counter, pool or stock
+make KIND NAME       makes a collection: a set, map, queue, counter, pool, stock or quotas
 do NAME CALL; ..     a transaction of these calls: all of them, or none
 keep NAME CALL; ..   the same, and waits until it is on the disk
 begin                begins a transaction of many lines:
@@ -32,10 +32,11 @@ kept                 asks whether it is
 bye                  takes back what is open, and begins anew
 c2 ..                says a line as another client, c1 to c64
 end                  ends, once all that was committed is on the disk
-Calls of a set       contains X, add X, remove X
+Calls of a set       contains X, add X, remove X, pick
       of a map       get K, put K HEX, remove K, ceiling K
       of a queue     add PRIORITY TAG, take, least
       of a counter   bump N, read
       of a pool      draw, release X
       of a stock     spend N, level; and later: fill N
+      of quotas      spend K N, level K, fill K N
 ";

@@ -1,15 +1,12 @@
 -- What holds of every state that an image tells of, and the machine that it becomes.
-use Rattle.std.proofs.Common.{◌≡◌, ℕ, ◌+◌, ◌<◌, ◌≤◌, ◌^◌, ◌⊎◌, inl, inr, ⊎_elim, is_some}
+use Rattle.std.proofs.Common.{◌≡◌, ℕ, ◌+◌, ◌<◌, ◌≤◌, ◌^◌, ◌⊎◌, inr, ⊎_elim, is_some}
 use Rattle.std.proofs.Common.{Bool, true, false, Result, Ok, Err, List, [], ◌∷◌, ◌++◌, length, map}
 use Rattle.std.proofs.Common.{refl, sym, ◌∙◌, ap, subst, arith, append-nil, append_assoc}
-use Rattle.std.specs.Prelude.{◌↔◌, Contains, IsTrue, IfOk, OnErr}
+use Rattle.std.specs.Prelude.{IsTrue, IfOk, OnErr}
 use Rattle.std.specs.List.{AllByRecursion}
 use Rattle.std.specs.FinMap as maps
 use Rattle.std.specs.Ordering.{nat_cmp}
 use Rattle.std.proofs.lemmas.List.{map-append}
-use Rattle.std.proofs.lemmas.List.Elements.{Contains-push, Contains-push_cases}
-use Rattle.std.proofs.lemmas.List.Elements.{Contains-append_left, Contains-append_right}
-use Rattle.std.proofs.lemmas.List.Elements.{Contains-append_cases}
 use Rattle.calls.specs.declared.format.Format.{Format}
 use Rattle.calls.specs.declared.kind.Kind.{Kind}
 use Rattle.calls.specs.declared.call.Call.{Call}
@@ -28,10 +25,10 @@ use Rattle.boosted.specs.Meaning as shape
 use Rattle.boosted.proofs.Each.{weaker, each_append}
 use Rattle.record_format.specs.declared.record.Record.{Record}
 use Rattle.record_format.specs.Acts.{event_of}
-use Rattle.records.specs.Images.{IsLiveRecord, owned_entries}
+use Rattle.records.specs.Images.{owned_entries}
 use Rattle.record_format.specs.Records.{IsNumber}
 use Rattle.record_format.specs.Reached.{IsReached}
-use Rattle.record_format.specs.Short.{IsShortReply, IsShortItem}
+use Rattle.record_format.specs.Short.{IsShortItem}
 use Rattle.records.proofs.Items.{within_loaded}
 use Rattle.machine.specs.Machine.{State, IsSettled}
 use Rattle.machine.specs.Machines.{resting, IsAskedEntry, IsUpheld}

@@ -1,6 +1,6 @@
 // Reading an image into a machine: its collections, the transactions that were live, and what these
 // had asked for.
-ghost use Rattle.std.specs.Prelude.{◌≡◌, ◌↔◌, ℕ, ◌+◌, ◌<◌, ◌≤◌, None, IsTrue, IfOk, IfSome};
+ghost use Rattle.std.specs.Prelude.{◌≡◌, ◌↔◌, ◌+◌, ◌<◌, ◌≤◌, None, IsTrue, IfOk, IfSome};
 ghost use Rattle.std.specs.Prelude.{IfNone, OnOk, OnErr, IsOkUnless, Ok, length};
 ghost use Rattle.std.specs.FinMap as maps;
 ghost use Rattle.std.specs.List.{AllByRecursion};

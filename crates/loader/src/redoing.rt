@@ -1,6 +1,6 @@
 // Calls that are taken back exactly as they were done, and made again.
 ghost use Rattle.std.specs.Prelude.{◌≡◌, ◌∷◌, [], map, IfOk, OnOk, IsOkUnless, Some};
-ghost use Rattle.calls.specs.Rules.{Askable, inverse_of};
+ghost use Rattle.calls.specs.Rules.{inverse_of};
 ghost use Rattle.calls.specs.Transactions.{Leads, calls_of};
 ghost use Rattle.undo_log.specs.Entries.{entry_of, event_of};
 ghost use Rattle.machine.specs.Machine.{Does};

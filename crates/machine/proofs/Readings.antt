@@ -8,7 +8,6 @@ use Rattle.calls.specs.declared.format.Format.{Format}
 use Rattle.calls.specs.Formats.{widest}
 use Rattle.calls.specs.declared.call.Call.{Call}
 use Rattle.calls.specs.declared.reply.Reply.{Reply}
-use Rattle.calls.specs.Rules.{inverse_of}
 use Rattle.calls.specs.Reads.{reads, is_journalled}
 use Rattle.calls.specs.Transactions.{Event, Entry, Asked, PutOff, Leads, Act, Asks, calls_of}
 use Rattle.calls.proofs.Readings.{read_mode, read_inverse, read_leaves}

@@ -14,8 +14,9 @@ use Rattle.calls.specs.Queues as queues
 use Rattle.calls.specs.Counters as counters
 use Rattle.calls.specs.Pools as pools
 use Rattle.calls.specs.Stocks as stocks
+use Rattle.calls.specs.Quotas as quotas
 use Rattle.calls.specs.Contents.{Content, InSet, InMap, InQueue, InCounter, InPool, InStock}
-use Rattle.calls.specs.Contents.{Collection, Answers, AnswersAt}
+use Rattle.calls.specs.Contents.{InQuotas, Collection, Answers, AnswersAt}
 use Rattle.record_format.specs.declared.record.Record.{Record}
 use Rattle.record_format.specs.Records.{record_of_call, FitsCall, FitsReply, IsNumber, IsRecord}
 
@@ -28,6 +29,8 @@ set_pairs s (Call.SetAdd x) Reply.Yes a = tt
 set_pairs s (Call.SetAdd x) Reply.No a = tt
 set_pairs s (Call.SetRemove x) Reply.Yes a = tt
 set_pairs s (Call.SetRemove x) Reply.No a = tt
+set_pairs s Call.Pick (Reply.Id x) a = tt
+set_pairs s Call.Pick Reply.Nothing a = tt
 set_pairs s c r a = absurd a.1
 
 map_pairs : (m : maps.Table) (c : Call) (r : Reply) → maps.Answers m c r → Pairs c r
@@ -70,6 +73,15 @@ stock_pairs n Call.Level (Reply.Total v) ask a = tt
 stock_pairs n (Call.Fill k) r ask a = absurd ask
 stock_pairs n c r ask a = absurd a.1
 
+quota_pairs : (q : quotas.Quotas) (c : Call) (r : Reply) → Askable c → quotas.Answers q c r →
+    Pairs c r
+quota_pairs q (Call.QuotaSpend k n) Reply.Yes ask a = tt
+quota_pairs q (Call.QuotaSpend k n) Reply.No ask a = tt
+quota_pairs q (Call.QuotaLevel k) (Reply.Total v) ask a = tt
+quota_pairs q (Call.QuotaFill k n) Reply.Done ask a = tt
+quota_pairs q (Call.Refund k n) r ask a = absurd ask
+quota_pairs q c r ask a = absurd a.1
+
 content_pairs : (k : Content) (c : Call) (r : Reply) → Askable c → Answers k c r → Pairs c r
 content_pairs (InSet s) c r ask a = set_pairs s c r a
 content_pairs (InMap m) c r ask a = map_pairs m c r a
@@ -77,6 +89,7 @@ content_pairs (InQueue q) c r ask a = queue_pairs q c r ask a
 content_pairs (InCounter n) c r ask a = counter_pairs n c r a
 content_pairs (InPool s) c r ask a = pool_pairs s c r ask a
 content_pairs (InStock n) c r ask a = stock_pairs n c r ask a
+content_pairs (InQuotas q) c r ask a = quota_pairs q c r ask a
 
 -- What is answered is one of the replies that the call has.
 pub answered_pairs : (s : List Collection) (at : ℕ) (c : Call) (r : Reply) → Askable c →
@@ -97,6 +110,7 @@ pub inverse_fits : (c : Call) (r : Reply) → Askable c → FitsCall c → FitsR
     IfSome (inverse_of c r) FitsCall
 inverse_fits (Call.SetAdd x) Reply.Yes ask f g = f
 inverse_fits (Call.SetRemove x) Reply.Yes ask f g = f
+inverse_fits Call.Pick (Reply.Id x) ask f g = g
 inverse_fits (Call.Put k v) Reply.Nothing ask f g = f.0
 inverse_fits (Call.Put k v) (Reply.Value o) ask f g = (f.0, g)
 inverse_fits (Call.MapRemove k) (Reply.Value o) ask f g = (f, g)
@@ -105,6 +119,8 @@ inverse_fits Call.Take (Reply.Item p g) ask f h = h
 inverse_fits (Call.Bump n) Reply.Done ask f g = back_fits n ask
 inverse_fits Call.Draw (Reply.Id x) ask f g = g
 inverse_fits (Call.Spend n) Reply.Yes ask f g = f
+inverse_fits (Call.QuotaSpend k n) Reply.Yes ask f g = f
+inverse_fits (Call.QuotaFill k n) Reply.Done ask f g = f
 inverse_fits c r ask f g = tt
 
 -- ---- records

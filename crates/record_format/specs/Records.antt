@@ -45,6 +45,7 @@ kind_code Kind.Queue = 3
 kind_code Kind.Counter = 4
 kind_code Kind.Pool = 5
 kind_code Kind.Stock = 6
+kind_code Kind.Quotas = 7
 
 -- a kind and a name: the kind's code, the name's length, and its bytes
 abbrev pub named : Kind → List ℕ → List ℕ
@@ -70,6 +71,11 @@ call (Call.Free x) = 16 ∷ number 8 x
 call (Call.Spend n) = 17 ∷ number 8 n
 call Call.Level = 18 ∷ []
 call (Call.Fill n) = 19 ∷ number 8 n
+call Call.Pick = 20 ∷ []
+call (Call.QuotaSpend k n) = 21 ∷ number 8 k ++ number 8 n
+call (Call.QuotaLevel k) = 22 ∷ number 8 k
+call (Call.QuotaFill k n) = 23 ∷ number 8 k ++ number 8 n
+call (Call.Refund k n) = 24 ∷ number 8 k ++ number 8 n
 
 abbrev pub reply : Reply → List ℕ
 reply Reply.Done = 0 ∷ []
@@ -118,6 +124,7 @@ item (Item.Element x) = number 8 x
 item (Item.Entry k v) = number 8 k ++ value v
 item (Item.Pair p g) = number 8 p ++ number 8 g
 item (Item.Number n) = wide n
+item (Item.Amount k n) = number 8 k ++ wide n
 
 -- ---- the records
 
@@ -160,6 +167,7 @@ abbrev pub FitsCall : Call → Type 0
 FitsCall (Call.Contains x) = x < 2 ^ 64
 FitsCall (Call.SetAdd x) = x < 2 ^ 64
 FitsCall (Call.SetRemove x) = x < 2 ^ 64
+FitsCall Call.Pick = Unit {0}
 FitsCall (Call.Get k) = k < 2 ^ 64
 FitsCall (Call.Put k v) = (k < 2 ^ 64) × IsValue v
 FitsCall (Call.MapRemove k) = k < 2 ^ 64
@@ -176,6 +184,10 @@ FitsCall (Call.Free x) = x < 2 ^ 64
 FitsCall (Call.Spend n) = n < 2 ^ 64
 FitsCall Call.Level = Unit {0}
 FitsCall (Call.Fill n) = n < 2 ^ 64
+FitsCall (Call.QuotaSpend k n) = (k < 2 ^ 64) × (n < 2 ^ 64)
+FitsCall (Call.QuotaLevel k) = k < 2 ^ 64
+FitsCall (Call.QuotaFill k n) = (k < 2 ^ 64) × (n < 2 ^ 64)
+FitsCall (Call.Refund k n) = (k < 2 ^ 64) × (n < 2 ^ 64)
 
 abbrev pub FitsReply : Reply → Type 0
 FitsReply Reply.Done = Unit {0}
@@ -195,6 +207,7 @@ FitsItem (Item.Element x) = x < 2 ^ 64
 FitsItem (Item.Entry k v) = (k < 2 ^ 64) × IsValue v
 FitsItem (Item.Pair p g) = (p < 2 ^ 64) × (g < 2 ^ 64)
 FitsItem (Item.Number n) = FitsSigned w128 n
+FitsItem (Item.Amount k n) = (k < 2 ^ 64) × FitsSigned w128 n
 
 pub record FitsCalled (c : CallRecord) : Type 0 where
   pub number : c.number < 2 ^ 64

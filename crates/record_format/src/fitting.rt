@@ -39,7 +39,10 @@ pub fn fits_call(call: &Call) -> bool
         Call::Bump(_by) => true,
         Call::Release(_x) | Call::Free(_x) => true,
         Call::Spend(_amount) | Call::Fill(_amount) => true,
-        Call::Take | Call::Least | Call::Read | Call::Draw | Call::Level => true,
+        Call::QuotaSpend(_key, _amount) | Call::QuotaFill(_key, _amount) => true,
+        Call::Refund(_key, _amount) => true,
+        Call::QuotaLevel(_key) => true,
+        Call::Take | Call::Least | Call::Read | Call::Draw | Call::Level | Call::Pick => true,
     }
 }
 
@@ -72,6 +75,7 @@ pub fn fits_item(item: &Item) -> bool
         Item::Pair(_priority, _tag) => true,
         Item::Element(_x) => true,
         Item::Number(_total) => true,
+        Item::Amount(_key, _amount) => true,
     }
 }
 
@@ -97,13 +101,13 @@ pub fn is_short_item(format: Format, item: &Item) -> bool
     }
 }
 
-/// Whether so many runs can reach the item: the number of a counter or of a stock is at most `wear`
-/// times 2^63 from 0, and other items have no bound.
+/// Whether so many runs can reach the item: the number of a counter or of a stock, and the amount
+/// of a quota, is at most `wear` times 2^63 from 0, and other items have no bound.
 pub fn is_reached(item: &Item, wear: u64) -> bool
     ensures { IsTrue result ↔ IsReached wear item.now }
 {
     match item {
-        Item::Number(total) => is_near(*total, wear),
+        Item::Number(total) | Item::Amount(_, total) => is_near(*total, wear),
         Item::Element(_) | Item::Entry(_, _) | Item::Pair(_, _) => true,
     }
 }

@@ -2,7 +2,7 @@
 ghost use Rattle.std.specs.Prelude.{◌≡◌, ◌+◌, ◌≤◌, ℕ, length, IfSome};
 ghost use Rattle.std.specs.Option.{option_copied};
 ghost use Rattle.record_format.specs.declared.record.Record.{Record};
-ghost use Rattle.record_format.specs.Records.{value, named, call, reply, inverse, record_of_call};
+ghost use Rattle.record_format.specs.Records.{value, call, reply, inverse, record_of_call};
 ghost use Rattle.record_format.specs.Records.{put_off, item, spelled, Fits, FitsCall, FitsReply};
 ghost use Rattle.record_format.specs.Records.{FitsItem, FitsCalled, FitsPutOff, IsValue};
 ghost use Rattle.record_format.specs.Records.{longest};
@@ -39,10 +39,15 @@ fn asked_len(asked: &Call) -> usize
         | Call::Release(_)
         | Call::Free(_)
         | Call::Spend(_)
-        | Call::Fill(_) => 9,
+        | Call::Fill(_)
+        | Call::QuotaLevel(_) => 9,
         Call::Put(_, bytes) => 9 + value_len(bytes),
-        Call::QueueAdd(_, _) | Call::Pluck(_, _) => 17,
-        Call::Take | Call::Least | Call::Read | Call::Draw | Call::Level => 1,
+        Call::QueueAdd(_, _)
+        | Call::Pluck(_, _)
+        | Call::QuotaSpend(_, _)
+        | Call::QuotaFill(_, _)
+        | Call::Refund(_, _) => 17,
+        Call::Take | Call::Least | Call::Read | Call::Draw | Call::Level | Call::Pick => 1,
     }
 }
 
@@ -129,6 +134,7 @@ fn item_len(part: &Item) -> usize
         Item::Element(_) => 8,
         Item::Entry(_, bytes) => 8 + value_len(bytes),
         Item::Pair(_, _) | Item::Number(_) => 16,
+        Item::Amount(_, _) => 24,
     }
 }
 

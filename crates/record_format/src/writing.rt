@@ -106,6 +106,7 @@ fn code_of(kind: Kind) -> u8
         Kind::Counter => 4,
         Kind::Pool => 5,
         Kind::Stock => 6,
+        Kind::Quotas => 7,
     }
 }
 
@@ -189,6 +190,11 @@ fn put_call(out: &mut Vec<u8>, asked: &Call)
         Call::Spend(amount) => put_coded(out, 17, *amount),
         Call::Level => put_byte(out, 18),
         Call::Fill(amount) => put_coded(out, 19, *amount),
+        Call::Pick => put_byte(out, 20),
+        Call::QuotaSpend(key, amount) => put_coded_pair(out, 21, *key, *amount),
+        Call::QuotaLevel(key) => put_coded(out, 22, *key),
+        Call::QuotaFill(key, amount) => put_coded_pair(out, 23, *key, *amount),
+        Call::Refund(key, amount) => put_coded_pair(out, 24, *key, *amount),
     }
 }
 
@@ -319,6 +325,10 @@ fn put_item(out: &mut Vec<u8>, part: &Item)
         Item::Number(n) => {
             put_byte(out, 8);
             put_i128(out, *n);
+        }
+        Item::Amount(key, amount) => {
+            put_coded(out, 8, *key);
+            put_i128(out, *amount);
         }
     }
 }

@@ -1,6 +1,6 @@
 -- The two laws: a record that is read is spelled so, and what is spelled so is read.
-use Rattle.std.proofs.Common.{◌≡◌, ℕ, ◌^◌, ◌<◌, ◌≤◌, Bool, true, false, eqb, ltb, ℤ, pos, negsuc}
-use Rattle.std.proofs.Common.{List, [], ◌∷◌}
+use Rattle.std.proofs.Common.{◌≡◌, ℕ, zero, suc, ◌^◌, ◌<◌, ◌≤◌, Bool, true, false, eqb, ltb, ℤ, pos}
+use Rattle.std.proofs.Common.{negsuc, List, [], ◌∷◌}
 use Rattle.std.proofs.Common.{◌++◌, length, take, drop, Option, Some, None, refl, sym, ap, subst}
 use Rattle.std.proofs.Common.{◌∙◌, append_assoc, arith, inl, inr}
 use Rattle.std.specs.Prelude.{IfSome, IsTrue, ◌↔◌}
@@ -18,7 +18,7 @@ use Rattle.calls.specs.declared.item.Item.{Item}
 use Rattle.calls.specs.declared.format.Format.{Format}
 use Rattle.calls.specs.Formats.{max_value, widest}
 use Rattle.calls.specs.Names.{IsName}
-use Rattle.calls.specs.Contents.{IsItemOf}
+use Rattle.calls.specs.Contents.{IsItemOf, IsPositive}
 use Rattle.record_format.specs.declared.record.Record.{Record}
 use Rattle.record_format.specs.declared.record.CallRecord.{CallRecord}
 use Rattle.record_format.specs.declared.record.LaterRecord.{LaterRecord}
@@ -27,6 +27,7 @@ use Rattle.record_format.specs.Records.{inverse, called, put_off, item, spelled,
 use Rattle.record_format.specs.Records.{FitsReply, FitsItem, FitsCalled, FitsPutOff, Fits, IsSound}
 use Rattle.record_format.specs.Records.{Suits, IsRecord, Begins}
 use Rattle.record_reading.specs.RecordReading.{byte_in, number_in, amount_from, amount_in}
+use Rattle.record_reading.specs.RecordReading.{positive_from, positive_in, quota_in}
 use Rattle.record_reading.specs.RecordReading.{pair_in, value_in, entry_in}
 use Rattle.record_reading.specs.RecordReading.{kind_of, is_good_name, name_in, named_in}
 use Rattle.record_reading.specs.RecordReading.{keyed_calls, keyed_call_behind, other_calls}
@@ -142,6 +143,7 @@ kind_of-code Kind.Queue = refl
 kind_of-code Kind.Counter = refl
 kind_of-code Kind.Pool = refl
 kind_of-code Kind.Stock = refl
+kind_of-code Kind.Quotas = refl
 
 code_of-kind : (code : ℕ) (kind : Kind) → kind_of code ≡ Some kind → kind_code kind ≡ code
 code_of-kind code kind e = grind (arith, eqb-true)
@@ -248,7 +250,10 @@ keyed_call_takes code =
                   (λ n h. (refl, h)),
                   (
                     (λ n h. (refl, h)),
-                    ((λ n h. (refl, h)), ((λ n h. (refl, h)), tt)),
+                    (
+                      (λ n h. (refl, h)),
+                      ((λ n h. (refl, h)), ((λ n h. (refl, h)), tt)),
+                    ),
                   ),
                 ),
               ),
@@ -284,7 +289,25 @@ call_takes code =
                   plain_behind call FitsCall 13 Call.Read refl tt,
                   (
                     plain_behind call FitsCall 14 Call.Draw refl tt,
-                    (plain_behind call FitsCall 18 Call.Level refl tt, tt),
+                    (
+                      plain_behind call FitsCall 18 Call.Level refl tt,
+                      (
+                        plain_behind call FitsCall 20 Call.Pick refl tt,
+                        (
+                          made_behind _ _ _ pair_reads call FitsCall 21
+                              (λ p. Call.QuotaSpend p.0 p.1) (λ p h. refl) (λ p h. h),
+                          (
+                            made_behind _ _ _ pair_reads call FitsCall 23
+                                (λ p. Call.QuotaFill p.0 p.1) (λ p h. refl) (λ p h. h),
+                            (
+                              made_behind _ _ _ pair_reads call FitsCall 24
+                                  (λ p. Call.Refund p.0 p.1) (λ p h. refl) (λ p h. h),
+                              tt,
+                            ),
+                          ),
+                        ),
+                      ),
+                    ),
                   ),
                 ),
               ),
@@ -321,6 +344,17 @@ call_again (Call.Free x) rest fits = rw (number_again 8 x rest fits) refl
 call_again (Call.Spend n) rest fits = rw (number_again 8 n rest fits) refl
 call_again Call.Level rest fits = refl
 call_again (Call.Fill n) rest fits = rw (number_again 8 n rest fits) refl
+call_again Call.Pick rest fits = refl
+call_again (Call.QuotaSpend k n) rest fits =
+    made_again (λ p. Call.QuotaSpend p.0 p.1) pair_in ((number 8 k ++ number 8 n) ++ rest) (k, n)
+    rest (pair_reads.again (k, n) rest fits)
+call_again (Call.QuotaLevel k) rest fits = rw (number_again 8 k rest fits) refl
+call_again (Call.QuotaFill k n) rest fits =
+    made_again (λ p. Call.QuotaFill p.0 p.1) pair_in ((number 8 k ++ number 8 n) ++ rest) (k, n)
+    rest (pair_reads.again (k, n) rest fits)
+call_again (Call.Refund k n) rest fits =
+    made_again (λ p. Call.Refund p.0 p.1) pair_in ((number 8 k ++ number 8 n) ++ rest) (k, n)
+    rest (pair_reads.again (k, n) rest fits)
 
 call_in_takes : (bytes : List ℕ) (x : Call × List ℕ) → IsBytes bytes → call_in bytes ≡ Some x →
     IsTaken call FitsCall bytes x
@@ -460,6 +494,17 @@ inverse_again (Some (Call.Free x)) rest fits = rw (number_again 8 x rest fits) r
 inverse_again (Some (Call.Spend n)) rest fits = rw (number_again 8 n rest fits) refl
 inverse_again (Some Call.Level) rest fits = refl
 inverse_again (Some (Call.Fill n)) rest fits = rw (number_again 8 n rest fits) refl
+inverse_again (Some Call.Pick) rest fits = refl
+inverse_again (Some (Call.QuotaSpend k n)) rest fits =
+    made_again Some (call_behind 21) ((number 8 k ++ number 8 n) ++ rest) (Call.QuotaSpend k n) rest
+    (call_again (Call.QuotaSpend k n) rest fits)
+inverse_again (Some (Call.QuotaLevel k)) rest fits = rw (number_again 8 k rest fits) refl
+inverse_again (Some (Call.QuotaFill k n)) rest fits =
+    made_again Some (call_behind 23) ((number 8 k ++ number 8 n) ++ rest) (Call.QuotaFill k n) rest
+    (call_again (Call.QuotaFill k n) rest fits)
+inverse_again (Some (Call.Refund k n)) rest fits =
+    made_again Some (call_behind 24) ((number 8 k ++ number 8 n) ++ rest) (Call.Refund k n) rest
+    (call_again (Call.Refund k n) rest fits)
 
 -- ---- the record of a call
 
@@ -595,6 +640,48 @@ amount_again n rest h =
 amount_reads : Reads wide FitsAmount amount_in
 amount_reads = record { takes = amount_takes; again = amount_again }
 
+-- an amount of a quota: one that is positive
+abbrev FitsPositive : ℤ → Type 0
+FitsPositive n = FitsSigned w128 n × IsPositive n
+
+positive_is : (n : ℤ) (rest : List ℕ) (x : ℤ × List ℕ) → positive_from n rest ≡ Some x →
+    ((n, rest) ≡ x) × IsPositive n
+positive_is (pos (suc n)) rest x e = (some_is (pos (suc n), rest) x e, omega (arith, ints))
+positive_is (pos zero) rest x e = absurd cc
+positive_is (negsuc n) rest x e = absurd cc
+
+positive_takes : (bytes : List ℕ) (x : ℤ × List ℕ) → IsBytes bytes → positive_in bytes ≡ Some x →
+    IsTaken wide FitsPositive bytes x
+unfolding positive_in
+positive_takes bytes x f e =
+    let n = bound (number_in 16 bytes) _ x e in
+    let t = number_takes 16 bytes n.0 f n.1 in
+    let is = positive_is (cast_signed w128 n.0.0) n.0.1 x n.2 in
+    let whole : Takes bytes (wide (cast_signed w128 n.0.0)) n.0.1 =
+    subst (λ (k : ℕ). Takes bytes (number 16 k) n.0.1) (sym (of_z-to_z w128 n.0.0 t.1)) t.0 in
+    subst (IsTaken wide FitsPositive bytes) is.0 (whole, (wide_fits n.0.0 t.1, is.1))
+
+positive_from-again : (n : ℤ) (rest : List ℕ) → IsPositive n →
+    positive_from n rest ≡ Some (n, rest)
+positive_from-again (pos (suc n)) rest h = refl
+positive_from-again (pos zero) rest h = absurd (omega (arith, ints, h))
+positive_from-again (negsuc n) rest h = absurd (omega (arith, ints, h))
+
+positive_again : (n : ℤ) (rest : List ℕ) → FitsPositive n →
+    positive_in (wide n ++ rest) ≡ Some (n, rest)
+unfolding positive_in
+positive_again n rest h =
+    rw (wide_again n rest h.0, to_z-of_z w128 n h.0) (positive_from-again n rest h.1)
+
+positive_reads : Reads wide FitsPositive positive_in
+positive_reads = record { takes = positive_takes; again = positive_again }
+
+quota_reads : Reads (λ (p : ℕ × ℤ). number 8 p.0 ++ wide p.1)
+    (λ (p : ℕ × ℤ). (p.0 < 256 ^ 8) × FitsPositive p.1) quota_in
+unfolding quota_in
+quota_reads = both_reads (number 8) (λ n. n < 256 ^ 8) (number_in 8) wide FitsPositive positive_in
+    (number_reads 8) positive_reads
+
 item_takes : (last : Option Kind) (bytes : List ℕ) (x : Item × List ℕ) → IsBytes bytes →
     item_in last bytes ≡ Some x → IsTaken item (FitsAsItem last) bytes x
 unfolding item_in
@@ -617,6 +704,10 @@ item_takes (Some Kind.Pool) bytes x f e =
 item_takes (Some Kind.Stock) bytes x f e =
     made_taken _ _ _ amount_reads item (FitsAsItem (Some Kind.Stock)) [] Item.Number (λ n h. refl)
     (λ n h. h) bytes x f e
+item_takes (Some Kind.Quotas) bytes x f e =
+    made_taken _ _ _ quota_reads item (FitsAsItem (Some Kind.Quotas)) []
+    (λ p. Item.Amount p.0 p.1) (λ p h. refl)
+    (λ p h. ((h.0, h.1.0), h.1.1)) bytes x f e
 
 item_again : (last : Option Kind) (i : Item) (rest : List ℕ) → FitsAsItem last i →
     item_in last (item i ++ rest) ≡ Some (i, rest)
@@ -633,6 +724,9 @@ item_again (Some Kind.Counter) (Item.Number n) rest h =
 item_again (Some Kind.Pool) (Item.Element x) rest h = rw (number_again 8 x rest h.0) refl
 item_again (Some Kind.Stock) (Item.Number n) rest h =
     made_again Item.Number amount_in (wide n ++ rest) n rest (amount_again n rest h)
+item_again (Some Kind.Quotas) (Item.Amount k n) rest h =
+    made_again (λ p. Item.Amount p.0 p.1) quota_in ((number 8 k ++ wide n) ++ rest) (k, n) rest
+    (quota_reads.again (k, n) rest (h.0.0, (h.0.1, h.1)))
 item_again last i rest h = absurd h.1
 
 item_reads : (last : Option Kind) → Reads item (FitsAsItem last) (item_in last)

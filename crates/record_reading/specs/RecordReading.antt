@@ -1,7 +1,8 @@
 -- What the functions of reading.rt return, one by one: the field at the front of the bytes, and the
 -- bytes behind it. No public contract cites this. That what is read so is what Records spells, and
 -- the other way round, is proved.
-use Rattle.std.specs.Prelude.{◌≡◌, ℕ, ℤ, pos, negsuc, Bool, ◌&&◌, ◌||◌, List, [], ◌∷◌, length, take}
+use Rattle.std.specs.Prelude.{◌≡◌, ℕ, suc, ℤ, pos, negsuc, Bool, ◌&&◌, ◌||◌, List, [], ◌∷◌, length}
+use Rattle.std.specs.Prelude.{take}
 use Rattle.std.specs.Prelude.{drop, Option, Some, None, Result, Ok, Err, nat_lt, nat_le, ◌==◌}
 use Rattle.std.specs.Prelude.{if◌then◌else◌}
 use Rattle.std.specs.List.{list_all}
@@ -87,6 +88,17 @@ amount_from (negsuc n) rest = None
 unfoldable pub amount_in : Reader ℤ
 amount_in bytes = number_in 16 bytes >>= λ n. amount_from (cast_signed w128 n.0) n.1
 
+-- a signed number of 16 bytes, if it is positive
+abbrev pub positive_from : ℤ → List ℕ → Option (ℤ × List ℕ)
+positive_from (pos (suc n)) rest = Some (pos (suc n), rest)
+positive_from n rest = None
+
+unfoldable pub positive_in : Reader ℤ
+positive_in bytes = number_in 16 bytes >>= λ n. positive_from (cast_signed w128 n.0) n.1
+
+unfoldable pub quota_in : Reader (ℕ × ℤ)
+quota_in = both (number_in 8) positive_in
+
 unfoldable pub pair_in : Reader (ℕ × ℕ)
 pair_in = both (number_in 8) (number_in 8)
 
@@ -102,7 +114,7 @@ entry_in = both (number_in 8) value_in
 
 abbrev kinds : List (ℕ × Kind)
 kinds = (1, Kind.Set) ∷ (2, Kind.Map) ∷ (3, Kind.Queue) ∷ (4, Kind.Counter) ∷ (5, Kind.Pool) ∷
-    (6, Kind.Stock) ∷ []
+    (6, Kind.Stock) ∷ (7, Kind.Quotas) ∷ []
 
 abbrev pub kind_of : ℕ → Option Kind
 kind_of code = entry_at kinds code
@@ -134,7 +146,7 @@ named_in bytes = do
 abbrev pub keyed_calls : List (ℕ × (ℕ → Call))
 keyed_calls = (1, Call.Contains) ∷ (2, Call.SetAdd) ∷ (3, Call.SetRemove) ∷ (4, Call.Get) ∷
     (6, Call.MapRemove) ∷ (7, Call.Ceiling) ∷ (15, Call.Release) ∷ (16, Call.Free) ∷
-    (17, Call.Spend) ∷ (19, Call.Fill) ∷ []
+    (17, Call.Spend) ∷ (19, Call.Fill) ∷ (22, Call.QuotaLevel) ∷ []
 
 unfoldable pub keyed_call_behind : ℕ → Reader Call
 keyed_call_behind code = numbered keyed_calls code
@@ -150,6 +162,10 @@ other_calls =
     ∷ (13, plain Call.Read)
     ∷ (14, plain Call.Draw)
     ∷ (18, plain Call.Level)
+    ∷ (20, plain Call.Pick)
+    ∷ (21, made (λ p. Call.QuotaSpend p.0 p.1) pair_in)
+    ∷ (23, made (λ p. Call.QuotaFill p.0 p.1) pair_in)
+    ∷ (24, made (λ p. Call.Refund p.0 p.1) pair_in)
     ∷ []
 
 -- a call behind its code
@@ -222,6 +238,7 @@ item_in (Some Kind.Counter) bytes =
     made (λ n. Item.Number (cast_signed w128 n)) (number_in 16) bytes
 item_in (Some Kind.Pool) bytes = made Item.Element (number_in 8) bytes
 item_in (Some Kind.Stock) bytes = made Item.Number amount_in bytes
+item_in (Some Kind.Quotas) bytes = made (λ p. Item.Amount p.0 p.1) quota_in bytes
 
 abbrev pub made_named : (Kind → List ℕ → Record) → Reader Record
 made_named make bytes = named_in bytes >>= λ m. Some (make m.0 m.1, m.2)

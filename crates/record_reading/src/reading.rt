@@ -1,14 +1,15 @@
 // Bytes into the record that they begin with.
-ghost use Rattle.std.specs.Prelude.{◌≡◌, ◌+◌, ◌<◌, ◌≤◌, length, IfOk};
+ghost use Rattle.std.specs.Prelude.{◌<◌};
 ghost use Rattle.record_format.specs.declared.record.Record.{Record};
 ghost use Rattle.record_reading.specs.RecordReading.{Gives, byte_in, number_in, amount_in};
+ghost use Rattle.record_reading.specs.RecordReading.{positive_in, quota_in};
 ghost use Rattle.record_reading.specs.RecordReading.{pair_in, value_in, made};
 ghost use Rattle.record_reading.specs.RecordReading.{entry_in, kind_of, name_in, named_in};
 ghost use Rattle.record_reading.specs.RecordReading.{keyed_call_behind, call_behind, call_in};
 ghost use Rattle.record_reading.specs.RecordReading.{reply_behind, reply_in, inverse_in, called_in};
 ghost use Rattle.record_reading.specs.RecordReading.{put_off_in, item_in, numbered_behind};
 ghost use Rattle.record_reading.specs.RecordReading.{journal_behind, record_behind, record_in};
-ghost use Rattle.std.specs.Int.{w64, w128, cast_signed};
+ghost use Rattle.std.specs.Int.{cast_signed};
 
 use crate::unread::Unread;
 use byteorder::{BigEndian, ByteOrder};
@@ -69,6 +70,29 @@ fn read_amount(bytes: &[u8]) -> Result<(i128, &[u8]), Unread>
     Ok((amount, rest))
 }
 
+// A number of 16 bytes that is positive.
+#[tactic(auto, unfolding(crate::specs::RecordReading::positive_in))]
+fn read_positive(bytes: &[u8]) -> Result<(i128, &[u8]), Unread>
+    ensures { Gives (λ x. (x.0, x.1.now)) result (positive_in bytes.now) }
+{
+    let (n, rest) = read_u128(bytes)?;
+    let amount = n.cast_signed();
+    if amount < 1 {
+        return Err(Unread::Damage);
+    }
+    Ok((amount, rest))
+}
+
+// A key and a number that is positive.
+#[tactic(auto, unfolding(crate::specs::RecordReading::quota_in))]
+fn read_quota(bytes: &[u8]) -> Result<(u64, i128, &[u8]), Unread>
+    ensures { Gives (λ x. ((x.0, x.1), x.2.now)) result (quota_in bytes.now) }
+{
+    let (key, rest) = read_u64(bytes)?;
+    let (amount, rest) = read_positive(rest)?;
+    Ok((key, amount, rest))
+}
+
 #[tactic(auto, unfolding(crate::specs::RecordReading::pair_in))]
 fn read_pair(bytes: &[u8]) -> Result<(u64, u64, &[u8]), Unread>
     ensures { Gives (λ x. ((x.0, x.1), x.2.now)) result (pair_in bytes.now) }
@@ -110,6 +134,7 @@ fn kind_from(code: u8) -> Result<Kind, Unread>
         4 => Ok(Kind::Counter),
         5 => Ok(Kind::Pool),
         6 => Ok(Kind::Stock),
+        7 => Ok(Kind::Quotas),
         _ => Err(Unread::Damage),
     }
 }
@@ -160,6 +185,7 @@ fn keyed_call_from(code: u8, bytes: &[u8]) -> Result<(Call, &[u8]), Unread>
         16 => Ok((Call::Free(key), rest)),
         17 => Ok((Call::Spend(key), rest)),
         19 => Ok((Call::Fill(key), rest)),
+        22 => Ok((Call::QuotaLevel(key), rest)),
         _ => Err(Unread::Damage),
     }
 }
@@ -191,6 +217,19 @@ fn call_from(alloc: Global, code: u8, bytes: &[u8]) -> Result<(Call, &[u8]), Unr
         13 => Ok((Call::Read, bytes)),
         14 => Ok((Call::Draw, bytes)),
         18 => Ok((Call::Level, bytes)),
+        20 => Ok((Call::Pick, bytes)),
+        21 => {
+            let (key, amount, rest) = read_pair(bytes)?;
+            Ok((Call::QuotaSpend(key, amount), rest))
+        }
+        23 => {
+            let (key, amount, rest) = read_pair(bytes)?;
+            Ok((Call::QuotaFill(key, amount), rest))
+        }
+        24 => {
+            let (key, amount, rest) = read_pair(bytes)?;
+            Ok((Call::Refund(key, amount), rest))
+        }
         _ => keyed_call_from(code, bytes),
     }
 }
@@ -319,6 +358,10 @@ fn read_item(alloc: Global, last: Option<Kind>, bytes: &[u8]) -> Result<(Item, &
         Some(Kind::Stock) => {
             let (amount, rest) = read_amount(bytes)?;
             Ok((Item::Number(amount), rest))
+        }
+        Some(Kind::Quotas) => {
+            let (key, amount, rest) = read_quota(bytes)?;
+            Ok((Item::Amount(key, amount), rest))
         }
     }
 }

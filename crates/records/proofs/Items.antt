@@ -1,7 +1,7 @@
 -- What holds of the items and the values of a content: none is too long to be spelled, and so many
 -- runs reach them.
 use Rattle.std.proofs.Common.{refl, ◌≡◌, ℕ, zero, suc, pos, ◌≤◌, Bool, true, false, cond, Option}
-use Rattle.std.proofs.Common.{Some, None, arith}
+use Rattle.std.proofs.Common.{Some, None, arith, ◌+◌, ◌*◌, ◌^◌}
 use Rattle.std.proofs.Common.{List, [], ◌∷◌, ◌++◌, map, length, sym, ◌∙◌, ap, subst}
 use Rattle.std.proofs.Common.{⊎_elim}
 use Rattle.std.specs.Prelude.{IfSome, T, replicate}
@@ -10,7 +10,7 @@ use Rattle.std.specs.Ordering.{nat_cmp, eq_by_cmp, is_eq}
 use Rattle.std.specs.Cmp.{nat_cmp_total}
 use Rattle.std.specs.Option.{unwrap_or}
 use Rattle.std.specs.FinMap.{get, find, entries, empty, get-empty, get-insert, get-remove}
-use Rattle.std.specs.FinMap.{get-entries}
+use Rattle.std.specs.FinMap.{get-entries, entries_sorted}
 use Rattle.calls.specs.declared.kind.Kind.{Kind}
 use Rattle.calls.specs.declared.call.Call.{Call}
 use Rattle.calls.specs.declared.reply.Reply.{Reply}
@@ -23,15 +23,17 @@ use Rattle.calls.specs.Queues as queues
 use Rattle.calls.specs.Counters as counters
 use Rattle.calls.specs.Pools as pools
 use Rattle.calls.specs.Stocks as stocks
+use Rattle.calls.specs.Quotas as quotas
 use Rattle.calls.specs.Rules.{inverse_of, IsShort, Disposable, Deferrable}
 use Rattle.calls.specs.Contents as contents
 use Rattle.calls.specs.Contents.{Content, InSet, InMap, InQueue, InCounter, InPool, InStock}
 use Rattle.calls.specs.Contents.{Collection, Answers, after, AnswersAt, after_at, kind_of_content}
-use Rattle.calls.specs.Contents.{IsItemOf}
+use Rattle.calls.specs.Contents.{InQuotas, IsItemOf}
 use Rattle.calls.specs.Transactions.{Makes}
+use Rattle.calls.specs.Bags.{copies_of}
 use Rattle.calls.proofs.BagPoints.{not_tied}
+use Rattle.calls.proofs.Found.{AreApart, all_found}
 use Rattle.catalog.specs.Holdings.{ListsContent, Loads}
-use Rattle.record_format.specs.Records.{FitsCall, FitsReply, FitsItem}
 use Rattle.record_format.specs.Short.{IsShortReply, IsShortItem, HoldsShort, AreShort}
 use Rattle.catalog.specs.Places.{Reaches, IsWithin}
 use Rattle.catalog.specs.Laws.Makings.{within_more}
@@ -42,6 +44,7 @@ use Rattle.std.proofs.lemmas.Int.{ints}
 use Rattle.std.specs.FinMap as finmaps
 use Rattle.std.specs.FinMap.Entries.{is_sorted, below_all}
 use Rattle.catalog.proofs.Orders.{is_less, first_of_both, second_of_both}
+use Rattle.catalog.proofs.Listings.{quota_item}
 use Rattle.boosted.proofs.Each.{each_append}
 
 -- ---- what fits is short
@@ -69,6 +72,7 @@ widest_content f (InQueue q) h = tt
 widest_content f (InCounter n) h = tt
 widest_content f (InPool s) h = tt
 widest_content f (InStock n) h = tt
+widest_content f (InQuotas q) h = tt
 
 pub widest_all : (f : Format) (s : List Collection) → AreShort f s → AreShort widest s
 widest_all f [] a = tt
@@ -129,6 +133,13 @@ module _ (f : Format) where
   stock_short n c (Reply.Entry k v) a = absurd a.1
   stock_short n c r a = tt
 
+  quota_short : (q : quotas.Quotas) (c : Call) (r : Reply) → quotas.Answers q c r →
+      IsShortReply f r
+  quota_short q (Call.QuotaFill k n) (Reply.Value v) a = absurd a.1
+  quota_short q c (Reply.Value v) a = absurd a.1
+  quota_short q c (Reply.Entry k v) a = absurd a.1
+  quota_short q c r a = tt
+
   content_reply : (k : Content) (c : Call) (r : Reply) → HoldsShort f k → Answers k c r →
       IsShortReply f r
   content_reply (InSet s) c r h a = set_short s c r a
@@ -137,6 +148,7 @@ module _ (f : Format) where
   content_reply (InCounter n) c r h a = counter_short n c r a
   content_reply (InPool s) c r h a = pool_short s c r a
   content_reply (InStock n) c r h a = stock_short n c r a
+  content_reply (InQuotas q) c r h a = quota_short q c r a
 
   pub short_reply : (s : List Collection) (at : ℕ) (c : Call) (r : Reply) → AreShort f s →
       AnswersAt s at c r → IsShortReply f r
@@ -147,15 +159,17 @@ module _ (f : Format) where
   inverse_short : (c : Call) (r : Reply) → IsShortReply f r → IfSome (inverse_of c r) (IsShort f)
   inverse_short (Call.SetAdd x) Reply.Yes h = tt
   inverse_short (Call.SetRemove x) Reply.Yes h = tt
+  inverse_short Call.Pick (Reply.Id x) h = tt
   inverse_short (Call.Put k v) Reply.Nothing h = tt
-  inverse_short (Call.Put k v)
-      (Reply.Value o) h = h
+  inverse_short (Call.Put k v) (Reply.Value o) h = h
   inverse_short (Call.MapRemove k) (Reply.Value o) h = h
   inverse_short (Call.QueueAdd p g) Reply.Done h = tt
   inverse_short Call.Take (Reply.Item p g) h = tt
   inverse_short (Call.Bump n) Reply.Done h = tt
   inverse_short Call.Draw (Reply.Id x) h = tt
   inverse_short (Call.Spend n) Reply.Yes h = tt
+  inverse_short (Call.QuotaSpend k n) Reply.Yes h = tt
+  inverse_short (Call.QuotaFill k n) Reply.Done h = tt
   inverse_short c r h = tt
 
   -- The call that takes back what was answered so is short.
@@ -200,6 +214,7 @@ module _ (f : Format) where
   content_after (InCounter n) c r h l = tt
   content_after (InPool s) c r h l = tt
   content_after (InStock n) c r h l = tt
+  content_after (InQuotas q) c r h l = tt
 
   pub short_after : (s : List Collection) (at : ℕ) (c : Call) (r : Reply) → AreShort f s →
       AnswersAt s at c r → IsShort f c → AreShort f (after_at s at c r)
@@ -224,6 +239,7 @@ module _ (f : Format) where
   empty_short Kind.Counter = tt
   empty_short Kind.Pool = tt
   empty_short Kind.Stock = tt
+  empty_short Kind.Quotas = tt
 
   pub short_made : (s t : List Collection) (name : List ℕ) (kind : Kind) → Makes s name kind t →
       AreShort f s → AreShort f t
@@ -249,6 +265,7 @@ module _ (f : Format) where
   listed_short (InCounter n) items l a = tt
   listed_short (InPool s) items l a = tt
   listed_short (InStock n) items l a = tt
+  listed_short (InQuotas q) items l a = tt
 
   pub short_loaded : (s t : List Collection) (name : List ℕ) (kind : Kind) (items : List Item) →
       Loads s name kind items t → AllByRecursion (IsShortItem f) items → AreShort f s → AreShort f t
@@ -263,6 +280,29 @@ stock_within v n w = let h = w.high in omega (arith, ints)
 number_within : (v n : ℕ) → stocks.IsWithin v n → counters.IsWithin (pos v) n
 number_within v n w = record { low = omega (arith, ints); high = omega (arith, ints) }
 
+-- So many runs reach quotas exactly where they reach each amount.
+amount_within : (v n : ℕ) → counters.IsWithin (pos (suc v)) n → v + 1 ≤ n * 2 ^ 63
+amount_within v n w = let h = w.high in omega (arith, ints)
+
+within_amount : (v n : ℕ) → v + 1 ≤ n * 2 ^ 63 → counters.IsWithin (pos (suc v)) n
+within_amount v n w = record { low = omega (arith, ints); high = omega (arith, ints) }
+
+amount_reached : (b : Bool) (v n : ℕ) (o : Option ℕ) → counters.IsWithin (pos (suc v)) n →
+    copies_of o ≤ n * 2 ^ 63 → copies_of (cond b (Some v) o) ≤ n * 2 ^ 63
+amount_reached true v n o w h = amount_within v n w
+amount_reached false v n o w h = h
+
+found_reached : (n : ℕ) (es : List (ℕ × ℕ)) (k : ℕ) →
+    AllByRecursion (IsReached n) (map quota_item es) → copies_of (find nat_cmp k es) ≤ n * 2 ^ 63
+found_reached n [] k a = omega arith
+found_reached n (e ∷ es) k a = amount_reached (eq_by_cmp nat_cmp k e.0) e.1 n (find nat_cmp k es)
+    a.0 (found_reached n es k a.1)
+
+quotas_reached : (n : ℕ) (q : quotas.Quotas) →
+    AllByRecursion (IsReached n) (map quota_item (entries q)) → quotas.IsWithin q n
+quotas_reached n q a = λ k. subst (λ o. copies_of o ≤ n * 2 ^ 63) (sym (get-entries q k))
+    (found_reached n (entries q) k a)
+
 listed_reached : (n : ℕ) (k : Content) (items : List Item) → ListsContent items k →
     AllByRecursion (IsReached n) items → Reaches k n
 listed_reached n (InSet s) items l a = tt
@@ -274,6 +314,8 @@ listed_reached n (InPool s) items l a = tt
 listed_reached n (InStock v) items l a =
     let all = subst (AllByRecursion (IsReached n)) l a in
     stock_within v n all.0
+listed_reached n (InQuotas q) items l a =
+    quotas_reached n q (subst (AllByRecursion (IsReached n)) l a)
 
 pub within_loaded : (n : ℕ) (s t : List Collection) (name : List ℕ) (kind : Kind)
     (items : List Item) → Loads s name kind items t → AllByRecursion (IsReached n) items →
@@ -284,6 +326,12 @@ within_loaded n s t name kind items m a w =
     (listed_reached n m.content items m.lists a) w)
 
 -- ---- items that the wear reaches
+
+not_found : {X : Type 0} (x : ℕ) (es : List (ℕ × X)) → T (below_all nat_cmp x es) →
+    find nat_cmp x es ≡ None
+not_found x [] h = refl
+not_found x (e ∷ es) h = ap (λ o. cond (is_eq o) (Some e.1) (find nat_cmp x es))
+    (is_less (nat_cmp x e.0) (first_of_both _ _ h)) ∙ not_found x es (second_of_both _ _ h)
 
 none_bound : {X : Type 0} (n : ℕ) (f : X → Item) → ((x : X) → IsReached n (f x)) → (xs : List X) →
     AllByRecursion (IsReached n) (map f xs)
@@ -300,6 +348,22 @@ pairs_reached n [] = tt
 pairs_reached n (e ∷ es) = each_append (IsReached n) (replicate (suc e.1) (Item.Pair e.0.0 e.0.1))
     (flat_map (λ e. replicate (suc e.1) (Item.Pair e.0.0 e.0.1)) es)
     (copies_reached n (suc e.1) (Item.Pair e.0.0 e.0.1) tt) (pairs_reached n es)
+
+sorted_apart : (es : List (ℕ × ℕ)) → T (is_sorted nat_cmp es) → AreApart es
+sorted_apart [] sorted = tt
+sorted_apart (e ∷ es) sorted =
+    (not_found e.0 es (first_of_both _ _ sorted), sorted_apart es (second_of_both _ _ sorted))
+
+each_amount : (n : ℕ) (es : List (ℕ × ℕ)) → AllByRecursion (λ e. e.1 + 1 ≤ n * 2 ^ 63) es →
+    AllByRecursion (IsReached n) (map quota_item es)
+each_amount n [] a = tt
+each_amount n (e ∷ es) a = (within_amount e.1 n a.0, each_amount n es a.1)
+
+amounts_reached : (n : ℕ) (q : quotas.Quotas) → quotas.IsWithin q n →
+    AllByRecursion (IsReached n) (map quota_item (entries q))
+amounts_reached n q w = each_amount n (entries q)
+    (all_found (λ v. v + 1 ≤ n * 2 ^ 63) (entries q) (sorted_apart (entries q) (entries_sorted q))
+    (λ k v found. subst (λ m. m ≤ n * 2 ^ 63) (ap copies_of (get-entries q k ∙ found)) (w k)))
 
 pub items_reached : (n : ℕ) (k : Content) (items : List Item) → ListsContent items k → Reaches k n →
     AllByRecursion (IsReached n) items
@@ -318,6 +382,8 @@ items_reached n (InPool s) items lists reached =
     (none_bound n Item.Element (λ x. tt) lists.numbers)
 items_reached n (InStock v) items lists reached =
     subst (AllByRecursion (IsReached n)) (sym lists) (number_within v n reached, tt)
+items_reached n (InQuotas q) items lists reached =
+    subst (AllByRecursion (IsReached n)) (sym lists) (amounts_reached n q reached)
 
 module _ (f : Format) where
   -- ---- the items of a content
@@ -344,12 +410,6 @@ module _ (f : Format) where
   queue_are [] = tt
   queue_are (e ∷ es) = pairs_are (suc e.1) e.0
       (flat_map (λ e. replicate (suc e.1) (Item.Pair e.0.0 e.0.1)) es) (queue_are es)
-
-  not_found : (x : ℕ) (es : List (ℕ × List ℕ)) → T (below_all nat_cmp x es) →
-      finmaps.find nat_cmp x es ≡ None
-  not_found x [] h = refl
-  not_found x (e ∷ es) h = ap (λ o. cond (is_eq o) (Some e.1) (finmaps.find nat_cmp x es))
-      (is_less (nat_cmp x e.0) (first_of_both _ _ h)) ∙ not_found x es (second_of_both _ _ h)
 
   no_value : {X : Type 0} (o : Option X) (x : X) → o ≡ None → o ≡ Some x → ⊥
   no_value None x none some = cc
@@ -382,6 +442,10 @@ module _ (f : Format) where
         (later_short e es (first_of_both _ _ sorted) short),
   )
 
+  amounts_are : (es : List (ℕ × ℕ)) → AreItems Kind.Quotas (map quota_item es)
+  amounts_are [] = tt
+  amounts_are (e ∷ es) = ((tt, omega (arith, ints)), amounts_are es)
+
   pub content_items : (k : Content) (items : List Item) → HoldsShort f k → ListsContent items k →
       AreItems (kind_of_content k) items
   content_items (InSet s) items short lists =
@@ -398,3 +462,5 @@ module _ (f : Format) where
       subst (AreItems Kind.Pool) (sym lists.are) (pool_are lists.numbers)
   content_items (InStock n) items short lists =
       subst (AreItems Kind.Stock) (sym lists) ((tt, tt), tt)
+  content_items (InQuotas q) items short lists =
+      subst (AreItems Kind.Quotas) (sym lists) (amounts_are (finmaps.entries q))

@@ -1,7 +1,5 @@
 -- Why a store could not be read, from why its head or its area could not be.
-use Rattle.std.proofs.Common.{◌≡◌, ◌⊎◌, ℕ, ◌+◌, ◌*◌, List, map, refl, sym, ◌∙◌, ap, subst, Result}
-use Rattle.std.proofs.Common.{Ok, Err}
-use Rattle.std.specs.Result.{IfErr}
+use Rattle.std.proofs.Common.{◌≡◌, ◌⊎◌, ℕ, ◌+◌, ◌*◌, List, map, refl, sym, ◌∙◌, ap, subst}
 use Rattle.calls.specs.declared.format.Format.{Format}
 use Rattle.calls.specs.declared.refusal.Refusal.{Refusal}
 use Rattle.gate_block.specs.declared.area.Area.{Area}

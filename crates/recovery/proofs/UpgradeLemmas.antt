@@ -1,5 +1,5 @@
 -- An upgrade: what its keeper stands for, step by step, and the store that it makes.
-use Rattle.std.proofs.Common.{◌≡◌, ◌≢◌, ℕ, ◌≤◌, ◌<◌, List, [], ◌∷◌}
+use Rattle.std.proofs.Common.{◌≡◌, ◌≢◌, ℕ, ◌≤◌, List, [], ◌∷◌}
 use Rattle.std.proofs.Common.{◌++◌}
 use Rattle.std.proofs.Common.{length, map, refl, sym, ◌∙◌, ap, subst, arith, Bool, true}
 use Rattle.std.proofs.Common.{false}
@@ -41,8 +41,7 @@ use Rattle.checkpoint.specs.Stored.{StandIn}
 use Rattle.checkpoint.specs.DiskHeads.{IsInUse}
 use Rattle.checkpoint.specs.Imaging.{IsTooLong, IsBeingLaid, HasPiece, bodies_of}
 use Rattle.checkpoint.specs.Imaging.{left_of, IsWritten}
-use Rattle.checkpoint.specs.ImageAnswers.{HoldAnswers, BeginAnswers, PieceAnswers, FlipAnswers}
-use Rattle.checkpoint.specs.ImageAnswers.{AskAnswers}
+use Rattle.checkpoint.specs.ImageAnswers.{HoldAnswers, PieceAnswers, FlipAnswers}
 use Rattle.checkpoint.specs.Keepers.{KeeperState, IsFresh}
 use Rattle.checkpoint.specs.Keeping.{BegunImage, HasReceived, LeavesKept, HoldKeeps}
 use Rattle.checkpoint.specs.Keeping.{BeginKeeps, ImageKeeps, begun_with}

@@ -41,7 +41,7 @@ empty_area format = row (spelling (Record.Marks format 1 0 ∷ (Record.ImageEnd 
 -- The head of a store of this version with areas of this size, but for its gate, and a root byte
 -- that picks the first area.
 pub record IsHeadOf (version : Format) (area : ℕ) (bytes : List ℕ) : Type 0 where
-  pub letters : take 8 bytes ≡ letters_of version
+  pub letters : take gate_at bytes ≡ letters_of version
   pub area_is : take 8 (drop size_at bytes) ≡ to_be_bytes w64 area
   pub root : take 1 (drop root_at bytes) ≡ 0 ∷ []
 

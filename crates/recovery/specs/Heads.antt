@@ -11,7 +11,7 @@ use Rattle.repetition.specs.Journals.{letters_of, IsHeader}
 
 -- The first 17 bytes of a store of this version that has so many bytes, with areas of this size.
 pub record IsHead (version : Format) (size : ℕ) (head : List ℕ) (bytes : ℕ) : Type 0 where
-  pub letters : take 8 head ≡ letters_of version
+  pub letters : take gate_at head ≡ letters_of version
   pub gate : get_or head gate_at 0 ≡ open_gate
   pub area : drop size_at head ≡ to_be_bytes w64 size
   pub not_small : min_area ≤ size

@@ -29,6 +29,7 @@ pub record IsImageLen (next : ℕ) (state : State) (len : ℕ) : Type 0 where
 -- closed gate are what is used.
 pub record IsSurvey (area : Area) (undone : State) (next : ℕ) (undoing : List Record) (image : ℕ)
     (report : Report) (survey : Survey) : Type 0 where
+  pub format : survey.format ≡ undone.format
   pub area_is : survey.area ≡ size_of area
   pub first : IsTrue survey.first ↔ (base_of area ≡ areas_at)
   pub used : survey.used ≡ position_of area + 1

@@ -2,7 +2,7 @@
 use Rattle.std.specs.Prelude.{◌≡◌, ◌⊎◌, ℕ, List, []}
 use Rattle.calls.specs.declared.format.Format.{Format}
 use Rattle.calls.specs.Contents.{Collection}
-use Rattle.disk_model.specs.Disk.{LeavesOnly}
+use Rattle.disk_model.specs.Disk.{IsAtRest, LeavesOnly}
 use Rattle.disk_model.specs.declared.disk.Disk.{Ghosts}
 use Rattle.calls.specs.declared.refusal.Refusal.{Refusal}
 use Rattle.record_format.specs.declared.record.Record.{Record}
@@ -14,7 +14,9 @@ use Rattle.repetition.specs.Steps.{State}
 use Rattle.repetition.specs.Reading.{IsSound}
 use Rattle.checkpoint.specs.Keepers.{KeeperState}
 use Rattle.checkpoint.specs.Keeping.{BegunImage, HasReceived}
-use Rattle.recovery.specs.Openings.{HasNoRoom}
+use Rattle.gate_block.specs.declared.area.Area.{Area}
+use Rattle.txn.specs.Books.{BookState}
+use Rattle.recovery.specs.Openings.{HasNoRoom, IsOpened, book_of}
 use Rattle.recovery.specs.Copies.{IsTooLarge}
 
 -- The bytes are those of a store whose area in use is of the second format. They are sound, and
@@ -23,6 +25,14 @@ pub record IsUpgraded (old bytes : List ℕ) : Type 0 where
   pub sound : IsSound bytes
   pub format : sound.holds.format ≡ Format.Two
   pub stands : (content : List Collection) → StandsFor old content → StandsFor bytes content
+
+-- The store was opened, and where what it holds is of the second format, nothing more was written.
+pub record IsOpenedFirst (old new : List ℕ) : Type 0 where
+  pub book : BookState (List Collection)
+  pub area : Area
+  pub between : List ℕ
+  pub opened : IsOpened old book area between
+  pub no_more : book.state.format ≡ Format.Two → new ≡ between
 
 -- The image of the settled content does not fit in an area of the disk, with a closed gate behind
 -- it.
@@ -35,6 +45,25 @@ pub record HasNoRoomForImage (old : List ℕ) : Type 0 where
 -- There is no room for the records of the undoing, or none for the image.
 abbrev pub HasNoRoomToUpgrade : List ℕ → Type 0
 HasNoRoomToUpgrade old = HasNoRoom old ⊎ HasNoRoomForImage old
+
+-- ---- what is made of a store whose losers are undone
+
+-- whatever bytes were opened to this disk at rest, the new one is theirs in the second format
+abbrev pub BringsUp : {D : Type 0} → Ghosts D → State → (next : ℕ) → Area → D → D → Type 0
+BringsUp g s next area disk new = (old : List ℕ) →
+    IsOpened old (book_of s next) area (g.seen disk) → IsAtRest g.seen g.may_leave disk →
+    IsUpgraded old (g.seen new)
+
+-- a stop since then leaves sound bytes that stand for the content
+abbrev pub KeepsOpened : {D : Type 0} → Ghosts D → State → (next : ℕ) → Area → D → D → Type 0
+KeepsOpened g s next area disk new = (old : List ℕ) →
+    IsOpened old (book_of s next) area (g.seen disk) → IsAtRest g.seen g.may_leave disk →
+    LeavesOnly g.moment g.left_since disk new (λ b. IsSound b × StandsFor b s.now)
+
+-- there is no room for the image of any bytes that were opened to these
+abbrev pub HasNoRoomForSettled : State → (next : ℕ) → Area → List ℕ → Type 0
+HasNoRoomForSettled s next area bytes = (old : List ℕ) →
+    IsOpened old (book_of s next) area bytes → HasNoRoomForImage old
 
 -- ---- the keeper of an upgrade, of which no book is
 

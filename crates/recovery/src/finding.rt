@@ -1,5 +1,5 @@
 // Finding a store: what its area in use holds, with the losers undone in memory.
-ghost use Rattle.std.specs.Prelude.{◌≡◌, ◌≤◌, ◌+◌, ℕ, length, IfOk, IfErr, IsOkUnless};
+ghost use Rattle.std.specs.Prelude.{◌≡◌, ◌≤◌, ◌+◌, IfOk, IfErr, IsOkUnless};
 ghost use Rattle.calls.specs.Limits.{number_end};
 ghost use Rattle.disk_model.specs.Disk.{ReadsOnly, Rises};
 ghost use Rattle.gate_block.specs.Area.{base_of, size_of, position_of};
@@ -62,6 +62,7 @@ impl Found {
         let size = self.area.size();
         let position = size - self.area.room();
         Ok(Survey {
+            format: self.machine.format(),
             area: size,
             first: self.area.base() == AREAS_AT,
             used: position + 1,

@@ -68,7 +68,7 @@ pub(crate) fn is_size(version: Format, area: u64, whole: u64) -> bool
 // Whether a head begins with the letters of the version and an open gate.
 fn is_marked(version: Format, head: &[u8]) -> bool
     requires { length head.now ≡ 17 }
-    ensures { IsTrue result ↔ ((take 8 head.now ≡ letters_of version) ×
+    ensures { IsTrue result ↔ ((take gate_at head.now ≡ letters_of version) ×
         (get_or head.now gate_at 0 ≡ open_gate)) }
 {
     &head[..8] == &letters(version)[..] && head[8] == OPEN

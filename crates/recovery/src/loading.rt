@@ -1,5 +1,5 @@
 // Reading an area.
-ghost use Rattle.std.specs.Prelude.{◌≡◌, ◌≤◌, ◌<◌, ◌+◌, ◌^◌, ℕ, length, IfOk, IfErr, false};
+ghost use Rattle.std.specs.Prelude.{◌≡◌, ◌≤◌, ◌<◌, ◌+◌, ◌^◌, length, IfOk, IfErr, false};
 ghost use Rattle.calls.specs.declared.format.Format.{Format};
 ghost use Rattle.disk_model.specs.Disk.{ReadsOnly, Rises};
 ghost use Rattle.gate_block.specs.Area.{base_of, size_of, position_of, has_failed};

@@ -1,5 +1,5 @@
 // Opening a store.
-ghost use Rattle.std.specs.Prelude.{◌≡◌, ◌≤◌, ◌<◌, ◌+◌, List, [], length, IfOk, IfErr, IsTrue};
+ghost use Rattle.std.specs.Prelude.{◌≡◌, ◌≤◌, ◌<◌, List, [], length, IfOk, IfErr, IsTrue};
 ghost use Rattle.std.specs.Prelude.{◌↔◌, false};
 ghost use Rattle.calls.specs.Contents.{Collection};
 ghost use Rattle.calls.specs.declared.refusal.Refusal.{Refusal};

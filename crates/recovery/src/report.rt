@@ -1,4 +1,5 @@
 // What a store holds, in numbers.
+use calls::Format;
 
 /// So many collections, so many transactions that have not ended, and so many records in the
 /// journal.
@@ -12,6 +13,8 @@ pub struct Report {
 /// What room a store takes and has, in bytes, and what it counts.
 #[derive(Clone, Copy)]
 pub struct Survey {
+    /// The format of what the area in use holds.
+    pub format: Format,
     /// The size of each of its two areas.
     pub area: u64,
     /// Whether the first area is the one in use.

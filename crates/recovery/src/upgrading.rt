@@ -4,7 +4,7 @@ ghost use Rattle.std.specs.Prelude.{IfOk, IfErr, OnOk, IsOkUnless};
 ghost use Rattle.calls.specs.declared.format.Format.{Format};
 ghost use Rattle.calls.specs.declared.refusal.Refusal.{Refusal};
 ghost use Rattle.calls.specs.Limits.{number_end};
-ghost use Rattle.disk_model.specs.Disk.{Rises, IsAtRest, LeavesOnly};
+ghost use Rattle.disk_model.specs.Disk.{Rises, IsAtRest};
 ghost use Rattle.gate_block.specs.Area.{size_of, has_failed, IsReady};
 ghost use Rattle.images.specs.Images.{IsPackedImage};
 ghost use Rattle.machine.specs.Machines.{resting};
@@ -13,12 +13,10 @@ ghost use Rattle.checkpoint.specs.declared.stage.Stage.{Stage};
 ghost use Rattle.checkpoint.specs.Imaging.{HasPiece, IsBeingLaid, IsTooLong, bodies_of};
 ghost use Rattle.checkpoint.specs.Keepers.{IsFresh, IsOneOfTwo};
 ghost use Rattle.recovery.specs.Heads.{HasNoHeader};
-ghost use Rattle.recovery.specs.Openings.{IsDamagedAt, IsOpenRefusal, KeepsContent, IsOpened};
-ghost use Rattle.recovery.specs.Openings.{book_of};
-ghost use Rattle.recovery.specs.Upgrades.{IsUpgraded, HasNoRoomToUpgrade, GoesOn, TakesImage};
-ghost use Rattle.recovery.specs.Upgrades.{IsTakeRefusal, IsUpgradeRefusal, HasNoRoomForImage};
-ghost use Rattle.repetition.specs.Journals.{StandsFor};
-ghost use Rattle.repetition.specs.Reading.{IsSound};
+ghost use Rattle.recovery.specs.Openings.{IsDamagedAt, IsOpenRefusal, KeepsContent};
+ghost use Rattle.recovery.specs.Upgrades.{IsUpgraded, IsOpenedFirst, HasNoRoomToUpgrade, BringsUp};
+ghost use Rattle.recovery.specs.Upgrades.{KeepsOpened, HasNoRoomForSettled, GoesOn, TakesImage};
+ghost use Rattle.recovery.specs.Upgrades.{IsTakeRefusal, IsUpgradeRefusal};
 
 use crate::opening::{Settled, settle};
 use crate::settling::{image_of, in_format};
@@ -49,6 +47,8 @@ pub fn upgrade<D: Disk>(alloc: Global, disk: D) -> Result<D, (Refusal, D)>
         IsUpgraded (D.seen disk) (D.seen new)) }
     ensures durable { IfOk result (λ new. D.is_honest new → IsAtRest D.seen D.may_leave disk →
         IsAtRest D.seen D.may_leave new) }
+    ensures only_opened { IfOk result (λ new. D.is_honest new →
+        IsOpenedFirst (D.seen disk) (D.seen new)) }
     // What a stop leaves.
     ensures kept { IfOk result (λ new. D.is_honest new →
         KeepsContent D.seen D.may_leave D.moment D.left_since disk new) }
@@ -78,23 +78,19 @@ pub fn upgrade<D: Disk>(alloc: Global, disk: D) -> Result<D, (Refusal, D)>
 fn upgrade_settled<D: Disk>(alloc: Global, settled: Settled, disk: D) -> Result<D, (Refusal, D)>
     requires fine { has_failed settled.area ≡ false }
     requires one { IsOneOfTwo settled.area (length (D.seen disk)) }
-    ensures upgraded { IfOk result (λ new. (old : List ℕ) →
-        IsOpened old (book_of settled.machine settled.next) settled.area (D.seen disk) →
-        IsAtRest D.seen D.may_leave disk → IsUpgraded old (D.seen new)) }
+    ensures upgraded { IfOk result (BringsUp ⟦<D as Disk>⟧ settled.machine settled.next
+        settled.area disk) }
+    ensures no_more { IfOk result (λ new. settled.machine.format ≡ Format.Two →
+        D.seen new ≡ D.seen disk) }
     ensures durable { IfOk result (λ new. IsAtRest D.seen D.may_leave disk →
         IsAtRest D.seen D.may_leave new) }
-    ensures kept { IfOk result (λ new. (old : List ℕ) →
-        IsOpened old (book_of settled.machine settled.next) settled.area (D.seen disk) →
-        IsAtRest D.seen D.may_leave disk → LeavesOnly D.moment D.left_since disk new
-        (λ b. IsSound b × StandsFor b settled.machine.now)) }
-    ensures kept_in_refusal { IfErr result (λ x. (old : List ℕ) →
-        IsOpened old (book_of settled.machine settled.next) settled.area (D.seen disk) →
-        IsAtRest D.seen D.may_leave disk → LeavesOnly D.moment D.left_since disk x.1
-        (λ b. IsSound b × StandsFor b settled.machine.now)) }
+    ensures kept { IfOk result (KeepsOpened ⟦<D as Disk>⟧ settled.machine settled.next
+        settled.area disk) }
+    ensures kept_in_refusal { IfErr result (λ x. KeepsOpened ⟦<D as Disk>⟧ settled.machine
+        settled.next settled.area disk x.1) }
     ensures refused { IfErr result (λ x. IsUpgradeRefusal
         (Rises (D.fault_count disk) (D.fault_count x.1))
-        ((old : List ℕ) → IsOpened old (book_of settled.machine settled.next) settled.area
-        (D.seen disk) → HasNoRoomForImage old) x.0) }
+        (HasNoRoomForSettled settled.machine settled.next settled.area (D.seen disk)) x.0) }
     ensures honest { IfOk result (λ new. D.is_honest new → D.is_honest disk) }
     ensures honest_in_refusal { IfErr result (λ x. D.is_honest x.1 → D.is_honest disk) }
     ensures faults_in_refusal { IfErr result (λ x. D.fault_count disk ≤ D.fault_count x.1) }
@@ -123,22 +119,16 @@ fn is_second(format: Format) -> bool
 fn write_second<D: Disk>(alloc: Global, settled: Settled, disk: D) -> Result<D, (Refusal, D)>
     requires fine { has_failed settled.area ≡ false }
     requires one { IsOneOfTwo settled.area (length (D.seen disk)) }
-    ensures upgraded { IfOk result (λ new. (old : List ℕ) →
-        IsOpened old (book_of settled.machine settled.next) settled.area (D.seen disk) →
-        IsAtRest D.seen D.may_leave disk → IsUpgraded old (D.seen new)) }
+    ensures upgraded { IfOk result (BringsUp ⟦<D as Disk>⟧ settled.machine settled.next
+        settled.area disk) }
     ensures durable { IfOk result (IsAtRest D.seen D.may_leave) }
-    ensures kept { IfOk result (λ new. (old : List ℕ) →
-        IsOpened old (book_of settled.machine settled.next) settled.area (D.seen disk) →
-        IsAtRest D.seen D.may_leave disk → LeavesOnly D.moment D.left_since disk new
-        (λ b. IsSound b × StandsFor b settled.machine.now)) }
-    ensures kept_in_refusal { IfErr result (λ x. (old : List ℕ) →
-        IsOpened old (book_of settled.machine settled.next) settled.area (D.seen disk) →
-        IsAtRest D.seen D.may_leave disk → LeavesOnly D.moment D.left_since disk x.1
-        (λ b. IsSound b × StandsFor b settled.machine.now)) }
+    ensures kept { IfOk result (KeepsOpened ⟦<D as Disk>⟧ settled.machine settled.next
+        settled.area disk) }
+    ensures kept_in_refusal { IfErr result (λ x. KeepsOpened ⟦<D as Disk>⟧ settled.machine
+        settled.next settled.area disk x.1) }
     ensures refused { IfErr result (λ x. IsUpgradeRefusal
         (Rises (D.fault_count disk) (D.fault_count x.1))
-        ((old : List ℕ) → IsOpened old (book_of settled.machine settled.next) settled.area
-        (D.seen disk) → HasNoRoomForImage old) x.0) }
+        (HasNoRoomForSettled settled.machine settled.next settled.area (D.seen disk)) x.0) }
     ensures honest { IfOk result (λ new. D.is_honest new → D.is_honest disk) }
     ensures honest_in_refusal { IfErr result (λ x. D.is_honest x.1 → D.is_honest disk) }
     ensures faults_in_refusal { IfErr result (λ x. D.fault_count disk ≤ D.fault_count x.1) }

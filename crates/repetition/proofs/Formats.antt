@@ -1,9 +1,9 @@
 -- Formats: which may follow which, and what is short in an earlier one.
-use Rattle.std.proofs.Common.{◌≡◌, ℕ, ◌≤◌, ◌^◌, length, get_or, refl, ap, arith}
+use Rattle.std.proofs.Common.{◌≡◌, ℕ, ◌≤◌, length, get_or, refl, ap, arith}
 use Rattle.calls.specs.declared.format.Format.{Format}
 use Rattle.calls.specs.declared.call.Call.{Call}
 use Rattle.calls.specs.declared.reply.Reply.{Reply}
-use Rattle.calls.specs.Formats.{max_value, max_area, Allows}
+use Rattle.calls.specs.Formats.{max_value, Allows}
 use Rattle.calls.specs.Rules.{IsShort}
 use Rattle.record_format.specs.Short.{IsShortReply}
 use Rattle.repetition.specs.Journals.{letters_of}

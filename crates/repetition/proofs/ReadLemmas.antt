@@ -1,11 +1,10 @@
 -- What each record asks of a reading: the steps of images and journals, from a progress and from
 -- all like it.
-use Rattle.std.proofs.Common.{◌≡◌, ◌⊎◌, ⊎_elim, ℕ, List, [], ◌∷◌, ◌++◌, ◌+◌, map, Bool, true, false}
+use Rattle.std.proofs.Common.{◌≡◌, ◌⊎◌, ⊎_elim, ℕ, List, [], ◌∷◌, ◌++◌, ◌+◌, Bool, true, false}
 use Rattle.std.proofs.Common.{Ok, Option, None, Some, refl, sym, ◌∙◌, ap, subst}
 use Rattle.calls.specs.declared.kind.Kind.{Kind}
 use Rattle.calls.specs.declared.item.Item.{Item}
 use Rattle.calls.specs.Contents.{Collection}
-use Rattle.calls.specs.Transactions.{Leads, calls_of}
 use Rattle.catalog.specs.Making.{names_of, IsNew}
 use Rattle.catalog.specs.Places.{IsWithin}
 use Rattle.catalog.specs.Holdings.{Loads}
@@ -14,16 +13,14 @@ use Rattle.record_format.specs.declared.record.Record.{Record}
 use Rattle.records.specs.Images.{IsLiveRecord}
 use Rattle.record_format.specs.declared.record.CallRecord.{CallRecord}
 use Rattle.record_format.specs.declared.record.LaterRecord.{LaterRecord}
-use Rattle.machine.specs.Machine.{Does}
 use Rattle.machine.specs.Machines.{Alike, RepeatAnswers}
 use Rattle.repetition.specs.declared.stage.Stage.{Stage}
 use Rattle.loader.specs.Loading.{LoadAnswers}
 use Rattle.repetition.specs.Steps.{State, Steps}
-use Rattle.repetition.specs.Reading.{Named, Progress, InCollections, InNumbers, InCalls, InJournal}
-use Rattle.repetition.specs.Reading.{Closes, HoldsLive, Settles, Reads, ReadsLive, next_after}
+use Rattle.repetition.specs.Reading.{Named, Progress, InCollections, InCalls, InJournal}
+use Rattle.repetition.specs.Reading.{Closes, HoldsLive, Reads, ReadsLive, next_after}
 use Rattle.repetition.specs.Repetitions.{AlikeProgress, Takes, IsStuck, LiveLeads, IsNoLive}
 use Rattle.repetition.specs.Repetitions.{IsBegin, IsItem, progress_of, number_behind}
-use Rattle.catalog.specs.Meaning.{catalog_meaning}
 
 -- ---- a collection that is told whole
 

@@ -14,8 +14,7 @@ use Rattle.record_reading.proofs.RecordLaws.{one_spelling_of}
 use Rattle.record_format.proofs.RecordLengths.{spelled-positive}
 use Rattle.std.proofs.lemmas.List.{append-nil}
 use Rattle.repetition.specs.declared.stage.Stage.{Stage}
-use Rattle.repetition.specs.Steps.{State}
-use Rattle.repetition.specs.Reading.{Progress, Unread, InJournal, Reads, AreAccepted, last_named}
+use Rattle.repetition.specs.Reading.{Progress, Unread, Reads, last_named}
 use Rattle.repetition.specs.Repetitions.{AlikeProgress, LeadsTo, Takes, IsStuck, IsFit, IsDamageOr}
 use Rattle.repetition.specs.Repetitions.{AreRead, progress_of, count_of}
 use Rattle.repetition.proofs.Grammar.{not_empty}

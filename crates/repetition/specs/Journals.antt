@@ -28,7 +28,7 @@ letters_of Format.Two = codes "BOOSTED2"
 -- The head of a disk of this version whose areas have this size: eight letters, an open gate, the
 -- size.
 pub record IsHeader (version : Format) (size : ℕ) (bytes : List ℕ) : Type 0 where
-  pub letters : take 8 bytes ≡ letters_of version
+  pub letters : take gate_at bytes ≡ letters_of version
   pub gate : get_or bytes gate_at 0 ≡ open_gate
   pub area : take 8 (drop size_at bytes) ≡ to_be_bytes w64 size
   pub not_small : min_area ≤ size

@@ -1,7 +1,7 @@
 -- What a line asks of a collection is told by its verb.
-use Rattle.std.proofs.Common.{◌≡◌, ◌≢◌, ℕ, ◌<◌, ◌==◌, if◌then◌else◌}
-use Rattle.std.proofs.Common.{List, [], ◌∷◌, ◌++◌, All, Option, Some, None, MatchOption, IfSome}
-use Rattle.std.proofs.Common.{IfNone, IfOk, Result, Ok, Err, inl, inr, refl, sym, ◌∙◌, subst, ap}
+use Rattle.std.proofs.Common.{◌≡◌, ◌≢◌, ℕ, ◌<◌, ◌^◌}
+use Rattle.std.proofs.Common.{List, [], ◌∷◌, ◌++◌, All, Option, Some, None, MatchOption}
+use Rattle.std.proofs.Common.{IfOk, Result, Ok, Err, inl, inr, refl, sym, ◌∙◌, subst, ap}
 use Rattle.std.proofs.Common.{codes, get_or, arith}
 use Rattle.std.specs.Fmt.{decimal}
 use Rattle.calls.specs.declared.call.Call.{Call}
@@ -9,7 +9,7 @@ use Rattle.calls.proofs.KindLaws.{whole_by_test}
 use Rattle.script.specs.declared.action.Operation.{Operation}
 use Rattle.script.specs.declared.operations.Verb.{Verb}
 use Rattle.script.specs.ScriptTexts.{CanBeDone, verb_text, said, said_text, operation_text}
-use Rattle.script.specs.ScriptTexts.{value_text, HasArguments, IsKeyed, IsKey}
+use Rattle.script.specs.ScriptTexts.{value_text, HasArguments, IsKey, IsPair, IsKeyOrPair}
 use Rattle.script.proofs.ScriptWords.{not_whole, same_split, decimal_whole}
 
 -- ---- what stands behind a verb
@@ -60,25 +60,39 @@ said_has (Operation.Call (Call.Release x)) v args can same =
     fits Verb.Release v (decimal x) args same (x, can, refl)
 said_has (Operation.Call (Call.Free x)) v args can same = absurd can
 said_has (Operation.Call (Call.Spend n)) v args can same =
-    fits Verb.Spend v (decimal n) args same (n, can, refl)
+    fits Verb.Spend v (decimal n) args same (inl (n, can, refl))
 said_has (Operation.Call Call.Level) v args can same = absurd (one_of_two Verb.Level v args same)
 said_has (Operation.Call (Call.Fill n)) v args can same = absurd can
+said_has (Operation.Call Call.Pick) v args can same = absurd (one_of_two Verb.Pick v args same)
+said_has (Operation.Call (Call.QuotaSpend k n)) v args can same =
+    fits Verb.Spend v (decimal k ++ 32 ∷ decimal n) args same (inr (k, n, can.0, can.1, refl))
+said_has (Operation.Call (Call.QuotaLevel k)) v args can same =
+    fits Verb.Level v (decimal k) args same (k, can, refl)
+said_has (Operation.Call (Call.QuotaFill k n)) v args can same =
+    fits Verb.Fill v (decimal k ++ 32 ∷ decimal n) args same (k, n, can.0, can.1, refl)
+said_has (Operation.Call (Call.Refund k n)) v args can same = absurd can
 
 -- ---- one key, and two words
 
--- behind the word add stands one key where there is no space,
-pub added_key : (text : List ℕ) → All (λ b. b ≢ 32) text → HasArguments Verb.Add text → IsKey text
-added_key text whole (inl has) = has
-added_key text whole (inr has) =
-    absurd (not_whole 32 text (decimal has.0) (decimal has.1) has.4 whole)
+-- where there is no space a text is no pair, and so may be one key,
+pub no_pair : (text : List ℕ) → All (λ b. b ≢ 32) text → IsPair text → ⊥
+no_pair text whole has = not_whole 32 text (decimal has.0) (decimal has.1) has.4 whole
+
+pub one_key : (text : List ℕ) → All (λ b. b ≢ 32) text → IsKeyOrPair text → IsKey text
+one_key text whole (inl has) = has
+one_key text whole (inr has) = absurd (no_pair text whole has)
+
+-- and one key is no pair,
+pub key_no_pair : (text : List ℕ) (k : ℕ) → k < 2 ^ 64 → text ≡ decimal k → IsPair text → ⊥
+key_no_pair text k lt e = no_pair text (subst (All (λ b. b ≢ 32)) (sym e) (decimal_whole k lt))
 
 -- and else two
-pub added_pair : (text front back : List ℕ) → text ≡ front ++ 32 ∷ back → All (λ b. b ≢ 32) front →
-    HasArguments Verb.Add text → IsKey front × IsKey back
-added_pair text front back e first (inl has) =
+pub two_keys : (text front back : List ℕ) → text ≡ front ++ 32 ∷ back → All (λ b. b ≢ 32) front →
+    IsKeyOrPair text → IsKey front × IsKey back
+two_keys text front back e first (inl has) =
     absurd (not_whole 32 text front back e
     (subst (All (λ b. b ≢ 32)) (sym has.2) (decimal_whole has.0 has.1)))
-added_pair text front back e first (inr has) =
+two_keys text front back e first (inr has) =
     let parts = same_split 32 (decimal has.0) (decimal has.1) front back (sym has.4 ∙ e)
     (decimal_whole has.0 has.2) first in
     ((has.0, has.2, sym parts.0), (has.1, has.3, sym parts.1))
@@ -111,16 +125,18 @@ verb_whole Verb.Draw = whole_by_test (codes "draw") refl
 verb_whole Verb.Release = whole_by_test (codes "release") refl
 verb_whole Verb.Spend = whole_by_test (codes "spend") refl
 verb_whole Verb.Level = whole_by_test (codes "level") refl
+verb_whole Verb.Pick = whole_by_test (codes "pick") refl
+verb_whole Verb.Fill = whole_by_test (codes "fill") refl
 
 -- each verb, in the order of the program's table
 abbrev pub verbs : List Verb
 verbs = Verb.Contains ∷ Verb.Add ∷ Verb.Remove ∷ Verb.Get ∷ Verb.Put ∷ Verb.Ceiling ∷
     Verb.Take ∷ Verb.Least ∷ Verb.Bump ∷ Verb.Read ∷ Verb.Draw ∷ Verb.Release ∷
-    Verb.Spend ∷ Verb.Level ∷ []
+    Verb.Spend ∷ Verb.Level ∷ Verb.Pick ∷ Verb.Fill ∷ []
 
 -- a text that is none of the table's verbs is no verb
 pub no_verb : (text : List ℕ) →
-    ((k : ℕ) → k < 14 → text ≡ verb_text (get_or verbs k Verb.Add) → ⊥) → (v : Verb) →
+    ((k : ℕ) → k < 16 → text ≡ verb_text (get_or verbs k Verb.Add) → ⊥) → (v : Verb) →
     text ≡ verb_text v → ⊥
 no_verb text none Verb.Contains = none 0 (omega arith)
 no_verb text none Verb.Add = none 1 (omega arith)
@@ -136,6 +152,8 @@ no_verb text none Verb.Draw = none 10 (omega arith)
 no_verb text none Verb.Release = none 11 (omega arith)
 no_verb text none Verb.Spend = none 12 (omega arith)
 no_verb text none Verb.Level = none 13 (omega arith)
+no_verb text none Verb.Pick = none 14 (omega arith)
+no_verb text none Verb.Fill = none 15 (omega arith)
 
 -- ---- operations
 
@@ -161,6 +179,11 @@ can_said (Operation.Call (Call.Free x)) can e = can
 can_said (Operation.Call (Call.Spend n)) can e = cc
 can_said (Operation.Call Call.Level) can e = cc
 can_said (Operation.Call (Call.Fill n)) can e = can
+can_said (Operation.Call Call.Pick) can e = cc
+can_said (Operation.Call (Call.QuotaSpend k n)) can e = cc
+can_said (Operation.Call (Call.QuotaLevel k)) can e = cc
+can_said (Operation.Call (Call.QuotaFill k n)) can e = cc
+can_said (Operation.Call (Call.Refund k n)) can e = can
 
 nothing_else : (word rest : List ℕ) → word ++ 32 ∷ rest ≡ [] → ⊥
 nothing_else [] rest e = cc

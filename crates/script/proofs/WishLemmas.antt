@@ -1,14 +1,13 @@
 -- Lines of several calls, and what the first letters of a line tell.
-use Rattle.std.proofs.Common.{◌≡◌, ◌≢◌, inl, inr, ℕ, ◌+◌, ◌*◌, List, [], ◌∷◌, ◌++◌, get_or}
+use Rattle.std.proofs.Common.{◌≡◌, ◌≢◌, inl, inr, ℕ, ◌+◌, List, [], ◌∷◌, ◌++◌}
 use Rattle.std.proofs.Common.{All}
-use Rattle.std.proofs.Common.{refl, sym, subst, ◌∙◌, ap, arith, codes, append_assoc}
+use Rattle.std.proofs.Common.{sym, subst, ◌∙◌, ap, codes, append_assoc}
 use Rattle.std.proofs.Common.{Option, Some, None, Result, Ok, Err}
 use Rattle.std.specs.Prelude.{IfOk, MatchOption}
 use Rattle.std.proofs.lemmas.List.{append_cancel_left}
 use Rattle.script.specs.declared.action.Request.{Request}
-use Rattle.script.specs.declared.wishes.Wish.{Wish}
-use Rattle.script.specs.ScriptTexts.{IsRequestOf, IsCallOf, IsLaterOf, IsPassedOver, request_text}
-use Rattle.script.specs.Wishes.{IsPart, IsLaterPart, AreCallsOf, IsWishOf}
+use Rattle.script.specs.ScriptTexts.{IsCallOf, IsLaterOf}
+use Rattle.script.specs.Wishes.{IsPart, IsLaterPart, AreCallsOf}
 use Rattle.script.proofs.ScriptWords.{not_whole, same_split}
 
 -- ---- calls that are put off

@@ -12,6 +12,7 @@ use Rattle.script.specs.declared.action.Operation.{Operation}
 use Rattle.script.specs.declared.action.Request.{Request}
 use Rattle.script.specs.declared.action.Action.{Action}
 use Rattle.script.specs.declared.operations.Verb.{Verb}
+use Rattle.script.specs.declared.operations.Numbers.{Numbers}
 
 -- a text with no space in it
 pub record IsWord (word : List ℕ) : Type 0 where
@@ -41,6 +42,8 @@ verb_text Verb.Draw = codes "draw"
 verb_text Verb.Release = codes "release"
 verb_text Verb.Spend = codes "spend"
 verb_text Verb.Level = codes "level"
+verb_text Verb.Pick = codes "pick"
+verb_text Verb.Fill = codes "fill"
 
 -- The verb of an operation, and what stands behind it, if anything. No other operation is said.
 abbrev pub said : Operation → Option (Verb × Option (List ℕ))
@@ -59,6 +62,10 @@ said (Operation.Call Call.Draw) = Some (Verb.Draw, None)
 said (Operation.Call (Call.Release x)) = Some (Verb.Release, Some (decimal x))
 said (Operation.Call (Call.Spend n)) = Some (Verb.Spend, Some (decimal n))
 said (Operation.Call Call.Level) = Some (Verb.Level, None)
+said (Operation.Call Call.Pick) = Some (Verb.Pick, None)
+said (Operation.Call (Call.QuotaSpend k n)) = Some (Verb.Spend, Some (decimal k ++ 32 ∷ decimal n))
+said (Operation.Call (Call.QuotaLevel k)) = Some (Verb.Level, Some (decimal k))
+said (Operation.Call (Call.QuotaFill k n)) = Some (Verb.Fill, Some (decimal k ++ 32 ∷ decimal n))
 said (Operation.Call c) = None
 
 abbrev pub said_text : Option (Verb × Option (List ℕ)) → List ℕ
@@ -86,17 +93,34 @@ CanBeDone (Operation.Call Call.Draw) = Unit {0}
 CanBeDone (Operation.Call (Call.Release x)) = x < 2 ^ 64
 CanBeDone (Operation.Call (Call.Spend n)) = n < 2 ^ 64
 CanBeDone (Operation.Call Call.Level) = Unit {0}
+CanBeDone (Operation.Call Call.Pick) = Unit {0}
+CanBeDone (Operation.Call (Call.QuotaSpend k n)) = (k < 2 ^ 64) × (n < 2 ^ 64)
+CanBeDone (Operation.Call (Call.QuotaLevel k)) = k < 2 ^ 64
+CanBeDone (Operation.Call (Call.QuotaFill k n)) = (k < 2 ^ 64) × (n < 2 ^ 64)
 CanBeDone (Operation.Call c) = ⊥
 
 -- the text is a number of 64 bits
 abbrev pub IsKey : List ℕ → Type 0
 IsKey text = (n : ℕ) × (n < 2 ^ 64) × (text ≡ decimal n)
 
+-- the text is two of them, with a space between
+abbrev pub IsPair : List ℕ → Type 0
+IsPair text =
+    (p g : ℕ) × (p < 2 ^ 64) × (g < 2 ^ 64) × (text ≡ decimal p ++ 32 ∷ decimal g)
+
+abbrev pub IsKeyOrPair : List ℕ → Type 0
+IsKeyOrPair text = IsKey text ⊎ IsPair text
+
+-- the text is these numbers
+abbrev pub AreNumbers : Numbers → List ℕ → Type 0
+AreNumbers (Numbers.One k) text = (k < 2 ^ 64) × (text ≡ decimal k)
+AreNumbers (Numbers.Two p g) text =
+    (p < 2 ^ 64) × (g < 2 ^ 64) × (text ≡ decimal p ++ 32 ∷ decimal g)
+
 -- What may stand behind a verb.
 abbrev pub HasArguments : Verb → List ℕ → Type 0
 HasArguments Verb.Contains text = IsKey text
-HasArguments Verb.Add text = IsKey text ⊎
-    ((p g : ℕ) × (p < 2 ^ 64) × (g < 2 ^ 64) × (text ≡ decimal p ++ 32 ∷ decimal g))
+HasArguments Verb.Add text = IsKeyOrPair text
 HasArguments Verb.Remove text = IsKey text
 HasArguments Verb.Get text = IsKey text
 HasArguments Verb.Put text = (k : ℕ) × (v : List ℕ) × (k < 2 ^ 64) × All (λ b. b < 256) v ×
@@ -104,7 +128,9 @@ HasArguments Verb.Put text = (k : ℕ) × (v : List ℕ) × (k < 2 ^ 64) × All 
 HasArguments Verb.Ceiling text = IsKey text
 HasArguments Verb.Bump text = (n : ℤ) × FitsSigned w64 n × (text ≡ signed_decimal n)
 HasArguments Verb.Release text = IsKey text
-HasArguments Verb.Spend text = IsKey text
+HasArguments Verb.Spend text = IsKeyOrPair text
+HasArguments Verb.Level text = IsKey text
+HasArguments Verb.Fill text = IsPair text
 HasArguments verb text = ⊥
 
 -- a verb behind which one key stands, and nothing else
@@ -114,7 +140,7 @@ IsKeyed Verb.Remove = Unit {0}
 IsKeyed Verb.Get = Unit {0}
 IsKeyed Verb.Ceiling = Unit {0}
 IsKeyed Verb.Release = Unit {0}
-IsKeyed Verb.Spend = Unit {0}
+IsKeyed Verb.Level = Unit {0}
 IsKeyed verb = ⊥
 
 -- ---- calls that are put off

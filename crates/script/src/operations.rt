@@ -1,11 +1,12 @@
 // What a line asks of a collection.
-ghost use Rattle.std.specs.Prelude.{◌≡◌, ℕ, ◌<◌, ◌^◌, ◌++◌, ◌∷◌, List, Some, None, IfOk, IfSome};
+ghost use Rattle.std.specs.Prelude.{◌≡◌, ◌<◌, ◌++◌, ◌∷◌, Some, None, IfOk, IfSome};
 ghost use Rattle.std.specs.Prelude.{IfNone, MatchOption};
 ghost use Rattle.std.specs.Fmt.{decimal};
 ghost use Rattle.script.specs.declared.action.Operation.{Operation};
 ghost use Rattle.script.specs.declared.operations.Verb.{Verb};
+ghost use Rattle.script.specs.declared.operations.Numbers.{Numbers};
 ghost use Rattle.script.specs.ScriptTexts.{CanBeDone, verb_text, said, operation_text};
-ghost use Rattle.script.specs.ScriptTexts.{HasArguments, IsKeyed};
+ghost use Rattle.script.specs.ScriptTexts.{HasArguments, IsKeyed, IsKeyOrPair, AreNumbers};
 
 use crate::action::Operation;
 use crate::words::{natural, number, same, split_at_byte, value};
@@ -29,10 +30,12 @@ pub enum Verb {
     Release,
     Spend,
     Level,
+    Pick,
+    Fill,
 }
 
 // Each verb.
-const VERBS: [Verb; 14] = [
+const VERBS: [Verb; 16] = [
     Verb::Contains,
     Verb::Add,
     Verb::Remove,
@@ -47,6 +50,8 @@ const VERBS: [Verb; 14] = [
     Verb::Release,
     Verb::Spend,
     Verb::Level,
+    Verb::Pick,
+    Verb::Fill,
 ];
 
 impl Verb {
@@ -71,6 +76,8 @@ impl Verb {
             Verb::Release => "release",
             Verb::Spend => "spend",
             Verb::Level => "level",
+            Verb::Pick => "pick",
+            Verb::Fill => "fill",
         }
     }
 }
@@ -99,6 +106,7 @@ fn alone(verb: Verb) -> Option<Operation>
         Verb::Read => Some(Operation::Call(Call::Read)),
         Verb::Draw => Some(Operation::Call(Call::Draw)),
         Verb::Level => Some(Operation::Call(Call::Level)),
+        Verb::Pick => Some(Operation::Call(Call::Pick)),
         _ => None,
     }
 }
@@ -114,7 +122,7 @@ fn keyed(verb: Verb, key: u64) -> Option<Operation>
         Verb::Get => Some(Operation::Call(Call::Get(key))),
         Verb::Ceiling => Some(Operation::Call(Call::Ceiling(key))),
         Verb::Release => Some(Operation::Call(Call::Release(key))),
-        Verb::Spend => Some(Operation::Call(Call::Spend(key))),
+        Verb::Level => Some(Operation::Call(Call::QuotaLevel(key))),
         _ => None,
     }
 }
@@ -124,6 +132,8 @@ fn on_key(verb: Verb, text: &[u8]) -> Option<Operation>
     requires add { verb ≡ Verb.Add → ⊥ }
     requires put { verb ≡ Verb.Put → ⊥ }
     requires bump { verb ≡ Verb.Bump → ⊥ }
+    requires spend { verb ≡ Verb.Spend → ⊥ }
+    requires fill { verb ≡ Verb.Fill → ⊥ }
     ensures { MatchOption result (HasArguments verb text.now → ⊥)
         (λ o. CanBeDone o × (said o ≡ Some (verb, Some text.now))) }
 {
@@ -133,21 +143,63 @@ fn on_key(verb: Verb, text: &[u8]) -> Option<Operation>
     }
 }
 
+/// One number, or two with a space between them.
+#[derive(Clone, Copy)]
+pub enum Numbers {
+    One(u64),
+    Two(u64, u64),
+}
+
+// The one number, or the two, that the text is.
+fn one_or_two(text: &[u8]) -> Option<Numbers>
+    ensures { MatchOption result (IsKeyOrPair text.now → ⊥) (λ n. AreNumbers n text.now) }
+{
+    match split_at_byte(text, b' ') {
+        Some((front, back)) => {
+            let first = natural(front)?;
+            let second = natural(back)?;
+            Some(Numbers::Two(first, second))
+        }
+        None => {
+            let key = natural(text)?;
+            Some(Numbers::One(key))
+        }
+    }
+}
+
 // An addition to a set, or to a queue.
 fn added(text: &[u8]) -> Option<Operation>
     ensures { MatchOption result (HasArguments Verb.Add text.now → ⊥)
         (λ o. CanBeDone o × (said o ≡ Some (Verb.Add, Some text.now))) }
 {
-    match split_at_byte(text, b' ') {
-        Some((front, back)) => {
-            let priority = natural(front)?;
-            let tag = natural(back)?;
-            Some(Operation::Call(Call::QueueAdd(priority, tag)))
-        }
-        None => {
-            let element = natural(text)?;
-            Some(Operation::Call(Call::SetAdd(element)))
-        }
+    match one_or_two(text) {
+        Some(Numbers::One(element)) => Some(Operation::Call(Call::SetAdd(element))),
+        Some(Numbers::Two(priority, tag)) => Some(Operation::Call(Call::QueueAdd(priority, tag))),
+        None => None,
+    }
+}
+
+// A spend from a stock, or from a quota.
+fn spent(text: &[u8]) -> Option<Operation>
+    ensures { MatchOption result (HasArguments Verb.Spend text.now → ⊥)
+        (λ o. CanBeDone o × (said o ≡ Some (Verb.Spend, Some text.now))) }
+{
+    match one_or_two(text) {
+        Some(Numbers::One(amount)) => Some(Operation::Call(Call::Spend(amount))),
+        Some(Numbers::Two(key, amount)) => Some(Operation::Call(Call::QuotaSpend(key, amount))),
+        None => None,
+    }
+}
+
+// A fill of a quota.
+fn filled(text: &[u8]) -> Option<Operation>
+    ensures { MatchOption result (HasArguments Verb.Fill text.now → ⊥)
+        (λ o. CanBeDone o × (said o ≡ Some (Verb.Fill, Some text.now))) }
+{
+    match one_or_two(text) {
+        Some(Numbers::Two(key, amount)) => Some(Operation::Call(Call::QuotaFill(key, amount))),
+        Some(Numbers::One(_)) => None,
+        None => None,
     }
 }
 
@@ -188,6 +240,8 @@ fn with_arguments(alloc: Global, verb: Verb, text: &[u8]) -> Result<Option<Opera
         Verb::Add => Ok(added(text)),
         Verb::Put => put(alloc, text),
         Verb::Bump => Ok(bumped(text)),
+        Verb::Spend => Ok(spent(text)),
+        Verb::Fill => Ok(filled(text)),
         _ => Ok(on_key(verb, text)),
     }
 }

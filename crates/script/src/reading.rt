@@ -1,5 +1,5 @@
 // Scripts, line by line.
-ghost use Rattle.std.specs.Prelude.{◌≡◌, ◌+◌, ◌<◌, length, IfOk, IfErr, OnOk};
+ghost use Rattle.std.specs.Prelude.{◌+◌, ◌<◌, IfOk, IfErr, OnOk};
 ghost use Rattle.script.specs.Scripts.{lines_of, SaysMore, Says, IsScriptOf, IsWhy, IsWhyLine};
 ghost use Rattle.script.specs.Scripts.{IsWhyLines};
 

@@ -1,5 +1,5 @@
 // What a client of a script does on a store that threads share.
-ghost use Rattle.std.specs.Prelude.{◌≡◌, ◌↔◌, Ok, Err, None, List, IfOk, OnOk, IsOkUnless, IsTrue};
+ghost use Rattle.std.specs.Prelude.{◌≡◌, ◌↔◌, Ok, Err, None, IfOk, OnOk, IsOkUnless, IsTrue};
 ghost use Rattle.calls.specs.declared.refusal.Refusal.{Refusal};
 ghost use Rattle.script.specs.declared.action.Operation.{Operation};
 ghost use Rattle.clients.specs.Calls.{IsOpen, Aborts};

@@ -1,5 +1,5 @@
 -- What is gathered of the book of a store is of the book, from one copy to the next.
-use Rattle.std.proofs.Common.{◌≡◌, ◌≢◌, ◌⊎◌, inl, inr, Bool, None, Result, Ok, Err, List, sym, ap}
+use Rattle.std.proofs.Common.{◌≡◌, ◌≢◌, inl, inr, Bool, None, Result, Ok, Err, List, sym, ap}
 use Rattle.std.proofs.Common.{◌∙◌, subst, Option, Some}
 use Rattle.std.specs.Prelude.{OnOk, IsSome}
 use Rattle.calls.specs.Contents.{Collection}
@@ -11,7 +11,7 @@ use Rattle.txn.specs.Books.{BookState, position}
 use Rattle.txn.specs.Freezing.{IsGatheredOf, BookGathers}
 use Rattle.world.specs.Worlds.{IsOfBook}
 use Rattle.world.proofs.OfBook.{of_repeated, of_gathered, of_ungathered}
-use Rattle.group_commit.specs.Accords.{AccordState, nothing_gathered}
+use Rattle.group_commit.specs.Accords.{AccordState}
 use Rattle.clients.specs.declared.naming.Naming.{Ghosts}
 use Rattle.clients.proofs.Gathered.{gathered_none}
 use Rattle.store.specs.Gatherers.{IsKnown, IsGatherer}

@@ -1,5 +1,5 @@
 // Checkpoints of a store that threads use.
-ghost use Rattle.std.specs.Prelude.{◌≡◌, IfOk, IfErr};
+ghost use Rattle.std.specs.Prelude.{◌≡◌, IfErr};
 ghost use Rattle.store.specs.Turns.{CheckTells, IsCheckRefusal};
 
 use crate::gatherer::Gatherer;

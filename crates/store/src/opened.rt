@@ -3,7 +3,7 @@ ghost use Rattle.std.specs.Prelude.{◌≡◌, ◌≤◌, List, IfOk, IfErr, IsO
 ghost use Rattle.calls.specs.Contents.{Collection};
 ghost use Rattle.calls.specs.declared.refusal.Refusal.{Refusal};
 ghost use Rattle.calls.specs.Limits.{number_end};
-ghost use Rattle.disk_model.specs.Disk.{ReadsOnly, Rises, IsAtRest};
+ghost use Rattle.disk_model.specs.Disk.{Rises, IsAtRest};
 ghost use Rattle.repetition.specs.Journals.{StandsFor};
 ghost use Rattle.recovery.specs.Heads.{HasNoHeader};
 ghost use Rattle.recovery.specs.Openings.{IsOpened, IsDamagedAt, HasNoRoom, IsReadyStore};

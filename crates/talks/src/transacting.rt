@@ -1,5 +1,5 @@
 // A transaction of calls that stand in one line.
-ghost use Rattle.std.specs.Prelude.{◌≡◌, List, [], IsTrue, ◌↔◌, true, Some, MatchOption};
+ghost use Rattle.std.specs.Prelude.{◌≡◌, [], true, Some, MatchOption};
 ghost use Rattle.calls.specs.declared.refusal.Refusal.{Refusal};
 ghost use Rattle.talks.specs.declared.told.Told.{Told};
 ghost use Rattle.talks.specs.declared.transacting.Outcome.{Outcome};

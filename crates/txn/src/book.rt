@@ -1,5 +1,5 @@
 // The book: transactions on shared collections, one step at a time.
-ghost use Rattle.std.specs.Prelude.{◌≡◌, ℕ, ◌<◌, ◌≤◌, ◌+◌, [], ◌∷◌, ◌++◌, IfOk, IfErr};
+ghost use Rattle.std.specs.Prelude.{◌≡◌, ◌<◌, ◌≤◌, ◌+◌, [], IfOk, IfErr};
 ghost use Rattle.std.specs.Prelude.{OnOk, OnErr, Ok, Err, IsOkUnless, length, true, false};
 ghost use Rattle.std.specs.Prelude.{◌↔◌, IsNone, IfSome};
 ghost use Rattle.calls.specs.Names.{IsName};

@@ -5,7 +5,7 @@ use Rattle.std.proofs.Common.{subst, ◌∙◌, arith, length-drop}
 use Rattle.std.specs.List.{filter, remove}
 use Rattle.std.proofs.lemmas.List.{take-append-drop, drop_more, map-append}
 use Rattle.calls.specs.Transactions as transactions
-use Rattle.calls.specs.Transactions.{Event, own, others, calls_of}
+use Rattle.calls.specs.Transactions.{own, calls_of}
 use Rattle.undo_log.specs.declared.logged.Logged.{Logged}
 use Rattle.undo_log.specs.declared.logged.Later.{Later}
 use Rattle.undo_log.specs.declared.logged.Entry.TheVariants.{Asked, PutOff}

@@ -1,5 +1,5 @@
 // The live transactions in the slots of a slab, and a plain list of what they asked for.
-ghost use Rattle.std.specs.Prelude.{◌≡◌, ◌↔◌, ◌≤◌, ℕ, List, [], ◌∷◌, ◌++◌, Some, false, map};
+ghost use Rattle.std.specs.Prelude.{◌≡◌, ◌↔◌, ◌≤◌, ℕ, [], ◌∷◌, ◌++◌, Some, false, map};
 ghost use Rattle.std.specs.Prelude.{IsTrue, IsOk, IsOkUnless, IfSome, IfNone, IfOk, OnOk, OnErr};
 ghost use Rattle.std.specs.Prelude.{length, ◌<◌, ◌≢◌, ◌⊎◌, All, Contains, IfErr, HoldsAt, vec_len};
 ghost use Rattle.std.specs.Prelude.{vec_capacity, take, drop};

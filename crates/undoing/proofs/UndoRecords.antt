@@ -7,7 +7,7 @@ use Rattle.std.specs.List.{AllByRecursion}
 use Rattle.gate_block.specs.Row.{block, row}
 use Rattle.gate_block.proofs.Facts.{length-block}
 use Rattle.record_format.specs.declared.record.Record.{Record}
-use Rattle.record_format.specs.Records.{spelled, spelling, IsRecord, Fits}
+use Rattle.record_format.specs.Records.{spelled, spelling, IsRecord}
 use Rattle.record_format.specs.Acts.{acts_of}
 use Rattle.record_format.proofs.RecordLengths.{length-number}
 use Rattle.repetition.specs.Journals.{records_in, IsJournalRecord}

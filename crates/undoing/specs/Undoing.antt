@@ -5,6 +5,7 @@ use Rattle.std.specs.List.{flat_map}
 use Rattle.std.specs.FinMap as maps
 use Rattle.calls.specs.Transactions.{Entry, own, calls_of}
 use Rattle.undo_log.specs.Logs.{Statuses, Lives}
+use Rattle.gate_block.specs.Row.{block_head}
 use Rattle.record_format.specs.declared.record.Record.{Record}
 use Rattle.record_format.specs.Records.{IsNumber}
 use Rattle.records.specs.Images.{Rise}
@@ -52,6 +53,6 @@ IsUndoRecord (Record.Back n) = IsNumber n
 IsUndoRecord (Record.Ended n) = IsNumber n
 IsUndoRecord r = ⊥
 
--- so many bytes have so many records of an undoing in blocks of 64: 9 a record, and 5 a block
+-- so many bytes have so many records of an undoing in blocks of 64: 9 a record, and the head of each block
 abbrev pub blocks_len : ℕ → ℕ
-blocks_len count = 9 * count + 5 * ((count + 63) / 64)
+blocks_len count = 9 * count + block_head * ((count + 63) / 64)

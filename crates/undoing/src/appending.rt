@@ -1,10 +1,9 @@
 // The records of an undoing, written behind the blocks of an area.
-ghost use Rattle.std.specs.Prelude.{◌≡◌, ◌≤◌, ◌<◌, ◌+◌, ◌-◌, ◌*◌, ℕ, List, ◌++◌, ◌∷◌, [], length};
-ghost use Rattle.std.specs.Prelude.{drop, OnOk, IfOk, IfErr, false, vec_len, vec_capacity, min, ◌^◌};
+ghost use Rattle.std.specs.Prelude.{◌≡◌, ◌≤◌, ◌<◌, ◌+◌, ◌-◌, ◌*◌, ℕ, List, ◌++◌, length};
+ghost use Rattle.std.specs.Prelude.{OnOk, IfOk, IfErr, false, vec_len, vec_capacity, min, ◌^◌};
 ghost use Rattle.std.specs.List.{AllByRecursion};
-ghost use Rattle.std.specs.Int.{w32, to_be_bytes};
 ghost use Rattle.disk_model.specs.Disk.{LeavesOnly, Rises, IsAtRest};
-ghost use Rattle.gate_block.specs.Row.{IsBlockOf};
+ghost use Rattle.gate_block.specs.Row.{IsBlockOf, block_head};
 ghost use Rattle.gate_block.specs.Area.{base_of, size_of, position_of, has_failed};
 ghost use Rattle.record_format.specs.Records.{spelling};
 ghost use Rattle.undoing.specs.Undoing.{IsUndoRecord, blocks_len};
@@ -39,7 +38,7 @@ pub fn blocks_len(count: u64) -> u64
 
 /// Room for one block of the undoing's records.
 pub fn make_room(alloc: Global) -> Result<Vec<u8>, Refusal>
-    ensures head { IfOk result (λ bytes. 5 ≤ length bytes.items) }
+    ensures head { IfOk result (λ bytes. block_head ≤ length bytes.items) }
     ensures room { IfOk result (λ bytes. 582 ≤ vec_capacity bytes) }
     ensures only { IfErr result (λ e. e ≡ Refusal.NoMemory) }
 {
@@ -65,7 +64,7 @@ fn pack(group: &[Record], bytes: &mut Vec<u8>)
     requires undo { AllByRecursion IsUndoRecord group.now }
     requires some { 0 < length group.now }
     requires few { length group.now ≤ 64 }
-    requires head { 5 ≤ length bytes.old.items }
+    requires head { block_head ≤ length bytes.old.items }
     requires room { 582 ≤ vec_capacity bytes.old }
     ensures block { IsBlockOf (spelling group.now) bytes.new.items }
     ensures room { 582 ≤ vec_capacity bytes.new }
@@ -90,7 +89,7 @@ pub fn append_all<D: Disk>(
     requires fits { position_of area.old + blocks_len (length records.now) < size_of area.old }
     requires disk { base_of area.old + size_of area.old ≤ length (D.seen disk.old) }
     requires fine { has_failed area.old ≡ false }
-    requires head { 5 ≤ length bytes.items }
+    requires head { block_head ≤ length bytes.items }
     requires room { 582 ≤ vec_capacity bytes }
     ensures appended { OnOk result (IsAppended records.now area.old area.new (D.seen disk.old)
         (D.seen disk.new)) }

@@ -2,7 +2,6 @@
 ghost use Rattle.std.specs.Prelude.{◌≡◌, ◌++◌, IfOk, OnOk, IsOkUnless};
 ghost use Rattle.std.specs.List.{AllByRecursion};
 ghost use Rattle.undo_log.specs.Logs.{Lives};
-ghost use Rattle.record_format.specs.Records.{IsNumber};
 ghost use Rattle.undoing.specs.Undoing.{Undo, IsOver, IsUndoRecord, undo_of};
 
 use calls::Refusal;

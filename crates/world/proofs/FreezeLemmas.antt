@@ -1,9 +1,7 @@
 -- The image of a book that is frozen stands for all of its records.
 use Rattle.calls.specs.declared.format.Format.{Format}
-use Rattle.std.proofs.Common.{◌≡◌, ◌≢◌, ℕ, ◌≤◌, List, [], ◌∷◌, ◌++◌, length, refl, sym}
+use Rattle.std.proofs.Common.{◌≡◌, ℕ, ◌≤◌, List, ◌++◌, length, sym}
 use Rattle.std.proofs.Common.{◌∙◌, ap, subst, arith, append_assoc, length-append}
-use Rattle.std.specs.Prelude.{Vec}
-use Rattle.std.specs.declared.alloc.Global.{Global}
 use mathlib.Core.List.{IsPrefix}
 use Rattle.calls.specs.Contents.{Collection}
 use Rattle.calls.specs.Transactions.{Leads}
@@ -16,9 +14,8 @@ use Rattle.record_format.specs.Acts.{places}
 use Rattle.blocks.specs.declared.block.Block.{Block}
 use Rattle.blocks.specs.declared.block.Image.{Image}
 use Rattle.blocks.specs.Carried.{Carries}
-use Rattle.blocks.specs.Packings.{joined, AreWhole}
+use Rattle.blocks.specs.Packings.{joined}
 use Rattle.blocks.proofs.Places.{places_append}
-use Rattle.images.specs.Images.{IsPacked, TellsGathered}
 use Rattle.machine.specs.Machine.{journalled}
 use Rattle.machine.specs.Sound.{IsSound}
 use Rattle.txn.specs.declared.steps.BookStep.{BookStep}

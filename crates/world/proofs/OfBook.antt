@@ -1,7 +1,7 @@
 -- What a world has gathered is of its book, and stays so with each step.
 use Rattle.std.proofs.Common.{◌≡◌, ℕ, Bool, List, [], ◌∷◌, ◌++◌, length, refl, sym, ◌∙◌, ap, subst}
-use Rattle.std.proofs.Common.{arith, Some, None}
-use Rattle.std.proofs.Common.{◌≢◌, ◌+◌, ◌==◌, cond, ⊎_elim, ◌⊎◌, Option, Result, Ok, Err}
+use Rattle.std.proofs.Common.{arith}
+use Rattle.std.proofs.Common.{◌≢◌, ◌+◌, ◌==◌, cond, ⊎_elim, ◌⊎◌, Result, Ok, Err}
 use Rattle.std.proofs.Common.{length-append, true, false}
 use Rattle.std.specs.Prelude.{OnOk, OnErr}
 use Rattle.std.proofs.lemmas.Bool.{eqb-true}
@@ -10,7 +10,7 @@ use Rattle.calls.specs.declared.kind.Kind.{Kind}
 use Rattle.calls.specs.declared.reply.Reply.{Reply}
 use Rattle.calls.specs.declared.refusal.Refusal.{Refusal}
 use Rattle.blocks.specs.declared.block.Block.{Block}
-use Rattle.images.specs.Gathers.{GatherState, FrozenState, Repeats, caught_up}
+use Rattle.images.specs.Gathers.{GatherState, Repeats, caught_up}
 use Rattle.images.proofs.Following.{follows_repeated, came_repeated}
 use Rattle.gathering.specs.Gatherings.{GatheringState, GoesAlong, IsUnderWay, KeepsGoing, gone_on}
 use Rattle.gathering.proofs.Going.{goes_past_others}
@@ -20,8 +20,7 @@ use Rattle.txn.specs.Books as books
 use Rattle.txn.specs.Books.{GoesOn, position}
 use Rattle.txn.specs.Freezing.{BookGathers, FreezeAnswers}
 use Rattle.world.specs.Pasts.{BookState}
-use Rattle.world.specs.Worlds.{IsOfBook, none_gathered}
-use Rattle.world.specs.Moves.{unless_outrun}
+use Rattle.world.specs.Worlds.{IsOfBook}
 use Rattle.catalog.specs.Meaning.{catalog_meaning, catalog_making}
 
 -- ---- steps of the book

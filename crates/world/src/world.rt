@@ -1,5 +1,5 @@
 // The core as a list of steps.
-ghost use Rattle.std.specs.Prelude.{◌≡◌, ◌≤◌, ◌↔◌, IsTrue, ℕ, List, ◌++◌, ◌∷◌, [], length, IfOk};
+ghost use Rattle.std.specs.Prelude.{◌≡◌, ◌≤◌, ◌↔◌, IsTrue, ℕ, List, ◌++◌, [], length, IfOk};
 ghost use Rattle.std.specs.Prelude.{IfErr, OnErr, IsOkUnless, is_some};
 ghost use Rattle.std.specs.List.{zip};
 ghost use Rattle.std.specs.Option.{IsSomeAnd};

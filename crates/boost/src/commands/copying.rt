@@ -1,5 +1,5 @@
 // Copying a store to another disk.
-ghost use Rattle.std.specs.Prelude.{◌≡◌, ◌⊎◌, length};
+ghost use Rattle.std.specs.Prelude.{◌≡◌, ◌⊎◌};
 ghost use Rattle.disk_model.specs.Disk.{ReadsOnly, LeavesOnly, IsAtRest};
 ghost use Rattle.recovery.specs.Formats.{IsMaking};
 ghost use Rattle.recovery.specs.Copies.{IsCopyOf};

@@ -66,6 +66,7 @@ impl fmt::Display for ItemText<'_> {
             }
             Item::Pair(priority, tag) => write!(f, "{priority} {tag}"),
             Item::Number(total) => write!(f, "{total}"),
+            Item::Amount(key, amount) => write!(f, "{key} {amount}"),
         }
     }
 }

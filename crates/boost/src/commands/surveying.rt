@@ -6,7 +6,7 @@ ghost use Rattle.record_format.specs.Records.{spelled, FitsItem};
 ghost use Rattle.boost.specs.Commands.{IsOfStore};
 
 use crate::commands::failure::Failure;
-use calls::{Format, Item, Kind, Name, check_name};
+use calls::{Item, Kind, Name, check_name};
 use catalog::{Catalog, Shown};
 use record_format::{Record, encoded_len, fits_item};
 use recovery::Survey;
@@ -17,7 +17,6 @@ use std::io::Write;
 /// name, how many items it holds and how many bytes it takes in an image: in lines, or as one JSON
 /// object.
 pub fn tell_survey<O: Write>(
-    format: Format,
     survey: &Survey,
     catalog: &Catalog,
     json: bool,
@@ -26,18 +25,18 @@ pub fn tell_survey<O: Write>(
     ensures { IfErr result IsOfStore }
 {
     if json {
-        write_numbers_json(format, survey, out)?;
+        write_numbers_json(survey, out)?;
         write_collections_json(catalog, out)
     } else {
-        write_numbers(format, survey, out)?;
+        write_numbers(survey, out)?;
         write_collections(catalog, out)
     }
 }
 
 // The numbers that are told, with their names.
-fn numbers_of(format: Format, survey: &Survey) -> [(&'static str, u64); 12] {
+fn numbers_of(survey: &Survey) -> [(&'static str, u64); 12] {
     [
-        ("format", u64::from(format.number())),
+        ("format", u64::from(survey.format.number())),
         ("area", survey.area),
         ("in_use", u64::from(!survey.first)),
         ("used", survey.used),
@@ -68,14 +67,10 @@ fn opens(survey: &Survey) -> bool
     }
 }
 
-fn write_numbers<O: Write>(
-    format: Format,
-    survey: &Survey,
-    out: &mut O,
-) -> Result<(), Failure<'static>>
+fn write_numbers<O: Write>(survey: &Survey, out: &mut O) -> Result<(), Failure<'static>>
     ensures { IfErr result IsOfStore }
 {
-    for (name, number) in numbers_of(format, survey) {
+    for (name, number) in numbers_of(survey) {
         writeln!(out, "{name} {number}")?;
     }
     let answer = if opens(survey) { "yes" } else { "no" };
@@ -83,15 +78,11 @@ fn write_numbers<O: Write>(
     Ok(())
 }
 
-fn write_numbers_json<O: Write>(
-    format: Format,
-    survey: &Survey,
-    out: &mut O,
-) -> Result<(), Failure<'static>>
+fn write_numbers_json<O: Write>(survey: &Survey, out: &mut O) -> Result<(), Failure<'static>>
     ensures { IfErr result IsOfStore }
 {
     write!(out, "{{")?;
-    for (name, number) in numbers_of(format, survey) {
+    for (name, number) in numbers_of(survey) {
         write!(out, "\"{name}\":{number},")?;
     }
     write!(out, "\"opens\":{},", opens(survey))?;

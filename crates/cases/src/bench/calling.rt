@@ -42,10 +42,12 @@ impl Content {
         numbers: &mut Pcg32,
     ) -> Result<Call, AllocError> {
         match self.workload.kind() {
+            Kind::Set => Ok(Call::SetAdd(number)),
             Kind::Queue => Ok(Call::QueueAdd(priority(numbers), tag(u64::MAX, number))),
             Kind::Map => Ok(Call::Put(number, value(alloc, b'v')?)),
             Kind::Pool => Ok(Call::Draw),
             Kind::Stock => Ok(Call::Fill(MAX_AMOUNT)),
+            Kind::Quotas => Ok(Call::QuotaFill(number, MAX_AMOUNT)),
             _ => Ok(Call::Bump(1)),
         }
     }
@@ -60,6 +62,7 @@ impl Content {
         put: &mut u64,
     ) -> Result<Call, AllocError> {
         match self.workload.kind() {
+            Kind::Set => Ok(Call::Pick),
             Kind::Queue if client % 2 == 1 => Ok(Call::Take),
             Kind::Queue => {
                 *put = put.wrapping_add(1);
@@ -71,6 +74,10 @@ impl Content {
             }
             Kind::Pool => Ok(Call::Draw),
             Kind::Stock => Ok(Call::Spend(1)),
+            Kind::Quotas => {
+                let customer = u64::from(numbers.next_word() % self.size.max(1));
+                Ok(Call::QuotaSpend(customer, 1))
+            }
             _ => Ok(Call::Bump(1)),
         }
     }

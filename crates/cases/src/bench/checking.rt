@@ -9,8 +9,8 @@ use std::alloc::{AllocError, Global};
 
 /// Whether the content of a store is what its clients were told: the counter's number is the count
 /// of calls; no identifier was drawn twice, and all that were drawn are taken; no job was taken
-/// twice, and those are left that were put and not taken; all keys are there, of the maps beside
-/// which images were written too; of a stock there is left what was not spent.
+/// or picked twice, and those are left that were put and not taken; all keys are there, of the maps beside
+/// which images were written too; of a stock, and of quotas, there is left what was not spent.
 pub fn is_right(
     alloc: Global,
     catalog: &Catalog,
@@ -24,10 +24,15 @@ pub fn is_right(
     let first = u64::from(workload.first_count());
     match workload.kind() {
         Kind::Pool => Ok(are_once && count == taken.wrapping_add(first)),
+        Kind::Set => Ok(are_once && count.wrapping_add(taken) == first),
         Kind::Queue => {
             Ok(are_once && count.wrapping_add(taken) == outcome.put().wrapping_add(first))
         }
         Kind::Map => Ok(count == first),
+        Kind::Quotas => {
+            let filled = i128::from(MAX_AMOUNT).wrapping_mul(i128::from(workload.first_count()));
+            Ok(sum(items) == filled.wrapping_sub(i128::from(outcome.commits())))
+        }
         Kind::Stock => {
             let left = i128::from(MAX_AMOUNT) - i128::from(outcome.commits());
             Ok(total(items) == Some(left))
@@ -56,6 +61,17 @@ pub fn total(items: &[Item]) -> Option<i128> {
         [Item::Number(total)] => Some(*total),
         _ => None,
     }
+}
+
+// The sum of the amounts of quotas that these are the items of.
+fn sum(items: &[Item]) -> i128 {
+    let mut sum = 0i128;
+    for item in items {
+        if let Item::Amount(_, amount) = item {
+            sum = sum.wrapping_add(*amount);
+        }
+    }
+    sum
 }
 
 // Whether nothing was drawn or taken twice, and how much was.

@@ -7,6 +7,8 @@ use rand_pcg::Pcg32;
 use std::alloc::AllocGlobal;
 use std::rt::Clock;
 use std::sync::Wait;
+use std::thread;
+use std::time::Duration;
 use store::{Client, Naming};
 
 /// A transaction of one call of a collection, or of as many of the same as the transactions of a
@@ -37,6 +39,33 @@ impl Transaction for SameCall {
             ask(attempt, self.collection, &self.call)?;
         }
         ask(attempt, self.collection, &self.call)
+    }
+}
+
+// For how many milliseconds a worker works on a job that it holds.
+const WORK: u64 = 1;
+
+/// A transaction of one call, which is held while the work is done that the call is about.
+#[derive(Drop)]
+pub struct Held<'r, R> {
+    clock: &'r R,
+    transaction: SameCall,
+}
+
+impl<'r, R> Held<'r, R> {
+    /// The transaction, held for a while by that clock.
+    pub fn new(clock: &'r R, transaction: SameCall) -> Self {
+        Held { clock, transaction }
+    }
+}
+
+impl<R: Clock> Transaction for Held<'_, R> {
+    type Output = Reply;
+
+    fn make_calls<A: Attempt>(&self, attempt: &mut A) -> Result<Reply, Refusal> {
+        let reply = self.transaction.make_calls(attempt)?;
+        thread::sleep(self.clock, Duration::from_millis(WORK));
+        Ok(reply)
     }
 }
 

@@ -1,6 +1,6 @@
 // The clients that are measured.
 use crate::bench::calling::Content;
-use crate::bench::committing::{SameCall, commit_all};
+use crate::bench::committing::{Held, SameCall, commit_all};
 use crate::bench::log::Log;
 use crate::bench::trouble::Trouble;
 use crate::bench::window::Window;
@@ -82,7 +82,11 @@ impl<P: Print> Measuring<'_, P> {
             }
             let call = content.next_call(rt.alloc(), number, &mut numbers, &mut log.put)?;
             let start = log.end;
-            let (reply, _) = keep(rt, client, &SameCall::of(content, call))?;
+            let transaction = SameCall::of(content, call);
+            let (reply, _) = match self.workload {
+                Workload::JobsHeld => keep(rt, client, &Held::new(rt, transaction))?,
+                _ => keep(rt, client, &transaction)?,
+            };
             self.note(rt, reply, start, &mut log)?;
             self.tell(number, &log)?;
         }
@@ -134,7 +138,7 @@ impl<P: Print> Measuring<'_, P> {
     ) -> Result<(), Trouble> {
         log.end = Instant::now(clock)?;
         match reply {
-            Reply::Nothing if self.workload.kind() == Kind::Queue => {
+            Reply::Nothing if matches!(self.workload.kind(), Kind::Queue | Kind::Set) => {
                 self.window.give_back();
                 thread::yield_now();
                 return Ok(());

@@ -18,6 +18,13 @@ pub enum Workload {
     Map,
     /// Each spends 1 of the one stock, in which there are 2^63 - 1 at the start.
     Stock,
+    /// Each picks a job of the one set, in which there are 200,000 at the start, and holds it for a
+    /// millisecond before it commits.
+    JobsHeld,
+    /// Each spends 1 of the quota of one customer.
+    SpendsOfOne,
+    /// Each spends 1 of the quota of a random customer of a thousand.
+    SpendsOfThousand,
     /// Each adds 1 to the one counter 1,024 times in a transaction.
     Long,
     /// One adds 1 to the counter, again and again, and waits for the last time alone.
@@ -55,7 +62,7 @@ const MAP_NAMES: [&str; 8] = [
 ];
 
 // Each with the word for it.
-const WORDS: [(Workload, &str); 16] = [
+const WORDS: [(Workload, &str); 19] = [
     (Workload::Counter, "counter"),
     (Workload::JobQueue, "jobqueue"),
     (Workload::JobQueueMillion, "jobqueue-million"),
@@ -63,6 +70,9 @@ const WORDS: [(Workload, &str); 16] = [
     (Workload::IdsMillion, "ids-million"),
     (Workload::Map, "map"),
     (Workload::Stock, "stock"),
+    (Workload::JobsHeld, "jobs-held"),
+    (Workload::SpendsOfOne, "spends-of-one"),
+    (Workload::SpendsOfThousand, "spends-of-thousand"),
     (Workload::Long, "long"),
     (Workload::CounterAsync, "counter-async"),
     (Workload::CounterBesideImages, "counter-beside-images"),
@@ -103,6 +113,9 @@ impl Workload {
             Workload::IdsMillion => "ids-million",
             Workload::Map => "map",
             Workload::Stock => "stock",
+            Workload::JobsHeld => "jobs-held",
+            Workload::SpendsOfOne => "spends-of-one",
+            Workload::SpendsOfThousand => "spends-of-thousand",
             Workload::Long => "long",
             Workload::CounterAsync => "counter-async",
             Workload::CounterBesideImages => "counter-beside-images",
@@ -118,10 +131,11 @@ impl Workload {
     /// The name of the collection that its clients call.
     pub fn collection(self) -> &'static str {
         match self.kind() {
-            Kind::Queue => "jobs",
+            Kind::Queue | Kind::Set => "jobs",
             Kind::Pool => "ids",
             Kind::Map => "map",
             Kind::Stock => "stock",
+            Kind::Quotas => "quotas",
             _ => "hits",
         }
     }
@@ -133,6 +147,8 @@ impl Workload {
             Workload::Ids | Workload::IdsMillion => Kind::Pool,
             Workload::Map => Kind::Map,
             Workload::Stock => Kind::Stock,
+            Workload::JobsHeld => Kind::Set,
+            Workload::SpendsOfOne | Workload::SpendsOfThousand => Kind::Quotas,
             _ => Kind::Counter,
         }
     }
@@ -143,7 +159,9 @@ impl Workload {
             Workload::JobQueue => 1000,
             Workload::JobQueueMillion | Workload::IdsMillion => 1_000_000,
             Workload::Map => 100_000,
-            Workload::Stock => 1,
+            Workload::JobsHeld => 200_000,
+            Workload::Stock | Workload::SpendsOfOne => 1,
+            Workload::SpendsOfThousand => 1000,
             _ => 0,
         }
     }

@@ -29,7 +29,7 @@ const CALLS: u32 = 40;
 // How many keys, elements, priorities and tags there are: few, so that calls meet often.
 const KEYS: u32 = 12;
 
-// Six collections, copies of the first of them, and the calls that were run and not handed over.
+// A collection of each kind, copies of the first of them, and the calls that were run and not handed over.
 #[derive(Drop)]
 struct Gathering {
     catalog: Catalog,
@@ -39,9 +39,9 @@ struct Gathering {
     position: u64,
 }
 
-// Six collections, one of each kind.
-fn six_collections(alloc: Global) -> Result<Catalog, Refusal>
-    ensures { IfOk result (λ catalog. HasRun catalog 6 0) }
+// Seven collections, one of each kind.
+fn one_of_each(alloc: Global) -> Result<Catalog, Refusal>
+    ensures { IfOk result (λ catalog. HasRun catalog 7 0) }
 {
     let mut catalog = Catalog::new(alloc);
     Parts::make(&mut catalog, "set", Kind::Set)?;
@@ -50,16 +50,17 @@ fn six_collections(alloc: Global) -> Result<Catalog, Refusal>
     Parts::make(&mut catalog, "counter", Kind::Counter)?;
     Parts::make(&mut catalog, "pool", Kind::Pool)?;
     Parts::make(&mut catalog, "stock", Kind::Stock)?;
+    Parts::make(&mut catalog, "quotas", Kind::Quotas)?;
     Ok(catalog)
 }
 
 impl Gathering {
-    // Nothing is gathered of six collections.
+    // Nothing is gathered of a collection of each kind.
     fn new(alloc: Global) -> Result<Self, Refusal>
         ensures { IfOk result IsGoing }
     {
         Ok(Self {
-            catalog: six_collections(alloc)?,
+            catalog: one_of_each(alloc)?,
             gather: Gather::new(alloc),
             effects: VecDeque::new(alloc),
             position: 0,
@@ -168,7 +169,7 @@ impl Gathering {
 fn next_call(sequence: &mut Sequence, alloc: Global) -> Result<(u8, Call), Refusal> {
     let key = u64::from(sequence.below(KEYS));
     let other = u64::from(sequence.below(KEYS));
-    Ok(match sequence.below(15) {
+    Ok(match sequence.below(18) {
         0..=1 => (0, Call::SetAdd(key)),
         2 => (0, Call::SetRemove(key)),
         3..=4 => (
@@ -182,6 +183,9 @@ fn next_call(sequence: &mut Sequence, alloc: Global) -> Result<(u8, Call), Refus
         10 => (4, Call::Draw),
         11 => (4, Call::Release(key)),
         12 => (5, Call::Fill(key)),
+        13 => (0, Call::Pick),
+        14 => (6, Call::QuotaFill(key, other)),
+        15 => (6, Call::QuotaSpend(key, other)),
         _ => (5, Call::Spend(other)),
     })
 }

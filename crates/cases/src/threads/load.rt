@@ -90,7 +90,7 @@ fn look<R: Threads + Wait + Clock + AllocGlobal + Sync>(
     Ok(())
 }
 
-/// Serves eight clients at once, each of which runs transactions on collections of all six kinds,
+/// Serves eight clients at once, each of which runs transactions on collections of all seven kinds,
 /// gives some of them up, and tries those again that meet a lock of another one. Then the committed
 /// transactions are run once more, whole, in the order of their places, on a plain store of one
 /// thread: each call must get the reply there that its client got. Last the file is opened again,

@@ -1,4 +1,4 @@
--- The laws of one content, from those of the six kinds.
+-- The laws of one content, from those of the seven kinds.
 use Rattle.std.proofs.Common.{◌≡◌, Option, Some, None, MatchOption, refl, ◌∙◌, ap, ℕ, ◌+◌, ◌⊎◌, sym}
 use Rattle.std.proofs.Common.{subst, arith}
 use Rattle.calls.specs.declared.kind.Kind.{Kind}
@@ -13,8 +13,9 @@ use Rattle.calls.specs.Pools as pools
 use Rattle.calls.specs.Queues as queues
 use Rattle.calls.specs.Sets as sets
 use Rattle.calls.specs.Stocks as stocks
+use Rattle.calls.specs.Quotas as quotas
 use Rattle.calls.specs.Contents.{Content, InSet, InMap, InQueue, InCounter, InPool, InStock}
-use Rattle.calls.specs.Contents.{empty, Answers, after, kind_of_content}
+use Rattle.calls.specs.Contents.{InQuotas, empty, Answers, after, kind_of_content}
 use Rattle.calls.proofs.SetLaws.{set_back, set_back_only, set_reads}
 use Rattle.calls.proofs.MapLaws.{map_back, map_back_only, map_reads}
 use Rattle.calls.proofs.QueueLaws.{queue_back, queue_back_only, queue_reads}
@@ -22,6 +23,8 @@ use Rattle.calls.proofs.CounterLaws.{counter_back, counter_back_only, counter_wi
 use Rattle.calls.proofs.CounterLaws.{counter_reads}
 use Rattle.calls.proofs.PoolLaws.{pool_back, pool_back_only, pool_reads}
 use Rattle.calls.proofs.StockLaws.{stock_back, stock_back_only, stock_within, stock_reads}
+use Rattle.calls.proofs.QuotaLaws.{quota_back, quota_back_only, quota_within, none_within}
+use Rattle.calls.proofs.QuotaLaws.{quota_reads}
 use Rattle.std.proofs.lemmas.Int.{ints}
 use Rattle.std.specs.List.{AllByRecursion}
 use Rattle.calls.proofs.KindLaws.{set_answered, map_answered, queue_answered, counter_answered}
@@ -31,7 +34,8 @@ use Rattle.calls.proofs.KindLaws.{queue_deferred, counter_deferred, pool_deferre
 use Rattle.calls.proofs.KindLaws.{pool_deferred_stays, pool_past_call, pool_past_later}
 use Rattle.calls.proofs.KindLaws.{pool_past_undoing, set_leaves, map_leaves, queue_leaves}
 use Rattle.calls.proofs.KindLaws.{counter_leaves, pool_leaves, stock_answered, stock_same}
-use Rattle.calls.proofs.KindLaws.{stock_deferred, stock_leaves}
+use Rattle.calls.proofs.KindLaws.{stock_deferred, stock_leaves, quota_answered, quota_same}
+use Rattle.calls.proofs.KindLaws.{quota_deferred, quota_leaves}
 use Rattle.boosted.specs.Kinds.{IsOf}
 use Rattle.catalog.specs.Places.{Reaches}
 
@@ -44,6 +48,7 @@ part_answered (InQueue s) c r h = queue_answered s c r h
 part_answered (InCounter s) c r h = counter_answered s c r h
 part_answered (InPool s) c r h = pool_answered s c r h
 part_answered (InStock s) c r h = stock_answered s c r h
+part_answered (InQuotas s) c r h = quota_answered s c r h
 
 -- A call that only reads changes nothing.
 pub part_reads : (s : Content) (c : Call) (r : Reply) → (need_of c r).mode ≡ Mode.Read →
@@ -54,11 +59,13 @@ part_reads (InQueue s) c r m h = ap InQueue (queue_reads s c r m h)
 part_reads (InCounter s) c r m h = ap InCounter (counter_reads s c r m h)
 part_reads (InPool s) c r m h = ap InPool (pool_reads s c r m h)
 part_reads (InStock s) c r m h = ap InStock (stock_reads s c r m h)
+part_reads (InQuotas s) c r m h = ap InQuotas (quota_reads s c r m h)
 
 -- What is within n is within n + 1, and a run leads no further.
 pub part_rests : (s : Content) (n : ℕ) → Reaches s n → Reaches s (n + 1)
 part_rests (InCounter v) n w = record { low = omega (arith, ints); high = omega (arith, ints) }
 part_rests (InStock v) n w = omega arith
+part_rests (InQuotas q) n w = λ k. let old = w k in omega arith
 part_rests s n w = tt
 
 pub part_wears : (s : Content) (n : ℕ) (c : Call) (r : Reply) → Reaches s n → Answers s c r →
@@ -69,6 +76,7 @@ part_wears (InQueue s) n c r w h = tt
 part_wears (InCounter s) n c r w h = counter_within s n c r w h
 part_wears (InPool s) n c r w h = tt
 part_wears (InStock s) n c r w h = stock_within s n c r w h
+part_wears (InQuotas s) n c r w h = quota_within s n c r w h
 
 -- What can be put off is Done at once, and after every run.
 pub part_deferred : (s : Content) (d : Call) → IsOf (kind_of_content s) d → Deferrable d →
@@ -79,6 +87,7 @@ part_deferred (InQueue s) d k l = queue_deferred s d k l
 part_deferred (InCounter s) d k l = counter_deferred s d k l
 part_deferred (InPool s) d k l = pool_deferred s d k l
 part_deferred (InStock s) d k l = stock_deferred s d k l
+part_deferred (InQuotas s) d k l = quota_deferred s d k l
 
 pub part_deferred_stays : (s : Content) (c : Call) (r : Reply) (d : Call) → Deferrable d →
     Answers s d Reply.Done → Answers (after s c r) d Reply.Done
@@ -93,6 +102,8 @@ part_deferred_stays (InCounter s) c r d l h =
 part_deferred_stays (InPool s) c r d l h = pool_deferred_stays s (pools.after s c r) d l h
 part_deferred_stays (InStock s) c r d l h =
     stock_same s (stocks.after s c r) d (deferrable_disposable d l) h
+part_deferred_stays (InQuotas s) c r d l h =
+    quota_same s (quotas.after s c r) d (deferrable_disposable d l) h
 
 -- What a call leaves is Done right after it.
 pub part_leaves : (s : Content) (c : Call) (r : Reply) → Answers s c r →
@@ -103,6 +114,7 @@ part_leaves (InQueue s) c r h = queue_leaves s c r h
 part_leaves (InCounter s) c r h = counter_leaves s c r h
 part_leaves (InPool s) c r h = pool_leaves s c r h
 part_leaves (InStock s) c r h = stock_leaves s c r h
+part_leaves (InQuotas s) c r h = quota_leaves s c r h
 
 -- A later stays Done past every call that a client can ask,
 pub part_past_call : (s : Content) (c : Call) (r : Reply) (d : Call) → Askable c → Disposable d →
@@ -113,6 +125,7 @@ part_past_call (InQueue s) c r d ask l h t = queue_same s (queues.after s c r) d
 part_past_call (InCounter s) c r d ask l h t = counter_same s (counters.after s c r) d l t
 part_past_call (InPool s) c r d ask l h t = pool_past_call s c r d ask l h t
 part_past_call (InStock s) c r d ask l h t = stock_same s (stocks.after s c r) d l t
+part_past_call (InQuotas s) c r d ask l h t = quota_same s (quotas.after s c r) d l t
 
 -- past every later that is another one, or apart from it,
 pub part_past_later : (s : Content) (b d : Call) → Disposable b → Disposable d →
@@ -125,6 +138,8 @@ part_past_later (InCounter s) b d m l other h t =
     counter_same s (counters.after s b Reply.Done) d l t
 part_past_later (InPool s) b d m l other h t = pool_past_later s b d m l other h t
 part_past_later (InStock s) b d m l other h t = stock_same s (stocks.after s b Reply.Done) d l t
+part_past_later (InQuotas s) b d m l other h t =
+    quota_same s (quotas.after s b Reply.Done) d l t
 
 -- and past the inverse of every call that is apart from it.
 pub part_past_inverse : (s : Content) (c : Call) (r : Reply) (back : Call) (q : Reply) (d : Call) →
@@ -138,6 +153,8 @@ part_past_inverse (InCounter s) c r back q d e l apart h t =
     counter_same s (counters.after s back q) d l t
 part_past_inverse (InStock s) c r back q d e l apart h t =
     stock_same s (stocks.after s back q) d l t
+part_past_inverse (InQuotas s) c r back q d e l apart h t =
+    quota_same s (quotas.after s back q) d l t
 part_past_inverse (InPool s) c r back q d e l apart h t =
     pool_past_undoing s (pools.after s back q) c r d l apart
     (subst (λ (o : Option Call). MatchOption o (pools.after s back q ≡ s)
@@ -210,6 +227,11 @@ part_back (InStock s) c r k h =
       stock_back s (stocks.after s c r) c r k (h, refl),
       λ u. stock_back_only s (stocks.after s c r) u c r k (h, refl),
     )
+part_back (InQuotas s) c r k h =
+    whole_back InQuotas quotas.Answers quotas.after (inverse_of c r) (quotas.after s c r) s (
+      quota_back s (quotas.after s c r) c r k (h, refl),
+      λ u. quota_back_only s (quotas.after s c r) u c r k (h, refl),
+    )
 
 -- An empty collection is within every number.
 pub empty_within : (kind : Kind) (n : ℕ) → Reaches (empty kind) n
@@ -219,6 +241,7 @@ empty_within Kind.Map n = tt
 empty_within Kind.Queue n = tt
 empty_within Kind.Pool n = tt
 empty_within Kind.Stock n = omega arith
+empty_within Kind.Quotas n = none_within n
 
 -- A run leaves the kind.
 pub kind_after : (k : Content) (c : Call) (r : Reply) →
@@ -229,3 +252,4 @@ kind_after (InQueue q) c r = refl
 kind_after (InCounter n) c r = refl
 kind_after (InPool s) c r = refl
 kind_after (InStock s) c r = refl
+kind_after (InQuotas s) c r = refl

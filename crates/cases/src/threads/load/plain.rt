@@ -3,7 +3,7 @@ use calls::{Bytes, Call, Refusal, Reply};
 use std::alloc::Global;
 use std::collections::{BTreeMap, BTreeSet};
 
-/// A store of one thread: a set, a map, a queue, a counter, a pool and a stock.
+/// A store of one thread: a set, a map, a queue, a counter, a pool, a stock and quotas.
 #[derive(Drop)]
 pub struct Plain {
     set: BTreeSet<u64>,
@@ -12,6 +12,7 @@ pub struct Plain {
     counter: i128,
     taken: BTreeSet<u64>,
     stock: u64,
+    quotas: BTreeMap<u64, u64>,
 }
 
 impl Plain {
@@ -24,6 +25,7 @@ impl Plain {
             counter: 0,
             taken: BTreeSet::new(alloc),
             stock: 0,
+            quotas: BTreeMap::new(alloc),
         }
     }
 
@@ -61,6 +63,11 @@ impl Plain {
             Call::Contains(key) => Ok(is_yes(reply, self.set.contains(key))),
             Call::SetAdd(key) => Ok(is_yes(reply, self.set.insert(*key)?)),
             Call::SetRemove(key) => Ok(is_yes(reply, self.set.remove(key))),
+            Call::Pick => Ok(match reply {
+                Reply::Id(key) => self.set.remove(key),
+                Reply::Nothing => self.set.is_empty(),
+                _ => false,
+            }),
             Call::Get(_) | Call::Put(_, _) | Call::MapRemove(_) | Call::Ceiling(_) => {
                 self.answers_of_map(call, reply)
             }
@@ -80,6 +87,9 @@ impl Plain {
                 _ => false,
             }),
             Call::Spend(_) | Call::Level | Call::Fill(_) => Ok(self.answers_of_stock(call, reply)),
+            Call::QuotaSpend(_, _) | Call::QuotaLevel(_) | Call::QuotaFill(_, _) => {
+                self.answers_of_quotas(call, reply)
+            }
             _ => Ok(false),
         }
     }
@@ -98,6 +108,33 @@ impl Plain {
             }
             _ => matches!(reply, Reply::Done),
         }
+    }
+
+    fn answers_of_quotas(&mut self, call: &Call, reply: &Reply) -> Result<bool, Refusal> {
+        match call {
+            Call::QuotaSpend(key, amount) => match self.level(*key).checked_sub(*amount) {
+                Some(left) => {
+                    self.quotas.insert(*key, left)?;
+                    Ok(is_yes(reply, true))
+                }
+                None => Ok(is_yes(reply, false)),
+            },
+            Call::QuotaLevel(key) => {
+                let level = i128::from(self.level(*key));
+                Ok(matches!(reply, Reply::Total(total) if *total == level))
+            }
+            Call::QuotaFill(key, amount) => {
+                let level = self.level(*key).wrapping_add(*amount);
+                self.quotas.insert(*key, level)?;
+                Ok(matches!(reply, Reply::Done))
+            }
+            _ => Ok(false),
+        }
+    }
+
+    // The amount of the quota at the key.
+    fn level(&self, key: u64) -> u64 {
+        self.quotas.get(&key).copied().unwrap_or(0)
     }
 
     fn answers_of_map(&mut self, call: &Call, reply: &Reply) -> Result<bool, Refusal> {

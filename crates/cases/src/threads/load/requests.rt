@@ -31,6 +31,7 @@ pub fn all_calls(alloc: Global) -> Result<Vec<Asked>, AllocError> {
         calls.push(call_on("set", Call::Contains(key)))?;
         calls.push(call_on("map", Call::Get(key)))?;
         calls.push(call_on("pool", Call::Release(key)))?;
+        calls.push(call_on("quotas", Call::QuotaLevel(key)))?;
     }
     calls.push(call_on("counter", Call::Read))?;
     calls.push(call_on("stock", Call::Level))?;
@@ -47,10 +48,14 @@ fn call_on(name: &'static str, call: Call) -> Asked {
 // Any call.
 fn any_call(alloc: Global, numbers: &mut Pcg32) -> Result<Asked, AllocError> {
     let key = u64::from(numbers.next_word()) % KEYS;
-    Ok(match numbers.next_word() % 19 {
+    Ok(match numbers.next_word() % 23 {
         0 => call_on("set", Call::Contains(key)),
         1 => call_on("set", Call::SetAdd(key)),
         2 => call_on("set", Call::SetRemove(key)),
+        18 => call_on("set", Call::Pick),
+        19 => call_on("quotas", Call::QuotaFill(key, 9)),
+        20 => call_on("quotas", Call::QuotaSpend(key, 4)),
+        21 => call_on("quotas", Call::QuotaLevel(key)),
         3 => call_on("map", Call::Get(key)),
         4 | 5 => call_on("map", Call::Put(key, one_byte(alloc, numbers)?)),
         6 => call_on("map", Call::MapRemove(key)),

@@ -80,6 +80,7 @@ impl Work for Making {
         client.make(rt, "counter", Kind::Counter)?;
         client.make(rt, "pool", Kind::Pool)?;
         client.make(rt, "stock", Kind::Stock)?;
+        client.make(rt, "quotas", Kind::Quotas)?;
         Ok(Vec::new(rt.alloc()))
     }
 }

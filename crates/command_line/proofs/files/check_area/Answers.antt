@@ -1,4 +1,4 @@
-use Rattle.std.proofs.Common.{ℕ, ◌≤◌, rules, arith}
+use Rattle.std.proofs.Common.{◌≤◌, rules, arith}
 use Rattle.calls.specs.Formats.{max_area, widest}
 use Rattle.calls.specs.declared.format.Format.{Format}
 use Rattle.command_line.proofs.files.check_area.Goals as goal

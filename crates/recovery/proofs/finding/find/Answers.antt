@@ -1,6 +1,6 @@
 use Rattle.std.proofs.Common.{◌∙◌, length, arith, ap, subst, sym}
 use Rattle.std.proofs.lemmas.Result.{err_from_is_err_and}
-use Rattle.gate_block.specs.Area.{base_of, size_of, position_of}
+use Rattle.gate_block.specs.Area.{size_of, position_of}
 use Rattle.disk_model.specs.Disk.{Rises}
 use Rattle.recovery.specs.Openings.{IsLoadRefusal}
 use Rattle.repetition.specs.Journals.{IsHeader}

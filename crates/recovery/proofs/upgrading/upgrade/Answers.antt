@@ -1,6 +1,7 @@
 use Rattle.std.proofs.Common.{inr}
 use Rattle.undoing.proofs.Walks.{rises_before}
 use Rattle.recovery.proofs.UpgradeLemmas.{ok_two, err_two, both_err, kept_then, upgrade_refusal}
+use Rattle.recovery.specs.Openings.{book_of}
 use Rattle.recovery.proofs.upgrading.upgrade.Goals as goal
 
 pub returns-in-Ok-clause-upgraded : goal.returns-in-Ok-clause-upgraded
@@ -17,6 +18,18 @@ returns-in-Ok-clause-durable g c =
     c.upgrade_settled.ensures.honest
     (λ new durable honest true_read rest. durable
     (c.in-Ok.ensures.durable (honest true_read) rest))
+
+pub returns-in-Ok-clause-only_opened : goal.returns-in-Ok-clause-only_opened
+returns-in-Ok-clause-only_opened g c =
+    ok_two c.upgrade_settled.result _ _ _ c.upgrade_settled.ensures.no_more
+    c.upgrade_settled.ensures.honest
+    (λ new no_more honest true_read. record {
+      book = book_of c.in-Ok.settled.machine c.in-Ok.settled.next;
+      area = c.in-Ok.settled.area;
+      between = g.D.Disk.seen c.settle.new.disk;
+      opened = c.in-Ok.ensures.opened (honest true_read);
+      no_more = no_more;
+    })
 
 pub returns-in-Ok-clause-kept : goal.returns-in-Ok-clause-kept
 returns-in-Ok-clause-kept g c =

@@ -15,3 +15,9 @@ returns-in-SetRemove-Yes-clause-ok c =
     rw (c.in-SetRemove-Yes.is-0, c.in-SetRemove-Yes.is-1)
     (set_of-remove _ _ _ c.remove.ensures.updates
     ∙ ap (λ s. set.remove s c.in-SetRemove-Yes.element) c.self.view_is)
+
+pub returns-in-Pick-Id-clause-ok : goal.returns-in-Pick-Id-clause-ok
+returns-in-Pick-Id-clause-ok c =
+    rw (c.in-Pick-Id.is-0, c.in-Pick-Id.is-1)
+    (set_of-remove _ _ _ c.remove-in-Pick-Id.ensures.updates
+    ∙ ap (λ s. set.remove s c.in-Pick-Id.element) c.self.view_is)

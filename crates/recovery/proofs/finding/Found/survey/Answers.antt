@@ -4,6 +4,7 @@ use Rattle.recovery.proofs.finding.Found.survey.Goals as goal
 
 pub returns-clause-survey : goal.returns-clause-survey
 returns-clause-survey c = record {
+  format = c.format.ensures;
   area_is = c.size-size.ensures;
   first = search rules;
   used = omega (arith, c.size-size.ensures, c.room.ensures);
