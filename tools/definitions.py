@@ -62,6 +62,13 @@ def blocks_of(text):
     return re.split(r'\n+(?=@?[@=*] |[+~-] \w)|(?<=\n)\n(?=\S)', text)
 
 
+def filled(code):
+    """A record in lines of the page's width: each field, and what stands before them, in as few lines as it takes."""
+    fields = re.split(r'\n  (?=pub )', code)
+    return '\n'.join(textwrap.fill(re.sub(r'\s+', ' ', text), WIDTH, initial_indent='  ' if at else '', subsequent_indent='      ',
+                                   break_long_words=False, break_on_hyphens=False) for at, text in enumerate(fields))
+
+
 def shown(block, path, names, gone, is_short):
     """An entry as the page has it."""
     mark, words, sentence = ENTRY.fullmatch(block).groups()
@@ -73,6 +80,7 @@ def shown(block, path, names, gone, is_short):
     code = '\n\n'.join(names.get(word, '') for word in words)
     sentence = re.sub(r'\n  ', '\n', sentence)
     if is_short:
+        code = '\n\n'.join(filled(names.get(word, '')) for word in words)
         return f'**{title}** ({path}): {sentence}\n\n```\n{code}\n```'
     return f'**{title}**\n\n```\n{code}\n```\n\n{sentence}'
 
