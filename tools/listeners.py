@@ -504,6 +504,64 @@ def killed_servers():
     return f'{told_in_all} transactions told, each there'
 
 
+TELLS_STATUS = '''
+#include <stdio.h>
+#include "boost.h"
+int main(int count, char **words)
+{
+    struct boost *store = count == 2 ? boost_join(words[1]) : NULL;
+    const char *answer = store == NULL ? NULL : boost_ask(store, "status");
+    if (answer == NULL)
+        return 1;
+    printf("%lld %lld %lld\\n", boost_number(answer, "live"), boost_number(answer, "collection map m"), boost_number(answer, "map"));
+    return boost_close(store);
+}
+'''
+
+
+def stat(disk):
+    """What `boost stat` tells, in the words of `status`."""
+    parts = [line.split() for line in run('stat', disk).splitlines()]
+    numbers = {words[0]: int(words[1]) for words in parts if words[0] in boost.Status._fields}
+    collections = [boost.Collection(words[1], words[2], int(words[3])) for words in parts if words[0] == 'collection']
+    return boost.Status(live=0, waiting=0, collections=collections, **numbers)
+
+
+def how_the_store_stands():
+    """`status` is answered while another client holds a transaction open, also to that one, and tells right behind a reopening
+    what `boost stat` tells. What is in use grows as commits are kept."""
+    place = Place()
+    place.serve()
+    with boost.join(place.door) as store, boost.join(place.door) as other:
+        for kind, name in (('counter', 'hits'), ('map', 'm'), ('queue', 'jobs')):
+            store.make(kind, name)
+        begun = store.status()
+        assert (begun.live, begun.wear, [each.items for each in begun.collections]) == (0, 0, [1, 0, 0]), begun
+        with other.transaction(keep=False) as t:
+            t.call('m', 'put', 1, b'held')
+            t.call('jobs', 'add', 1, 1)
+            store.do(('hits', 'bump', 1), keep=True)
+            for status in (store.status(), other.status()):
+                assert (status.live, status.next, [each.items for each in status.collections]) == (1, 3, [1, 1, 1]), status
+            c_program = os.path.join(place.room.name, 'tells_status')
+            subprocess.run(['cc', '-x', 'c', '-o', c_program, '-I', os.path.join(TOP, 'clients/c'), '-',
+                            os.path.join(TOP, 'clients/c/boost.c')], input=TELLS_STATUS, text=True, check=True)
+            assert said(c_program, place.door) == '1 1 -1\n'
+            t.call('jobs', 'take')
+        other.wait()
+        time.sleep(1)                              # the committer looks once more, and sleeps
+        kept = store.status()
+        assert (kept.live, kept.waiting, [each.items for each in kept.collections]) == (0, 0, [1, 1, 0]), kept
+        assert kept.used > begun.used
+    place.end()
+    assert kept == stat(place.disk), (kept, stat(place.disk))
+    place.serve()
+    with boost.join(place.door) as store:
+        assert store.status() == kept, (store.status(), kept)
+    place.end()
+    return '7 answers'
+
+
 def deaf_parent():
     """A parent that closes the answers, and one that does not read them until it has written all, end the server."""
     place = Place()
@@ -636,11 +694,46 @@ def the_examples_in_c():
     return '3 examples'
 
 
+LONG_VALUE = """
+#include "boost.h"
+#include <stdio.h>
+#include <string.h>
+int main(int count, char **words)
+{
+    char text[2 * BOOST_VALUE + 1], value[BOOST_VALUE], back[BOOST_VALUE];
+    struct boost *store = boost_start(words[count - 2], words[count - 1]);
+    memset(value, 7, sizeof value);
+    boost_ask(store, "make map m");
+    boost_ask(store, "do m put 1 %s", boost_hex(text, value, BOOST_VALUE));
+    const char *answer = boost_ask(store, "do m get 1");
+    strcpy(text, answer + strlen("value "));
+    *strchr(text, ';') = '\\0';
+    int size = boost_unhex(back, text);
+    printf("%d %d\\n", size, memcmp(value, back, sizeof value));
+    return boost_close(store);
+}
+"""
+
+
+def a_long_value_in_c():
+    """A value of 1,024 bytes comes back through the client in C as it was put, of a store in format 2."""
+    place = Place()
+    run('format', place.disk, '--area', str(AREA), '--format', '2')
+    source, built = (os.path.join(place.room.name, name) for name in ('long.c', 'long'))
+    with open(source, 'w', encoding='utf-8') as file:
+        file.write(LONG_VALUE)
+    folder = os.path.join(TOP, 'clients/c')
+    said('cc', '-Wall', '-Wextra', '-Werror', '-I', folder, '-o', built, source, os.path.join(folder, 'boost.c'))
+    assert said(built, PROGRAM, place.disk) == '1024 0\n'
+    return '1,024 bytes'
+
+
 def main():
     for check in (the_docs_of_the_client, threads_of_one_program, programs_that_come_and_go, killed_in_a_transaction,
                   killed_in_a_line, goodbye_behind_lines, hostile_at_the_door, deaf_at_the_door, passed_over, idle_over_input,
-                  idle_at_the_door, slow_lines, woken_as_lines_come, a_crowd, ended_with_clients, killed_servers, deaf_parent,
-                  keeping_fails, a_shell, the_examples_in_python, the_examples_in_c):
+                  idle_at_the_door, slow_lines, woken_as_lines_come, a_crowd, ended_with_clients, killed_servers,
+                  how_the_store_stands, deaf_parent, keeping_fails, a_shell, the_examples_in_python, the_examples_in_c,
+                  a_long_value_in_c):
         if not sys.argv[3:] or check.__name__ in sys.argv[3:]:
             print(f'{check.__name__}: {check()}', flush=True)
 

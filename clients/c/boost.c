@@ -91,6 +91,19 @@ int boost_passes(int refusal)
     return refusal == BUSY || refusal == TOO_MANY_LIVE || refusal == BACKLOG;
 }
 
+long long boost_number(const char *answer, const char *words)
+{
+    size_t size = strlen(words);
+    for (const char *part = answer; part != NULL;) {
+        if (strncmp(part, words, size) == 0 && part[size] == ' ')
+            return atoll(part + size + 1);
+        part = strstr(part, "; ");
+        if (part != NULL)
+            part += 2;
+    }
+    return -1;
+}
+
 static double now(void)
 {
     struct timespec time;
@@ -130,7 +143,7 @@ int boost_unhex(void *value, const char *text)
     int size = 0;
     if (strcmp(text, "-") == 0)
         return 0;
-    for (; text[0] != '\0' && size < 256; text += 2, size++) {
+    for (; text[0] != '\0' && size < BOOST_VALUE; text += 2, size++) {
         int read = 0;
         unsigned int byte;
         if (sscanf(text, "%2x%n", &byte, &read) != 1 || read != 2)

@@ -38,8 +38,15 @@ int boost_refusal(const char *answer);
 /* Whether the refusal passes by itself: another transaction is in the way, too many are live, or too many records wait. */
 int boost_passes(int refusal);
 
+/* The number that stands behind these words in an answer to the line `status`, as "used" or "collection counter hits"; -1 where they
+ * do not stand in it. */
+long long boost_number(const char *answer, const char *words);
+
+/* The most bytes of a value, which a store in format 2 has; one in format 1 has values to 256 bytes. */
+enum { BOOST_VALUE = 1024 };
+
 /* The bytes of a value as the words of a line, two digits for each and `-` for none; and back, which gives how many there are, or
- * -1 where the text is none. `text` has room for 513 bytes, `value` for 256. */
+ * -1 where the text is none. `text` has room for 2 * BOOST_VALUE + 1 bytes, `value` for BOOST_VALUE. */
 char *boost_hex(char *text, const void *value, int size);
 int boost_unhex(void *value, const char *text);
 

@@ -16,6 +16,14 @@ A function of a transaction is run again while another transaction is in its way
     >>> store.keep(lambda t: t.call('jobs', 'add', 3, 17))
     >>> store.keep(lambda t: t.call('jobs', 'take'))
     (3, 17)
+
+How the store stands is told at once, whoever has a transaction open:
+
+    >>> status = store.status()
+    >>> status.live, status.used < status.area
+    (0, True)
+    >>> [(each.kind, each.name, each.items) for each in status.collections]
+    [('counter', 'hits', 1), ('queue', 'jobs', 0)]
     >>> store.close()
     0
 
@@ -38,10 +46,10 @@ import select
 import subprocess
 import threading
 import time
-from typing import Any, Callable, Iterator, List, Optional, Tuple, TypeVar, Union
+from typing import Any, Callable, Dict, Iterator, List, NamedTuple, Optional, Tuple, TypeVar, Union
 
-__all__ = ['start', 'join', 'Store', 'Session', 'Transaction', 'Refused', 'Busy', 'Lost', 'Misunderstood', 'Idle', 'Gone',
-           'NotServed']
+__all__ = ['start', 'join', 'Store', 'Session', 'Transaction', 'Status', 'Collection', 'Refused', 'Busy', 'Lost',
+           'Misunderstood', 'Idle', 'Gone', 'NotServed']
 
 T = TypeVar('T')
 Argument = Union[int, str, bytes]
@@ -87,6 +95,26 @@ class NotServed(Exception):
     FIFOs. In that case its standard error says why."""
 
 
+class Collection(NamedTuple):
+    """A collection, and how many items it holds."""
+    kind: str
+    name: str
+    items: int
+
+
+class Status(NamedTuple):
+    """How a store stands, in the words of docs/LISTEN.md; the collections in the order of making."""
+    format: int
+    area: int
+    in_use: int
+    used: int
+    live: int
+    waiting: int
+    next: int
+    wear: int
+    collections: List[Collection]
+
+
 PASSING = {'Busy', 'TooManyLive', 'Backlog'}
 WORDS = {
     'yes': True, 'no': False, 'nothing': None, 'done': None, 'queued': True, 'absent': False,
@@ -95,8 +123,8 @@ WORDS = {
 
 
 def reply_of(line: str) -> Reply:
-    """An answer as a value: numbers, `bytes` for a value, a pair for an item, a key and `bytes` for an entry, and None for
-    `nothing` and `done`. Raises what an answer refuses."""
+    """An answer as a value: numbers, `bytes` for a value, a pair for an item, a key and `bytes` for an entry, a `Status`, and
+    None for `nothing` and `done`. Raises what an answer refuses."""
     word, _, rest = line.partition(' ')
     if word == 'refused':
         refused = Refused(line)
@@ -113,7 +141,21 @@ def reply_of(line: str) -> Reply:
     if word == 'entry':
         key, value = rest.split()
         return int(key), bytes_of(value)
+    if word == 'format':
+        return status_of(line)
     return int(rest)
+
+
+def status_of(line: str) -> Status:
+    numbers: Dict[str, int] = {}
+    collections: List[Collection] = []
+    for part in line.split('; '):
+        name, *words = part.split()
+        if name == 'collection':
+            collections.append(Collection(words[0], words[1], int(words[2])))
+        elif name in Status._fields:
+            numbers[name] = int(words[0])
+    return Status(collections=collections, **numbers)
 
 
 def bytes_of(text: str) -> bytes:
@@ -398,6 +440,10 @@ class Store:
     def wait(self) -> None:
         """Waits until what this thread last committed or made is kept."""
         self.session().line('wait')
+
+    def status(self) -> Status:
+        """How the store stands. It waits for no transaction and for nothing that is kept."""
+        return self.session().line('status')
 
     def close(self) -> int:
         """Lets the clients of all threads go, and ends a child: its status is the answer, and 0 that of a server that was

@@ -1,9 +1,10 @@
 -- Collections that are gathered while calls run on them.
-use Rattle.std.specs.Prelude.{ℕ, ◌≤◌, ◌^◌, List, length}
+use Rattle.std.specs.Prelude.{ℕ, ◌≤◌, List, length}
 use Rattle.std.specs.List.{AllByRecursion}
 use Rattle.calls.specs.declared.call.Call.{Call}
 use Rattle.calls.specs.Contents.{Collection}
 use Rattle.calls.specs.Formats.{widest}
+use Rattle.calls.specs.Limits.{number_end}
 use Rattle.calls.specs.Rules.{IsShort}
 use Rattle.boosted.specs.Meaning.{HasReply}
 use Rattle.catalog.specs.Meaning.{catalog_meaning}
@@ -30,7 +31,7 @@ pub record CanRun (xs : List Collection) (at : ℕ) (c : Call) : Type 0 where
 pub record Goes (xs : List Collection) (g : GatherState) (later : List Effect) (position : ℕ) :
     Type 0 where
   pub has_run : HasRun xs 7 position
-  pub unworn : position ≤ 2 ^ 61
+  pub unworn : position ≤ number_end
   pub follows : Follows g later xs
   pub came : CameBy g later position
   pub short_calls : AllByRecursion (λ e. IsShort widest e.call) later

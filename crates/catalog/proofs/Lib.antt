@@ -1,3 +1,6 @@
 pub mod Entries
+pub mod Places
+pub mod Whole
 pub mod Listings
 pub mod Orders
+pub mod Measuring

@@ -1,14 +1,15 @@
 -- The items of maps, quotas and queues, from their entries and pairs in order.
 use Rattle.std.proofs.Common.{◌≡◌, ℕ, suc, pos, Some, false, true≢false, cond, replicate, ◌+◌, List}
 use Rattle.std.proofs.Common.{[]}
-use Rattle.std.proofs.Common.{◌∷◌, ◌++◌, map, length, refl, sym, ◌∙◌, ap, subst, arith, Ordering}
+use Rattle.std.proofs.Common.{◌∷◌, ◌++◌, map, refl, sym, ◌∙◌, ap, subst, arith, Ordering}
 use Rattle.std.proofs.Common.{Less, Equal, Greater}
 use Rattle.std.specs.List.{AllByRecursion, flat_map}
 use Rattle.std.specs.List.Sorted.{IsStrictlySortedBy}
 use Rattle.std.specs.Map.{keys_of}
 use Rattle.std.specs.Ordering.{nat_cmp, is_lt, is_eq, ordering_reverse}
-use Rattle.std.specs.Cmp.{nat_cmp_total, tied_itself}
+use Rattle.std.specs.Cmp.{tied_itself}
 use Rattle.std.specs.FinMap.{find, get-entries, get-empty, entries, empty, from_entries, put}
+use Rattle.collections.proofs.Sizes.{no_length, entries-rising}
 use Rattle.std.specs.FinMap.{len-entries, len-empty, entries-insert}
 use Rattle.std.specs.FinMap.Entries.{by_order}
 use Rattle.calls.specs.declared.item.Item.{Item}
@@ -26,29 +27,6 @@ entry_item e = Item.Entry e.0 e.1
 -- An entry of quotas as an item.
 abbrev pub quota_item : ℕ × ℕ → Item
 quota_item e = Item.Amount e.0 (pos (suc e.1))
-
-no_length : {X : Type 0} (xs : List X) → length xs ≡ 0 → xs ≡ []
-no_length [] e = refl
-no_length (x ∷ xs) e = absurd (omega arith)
-
-module _ {X : Type 0} where
-  none_empty : entries (empty {X = X} {R = nat_cmp}) ≡ []
-  none_empty = no_length (entries empty) (sym (len-entries empty) ∙ len-empty nat_cmp X)
-
-  -- A key below all comes first.
-  put_first : (k : ℕ) (v : X) (es : List (ℕ × X)) →
-      AllByRecursion (λ y. nat_cmp k y ≡ Less) (keys_of es) → put nat_cmp k v es ≡ (k, v) ∷ es
-  put_first k v [] a = refl
-  put_first k v (e ∷ es) a = ap (λ o. by_order o ((k, v) ∷ e ∷ es) ((e.0, v) ∷ es)
-      (e ∷ put nat_cmp k v es)) a.0
-
-  -- Entries in the order of their keys are those of their map.
-  pub entries-rising : (es : List (ℕ × X)) → IsStrictlySortedBy nat_cmp (keys_of es) →
-      entries (from_entries {R = nat_cmp} es) ≡ es
-  unfolding IsStrictlySortedBy
-  entries-rising [] s = none_empty
-  entries-rising (e ∷ es) s = entries-insert nat_cmp_total (from_entries es) e.0 e.1 ∙
-      ap (put nat_cmp e.0 e.1) (entries-rising es s.1) ∙ put_first e.0 e.1 es s.0
 
 pub entry_items : (m : Table) (es : List (ℕ × List ℕ)) → IsStrictlySortedBy nat_cmp (keys_of es) →
     from_entries es ≡ m → map entry_item es ≡ map entry_item (entries m)

@@ -1,6 +1,6 @@
--- What a catalog holds: its code, what its entries stand for, what is shown of it, and how it is
+-- What a catalog holds: its code, the content of a holding, what is shown of it, and how it is
 -- filled.
-use Rattle.std.specs.Prelude.{◌≡◌, ℕ, ℤ, pos, List, ◌⊎◌, refl, map, string_bytes, ◌<◌, ◌≤◌, length}
+use Rattle.std.specs.Prelude.{◌≡◌, ℕ, ℤ, pos, List, ◌⊎◌, refl, map, ◌<◌, ◌≤◌, length}
 use Rattle.std.specs.Prelude.{[], ◌∷◌, ◌++◌}
 use Rattle.std.proofs.Common.{inl, inr}
 use Rattle.std.specs.Coded.{Coded, code_by, coded×, coded⊎, coded_ℕ, coded_ℤ, coded_list}
@@ -13,8 +13,6 @@ use Rattle.calls.specs.Contents.{Content, InSet, InMap, InQueue, InCounter, InPo
 use Rattle.calls.specs.Contents.{InQuotas, IsPositive}
 use Rattle.calls.specs.Contents.{Collection, IsItemOf, items_of, kind_of_content}
 use Rattle.std.specs.List.{AllByRecursion}
-use Rattle.std.specs.declared.string.String.{String}
-use Rattle.std.specs.declared.alloc.Global.{Global}
 use Rattle.calls.specs.Names.{IsName}
 use Rattle.catalog.specs.declared.holding.Holding.{Holding}
 use Rattle.std.specs.FinSet.{from_list}
@@ -23,6 +21,8 @@ use Rattle.std.specs.Ordering.{nat_cmp}
 use Rattle.calls.specs.declared.item.Item.{Item}
 use Rattle.calls.specs.declared.refusal.Refusal.{Refusal}
 use Rattle.catalog.specs.declared.shown.Shown.{Shown}
+use Rattle.catalog.specs.declared.measured.Measured.{Measured}
+use Rattle.collections.specs.Items.{IsSizeOf}
 use Rattle.calls.specs.declared.kind.Kind.{Kind}
 use Rattle.calls.specs.Bags as bags
 use Rattle.calls.specs.Quotas as quotas
@@ -58,7 +58,8 @@ shape_gives (InPool s) = refl
 shape_gives (InStock n) = refl
 shape_gives (InQuotas q) = refl
 
-abbrev content_code : Coded Content
+-- the code of a content
+abbrev pub content_code : Coded Content
 content_code =
     code_by Shape (coded⊎ (sets.code coded_ℕ)
     (coded⊎ (maps.code coded_ℕ (coded_list coded_ℕ))
@@ -85,10 +86,6 @@ content_of (Holding.Counter n) = InCounter n
 content_of (Holding.Pool s) = InPool s
 content_of (Holding.Stock n) = InStock n
 content_of (Holding.Quotas q) = InQuotas q
-
--- The collections that the entries stand for, in their order.
-abbrev pub collections_of : List (String Global × Holding) → List Collection
-collections_of = map (λ e. record { name = string_bytes e.0; content = content_of e.1 })
 
 -- Each collection has a good name.
 abbrev pub AreNamed : List Collection → Type 0
@@ -117,6 +114,21 @@ pub record Shows (x : Collection) (shown : Shown) : Type 0 where
   pub named : shown.name ≡ x.name
   pub of_kind : shown.kind ≡ kind_of_content x.content
   pub holds : ListsContent shown.items.items x.content
+
+-- The content has so many items.
+abbrev pub HasItems : ℕ → Content → Type 0
+HasItems n (InSet s) = n ≡ sets.len s
+HasItems n (InMap m) = n ≡ maps.len m
+HasItems n (InQueue q) = IsSizeOf n q
+HasItems n (InPool s) = n ≡ sets.len s
+HasItems n (InQuotas q) = n ≡ maps.len q
+HasItems n c = n ≡ 1
+
+-- The name, the kind and the number of items of the collection are told.
+pub record Measures (x : Collection) (measured : Measured) : Type 0 where
+  pub named : measured.name ≡ x.name
+  pub of_kind : measured.kind ≡ kind_of_content x.content
+  pub counts : HasItems measured.items x.content
 
 -- A showing is refused so.
 abbrev pub ShowRefused : List Collection → ℕ → Refusal → Type 0

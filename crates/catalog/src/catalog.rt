@@ -1,58 +1,57 @@
 // Named collections, in the order of making.
 ghost use Rattle.std.specs.Prelude.{◌≡◌, ◌≤◌, [], ◌∷◌, ◌++◌, false, IsTrue, length};
-ghost use Rattle.std.specs.Prelude.{IfOk, IsOk, IfErr, OnOk, OnErr, IsOkUnless};
-ghost use Rattle.std.specs.Option.{option_map};
-ghost use Rattle.calls.specs.Contents.{AnswersAt, after_at};
-ghost use Rattle.calls.specs.Rules.{TakesNoMemory};
+ghost use Rattle.std.specs.Prelude.{IfOk, IfErr, OnOk, OnErr, IsOkUnless};
+ghost use Rattle.std.specs.List.{AllZip};
 ghost use Rattle.calls.specs.Limits.{max_collections};
-ghost use Rattle.boosted.specs.Meaning.{HasRoom};
 ghost use Rattle.catalog.specs.Holdings.{content_of, Shows, ShowRefused, AreItems, Loads};
-ghost use Rattle.catalog.specs.Holdings.{LoadRefused};
-ghost use Rattle.catalog.specs.Places.{At, content_at};
+ghost use Rattle.catalog.specs.Holdings.{LoadRefused, Measures};
+ghost use Rattle.catalog.specs.Places.{At};
 ghost use Rattle.catalog.specs.Making.{names_of, AreDistinct, IsNew};
 ghost use Rattle.catalog.specs.Meaning.{catalog_meaning, catalog_making};
-ghost use Rattle.catalog.specs.Laws.Catalogs.{making_laws};
+ghost use Rattle.catalog.specs.Woven.{woven, Fits};
+ghost use Rattle.catalog.specs.Laws.Catalogs.{catalog_laws, making_laws};
+ghost use Rattle.catalog.specs.Laws.Shelves.{catalog_shelves};
 
 use crate::holding::are_items;
-use crate::shown::shown_of;
-use crate::{Holding, NamedHolding, Parts, Shown};
-use calls::limits::MAX_COLLECTIONS;
-use calls::{Call, Item, Kind, Name, Refusal, Reply, check_name};
-use indexmap::IndexMap;
+use crate::{
+    CatalogShelf, Four, Holding, Measured, Named, NamedHolding, Names, Parts, Shelved, Shown,
+};
+use boosted::Boosted;
+use calls::{Call, Item, Kind, Refusal, Reply};
 use std::alloc::Global;
 use std::marker::Model;
 
 /// Named collections, at most 256, in the order of making: the place of a collection is its number.
-/// Contracts see the list of them, each with its name and what it holds.
+/// Contracts see the list of them, each with its name and what it holds. It can be taken apart into
+/// the names and four shelves: the collection of number n is on shelf n % 4, at place n / 4.
 pub struct Catalog {
-    collections: IndexMap<String, Holding>,
+    names: Names,
+    shelves: Four<CatalogShelf>,
 }
 
 // Written out, so that the crates above call it in place of proving it again.
 impl Drop for Catalog {
     fn drop(self) {
-        let Self { collections } = self;
-        drop(collections);
+        let Self { names, shelves } = self;
+        drop(names);
+        drop(shelves);
     }
 }
 
 impl Model for Catalog {
-    ghost use Rattle.std.specs.Prelude.{List, ◌≤◌};
-    ghost use Rattle.indexmap.specs.IndexMap.{index_map_len};
+    ghost use Rattle.std.specs.Prelude.{List};
     ghost use Rattle.calls.specs.Contents.{Collection};
-    ghost use Rattle.calls.specs.Limits.{max_collections};
     ghost use Rattle.catalog.specs.Holdings.{catalog_code};
 
     ghost Value = { List Collection };
 
     ghost coded = { catalog_code };
 
-    ghost use Rattle.catalog.specs.Holdings.{collections_of, AreNamed};
+    ghost use Rattle.catalog.specs.Woven.{woven, Fits};
 
-    ghost view = { λ catalog. collections_of catalog.collections.entries };
+    ghost view = { λ catalog. woven catalog.names catalog.shelves };
 
-    ghost invariant = { λ catalog. (index_map_len catalog.collections ≤ max_collections) ×
-        AreNamed (collections_of catalog.collections.entries) };
+    ghost invariant = { λ catalog. Fits catalog.names catalog.shelves };
 }
 
 impl Catalog {
@@ -61,7 +60,13 @@ impl Catalog {
         ensures { result ≡ [] }
     {
         Self {
-            collections: IndexMap::new(alloc),
+            names: Names::new(alloc),
+            shelves: Four {
+                first: CatalogShelf::new(0, alloc),
+                second: CatalogShelf::new(1, alloc),
+                third: CatalogShelf::new(2, alloc),
+                fourth: CatalogShelf::new(3, alloc),
+            },
         }
     }
 
@@ -71,32 +76,7 @@ impl Catalog {
         ensures few { result ≤ max_collections }
         ensures distinct { AreDistinct (names_of self.now) }
     {
-        self.collections.len()
-    }
-
-    // What is at the place, if there is a collection.
-    pub(crate) fn holding(&self, at: u8) -> Option<&Holding>
-        ensures { option_map (λ holding. content_of holding.now) result ≡ content_at self.now at }
-    {
-        match self.collections.get_index(usize::from(at)) {
-            Some((_, holding)) => Some(holding),
-            None => None,
-        }
-    }
-
-    // Makes the call at the place, which has a collection that answers it so.
-    pub(crate) fn run_at(&mut self, at: u8, call: &Call, reply: &Reply) -> Result<(), Refusal>
-        requires can { AnswersAt self.old at call.now reply.now }
-        requires room { HasRoom catalog_meaning self.old }
-        ensures ok { OnOk result (self.new ≡ after_at self.old at call.now reply.now) }
-        ensures err { OnErr result (self.new ≡ self.old) }
-        ensures refusal { IsOkUnless result Refusal.NoMemory }
-        ensures no_memory { TakesNoMemory call.now → IsOk result }
-    {
-        match self.collections.get_index_mut(usize::from(at)) {
-            Some(holding) => holding.run(call, reply),
-            None => unreachable!(),
-        }
+        self.names.count()
     }
 
     // Puts a collection at the end.
@@ -107,10 +87,9 @@ impl Catalog {
         ensures err { OnErr result (self.new ≡ self.old) }
         ensures refusal { IsOkUnless result Refusal.NoMemory }
     {
-        let alloc = *self.collections.allocator();
-        let key = name.to_string(alloc)?;
-        self.collections.insert(key, holding)?;
-        Ok(())
+        let Self { names, shelves } = self;
+        let turn = (names.count() % 4) as u8;
+        shelves.of_mut(turn).put(names, name, holding)
     }
 
     /// Puts a collection of the name, the kind and these items at the end; false, with nothing
@@ -131,7 +110,7 @@ impl Catalog {
         if !are_items(kind, &items) {
             return Ok(false);
         }
-        let alloc = *self.collections.allocator();
+        let alloc = self.names.alloc();
         let holding = Holding::of_items(kind, items, alloc)?;
         self.add(name, holding)?;
         Ok(true)
@@ -145,45 +124,96 @@ impl Catalog {
         ensures ok { IfOk result (λ shown. At (λ x. Shows x shown) self.now col) }
         ensures err { IfErr result (ShowRefused self.now col) }
     {
-        match self.collections.get_index(usize::from(col)) {
-            Some((name, holding)) => Ok(shown_of(name, holding)?),
+        match self.names.name(col) {
+            Some(name) => self.shelves.of(col).shown(col, name),
+            None => Err(Refusal::NoSuchCollection),
+        }
+    }
+
+    /// How large each collection is, in the order of making. It takes memory for their names and
+    /// for the list, and the time of as many names.
+    ///
+    /// NoMemory alone is refused.
+    pub fn measure(&self, alloc: Global) -> Result<Vec<Measured>, Refusal>
+        ensures all { IfOk result (λ all. AllZip Measures self.now all.items) }
+        ensures refusal { IsOkUnless result Refusal.NoMemory }
+    {
+        let mut all = Vec::new(alloc);
+        for at in 0..self.len() {
+            all.push(self.measured(at as u8)?)?;
+        }
+        Ok(all)
+    }
+
+    // How large the collection at the place is.
+    //
+    // NoSuchCollection where there is none, then NoMemory.
+    fn measured(&self, at: u8) -> Result<Measured, Refusal>
+        ensures ok { IfOk result (λ measured. At (λ x. Measures x measured) self.now at) }
+        ensures err { IfErr result (ShowRefused self.now at) }
+    {
+        match self.names.name(at) {
+            Some(name) => self.shelves.of(at).measured(at, name),
             None => Err(Refusal::NoSuchCollection),
         }
     }
 }
 
+impl Boosted for Catalog {
+    type At = u8;
+
+    ghost meaning = { catalog_meaning };
+
+    fn look(&self, at: u8, call: &Call) -> Result<Reply, Refusal> {
+        self.shelves.of(at).look(at, call)
+    }
+
+    fn fits(&self, at: u8, call: &Call, reply: &Reply) -> bool {
+        self.shelves.of(at).fits(at, call, reply)
+    }
+
+    fn run(&mut self, at: u8, call: &Call, reply: &Reply) -> Result<(), Refusal> {
+        self.shelves.of_mut(at).run(at, call, reply)
+    }
+
+    fn askable(&self, at: u8, call: &Call) -> Result<(), Refusal> {
+        self.shelves.of(at).askable(at, call)
+    }
+
+    fn deferrable(&self, at: u8, call: &Call) -> Result<(), Refusal> {
+        self.shelves.of(at).deferrable(at, call)
+    }
+
+    ghost laws = { catalog_laws };
+}
+
 impl Parts for Catalog {
     type Part = NamedHolding;
+
+    type Names = Names;
+
+    type Shelf = CatalogShelf;
 
     ghost collections = { λ s. s };
 
     ghost making = { catalog_making };
 
+    ghost whole = { woven };
+
+    ghost fits = { Fits };
+
     fn find(&self, name: &str) -> Result<u8, Refusal> {
-        check_name(name)?;
-        match self.collections.get_index_of(name) {
-            Some(at) => Ok(at as u8),
-            None => Err(Refusal::NoSuchCollection),
-        }
+        self.names.find(name)
     }
 
     fn check_new(&self, name: &str) -> Result<(), Refusal> {
-        check_name(name)?;
-        if self.collections.contains_key(name) {
-            return Err(Refusal::NameTaken);
-        }
-        if self.collections.len() >= MAX_COLLECTIONS {
-            return Err(Refusal::TooManyCollections);
-        }
-        Ok(())
+        self.names.check_new(name)
     }
 
     fn make(&mut self, name: &str, kind: Kind) -> Result<u8, Refusal> {
-        self.check_new(name)?;
-        let at = self.collections.len();
-        let alloc = *self.collections.allocator();
-        self.add(name, Holding::new(kind, alloc))?;
-        Ok(at as u8)
+        let Self { names, shelves } = self;
+        let turn = (names.count() % 4) as u8;
+        Self::make_on(names, shelves.of_mut(turn), name, kind)
     }
 
     fn count(&self) -> usize {
@@ -191,12 +221,37 @@ impl Parts for Catalog {
     }
 
     fn copy(&self, at: u8) -> Result<NamedHolding, Refusal> {
-        let place = usize::from(at);
-        match self.collections.get_index(place) {
-            Some((name, holding)) => NamedHolding::copy_of(name, holding),
+        match self.names.name(at) {
+            Some(name) => self.shelves.of(at).copy(at, name),
             None => Err(Refusal::NoSuchCollection),
         }
     }
 
+    fn apart(self) -> (Names, Four<CatalogShelf>) {
+        let Self { names, shelves } = self;
+        (names, shelves)
+    }
+
+    fn together(names: Names, shelves: Four<CatalogShelf>) -> Self
+        requires { Fits names shelves }
+        ensures { result ≡ woven names shelves }
+    {
+        Self { names, shelves }
+    }
+
+    fn make_on(
+        names: &mut Names,
+        shelf: &mut CatalogShelf,
+        name: &str,
+        kind: Kind,
+    ) -> Result<u8, Refusal> {
+        names.check_new(name)?;
+        let at = names.count();
+        shelf.put(names, name, Holding::new(kind, names.alloc()))?;
+        Ok(at as u8)
+    }
+
     ghost laws = { making_laws };
+
+    ghost shelf_laws = { catalog_shelves };
 }

@@ -9,7 +9,7 @@ ghost use Rattle.boosted.specs.Kinds.{IsOf};
 ghost use Rattle.boosted.specs.Meaning.{IsRoomy};
 ghost use Rattle.catalog.specs.Places.{Reaches};
 ghost use Rattle.catalog.specs.Holdings.{content_of, ListsContent, pair_item, AreItems, Precedes};
-ghost use Rattle.catalog.specs.Holdings.{Rise, AreInOrder, Follows, with_item, filled};
+ghost use Rattle.catalog.specs.Holdings.{Rise, AreInOrder, Follows, with_item, filled, HasItems};
 ghost use Rattle.calls.specs.declared.item.Item.{Item};
 
 use boosted::Boosted;
@@ -147,6 +147,22 @@ impl Holding {
             Holding::Pool(pool) => elements_of(pool.iter(), alloc),
             Holding::Stock(stock) => one_number(stock.level(), alloc),
             Holding::Quotas(quotas) => amounts_of(quotas, alloc),
+        }
+    }
+}
+
+impl Holding {
+    // How many items the collection holds. It takes no memory, and constant time.
+    pub(crate) fn count(&self) -> usize
+        ensures { HasItems result (content_of self.now) }
+    {
+        match self {
+            Holding::Set(set) => set.len(),
+            Holding::Map(map) => map.len(),
+            Holding::Queue(queue) => queue.len(),
+            Holding::Pool(pool) => pool.len(),
+            Holding::Quotas(quotas) => quotas.len(),
+            Holding::Counter(_) | Holding::Stock(_) => 1,
         }
     }
 }

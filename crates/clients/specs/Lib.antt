@@ -4,3 +4,4 @@ pub mod Desks
 pub mod Known
 pub mod NoStore
 pub mod Notes
+pub mod Statuses

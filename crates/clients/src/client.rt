@@ -1,7 +1,7 @@
 // A client of a store.
 ghost use Rattle.std.specs.Prelude.{◌≡◌, ◌≢◌, ◌↔◌, ◌≤◌, ◌<◌, ℕ, [], ◌∷◌, ◌++◌, Ok, Err};
 ghost use Rattle.std.specs.Prelude.{◌⊎◌, List, Bool, Option, false, IsTrue, IfOk, IfErr};
-ghost use Rattle.std.specs.Prelude.{IfSome, IfNone};
+ghost use Rattle.std.specs.Prelude.{IfSome, IfNone, IsOkUnless};
 ghost use Rattle.calls.specs.declared.refusal.Refusal.{Refusal};
 ghost use Rattle.calls.specs.Limits.{number_end};
 ghost use Rattle.txn.specs.declared.steps.Action.{Action};
@@ -21,10 +21,12 @@ use crate::naming::Naming;
 use crate::phase::Phase;
 use crate::seen::Seen;
 use crate::shared::Shared;
+use crate::status::Status;
 use crate::ticket::Ticket;
 use calls::{Call, Kind, Refusal, Reply};
 use crossbeam_utils::Backoff;
 use group_commit::{ClientSeat, Drawer, Watcher};
+use std::alloc::Global;
 use std::marker::Model;
 use std::sync::Wait;
 
@@ -305,6 +307,22 @@ impl<'s, J: Naming> Client<'s, J> {
             }
             Phase::Closed => unreachable!(),
         }
+    }
+
+    /// How the store stands. It is answered at once, whether the client has a transaction or not:
+    /// it takes the book's lock once, for the time of as many names as there are collections, and
+    /// calls no device. The text of the names takes memory.
+    ///
+    /// `used` and `first` are as the committer last told them, and so behind the disk by a block at
+    /// most while it is at work; as the store was opened, where none has told (`Committer::turn`
+    /// tells nothing, `Committer::turn_with_room` does).
+    ///
+    /// NoMemory alone is refused. The client is as before in each case.
+    pub fn status<R: Wait>(&self, rt: &R, alloc: Global) -> Result<Status, Refusal>
+        ensures { IsOkUnless result Refusal.NoMemory }
+    {
+        let desk = self.desk;
+        desk.lock(rt).status(alloc)
     }
 
     /// Whether the commit or making of the ticket is kept through a stop. It takes no memory, and

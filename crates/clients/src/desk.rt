@@ -18,10 +18,12 @@ ghost use Rattle.clients.specs.Desks.{IsDesk};
 ghost use Rattle.clients.specs.Known.{Steps};
 ghost use Rattle.clients.specs.Notes.{found_of, IsSent};
 
+use crate::extent::Extent;
 use crate::naming::Naming;
 use crate::room::Room;
 use crate::shared::Shared;
 use crate::signal::Signal;
+use crate::status::Status;
 use blocks::NextBlock;
 use calls::{Call, Kind, Refusal, Reply};
 use catalog::Catalog;
@@ -29,6 +31,7 @@ use group_commit::{
     BookSeat, ClientSeat, Drawer, DrawerMaker, Handoff, Line, Near, OneStep, Outgoing, Sender,
     Watcher,
 };
+use std::alloc::Global;
 use std::marker::{Brand, Model, PhantomData};
 use std::snapshot::Snapshot;
 use std::sync::Wait;
@@ -46,6 +49,8 @@ pub struct Desk<J: Naming> {
     watcher: Watcher,
     // how many records the undoing takes, at most, of what was live behind the last block
     undoing: u64,
+    // how far the area in use was filled when that was last told
+    extent: Extent,
     of: PhantomData<J>,
 }
 
@@ -60,6 +65,7 @@ impl<J: Naming> Drop for Desk<J> {
             maker,
             watcher,
             undoing: _undoing,
+            extent: _extent,
             of: _of,
         } = self;
         drop(book);
@@ -84,7 +90,7 @@ impl<J: Naming> Model for Desk<J> {
 }
 
 impl<J: Naming> Desk<J> {
-    /// The desk of a book that was just opened.
+    /// The desk of a book that was just opened, whose area in use is filled so far.
     pub fn new(
         book: Book<Catalog>,
         seat: BookSeat,
@@ -92,6 +98,7 @@ impl<J: Naming> Desk<J> {
         near: Near,
         maker: DrawerMaker,
         watcher: Watcher,
+        extent: Extent,
     ) -> Self
         requires book { book ≡ opened J.format J.start J.next J.wear }
         requires seat { seat ≡ record { table = J.line; all = []; clients = 0 } }
@@ -108,6 +115,7 @@ impl<J: Naming> Desk<J> {
             maker,
             watcher,
             undoing: 0,
+            extent,
             of: PhantomData,
         }
     }
@@ -267,7 +275,7 @@ impl<J: Naming> Desk<J> {
     /// the room, and behind it the undoing of all that is live then, in blocks of 64 records; none
     /// where four are in transit. How many records that takes is not told too small; it is counted
     /// anew, by a look at all that is live, where what is known of it does not fit. It takes no
-    /// memory.
+    /// memory. How far the area in use is filled is noted for `status`.
     ///
     /// Imaging where the block is past the image that is being written, or does not fit while one
     /// is; Full where it does not fit. Nothing is handed over then.
@@ -276,9 +284,11 @@ impl<J: Naming> Desk<J> {
         rt: &R,
         shared: &Shared<J>,
         room: Room,
+        extent: Extent,
     ) -> Result<(), Refusal>
         ensures { IfErr result (λ e. (e ≡ Refusal.Imaging) ⊎ (e ≡ Refusal.Full)) }
     {
+        self.extent = extent;
         let Some(next) = self.book.next_block() else {
             return Ok(());
         };
@@ -289,6 +299,17 @@ impl<J: Naming> Desk<J> {
             self.undoing = undoing;
         }
         Ok(())
+    }
+
+    /// How the store stands: the book now, and the area in use as `cut_within` was last told, or as
+    /// the store was opened. It takes memory for the names of the collections, and the time of as
+    /// many names.
+    ///
+    /// NoMemory alone is refused.
+    pub(crate) fn status(&self, alloc: Global) -> Result<Status, Refusal>
+        ensures { IsOkUnless result Refusal.NoMemory }
+    {
+        Status::of(alloc, &self.book, self.extent)
     }
 
     /// The seats of a new client.
@@ -320,6 +341,7 @@ impl<J: Naming> Desk<J> {
             maker,
             watcher,
             undoing: _undoing,
+            extent: _extent,
             of: _of,
         } = self;
         drop(near);

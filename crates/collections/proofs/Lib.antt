@@ -5,3 +5,4 @@ pub mod Amounts
 pub mod Sifts
 pub mod Holders
 pub mod Items
+pub mod Sizes

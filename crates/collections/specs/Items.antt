@@ -1,5 +1,5 @@
 -- A list of pairs in order, seen as a bag.
-use Rattle.std.specs.Prelude.{◌≡◌, ℕ, false, List, [], ◌∷◌}
+use Rattle.std.specs.Prelude.{◌≡◌, ℕ, false, List, [], ◌∷◌, length}
 use Rattle.std.specs.Ordering.{is_lt}
 use Rattle.std.specs.List.{AllByRecursion}
 use Rattle.std.specs.FinMap.{empty}
@@ -19,3 +19,7 @@ IsRising (x ∷ xs) = AllByRecursion (λ y. is_lt (pair_cmp y x) ≡ false) xs �
 pub record ListsBag (xs : List (ℕ × ℕ)) (b : Bag) : Type 0 where
   pub rising : IsRising xs
   pub same : bag_from xs ≡ b
+
+-- The bag has so many pairs, each as often as it is there.
+abbrev pub IsSizeOf : ℕ → Bag → Type 0
+IsSizeOf n b = (xs : List (ℕ × ℕ)) → bag_from xs ≡ b → n ≡ length xs

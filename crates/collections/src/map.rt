@@ -70,6 +70,13 @@ impl MapCol {
         })
     }
 
+    /// How many keys have a value. It takes no memory. Its cost is constant.
+    pub fn len(&self) -> usize
+        ensures { result ≡ map.len self.now }
+    {
+        self.values.len()
+    }
+
     // The value at the key.
     fn get(&self, key: u64) -> Option<&Bytes>
         ensures { option_copied result ≡ map.get self.now key }

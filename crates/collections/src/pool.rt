@@ -67,6 +67,13 @@ impl PoolCol {
         })
     }
 
+    /// How many identifiers are taken. It takes no memory. Its cost is constant.
+    pub fn len(&self) -> usize
+        ensures { result ≡ set.len self.now }
+    {
+        self.taken.len()
+    }
+
     // Whether the identifier is taken.
     fn has(&self, x: u64) -> bool
         ensures { result ≡ set.contains self.now x }

@@ -5,7 +5,7 @@ ghost use Rattle.std.specs.FinMap.{empty};
 ghost use Rattle.calls.specs.Bags.{copies, add, take_out};
 ghost use Rattle.calls.specs.Rules.{TakesNoMemory};
 ghost use Rattle.calls.specs.Queues.{Answers, after, CanLook, IsLeast, IsEmpty};
-ghost use Rattle.collections.specs.Items.{ListsBag};
+ghost use Rattle.collections.specs.Items.{ListsBag, IsSizeOf};
 
 use crate::heap::{Holder, find, live_pairs, mark, push, remove_root, settle};
 use calls::{Call, Refusal, Reply};
@@ -77,6 +77,14 @@ impl QueueCol {
         let mut pairs = live_pairs(&self.holders, alloc)?;
         pairs.sort_unstable();
         Ok(pairs)
+    }
+
+    /// How many pairs there are, each as often as it is there. It takes no memory. Its cost is
+    /// constant.
+    pub fn len(&self) -> usize
+        ensures { IsSizeOf result self.now }
+    {
+        self.holders.as_slice().len() - self.marked
     }
 
     // The least pair.

@@ -79,6 +79,13 @@ impl QuotasCol {
         })
     }
 
+    /// How many keys have an amount. It takes no memory. Its cost is constant.
+    pub fn len(&self) -> usize
+        ensures { result ≡ map.len self.now }
+    {
+        self.less_one.len()
+    }
+
     // What is noted at the key.
     fn get(&self, key: u64) -> Option<&u128>
         ensures value { option_copied result ≡ map.get self.now key }

@@ -67,6 +67,13 @@ impl SetCol {
         })
     }
 
+    /// How many elements there are. It takes no memory. Its cost is constant.
+    pub fn len(&self) -> usize
+        ensures { result ≡ set.len self.now }
+    {
+        self.elements.len()
+    }
+
     // Whether the element is in the set.
     fn has(&self, element: u64) -> bool
         ensures { result ≡ set.contains self.now element }

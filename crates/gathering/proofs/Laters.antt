@@ -6,7 +6,7 @@ use Rattle.std.proofs.lemmas.List.{append-nil, map-append, drop_all}
 use Rattle.calls.specs.Transactions.{Event, laters_of}
 use Rattle.undo_log.specs.declared.logged.Stamped.{Stamped}
 use Rattle.undo_log.specs.Entries.{stamped_entry}
-use Rattle.machine.proofs.PutOffRuns.{put_off, next}
+use Rattle.shelf.proofs.PutOffRuns.{put_off, next}
 use Rattle.images.specs.declared.effect.Effect.{Effect}
 
 module _ (f : Event → Effect) (ss : List Stamped) where

@@ -19,7 +19,7 @@ use Rattle.machine.specs.Machine.{State, Does, BackRow}
 use Rattle.machine.specs.Machines.{IsUpheld, IsAskedEntry}
 use Rattle.machine.specs.Sound.{IsSound}
 use Rattle.machine.proofs.BookLaws.{BookLaws}
-use Rattle.machine.proofs.PutOffRuns.{leads_once}
+use Rattle.shelf.proofs.PutOffRuns.{leads_once}
 use Rattle.machine.proofs.Steps.{back_can, back_settles}
 use Rattle.machine.proofs.UndoneCall.{newest_once}
 use Rattle.images.specs.declared.effect.Effect.{Effect}

@@ -1,40 +1,37 @@
-//! What live transactions hold and asked for, noted together.
+//! What live transactions asked for, and the wear, noted together.
 #![tactic(auto)]
 
 ghost use Rattle.std.specs.Prelude.{◌≡◌, ◌↔◌, ◌+◌, ◌<◌, ◌≤◌, ◌^◌, [], ◌∷◌, ◌++◌, false, length};
-ghost use Rattle.std.specs.Prelude.{IsTrue, IsOk, IfSome, IfNone, IfErr, OnOk, OnErr, IsOkUnless};
+ghost use Rattle.std.specs.Prelude.{IsTrue, IsOk, IfSome, IfNone, OnOk, OnErr, IsOkUnless};
 ghost use Rattle.std.specs.FinMap as maps;
 ghost use Rattle.calls.specs.Transactions.{Asked, PutOff, own, others};
 ghost use Rattle.calls.specs.Limits.{max_calls, max_wear};
-ghost use Rattle.abstract_locks.specs.Holds.{hold, IsClear, IsBusyRefusal, IsAdded, IsGivenUp};
 ghost use Rattle.undo_log.specs.Entries.{event_of, HasNoCall, IsNewestCall};
-ghost use Rattle.undo_log.specs.Logs.{Lives, fallen};
-ghost use Rattle.ledger.specs.Ledgers.{log_of, HasRoomToNote};
+ghost use Rattle.undo_log.specs.Logs.{Lives, HasRoom, fallen};
+ghost use Rattle.ledger.specs.Ledgers.{log_of};
 ghost use Rattle.ledger.specs.LeftCalls.{GoesTwice};
 
 mod left_calls;
 
-use abstract_locks::NeedTable;
 use calls::limits::{MAX_CALLS, MAX_WEAR};
-use calls::{Call, Need, Refusal, Reply};
+use calls::{Call, Refusal, Reply};
 use left_calls::is_going;
 use std::alloc::Global;
 use std::marker::Model;
 use undo_log::{Later, Live, Logged};
 
-/// The live transactions, with the needs that they hold, and what they asked for and did not undo.
+/// The live transactions, with what they asked for and did not undo, and the wear.
 ///
 /// Contracts see these three, and where there is room.
 pub struct Ledger {
-    needs: NeedTable,
     live: Live,
+    wear: u64,
 }
 
 // Written out, so that the crates above call it in place of proving it again.
 impl Drop for Ledger {
     fn drop(self) {
-        let Self { needs, live } = self;
-        drop(needs);
+        let Self { live, wear: _wear } = self;
         drop(live);
     }
 }
@@ -50,24 +47,23 @@ impl Model for Ledger {
     ghost coded = { Prim.hlevel (codes, maps.code {R = nat_cmp} coded_ℕ coded_bool) };
 
     ghost view = { λ l. record {
-      holds = l.needs.holds;
       live = l.live.live;
       entries = l.live.entries;
-      need_rooms = l.needs.rooms;
-      entry_rooms = l.live.rooms;
+      rooms = l.live.rooms;
+      wear = l.wear;
     } };
 }
 
 impl Ledger {
-    /// With no live transaction. It takes no memory.
-    pub fn new(alloc: Global) -> Self
-        ensures holds { result.holds ≡ [] }
+    /// With no live transaction, and so much wear. It takes no memory.
+    pub fn new(alloc: Global, wear: u64) -> Self
         ensures live { result.live ≡ maps.empty }
         ensures entries { result.entries ≡ [] }
+        ensures wear { result.wear ≡ wear }
     {
         Self {
-            needs: NeedTable::new(alloc),
             live: Live::new(alloc),
+            wear,
         }
     }
 
@@ -78,73 +74,84 @@ impl Ledger {
         &self.live
     }
 
-    /// Makes the transaction live and running, with nothing held or asked for. NoMemory leaves all
-    /// as before.
+    /// The wear: how often anything was entered, called, put off, run in a commit or undone. What
+    /// only reads does not count.
+    pub fn wear(&self) -> u64
+        ensures { result ≡ self.now.wear }
+    {
+        self.wear
+    }
+
+    /// Adds so many to the wear.
+    pub fn add_wear(&mut self, more: u64)
+        requires { self.old.wear + more < 2 ^ 64 }
+        ensures wear { self.new.wear ≡ self.old.wear + more }
+        ensures live { self.new.live ≡ self.old.live }
+        ensures entries { self.new.entries ≡ self.old.entries }
+    {
+        self.wear += more;
+    }
+
+    /// Makes the transaction live and running, with nothing asked for. NoMemory leaves all as
+    /// before.
     pub fn enter(&mut self, number: u64) -> Result<(), Refusal>
         requires { Lives self.old.live number → ⊥ }
         ensures live { OnOk result (self.new.live ≡ maps.insert self.old.live number false) }
         ensures entries { self.new.entries ≡ self.old.entries }
-        ensures holds { self.new.holds ≡ self.old.holds }
+        ensures wear { self.new.wear ≡ self.old.wear }
         ensures refusal { IsOkUnless result Refusal.NoMemory }
         ensures unchanged { OnErr result (self.new ≡ self.old) }
     {
         self.live.enter(number)
     }
 
-    /// Makes room for one more entry of the transaction, and for its need on the collection.
-    /// NoMemory only where there was none.
-    pub fn reserve(&mut self, number: u64, at: u8) -> Result<(), Refusal>
+    /// Makes room for one more entry of the transaction. NoMemory only where there was none.
+    pub fn reserve(&mut self, number: u64) -> Result<(), Refusal>
         requires { Lives self.old.live number }
-        ensures room { OnOk result (HasRoomToNote self.new number at) }
+        ensures room { OnOk result (HasRoom (log_of self.new) number) }
         ensures live { self.new.live ≡ self.old.live }
         ensures entries { self.new.entries ≡ self.old.entries }
-        ensures holds { self.new.holds ≡ self.old.holds }
+        ensures wear { self.new.wear ≡ self.old.wear }
         ensures refusal { IsOkUnless result Refusal.NoMemory }
-        ensures succeeds { HasRoomToNote self.old number at → IsOk result }
+        ensures succeeds { HasRoom (log_of self.old) number → IsOk result }
     {
-        self.needs.reserve(at)?;
         self.live.reserve(number)
     }
 
-    /// Notes a call of the transaction as the newest entry, with the need that it has. That is
-    /// free, and room is reserved. It takes no memory.
-    pub fn note_call(&mut self, number: u64, asked: Logged, need: Need)
+    /// Notes a call of the transaction as the newest entry. Room is reserved. It takes no memory.
+    pub fn note_call(&mut self, number: u64, asked: Logged)
         requires live { Lives self.old.live number }
-        requires room { HasRoomToNote self.old number asked.at }
-        requires clear { IsClear self.old.holds number asked.at need }
-        ensures holds { IsAdded self.old.holds self.new.holds (hold number asked.at need) }
+        requires room { HasRoom (log_of self.old) number }
         ensures entries { self.new.entries ≡ self.old.entries ++ (number, Asked (event_of asked)) ∷
             [] }
         ensures live { self.new.live ≡ self.old.live }
+        ensures wear { self.new.wear ≡ self.old.wear }
     {
-        self.needs.grant(number, asked.at, need);
         self.live.push_call(number, asked);
     }
 
-    /// Notes a call that the transaction puts off as the newest entry, with the need that it has.
-    /// That is free, and room is reserved. It takes no memory.
-    pub fn note_later(&mut self, number: u64, put: Later, need: Need)
+    /// Notes a call that the transaction puts off as the newest entry. Room is reserved. It takes
+    /// no memory.
+    pub fn note_later(&mut self, number: u64, put: Later)
         requires live { Lives self.old.live number }
-        requires room { HasRoomToNote self.old number put.at }
-        requires clear { IsClear self.old.holds number put.at need }
-        ensures holds { IsAdded self.old.holds self.new.holds (hold number put.at need) }
+        requires room { HasRoom (log_of self.old) number }
         ensures entries { self.new.entries ≡ self.old.entries ++ (number, PutOff put.at put.call) ∷
             [] }
         ensures live { self.new.live ≡ self.old.live }
+        ensures wear { self.new.wear ≡ self.old.wear }
     {
-        self.needs.grant(number, put.at, need);
         self.live.push_later(number, put);
     }
 
-    /// Takes the newest call of the transaction out; its need stays, and so do the other entries,
-    /// in their order. Nothing changes where it has no call.
+    /// Takes the newest call of the transaction out; the other entries stay, in their order.
+    /// Nothing changes where it has no call.
     pub fn pop(&mut self, number: u64) -> Option<Logged>
         ensures found { IfSome result (λ logged.
             IsNewestCall number self.old.entries (event_of logged) self.new.entries) }
         ensures none { IfNone result (HasNoCall number self.old.entries) }
         ensures unchanged { IfNone result (self.new ≡ self.old) }
         ensures live { self.new.live ≡ self.old.live }
-        ensures holds { self.new.holds ≡ self.old.holds }
+        ensures wear { self.new.wear ≡ self.old.wear }
     {
         self.live.pop(number)
     }
@@ -153,28 +160,18 @@ impl Ledger {
     pub fn fall(&mut self, number: u64)
         ensures live { self.new.live ≡ fallen self.old.live number }
         ensures entries { self.new.entries ≡ self.old.entries }
-        ensures holds { self.new.holds ≡ self.old.holds }
+        ensures wear { self.new.wear ≡ self.old.wear }
     {
         self.live.fall(number);
     }
 
-    /// Takes the transaction out, with what it asked for and its needs. It takes no memory.
+    /// Takes the transaction out, with what it asked for. It takes no memory.
     pub fn remove(&mut self, number: u64)
         ensures live { self.new.live ≡ maps.remove self.old.live number }
         ensures entries { self.new.entries ≡ others number self.old.entries }
-        ensures holds { IsGivenUp self.old.holds self.new.holds number }
+        ensures wear { self.new.wear ≡ self.old.wear }
     {
         self.live.remove(number);
-        self.needs.give_up(number);
-    }
-
-    /// Whether no other transaction holds a need in the way: Busy with the least that does, and no
-    /// other refusal. It takes no memory.
-    pub fn test(&self, number: u64, at: u8, need: &Need) -> Result<(), Refusal>
-        ensures clear { OnOk result (IsClear self.now.holds number at need.now) }
-        ensures busy { IfErr result (IsBusyRefusal self.now.holds number at need.now) }
-    {
-        self.needs.test(number, at, need)
     }
 
     /// Whether the transaction has left to its commit already what this call, answered so, would
@@ -190,21 +187,24 @@ impl Ledger {
         }
     }
 
-    /// Whether so much wear has room for the undoing of all entries and so many more.
-    pub fn has_room(&self, wear: u64, more: usize) -> bool
-        requires { wear + (length self.now.entries + more) < 2 ^ 64 }
-        ensures { IsTrue result ↔ (wear + (length self.now.entries + more) ≤ max_wear) }
+    /// Whether the wear has room for so many runs more, and then for the undoing of all entries and
+    /// of so many more.
+    pub fn has_room(&self, runs: u64, more: usize) -> bool
+        requires { self.now.wear + runs + (length self.now.entries + more) < 2 ^ 64 }
+        ensures { IsTrue result ↔
+            (self.now.wear + runs + (length self.now.entries + more) ≤ max_wear) }
     {
-        wear + (self.live.len() + more) as u64 <= MAX_WEAR
+        self.wear + runs + (self.live.len() + more) as u64 <= MAX_WEAR
     }
 
-    /// Whether the transaction is live, and one entry more of it can be noted, at so much wear.
-    pub fn has_place(&self, number: u64, wear: u64) -> bool
-        requires { wear + (length self.now.entries + 1) < 2 ^ 64 }
+    /// Whether the transaction is live, and one entry more of it can be noted, behind so many runs
+    /// more.
+    pub fn has_place(&self, number: u64, runs: u64) -> bool
+        requires { self.now.wear + runs + (length self.now.entries + 1) < 2 ^ 64 }
         ensures { IsTrue result ↔ (Lives self.now.live number ×
             (length (own number self.now.entries) < max_calls) ×
-            (wear + (length self.now.entries + 1) ≤ max_wear)) }
+            (self.now.wear + runs + (length self.now.entries + 1) ≤ max_wear)) }
     {
-        self.live.is_live(number) && self.live.count(number) < MAX_CALLS && self.has_room(wear, 1)
+        self.live.is_live(number) && self.live.count(number) < MAX_CALLS && self.has_room(runs, 1)
     }
 }

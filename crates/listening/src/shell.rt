@@ -29,6 +29,7 @@ begin                begins a transaction of many lines:
   abort                takes it back
 wait                 waits until what was last committed or made is on the disk
 kept                 asks whether it is
+status               tells how the store stands
 bye                  takes back what is open, and begins anew
 c2 ..                says a line as another client, c1 to c64
 end                  ends, once all that was committed is on the disk

@@ -12,9 +12,9 @@ use Rattle.calls.specs.declared.reply.Reply.{Reply}
 use Rattle.calls.specs.declared.item.Item.{Item}
 use Rattle.calls.specs.declared.refusal.Refusal.{Refusal}
 use Rattle.calls.specs.Contents.{Collection}
-use Rattle.calls.specs.Transactions.{Event, Entry, Asked, PutOff}
+use Rattle.calls.specs.Transactions.{Event, Asked, PutOff}
 use Rattle.abstract_locks.specs.declared.table.Hold.{Hold}
-use Rattle.abstract_locks.specs.Holds.{Holdings, hold, IsAdded}
+use Rattle.abstract_locks.specs.Holds.{hold, IsAdded}
 use Rattle.undo_log.specs.Logs.{Statuses, Log, Lives}
 use Rattle.boosted.proofs.Each.{each_back}
 use Rattle.catalog.specs.Making.{IsNew, names_of, Making}
@@ -29,6 +29,7 @@ use Rattle.loader.specs.Loading.{LoadRow, StandRow, HeldCallRow, HeldLaterRow, C
 use Rattle.loader.specs.Loading.{CanHoldLater, IsLast, LoadAnswers}
 use Rattle.machine.specs.Views.{state_of}
 use Rattle.machine.proofs.LiveNumbers.{nobody, lives_more}
+use Rattle.machine.proofs.Rows.{same_parts}
 use Rattle.machine.proofs.Sizes.{pushed_length}
 use Rattle.boosted.specs.Meaning.{Meaning}
 use Rattle.records.specs.Told.{Tells}
@@ -46,11 +47,11 @@ loaded_reached n s t name kind items l w =
 
 module _ {S : Type 0} (collections : S → List Collection) (meaning : Meaning S ℕ)
     (making : Making S) (told : Tells meaning making collections)
-    (format : Format) (now : S) (needs : Holdings) (log : Log) (wear : ℕ) (name : List ℕ)
+    (format : Format) (now : S) (held : List Hold) (log : Log) (wear : ℕ) (name : List ℕ)
     (kind : Kind)
     (items : List Item) where
   abbrev Reads : State S → Type 0
-  Reads v = LoadRow collections meaning making (state_of format now needs log wear) name kind items
+  Reads v = LoadRow collections meaning making (state_of format now held log wear) name kind items
       v
 
   -- The wear does not reach an item.
@@ -64,8 +65,8 @@ module _ {S : Type 0} (collections : S → List Collection) (meaning : Meaning S
       meaning.within now wear → IsNew (making.names now) name →
       (IsTrue loaded → Loads (collections now) name kind items (collections next)) →
       (loaded ≡ false → (next ≡ now) × (AreItems kind items → ⊥)) →
-      LoadAnswers Reads (state_of format now needs log wear) (Ok loaded)
-      (state_of format next needs log wear)
+      LoadAnswers Reads (state_of format now held log wear) (Ok loaded)
+      (state_of format next held log wear)
   read_answered next true reached before new loads not = record {
     new = new;
     next = next;
@@ -76,27 +77,27 @@ module _ {S : Type 0} (collections : S → List Collection) (meaning : Meaning S
     is = refl;
   }
   read_answered next false reached before new loads not = (
-    ap (λ v. state_of format v needs log wear) (not refl).0,
+    ap (λ v. state_of format v held log wear) (not refl).0,
     λ v row. (not refl).1 (row.loads.content, row.loads.of_kind, row.loads.lists),
   )
 
   -- They refuse.
   pub read_refused : (next : S) (e : Refusal) → next ≡ now →
       LoadRefused (making.names now) name kind items e →
-      LoadAnswers Reads (state_of format now needs log wear) (unmade e)
-      (state_of format next needs log wear)
-  read_refused next Refusal.NoMemory same is = ap (λ v. state_of format v needs log wear) same
+      LoadAnswers Reads (state_of format now held log wear) (unmade e)
+      (state_of format next held log wear)
+  read_refused next Refusal.NoMemory same is = ap (λ v. state_of format v held log wear) same
   read_refused next Refusal.NameTaken same is =
-      (ap (λ v. state_of format v needs log wear) same, λ v row. row.new.free is.1)
+      (ap (λ v. state_of format v held log wear) same, λ v row. row.new.free is.1)
   read_refused next Refusal.TooManyCollections same is = (
-    ap (λ v. state_of format v needs log wear) same,
+    ap (λ v. state_of format v held log wear) same,
     λ v row. let few = row.new.few in
         let many = is.2 in absurd (omega arith),
   )
   read_refused next Refusal.BadName same is =
-      (ap (λ v. state_of format v needs log wear) same, λ v row. is row.new.good.spelt)
+      (ap (λ v. state_of format v held log wear) same, λ v row. is row.new.good.spelt)
   read_refused next Refusal.TooLong same is = (
-    ap (λ v. state_of format v needs log wear) same,
+    ap (λ v. state_of format v held log wear) same,
     λ v row. let short = row.new.good.short in
         let long = is.1 in absurd (omega arith),
   )
@@ -136,78 +137,57 @@ pub above_last : (live : Statuses) (last n : ℕ) → IsLast live last → last 
     Lives live k → k < n
 above_last live last n is more k lives = let upto = is.upto k lives in omega arith
 
--- States whose live transactions and entries are the same.
-state_same : {S : Type 0} (format : Format) (now : S) (holds : List Hold) (wear : ℕ)
-    {live lives : Statuses}
-    {entries others : List (ℕ × Entry)} → live ≡ lives → entries ≡ others →
-    ◌≡◌ {A = State S}
-    (record {
-      now = now;
-      live = live;
-      entries = entries;
-      holds = holds;
-      wear = wear;
-      format = format;
-    })
-    (record {
-      now = now;
-      live = lives;
-      entries = others;
-      holds = holds;
-      wear = wear;
-      format = format;
-    })
-state_same format now holds wear same_live same_entries = rw (same_live, same_entries) refl
+module _ {S : Type 0} (format : Format) (now : S) (held : List Hold) (log : Log) (wear n : ℕ)
+  where
+    abbrev before : State S
+    before = state_of format now held log wear
 
-module _ {S : Type 0} (format : Format) (now : S) (needs : Holdings) (log : Log) (wear n : ℕ) where
-  pub stand_row : (log' : Log) → IsNumber n → ((k : ℕ) → Lives log.live k → k < n) →
-      maps.len log.live < 64 → log'.live ≡ maps.insert log.live n false →
-      log'.entries ≡ log.entries →
-      StandRow (state_of format now needs log wear) n (state_of format now needs log' wear)
-  stand_row log' number above few live entries = record {
-    number = number;
-    above = above;
-    few = few;
-    is = state_same format now needs.holds wear live entries;
-  }
-
-  module _ (meaning : Meaning S ℕ) where
-    pub held_row : (e : Event) (added : List _) (needs' : Holdings) (kept log' : Log) →
-        CanHoldCall meaning (state_of format now needs log wear) n e →
-        added ≡ needs.holds → IsAdded added needs'.holds (hold n e.at (need_of e.call e.reply)) →
-        kept.live ≡ log.live → kept.entries ≡ log.entries → log'.live ≡ kept.live →
-        log'.entries ≡ kept.entries ++ (n, Asked e) ∷ [] →
-        HeldCallRow meaning (state_of format now needs log wear) n e
-        (state_of format now needs' log' wear)
-    held_row e added needs' kept log' can same holds live_kept entries_kept live entries = record {
-      live = can.live;
-      asked = can.asked;
-      told = can.told;
-      few = can.few;
-      once = can.once;
-      clear = can.clear;
-      room = can.room;
-      holds = subst (λ l. IsAdded l needs'.holds (hold n e.at (need_of e.call e.reply))) same holds;
-      is = state_same format now needs'.holds wear (live ∙ live_kept)
-          (entries ∙ ap (λ l. l ++ (n, Asked e) ∷ []) entries_kept);
+    -- A transaction that was live begins.
+    pub stand_row : (log' : Log) (wear' : ℕ) → IsNumber n →
+        ((k : ℕ) → Lives log.live k → k < n) → maps.len log.live < 64 →
+        log'.live ≡ maps.insert log.live n false → log'.entries ≡ log.entries → wear' ≡ wear →
+        StandRow before n (state_of format now held log' wear')
+    stand_row log' wear' number above few live entries worn = record {
+      number = number;
+      above = above;
+      few = few;
+      is = same_parts format refl live entries refl worn;
     }
 
-    pub held_later_row : (at : ℕ) (c : Call) (added : List _) (needs' : Holdings)
-        (kept log' : Log) → CanHoldLater meaning (state_of format now needs log wear) n at c →
-        added ≡ needs.holds → IsAdded added needs'.holds (hold n at (need_of c Reply.Done)) →
-        kept.live ≡ log.live → kept.entries ≡ log.entries → log'.live ≡ kept.live →
-        log'.entries ≡ kept.entries ++ (n, PutOff at c) ∷ [] →
-        HeldLaterRow meaning (state_of format now needs log wear) n at c
-        (state_of format now needs' log' wear)
-    held_later_row at c added needs' kept log' can same holds live_kept entries_kept live entries =
-        record {
-          live = can.live;
-          put_off = can.put_off;
-          few = can.few;
-          ready = can.ready;
-          clear = can.clear;
-          room = can.room;
-          holds = subst (λ l. IsAdded l needs'.holds (hold n at (need_of c Reply.Done))) same holds;
-          is = state_same format now needs'.holds wear (live ∙ live_kept)
-              (entries ∙ ap (λ l. l ++ (n, PutOff at c) ∷ []) entries_kept);
-        }
+    -- what the machine holds then
+    module _ (now' : S) (held' : List Hold) (log' : Log) (wear' : ℕ) (meaning : Meaning S ℕ) where
+      abbrev behind : State S
+      behind = state_of format now' held' log' wear'
+
+      -- A call that is done is noted.
+      pub held_row : (e : Event) → CanHoldCall meaning before n e →
+          IsAdded held held' (hold n e.at (need_of e.call e.reply)) → now' ≡ now →
+          log'.live ≡ log.live → log'.entries ≡ log.entries ++ (n, Asked e) ∷ [] → wear' ≡ wear →
+          HeldCallRow meaning before n e behind
+      held_row e can added there live entries worn = record {
+        live = can.live;
+        asked = can.asked;
+        told = can.told;
+        few = can.few;
+        once = can.once;
+        clear = can.clear;
+        room = can.room;
+        holds = added;
+        is = same_parts format there live entries refl worn;
+      }
+
+      -- A call that was put off is noted.
+      pub held_later_row : (at : ℕ) (c : Call) → CanHoldLater meaning before n at c →
+          IsAdded held held' (hold n at (need_of c Reply.Done)) → now' ≡ now →
+          log'.live ≡ log.live → log'.entries ≡ log.entries ++ (n, PutOff at c) ∷ [] →
+          wear' ≡ wear → HeldLaterRow meaning before n at c behind
+      held_later_row at c can added there live entries worn = record {
+        live = can.live;
+        put_off = can.put_off;
+        few = can.few;
+        ready = can.ready;
+        clear = can.clear;
+        room = can.room;
+        holds = added;
+        is = same_parts format there live entries refl worn;
+      }

@@ -17,7 +17,7 @@ use Rattle.calls.specs.Contents.{Collection}
 use Rattle.calls.specs.Rules.{Askable, Pairs, need_of}
 use Rattle.calls.specs.Transactions.{Event, Entry, Asked, PutOff, Leads, calls_of}
 use Rattle.abstract_locks.specs.declared.table.Hold.{Hold}
-use Rattle.abstract_locks.specs.Holds.{Holdings, IsAdded}
+use Rattle.abstract_locks.specs.Holds.{IsAdded}
 use Rattle.undo_log.specs.Logs.{Log, Lives, Falls}
 use Rattle.catalog.specs.Making.{IsNew, Making}
 use Rattle.catalog.specs.Holdings.{AreItems, Loads}
@@ -490,22 +490,22 @@ module _ {S : Type 0} (meaning : Meaning S ℕ) (making : Making S)
       Loads (collections s) name kind items (collections t) → AllByRecursion (IsShortItem f) items →
       short f s → short f t)
       (format : Format)
-      (now : S) (needs : Holdings) (log : Log) (wear : ℕ) (name : List ℕ) (kind : Kind)
+      (now : S) (held : List Hold) (log : Log) (wear : ℕ) (name : List ℕ) (kind : Kind)
       (items : List Item) (next : S) where
-    as_before : Upheld (state_of format now needs log wear) → next ≡ now →
-        Upheld (state_of format next needs log wear)
-    as_before upheld same = subst (λ v. Upheld (state_of format v needs log wear)) (sym same) upheld
+    as_before : Upheld (state_of format now held log wear) → next ≡ now →
+        Upheld (state_of format next held log wear)
+    as_before upheld same = subst (λ v. Upheld (state_of format v held log wear)) (sym same) upheld
 
-    pub read_kept : (r : Result Bool Refusal) → Upheld (state_of format now needs log wear) →
+    pub read_kept : (r : Result Bool Refusal) → Upheld (state_of format now held log wear) →
         log.live ≡ maps.empty → AllByRecursion (IsShortItem format) items →
         AllByRecursion (IsReached wear) items → IfOk r (λ loaded. IsNew (making.names now) name) →
         IfOk r (λ loaded. IsTrue loaded →
         Loads (collections now) name kind items (collections next)) →
         IfOk r (λ loaded. loaded ≡ false → (next ≡ now) × (AreItems kind items → ⊥)) →
-        OnErr r (next ≡ now) → Upheld (state_of format next needs log wear)
+        OnErr r (next ≡ now) → Upheld (state_of format next held log wear)
     read_kept (Ok true) upheld empty short_items reached new loads not same =
-        read_upheld (state_of format now needs log wear) upheld next empty
-        (read_names collections meaning making told format now needs log wear name kind items next
+        read_upheld (state_of format now held log wear) upheld next empty
+        (read_names collections meaning making told format now held log wear name kind items next
         new
         (loads refl))
         ((told.within next wear).1 (within_loaded wear (collections now) (collections next) name

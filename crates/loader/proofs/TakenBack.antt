@@ -20,7 +20,7 @@ use Rattle.boosted.proofs.Runs.{Leads-append, Leads-split, Leads-unique}
 use Rattle.machine.specs.Machine.{Does}
 use Rattle.loader.specs.Loading.{calls_in, HasRoomBack, HasLed, TakenBack, DoneAgain}
 use Rattle.machine.proofs.JoinedEntries.{calls_append}
-use Rattle.machine.proofs.PutOffRuns.{leads_once}
+use Rattle.shelf.proofs.PutOffRuns.{leads_once}
 use Rattle.machine.proofs.RoomForRuns.{wears_more}
 use Rattle.boosted.specs.Laws.{BoostedLaws}
 use Rattle.catalog.specs.Making.{Making}

@@ -29,6 +29,7 @@ use catalog::Parts;
 use ledger::Ledger;
 use machine::{Machine, unmade};
 use records::{CallRecord, Coded, LaterRecord, Record, is_reached, is_short_reply};
+use shelf::Shelf;
 use std::alloc::Global;
 use std::marker::Model;
 use undo_log::{Later, Logged};
@@ -38,9 +39,9 @@ use undo_log::{Later, Logged};
 /// Contracts see the state that was told so far, as a machine's.
 #[derive(Drop)]
 pub struct Loader<B: Parts + Coded> {
-    parts: B,
+    // all of the collections
+    shelf: Shelf<B>,
     ledger: Ledger,
-    wear: u64,
     format: Format,
     // the greatest number that is live, 0 where none is
     last: u64,
@@ -61,11 +62,11 @@ impl<B: Parts + Coded> Model for Loader<B> {
 
     ghost coded = { Prim.hlevel (codes, maps.code {R = nat_cmp} coded_ℕ coded_bool) };
 
-    ghost view = { λ l. state_with l.format l.parts l.ledger l.wear };
+    ghost view = { λ l. state_with l.format l.shelf l.ledger };
 
     ghost invariant = { λ l. IsUpheld B.meaning B.making (λ f s. AreShort f (B.collections s))
         (IsLoaded B.meaning B.making)
-        (state_with l.format l.parts l.ledger l.wear) × IsLast l.ledger.live l.last };
+        (state_with l.format l.shelf l.ledger) × IsLast l.ledger.live l.last };
 }
 
 impl<B: Parts + Coded> Loader<B> {
@@ -79,9 +80,8 @@ impl<B: Parts + Coded> Loader<B> {
         ensures { result ≡ resting format parts wear }
     {
         Self {
-            parts,
-            ledger: Ledger::new(alloc),
-            wear,
+            shelf: Shelf::new(alloc, parts),
+            ledger: Ledger::new(alloc, wear),
             format,
             last: 0,
         }
@@ -91,7 +91,7 @@ impl<B: Parts + Coded> Loader<B> {
     pub fn parts(&self) -> &B
         ensures { result.now ≡ self.now.now }
     {
-        &self.parts
+        self.shelf.collections()
     }
 
     /// The format of the store.
@@ -105,7 +105,7 @@ impl<B: Parts + Coded> Loader<B> {
     pub fn wear(&self) -> u64
         ensures { result ≡ self.now.wear }
     {
-        self.wear
+        self.ledger.wear()
     }
 
     /// Puts a collection of the name, the kind and these items at the end, where the wear reaches
@@ -120,10 +120,10 @@ impl<B: Parts + Coded> Loader<B> {
         ensures { LoadAnswers (LoadRow B.collections B.meaning B.making self.old name.now kind
             items.items) self.old result self.new }
     {
-        if !are_reached(items.as_slice(), self.wear) {
+        if !are_reached(items.as_slice(), self.ledger.wear()) {
             return Ok(false);
         }
-        match self.parts.load(name, kind, items) {
+        match self.shelf.collections_mut().load(name, kind, items) {
             Ok(loaded) => Ok(loaded),
             Err(refusal) => unmade(refusal),
         }
@@ -151,18 +151,17 @@ impl<B: Parts + Coded> Loader<B> {
         ensures none { IfOk result (λ m. IfNone m ((c : B) → IsSettled B.meaning self c → ⊥)) }
         ensures refusal { IsOkUnless result Refusal.NoMemory }
     {
-        let _ = &self.wear;
+        let _ = &self.format;
         let Self {
-            mut parts,
+            mut shelf,
             ledger,
-            wear,
             format,
             ..
         } = self;
-        if !redo(&mut parts, ledger.live())? {
+        if !redo(shelf.collections_mut(), ledger.live())? {
             return Ok(None);
         }
-        Ok(Some(Machine::of_parts(format, parts, ledger, wear)))
+        Ok(Some(Machine::of_parts(format, shelf, ledger)))
     }
 
     // The record's step, from this very state.
@@ -243,9 +242,10 @@ impl<B: Parts + Coded> Loader<B> {
         ensures same { OnErr result (self.new ≡ self.old) }
         ensures refusal { IsOkUnless result Refusal.NoMemory }
     {
-        self.ledger.reserve(number, asked.at)?;
+        self.ledger.reserve(number)?;
         let need = asked.call.need(&asked.reply);
-        self.ledger.note_call(number, asked, need);
+        self.shelf.hold(number, asked.at, need)?;
+        self.ledger.note_call(number, asked);
         Ok(())
     }
 
@@ -256,9 +256,10 @@ impl<B: Parts + Coded> Loader<B> {
         ensures same { OnErr result (self.new ≡ self.old) }
         ensures refusal { IsOkUnless result Refusal.NoMemory }
     {
-        self.ledger.reserve(number, put.at)?;
+        self.ledger.reserve(number)?;
         let need = put.call.need(&Reply::Done);
-        self.ledger.note_later(number, put, need);
+        self.shelf.hold(number, put.at, need)?;
+        self.ledger.note_later(number, put);
         Ok(())
     }
 
@@ -267,9 +268,7 @@ impl<B: Parts + Coded> Loader<B> {
         ensures { IsTrue result ↔ CanHoldCall B.meaning self.now called.now.number
             (event_of called.now) }
     {
-        self.ledger.has_place(called.number, self.wear)
-            && self.can_ask(called)
-            && self.is_apart(called)
+        self.ledger.has_place(called.number, 0) && self.can_ask(called) && self.is_apart(called)
     }
 
     // Whether a client can ask for the call, and no value of the reply is too long for the format.
@@ -279,7 +278,9 @@ impl<B: Parts + Coded> Loader<B> {
             called.now.call ×
             IsShortReply self.now.format called.now.reply) }
     {
-        self.parts.askable(called.collection, &called.call).is_ok()
+        self.parts()
+            .askable(called.collection, &called.call)
+            .is_ok()
             && called.call.is_short(self.format)
             && is_short_reply(self.format, &called.reply)
     }
@@ -308,7 +309,7 @@ impl<B: Parts + Coded> Loader<B> {
     fn is_clear(&self, number: u64, at: u8, need: Need) -> bool
         ensures { IsTrue result ↔ IsClear self.now.holds number at need }
     {
-        self.ledger.test(number, at, &need).is_ok()
+        self.shelf.test(number, at, &need).is_ok()
     }
 
     // Whether the transaction can have put the call off.
@@ -316,8 +317,11 @@ impl<B: Parts + Coded> Loader<B> {
         ensures { IsTrue result ↔ CanHoldLater B.meaning self.now later.now.number
             later.now.collection later.now.call }
     {
-        self.ledger.has_place(later.number, self.wear)
-            && self.parts.deferrable(later.collection, &later.call).is_ok()
+        self.ledger.has_place(later.number, 0)
+            && self
+                .parts()
+                .deferrable(later.collection, &later.call)
+                .is_ok()
             && self.is_clear(
                 later.number,
                 later.collection,

@@ -20,7 +20,7 @@ use Rattle.machine.specs.Sound.{IsSound}
 use Rattle.machine.specs.Theory.Rules.{RuleLaws}
 use Rattle.machine.specs.Theory.Collections.{collection_rules}
 use Rattle.machine.proofs.UndoneCall.{newest_once}
-use Rattle.machine.proofs.PutOffRuns.{leads_once}
+use Rattle.shelf.proofs.PutOffRuns.{leads_once}
 use Rattle.machine.proofs.Steps as steps
 use Rattle.boosted.specs.Meaning.{Meaning}
 use Rattle.catalog.specs.Making.{Making}

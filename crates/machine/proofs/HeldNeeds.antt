@@ -1,29 +1,11 @@
--- A state whose ledger changed but for the needs that are held, and what a test of them tells.
-use Rattle.std.proofs.Common.{◌≡◌, ◌↔◌, ℕ, List, Result, Ok, Err, IfErr, IsTrue, OnOk, ap}
-use Rattle.std.proofs.Common.{refl, sym}
+-- What a test of the needs that are held tells.
+use Rattle.std.proofs.Common.{◌↔◌, ℕ, List, Result, Ok, Err, IfErr, IsTrue, OnOk, refl}
 use Rattle.std.specs.Result.{is_ok}
 use Rattle.std.proofs.lemmas.List.Elements.{All-contains}
-use Rattle.calls.specs.declared.format.Format.{Format}
 use Rattle.calls.specs.declared.need.Need.{Need}
 use Rattle.calls.specs.declared.refusal.Refusal.{Refusal}
 use Rattle.abstract_locks.specs.declared.table.Hold.{Hold}
-use Rattle.abstract_locks.specs.Holds.{Holdings, Blocks, IsClear, IsBusy, IsBusyRefusal}
-use Rattle.undo_log.specs.Logs.{Log}
-use Rattle.machine.specs.Machine.{State}
-use Rattle.machine.specs.Views.{state_of}
-
-pub still_held : {S : Type 0} (format : Format) (now : S) (needs needs' : Holdings) (log : Log)
-    (wear : ℕ) →
-    needs'.holds ≡ needs.holds → state_of format now needs log wear ≡
-    state_of format now needs' log wear
-still_held format now needs needs' log wear same = ap (λ h. let s : State _ = record {
-  now = now;
-  live = log.live;
-  entries = log.entries;
-  holds = h;
-  wear = wear;
-  format = format;
-} in s) (sym same)
+use Rattle.abstract_locks.specs.Holds.{Blocks, IsClear, IsBusy, IsBusyRefusal}
 
 module _ (holds : List Hold) (owner at : ℕ) (need : Need) where
   not_both : (n : ℕ) → IsClear holds owner at need → IsBusy holds owner at need n → ⊥

@@ -20,12 +20,13 @@ use Rattle.record_format.specs.Records.{IsNumber}
 use Rattle.records.proofs.Items.{short_disposable}
 use Rattle.machine.specs.Machine.{State, Does, IsRunning, IsLeft, BeginRow, CommitRow, EndedRow}
 use Rattle.machine.specs.Machine.{FallRow, MakeRow, CallRow, LaterRow, BackRow}
-use Rattle.machine.specs.Machines.{resting, IsAskedEntry, IsUpheld, CanRun}
+use Rattle.machine.specs.Machines.{resting, IsAskedEntry, IsUpheld}
+use Rattle.shelf.specs.Shelves.{CanRun}
 use Rattle.machine.specs.Sound.{IsSound}
 use Rattle.machine.proofs.LiveNumbers.{nobody, lives_more, lives_fewer, fallen_is}
 use Rattle.machine.proofs.BookLaws.{BookLaws}
 use Rattle.machine.proofs.Steps as steps
-use Rattle.machine.proofs.PutOffRuns.{run_within}
+use Rattle.shelf.proofs.PutOffRuns.{run_within}
 use Rattle.machine.proofs.ShortValues.{asked_left, asked_rest, short_newest, undone_short}
 use Rattle.machine.proofs.Counting.{few_entries, own_and_others, few_laters}
 use Rattle.machine.proofs.Sizes.{len_begun, len_fallen, len_left, own_of_others, own_pushed}

@@ -2,7 +2,6 @@ pub mod Theory
 pub mod LiveNumbers
 pub mod OwnedEntries
 pub mod LeftCalls
-pub mod PutOffRuns
 pub mod TheoryRows
 pub mod Steps
 pub mod Counting

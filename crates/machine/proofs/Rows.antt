@@ -1,18 +1,21 @@
 -- The rows of the machine, from the parts of its state before and after.
 use Rattle.std.proofs.Common.{◌≡◌, ℕ, ◌+◌, ◌<◌, true, false, List, [], ◌∷◌, ◌++◌, length, refl, ◌∙◌}
-use Rattle.std.proofs.Common.{ap}
-use Rattle.std.proofs.Common.{subst, arith}
+use Rattle.std.proofs.Common.{ap, subst, arith}
 use Rattle.std.specs.FinMap as maps
 use Rattle.calls.specs.declared.format.Format.{Format}
 use Rattle.calls.specs.declared.kind.Kind.{Kind}
+use Rattle.calls.specs.declared.call.Call.{Call}
+use Rattle.calls.specs.declared.reply.Reply.{Reply}
 use Rattle.calls.specs.Names.{IsName}
-use Rattle.calls.specs.Transactions.{Event, Asked, others}
+use Rattle.calls.specs.Transactions.{Event, Entry, Asked, PutOff, Leads, own, others, laters_of}
 use Rattle.calls.specs.declared.refusal.Refusal.{Refusal}
 use Rattle.catalog.specs.Making as naming
 use Rattle.record_format.specs.declared.record.Record.{Record}
-use Rattle.abstract_locks.specs.Holds.{Holdings, hold, IsAdded, IsGivenUp}
-use Rattle.undo_log.specs.Logs.{Log}
-use Rattle.machine.specs.Machine.{State, IsLeft, MakeRow, CanCall, CallRow, ReadRow}
+use Rattle.abstract_locks.specs.declared.table.Hold.{Hold}
+use Rattle.abstract_locks.specs.Holds.{hold, IsAdded, IsGivenUp}
+use Rattle.undo_log.specs.Logs.{Statuses, Log}
+use Rattle.machine.specs.Machine.{State, Does, IsRunning, IsLeft, CanBegin, BeginRow, MakeRow}
+use Rattle.machine.specs.Machine.{CanCall, CallRow, ReadRow, CanPutOff, LaterRow, CommitRow}
 use Rattle.machine.specs.Machines.{resting, unmade, HasRoomFor, StepAnswers}
 use Rattle.machine.specs.Views.{state_of}
 use Rattle.boosted.specs.Meaning.{Meaning}
@@ -20,46 +23,46 @@ use Rattle.catalog.specs.Making.{Making, MakingLaws}
 use Rattle.calls.specs.Rules.{need_of}
 use Rattle.calls.specs.Reads.{reads}
 
+-- States whose parts are the same.
+pub same_parts : {S : Type 0} (format : Format) {now now' : S} {live live' : Statuses}
+    {entries entries' : List (ℕ × Entry)} {holds holds' : List Hold} {wear wear' : ℕ} →
+    now ≡ now' → live ≡ live' → entries ≡ entries' → holds ≡ holds' → wear ≡ wear' →
+    ◌≡◌ {A = State S}
+    (record {
+      now = now;
+      live = live;
+      entries = entries;
+      holds = holds;
+      wear = wear;
+      format = format;
+    })
+    (record {
+      now = now';
+      live = live';
+      entries = entries';
+      holds = holds';
+      wear = wear';
+      format = format;
+    })
+same_parts format a b c d e = rw (a, b, c, d, e) refl
+
 -- a state with no live transaction
-pub resting_is : {S : Type 0} (format : Format) (now : S) (needs : Holdings) (log : Log)
-    (wear : ℕ) →
-    needs.holds ≡ [] → log.live ≡ maps.empty → log.entries ≡ [] →
-    state_of format now needs log wear ≡ resting format now wear
-resting_is format now needs log wear holds live entries =
-    ap (λ v. let s : State _ = record {
-      now = now;
-      live = v;
-      entries = log.entries;
-      holds = needs.holds;
-      wear = wear;
-      format = format;
-    } in s) live
-    ∙ ap (λ v. let s : State _ = record {
-      now = now;
-      live = maps.empty;
-      entries = v;
-      holds = needs.holds;
-      wear = wear;
-      format = format;
-    } in s) entries
-    ∙ ap (λ v. let s : State _ = record {
-      now = now;
-      live = maps.empty;
-      entries = [];
-      holds = v;
-      wear = wear;
-      format = format;
-    } in s) holds
+pub resting_is : {S : Type 0} (format : Format) (now : S) (wear : ℕ) (now' : S)
+    (held' : List Hold) (log' : Log) (wear' : ℕ) → now' ≡ now → held' ≡ [] →
+    log'.live ≡ maps.empty → log'.entries ≡ [] → wear' ≡ wear →
+    state_of format now' held' log' wear' ≡ resting format now wear
+resting_is format now wear now' held' log' wear' there none_held live entries worn =
+    same_parts format there live entries none_held worn
 
 -- A collection is made: its name was free, and there were fewer than 256.
 pub made_row : {S : Type 0} {meaning : Meaning S ℕ} {making : Making S}
-    (laws : MakingLaws meaning making) (format : Format) (now : S) (needs : Holdings) (log : Log)
+    (laws : MakingLaws meaning making) (format : Format) (now : S) (held : List Hold) (log : Log)
     (wear : ℕ)
     (name : List ℕ) (kind : Kind) (now' : S) (at : ℕ) →
     IsName name → at ≡ length (making.names now) → at < 256 → making.makes now name kind now' →
-    MakeRow making (state_of format now needs log wear) name kind
-    (state_of format now' needs log wear)
-made_row laws format now needs log wear name kind now' at good is few made =
+    MakeRow making (state_of format now held log wear) name kind
+    (state_of format now' held log wear)
+made_row laws format now held log wear name kind now' at good is few made =
     record {
       new = record {
         good = good;
@@ -71,145 +74,86 @@ made_row laws format now needs log wear name kind now' at good is few made =
       is = refl;
     }
 
-module _ {S : Type 0} (format : Format) (now : S) (needs : Holdings) (log : Log) (wear n : ℕ) where
-  -- A transaction is taken out.
-  pub left_row : (needs' : Holdings) (log' : Log) → log'.live ≡ maps.remove log.live n →
-      log'.entries ≡ others n log.entries → IsGivenUp needs.holds needs'.holds n →
-      IsLeft (state_of format now needs log wear) n (state_of format now needs' log' wear)
-  left_row needs' log' live entries given = record {
-    holds = given;
-    is = ap (λ v. let s : State S =
-        record {
-          now = now;
-          live = v;
-          entries = log'.entries;
-          holds = needs'.holds;
-          wear = wear;
-          format = format;
-        } in
-        s) live
-        ∙ ap (λ v. let s : State S = record {
-          now = now;
-          live = maps.remove log.live n;
-          entries = v;
-          holds = needs'.holds;
-          wear = wear;
-          format = format;
-        } in s) entries;
-  }
+module _ {S : Type 0} (format : Format) (now : S) (held : List Hold) (log : Log) (wear n : ℕ)
+  where
+    abbrev before : State S
+    before = state_of format now held log wear
 
-  -- A transaction begins.
-  pub begun_is : (log' : Log) → log'.live ≡ maps.insert log.live n false →
-      log'.entries ≡ log.entries → state_of format now needs log' (wear + 1) ≡
-      record {
-        now = now;
-        live = maps.insert log.live n false;
-        entries = log.entries;
-        holds = needs.holds;
-        wear = wear + 1;
-        format = format;
-      }
-  begun_is log' live entries =
-      ap (λ v. let s : State S = record {
-        now = now;
-        live = v;
-        entries = log'.entries;
-        holds = needs.holds;
-        wear = wear + 1;
-        format = format;
-      } in s) live
-      ∙ ap (λ v. let s : State S = record {
-        now = now;
-        live = maps.insert log.live n false;
-        entries = v;
-        holds = needs.holds;
-        wear = wear + 1;
-        format = format;
-      } in s) entries
+    -- what the machine holds then
+    module _ (now' : S) (held' : List Hold) (log' : Log) (wear' : ℕ) where
+      abbrev behind : State S
+      behind = state_of format now' held' log' wear'
 
-  module _ (meaning : Meaning S ℕ) where
-    -- A call is made and noted.
-    pub called_row : (e : Event) (now' : S) (added : List _) (needs' : Holdings) (kept log' : Log) →
-        CanCall meaning (state_of format now needs log wear) n e →
-        HasRoomFor (state_of format now needs log wear) 1 →
-        added ≡ needs.holds → IsAdded added needs'.holds (hold n e.at (need_of e.call e.reply)) →
-        now' ≡ meaning.leaves now e.at e.call e.reply →
-        kept.live ≡ log.live → kept.entries ≡ log.entries → log'.live ≡ kept.live →
-        log'.entries ≡ kept.entries ++ (n, Asked e) ∷ [] →
-        CallRow meaning (state_of format now needs log wear) n e
-        (state_of format now' needs' log' (wear + 1))
-    called_row e now' added needs' kept log' can room same holds made live_kept entries_kept live
-        entries =
-        let noted : log'.entries ≡ log.entries ++ (n, Asked e) ∷ [] =
-        entries ∙ ap (λ l. l ++ (n, Asked e) ∷ []) entries_kept in
-        let lives : log'.live ≡ log.live = live ∙ live_kept in
-        record {
+      -- A transaction is taken out.
+      pub left_row : now' ≡ now → IsGivenUp held held' n → log'.live ≡ maps.remove log.live n →
+          log'.entries ≡ others n log.entries → wear' ≡ wear → IsLeft before n behind
+      left_row there given live entries worn =
+          record { holds = given; is = same_parts format there live entries refl worn }
+
+      module _ (meaning : Meaning S ℕ) where
+        -- A call is made and noted.
+        pub called_row : (e : Event) → CanCall meaning before n e → HasRoomFor before 1 →
+            IsAdded held held' (hold n e.at (need_of e.call e.reply)) →
+            now' ≡ meaning.leaves now e.at e.call e.reply → log'.live ≡ log.live →
+            log'.entries ≡ log.entries ++ (n, Asked e) ∷ [] → wear' ≡ wear + 1 →
+            CallRow meaning before n e behind
+        called_row e can room added made live entries worn = record {
           can = can;
           room = room;
-          holds = subst (λ l. IsAdded l needs'.holds (hold n e.at (need_of e.call e.reply))) same
-              holds;
-          is = ap (λ v. let s : State S =
-              record {
-                now = v;
-                live = log'.live;
-                entries = log'.entries;
-                holds = needs'.holds;
-                wear = wear + 1;
-                format = format;
-              } in s) made
-              ∙ ap (λ v. let s : State S = record {
-                now = meaning.leaves now e.at e.call e.reply;
-                live = v;
-                entries = log'.entries;
-                holds = needs'.holds;
-                wear = wear + 1;
-                format = format;
-              } in s)
-              lives
-              ∙ ap (λ v. let s : State S = record {
-                now = meaning.leaves now e.at e.call e.reply;
-                live = log.live;
-                entries = v;
-                holds = needs'.holds;
-                wear = wear + 1;
-                format = format;
-              } in s) noted;
+          holds = added;
+          is = same_parts format made live entries refl worn;
         }
 
-    -- A call that only reads is noted.
-    pub read_row : (e : Event) (added : List _) (needs' : Holdings) (kept log' : Log) →
-        CanCall meaning (state_of format now needs log wear) n e → reads e.call e.reply ≡ true →
-        HasRoomFor (state_of format now needs log wear) 1 →
-        added ≡ needs.holds → IsAdded added needs'.holds (hold n e.at (need_of e.call e.reply)) →
-        kept.live ≡ log.live → kept.entries ≡ log.entries → log'.live ≡ kept.live →
-        log'.entries ≡ kept.entries ++ (n, Asked e) ∷ [] →
-        ReadRow meaning (state_of format now needs log wear) n e
-        (state_of format now needs' log' wear)
-    read_row e added needs' kept log' can only_reads room same holds live_kept entries_kept live
-        entries = record {
+        -- A call that only reads is noted.
+        pub read_row : (e : Event) → CanCall meaning before n e → reads e.call e.reply ≡ true →
+            HasRoomFor before 1 → IsAdded held held' (hold n e.at (need_of e.call e.reply)) →
+            now' ≡ now → log'.live ≡ log.live → log'.entries ≡ log.entries ++ (n, Asked e) ∷ [] →
+            wear' ≡ wear → ReadRow meaning before n e behind
+        read_row e can only_reads room added there live entries worn = record {
           can = can;
           only_reads = only_reads;
           room = room;
-          holds = subst (λ l. IsAdded l needs'.holds (hold n e.at (need_of e.call e.reply))) same
-              holds;
-          is = ap (λ v. let s : State S =
-              record {
-                now = now;
-                live = v;
-                entries = log'.entries;
-                holds = needs'.holds;
-                wear = wear;
-                format = format;
-              } in s) (live ∙ live_kept)
-              ∙ ap (λ v. let s : State S = record {
-                now = now;
-                live = log.live;
-                entries = v;
-                holds = needs'.holds;
-                wear = wear;
-                format = format;
-              } in s) (entries ∙ ap (λ l. l ++ (n, Asked e) ∷ []) entries_kept);
+          holds = added;
+          is = same_parts format there live entries refl worn;
         }
+
+        -- A call is put off and noted.
+        pub put_row : (at : ℕ) (c : Call) → CanPutOff meaning before n at c → HasRoomFor before 1 →
+            IsAdded held held' (hold n at (need_of c Reply.Done)) → now' ≡ now →
+            log'.live ≡ log.live → log'.entries ≡ log.entries ++ (n, PutOff at c) ∷ [] →
+            wear' ≡ wear + 1 → LaterRow meaning before n at c behind
+        put_row at c can room added there live entries worn = record {
+          can = can;
+          room = room;
+          holds = added;
+          is = same_parts format there live entries refl worn;
+        }
+
+        -- What was put off ran, and the transaction is taken out.
+        pub committed_row : (es : List Entry) → es ≡ own n log.entries → IsRunning before n →
+            Leads (Does meaning) (laters_of es) now now' → IsGivenUp held held' n →
+            log'.live ≡ maps.remove log.live n → log'.entries ≡ others n log.entries →
+            wear' ≡ wear + length (laters_of es) → CommitRow meaning before n behind
+        committed_row es same running runs given live entries worn = record {
+          running = running;
+          next = now';
+          runs = subst (λ l. Leads (Does meaning) (laters_of l) now now') same runs;
+          left = record {
+            holds = given;
+            is = same_parts format refl live entries refl
+                (worn ∙ ap (λ l. wear + length (laters_of l)) same);
+          };
+        }
+
+    -- A transaction begins.
+    pub begun_row : (log' : Log) (wear' : ℕ) → CanBegin before n → HasRoomFor before 0 →
+        log'.live ≡ maps.insert log.live n false → log'.entries ≡ log.entries → wear' ≡ wear + 1 →
+        BeginRow before n (state_of format now held log' wear')
+    begun_row log' wear' can room live entries worn = record {
+      can = can;
+      room = omega (arith, room);
+      is = same_parts format refl live entries refl worn;
+    }
 
 -- A making that the collections refuse is none of the machine's steps.
 pub make_stuck : {S : Type 0} (making : Making S) (steps : State S → Record → State S → Type 0)

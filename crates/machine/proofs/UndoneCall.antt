@@ -7,7 +7,7 @@ use Rattle.std.specs.List.{filter}
 use Rattle.calls.specs.declared.format.Format.{Format}
 use Rattle.calls.specs.Reads.{reads}
 use Rattle.calls.specs.Transactions.{Event, Entry, Asked, PutOff, own, calls_of}
-use Rattle.abstract_locks.specs.Holds.{Holdings}
+use Rattle.abstract_locks.specs.declared.table.Hold.{Hold}
 use Rattle.undo_log.specs.declared.logged.Logged.{Logged}
 use Rattle.undo_log.specs.Entries.{event_of, HasNoCall, HasNewestCall, IsNewestCall}
 use Rattle.undo_log.specs.Logs.{Log, Lives, fallen}
@@ -15,6 +15,7 @@ use Rattle.boosted.specs.Meaning.{Undoes, Meaning}
 use Rattle.machine.specs.Machine.{State, BackRow, FallRow, UnreadRow, HasNewestRead}
 use Rattle.machine.specs.Machine.{WrittenBackRow}
 use Rattle.machine.specs.Views.{state_of}
+use Rattle.machine.proofs.Rows.{same_parts}
 
 none_behind : (b : Bool) (n k : ℕ) (e : Entry) (rest : List (ℕ × Entry)) →
     calls_of (map (λ x. x.1) (cond b ((k, e) ∷ filter (λ x. x.0 == n) rest)
@@ -84,111 +85,58 @@ popped_rest n es left x rest (Some l) newest found none =
 popped_rest n es left x rest None newest found none =
     absurd (has_call n newest.before newest.after x (subst (HasNoCall n) newest.is none))
 
-module _ {S : Type 0} (meaning : Meaning S ℕ)
-    (format : Format) (now : S) (needs : Holdings) (log : Log) (wear n : ℕ) where
-  -- The newest call is undone and taken out.
-  pub undone_row : (x : Event) (now' : S) (popped log' : Log) (taken : Option Logged) →
-      Lives log.live n → HasNewestCall n log.entries x →
-      Undoes meaning now x.at x.call x.reply now' →
-      IfSome taken (λ l. IsNewestCall n log.entries (event_of l) popped.entries) →
-      IfNone taken (HasNoCall n log.entries) →
-      popped.live ≡ log.live → log'.live ≡ fallen popped.live n → log'.entries ≡ popped.entries →
-      BackRow meaning (state_of format now needs log wear) n
-      (state_of format now' needs log' (wear + 1))
-  undone_row x now' popped log' taken live newest undone found none same falls rest =
-      let left : log'.entries ≡ newest.0 =
-      rest ∙ popped_rest n log.entries popped.entries x newest.0 taken newest.1 found none in
-      let fell : log'.live ≡ fallen log.live n = falls ∙ ap (λ v. fallen v n) same in
-      record {
-        live = live;
-        call = x;
-        rest = newest.0;
-        newest = newest.1;
-        next = now';
-        undoes = undone;
-        is = ap (λ v. let s : State S =
-            record {
-              now = now';
-              live = v;
-              entries = log'.entries;
-              holds = needs.holds;
-              wear = wear + 1;
-              format = format;
-            } in s) fell
-            ∙ ap (λ v. let s : State S = record {
-              now = now';
-              live = fallen log.live n;
-              entries = v;
-              holds = needs.holds;
-              wear = wear + 1;
-              format = format;
-            } in s) left;
-      }
+module _ {S : Type 0} (format : Format) (now : S) (held : List Hold) (log : Log) (wear n : ℕ)
+  where
+    -- The newest call is undone and taken out.
+    pub undone_row : (meaning : Meaning S ℕ) (x : Event) (now' : S) (held' : List Hold)
+        (left : List (ℕ × Entry)) (log' : Log) (wear' : ℕ) (taken : Option Logged) →
+        Lives log.live n → HasNewestCall n log.entries x →
+        Undoes meaning now x.at x.call x.reply now' →
+        IfSome taken (λ l. IsNewestCall n log.entries (event_of l) left) →
+        IfNone taken (HasNoCall n log.entries) →
+        held' ≡ held → log'.live ≡ fallen log.live n → log'.entries ≡ left → wear' ≡ wear + 1 →
+        BackRow meaning (state_of format now held log wear) n
+        (state_of format now' held' log' wear')
+    undone_row meaning x now' held' left log' wear' taken live newest undone found none still falls
+        rest worn = record {
+          live = live;
+          call = x;
+          rest = newest.0;
+          newest = newest.1;
+          next = now';
+          undoes = undone;
+          is = same_parts format refl falls
+              (rest ∙ popped_rest n log.entries left x newest.0 taken newest.1 found none) still
+              worn;
+        }
 
-module _ {S : Type 0} (format : Format) (now : S) (needs : Holdings) (log : Log) (wear n : ℕ) where
-  -- Nothing is left to undo.
-  pub fall_done : (log' : Log) → Lives log.live n → HasNoCall n log.entries →
-      log'.live ≡ fallen log.live n → log'.entries ≡ log.entries →
-      FallRow (state_of format now needs log wear) n (state_of format now needs log' wear)
-  fall_done log' live none falls same = record {
-    live = live;
-    undone = none;
-    is = ap (λ v. let s : State S =
+    -- Nothing is left to undo.
+    pub fall_done : (log' : Log) (wear' : ℕ) → Lives log.live n → HasNoCall n log.entries →
+        log'.live ≡ fallen log.live n → log'.entries ≡ log.entries → wear' ≡ wear →
+        FallRow (state_of format now held log wear) n (state_of format now held log' wear')
+    fall_done log' wear' live none falls same worn = record {
+      live = live;
+      undone = none;
+      is = same_parts format refl falls same refl worn;
+    }
+
+    -- The newest call is taken out, which only reads.
+    pub unread_row : (left : List (ℕ × Entry)) (log' : Log) (wear' : ℕ) (taken : Option Logged) →
+        Lives log.live n → HasNewestRead n log.entries →
+        IfSome taken (λ l. IsNewestCall n log.entries (event_of l) left) →
+        IfNone taken (HasNoCall n log.entries) →
+        log'.live ≡ fallen log.live n → log'.entries ≡ left → wear' ≡ wear →
+        UnreadRow (state_of format now held log wear) n (state_of format now held log' wear')
+    unread_row left log' wear' taken live (x, kept, newest, only_reads) found none falls rest worn =
         record {
-          now = now;
-          live = v;
-          entries = log'.entries;
-          holds = needs.holds;
-          wear = wear;
-          format = format;
-        } in
-        s) falls
-        ∙ ap (λ v. let s : State S = record {
-          now = now;
-          live = fallen log.live n;
-          entries = v;
-          holds = needs.holds;
-          wear = wear;
-          format = format;
-        } in s) same;
-  }
-
-  -- The newest call is taken out, which only reads.
-  pub unread_row : (popped log' : Log) (taken : Option Logged) → Lives log.live n →
-      HasNewestRead n log.entries →
-      IfSome taken (λ l. IsNewestCall n log.entries (event_of l) popped.entries) →
-      IfNone taken (HasNoCall n log.entries) →
-      popped.live ≡ log.live → log'.live ≡ fallen popped.live n → log'.entries ≡ popped.entries →
-      UnreadRow (state_of format now needs log wear) n (state_of format now needs log' wear)
-  unread_row popped log' taken live (x, kept, newest, only_reads) found none same falls rest =
-      let left : log'.entries ≡ kept =
-      rest ∙ popped_rest n log.entries popped.entries x kept taken newest found none in
-      let fell : log'.live ≡ fallen log.live n = falls ∙ ap (λ v. fallen v n) same in
-      record {
-        live = live;
-        call = x;
-        rest = kept;
-        newest = newest;
-        only_reads = only_reads;
-        is = ap (λ v. let s : State S =
-            record {
-              now = now;
-              live = v;
-              entries = log'.entries;
-              holds = needs.holds;
-              wear = wear;
-              format = format;
-            }
-            in s) fell
-            ∙ ap (λ v. let s : State S = record {
-              now = now;
-              live = fallen log.live n;
-              entries = v;
-              holds = needs.holds;
-              wear = wear;
-              format = format;
-            } in s) left;
-      }
+          live = live;
+          call = x;
+          rest = kept;
+          newest = newest;
+          only_reads = only_reads;
+          is = same_parts format refl falls
+              (rest ∙ popped_rest n log.entries left x kept taken newest found none) refl worn;
+        }
 
 -- Whether a number has a call is decided.
 pub some_or_none : (n : ℕ) (es : List (ℕ × Entry)) → ((HasNoCall n es → ⊥) → ⊥) → HasNoCall n es

@@ -18,8 +18,8 @@ use Rattle.abstract_locks.specs.declared.table.Hold.{Hold}
 use Rattle.abstract_locks.specs.Holds.{hold, IsClear, IsAdded, IsGivenUp}
 use Rattle.undo_log.specs.Entries.{HasNoCall, IsNewestCall}
 use Rattle.undo_log.specs.Logs.{Statuses, Lives, Falls, fallen}
-use Rattle.boosted.specs.Meaning as shape
 use Rattle.boosted.specs.Meaning.{CanAsk, CanDefer, Undoes, Meaning}
+use Rattle.shelf.specs.Shelves as shelves
 use Rattle.catalog.specs.Making.{IsNew, Making}
 use Rattle.record_format.specs.declared.record.Record.{Record}
 use Rattle.record_format.specs.Acts.{event_of}
@@ -113,7 +113,7 @@ pub record MakeRow {S : Type 0} (making : Making S) (s : State S) (name : List �
 module _ {S : Type 0} (meaning : Meaning S ℕ) where
   -- The call, answered so, leads from one content to another.
   abbrev pub Does : S → Event → S → Type 0
-  Does s e t = shape.Does meaning s e.at e.call e.reply t
+  Does = shelves.Does meaning
 
   -- The live calls lead from c to what the collections hold now: c is what they would hold without
   -- the live transactions.

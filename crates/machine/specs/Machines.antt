@@ -1,20 +1,20 @@
 -- The machine over records as an object: the states that it may be in, and what it answers of a
 -- record.
-use Rattle.std.specs.Prelude.{◌≡◌, ℕ, ◌+◌, ◌≤◌, ◌↔◌, List, [], length, Contains, Bool, true}
+use Rattle.std.specs.Prelude.{◌≡◌, ℕ, ◌+◌, ◌≤◌, ◌↔◌, [], length, Contains, Bool, true}
 use Rattle.std.specs.Prelude.{false, Result, Ok, Err}
 use Rattle.std.specs.FinMap as maps
 use Rattle.std.specs.List.{AllByRecursion}
 use Rattle.calls.specs.declared.refusal.Refusal.{Refusal}
 use Rattle.calls.specs.declared.format.Format.{Format}
-use Rattle.calls.specs.Rules.{Askable, IsShort, Disposable, Deferrable, Pairs}
-use Rattle.calls.specs.Transactions.{Event, Entry, Asked, PutOff, Leads, own}
+use Rattle.calls.specs.Rules.{Askable, IsShort, Deferrable, Pairs}
+use Rattle.calls.specs.Transactions.{Entry, Asked, PutOff, own}
 use Rattle.calls.specs.Limits.{max_collections, max_live, max_calls, max_wear}
 use Rattle.abstract_locks.specs.declared.table.Hold.{Hold}
 use Rattle.undo_log.specs.Logs.{Lives}
 use Rattle.record_format.specs.declared.record.Record.{Record}
 use Rattle.record_format.specs.Records.{IsNumber}
 use Rattle.record_format.specs.Short.{IsShortReply}
-use Rattle.machine.specs.Machine.{State, Does}
+use Rattle.machine.specs.Machine.{State}
 use Rattle.boosted.specs.Meaning.{Meaning}
 use Rattle.catalog.specs.Making.{Making}
 
@@ -53,18 +53,6 @@ module _ {S : Type 0} (meaning : Meaning S ℕ) (making : Making S) (short : For
     pub spells : short s.format s.now
     pub asked : AllByRecursion (λ e. IsAskedEntry s.format e.1) s.entries
     pub holds : sound s
-
--- ---- what is put off to a commit
-
--- The calls can be made from the content one after another: each may run in a commit, and there is
--- room in the wear for all.
-pub record CanRun {S : Type 0} (meaning : Meaning S ℕ) (es : List Event) (s : S) : Type 0 where
-  pub next : S
-  pub runs : Leads (Does meaning) es s next
-  pub late : AllByRecursion (λ e. Disposable e.call) es
-  pub wear : ℕ
-  pub reached : meaning.within s wear
-  pub room : wear + length es ≤ max_wear
 
 -- ---- repeating a record
 

@@ -17,8 +17,6 @@
 //! call touches nothing here: what it needs is in the laws of `boosted`.
 #![tactic(auto)]
 
-mod laters;
 mod machine;
-mod undoing;
 
 pub use machine::{Machine, unmade};

@@ -30,13 +30,12 @@ ghost use Rattle.calls.specs.Rules.{need_of};
 ghost use Rattle.calls.specs.Reads.{reads};
 ghost use Rattle.calls.specs.Limits.{max_collections, max_calls, max_wear};
 
-use crate::laters::run_laters;
-use crate::undoing::undo;
 use calls::limits::MAX_LIVE;
 use calls::{Call, Format, Kind, Name, Need, Refusal, Reply};
 use catalog::Parts;
 use ledger::Ledger;
 use records::{CallRecord, Coded, LaterRecord, Record, is_short_reply};
+use shelf::Shelf;
 use std::alloc::Global;
 use std::marker::Model;
 use undo_log::{Later, Live, Logged};
@@ -47,9 +46,9 @@ use undo_log::{Later, Live, Logged};
 /// Contracts see what the collections hold now, the live transactions with what they asked for and
 /// did not undo, the needs that they hold, and the wear.
 pub struct Machine<B: Parts + Coded> {
-    parts: B,
+    // all of the collections
+    shelf: Shelf<B>,
     ledger: Ledger,
-    wear: u64,
     format: Format,
 }
 
@@ -57,12 +56,11 @@ pub struct Machine<B: Parts + Coded> {
 impl<B: Parts + Coded + Drop> Drop for Machine<B> {
     fn drop(self) {
         let Self {
-            parts,
+            shelf,
             ledger,
-            wear: _wear,
             format: _format,
         } = self;
-        drop(parts);
+        drop(shelf);
         drop(ledger);
     }
 }
@@ -81,11 +79,11 @@ impl<B: Parts + Coded> Model for Machine<B> {
 
     ghost coded = { Prim.hlevel (codes, maps.code {R = nat_cmp} coded_ℕ coded_bool) };
 
-    ghost view = { λ m. state_with m.format m.parts m.ledger m.wear };
+    ghost view = { λ m. state_with m.format m.shelf m.ledger };
 
     ghost invariant = { λ m. IsUpheld B.meaning B.making (λ f s. AreShort f (B.collections s))
         (IsSound B.meaning B.making)
-        (state_with m.format m.parts m.ledger m.wear) };
+        (state_with m.format m.shelf m.ledger) };
 }
 
 impl<B: Parts + Coded> Machine<B> {
@@ -99,9 +97,8 @@ impl<B: Parts + Coded> Machine<B> {
         ensures { result ≡ resting format parts wear }
     {
         Self {
-            parts,
-            ledger: Ledger::new(alloc),
-            wear,
+            shelf: Shelf::new(alloc, parts),
+            ledger: Ledger::new(alloc, wear),
             format,
         }
     }
@@ -110,7 +107,7 @@ impl<B: Parts + Coded> Machine<B> {
     pub fn parts(&self) -> &B
         ensures { result.now ≡ self.now.now }
     {
-        &self.parts
+        self.shelf.collections()
     }
 
     /// The format of the store.
@@ -128,7 +125,7 @@ impl<B: Parts + Coded> Machine<B> {
         ensures ok { IsOk result ↔ CanAsk B.meaning self.now.format self.now.now at call.now }
         ensures err { IfErr result (AskRefused B.meaning self.now.format self.now.now at call.now) }
     {
-        self.parts.askable(at, call)?;
+        self.parts().askable(at, call)?;
         if !call.is_short(self.format) {
             return Err(Refusal::TooLong);
         }
@@ -140,7 +137,7 @@ impl<B: Parts + Coded> Machine<B> {
     pub fn wear(&self) -> u64
         ensures { result ≡ self.now.wear }
     {
-        self.wear
+        self.ledger.wear()
     }
 
     /// What holds of every machine: the limits, that each call may still be undone, and what the
@@ -149,7 +146,7 @@ impl<B: Parts + Coded> Machine<B> {
         ensures { IsUpheld B.meaning B.making (λ f s. AreShort f (B.collections s))
             (IsSound B.meaning B.making) self.now }
     {
-        let _ = &self.wear;
+        let _ = &self.format;
     }
 
     /// How many transactions are live.
@@ -211,10 +208,10 @@ impl<B: Parts + Coded> Machine<B> {
         let Some(newest) = self.ledger.live().newest(number) else {
             unreachable!();
         };
-        undo(&mut self.parts, newest)?;
+        self.shelf.undo(newest)?;
         let _undone = self.ledger.pop(number);
         self.ledger.fall(number);
-        self.wear += 1;
+        self.ledger.add_wear(1);
         Ok(())
     }
 
@@ -225,6 +222,7 @@ impl<B: Parts + Coded> Machine<B> {
         ensures { EndedRow self.old number self.new }
     {
         self.ledger.remove(number);
+        self.shelf.give_up(number);
     }
 
     /// The collections, where the machine is no more needed.
@@ -240,25 +238,23 @@ impl<B: Parts + Coded> Machine<B> {
             (B.collections result) }
     {
         let Self {
-            parts,
+            shelf,
             ledger,
-            wear: _wear,
             format: _format,
         } = self;
         drop(ledger);
-        parts
+        shelf.into_collections()
     }
 
     /// The machine of its parts, for which holds what holds of every machine.
-    pub fn of_parts(format: Format, parts: B, ledger: Ledger, worn: u64) -> Self
+    pub fn of_parts(format: Format, shelf: Shelf<B>, ledger: Ledger) -> Self
         requires { IsUpheld B.meaning B.making (λ f s. AreShort f (B.collections s))
-            (IsSound B.meaning B.making) (state_with format parts ledger worn) }
-        ensures { result ≡ state_with format parts ledger worn }
+            (IsSound B.meaning B.making) (state_with format shelf ledger) }
+        ensures { result ≡ state_with format shelf ledger }
     {
         Self {
-            parts,
+            shelf,
             ledger,
-            wear: worn,
             format,
         }
     }
@@ -268,15 +264,13 @@ impl<B: Parts + Coded> Machine<B> {
         ensures { result ≡ record self { format = widest } }
     {
         let Self {
-            parts,
+            shelf,
             ledger,
-            wear,
             format: _format,
         } = self;
         Self {
-            parts,
+            shelf,
             ledger,
-            wear,
             format: Format::Two,
         }
     }
@@ -290,7 +284,7 @@ impl<B: Parts + Coded> Machine<B> {
         ensures same { OnErr result (self.new ≡ self.old) }
         ensures err { IfErr result (naming.MakeRefused (B.making.names self.old.now) name.now) }
     {
-        let at = self.parts.make(name, kind)?;
+        let at = self.shelf.collections_mut().make(name, kind)?;
         prove!(at <= u8::MAX);
         Ok(())
     }
@@ -306,7 +300,7 @@ impl<B: Parts + Coded> Machine<B> {
         ensures refusal { IsOkUnless result Refusal.NoMemory }
     {
         self.ledger.enter(number)?;
-        self.wear += 1;
+        self.ledger.add_wear(1);
         Ok(())
     }
 
@@ -321,11 +315,11 @@ impl<B: Parts + Coded> Machine<B> {
         ensures same { OnErr result (self.new ≡ self.old) }
         ensures refusal { IsOkUnless result Refusal.NoMemory }
     {
-        self.ledger.reserve(number, asked.at)?;
-        self.parts.run(asked.at, &asked.call, &asked.reply)?;
-        let need = asked.call.need(&asked.reply);
-        self.ledger.note_call(number, asked, need);
-        self.wear += 1;
+        self.ledger.reserve(number)?;
+        self.shelf
+            .take(number, asked.at, &asked.call, &asked.reply)?;
+        self.ledger.note_call(number, asked);
+        self.ledger.add_wear(1);
         Ok(())
     }
 
@@ -342,9 +336,10 @@ impl<B: Parts + Coded> Machine<B> {
         ensures same { OnErr result (self.new ≡ self.old) }
         ensures refusal { IsOkUnless result Refusal.NoMemory }
     {
-        self.ledger.reserve(number, asked.at)?;
+        self.ledger.reserve(number)?;
         let held = asked.call.need(&asked.reply);
-        self.ledger.note_call(number, asked, held);
+        self.shelf.hold(number, asked.at, held)?;
+        self.ledger.note_call(number, asked);
         Ok(())
     }
 
@@ -369,10 +364,11 @@ impl<B: Parts + Coded> Machine<B> {
         ensures same { OnErr result (self.new ≡ self.old) }
         ensures refusal { IsOkUnless result Refusal.NoMemory }
     {
-        self.ledger.reserve(number, put.at)?;
+        self.ledger.reserve(number)?;
         let need = put.call.need(&Reply::Done);
-        self.ledger.note_later(number, put, need);
-        self.wear += 1;
+        self.shelf.hold(number, put.at, need)?;
+        self.ledger.note_later(number, put);
+        self.ledger.add_wear(1);
         Ok(())
     }
 
@@ -383,9 +379,9 @@ impl<B: Parts + Coded> Machine<B> {
         ensures { CommitRow B.meaning self.old number self.new }
     {
         let entries = self.ledger.live().entries_of(number);
-        let ran = run_laters(&mut self.parts, entries);
-        self.wear += ran;
+        let ran = self.shelf.settle(number, entries);
         self.ledger.remove(number);
+        self.ledger.add_wear(ran);
     }
 
     /// Makes a transaction falling of which nothing is left to undo. It takes no memory.
@@ -442,7 +438,7 @@ impl<B: Parts + Coded> Machine<B> {
         ensures clear { OnOk result (IsClear self.now.holds number at need.now) }
         ensures busy { IfErr result (IsBusyRefusal self.now.holds number at need.now) }
     {
-        self.ledger.test(number, at, need)
+        self.shelf.test(number, at, need)
     }
 
     // The record's step, from this very state.
@@ -567,9 +563,7 @@ impl<B: Parts + Coded> Machine<B> {
         requires { IsNumber number }
         ensures { IsTrue result ↔ (CanBegin self.now number × HasRoomFor self.now 0) }
     {
-        !self.is_live(number)
-            && self.count_live() < MAX_LIVE
-            && self.ledger.has_room(self.wear + 1, 0)
+        !self.is_live(number) && self.count_live() < MAX_LIVE && self.ledger.has_room(1, 0)
     }
 
     // Whether the transaction can make the call and get the reply.
@@ -594,7 +588,7 @@ impl<B: Parts + Coded> Machine<B> {
         ensures { IsTrue result ↔ (IsRunning self.now number ×
             (length (own number self.now.entries) < max_calls) × HasRoomFor self.now 1) }
     {
-        self.ledger.has_place(number, self.wear + 1) && !self.ledger.live().is_falling(number)
+        self.ledger.has_place(number, 1) && !self.ledger.live().is_falling(number)
     }
 
     // Whether the call can get the reply, which has no value too long for the format, leaves
@@ -607,7 +601,7 @@ impl<B: Parts + Coded> Machine<B> {
             IsClear self.now.holds called.now.number called.now.collection
             (need_of called.now.call called.now.reply)) }
     {
-        self.parts
+        self.parts()
             .fits(called.collection, &called.call, &called.reply)
             && is_short_reply(self.format, &called.reply)
             && !self.goes_twice(
@@ -625,7 +619,7 @@ impl<B: Parts + Coded> Machine<B> {
             (need_of called.now.call called.now.reply) }
     {
         let need = called.call.need(&called.reply);
-        self.ledger
+        self.shelf
             .test(called.number, called.collection, &need)
             .is_ok()
     }
@@ -636,7 +630,10 @@ impl<B: Parts + Coded> Machine<B> {
             later.now.collection later.now.call × HasRoomFor self.now 1) }
     {
         self.has_place(later.number)
-            && self.parts.deferrable(later.collection, &later.call).is_ok()
+            && self
+                .parts()
+                .deferrable(later.collection, &later.call)
+                .is_ok()
             && self.is_clear_later(later)
     }
 
@@ -646,7 +643,7 @@ impl<B: Parts + Coded> Machine<B> {
             (need_of later.now.call Reply.Done) }
     {
         let need = later.call.need(&Reply::Done);
-        self.ledger
+        self.shelf
             .test(later.number, later.collection, &need)
             .is_ok()
     }

@@ -3,6 +3,7 @@
 use Rattle.std.specs.Prelude.{◌≡◌, ◌⊎◌, ℕ, zero, suc, ◌<◌, Bool, true, false, [], ◌∷◌, ◌++◌}
 use Rattle.std.specs.Prelude.{length, Option, None, Some, unwrap_or, is_some, Result, Ok, Err}
 use Rattle.std.specs.List.{AllByRecursion}
+use Rattle.calls.specs.Limits.{max_collections}
 use Rattle.calls.specs.declared.refusal.Refusal.{Refusal}
 use Rattle.disk_model.specs.declared.disk.Disk.{Ghosts}
 use Rattle.checkpoint.specs.Imaging.{pieces_left}
@@ -21,16 +22,16 @@ abbrev pub copied : ℕ → Past
 copied zero = []
 copied (suc k) = (Step.Gather, Answer.Gathered true) ∷ copied k
 
--- With this one all are copied; or so many were as a book has.
+-- With this one all are copied; or so many were as a book has at most.
 abbrev pub CopiesLast : ℕ → Past → Type 0
-CopiesLast k steps = ((k < 256) × (steps ≡ (Step.Gather, Answer.Gathered false) ∷ [])) ⊎
-    ((k ≡ 256) × (steps ≡ []))
+CopiesLast k steps = ((k < max_collections) × (steps ≡ (Step.Gather, Answer.Gathered false) ∷ [])) ⊎
+    ((k ≡ max_collections) × (steps ≡ []))
 
--- Collections are copied until none is left, 256 at most; or that is refused.
+-- Collections are copied until none is left, at most so many as a store has; or that is refused.
 abbrev pub Gathers : Result (Unit {0}) Refusal → Past → Type 0
 Gathers (Ok done) steps =
     (k : ℕ) × (last : Past) × CopiesLast k last × (steps ≡ copied k ++ last)
-Gathers (Err e) steps = (k : ℕ) × (last : Past) × (k < 256) ×
+Gathers (Err e) steps = (k : ℕ) × (last : Past) × (k < max_collections) ×
     Tries {T = Bool} Step.Gather Answer.Gathered (Err e) last × (steps ≡ copied k ++ last)
 
 -- once all collections are copied, the book is frozen

@@ -19,7 +19,7 @@ use Rattle.record_format.specs.declared.record.Record.{Record}
 use Rattle.record_format.specs.declared.record.CallRecord.{CallRecord}
 use Rattle.record_format.specs.declared.record.LaterRecord.{LaterRecord}
 use Rattle.calls.specs.declared.item.Item.{Item}
-use Rattle.calls.specs.Limits.{number_end}
+use Rattle.calls.specs.Limits.{max_collections, number_end}
 
 -- ---- the fields
 
@@ -211,14 +211,14 @@ FitsItem (Item.Amount k n) = (k < 2 ^ 64) × FitsSigned w128 n
 
 pub record FitsCalled (c : CallRecord) : Type 0 where
   pub number : c.number < 2 ^ 64
-  pub collection : c.collection < 256
+  pub collection : c.collection < max_collections
   pub call : FitsCall c.call
   pub reply : FitsReply c.reply
   pub inverse : IfSome c.inverse FitsCall
 
 pub record FitsPutOff (l : LaterRecord) : Type 0 where
   pub number : l.number < 2 ^ 64
-  pub collection : l.collection < 256
+  pub collection : l.collection < max_collections
   pub call : FitsCall l.call
 
 abbrev pub Fits : Record → Type 0

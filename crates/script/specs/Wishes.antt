@@ -35,4 +35,5 @@ IsWishOf Wish.Wait line = line ≡ codes "wait"
 IsWishOf Wish.Keep line = line ≡ codes "keep"
 IsWishOf (Wish.Do calls) line = AreBehind (codes "do ") calls.items line
 IsWishOf (Wish.DoAndKeep calls) line = AreBehind (codes "keep ") calls.items line
+IsWishOf Wish.Status line = line ≡ codes "status"
 IsWishOf Wish.Bye line = line ≡ codes "bye"

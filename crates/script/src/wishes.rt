@@ -24,6 +24,8 @@ pub enum Wish {
     Do(Vec<Request>),
     /// The same, and a wait until it is kept.
     DoAndKeep(Vec<Request>),
+    /// How the store stands.
+    Status,
     /// The end.
     Bye,
 }
@@ -93,6 +95,9 @@ pub fn wish_of(alloc: Global, line: &[u8]) -> Result<Option<Wish>, AllocError>
     }
     if same(line, b"bye") {
         return Ok(Some(Wish::Bye));
+    }
+    if same(line, b"status") {
+        return Ok(Some(Wish::Status));
     }
     if let Some(rest) = behind(line, b"do ") {
         return match calls_of(alloc, rest)? {

@@ -264,6 +264,12 @@ impl<J: Naming> Speaker for Session<'_, '_, J> {
         }
     }
 
+    /// How the store stands, as `Client::status` tells it, in one line.
+    fn status<R: Wait>(&self, rt: &R, alloc: Global) -> Result<String, Refusal> {
+        let status = self.client.status(rt, alloc)?;
+        Ok(format!(in alloc; "{status}")?)
+    }
+
     fn is_open(&self) -> bool {
         self.client.is_open()
     }

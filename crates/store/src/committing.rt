@@ -55,7 +55,8 @@ impl<'s, D: Disk, J: Naming> Committer<'s, D, J> {
     /// block to the disk, with two writes and two syncs. `Turn::Kept` gives a place: all commits
     /// and makings up to it are kept. `Turn::Idle` says that nothing was there to do, and
     /// `Turn::Held` that the block waits for the image in progress. The block is cut under the
-    /// book's lock and written under the keeper's alone. It takes no memory.
+    /// book's lock and written under the keeper's alone. It takes no memory. How far the area in
+    /// use is filled is not told for `Client::status`.
     ///
     /// Failed after a Fault; Full where the block does not fit into the area: it is held, and goes
     /// to the disk once a checkpoint has made room; Fault where the disk failed. After Fault and
@@ -74,7 +75,7 @@ impl<'s, D: Disk, J: Naming> Committer<'s, D, J> {
     /// undoing of all that is live behind the block fits behind it, so that the disk can be opened
     /// again. While an image is written no block past it is cut, and none that does not fit, as the
     /// image may cover it: `Turn::Held`. The keeper's lock is held where the block is cut under the
-    /// book's.
+    /// book's. How far the area in use is filled then is told for `Client::status`.
     ///
     /// The refusals of `turn`. Full where the block, with that undoing, does not fit: it is not
     /// cut, and is handed over once a checkpoint has made room.
@@ -85,7 +86,9 @@ impl<'s, D: Disk, J: Naming> Committer<'s, D, J> {
         let desk = self.desk;
         let vault = self.vault;
         let mut vault = vault.lock(rt);
-        let cut = desk.lock(rt).cut_within(rt, self.shared, vault.room());
+        let cut = desk
+            .lock(rt)
+            .cut_within(rt, self.shared, vault.room(), vault.extent());
         match cut {
             Ok(()) => vault.turn(rt, self.shared, &mut self.watcher),
             Err(Refusal::Full) => Err(Refusal::Full),

@@ -60,7 +60,9 @@ mod store;
 mod vault;
 
 pub use checkpointing::{Checkpoint, Checkpointer};
-pub use clients::{Attempt, Client, Naming, Seen, Signal, Ticket, Transaction};
+pub use clients::{
+    Attempt, Client, Extent, Measured, Naming, Seen, Signal, Status, Ticket, Transaction,
+};
 pub use committing::Committer;
 pub use opened::Opened;
 pub use store::Store;

@@ -16,7 +16,7 @@ use crate::vault::Vault;
 use calls::Refusal;
 use catalog::Catalog;
 use checkpoint::Keeper;
-use clients::{Desk, Naming, Shared, Signal};
+use clients::{Desk, Extent, Naming, Shared, Signal};
 use disk_model::Disk;
 use group_commit::{
     Accord, BookSeat, DrawerMaker, Far, Handoff, KeeperSeat, Line, Mark, Near, Numbers, Receiver,
@@ -247,8 +247,9 @@ impl<D: Disk> Opened<D> {
             signal: Signal::new(),
             of: PhantomData,
         };
+        let extent = Extent::of(keeper.area());
         Store::new(
-            Desk::new(book, seat, sender, gathered_near, maker, watcher),
+            Desk::new(book, seat, sender, gathered_near, maker, watcher, extent),
             Vault::new(keeper, receiver, kept, awaited_near),
             Gatherer::new(alloc, gathered_far, awaited_far),
             shared,

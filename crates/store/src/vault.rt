@@ -9,7 +9,7 @@ ghost use Rattle.group_commit.specs.Rising.{raised_to};
 use crate::checkpointing::Checkpoint;
 use calls::Refusal;
 use checkpoint::{Keeper, Turn};
-use clients::{Naming, Room, Shared};
+use clients::{Extent, Naming, Room, Shared};
 use disk_model::Disk;
 use group_commit::{Far, Handoff, Incoming, KeeperSeat, Mark, Near, OneMoment, Receiver, Watcher};
 use std::marker::{Brand, Model, PhantomData};
@@ -62,6 +62,11 @@ impl<D: Disk, J: Naming> Vault<D, J> {
     /// How many bytes the area in use has; the other one has as many.
     pub(crate) fn size(&self) -> u64 {
         self.keeper.area().size()
+    }
+
+    /// How far the area in use is filled.
+    pub(crate) fn extent(&self) -> Extent {
+        Extent::of(self.keeper.area())
     }
 
     /// Where the next block would go.

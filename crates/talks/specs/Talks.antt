@@ -54,6 +54,12 @@ IsUnwished line Told.NotUnderstood = (wish : Wish) → IsWished line wish → �
 IsUnwished line (Told.Refused Refusal.NoMemory) = Unit {0}
 IsUnwished line told = ⊥
 
+-- what is told of how the store stands, or that this takes more memory than there is
+abbrev pub IsStatus : {A : Type 0} → Told A → Type 0
+IsStatus (Told.Status text) = Unit {0}
+IsStatus (Told.Refused Refusal.NoMemory) = Unit {0}
+IsStatus told = ⊥
+
 -- What a client is told at a line behind a silence in which its transaction was taken back: nothing
 -- at one that asks for nothing, and then the next one is to be told so still.
 abbrev pub IsTurnedAway : {A : Type 0} → Found → List ℕ → Option (Told A) → Bool → Type 0
@@ -164,6 +170,8 @@ module _ {S A : Type 0} (s : Ghosts S A) where
   Exchanges old (Wish.DoAndKeep calls) told next new =
       (outcome : Outcome A) × (mid : S) × Transacts old calls.items outcome mid ×
       KeepsOutcome mid outcome told next new
+  Exchanges old Wish.Status told next new =
+      (status : Told A) × IsStatus status × (told ≡ Some status) × (next ≡ None) × (new ≡ old)
   Exchanges old Wish.Bye told next new =
       ((told, next) ≡ telling Told.Bye) × (new ≡ old)
 

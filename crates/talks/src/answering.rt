@@ -9,7 +9,7 @@ ghost use Rattle.talks.specs.declared.transacting.Outcome.{Outcome};
 ghost use Rattle.talks.specs.Hearing.{Hears};
 ghost use Rattle.talks.specs.Talks.{Exchanges, KeepsOpen, KeepsOutcome, IsWished, IsUnwished};
 ghost use Rattle.talks.specs.Talks.{told_end, told_kept, told_outcome};
-ghost use Rattle.talks.specs.Talks.{telling};
+ghost use Rattle.talks.specs.Talks.{telling, IsStatus};
 
 use crate::hearing::Hearer;
 use crate::speaking::{End, Speaker};
@@ -69,7 +69,18 @@ pub fn exchange<R: Wait + AllocGlobal, S: Speaker, H: Hearer<S::Said>>(
             let outcome = transact(rt, rt.alloc(), speaker, calls.as_slice());
             keep_outcome(rt, speaker, hearer, outcome)
         }
+        Wish::Status => (Some(status(rt, rt.alloc(), speaker)), None),
         Wish::Bye => with_next(Told::Bye),
+    }
+}
+
+// How what the speaker speaks with stands.
+fn status<R: Wait, S: Speaker>(rt: &R, alloc: Global, speaker: &S) -> Told<S::Said>
+    ensures { IsStatus result }
+{
+    match speaker.status(rt, alloc) {
+        Ok(text) => Told::Status(text),
+        Err(refusal) => Told::Refused(refusal),
     }
 }
 

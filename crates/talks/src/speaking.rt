@@ -1,5 +1,7 @@
 // Who carries requests out.
+use calls::Refusal;
 use script::Request;
+use std::alloc::Global;
 use std::fmt;
 use std::sync::Wait;
 
@@ -25,7 +27,8 @@ impl fmt::Display for End {
 
 /// Who carries a client's requests out, one after another.
 pub trait Speaker {
-    ghost use Rattle.std.specs.Prelude.{ℕ, Option, IsTrue, ◌↔◌, ◌≡◌};
+    ghost use Rattle.std.specs.Prelude.{ℕ, Option, IsTrue, IsOkUnless, ◌↔◌, ◌≡◌};
+    ghost use Rattle.calls.specs.declared.refusal.Refusal.{Refusal};
     ghost use Rattle.script.specs.declared.action.Request.{Request};
     ghost use Rattle.talks.specs.declared.speaking.End.{End};
 
@@ -54,6 +57,13 @@ pub trait Speaker {
     /// Waits until what was last committed or made is kept.
     fn end<R: Wait>(&mut self, rt: &R) -> End
         ensures { ends self.old result self.new };
+
+    /// How what it speaks with stands, in one line. It makes no request, and waits for nothing that
+    /// is kept. The text takes memory.
+    ///
+    /// NoMemory alone is refused.
+    fn status<R: Wait>(&self, rt: &R, alloc: Global) -> Result<String, Refusal>
+        ensures { IsOkUnless result Refusal.NoMemory };
 
     /// Whether a transaction is open.
     fn is_open(&self) -> bool

@@ -18,6 +18,8 @@ pub enum Told<S> {
     Done(Vec<S>, u64),
     /// The same, and the commit is kept.
     DoneAndKept(Vec<S>, u64),
+    /// How the store stands.
+    Status(String),
     /// The line asks for nothing that is known.
     NotUnderstood,
     /// The line is longer than may be.
@@ -44,6 +46,7 @@ impl<S: fmt::Display> fmt::Display for Told<S> {
                 write_all(f, saids.as_slice())?;
                 write!(f, "kept {place}")
             }
+            Told::Status(text) => f.write_str(text.as_str()),
             Told::NotUnderstood => f.write_str("error NotUnderstood"),
             Told::TooLong => f.write_str("error LineTooLong"),
             Told::Idle => f.write_str("error Idle"),

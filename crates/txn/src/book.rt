@@ -2,6 +2,7 @@
 ghost use Rattle.std.specs.Prelude.{◌≡◌, ◌<◌, ◌≤◌, ◌+◌, [], IfOk, IfErr};
 ghost use Rattle.std.specs.Prelude.{OnOk, OnErr, Ok, Err, IsOkUnless, length, true, false};
 ghost use Rattle.std.specs.Prelude.{◌↔◌, IsNone, IfSome};
+ghost use Rattle.std.specs.FinMap as maps;
 ghost use Rattle.calls.specs.Names.{IsName};
 ghost use Rattle.calls.specs.Transactions.{Whole, own};
 ghost use Rattle.undo_log.specs.Entries.{event_of};
@@ -134,6 +135,28 @@ impl<B: Parts + Coded> Book<B> {
         ensures { result ≡ self.now.next }
     {
         self.next
+    }
+
+    /// The format of the store. This is no step.
+    pub fn format(&self) -> Format
+        ensures { result ≡ self.now.state.format }
+    {
+        self.machine.format()
+    }
+
+    /// How many transactions are live. This is no step.
+    pub fn count_live(&self) -> usize
+        ensures { result ≡ maps.len self.now.state.live }
+    {
+        self.machine.count_live()
+    }
+
+    /// How much the store is worn: how often anything was entered, called, put off, run in a commit
+    /// or undone over its life, up to 2^61. This is no step.
+    pub fn wear(&self) -> u64
+        ensures { result ≡ self.now.state.wear }
+    {
+        self.machine.wear()
     }
 
     /// How many records wait to be handed over. This is no step.

@@ -1,6 +1,6 @@
 -- The losers, transactions that were live when the store stopped, and the records of their undoing.
-use Rattle.std.specs.Prelude.{◌≡◌, ℕ, ◌+◌, ◌*◌, ◌/◌, ◌<◌, ◌↔◌, List, [], ◌∷◌, ◌++◌, length, take}
-use Rattle.std.specs.Prelude.{drop, replicate, Contains}
+use Rattle.std.specs.Prelude.{◌≡◌, ℕ, ◌+◌, ◌-◌, ◌*◌, ◌/◌, ◌<◌, ◌↔◌, List, [], ◌∷◌, ◌++◌, length}
+use Rattle.std.specs.Prelude.{take, drop, replicate, Contains}
 use Rattle.std.specs.List.{flat_map}
 use Rattle.std.specs.FinMap as maps
 use Rattle.calls.specs.Transactions.{Entry, own, calls_of}
@@ -41,11 +41,24 @@ pub record IsOver (n : ℕ) (s t : State) : Type 0 where
   pub fewer : maps.len t.live + 1 ≡ maps.len s.live
   pub others : (m : ℕ) → (m ≡ n → ⊥) → own m t.entries ≡ own m s.entries
 
--- The records in blocks of 64, the last with the rest.
+-- the most records of an undoing in one block
+abbrev pub max_group : ℕ
+max_group = 64
+
+-- how many bytes a record of an undoing takes: its tag and the number of the transaction
+abbrev pub undo_len : ℕ
+undo_len = 9
+
+-- The most bytes that a block of an undoing takes, with the gate behind it.
+abbrev pub undo_block_len : ℕ
+undo_block_len = block_head + max_group * undo_len + 1
+
+-- The records in blocks of so many, the last with the rest.
 abbrev pub AreBlocksOf : List Record → List (List Record) → Type 0
 AreBlocksOf records [] = records ≡ []
 AreBlocksOf records (block ∷ blocks) =
-    (0 < length records) × (block ≡ take 64 records) × AreBlocksOf (drop 64 records) blocks
+    (0 < length records) × (block ≡ take max_group records) ×
+    AreBlocksOf (drop max_group records) blocks
 
 -- a record of an undoing
 abbrev pub IsUndoRecord : Record → Type 0
@@ -53,6 +66,7 @@ IsUndoRecord (Record.Back n) = IsNumber n
 IsUndoRecord (Record.Ended n) = IsNumber n
 IsUndoRecord r = ⊥
 
--- so many bytes have so many records of an undoing in blocks of 64: 9 a record, and the head of each block
+-- so many bytes have so many records of an undoing in blocks: those of each record, and the head of each block
 abbrev pub blocks_len : ℕ → ℕ
-blocks_len count = 9 * count + block_head * ((count + 63) / 64)
+blocks_len count =
+    undo_len * count + block_head * ((count + (max_group - 1)) / max_group)

@@ -6,7 +6,8 @@ ghost use Rattle.disk_model.specs.Disk.{LeavesOnly, Rises, IsAtRest};
 ghost use Rattle.gate_block.specs.Row.{IsBlockOf, block_head};
 ghost use Rattle.gate_block.specs.Area.{base_of, size_of, position_of, has_failed};
 ghost use Rattle.record_format.specs.Records.{spelling};
-ghost use Rattle.undoing.specs.Undoing.{IsUndoRecord, blocks_len};
+ghost use Rattle.undoing.specs.Undoing.{IsUndoRecord, blocks_len, max_group, undo_len};
+ghost use Rattle.undoing.specs.Undoing.{undo_block_len};
 ghost use Rattle.undoing.specs.Appending.{IsAt, HoldsFirst, IsAppended};
 
 use calls::Refusal;
@@ -39,7 +40,7 @@ pub fn blocks_len(count: u64) -> u64
 /// Room for one block of the undoing's records.
 pub fn make_room(alloc: Global) -> Result<Vec<u8>, Refusal>
     ensures head { IfOk result (λ bytes. block_head ≤ length bytes.items) }
-    ensures room { IfOk result (λ bytes. 582 ≤ vec_capacity bytes) }
+    ensures room { IfOk result (λ bytes. undo_block_len ≤ vec_capacity bytes) }
     ensures only { IfErr result (λ e. e ≡ Refusal.NoMemory) }
 {
     let mut bytes = vec![in alloc; 0; BLOCK_HEAD]?;
@@ -50,7 +51,7 @@ pub fn make_room(alloc: Global) -> Result<Vec<u8>, Refusal>
 // Spells the records one behind another, behind what the buffer holds. It takes no memory.
 fn spell(group: &[Record], bytes: &mut Vec<u8>)
     requires undo { AllByRecursion IsUndoRecord group.now }
-    requires room { vec_len bytes.old + 9 * length group.now ≤ vec_capacity bytes.old }
+    requires room { vec_len bytes.old + undo_len * length group.now ≤ vec_capacity bytes.old }
     ensures items { bytes.new.items ≡ bytes.old.items ++ spelling group.now }
     ensures capacity { vec_capacity bytes.old ≤ vec_capacity bytes.new }
 {
@@ -63,11 +64,11 @@ fn spell(group: &[Record], bytes: &mut Vec<u8>)
 fn pack(group: &[Record], bytes: &mut Vec<u8>)
     requires undo { AllByRecursion IsUndoRecord group.now }
     requires some { 0 < length group.now }
-    requires few { length group.now ≤ 64 }
+    requires few { length group.now ≤ max_group }
     requires head { block_head ≤ length bytes.old.items }
-    requires room { 582 ≤ vec_capacity bytes.old }
+    requires room { undo_block_len ≤ vec_capacity bytes.old }
     ensures block { IsBlockOf (spelling group.now) bytes.new.items }
-    ensures room { 582 ≤ vec_capacity bytes.new }
+    ensures room { undo_block_len ≤ vec_capacity bytes.new }
 {
     bytes.truncate(BLOCK_HEAD);
     spell(group, bytes);
@@ -90,7 +91,7 @@ pub fn append_all<D: Disk>(
     requires disk { base_of area.old + size_of area.old ≤ length (D.seen disk.old) }
     requires fine { has_failed area.old ≡ false }
     requires head { block_head ≤ length bytes.items }
-    requires room { 582 ≤ vec_capacity bytes }
+    requires room { undo_block_len ≤ vec_capacity bytes }
     ensures appended { OnOk result (IsAppended records.now area.old area.new (D.seen disk.old)
         (D.seen disk.new)) }
     ensures untouched { OnOk result (length records.now ≡ 0 → disk.new ≡ disk.old) }

@@ -14,7 +14,7 @@ use Rattle.checkpoint.specs.Crash.{Yields, committed_of}
 use Rattle.machine.specs.Machine.{IsSettled}
 use Rattle.machine.specs.Sound.{IsSound}
 use Rattle.machine.proofs.Journalled.{calls_journalled, laters_journalled}
-use Rattle.machine.proofs.PutOffRuns.{leads_once}
+use Rattle.shelf.proofs.PutOffRuns.{leads_once}
 use Rattle.machine.proofs.Readings.{leads_without}
 use Rattle.machine.proofs.Steps.{opened_sound}
 use Rattle.repetition.proofs.CatalogLaws.{laws}

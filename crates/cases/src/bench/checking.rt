@@ -9,8 +9,9 @@ use std::alloc::{AllocError, Global};
 
 /// Whether the content of a store is what its clients were told: the counter's number is the count
 /// of calls; no identifier was drawn twice, and all that were drawn are taken; no job was taken
-/// or picked twice, and those are left that were put and not taken; all keys are there, of the maps beside
-/// which images were written too; of a stock, and of quotas, there is left what was not spent.
+/// or picked twice, and those are left that were put and not taken; all keys are there, of the maps
+/// beside which images were written too; of a stock, and of quotas, there is left what was not
+/// spent.
 pub fn is_right(
     alloc: Global,
     catalog: &Catalog,

@@ -3,6 +3,7 @@ ghost use Rattle.std.specs.Prelude.{◌≡◌, ◌+◌, ◌<◌, ◌^◌, Some, 
 ghost use Rattle.std.specs.Prelude.{slice_get};
 ghost use Rattle.calls.specs.Contents.{AnswersAt};
 ghost use Rattle.calls.specs.Formats.{widest};
+ghost use Rattle.calls.specs.Limits.{number_end};
 ghost use Rattle.calls.specs.Rules.{IsShort};
 ghost use Rattle.cases.specs.Gatherings.{IsGoing, HasRun, CanRun};
 
@@ -29,7 +30,8 @@ const CALLS: u32 = 40;
 // How many keys, elements, priorities and tags there are: few, so that calls meet often.
 const KEYS: u32 = 12;
 
-// A collection of each kind, copies of the first of them, and the calls that were run and not handed over.
+// A collection of each kind, copies of the first of them, and the calls that were run and not handed
+// over.
 #[derive(Drop)]
 struct Gathering {
     catalog: Catalog,
@@ -95,7 +97,7 @@ impl Gathering {
     fn run(&mut self, effect: Effect) -> Result<(), Refusal>
         requires going { IsGoing self.old }
         requires position { effect.position ≡ self.old.position + 1 }
-        requires unworn { self.old.position < 2 ^ 61 }
+        requires unworn { self.old.position < number_end }
         requires answered { AnswersAt self.old.catalog effect.collection effect.call effect.reply }
         requires short { IsShort widest effect.call }
         ensures { IsGoing self.new }

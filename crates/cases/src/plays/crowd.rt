@@ -4,8 +4,10 @@ ghost use Rattle.sessions.specs.Sessions.{said_place, IsRefusal};
 
 use crate::plays::through_store::Stage;
 use boost::{Action, End, Line, Request, Said, Speaker};
+use calls::Refusal;
 use checkpoint::Turn;
 use disk_model::Disk;
+use std::alloc::Global;
 use std::sync::Wait;
 use store::Naming;
 
@@ -81,6 +83,10 @@ impl<D: Disk, J: Naming> Speaker for Crowd<'_, '_, '_, D, J> {
             }
         }
         self.stage.end_of_first(rt)
+    }
+
+    fn status<R: Wait>(&self, rt: &R, alloc: Global) -> Result<String, Refusal> {
+        self.stage.status(rt, alloc)
     }
 
     fn is_open(&self) -> bool {

@@ -1,4 +1,6 @@
 // A script through the store that threads share, on one thread.
+ghost use Rattle.std.specs.Prelude.{IsOkUnless};
+ghost use Rattle.calls.specs.declared.refusal.Refusal.{Refusal};
 ghost use Rattle.store.specs.Openings.{IsNamed};
 
 use crate::plays::runs::Ran;
@@ -110,6 +112,16 @@ impl<'c, 's, D: Disk, J: Naming> Stage<'c, 's, D, J> {
     pub fn busy_client(&self) -> Option<usize> {
         let at = self.sessions.iter().position(|session| session.is_open())?;
         Some(at.wrapping_add(1))
+    }
+
+    /// How the store stands, as the first client is told.
+    pub fn status<R: Wait>(&self, rt: &R, alloc: Global) -> Result<String, Refusal>
+        ensures { IsOkUnless result Refusal.NoMemory }
+    {
+        match self.sessions.first() {
+            Some(session) => session.status(rt, alloc),
+            None => Err(Refusal::NoMemory),
+        }
     }
 
     /// What the first client is told of its last ticket.

@@ -1,6 +1,6 @@
 use Rattle.std.proofs.Common.{sym, ◌∙◌, ap, ◌++◌, map, append-nil}
 use Rattle.std.specs.Option.{option_to_list}
-use Rattle.machine.proofs.PutOffRuns.{put_off}
+use Rattle.shelf.proofs.PutOffRuns.{put_off}
 use Rattle.gathering.specs.Gatherings.{effect_at}
 use Rattle.gathering.proofs.Laters.{laters_more, laters_all}
 use Rattle.gathering.proofs.effects.laters_in.Goals.{in-Some+in_ok-push_back, in_default}

@@ -1,5 +1,5 @@
 use Rattle.std.proofs.Common.{◌≡◌, ◌++◌, map, drop}
-use Rattle.machine.proofs.PutOffRuns.{put_off}
+use Rattle.shelf.proofs.PutOffRuns.{put_off}
 use Rattle.gathering.specs.Gatherings.{effect_at}
 use Rattle.gathering.proofs.effects.laters_in.Given as goal
 

@@ -1,22 +1,24 @@
-use Rattle.std.proofs.Common.{◌≡◌, ◌++◌, ◌∷◌, [], subst}
-use Rattle.catalog.specs.Holdings.{content_of, collections_of, AreNamed}
-use Rattle.catalog.proofs.Entries.{added, few_more, named_more}
+use Rattle.std.proofs.Common.{subst, sym}
+use Rattle.catalog.specs.Holdings.{content_of}
+use Rattle.catalog.specs.Making.{IsNew}
+use Rattle.catalog.proofs.Whole.{names_seen, turned, put_end, put_fits}
 use Rattle.catalog.proofs.catalog.Catalog.add.Goals as goal
 
--- what the entries are with the new one
-with_new : (c : goal.Joined-branch-3) →
-    collections_of c.insert.new.self.entries ≡ c.args.self.now ++
-    record { name = c.args.name.now; content = content_of c.args.holding } ∷ []
-with_new c = added _ c.self.inside.collections.entries c.self.view_is c.args.name.now
-    c.in_ok-key.key c.args.holding c.insert.new.self.entries c.in_ok-key.ensures.ok
-    c.in_ok-insert.ensures.entries c.requires.free
+pub put-requires : goal.put-requires
+put-requires c = subst (λ l. IsNew l c.args.name.now)
+    (sym (names_seen c.self.inside.names c.self.inside.shelves c.self.invariant c.args.self.now
+    c.self.view_is)) c.requires
+
+pub invariant_of-self : goal.invariant_of-self
+invariant_of-self c = put_fits c.self.inside.names c.self.inside.shelves c.self.invariant
+    c.args.self.now c.self.view_is _ (turned c.self.inside.names c.count.result c.count.ensures.len)
+    c.of_mut.result.now c.put.new.self c.of_mut.ensures.value c.args.name.now
+    (content_of c.args.holding) c.put.new.names c.put.result c.put.ensures.names
+    c.put.ensures.held c.put.ensures.names_as_before c.put.ensures.as_before
 
 pub returns-clause-ok : goal.returns-clause-ok
-returns-clause-ok c = with_new c
-
-pub invariant_of-self-2 : goal.invariant_of-self-2
-invariant_of-self-2 c = (
-  few_more c.args.self.now _ c.insert.new.self.entries (with_new c) c.requires.few,
-  named_more c.args.self.now _ (collections_of c.insert.new.self.entries)
-      (subst AreNamed c.self.view_is c.self.invariant.1) c.requires.good (with_new c),
-)
+returns-clause-ok c = put_end c.self.inside.names c.self.inside.shelves c.self.invariant
+    c.args.self.now c.self.view_is _ (turned c.self.inside.names c.count.result c.count.ensures.len)
+    c.of_mut.result.now c.put.new.self c.of_mut.ensures.value c.args.name.now
+    (content_of c.args.holding) c.put.new.names c.put.result c.put.ensures.names
+    c.put.ensures.held

@@ -1,14 +1,26 @@
+use Rattle.std.specs.Prelude.{string_bytes}
+use Rattle.std.proofs.lemmas.Result.{IfOk-weaker, IfErr-weaker}
 use Rattle.catalog.specs.Holdings.{Shows}
-use Rattle.catalog.proofs.Entries.{shown_at, named_at}
+use Rattle.catalog.proofs.Places.{at_get}
+use Rattle.catalog.proofs.Whole.{collected, held_whole, refused_whole, none_whole}
 use Rattle.catalog.proofs.catalog.Catalog.show.Goals as goal
 
-pub returns-in_ok-shown_of-in-Some-clause-ok : goal.returns-in_ok-shown_of-in-Some-clause-ok
-returns-in_ok-shown_of-in-Some-clause-ok c =
-    shown_at (λ x. Shows x c.in_ok-shown_of-in-Some.field-0) c.args.self.now
-    c.self.inside.collections.entries c.from.result c.args.col
-    (c.in-Some.name.now, c.in-Some.holding.now) c.self.view_is c.from.ensures
-    c.in-Some.ensures.entry c.in_ok-shown_of-in-Some.ensures
+pub returns-in-Some-clause-ok : goal.returns-in-Some-clause-ok
+returns-in-Some-clause-ok c = IfOk-weaker c.shown.result _ _
+    (λ shown h. at_get (λ x. Shows x shown) (collected (string_bytes c.in-Some.name.now) h.0)
+    c.args.self.now c.args.col
+    (held_whole c.self.inside.names c.self.inside.shelves c.self.invariant c.args.self.now
+    c.self.view_is c.args.col c.of.result.now c.of.ensures (string_bytes c.in-Some.name.now) h.0
+    c.in-Some.ensures.there h.1) h.2)
+    c.shown.ensures.ok
 
-pub shown_of-requires : goal.shown_of-requires
-shown_of-requires c = named_at c.self.inside.collections.entries c.from.result
-    (c.in-Some.name.now, c.in-Some.holding.now) c.self.invariant.1 c.in-Some.ensures.entry
+pub returns-in-Some-clause-err : goal.returns-in-Some-clause-err
+returns-in-Some-clause-err c = IfErr-weaker c.shown.result _ _
+    (refused_whole c.self.inside.names c.self.inside.shelves c.self.invariant c.args.self.now
+    c.self.view_is c.args.col c.of.result.now c.of.ensures (string_bytes c.in-Some.name.now)
+    c.in-Some.ensures.there) c.shown.ensures.err
+
+pub returns-in-None-clause-err : goal.returns-in-None-clause-err
+returns-in-None-clause-err c = none_whole c.self.inside.names c.self.inside.shelves
+    c.self.invariant c.args.self.now c.self.view_is c.args.col
+    c.in-None.ensures.there

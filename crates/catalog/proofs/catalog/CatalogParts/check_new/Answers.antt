@@ -1,30 +1,15 @@
-use Rattle.std.proofs.Common.{refl, sym, ◌∙◌, arith}
-use Rattle.catalog.proofs.Entries.{taken, free, many}
+use Rattle.std.proofs.Common.{subst}
+use Rattle.std.specs.Prelude.{OnOk, IfErr}
+use Rattle.catalog.specs.Making.{IsNew, NewRefused}
+use Rattle.catalog.proofs.Whole.{names_seen}
 use Rattle.catalog.proofs.catalog.CatalogParts.check_new.Goals as goal
 
-pub returns-then-contains_key-clause-err : goal.returns-then-contains_key-clause-err
-returns-then-contains_key-clause-err c = (
-  c.in_ok-check_name.ensures.ok.0 refl,
-  taken _ c.self.inside.collections.entries c.self.view_is c.args.name.now
-      (sym c.contains_key.ensures ∙ c.if-contains_key.true),
-)
-
-pub returns-then-len-ge-MAX_COLLECTIONS-clause-err :
-    goal.returns-then-len-ge-MAX_COLLECTIONS-clause-err
-returns-then-len-ge-MAX_COLLECTIONS-clause-err c =
-    let all = many _ c.self.inside.collections.entries c.self.view_is c.args.name.now in (
-      c.in_ok-check_name.ensures.ok.0 refl,
-      free _ c.self.inside.collections.entries c.self.view_is c.args.name.now
-          (sym c.contains_key.ensures ∙ c.if-contains_key.false),
-      omega arith,
-    )
-
 pub returns-clause-ok : goal.returns-clause-ok
-returns-clause-ok c =
-    let all = many _ c.self.inside.collections.entries c.self.view_is c.args.name.now in
-    record {
-      good = c.in_ok-check_name.ensures.ok.0 refl;
-      free = free _ c.self.inside.collections.entries c.self.view_is c.args.name.now
-          (sym c.contains_key.ensures ∙ c.if-contains_key.false);
-      few = omega arith;
-    }
+returns-clause-ok c = subst (λ l. OnOk c.check_new.result (IsNew l c.args.name.now))
+    (names_seen c.self.inside.names c.self.inside.shelves c.self.invariant c.args.self.now
+    c.self.view_is) c.check_new.ensures.ok
+
+pub returns-clause-err : goal.returns-clause-err
+returns-clause-err c = subst (λ l. IfErr c.check_new.result (NewRefused l c.args.name.now))
+    (names_seen c.self.inside.names c.self.inside.shelves c.self.invariant c.args.self.now
+    c.self.view_is) c.check_new.ensures.err

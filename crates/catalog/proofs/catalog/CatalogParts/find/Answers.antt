@@ -1,17 +1,17 @@
-use Rattle.std.proofs.Common.{refl, sym}
-use Rattle.catalog.proofs.Entries.{stands_at, free}
+use Rattle.std.proofs.Common.{subst}
+use Rattle.std.specs.Prelude.{IfOk, IfErr}
+use Rattle.calls.specs.Names.{IsName}
+use Rattle.catalog.specs.Making.{IsPlaceOf, FindRefused}
+use Rattle.catalog.proofs.Whole.{names_seen}
 use Rattle.catalog.proofs.catalog.CatalogParts.find.Goals as goal
 
-pub returns-in-Some-clause-ok : goal.returns-in-Some-clause-ok
-returns-in-Some-clause-ok c = (
-  c.in_ok-check_name.ensures.ok.0 refl,
-  stands_at _ c.self.inside.collections.entries c.self.view_is c.args.name.now c.in-Some.at
-      c.get_index_of.ensures.unique (sym c.in-Some.ensures.index),
-)
+pub returns-clause-ok : goal.returns-clause-ok
+returns-clause-ok c =
+    subst (λ l. IfOk c.find.result (λ at. IsName c.args.name.now × IsPlaceOf l c.args.name.now at))
+    (names_seen c.self.inside.names c.self.inside.shelves c.self.invariant c.args.self.now
+    c.self.view_is) c.find.ensures.ok
 
-pub returns-in-None-clause-err : goal.returns-in-None-clause-err
-returns-in-None-clause-err c = (
-  c.in_ok-check_name.ensures.ok.0 refl,
-  free _ c.self.inside.collections.entries c.self.view_is c.args.name.now
-      (sym c.in-None.ensures.found),
-)
+pub returns-clause-err : goal.returns-clause-err
+returns-clause-err c = subst (λ l. IfErr c.find.result (FindRefused l c.args.name.now))
+    (names_seen c.self.inside.names c.self.inside.shelves c.self.invariant c.args.self.now
+    c.self.view_is) c.find.ensures.err

@@ -1,4 +1,4 @@
-use Rattle.std.proofs.Common.{◌<◌, length, sym, ◌∙◌, subst}
+use Rattle.std.proofs.Common.{◌<◌, length, sym, ◌∙◌, subst, arith}
 use Rattle.calls.specs.Transactions.{own}
 use Rattle.undo_log.specs.Logs.{Lives}
 use Rattle.machine.specs.Machine.{State}
@@ -10,8 +10,10 @@ pub returns-then-can_ask : goal.returns-then-can_ask
 returns-then-can_ask g c = elim c.if-has_place.branch [
   | then-has_place w ↦
       let n = c.args.called.now.number in
+      let has = c.has_place.ensures.0 w.if-has_place.true in
+      let fits = has.2 in
       let place = subst (λ (s : State _). Lives s.live n × (length (own n s.entries) < 1024) ×
-      HasRoomToHold s) c.self.view_is (c.has_place.ensures.0 w.if-has_place.true) in
+      HasRoomToHold s) c.self.view_is (has.0, has.1, omega arith) in
       let ask = w.can_ask.ensures.0 (sym w.value-is ∙ c.if-can_ask.true) in (
         (λ apart. let free = c.is_apart.ensures.0 apart in
             record {

@@ -20,22 +20,23 @@ laws g = book_laws g.met.B.Boosted.laws g.met.B.Parts.laws g.met.B.Coded.told
 pub redo-requires : goal.redo-requires
 redo-requires g c =
     let noted = ap (λ log. let l : Log = log in l.entries) c.live.ensures in
-    subst (λ l. HasRoomBack g.B.Boosted.meaning (calls_of (map (λ e. e.1) l)) c.self.inside.parts)
-    (sym noted) (room_back g.B.Boosted.meaning g.B.Parts.making
-    (λ f s. AreShort f (g.B.Parts.collections s)) (laws g) _ c.self.invariant.0)
+    rw c.collections_mut.ensures.now (subst (λ l. HasRoomBack g.B.Boosted.meaning
+    (calls_of (map (λ e. e.1) l)) c.self.inside.shelf.now) (sym noted)
+    (room_back g.B.Boosted.meaning g.B.Parts.making
+    (λ f s. AreShort f (g.B.Parts.collections s)) (laws g) _ c.self.invariant.0))
 
 pub of_parts-requires : goal.of_parts-requires
 of_parts-requires g c =
     let i = c.self.inside in
     let noted = ap (λ log. let l : Log = log in l.entries) c.live.ensures in
     let done = subst (λ b. DoneAgain g.B.Boosted.meaning
-    (calls_of (map (λ e. e.1) c.live.result.now.entries)) b i.parts c.redo.new.parts)
-    c.if-not-branch.false c.in_ok-redo.ensures.ok in
+    (calls_of (map (λ e. e.1) c.live.result.now.entries)) b i.shelf.now c.redo.new.parts)
+    c.if-not-branch.false (rw c.collections_mut.ensures.now at c.in_ok-redo.ensures.ok) in
     let settled = subst (λ l. Leads (Does g.B.Boosted.meaning) (calls_of (map (λ e. e.1) l))
-    done.1.0 i.parts) noted done.1.1 in
+    done.1.0 i.shelf.now) noted done.1.1 in
     subst (λ v. IsUpheld g.B.Boosted.meaning g.B.Parts.making
     (λ f s. AreShort f (g.B.Parts.collections s)) (IsSound g.B.Boosted.meaning g.B.Parts.making)
-    (state_with i.format v i.ledger i.wear)) (sym done.0)
+    (state_with i.format (record i.shelf { now = v }) i.ledger)) (sym done.0)
     (settled_upheld g.B.Boosted.meaning g.B.Parts.making
     (λ f s. AreShort f (g.B.Parts.collections s))
     (laws g) _ c.self.invariant.0 done.1.0 settled)

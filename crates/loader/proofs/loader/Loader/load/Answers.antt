@@ -8,7 +8,7 @@ use Rattle.machine.specs.Machines.{unmade}
 use Rattle.loader.specs.Loading.{LoadRow, LoadAnswers}
 use Rattle.loader.proofs.LoadRows.{read_unreached, read_answered, read_refused}
 use Rattle.loader.proofs.Loaded.{read_kept}
-use Rattle.ledger.specs.Ledgers.{needs_of, log_of}
+use Rattle.ledger.specs.Ledgers.{log_of}
 use Rattle.machine.specs.Views.{state_with}
 use Rattle.machine.proofs.BookLaws.{BookLaws, book_laws}
 use Rattle.loader.proofs.loader.Loader.load.Given.{Over}
@@ -24,10 +24,12 @@ pub returns-then-not-are_reached : goal.returns-then-not-are_reached
 returns-then-not-are_reached g c =
     let i = c.self.inside in
     let none = read_unreached g.B.Parts.collections g.B.Boosted.meaning g.B.Parts.making
-    g.met.B.Coded.told i.format i.parts (needs_of i.ledger) (log_of i.ledger) i.wear c.args.name.now
+    g.met.B.Coded.told i.format i.shelf.now i.shelf.holds (log_of i.ledger) i.ledger.wear
+    c.args.name.now
     c.args.kind c.args.items.items
     (λ reached. let yes = c.are_reached.ensures.1
-    (subst (AllByRecursion (IsReached i.wear)) (sym c.as_slice.ensures.value) reached) in
+    (subst (λ w. AllByRecursion (IsReached w) c.as_slice.result.now) (sym c.wear.ensures)
+    (subst (AllByRecursion (IsReached i.ledger.wear)) (sym c.as_slice.ensures.value) reached)) in
     let no_one = c.if-not-are_reached.true in cc) in (
       refl,
       λ v row. none v (subst (λ (s : State _). LoadRow g.B.Parts.collections
@@ -37,9 +39,10 @@ returns-then-not-are_reached g c =
 
 -- the wear reaches each item
 reached : (g : Over) (c : goal.Joined-load g) →
-    AllByRecursion (IsReached c.self.inside.wear) c.args.items.items
-reached g c = subst (AllByRecursion (IsReached c.self.inside.wear)) c.as_slice.ensures.value
-    (c.are_reached.ensures.0 c.if-not-are_reached.false)
+    AllByRecursion (IsReached c.self.inside.ledger.wear) c.args.items.items
+reached g c = subst (AllByRecursion (IsReached c.self.inside.ledger.wear)) c.as_slice.ensures.value
+    (subst (λ w. AllByRecursion (IsReached w) c.as_slice.result.now) c.wear.ensures
+    (c.are_reached.ensures.0 c.if-not-are_reached.false))
 
 pub invariant_of-self : goal.invariant_of-self
 invariant_of-self g c = (
@@ -49,15 +52,17 @@ invariant_of-self g c = (
       (λ f s t name kind items loads. short_loaded f (g.B.Parts.collections s)
       (g.B.Parts.collections t)
       name kind items loads)
-      c.self.inside.format c.self.inside.parts (needs_of c.self.inside.ledger)
+      c.self.inside.format c.self.inside.shelf.now c.self.inside.shelf.holds
       (log_of c.self.inside.ledger)
-      c.self.inside.wear c.args.name.now c.args.kind c.args.items.items c.load.new.self
+      c.self.inside.ledger.wear c.args.name.now c.args.kind c.args.items.items c.load.new.self
       c.load.result c.self.invariant.0
       (ap (λ (s : State _). s.live) c.self.view_is ∙ c.requires.none_live)
       (subst (λ (s : State _). AllByRecursion (IsShortItem s.format) c.args.items.items)
       (sym c.self.view_is) c.requires.short)
-      (reached g c) c.load.ensures.new c.load.ensures.loads c.load.ensures.not
-      c.load.ensures.as_before,
+      (reached g c) (rw c.collections_mut.ensures.now at c.load.ensures.new)
+      (rw c.collections_mut.ensures.now at c.load.ensures.loads)
+      (rw c.collections_mut.ensures.now at c.load.ensures.not)
+      (rw c.collections_mut.ensures.now at c.load.ensures.as_before),
   c.self.invariant.1,
 )
 
@@ -69,19 +74,23 @@ returns g c =
           (subst (λ (s : State _). LoadAnswers
           (LoadRow g.B.Parts.collections g.B.Boosted.meaning g.B.Parts.making s c.args.name.now
           c.args.kind c.args.items.items) s (Ok w.in-Ok.loaded)
-          (state_with i.format c.load.new.self i.ledger i.wear)) c.self.view_is
+          (state_with i.format (record i.shelf { now = c.load.new.self }) i.ledger)) c.self.view_is
           (read_answered g.B.Parts.collections g.B.Boosted.meaning g.B.Parts.making
-          g.met.B.Coded.told i.format i.parts (needs_of i.ledger) (log_of i.ledger) i.wear
+          g.met.B.Coded.told i.format i.shelf.now i.shelf.holds (log_of i.ledger) i.ledger.wear
           c.args.name.now c.args.kind c.args.items.items
           c.load.new.self w.in-Ok.loaded (reached g c) c.self.invariant.0.reached
-          w.in-Ok.ensures.new w.in-Ok.ensures.loads w.in-Ok.ensures.not))
+          (rw c.collections_mut.ensures.now at w.in-Ok.ensures.new)
+          (rw c.collections_mut.ensures.now at w.in-Ok.ensures.loads)
+          (rw c.collections_mut.ensures.now at w.in-Ok.ensures.not)))
       | in-Err w ↦ rw (w.result-is, w.unmade.ensures)
           (subst (λ (s : State _). LoadAnswers
           (LoadRow g.B.Parts.collections g.B.Boosted.meaning g.B.Parts.making s c.args.name.now
           c.args.kind c.args.items.items) s (unmade w.in-Err.refusal)
-          (state_with i.format c.load.new.self i.ledger i.wear)) c.self.view_is
+          (state_with i.format (record i.shelf { now = c.load.new.self }) i.ledger)) c.self.view_is
           (read_refused g.B.Parts.collections g.B.Boosted.meaning g.B.Parts.making
-          g.met.B.Coded.told i.format i.parts (needs_of i.ledger) (log_of i.ledger) i.wear
+          g.met.B.Coded.told i.format i.shelf.now i.shelf.holds (log_of i.ledger) i.ledger.wear
           c.args.name.now c.args.kind c.args.items.items
-          c.load.new.self w.in-Err.refusal w.in-Err.ensures.as_before w.in-Err.ensures.err))
+          c.load.new.self w.in-Err.refusal
+          (rw c.collections_mut.ensures.now at w.in-Err.ensures.as_before)
+          (rw c.collections_mut.ensures.now at w.in-Err.ensures.err)))
     ]

@@ -2,7 +2,7 @@ use Rattle.std.proofs.Common.{sym, subst}
 use Rattle.record_format.specs.Short.{AreShort}
 use Rattle.machine.proofs.BookLaws.{BookLaws, book_laws}
 use Rattle.machine.proofs.Rows.{resting_is}
-use Rattle.ledger.specs.Ledgers.{needs_of, log_of}
+use Rattle.ledger.specs.Ledgers.{log_of}
 use Rattle.machine.specs.Machines.{IsUpheld}
 use Rattle.machine.specs.Sound.{IsLoaded}
 use Rattle.loader.proofs.LoadRows.{last_none}
@@ -19,13 +19,13 @@ pub invariant_of-result : goal.invariant_of-result
 invariant_of-result g c = (
   subst (IsUpheld g.B.Boosted.meaning g.B.Parts.making (λ f s. AreShort f (g.B.Parts.collections s))
       (IsLoaded g.B.Boosted.meaning g.B.Parts.making))
-      (sym (resting_is c.args.format c.args.parts (needs_of c.new.result) (log_of c.new.result)
-      c.args.wear
-      c.new.ensures.holds c.new.ensures.live c.new.ensures.entries))
+      (sym (resting_is c.args.format c.args.parts c.args.wear c.new.result.now c.new.result.holds
+      (log_of c.new-2.result) c.new-2.result.wear c.new.ensures.now c.new.ensures.holds
+      c.new-2.ensures.live c.new-2.ensures.entries c.new-2.ensures.wear))
       (resting_told g.B.Boosted.meaning g.B.Parts.making
       (λ f s. AreShort f (g.B.Parts.collections s))
       (laws g) c.args.format c.args.parts c.args.wear c.requires.within c.requires.worn
       c.requires.few
       c.requires.short),
-  last_none c.new.result.live c.new.ensures.live,
+  last_none c.new-2.result.live c.new-2.ensures.live,
 )

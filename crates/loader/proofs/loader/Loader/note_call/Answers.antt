@@ -1,5 +1,5 @@
-use Rattle.std.proofs.Common.{sym, ◌∙◌, subst}
-use Rattle.calls.specs.Rules.{need_of}
+use Rattle.std.proofs.Common.{◌++◌, ◌∷◌, [], sym, ◌∙◌, ap, subst}
+use Rattle.calls.specs.Transactions.{Asked}
 use Rattle.abstract_locks.specs.Holds.{hold, IsAdded, IsClear}
 use Rattle.undo_log.specs.Entries.{event_of}
 use Rattle.machine.specs.Machine.{State}
@@ -7,7 +7,7 @@ use Rattle.loader.specs.Loading.{IsLast, CanHoldCall, HeldCallRow}
 use Rattle.loader.proofs.LoadRows.{held_row}
 use Rattle.loader.proofs.Loaded.{call_upheld}
 use Rattle.record_format.specs.Short.{AreShort}
-use Rattle.ledger.specs.Ledgers.{needs_of, log_of}
+use Rattle.ledger.specs.Ledgers.{log_of}
 use Rattle.machine.specs.Views.{state_with}
 use Rattle.machine.proofs.BookLaws.{BookLaws, book_laws}
 use Rattle.loader.proofs.loader.Loader.note_call.Given.{Over}
@@ -18,34 +18,34 @@ laws : (g : Over) → BookLaws g.B.Boosted.meaning g.B.Parts.making
     (λ f s. AreShort f (g.B.Parts.collections s))
 laws g = book_laws g.met.B.Boosted.laws g.met.B.Parts.laws g.met.B.Coded.told
 
-pub note_call-requires-clause-clear : goal.note_call-requires-clause-clear
-note_call-requires-clause-clear g c =
+pub hold-requires : goal.hold-requires
+hold-requires g c =
     let n = c.args.number in
     let e = event_of c.args.asked in
     let can = subst (λ (s : State _). CanHoldCall g.B.Boosted.meaning s n e) (sym c.self.view_is)
     c.requires.can in
-    subst (IsClear c.reserve.new.self.holds n e.at) (sym c.need-need.ensures)
-    (subst (λ h. IsClear h n e.at (need_of e.call e.reply)) (sym c.in_ok-reserve.ensures.holds)
-    can.clear)
+    subst (IsClear c.self.inside.shelf.holds n e.at) (sym c.need-need.ensures) can.clear
 
 -- what was noted
 step : (g : Over) (c : goal.After-note_call g) → let i = c.self.inside in
-    HeldCallRow g.B.Boosted.meaning (state_with i.format i.parts i.ledger i.wear) c.args.number
-    (event_of c.args.asked) (state_with i.format i.parts c.note_call.new.self i.wear)
+    HeldCallRow g.B.Boosted.meaning (state_with i.format i.shelf i.ledger) c.args.number
+    (event_of c.args.asked) (state_with i.format c.hold.new.self c.note_call.new.self)
 step g c =
     let i = c.self.inside in
     let n = c.args.number in
     let e = event_of c.args.asked in
     let can = subst (λ (s : State _). CanHoldCall g.B.Boosted.meaning s n e) (sym c.self.view_is)
     c.requires.can in
-    held_row i.format i.parts (needs_of i.ledger) (log_of i.ledger) i.wear n g.B.Boosted.meaning e
-    c.reserve.new.self.holds (needs_of c.note_call.new.self) (log_of c.reserve.new.self)
-    (log_of c.note_call.new.self) can
-    c.in_ok-reserve.ensures.holds (subst
-    (λ k. IsAdded c.reserve.new.self.holds c.note_call.new.self.holds (hold n e.at k))
-    c.need-need.ensures c.note_call.ensures.holds)
-    c.in_ok-reserve.ensures.live c.in_ok-reserve.ensures.entries c.note_call.ensures.live
-    c.note_call.ensures.entries
+    let shelf = c.hold.new.self in
+    let ledger = c.note_call.new.self in
+    held_row i.format i.shelf.now i.shelf.holds (log_of i.ledger) i.ledger.wear n shelf.now
+    shelf.holds (log_of ledger) ledger.wear g.B.Boosted.meaning e can
+    (subst (λ k. IsAdded i.shelf.holds shelf.holds (hold n e.at k)) c.need-need.ensures
+    c.in_ok-hold.ensures.held) c.in_ok-hold.ensures.now
+    (c.note_call.ensures.live ∙ c.in_ok-reserve.ensures.live)
+    (c.note_call.ensures.entries ∙
+    ap (λ l. l ++ (n, Asked e) ∷ []) c.in_ok-reserve.ensures.entries)
+    (c.note_call.ensures.wear ∙ c.in_ok-reserve.ensures.wear)
 
 pub invariant_of-self-2 : goal.invariant_of-self-2
 invariant_of-self-2 g c = (

@@ -1,11 +1,12 @@
-use Rattle.std.proofs.Common.{sym, ◌∙◌, subst}
-use Rattle.abstract_locks.specs.Holds.{hold, IsAdded}
+use Rattle.std.proofs.Common.{◌++◌, ◌∷◌, [], sym, ◌∙◌, ap, subst}
+use Rattle.abstract_locks.specs.Holds.{hold, IsClear, IsAdded}
+use Rattle.calls.specs.Transactions.{PutOff}
 use Rattle.machine.specs.Machine.{State}
 use Rattle.loader.specs.Loading.{IsLast, CanHoldLater, HeldLaterRow}
 use Rattle.loader.proofs.LoadRows.{held_later_row}
 use Rattle.loader.proofs.Loaded.{later_upheld}
 use Rattle.record_format.specs.Short.{AreShort}
-use Rattle.ledger.specs.Ledgers.{needs_of, log_of}
+use Rattle.ledger.specs.Ledgers.{log_of}
 use Rattle.machine.specs.Views.{state_with}
 use Rattle.machine.proofs.BookLaws.{BookLaws, book_laws}
 use Rattle.loader.proofs.loader.Loader.note_later.Given.{Over}
@@ -16,25 +17,34 @@ laws : (g : Over) → BookLaws g.B.Boosted.meaning g.B.Parts.making
     (λ f s. AreShort f (g.B.Parts.collections s))
 laws g = book_laws g.met.B.Boosted.laws g.met.B.Parts.laws g.met.B.Coded.told
 
+pub hold-requires : goal.hold-requires
+hold-requires g c =
+    let n = c.args.number in
+    let put = c.args.put in
+    let can = subst (λ (s : State _). CanHoldLater g.B.Boosted.meaning s n put.at put.call)
+    (sym c.self.view_is) c.requires in
+    subst (IsClear c.self.inside.shelf.holds n put.at) (sym c.need-need.ensures) can.clear
+
 -- what was noted
 step : (g : Over) (c : goal.After-note_later g) → let i = c.self.inside in
-    HeldLaterRow g.B.Boosted.meaning (state_with i.format i.parts i.ledger i.wear) c.args.number
-    c.args.put.at c.args.put.call (state_with i.format i.parts c.note_later.new.self i.wear)
+    HeldLaterRow g.B.Boosted.meaning (state_with i.format i.shelf i.ledger) c.args.number
+    c.args.put.at c.args.put.call (state_with i.format c.hold.new.self c.note_later.new.self)
 step g c =
     let i = c.self.inside in
     let n = c.args.number in
     let put = c.args.put in
     let can = subst (λ (s : State _). CanHoldLater g.B.Boosted.meaning s n put.at put.call)
     (sym c.self.view_is) c.requires in
-    held_later_row i.format i.parts (needs_of i.ledger) (log_of i.ledger) i.wear n
-    g.B.Boosted.meaning put.at
-    put.call c.reserve.new.self.holds (needs_of c.note_later.new.self)
-    (log_of c.reserve.new.self) (log_of c.note_later.new.self) can
-    c.in_ok-reserve.ensures.holds (subst
-    (λ k. IsAdded c.reserve.new.self.holds c.note_later.new.self.holds (hold n put.at k))
-    c.need-need.ensures c.note_later.ensures.holds)
-    c.in_ok-reserve.ensures.live c.in_ok-reserve.ensures.entries c.note_later.ensures.live
-    c.note_later.ensures.entries
+    let shelf = c.hold.new.self in
+    let ledger = c.note_later.new.self in
+    held_later_row i.format i.shelf.now i.shelf.holds (log_of i.ledger) i.ledger.wear n shelf.now
+    shelf.holds (log_of ledger) ledger.wear g.B.Boosted.meaning put.at put.call can
+    (subst (λ k. IsAdded i.shelf.holds shelf.holds (hold n put.at k)) c.need-need.ensures
+    c.in_ok-hold.ensures.held) c.in_ok-hold.ensures.now
+    (c.note_later.ensures.live ∙ c.in_ok-reserve.ensures.live)
+    (c.note_later.ensures.entries ∙
+    ap (λ l. l ++ (n, PutOff put.at put.call) ∷ []) c.in_ok-reserve.ensures.entries)
+    (c.note_later.ensures.wear ∙ c.in_ok-reserve.ensures.wear)
 
 pub invariant_of-self-2 : goal.invariant_of-self-2
 invariant_of-self-2 g c = (

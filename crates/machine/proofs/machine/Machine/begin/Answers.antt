@@ -1,14 +1,13 @@
-use Rattle.std.proofs.Common.{◌+◌, ◌∙◌, sym, subst, arith, rules}
+use Rattle.std.proofs.Common.{◌+◌, ◌∙◌, sym, ap, subst, arith, rules}
 use Rattle.record_format.specs.Short.{AreShort}
 use Rattle.machine.specs.Views.{state_with}
-use Rattle.ledger.specs.Ledgers.{needs_of, log_of}
+use Rattle.ledger.specs.Ledgers.{log_of}
 use Rattle.machine.proofs.BookLaws.{BookLaws, book_laws}
 use Rattle.machine.specs.Machine.{State, CanBegin, BeginRow}
 use Rattle.machine.specs.Machines.{HasRoomFor}
-use Rattle.machine.proofs.Rows.{begun_is}
+use Rattle.machine.proofs.Rows.{begun_row}
 use Rattle.machine.proofs.InvariantRows.{begin_upheld}
 use Rattle.machine.proofs.machine.Machine.begin.Given.{Over}
-use Rattle.machine.proofs.HeldNeeds.{still_held}
 use Rattle.machine.proofs.machine.Machine.begin.Goals as goal
 
 -- the laws of the collections
@@ -17,20 +16,25 @@ laws : (g : Over) → BookLaws g.B.Boosted.meaning g.B.Parts.making
 laws g = book_laws g.met.B.Boosted.laws g.met.B.Parts.laws g.met.B.Coded.told
 
 -- the step that was taken
-step : (g : Over) (c : goal.After-self-1 g) → let i = c.self.inside in
-    BeginRow (state_with i.format i.parts i.ledger i.wear) c.args.number
-    (state_with i.format i.parts c.enter.new.self (i.wear + 1))
+step : (g : Over) (c : goal.After-add_wear g) → let i = c.self.inside in
+    BeginRow (state_with i.format i.shelf i.ledger) c.args.number
+    (state_with i.format i.shelf c.add_wear.new.self)
 step g c =
     let i = c.self.inside in
+    let began = c.add_wear.new.self in
+    begun_row i.format i.shelf.now i.shelf.holds (log_of i.ledger) i.ledger.wear c.args.number
+    (log_of began) began.wear
+    (subst (λ (s : State _). CanBegin s c.args.number) (sym c.self.view_is) c.requires.can)
+    (subst (λ (s : State _). HasRoomFor s 0) (sym c.self.view_is) c.requires.room)
+    (c.add_wear.ensures.live ∙ c.in_ok-enter.ensures.live)
+    (c.add_wear.ensures.entries ∙ c.in_ok-enter.ensures.entries)
+    (c.add_wear.ensures.wear ∙ ap (λ w. w + 1) c.in_ok-enter.ensures.wear)
+
+pub add_wear-requires : goal.add_wear-requires
+add_wear-requires g c =
     let room = subst (λ (s : State _). HasRoomFor s 0) (sym c.self.view_is) c.requires.room in
-    record {
-      can = subst (λ (s : State _). CanBegin s c.args.number) (sym c.self.view_is) c.requires.can;
-      room = omega arith;
-      is = sym (still_held i.format i.parts (needs_of i.ledger) (needs_of c.enter.new.self)
-          (log_of c.enter.new.self) (i.wear + 1) c.in_ok-enter.ensures.holds)
-          ∙ begun_is i.format i.parts (needs_of i.ledger) (log_of i.ledger) i.wear c.args.number
-          (log_of c.enter.new.self) c.in_ok-enter.ensures.live c.in_ok-enter.ensures.entries;
-    }
+    let same = c.in_ok-enter.ensures.wear in
+    omega arith
 
 pub invariant_of-self-2 : goal.invariant_of-self-2
 invariant_of-self-2 g c = begin_upheld g.B.Boosted.meaning g.B.Parts.making

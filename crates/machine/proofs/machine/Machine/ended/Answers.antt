@@ -1,7 +1,7 @@
 use Rattle.std.proofs.Common.{sym, subst}
 use Rattle.record_format.specs.Short.{AreShort}
 use Rattle.machine.specs.Views.{state_with}
-use Rattle.ledger.specs.Ledgers.{needs_of, log_of}
+use Rattle.ledger.specs.Ledgers.{log_of}
 use Rattle.machine.proofs.BookLaws.{BookLaws, book_laws}
 use Rattle.undo_log.specs.Entries.{HasNoCall}
 use Rattle.undo_log.specs.Logs.{Lives}
@@ -17,9 +17,9 @@ laws : (g : Over) → BookLaws g.B.Boosted.meaning g.B.Parts.making
 laws g = book_laws g.met.B.Boosted.laws g.met.B.Parts.laws g.met.B.Coded.told
 
 -- the transaction is taken out
-step : (g : Over) (c : goal.After-remove g) → let i = c.self.inside in
-    EndedRow (state_with i.format i.parts i.ledger i.wear) c.args.number
-    (state_with i.format i.parts c.remove.new.self i.wear)
+step : (g : Over) (c : goal.After-give_up g) → let i = c.self.inside in
+    EndedRow (state_with i.format i.shelf i.ledger) c.args.number
+    (state_with i.format c.give_up.new.self c.remove.new.self)
 step g c =
     let i = c.self.inside in
     record {
@@ -27,9 +27,10 @@ step g c =
           c.requires.live;
       undone = subst (λ (s : State _). HasNoCall c.args.number s.entries) (sym c.self.view_is)
           c.requires.undone;
-      left = left_row i.format i.parts (needs_of i.ledger) (log_of i.ledger) i.wear c.args.number
-          (needs_of c.remove.new.self) (log_of c.remove.new.self) c.remove.ensures.live
-          c.remove.ensures.entries c.remove.ensures.holds;
+      left = left_row i.format i.shelf.now i.shelf.holds (log_of i.ledger) i.ledger.wear
+          c.args.number c.give_up.new.self.now c.give_up.new.self.holds (log_of c.remove.new.self)
+          c.remove.new.self.wear c.give_up.ensures.now c.give_up.ensures.holds
+          c.remove.ensures.live c.remove.ensures.entries c.remove.ensures.wear;
     }
 
 pub invariant_of-self : goal.invariant_of-self

@@ -15,8 +15,9 @@ laws g = book_laws g.met.B.Boosted.laws g.met.B.Parts.laws g.met.B.Coded.told
 
 pub returns-clause-history : goal.returns-clause-history
 returns-clause-history g c format start wear rs leads empty =
-    subst (λ (t : State _). Serial (committed (acts_of rs)) (g.B.Parts.collections start)
+    rw c.into_collections.ensures (subst
+    (λ (t : State _). Serial (committed (acts_of rs)) (g.B.Parts.collections start)
     (g.B.Parts.collections t.now)) (sym c.self.view_is)
     (records_serial g.B.Boosted.meaning g.B.Parts.making (laws g).rules g.B.Parts.collections
     (λ s at c r. (g.met.B.Coded.told.answers s at c r).0) g.met.B.Coded.told.leaves
-    g.met.B.Coded.told.makes format start wear rs c.args.self leads empty)
+    g.met.B.Coded.told.makes format start wear rs c.args.self leads empty))

@@ -5,5 +5,5 @@ pub returns : goal.returns
 returns g c =
     let call = c.args.called.now in
     rw (← c.self.view_is, ← c.need-need.ensures, c.is_ok.ensures.value)
-    (tested c.self.inside.ledger.holds call.number call.collection c.need-need.result c.test.result
+    (tested c.self.inside.shelf.holds call.number call.collection c.need-need.result c.test.result
     c.test.ensures.clear c.test.ensures.busy)

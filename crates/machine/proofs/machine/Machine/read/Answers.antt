@@ -1,9 +1,10 @@
-use Rattle.std.proofs.Common.{sym, subst, rules}
+use Rattle.std.proofs.Common.{◌++◌, ◌∷◌, [], sym, ◌∙◌, ap, subst}
 use Rattle.record_format.specs.Short.{AreShort}
 use Rattle.machine.specs.Views.{state_with}
-use Rattle.ledger.specs.Ledgers.{needs_of, log_of}
+use Rattle.ledger.specs.Ledgers.{log_of}
 use Rattle.machine.proofs.BookLaws.{BookLaws, book_laws}
-use Rattle.abstract_locks.specs.Holds.{hold, IsAdded}
+use Rattle.abstract_locks.specs.Holds.{hold, IsClear, IsAdded}
+use Rattle.calls.specs.Transactions.{Asked}
 use Rattle.undo_log.specs.Entries.{event_of}
 use Rattle.machine.specs.Machine.{State, CanCall, ReadRow}
 use Rattle.machine.specs.Machines.{HasRoomFor}
@@ -17,10 +18,18 @@ laws : (g : Over) → BookLaws g.B.Boosted.meaning g.B.Parts.making
     (λ f s. AreShort f (g.B.Parts.collections s))
 laws g = book_laws g.met.B.Boosted.laws g.met.B.Parts.laws g.met.B.Coded.told
 
+pub hold-requires : goal.hold-requires
+hold-requires g c =
+    let n = c.args.number in
+    let e = event_of c.args.asked in
+    let can = subst (λ (s : State _). CanCall g.B.Boosted.meaning s n e) (sym c.self.view_is)
+    c.requires.can in
+    subst (IsClear c.self.inside.shelf.holds n e.at) (sym c.need-held.ensures) can.clear
+
 -- the step that was taken
 step : (g : Over) (c : goal.After-note_call g) → let i = c.self.inside in
-    ReadRow g.B.Boosted.meaning (state_with i.format i.parts i.ledger i.wear) c.args.number
-    (event_of c.args.asked) (state_with i.format i.parts c.note_call.new.self i.wear)
+    ReadRow g.B.Boosted.meaning (state_with i.format i.shelf i.ledger) c.args.number
+    (event_of c.args.asked) (state_with i.format c.hold.new.self c.note_call.new.self)
 step g c =
     let i = c.self.inside in
     let n = c.args.number in
@@ -28,13 +37,16 @@ step g c =
     let can = subst (λ (s : State _). CanCall g.B.Boosted.meaning s n e) (sym c.self.view_is)
     c.requires.can in
     let room = subst (λ (s : State _). HasRoomFor s 1) (sym c.self.view_is) c.requires.room in
-    read_row i.format i.parts (needs_of i.ledger) (log_of i.ledger) i.wear n g.B.Boosted.meaning e
-    c.reserve.new.self.holds (needs_of c.note_call.new.self) (log_of c.reserve.new.self)
-    (log_of c.note_call.new.self) can c.requires.only_reads room c.in_ok-reserve.ensures.holds
-    (subst (λ k. IsAdded c.reserve.new.self.holds c.note_call.new.self.holds (hold n e.at k))
-    c.need-held.ensures c.note_call.ensures.holds)
-    c.in_ok-reserve.ensures.live c.in_ok-reserve.ensures.entries c.note_call.ensures.live
-    c.note_call.ensures.entries
+    let shelf = c.hold.new.self in
+    let ledger = c.note_call.new.self in
+    read_row i.format i.shelf.now i.shelf.holds (log_of i.ledger) i.ledger.wear n shelf.now
+    shelf.holds (log_of ledger) ledger.wear g.B.Boosted.meaning e can c.requires.only_reads room
+    (subst (λ k. IsAdded i.shelf.holds shelf.holds (hold n e.at k)) c.need-held.ensures
+    c.in_ok-hold.ensures.held) c.in_ok-hold.ensures.now
+    (c.note_call.ensures.live ∙ c.in_ok-reserve.ensures.live)
+    (c.note_call.ensures.entries ∙
+    ap (λ l. l ++ (n, Asked e) ∷ []) c.in_ok-reserve.ensures.entries)
+    (c.note_call.ensures.wear ∙ c.in_ok-reserve.ensures.wear)
 
 pub invariant_of-self-2 : goal.invariant_of-self-2
 invariant_of-self-2 g c = read_upheld g.B.Boosted.meaning g.B.Parts.making
@@ -43,6 +55,3 @@ invariant_of-self-2 g c = read_upheld g.B.Boosted.meaning g.B.Parts.making
 
 pub returns-clause-ok : goal.returns-clause-ok
 returns-clause-ok g c = rw (← c.self.view_is) (step g c)
-
-pub note_call-requires-clause-clear : goal.note_call-requires-clause-clear
-note_call-requires-clause-clear g c = search rules

@@ -1,0 +1,33 @@
+use Rattle.std.proofs.Common.{refl, sym, ap}
+use Rattle.catalog.specs.Fours.{pick, put}
+use Rattle.catalog.specs.Laws.Numbers.{which_is, which_last}
+use Rattle.catalog.proofs.four.Four.of_mut.Goals as goal
+
+pub returns-then-number-eq0 : goal.returns-then-number-eq0
+returns-then-number-eq0 g c =
+    let there = sym (which_is c.args.number 0 c.if-number-eq0.true) in (
+      (refl, λ w. ap (λ v. put c.args.self.now v w) there),
+      record { writes_back = tt; value = ap (pick c.args.self.now) there },
+    )
+
+pub returns-then-number-eq1 : goal.returns-then-number-eq1
+returns-then-number-eq1 g c =
+    let there = sym (which_is c.args.number 1 c.if-number-eq1.true) in (
+      (refl, λ w. ap (λ v. put c.args.self.now v w) there),
+      record { writes_back = tt; value = ap (pick c.args.self.now) there },
+    )
+
+pub returns-then-number-eq2 : goal.returns-then-number-eq2
+returns-then-number-eq2 g c =
+    let there = sym (which_is c.args.number 2 c.if-number-eq2.true) in (
+      (refl, λ w. ap (λ v. put c.args.self.now v w) there),
+      record { writes_back = tt; value = ap (pick c.args.self.now) there },
+    )
+
+pub returns : goal.returns
+returns g c =
+    let there = sym (which_last c.args.number c.if-number-eq0.false c.if-number-eq1.false
+    c.if-number-eq2.false) in (
+      (refl, λ w. ap (λ v. put c.args.self.now v w) there),
+      record { writes_back = tt; value = ap (pick c.args.self.now) there },
+    )

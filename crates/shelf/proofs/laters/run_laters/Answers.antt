@@ -1,0 +1,45 @@
+use Rattle.std.proofs.Common.{arith}
+use Rattle.shelf.proofs.PutOffRuns.{running_first, running_can, running_fits, running_more}
+use Rattle.shelf.proofs.PutOffRuns.{running_end}
+use Rattle.shelf.proofs.laters.run_laters.Goals as goal
+
+pub loop-stamped-init : goal.loop-stamped-init
+loop-stamped-init g c = running_first g.C.Boosted.meaning g.met.C.Boosted.laws c.args.entries.now
+    c.args.collections.now c.requires.can
+
+pub run_put_off-count-requires : goal.run_put_off-count-requires
+run_put_off-count-requires g c = record {
+  can = running_can g.C.Boosted.meaning g.met.C.Boosted.laws c.args.entries.now
+      c.args.collections.now
+      c.loop-stamped.stamped-index c.stamped-item.result c.loop-stamped-test.true c.stamped-item.is
+      c.loop-stamped.collections c.loop-stamped.count c.loop-stamped.invariant;
+}
+
+pub overflow_add-count : goal.overflow_add-count
+overflow_add-count g c =
+    let fits = running_fits g.C.Boosted.meaning g.met.C.Boosted.laws c.args.entries.now
+    c.args.collections.now c.loop-stamped.stamped-index c.stamped-item.result
+    c.loop-stamped-test.true
+    c.stamped-item.is c.loop-stamped.collections c.loop-stamped.count c.loop-stamped.invariant in
+    let ran = c.run_put_off-count.ensures.count in
+    omega arith
+
+pub loop-stamped-preserved : goal.loop-stamped-preserved
+loop-stamped-preserved g c = rw c.run_put_off-count.ensures.count
+    (running_more g.C.Boosted.meaning g.met.C.Boosted.laws c.args.entries.now c.args.collections.now
+    c.loop-stamped.stamped-index c.stamped-item.result c.loop-stamped-test.true c.stamped-item.is
+    c.loop-stamped.collections c.loop-stamped.count c.loop-stamped.invariant
+    c.run_put_off-count.new.collections
+    c.run_put_off-count.ensures.runs)
+
+pub returns-clause-runs : goal.returns-clause-runs
+returns-clause-runs g c =
+    (running_end g.C.Boosted.meaning g.met.C.Boosted.laws c.args.entries.now c.args.collections.now
+    c.loop-stamped.stamped-index c.loop-stamped.collections c.loop-stamped.count
+    (omega (arith, c.loop-stamped-test.false)) c.loop-stamped.invariant).0
+
+pub returns-clause-count : goal.returns-clause-count
+returns-clause-count g c =
+    (running_end g.C.Boosted.meaning g.met.C.Boosted.laws c.args.entries.now c.args.collections.now
+    c.loop-stamped.stamped-index c.loop-stamped.collections c.loop-stamped.count
+    (omega (arith, c.loop-stamped-test.false)) c.loop-stamped.invariant).1

@@ -1,0 +1,55 @@
+// What transactions put off to their commits, and what their calls left to these.
+ghost use Rattle.std.specs.Prelude.{◌≡◌, [], ◌∷◌, length, map};
+ghost use Rattle.calls.specs.declared.reply.Reply.{Reply};
+ghost use Rattle.calls.specs.Transactions.{Leads, laters_of};
+ghost use Rattle.undo_log.specs.Entries.{entry_of, stamped_entry};
+ghost use Rattle.shelf.specs.Shelves.{Does, CanRun};
+
+use boosted::Boosted;
+use calls::{Call, Reply};
+use undo_log::{Entry, Stamped};
+
+// Runs what a transaction put off among its entries, in the order asked. How many calls that were.
+pub(crate) fn run_laters<C: Boosted<At = u8>>(collections: &mut C, entries: &[Stamped]) -> u64
+    requires can { CanRun C.meaning (laters_of (map stamped_entry entries.now)) collections.old }
+    ensures runs { Leads (Does C.meaning) (laters_of (map stamped_entry entries.now))
+        collections.old collections.new }
+    ensures count { result ≡ length (laters_of (map stamped_entry entries.now)) }
+{
+    let mut count = 0;
+    for stamped in entries {
+        count += run_put_off(collections, &stamped.entry);
+    }
+    count
+}
+
+// Runs what was put off by one entry. How many calls that were.
+fn run_put_off<C: Boosted<At = u8>>(collections: &mut C, entry: &Entry) -> u64
+    requires can { CanRun C.meaning (laters_of (entry_of entry.now ∷ [])) collections.old }
+    ensures runs { Leads (Does C.meaning) (laters_of (entry_of entry.now ∷ [])) collections.old
+        collections.new }
+    ensures count { result ≡ length (laters_of (entry_of entry.now ∷ [])) }
+{
+    match entry {
+        Entry::Asked(logged) => match logged.call.after(&logged.reply) {
+            Some(left) => run_later(collections, logged.at, &left),
+            None => 0,
+        },
+        Entry::PutOff(later) => run_later(collections, later.at, &later.call),
+    }
+}
+
+// Runs one call that was put off. It answers one.
+fn run_later<C: Boosted<At = u8>>(collections: &mut C, at: u8, call: &Call) -> u64
+    requires can { CanRun C.meaning (record { at = at; call = call.now; reply = Reply.Done } ∷ [])
+        collections.old }
+    ensures runs { Leads (Does C.meaning)
+        (record { at = at; call = call.now; reply = Reply.Done } ∷ []) collections.old
+        collections.new }
+    ensures count { result ≡ 1 }
+{
+    if collections.run(at, call, &Reply::Done).is_err() {
+        unreachable!();
+    }
+    1
+}

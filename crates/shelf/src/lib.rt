@@ -1,0 +1,182 @@
+//! A shelf: collections, with the needs that live transactions hold on them. Of each step it does
+//! what concerns contents and needs; what was asked for, and the wear, are kept elsewhere.
+#![tactic(auto)]
+
+ghost use Rattle.std.specs.Prelude.{◌≡◌, [], map, length, IfErr, OnOk, OnErr, IsOkUnless};
+ghost use Rattle.std.specs.Borrow.{Lends, sem};
+ghost use Rattle.calls.specs.Rules.{Askable, need_of};
+ghost use Rattle.calls.specs.Transactions.{Leads, laters_of};
+ghost use Rattle.abstract_locks.specs.Holds.{hold, IsClear, IsBusyRefusal, IsAdded, IsGivenUp};
+ghost use Rattle.undo_log.specs.Entries.{stamped_entry};
+ghost use Rattle.boosted.specs.Meaning.{Undoes, HasRoom};
+ghost use Rattle.shelf.specs.Shelves.{Does, CanRun};
+ghost use Rattle.shelf.specs.contracts.Shelf.{the_row};
+
+mod laters;
+
+use abstract_locks::NeedTable;
+use boosted::Boosted;
+use calls::{Call, Need, Refusal, Reply};
+use laters::run_laters;
+use std::alloc::Global;
+use std::marker::Model;
+use undo_log::{Logged, Stamped};
+
+/// Collections, with the needs that live transactions hold on them.
+///
+/// Contracts see what the collections hold now, and the needs.
+pub struct Shelf<C: Boosted<At = u8>> {
+    collections: C,
+    needs: NeedTable,
+}
+
+// Written out, so that the crates above call it in place of proving it again.
+impl<C: Boosted<At = u8> + Drop> Drop for Shelf<C> {
+    fn drop(self) {
+        let Self { collections, needs } = self;
+        drop(collections);
+        drop(needs);
+    }
+}
+
+impl<C: Boosted<At = u8>> Model for Shelf<C> {
+    ghost use Rattle.shelf.specs.Shelves.{ShelfState};
+
+    ghost Value = { ShelfState C };
+
+    ghost view = { λ s. record { now = s.collections; holds = s.needs.holds } };
+}
+
+impl<C: Boosted<At = u8>> Shelf<C> {
+    /// The collections, with no need held on them. It takes no memory.
+    pub fn new(alloc: Global, collections: C) -> Self
+        ensures now { result.now ≡ collections }
+        ensures holds { result.holds ≡ [] }
+    {
+        Self {
+            collections,
+            needs: NeedTable::new(alloc),
+        }
+    }
+
+    /// The collections.
+    pub fn collections(&self) -> &C
+        ensures { result.now ≡ self.now.now }
+    {
+        &self.collections
+    }
+
+    /// The collections, for what is no call: to make or to load one. The needs stay.
+    pub fn collections_mut(&mut self) -> &mut C
+        ensures* lends { sem 𝓛 (Lends (the_row C.row ⟦<C as Boosted>⟧) C.row self.entry result
+            (λ w. record self.old { now = w })) }
+        ensures now { result.now ≡ self.old.now }
+    {
+        &mut self.collections
+    }
+
+    /// The collections, where the needs are no more needed.
+    pub fn into_collections(self) -> C
+        ensures { result ≡ self.now }
+    {
+        let Self { collections, needs } = self;
+        drop(needs);
+        collections
+    }
+
+    /// Whether no other transaction holds a need in the way: Busy with the least that does, and no
+    /// other refusal. It costs what `NeedTable::test` does, and takes no memory.
+    pub fn test(&self, number: u64, at: u8, need: &Need) -> Result<(), Refusal>
+        ensures clear { OnOk result (IsClear self.now.holds number at need.now) }
+        ensures busy { IfErr result (IsBusyRefusal self.now.holds number at need.now) }
+    {
+        self.needs.test(number, at, need)
+    }
+
+    /// Makes the call, answered so, and lets the transaction hold the need that it has. That is
+    /// free, and there is room in the wear.
+    ///
+    /// NoMemory leaves all as before. It costs what `Boosted::run`, `NeedTable::reserve` and
+    /// `NeedTable::grant` do.
+    pub fn take(&mut self, number: u64, at: u8, call: &Call, reply: &Reply) -> Result<(), Refusal>
+        requires answered { C.meaning.answers self.old.now at call.now reply.now }
+        requires room { HasRoom C.meaning self.old.now }
+        requires clear { IsClear self.old.holds number at (need_of call.now reply.now) }
+        ensures made { OnOk result
+            (self.new.now ≡ C.meaning.leaves self.old.now at call.now reply.now) }
+        ensures held { OnOk result (IsAdded self.old.holds self.new.holds
+            (hold number at (need_of call.now reply.now))) }
+        ensures same { OnErr result (self.new ≡ self.old) }
+        ensures refusal { IsOkUnless result Refusal.NoMemory }
+    {
+        self.needs.reserve(at)?;
+        self.collections.run(at, call, reply)?;
+        let held = call.need(reply);
+        self.needs.grant(number, at, held);
+        Ok(())
+    }
+
+    /// Lets the transaction hold the need, which is free: that of a call that is put off, that only
+    /// reads, or that the collections show as done.
+    ///
+    /// NoMemory leaves all as before. It costs what `NeedTable::reserve` and `NeedTable::grant` do.
+    pub fn hold(&mut self, number: u64, at: u8, need: Need) -> Result<(), Refusal>
+        requires { IsClear self.old.holds number at need }
+        ensures held { OnOk result (IsAdded self.old.holds self.new.holds (hold number at need)) }
+        ensures now { self.new.now ≡ self.old.now }
+        ensures same { OnErr result (self.new ≡ self.old) }
+        ensures refusal { IsOkUnless result Refusal.NoMemory }
+    {
+        let needs = &mut self.needs;
+        needs.reserve(at)?;
+        needs.grant(number, at, need);
+        Ok(())
+    }
+
+    /// Takes a call back, which can be. The needs stay.
+    ///
+    /// NoMemory leaves all as before. It costs what `Boosted::look` and `Boosted::run` do, and a
+    /// copy of the value that the call put in or took out.
+    pub fn undo(&mut self, newest: &Logged) -> Result<(), Refusal>
+        requires askable { Askable newest.now.call }
+        requires undoes { (before : C) ×
+            Undoes C.meaning self.old.now newest.now.at newest.now.call newest.now.reply before }
+        requires room { HasRoom C.meaning self.old.now }
+        ensures ok { OnOk result (Undoes C.meaning self.old.now newest.now.at newest.now.call
+            newest.now.reply self.new.now) }
+        ensures holds { self.new.holds ≡ self.old.holds }
+        ensures same { OnErr result (self.new ≡ self.old) }
+        ensures refusal { IsOkUnless result Refusal.NoMemory }
+    {
+        let Some(call) = newest.call.inverse(&newest.reply)? else {
+            return Ok(());
+        };
+        let reply = self.collections.look(newest.at, &call)?;
+        self.collections.run(newest.at, &call, &reply)
+    }
+
+    /// Runs what these entries of the transaction put off or left, in the order asked, and gives
+    /// its needs up. How many calls ran.
+    ///
+    /// It takes no memory. It costs what `Boosted::run` does for each, and `NeedTable::give_up`.
+    pub fn settle(&mut self, number: u64, entries: &[Stamped]) -> u64
+        requires { CanRun C.meaning (laters_of (map stamped_entry entries.now)) self.old.now }
+        ensures runs { Leads (Does C.meaning) (laters_of (map stamped_entry entries.now))
+            self.old.now self.new.now }
+        ensures count { result ≡ length (laters_of (map stamped_entry entries.now)) }
+        ensures holds { IsGivenUp self.old.holds self.new.holds number }
+    {
+        let ran = run_laters(&mut self.collections, entries);
+        self.give_up(number);
+        ran
+    }
+
+    /// Gives the needs of the transaction up. It costs what `NeedTable::give_up` does, and takes no
+    /// memory.
+    pub fn give_up(&mut self, number: u64)
+        ensures holds { IsGivenUp self.old.holds self.new.holds number }
+        ensures now { self.new.now ≡ self.old.now }
+    {
+        self.needs.give_up(number);
+    }
+}
