@@ -15,7 +15,9 @@ from matplotlib import pyplot  # noqa: E402
 
 TOP = os.path.dirname(os.path.dirname(os.path.realpath(__file__)))
 FORM = {'svg.hashsalt': 'boost', 'svg.fonttype': 'none', 'font.size': 10, 'axes.grid': True, 'grid.alpha': 0.3}
-SHOWN = {'boost': 'the store'}
+SHOWN = {'boost': 'the store', 'hand-1sync': 'log by hand, one sync', 'hand-2sync-gather': 'log by hand, two syncs',
+         'sqlite-batch': 'SQLite, gathering', 'lmdb-batch': 'LMDB, gathering', 'rocksdb': 'RocksDB', 'redis': 'Redis',
+         'postgres': 'PostgreSQL'}
 
 
 def engines():

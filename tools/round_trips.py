@@ -247,10 +247,10 @@ def main():
             assert server.count() == count, 'the counter is not what was answered'
     rows = [summary(*key, rounds) for key, rounds in found.items()]
     text = json.dumps(rows, indent=1)
+    print(text)
     if given.into:
         with open(given.into, 'w', encoding='utf-8') as file:
             file.write(text + '\n')
-    print(text)
 
 
 main()
