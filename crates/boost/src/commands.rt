@@ -269,7 +269,7 @@ fn show_opened<D: Disk, O: Write>(
 {
     match open(alloc, disk) {
         Ok((book, keeper)) => {
-            let done = show_collections(book.parts(), out);
+            let done = show_collections(&book.into_parts(), out);
             (done, keeper.into_disk())
         }
         Err((refusal, disk)) => (Err(Failure::Refused(refusal)), disk),

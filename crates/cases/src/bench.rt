@@ -31,6 +31,7 @@ mod preparing;
 mod reopening;
 mod report;
 mod running;
+mod tpcb;
 mod trouble;
 mod window;
 mod workload;

@@ -199,9 +199,6 @@ module _ (s : List Label) (es : List Entry) (seen : labels_of es ≡ s) (i at : 
       option_map label_of o ≡ slice_get s at
   entry_at o e = rw (← seen, ← place, e) (sym (label_at es i))
 
-  pub counted : length es ≡ length s
-  counted = sym (length-labels_of es) ∙ ap length seen
-
 -- Each name is a good one,
 pub good_at : (es : List Entry) (i : ℕ) (e : Entry) → AreGood (labels_of es) →
     Some e ≡ slice_get es i → IsName (string_bytes e.0)

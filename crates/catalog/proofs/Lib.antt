@@ -3,4 +3,3 @@ pub mod Places
 pub mod Whole
 pub mod Listings
 pub mod Orders
-pub mod Measuring

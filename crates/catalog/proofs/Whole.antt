@@ -1,5 +1,5 @@
 -- A call on the shelf of its number is one on the whole, for what the two are seen as.
-use Rattle.std.proofs.Common.{◌≡◌, ℕ, ◌⊎◌, ⊎_elim, inl, inr, List, ◌++◌, ◌∷◌, [], refl, sym}
+use Rattle.std.proofs.Common.{◌≡◌, ℕ, ⊎_elim, inl, inr, List, ◌++◌, ◌∷◌, [], refl, sym}
 use Rattle.std.proofs.Common.{◌∙◌}
 use Rattle.std.proofs.Common.{◌%◌, ap, subst, length, Option, Some, None, slice_get, ◌≤◌, Result}
 use Rattle.std.proofs.Common.{Ok, Err}

@@ -1,6 +1,6 @@
 -- Collections at their places: which calls belong where, how others are refused, and what so many
 -- runs can reach.
-use Rattle.std.specs.Prelude.{ℕ, zero, suc, ◌≤◌, List, [], ◌∷◌, length, map, slice_get, Option}
+use Rattle.std.specs.Prelude.{ℕ, zero, suc, ◌≤◌, List, [], ◌∷◌, length}
 use Rattle.std.specs.List.{AllByRecursion}
 use Rattle.calls.specs.declared.call.Call.{Call}
 use Rattle.calls.specs.declared.refusal.Refusal.{Refusal}
@@ -16,10 +16,6 @@ abbrev pub At : {X : Type 0} → (X → Type 0) → List X → ℕ → Type 0
 At P [] at = ⊥
 At P (x ∷ xs) zero = P x
 At P (x ∷ xs) (suc at) = At P xs at
-
--- What the collection at the place holds, if there is one.
-abbrev pub content_at : List Collection → ℕ → Option Content
-content_at s at = slice_get (map (λ x. x.content) s) at
 
 -- There is a collection at the place, and the call is one of its kind.
 abbrev pub Belongs : List Collection → ℕ → Call → Type 0

@@ -40,10 +40,12 @@ module _ {S T N : Type 0} (labels : N → List Label) (whole : N → Four T → 
     pub named : (n : N) (f : Four T) → fits n f →
         map (λ x. record { name = x.name; kind = kind_of_content x.content })
         (collections (whole n f)) ≡ labels n
-    -- and what a shelf holds at a number, the whole has there.
+    -- and what a shelf holds at a number, the whole has there, and the other way round.
     pub holds_there : (n : N) (f : Four T) (at : ℕ) (x : Label) (k : Content) → fits n f →
         slice_get (labels n) at ≡ Some x → holds (pick f (which_of at)) at k →
         slice_get (collections (whole n f)) at ≡ Some (record { name = x.name; content = k })
+    pub holds_here : (n : N) (f : Four T) (at : ℕ) (x : Collection) → fits n f →
+        slice_get (collections (whole n f)) at ≡ Some x → holds (pick f (which_of at)) at x.content
     -- A call has in its shelf the replies that it has in the whole,
     pub answers : (n : N) (f : Four T) (at : ℕ) (c : Call) (r : Reply) → fits n f →
         meaning.answers (whole n f) at c r ↔ shelf.answers (pick f (which_of at)) at c r

@@ -4,7 +4,7 @@ ghost use Rattle.std.specs.Prelude.{IfOk, IfErr, OnOk, OnErr, IsOkUnless};
 ghost use Rattle.std.specs.List.{AllZip};
 ghost use Rattle.calls.specs.Limits.{max_collections};
 ghost use Rattle.catalog.specs.Holdings.{content_of, Shows, ShowRefused, AreItems, Loads};
-ghost use Rattle.catalog.specs.Holdings.{LoadRefused, Measures};
+ghost use Rattle.catalog.specs.Holdings.{LoadRefused};
 ghost use Rattle.catalog.specs.Places.{At};
 ghost use Rattle.catalog.specs.Making.{names_of, AreDistinct, IsNew};
 ghost use Rattle.catalog.specs.Meaning.{catalog_meaning, catalog_making};
@@ -13,9 +13,7 @@ ghost use Rattle.catalog.specs.Laws.Catalogs.{catalog_laws, making_laws};
 ghost use Rattle.catalog.specs.Laws.Shelves.{catalog_shelves};
 
 use crate::holding::are_items;
-use crate::{
-    CatalogShelf, Four, Holding, Measured, Named, NamedHolding, Names, Parts, Shelved, Shown,
-};
+use crate::{CatalogShelf, Four, Holding, Named, NamedHolding, Names, Parts, Shelved, Shown};
 use boosted::Boosted;
 use calls::{Call, Item, Kind, Refusal, Reply};
 use std::alloc::Global;
@@ -126,34 +124,6 @@ impl Catalog {
     {
         match self.names.name(col) {
             Some(name) => self.shelves.of(col).shown(col, name),
-            None => Err(Refusal::NoSuchCollection),
-        }
-    }
-
-    /// How large each collection is, in the order of making. It takes memory for their names and
-    /// for the list, and the time of as many names.
-    ///
-    /// NoMemory alone is refused.
-    pub fn measure(&self, alloc: Global) -> Result<Vec<Measured>, Refusal>
-        ensures all { IfOk result (λ all. AllZip Measures self.now all.items) }
-        ensures refusal { IsOkUnless result Refusal.NoMemory }
-    {
-        let mut all = Vec::new(alloc);
-        for at in 0..self.len() {
-            all.push(self.measured(at as u8)?)?;
-        }
-        Ok(all)
-    }
-
-    // How large the collection at the place is.
-    //
-    // NoSuchCollection where there is none, then NoMemory.
-    fn measured(&self, at: u8) -> Result<Measured, Refusal>
-        ensures ok { IfOk result (λ measured. At (λ x. Measures x measured) self.now at) }
-        ensures err { IfErr result (ShowRefused self.now at) }
-    {
-        match self.names.name(at) {
-            Some(name) => self.shelves.of(at).measured(at, name),
             None => Err(Refusal::NoSuchCollection),
         }
     }

@@ -39,6 +39,14 @@ pub trait Shelved: Boosted<At = u8> {
         ensures name { IfOk result (λ part.
             (Self.Part.collection part).name ≡ string_bytes name.now) }
         ensures err { IfErr result (CopyRefused (holds self.now at)) };
+
+    /// How large the collection of the number is, under the name, of which it takes a copy.
+    ///
+    /// NoSuchCollection where it is not on the shelf, then NoMemory.
+    fn measured(&self, at: u8, name: &String) -> Result<Measured, Refusal>
+        ensures ok { IfOk result (λ measured. (k : Content) × holds self.now at k ×
+            Measures (record { name = string_bytes name.now; content = k }) measured) }
+        ensures err { IfErr result (CopyRefused (holds self.now at)) };
 }
 
 /// A quarter of a catalog: the collections whose numbers leave its index on division by 4, in the
@@ -111,20 +119,6 @@ impl CatalogShelf {
     {
         match self.holding(at) {
             Some(holding) => Ok(shown_of(name, holding)?),
-            None => Err(Refusal::NoSuchCollection),
-        }
-    }
-
-    // How large the collection of the number is, under the name.
-    //
-    // NoSuchCollection where it is not on the shelf, then NoMemory.
-    pub(crate) fn measured(&self, at: u8, name: &String) -> Result<Measured, Refusal>
-        ensures ok { IfOk result (λ measured. (k : Content) × IsHeld self.now at k ×
-            Measures (record { name = string_bytes name.now; content = k }) measured) }
-        ensures err { IfErr result (CopyRefused (IsHeld self.now at)) }
-    {
-        match self.holding(at) {
-            Some(holding) => Ok(measured_of(name, holding)?),
             None => Err(Refusal::NoSuchCollection),
         }
     }
@@ -204,6 +198,13 @@ impl Shelved for CatalogShelf {
     fn copy(&self, at: u8, name: &String) -> Result<NamedHolding, Refusal> {
         match self.holding(at) {
             Some(holding) => NamedHolding::copy_of(name, holding),
+            None => Err(Refusal::NoSuchCollection),
+        }
+    }
+
+    fn measured(&self, at: u8, name: &String) -> Result<Measured, Refusal> {
+        match self.holding(at) {
+            Some(holding) => Ok(measured_of(name, holding)?),
             None => Err(Refusal::NoSuchCollection),
         }
     }

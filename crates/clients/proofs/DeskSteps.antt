@@ -20,7 +20,10 @@ use Rattle.txn.specs.Histories.{records_by, CutRow}
 use Rattle.txn.specs.Handing.{HasHanded}
 use Rattle.txn.proofs.Handings.{records_by-push, records_then, opens, taken_left, takes_on}
 use Rattle.txn.proofs.Handings.{cuts_on}
+use Rattle.boosted.specs.Meaning.{Meaning}
+use Rattle.catalog.specs.Making.{Making}
 use Rattle.catalog.specs.Meaning.{catalog_meaning, catalog_making}
+use Rattle.records.specs.Told.{Tells}
 use Rattle.group_commit.specs.Accords.{AccordState, nothing_gathered}
 use Rattle.group_commit.specs.Lines as lines
 use Rattle.group_commit.specs.Lines.{stepped, with_client}
@@ -30,8 +33,10 @@ use Rattle.clients.specs.Desks.{AreRecorded, IsDesk, frozen_ends}
 use Rattle.clients.specs.Known.{IsOwned, AreOwned, MayTake}
 use Rattle.clients.specs.Notes.{handed_count}
 use Rattle.clients.specs.Notes.{IsSent}
+use Rattle.clients.specs.Told.{told_book}
 use Rattle.clients.proofs.Gathered.{Goes, gathered_takes, gathered_cut, gathered_none}
 use Rattle.clients.proofs.Recording.{recorded_none, recorded_leads, recorded_unheard}
+use Rattle.clients.proofs.Telling.{takes_told, gathered_told, gathered_back}
 
 abbrev Book : Type 0
 Book = BookState (List Collection)
@@ -54,7 +59,7 @@ module _ {J : Type 0} (j : Ghosts J) where
         line = refl;
         handoff = refl;
         gathering = refl;
-        gathered = gathered_none (opened j.format j.start j.next j.wear);
+        gathered = gathered_none (λ v. v) (opened j.format j.start j.next j.wear);
         groups = [];
         handed = opens catalog_meaning catalog_making (λ v. v) j.format j.start j.wear j.next;
         owned = tt;
@@ -76,17 +81,26 @@ module _ {J : Type 0} (j : Ghosts J) where
     recorded = is.recorded;
   }
 
-  module _ (book : Book) (seat : lines.BookState) (sender : SenderState) (near : AccordState)
-      (is : IsDesk j book seat sender near) (client : Option ℕ) where
+  module _ {S : Type 0} {meaning : Meaning S ℕ} {making : Making S}
+      {collections : S → List Collection} (told : Tells meaning making collections)
+      (old : BookState S) (seat : lines.BookState)
+      (sender : SenderState) (near : AccordState)
+      (is : IsDesk j (told_book collections old) seat sender near) (client : Option ℕ) where
+    abbrev book : Book
+    book = told_book collections old
+
     abbrev step : Action → BookStep
     step action = record { client = client; action = action }
 
     -- a step that hands nothing over
-    pub desk_takes : (action : Action) (after : Book) (now : lines.BookState) →
-        MayTake client action → Takes catalog_meaning catalog_making book action after →
-        AllByRecursion (IsRecord None) after.pending → Goes book action after →
-        now ≡ stepped seat (step action) → IsDesk j after now sender near
-    desk_takes action after now may took good goes now_is =
+    pub desk_takes : (action : Action) (new : BookState S) (now : lines.BookState) →
+        MayTake client action → Takes meaning making old action new →
+        AllByRecursion (IsRecord None) new.pending →
+        Goes meaning making collections old action new → now ≡ stepped seat (step action) →
+        IsDesk j (told_book collections new) now sender near
+    desk_takes action new now may takes good goes now_is =
+        let after : Book = told_book collections new in
+        let took = takes_told told old new action takes in
         let rs = records_then seat.all action in
         let left = taken_left catalog_meaning catalog_making (λ v. v) j.format j.start j.wear
         seat.all book
@@ -97,7 +111,9 @@ module _ {J : Type 0} (j : Ghosts J) where
           line = is.line;
           handoff = is.handoff;
           gathering = is.gathering;
-          gathered = gathered_takes book after near.gather action took goes is.gathered;
+          gathered = gathered_told collections new near.gather
+              (gathered_takes meaning making collections old new near.gather action takes goes
+              (gathered_back collections old near.gather is.gathered));
           groups = is.groups;
           handed = takes_on catalog_meaning catalog_making (λ v. v) j.format j.start j.wear seat.all
               book
@@ -105,20 +121,20 @@ module _ {J : Type 0} (j : Ghosts J) where
               good;
           owned = owned_then seat.all (step action) is.owned may;
           recorded = λ s.
-              let old = is.recorded s in
+              let had = is.recorded s in
               subst (λ l. AreRecorded j.format j.start j.wear l (journalled after.state)
               sender.noted)
               (sym (records_by-push seat.all (step action)))
               (⊎_elim
               (λ (leads : Repeats rs (journalled book.state) (journalled after.state)).
               recorded_leads j.format j.start j.wear sender.noted (records_by seat.all)
-              (journalled book.state) rs (journalled after.state) more leads old)
+              (journalled book.state) rs (journalled after.state) more leads had)
               (λ unheard. subst
               (λ l. AreRecorded j.format j.start j.wear l (journalled after.state) sender.noted)
               (sym (append-nil (records_by seat.all)) ∙
               ap (λ l. records_by seat.all ++ l) (sym unheard.0))
               (recorded_unheard j.format j.start j.wear sender.noted (records_by seat.all)
-              (journalled book.state) (journalled after.state) unheard.1 old))
+              (journalled book.state) (journalled after.state) unheard.1 had))
               left.leads);
         })
 
@@ -162,8 +178,8 @@ module _ {J : Type 0} (j : Ghosts J) where
         line = is.line;
         handoff = on.3.table ∙ is.handoff;
         gathering = is.gathering;
-        gathered = gathered_cut book after near.gather (λ bs. IsSent sender bs ends) full a cut
-            is.gathered;
+        gathered = gathered_cut (λ v. v) book after near.gather (λ bs. IsSent sender bs ends) full a
+            cut is.gathered;
         groups = is.groups ++ on.2;
         handed = subst (λ l. Handed (seat.all ++ step ∷ []) after ends.sent (is.groups ++ on.2)
             (frozen_ends l)) (sym on.3.noted)
@@ -184,8 +200,9 @@ module _ {J : Type 0} (j : Ghosts J) where
       })
 
 -- what a cut answers of one way to send blocks it answers of a wider one
-pub cut_weaker : (b : Book) (P Q : List Block → Type 0) → ((bs : List Block) → P bs → Q bs) →
-    (full : Type 0) (a : Result Bool Refusal) (c : Book) → CutAnswers b P full a c →
+pub cut_weaker : {S : Type 0} (b : BookState S) (P Q : List Block → Type 0) →
+    ((bs : List Block) → P bs → Q bs) → (full : Type 0) (a : Result Bool Refusal)
+    (c : BookState S) → CutAnswers b P full a c →
     CutAnswers b Q full a c
 cut_weaker b P Q f full (Ok true) c cut =
     ((cut.0.0, f _ cut.0.1, cut.0.2, cut.0.3, cut.0.4, cut.0.5), cut.1)

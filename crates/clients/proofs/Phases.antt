@@ -27,3 +27,13 @@ module _ {J : Type 0} (j : Ghosts J) where
   enters_open Phase.Closed old e new enters = absurd enters
   enters_open (Phase.Entered n) old e new enters = absurd (ok_no_err n e (sym enters.0))
   enters_open (Phase.Drawn n) old e new enters = subst IsOpen (sym enters.1) tt
+
+  -- where the entering is refused, the call is
+  pub does_refused : (p : Phase) (old : Known) (own : ℕ → Action → Type 0)
+      (refused : Refusal → Type 0) (after : ℕ → Phase) (e : Refusal) (new : Known) →
+      Enters j p old (Err e) new → refused e → Does j p old own refused after new
+  does_refused Phase.Closed old own refused after e new enters is = absurd enters
+  does_refused (Phase.Entered n) old own refused after e new enters is =
+      absurd (ok_no_err n e (sym enters.0))
+  does_refused (Phase.Drawn n) old own refused after e new enters is =
+      inr (e, is, enters.0, enters.1)

@@ -5,3 +5,4 @@ pub mod Known
 pub mod NoStore
 pub mod Notes
 pub mod Statuses
+pub mod Told

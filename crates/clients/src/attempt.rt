@@ -7,6 +7,7 @@ use crate::client::Client;
 use crate::naming::Naming;
 use calls::{Call, Refusal, Reply};
 use core::mem::replace_with;
+use records::Coded;
 use std::marker::{Brand, Model, PhantomData};
 use std::sync::Wait;
 
@@ -80,13 +81,13 @@ impl Beginning for Brand {
 }
 
 // An attempt of a client that goes on from a beginning.
-struct Going<'s, 'r, J: Naming, B: Beginning, R> {
+struct Going<'s, 'r, J: Naming, B: Coded, F: Beginning, R> {
     rt: &'r R,
-    client: Client<'s, J>,
-    of: PhantomData<B>,
+    client: Client<'s, J, B>,
+    of: PhantomData<F>,
 }
 
-impl<'s, 'r, J: Naming, B: Beginning, R> Model for Going<'s, 'r, J, B, R> {
+impl<'s, 'r, J: Naming, B: Coded, F: Beginning, R> Model for Going<'s, 'r, J, B, F, R> {
     ghost use Rattle.clients.specs.Known.{Known};
     ghost use Rattle.clients.specs.Attempts.{Attempts, done_since};
 
@@ -95,13 +96,13 @@ impl<'s, 'r, J: Naming, B: Beginning, R> Model for Going<'s, 'r, J, B, R> {
     ghost view = { λ a. a.client };
 
     ghost invariant = { λ a.
-        Attempts ⟦<J as Naming>⟧ B.number B.start (done_since B.start a.client) a.client };
+        Attempts ⟦<J as Naming>⟧ F.number F.start (done_since F.start a.client) a.client };
 }
 
-impl<'s, 'r, J: Naming, B: Beginning, R: Wait> Attempt for Going<'s, 'r, J, B, R> {
+impl<'s, 'r, J: Naming, B: Coded, F: Beginning, R: Wait> Attempt for Going<'s, 'r, J, B, F, R> {
     ghost use Rattle.clients.specs.Attempts.{done_since};
 
-    ghost made = { done_since B.start };
+    ghost made = { done_since F.start };
 
     fn call(&mut self, name: &str, call: &Call) -> Result<Reply, Refusal> {
         self.client.call(self.rt, name, call)
@@ -112,7 +113,7 @@ impl<'s, 'r, J: Naming, B: Beginning, R: Wait> Attempt for Going<'s, 'r, J, B, R
     }
 }
 
-impl<J: Naming> Client<'_, J> {
+impl<J: Naming, B: Coded> Client<'_, J, B> {
     /// Makes the calls of a transaction in the client's own, which was begun and has made none. It
     /// stays open, also where the calls are refused. Call it only of a client that has just begun a
     /// transaction.
@@ -133,32 +134,32 @@ impl<J: Naming> Client<'_, J> {
 }
 
 // Makes the calls of a transaction by a client that is handed over, and hands it back.
-fn attempt_by<'s, T: Transaction, J: Naming, R: Wait>(
-    client: Client<'s, J>,
+fn attempt_by<'s, T: Transaction, J: Naming, B: Coded, R: Wait>(
+    client: Client<'s, J, B>,
     with: (&R, &T, PhantomData<T::Output>),
-) -> (Client<'s, J>, Result<T::Output, Refusal>)
+) -> (Client<'s, J, B>, Result<T::Output, Refusal>)
     requires { IsBegun client.phase }
     ensures { IsAttempt ⟦<J as Naming>⟧ (T.says with.entry.1.now) (T.refuses with.entry.1.now)
         (number_of client.entry.phase) client.entry result.1 result.0 }
 {
     let (rt, transaction, _output) = with;
-    go_through::<Brand, T, J, R>(rt, client, transaction)
+    go_through::<Brand, T, J, B, R>(rt, client, transaction)
 }
 
 // Makes the calls from the beginning that the type names.
-fn go_through<'s, B: Beginning, T: Transaction, J: Naming, R: Wait>(
+fn go_through<'s, F: Beginning, T: Transaction, J: Naming, B: Coded, R: Wait>(
     rt: &R,
-    client: Client<'s, J>,
+    client: Client<'s, J, B>,
     transaction: &T,
-) -> (Client<'s, J>, Result<T::Output, Refusal>)
+) -> (Client<'s, J, B>, Result<T::Output, Refusal>)
     requires begun { IsBegun client.phase }
-    requires number { number_of client.phase ≡ B.number }
-    requires start { client ≡ B.start }
+    requires number { number_of client.phase ≡ F.number }
+    requires start { client ≡ F.start }
     ensures { IsAttempt ⟦<J as Naming>⟧ (T.says transaction.now) (T.refuses transaction.now)
-        B.number client.entry result.1 result.0 }
+        F.number client.entry result.1 result.0 }
 {
     client.upheld();
-    let mut going: Going<'_, '_, J, B, R> = Going {
+    let mut going: Going<'_, '_, J, B, F, R> = Going {
         rt,
         client,
         of: PhantomData,

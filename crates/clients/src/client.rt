@@ -24,8 +24,10 @@ use crate::shared::Shared;
 use crate::status::Status;
 use crate::ticket::Ticket;
 use calls::{Call, Kind, Refusal, Reply};
+use catalog::Catalog;
 use crossbeam_utils::Backoff;
 use group_commit::{ClientSeat, Drawer, Watcher};
+use records::Coded;
 use std::alloc::Global;
 use std::marker::Model;
 use std::sync::Wait;
@@ -36,8 +38,8 @@ use std::sync::Wait;
 /// Where clients leave records faster than the disk takes them, and a committer's thread is at work
 /// (`Signal::set_attended`), each step but `begin` sleeps first while 8,192 records wait. So a
 /// client is refused Backlog only where no committer is at work, or keeping has failed.
-pub struct Client<'s, J: Naming> {
-    desk: &'s DeskLock<J>,
+pub struct Client<'s, J: Naming, B: Coded = Catalog> {
+    desk: &'s DeskLock<J, B>,
     shared: &'s Shared<J>,
     line: ClientSeat,
     watcher: Watcher,
@@ -46,7 +48,7 @@ pub struct Client<'s, J: Naming> {
 }
 
 // Written out, so that the crates above call it in place of proving it again.
-impl<'s, J: Naming> Drop for Client<'s, J> {
+impl<'s, J: Naming, B: Coded> Drop for Client<'s, J, B> {
     fn drop(self) {
         let Self {
             desk: _desk,
@@ -62,7 +64,7 @@ impl<'s, J: Naming> Drop for Client<'s, J> {
     }
 }
 
-impl<'s, J: Naming> Model for Client<'s, J> {
+impl<'s, J: Naming, B: Coded> Model for Client<'s, J, B> {
     ghost use Rattle.clients.specs.Known.{Known, known_of};
     ghost use Rattle.clients.specs.Calls.{IsClient};
 
@@ -73,10 +75,10 @@ impl<'s, J: Naming> Model for Client<'s, J> {
     ghost invariant = { λ c. IsClient ⟦<J as Naming>⟧ c.line c.watcher c.drawer };
 }
 
-impl<'s, J: Naming> Client<'s, J> {
+impl<'s, J: Naming, B: Coded> Client<'s, J, B> {
     /// A client with no transaction, of seats that were just made: `Store::client` makes it.
     pub fn new(
-        desk: &'s DeskLock<J>,
+        desk: &'s DeskLock<J, B>,
         shared: &'s Shared<J>,
         line: ClientSeat,
         watcher: Watcher,
@@ -294,7 +296,7 @@ impl<'s, J: Naming> Client<'s, J> {
     }
 
     // The number of the client's transaction, which is entered if it was only drawn.
-    fn enter(&mut self, desk: &mut Desk<J>) -> Result<u64, Refusal>
+    fn enter(&mut self, desk: &mut Desk<J, B>) -> Result<u64, Refusal>
         requires { IsOpen self.old.phase }
         ensures { Enters ⟦<J as Naming>⟧ self.old.phase self.old result self.new }
     {
@@ -307,22 +309,6 @@ impl<'s, J: Naming> Client<'s, J> {
             }
             Phase::Closed => unreachable!(),
         }
-    }
-
-    /// How the store stands. It is answered at once, whether the client has a transaction or not:
-    /// it takes the book's lock once, for the time of as many names as there are collections, and
-    /// calls no device. The text of the names takes memory.
-    ///
-    /// `used` and `first` are as the committer last told them, and so behind the disk by a block at
-    /// most while it is at work; as the store was opened, where none has told (`Committer::turn`
-    /// tells nothing, `Committer::turn_with_room` does).
-    ///
-    /// NoMemory alone is refused. The client is as before in each case.
-    pub fn status<R: Wait>(&self, rt: &R, alloc: Global) -> Result<Status, Refusal>
-        ensures { IsOkUnless result Refusal.NoMemory }
-    {
-        let desk = self.desk;
-        desk.lock(rt).status(alloc)
     }
 
     /// Whether the commit or making of the ticket is kept through a stop. It takes no memory, and
@@ -411,7 +397,7 @@ impl<'s, J: Naming> Client<'s, J> {
     /// Has two clients of one store meet. Contracts then know that both have seen the longer of
     /// what they had seen, and that no number was given to both. It takes no memory, and waits for
     /// nobody.
-    pub fn meet(&mut self, other: &mut Client<'s, J>)
+    pub fn meet(&mut self, other: &mut Client<'s, J, B>)
         ensures one { self.new ≡ record self.old { seen = self.new.seen } }
         ensures other { other.new ≡ record other.old { seen = self.new.seen } }
         ensures longer { IsLonger self.old.seen other.old.seen self.new.seen }
@@ -445,5 +431,21 @@ impl<'s, J: Naming> Client<'s, J> {
         } = self;
         drop(drawer);
         Seen::new(line, watcher)
+    }
+
+    /// How the store stands. It is answered at once, whether the client has a transaction or not:
+    /// it takes the book's lock once, for the time of as many names as there are collections, and
+    /// calls no device. The text of the names takes memory.
+    ///
+    /// `used` and `first` are as the committer last told them, and so behind the disk by a block at
+    /// most while it is at work; as the store was opened, where none has told (`Committer::turn`
+    /// tells nothing, `Committer::turn_with_room` does).
+    ///
+    /// NoMemory alone is refused. The client is as before in each case.
+    pub fn status<R: Wait>(&self, rt: &R, alloc: Global) -> Result<Status, Refusal>
+        ensures { IsOkUnless result Refusal.NoMemory }
+    {
+        let desk = self.desk;
+        desk.lock(rt).status(alloc)
     }
 }

@@ -4,8 +4,7 @@ ghost use Rattle.std.specs.Prelude.{IsOkUnless, OnOk, ◌⊎◌, ◌≤◌};
 ghost use Rattle.calls.specs.Names.{IsName};
 ghost use Rattle.calls.specs.declared.refusal.Refusal.{Refusal};
 ghost use Rattle.calls.specs.Limits.{max_body};
-ghost use Rattle.catalog.specs.Making.{IsPlaceOf, FindRefused, names_of};
-ghost use Rattle.catalog.specs.Meaning.{catalog_meaning, catalog_making};
+ghost use Rattle.catalog.specs.Making.{IsPlaceOf, FindRefused};
 ghost use Rattle.txn.specs.declared.steps.Action.{Action};
 ghost use Rattle.txn.specs.declared.steps.Target.{Target};
 ghost use Rattle.txn.specs.Books.{opened, Takes, GoesOn, CutAnswers};
@@ -17,6 +16,7 @@ ghost use mathlib.Core.List.{IsPrefix};
 ghost use Rattle.clients.specs.Desks.{IsDesk};
 ghost use Rattle.clients.specs.Known.{Steps};
 ghost use Rattle.clients.specs.Notes.{found_of, IsSent};
+ghost use Rattle.clients.specs.Told.{told_book};
 
 use crate::extent::Extent;
 use crate::naming::Naming;
@@ -26,11 +26,11 @@ use crate::signal::Signal;
 use crate::status::Status;
 use blocks::NextBlock;
 use calls::{Call, Kind, Refusal, Reply};
-use catalog::Catalog;
 use group_commit::{
     BookSeat, ClientSeat, Drawer, DrawerMaker, Handoff, Line, Near, OneStep, Outgoing, Sender,
     Watcher,
 };
+use records::Coded;
 use std::alloc::Global;
 use std::marker::{Brand, Model, PhantomData};
 use std::snapshot::Snapshot;
@@ -40,8 +40,8 @@ use txn::Book;
 /// The book, with the seats of its history, of the hand-off's sending end, of what is gathered of
 /// it for an image, and of what makes clients. What lies under a lock is known by its type:
 /// contracts see nothing else of it.
-pub struct Desk<J: Naming> {
-    pub book: Book<Catalog>,
+pub struct Desk<J: Naming, B: Coded> {
+    pub book: Book<B>,
     pub seat: BookSeat,
     pub sender: Sender,
     pub near: Near,
@@ -55,7 +55,7 @@ pub struct Desk<J: Naming> {
 }
 
 // Written out, so that the crates above call it in place of proving it again.
-impl<J: Naming> Drop for Desk<J> {
+impl<J: Naming, B: Coded> Drop for Desk<J, B> {
     fn drop(self) {
         let Self {
             book,
@@ -77,22 +77,24 @@ impl<J: Naming> Drop for Desk<J> {
     }
 }
 
-impl<J: Naming> Model for Desk<J> {
+impl<J: Naming, B: Coded> Model for Desk<J, B> {
     ghost use Rattle.std.specs.Prelude.{◌≡◌};
     ghost use Rattle.clients.specs.Desks.{IsDesk};
+    ghost use Rattle.clients.specs.Told.{told_book};
 
     ghost Value = { Unit {0} };
 
     ghost view = { λ d. tt };
 
-    ghost invariant = { λ d. IsDesk ⟦<J as Naming>⟧ d.book d.seat d.sender d.near
+    ghost invariant = { λ d.
+        IsDesk ⟦<J as Naming>⟧ (told_book B.collections d.book) d.seat d.sender d.near
         × (d.maker.table ≡ J.numbers) × (d.maker.from ≡ J.next) × (d.watcher.table ≡ J.mark) };
 }
 
-impl<J: Naming> Desk<J> {
+impl<J: Naming, B: Coded> Desk<J, B> {
     /// The desk of a book that was just opened, whose area in use is filled so far.
     pub fn new(
-        book: Book<Catalog>,
+        book: Book<B>,
         seat: BookSeat,
         sender: Sender,
         near: Near,
@@ -100,7 +102,7 @@ impl<J: Naming> Desk<J> {
         watcher: Watcher,
         extent: Extent,
     ) -> Self
-        requires book { book ≡ opened J.format J.start J.next J.wear }
+        requires book { told_book B.collections book ≡ opened J.format J.start J.next J.wear }
         requires seat { seat ≡ record { table = J.line; all = []; clients = 0 } }
         requires sender { sender ≡ record { table = J.handoff; sent = []; noted = [] } }
         requires near { near ≡ record { table = J.gathering; gather = nothing_gathered } }
@@ -301,17 +303,6 @@ impl<J: Naming> Desk<J> {
         Ok(())
     }
 
-    /// How the store stands: the book now, and the area in use as `cut_within` was last told, or as
-    /// the store was opened. It takes memory for the names of the collections, and the time of as
-    /// many names.
-    ///
-    /// NoMemory alone is refused.
-    pub(crate) fn status(&self, alloc: Global) -> Result<Status, Refusal>
-        ensures { IsOkUnless result Refusal.NoMemory }
-    {
-        Status::of(alloc, &self.book, self.extent)
-    }
-
     /// The seats of a new client.
     ///
     /// Worn where 65,536 were made.
@@ -330,8 +321,9 @@ impl<J: Naming> Desk<J> {
 
     /// The book, with its seat and the sending end, where no thread shares the desk any more. It
     /// takes no memory.
-    pub fn into_parts(self) -> (Book<Catalog>, BookSeat, Sender)
-        ensures { (near : AccordState) × IsDesk ⟦<J as Naming>⟧ result.0 result.1 result.2 near }
+    pub fn into_parts(self) -> (Book<B>, BookSeat, Sender)
+        ensures { (near : AccordState) ×
+            IsDesk ⟦<J as Naming>⟧ (told_book B.collections result.0) result.1 result.2 near }
     {
         let Self {
             book,
@@ -356,6 +348,17 @@ impl<J: Naming> Desk<J> {
     {
         shared.mark.watcher(&mut self.watcher)
     }
+
+    /// How the store stands: the book now, and the area in use as `cut_within` was last told, or as
+    /// the store was opened. It takes memory for the names of the collections, and the time of as
+    /// many names.
+    ///
+    /// NoMemory alone is refused.
+    pub(crate) fn status(&self, alloc: Global) -> Result<Status, Refusal>
+        ensures { IsOkUnless result Refusal.NoMemory }
+    {
+        Status::of(alloc, &self.book, self.extent)
+    }
 }
 
 /// The step that W names stands at the end of the history, a step of no client. Its parts are there
@@ -373,7 +376,7 @@ pub fn note_alone<W: OneStep, T>(line: &Line, seat: &mut BookSeat, parts: &T)
 // can be handed over: the image of the area covers it; or both fit into the room and it is not past
 // the image that is being written. `before` so many behind the last block. A record makes one more
 // to undo at most. Where the block has all that waits, they can be counted.
-fn undoing_within(book: &Book<Catalog>, before: u64, next: NextBlock, room: Room) -> Option<u64>
+fn undoing_within<B: Coded>(book: &Book<B>, before: u64, next: NextBlock, room: Room) -> Option<u64>
     requires { next.body ≤ max_body }
 {
     let behind = (book.waiting() as u64).saturating_sub(next.records);
@@ -404,7 +407,7 @@ fn refused_within(room: Room) -> Refusal
 
 // Wakes the committer behind a step of a client: one that committed or made something, and each one
 // behind which many records wait, also where it was refused for that.
-fn wake(signal: &Signal, book: &Book<Catalog>, is_placed: bool) {
+fn wake<B: Coded>(signal: &Signal, book: &Book<B>, is_placed: bool) {
     signal.left(book.waiting());
     if is_placed {
         signal.committed();
@@ -412,10 +415,10 @@ fn wake(signal: &Signal, book: &Book<Catalog>, is_placed: bool) {
 }
 
 // Hands a block of the book over at the sending end.
-fn cut_into<R: Wait>(
+fn cut_into<B: Coded, R: Wait>(
     rt: &R,
     handoff: &Handoff,
-    book: &mut Book<Catalog>,
+    book: &mut Book<B>,
     sender: &mut Sender,
 ) -> Result<bool, Refusal>
     requires { sender.old.table ≡ handoff.now }
@@ -432,20 +435,20 @@ fn cut_into<R: Wait>(
 
 // A call that is put off, on the collection that was found under the name, or the refusal that none
 // was.
-fn later_found(
-    book: &mut Book<Catalog>,
+fn later_found<B: Coded>(
+    book: &mut Book<B>,
     number: u64,
     name: &str,
     found: &Result<u8, Refusal>,
     call: &Call,
 ) -> Result<(), Refusal>
     requires ok { IfOk found.now (λ at. IsName name.now ×
-        IsPlaceOf (names_of book.old.state.now) name.now at) }
-    requires err { IfErr found.now (FindRefused (names_of book.old.state.now) name.now) }
-    ensures answer { Takes catalog_meaning catalog_making book.old
+        IsPlaceOf (B.making.names book.old.state.now) name.now at) }
+    requires err { IfErr found.now (FindRefused (B.making.names book.old.state.now) name.now) }
+    ensures answer { Takes B.meaning B.making book.old
         (Action.Later number (Target.Named name.now (found_of found.now)) call.now result)
         book.new }
-    ensures goes { OnOk result (GoesOn catalog_meaning catalog_making (λ v. v) book.old book.new) }
+    ensures goes { OnOk result (GoesOn B.meaning B.making B.collections book.old book.new) }
 {
     match found {
         Ok(at) => book.later(number, *at, call),
@@ -468,20 +471,20 @@ fn note<W: OneStep, T>(line: &Line, seat: &mut BookSeat, me: &mut ClientSeat, pa
 }
 
 // A call on the collection that was found under the name, or the refusal that none was.
-fn call_found(
-    book: &mut Book<Catalog>,
+fn call_found<B: Coded>(
+    book: &mut Book<B>,
     number: u64,
     name: &str,
     found: &Result<u8, Refusal>,
     call: &Call,
 ) -> Result<Reply, Refusal>
     requires ok { IfOk found.now (λ at. IsName name.now ×
-        IsPlaceOf (names_of book.old.state.now) name.now at) }
-    requires err { IfErr found.now (FindRefused (names_of book.old.state.now) name.now) }
-    ensures answer { Takes catalog_meaning catalog_making book.old
+        IsPlaceOf (B.making.names book.old.state.now) name.now at) }
+    requires err { IfErr found.now (FindRefused (B.making.names book.old.state.now) name.now) }
+    ensures answer { Takes B.meaning B.making book.old
         (Action.Call number (Target.Named name.now (found_of found.now)) call.now result)
         book.new }
-    ensures goes { OnOk result (GoesOn catalog_meaning catalog_making (λ v. v) book.old book.new) }
+    ensures goes { OnOk result (GoesOn B.meaning B.making B.collections book.old book.new) }
 {
     match found {
         Ok(at) => book.call(number, *at, call),

@@ -2,6 +2,7 @@
 use crate::desk::Desk;
 use crate::naming::Naming;
 use crossbeam_utils::Backoff;
+use records::Coded;
 use std::sync::atomic::{AtomicU64, Ordering};
 use std::sync::{Mutex, MutexGuard, Wait};
 
@@ -9,15 +10,15 @@ use std::sync::{Mutex, MutexGuard, Wait};
 /// whoever asks first, and a thread that was woken for it may be late. So one who takes it again
 /// and again, and holds it long, lets those who wait go first (`give_way`).
 #[derive(Drop)]
-pub struct DeskLock<J: Naming> {
-    desk: Mutex<Desk<J>>,
+pub struct DeskLock<J: Naming, B: Coded> {
+    desk: Mutex<Desk<J, B>>,
     came: AtomicU64,
     served: AtomicU64,
 }
 
-impl<J: Naming> DeskLock<J> {
+impl<J: Naming, B: Coded> DeskLock<J, B> {
     /// The lock of a desk, for which nobody waits. It takes no memory.
-    pub fn new(desk: Desk<J>) -> Self {
+    pub fn new(desk: Desk<J, B>) -> Self {
         Self {
             desk: Mutex::new(desk),
             came: AtomicU64::new(0),
@@ -26,7 +27,7 @@ impl<J: Naming> DeskLock<J> {
     }
 
     /// Takes the lock. Who has to wait for it is counted. It takes no memory.
-    pub fn lock<R: Wait>(&self, rt: &R) -> MutexGuard<'_, Desk<J>> {
+    pub fn lock<R: Wait>(&self, rt: &R) -> MutexGuard<'_, Desk<J, B>> {
         if let Some(desk) = self.desk.try_lock() {
             return desk;
         }
@@ -50,7 +51,7 @@ impl<J: Naming> DeskLock<J> {
     }
 
     /// The desk, where no thread shares it any more. It takes no memory.
-    pub fn into_inner(self) -> Desk<J> {
+    pub fn into_inner(self) -> Desk<J, B> {
         let Self {
             desk,
             came: _came,

@@ -2,10 +2,12 @@
 ghost use Rattle.std.specs.Prelude.{IfOk, IsOkUnless};
 ghost use Rattle.calls.specs.declared.refusal.Refusal.{Refusal};
 ghost use Rattle.clients.specs.Statuses.{IsStatusOf};
+ghost use Rattle.clients.specs.Told.{told_book};
 
 use crate::extent::Extent;
 use calls::{Format, Refusal};
-use catalog::{Catalog, Measured};
+use catalog::Measured;
+use records::Coded;
 use std::alloc::Global;
 use std::fmt;
 use txn::Book;
@@ -36,8 +38,8 @@ impl Status {
     /// collections, and the time of as many names.
     ///
     /// NoMemory alone is refused.
-    pub fn of(alloc: Global, book: &Book<Catalog>, extent: Extent) -> Result<Self, Refusal>
-        ensures told { IfOk result (IsStatusOf book.now extent) }
+    pub fn of<B: Coded>(alloc: Global, book: &Book<B>, extent: Extent) -> Result<Self, Refusal>
+        ensures told { IfOk result (IsStatusOf (told_book B.collections book.now) extent) }
         ensures refusal { IsOkUnless result Refusal.NoMemory }
     {
         Ok(Self {
@@ -47,7 +49,7 @@ impl Status {
             waiting: book.waiting(),
             next: book.next(),
             wear: book.wear(),
-            collections: book.parts().measure(alloc)?,
+            collections: book.measure(alloc)?,
         })
     }
 

@@ -23,8 +23,7 @@ use Rattle.images.proofs.Following.{came_taken, came_copied}
 use Rattle.images.proofs.Following as following
 use Rattle.images.proofs.Repeats.{repeated_same}
 use Rattle.images.proofs.ImageRecords.{tells_state}
-use Rattle.gathering.specs.Gatherings.{GatheringState, IsKept, noted, given_up, event_in, GoesAlong}
-use Rattle.gathering.specs.Views.{gathering_of}
+use Rattle.gathering.specs.Gatherings.{GatheringState, noted, given_up, event_in, GoesAlong}
 use Rattle.gathering.specs.Laws.{GoesPastRuns, GoesPastMakings, GoesPastOthers, HoldsImage}
 
 -- ---- what is noted
@@ -52,39 +51,7 @@ module _ (n : GatheringState) (es : List Effect) where
       (n.going ≡ true) × ((noted n es).effects ≡ n.effects ++ es)
   noted_going = going_by n.going (nat_le (length n.effects + length es) 16384) refl
 
-  -- Where none is under way, nothing is noted.
-  pub noted_none : n.going ≡ false → noted n es ≡ n
-  noted_none is = ap (λ b. noted_by b (nat_le (length n.effects + length es) 16384)) is
-
 -- ---- what holds of every gathering
-
--- It holds still where there is more room, with the same calls,
-pub kept_room : (begun : ℕ) (going : Bool) (es fs : List Effect) (room more : ℕ) → fs ≡ es →
-    room ≤ more → IsKept (gathering_of begun going es) room → IsKept (gathering_of begun going fs)
-    more
-kept_room begun going es fs room more same low kept =
-    subst (λ l. IsKept (gathering_of begun going l) more) (sym same) (record {
-      few = kept.few;
-      first = kept.first;
-      none = kept.none;
-      fit = kept.fit;
-      roomy = λ yes. omega (arith, kept.roomy yes, low);
-      short = kept.short;
-    })
-
--- or with none.
-pub kept_none : (begun : ℕ) (going : Bool) (es fs : List Effect) (room more : ℕ) → fs ≡ [] →
-    room ≤ more → IsKept (gathering_of begun going es) room → IsKept (gathering_of begun going fs)
-    more
-kept_none begun going es fs room more none low kept =
-    subst (λ l. IsKept (gathering_of begun going l) more) (sym none) (record {
-      few = kept.few;
-      first = kept.first;
-      none = λ no'. refl;
-      fit = omega arith;
-      roomy = λ yes. omega (arith, kept.roomy yes, low);
-      short = tt;
-    })
 
 -- ---- calls
 
@@ -178,25 +145,6 @@ goes_past_others collections n position next s low = record {
 -- ---- copies, and what is handed over
 
 module _ {S : Type 0} (collections : S → List Collection) (now : S) (position : ℕ) where
-  -- What has taken nothing goes along.
-  pub nothing_along : (n : GatheringState) (g : GatherState) → g.mark ≡ n.begun → g.parts ≡ [] →
-      g.effects ≡ [] → n.effects ≡ [] → GoesAlong collections n now position g
-  nothing_along n g mark parts effects none =
-      let all : g.effects ++ n.effects ≡ [] = ap (λ l. l ++ n.effects) effects ∙ none in
-      record {
-        mark = mark;
-        follows = record {
-          few = omega (arith, ap length parts);
-          can = subst (CanCatchUp g.parts) (sym all) tt;
-          leads = ap (λ l. gathered (caught_up g.parts l)) all ∙ ap gathered parts ∙
-              sym (ap (λ l. take (length l) (collections now)) parts);
-        };
-        came = record {
-          stamps = subst (AllByRecursion (λ (p : CopyState). p.stamp ≤ position)) (sym parts) tt;
-          positions = subst (AllByRecursion (λ (e : Effect). e.position ≤ position)) (sym all) tt;
-        };
-      }
-
   -- The next collection is copied, if one is left, and what was noted is handed over.
   pub gathered_along : (n : GatheringState) (g : GatherState) →
       GoesAlong collections n now position g → (next : Option Collection) →

@@ -1,5 +1,5 @@
 -- What a commit runs is noted entry by entry.
-use Rattle.std.proofs.Common.{◌≡◌, ℕ, ◌+◌, ◌<◌, ◌≤◌, Option, List, [], ◌∷◌, ◌++◌, length, map}
+use Rattle.std.proofs.Common.{None, ◌≡◌, ℕ, ◌+◌, ◌<◌, ◌≤◌, Option, List, [], ◌∷◌, ◌++◌, length, map}
 use Rattle.std.proofs.Common.{get_or, drop, sym, ◌∙◌, ap, append_assoc}
 use Rattle.std.specs.Option.{option_to_list}
 use Rattle.std.proofs.lemmas.List.{append-nil, map-append, drop_all}
@@ -14,17 +14,17 @@ module _ (f : Event → Effect) (ss : List Stamped) where
       (items now : List Effect) (o : Option Effect) →
       option_to_list o ≡ map f (laters_of (stamped_entry s ∷ [])) →
       now ≡ items ++ option_to_list o →
-      items ++ map f (put_off (drop i ss)) ≡ map f (put_off ss) →
-      now ++ map f (put_off (drop (i + 1) ss)) ≡ map f (put_off ss)
+      items ++ map f (put_off None (drop i ss)) ≡ map f (put_off None ss) →
+      now ++ map f (put_off None (drop (i + 1) ss)) ≡ map f (put_off None ss)
   laters_more i s below is items now o told more so_far =
       let ones = laters_of (stamped_entry s ∷ []) in
-      let left = put_off (drop (i + 1) ss) in
-      let all : map f (put_off (drop i ss)) ≡ map f ones ++ map f left =
-      ap (map f) (next ss i s below is) ∙ map-append f ones left in
+      let left = put_off None (drop (i + 1) ss) in
+      let all : map f (put_off None (drop i ss)) ≡ map f ones ++ map f left =
+      ap (map f) (next None ss i s below is) ∙ map-append f ones left in
       ap (λ l. l ++ map f left) more ∙ append_assoc items (option_to_list o) (map f left) ∙
       ap (λ l. items ++ (l ++ map f left)) told ∙ ap (λ l. items ++ l) (sym all) ∙ so_far
 
   pub laters_all : (i : ℕ) → length ss ≤ i → (items : List Effect) →
-      items ++ map f (put_off (drop i ss)) ≡ map f (put_off ss) → items ≡ map f (put_off ss)
+      items ++ map f (put_off None (drop i ss)) ≡ map f (put_off None ss) → items ≡ map f (put_off None ss)
   laters_all i past items so_far = sym (append-nil items) ∙
-      ap (λ l. items ++ map f (put_off l)) (sym (drop_all i ss past)) ∙ so_far
+      ap (λ l. items ++ map f (put_off None l)) (sym (drop_all i ss past)) ∙ so_far

@@ -1,4 +1,5 @@
 pub mod Going
 pub mod Running
+pub mod Undoing
 mod Laters
-mod Undoing
+pub mod OnShelf

@@ -1,6 +1,7 @@
 -- The calls of a step, as they are noted.
 use Rattle.calls.specs.Formats.{widest}
-use Rattle.std.proofs.Common.{◌≡◌, ℕ, List, [], ◌∷◌, map, refl, sym, ap, subst}
+use Rattle.std.proofs.Common.{◌≡◌, ℕ, ◌+◌, List, [], ◌∷◌, ◌++◌, map, length, refl, sym, ap, subst}
+use Rattle.std.proofs.Common.{Bool, true, false, cond, nat_le}
 use Rattle.std.specs.List.{AllByRecursion}
 use Rattle.calls.specs.Rules.{IsShort, Disposable}
 use Rattle.calls.specs.Transactions.{Event, Leads}
@@ -8,7 +9,9 @@ use Rattle.boosted.specs.Meaning.{Meaning}
 use Rattle.boosted.proofs.Each.{weaker}
 use Rattle.records.proofs.Items.{short_disposable}
 use Rattle.machine.specs.Machine.{Does}
-use Rattle.gathering.specs.Gatherings.{event_in, effect_at, AreRun}
+use Rattle.images.specs.declared.effect.Effect.{Effect}
+use Rattle.gathering.specs.Gatherings.{GatheringState, event_in, effect_at, AreRun, noted, to_note}
+use Rattle.gathering.specs.Gatherings.{max_effects, given_up}
 
 events_in : (p : ℕ) (es : List Event) → map event_in (map (effect_at p) es) ≡ es
 events_in p [] = refl
@@ -39,3 +42,19 @@ pub late_short : (es : List Event) → AllByRecursion (λ e. Disposable e.call) 
 late_short es late = weaker (λ (e : Event). Disposable e.call)
     (λ (e : Event). IsShort widest e.call)
     (λ e l. short_disposable widest e.call l) es late
+
+-- What was made ready to be noted is noted as it is.
+pub note_kept : (n : GatheringState) (es : List Effect) → noted n (to_note n es) ≡ noted n es
+note_kept n es = same n.going
+  where
+    both : Bool → GatheringState
+    both b = cond b (cond (nat_le (length n.effects + length (cond b es [])) max_effects)
+        (record n { effects = n.effects ++ cond b es [] }) (given_up n)) n
+
+    as_is : Bool → GatheringState
+    as_is b = cond b (cond (nat_le (length n.effects + length es) max_effects)
+        (record n { effects = n.effects ++ es }) (given_up n)) n
+
+    same : (b : Bool) → both b ≡ as_is b
+    same true = refl
+    same false = refl

@@ -1,29 +1,30 @@
--- The call that takes the newest one back, and that it leads where the machine's step does.
+-- The call that takes another back, and that it leads where the machine's step does.
 use Rattle.calls.specs.declared.format.Format.{Format}
 use Rattle.calls.specs.Formats.{widest}
-use Rattle.std.proofs.Common.{◌≡◌, ℕ, ◌+◌, ◌≤◌, Option, Some, None, MatchOption, List, [], ◌∷◌, map}
-use Rattle.std.proofs.Common.{length, refl, sym, ◌∙◌, ap, subst, arith, inr}
+use Rattle.std.proofs.Common.{◌≡◌, ℕ, ◌+◌, Option, Some, None, MatchOption, List, [], ◌∷◌, map}
+use Rattle.std.proofs.Common.{refl, sym, ◌∙◌, ap, subst, arith}
 use Rattle.std.specs.List.{AllByRecursion}
+use Rattle.std.specs.Option.{option_to_list}
 use Rattle.calls.specs.declared.call.Call.{Call}
 use Rattle.calls.specs.declared.reply.Reply.{Reply}
-use Rattle.calls.specs.Rules.{inverse_of, IsShort, Askable}
+use Rattle.calls.specs.Rules.{inverse_of, IsShort}
 use Rattle.calls.specs.Transactions.{Event, Entry, Asked, Leads, calls_of}
 use Rattle.undo_log.specs.Entries.{IsNewestCall}
 use Rattle.undo_log.specs.Logs.{fallen}
-use Rattle.boosted.specs.Meaning.{Meaning, Undoes, HasReply}
+use Rattle.boosted.specs.Meaning.{Meaning, Undoes}
 use Rattle.boosted.proofs.Each.{each_back}
 use Rattle.catalog.specs.Making.{Making}
 use Rattle.record_format.specs.Short.{IsShortReply}
-use Rattle.records.proofs.Items.{widest_reply}
+use Rattle.records.proofs.Items.{widest_reply, short_inverse}
 use Rattle.machine.specs.Machine.{State, Does, BackRow}
 use Rattle.machine.specs.Machines.{IsUpheld, IsAskedEntry}
 use Rattle.machine.specs.Sound.{IsSound}
 use Rattle.machine.proofs.BookLaws.{BookLaws}
 use Rattle.shelf.proofs.PutOffRuns.{leads_once}
-use Rattle.machine.proofs.Steps.{back_can, back_settles}
+use Rattle.machine.proofs.Steps.{back_settles}
 use Rattle.machine.proofs.UndoneCall.{newest_once}
 use Rattle.images.specs.declared.effect.Effect.{Effect}
-use Rattle.gathering.specs.Gatherings.{AreRun, IsUndoing}
+use Rattle.gathering.specs.Gatherings.{TakesBack}
 
 -- the newest call got a reply that can be spelled
 pub newest_short : (f : Format) (n : ℕ) (x : Event) (es rest : List (ℕ × Entry)) →
@@ -38,7 +39,7 @@ module _ {S : Type 0} (meaning : Meaning S ℕ) (making : Making S) (short : For
     (upheld : IsUpheld meaning making short (IsSound meaning making) s) (n : ℕ) (x : Event)
     (rest : List (ℕ × Entry)) (newest : IsNewestCall n s.entries x rest) where
   -- What takes the call back leads to one content.
-  back_once : (t : State S) → BackRow meaning s n t → (u : S) →
+  pub back_once : (t : State S) → BackRow meaning s n t → (u : S) →
       Undoes meaning s.now x.at x.call x.reply u → t.now ≡ u
   back_once t row u undoes =
       let other : State S = record s {
@@ -67,123 +68,73 @@ module _ {S : Type 0} (meaning : Meaning S ℕ) (making : Making S) (short : For
       (subst (λ l. Leads (Does meaning) (calls_of (map (λ e. e.1) l)) sound.content t.now) entries
       here) there
 
-  -- the call can be taken back
-  can : Askable x.call × ((u : S) × Undoes meaning s.now x.at x.call x.reply u)
-  can = back_can meaning making laws.rules s upheld.holds n x rest newest
-
-  pub askable : Askable x.call
-  askable = can.0
-
+-- What takes a call back, made ready to be noted.
+module _ {S : Type 0} (meaning : Meaning S ℕ) (position : ℕ) (x : Event) (s : S) where
   -- Where nothing takes it back, it had changed nothing.
-  pub undoes_none : (position : ℕ) → inverse_of x.call x.reply ≡ None →
-      IsUndoing meaning s n position []
-  undoes_none position none = record {
-    leads = λ t row. record {
-      leads = sym (back_once t row s.now
-          (subst (λ o. MatchOption o (s.now ≡ s.now)
-          (λ back. (reply : Reply) × (meaning.answers s.now x.at back reply ×
-          (s.now ≡ meaning.leaves s.now x.at back reply)))) (sym none) refl));
-      short = tt;
-      there = tt;
-    };
-    one = omega arith;
-  }
+  pub not_taken_back : inverse_of x.call x.reply ≡ None →
+      (t : S) × TakesBack meaning position x [] s t
+  not_taken_back none = (
+    s,
+    record {
+      undoes = subst (λ o. MatchOption o (s ≡ s)
+          (λ back. (reply : Reply) × (meaning.answers s x.at back reply ×
+          (s ≡ meaning.leaves s x.at back reply)))) (sym none) refl;
+      run = record { leads = refl; short = tt; there = tt };
+      one = omega arith;
+      inverse = (tt, ap option_to_list (sym none));
+    },
+  )
 
-  module _ (back : Call) (is : inverse_of x.call x.reply ≡ Some back) where
-    answered : (reply : Reply) × meaning.answers s.now x.at back reply
-    answered =
-        let did : (reply : Reply) × (meaning.answers s.now x.at back reply ×
-        (can.1.0 ≡ meaning.leaves s.now x.at back reply)) =
-        subst (λ o. MatchOption o (can.1.0 ≡ s.now)
-        (λ b. (reply : Reply) × (meaning.answers s.now x.at b reply ×
-        (can.1.0 ≡ meaning.leaves s.now x.at b reply)))) is can.1.1 in
-        (did.0, did.1.0)
-
-    pub undoing_belongs : meaning.belongs s.now x.at back
-    undoing_belongs = (laws.calls.holds s.now).answered_belongs x.at back answered.0 answered.1
-
-    pub undoing_replies : HasReply meaning s.now x.at back
-    undoing_replies = inr (answered.0, answered.1)
-
-    -- Where a call takes it back, that leads where the step does.
-    pub undoes_one : (position : ℕ) → IsShortReply widest x.reply → (e : Effect) →
-        (e.position ≡ position) →
-        (e.collection ≡ x.at) → (e.call ≡ back) → meaning.answers s.now x.at back e.reply →
-        IsUndoing meaning s n position (e ∷ [])
-    undoes_one position short_reply e there at call answers = record {
-      leads = λ t row.
-          let u = meaning.leaves s.now x.at back e.reply in
-          let now = back_once t row u (subst (λ o. MatchOption o (u ≡ s.now)
-          (λ b. (reply : Reply) × (meaning.answers s.now x.at b reply ×
-          (u ≡ meaning.leaves s.now x.at b reply)))) (sym is) (e.reply, (answers, refl))) in
-          record {
+  pub taken_back_by : (back : Call) → inverse_of x.call x.reply ≡ Some back →
+      IsShortReply widest x.reply → (e : Effect) → (e.position ≡ position) →
+      (e.collection ≡ x.at) → (e.call ≡ back) → meaning.answers s x.at back e.reply →
+      (t : S) × TakesBack meaning position x (e ∷ []) s t
+  taken_back_by back is told e there at call answers =
+      let t = meaning.leaves s x.at back e.reply in (
+        t,
+        record {
+          undoes = subst (λ o. MatchOption o (t ≡ s)
+              (λ b. (reply : Reply) × (meaning.answers s x.at b reply ×
+              (t ≡ meaning.leaves s x.at b reply)))) (sym is) (e.reply, (answers, refl));
+          run = record {
             leads = (
-              t.now,
-              subst (λ b. Does meaning s.now (record {
-                at =
-                    e.collection;
-                call = b;
-                reply = e.reply;
-              })
-                  t.now) (sym call)
-                  (subst (λ p. Does meaning s.now (record { at = p; call = back; reply = e.reply })
-                  t.now) (sym at) (answers, now)),
+              t,
+              subst (λ b. Does meaning s (record { at = e.collection; call = b; reply = e.reply }) t)
+                  (sym call)
+                  (subst (λ p. Does meaning s (record { at = p; call = back; reply = e.reply }) t)
+                  (sym at) (answers, refl)),
               refl,
             );
             short = (
-              subst (IsShort widest) (sym call)
-                  (laws.short_inverse widest x.call x.reply back short_reply is),
+              subst (IsShort widest) (sym call) (short_inverse widest x.call x.reply back told is),
               tt,
             );
             there = (there, tt);
           };
-      one = omega arith;
-    }
+          one = omega arith;
+          inverse = ((at, tt), ap (λ c. c ∷ []) call ∙ ap option_to_list (sym is));
+        },
+      )
 
--- Where the newest call was taken back, some call did so, or none was needed.
-pub row_undoing : {S : Type 0} (meaning : Meaning S ℕ) (making : Making S)
-    (short : Format → S → Type 0)
-    (laws : BookLaws meaning making short) (s t : State S) →
-    IsUpheld meaning making short (IsSound meaning making) s → (n position : ℕ) →
-    BackRow meaning s n t → (es : List Effect) × (length es ≤ 1) ×
-    AreRun meaning position es s.now t.now
-row_undoing meaning making short laws s t upheld n position row = by
-    (inverse_of row.call.call row.call.reply) refl
-  where
-    here : t.now ≡ row.next
-    here = ap (λ (v : State _). v.now) row.is
-
-    by : (o : Option Call) → inverse_of row.call.call row.call.reply ≡ o →
-        (es : List Effect) × (length es ≤ 1) × AreRun meaning position es s.now t.now
-    by None is =
-        let same : row.next ≡ s.now = subst (λ o. MatchOption o (row.next ≡ s.now)
-        (λ back. (reply : Reply) × (meaning.answers s.now row.call.at back reply ×
-        (row.next ≡ meaning.leaves s.now row.call.at back reply)))) is row.undoes in (
-          [],
-          omega arith,
-          record { leads = sym (here ∙ same); short = tt; there = tt },
-        )
-    by (Some back) is =
-        let did : (reply : Reply) × (meaning.answers s.now row.call.at back reply ×
-        (row.next ≡ meaning.leaves s.now row.call.at back reply)) =
-        subst (λ o. MatchOption o (row.next ≡ s.now)
-        (λ b. (reply : Reply) × (meaning.answers s.now row.call.at b reply ×
-        (row.next ≡ meaning.leaves s.now row.call.at b reply)))) is row.undoes in
-        let one : Effect = record {
-          position = position;
-          collection = row.call.at;
-          call = back;
-          reply = did.0;
-        } in (
-          one ∷ [],
-          omega arith,
-          record {
-            leads = (t.now, (did.1.0, here ∙ did.1.1), refl);
-            short = (
-              laws.short_inverse widest row.call.call row.call.reply back
-                  (newest_short s.format n row.call s.entries row.rest row.newest upheld.asked) is,
-              tt,
-            );
-            there = (refl, tt);
-          },
-        )
+  pub can_take_back : IsShortReply widest x.reply →
+      ((t : S) × Undoes meaning s x.at x.call x.reply t) →
+      (t : S) × (es : List Effect) × TakesBack meaning position x es s t
+  can_take_back told can = by (inverse_of x.call x.reply) refl
+    where
+      by : (o : Option Call) → inverse_of x.call x.reply ≡ o →
+          (t : S) × (es : List Effect) × TakesBack meaning position x es s t
+      by None is = let none = not_taken_back is in (none.0, [], none.1)
+      by (Some back) is =
+          let did : (reply : Reply) × (meaning.answers s x.at back reply ×
+          (can.0 ≡ meaning.leaves s x.at back reply)) =
+          subst (λ o. MatchOption o (can.0 ≡ s)
+          (λ b. (reply : Reply) × (meaning.answers s x.at b reply ×
+          (can.0 ≡ meaning.leaves s x.at b reply)))) is can.1 in
+          let one : Effect = record {
+            position = position;
+            collection = x.at;
+            call = back;
+            reply = did.0;
+          } in
+          let taken = taken_back_by back is told one refl refl refl did.1.0 in
+          (taken.0, one ∷ [], taken.1)

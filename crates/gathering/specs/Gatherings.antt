@@ -1,17 +1,20 @@
 -- What a book keeps while it is gathered, beside the steps of its machine.
 use Rattle.std.specs.Prelude.{◌≡◌, ◌≢◌, ℕ, ◌+◌, ◌==◌, ◌<◌, ◌≤◌, ◌⊎◌, Bool, true, false, cond}
 use Rattle.std.specs.Prelude.{nat_le, nat_lt, List, [], ◌++◌, length, map, slice_get}
-use Rattle.std.specs.Prelude.{Some, Result, Ok, Err}
+use Rattle.std.specs.Prelude.{Some, Option, Result, Ok, Err, IfOk, IfErr}
 use Rattle.std.specs.List.{AllByRecursion}
+use Rattle.std.specs.Option.{option_map, option_to_list}
 use Rattle.calls.specs.declared.refusal.Refusal.{Refusal}
 use Rattle.calls.specs.Contents.{Collection}
 use Rattle.calls.specs.Formats.{widest}
-use Rattle.calls.specs.Rules.{IsShort}
+use Rattle.calls.specs.Rules.{IsShort, inverse_of}
 use Rattle.calls.specs.Transactions.{Event, Leads}
 use Rattle.calls.specs.Limits.{number_end}
-use Rattle.boosted.specs.Meaning.{Meaning}
-use Rattle.machine.specs.Machine.{State, Does, BackRow}
+use Rattle.boosted.specs.Meaning.{Meaning, Undoes}
+use Rattle.machine.specs.Machine.{State, Does}
+use Rattle.undo_log.specs.Logs.{Log}
 use Rattle.images.specs.declared.effect.Effect.{Effect}
+use Rattle.images.specs.declared.gather.Marks.{Marks}
 use Rattle.images.specs.Gathers.{GatherState, FrozenState, with_gathered, gathered, caught_up}
 use Rattle.images.specs.Images.{TellsTransactions}
 use Rattle.images.specs.Following.{Follows, CameBy}
@@ -42,6 +45,10 @@ abbrev pub noted : GatheringState → List Effect → GatheringState
 noted n es = cond n.going (cond (nat_le (length n.effects + length es) max_effects)
     (record n { effects = n.effects ++ es }) (given_up n)) n
 
+-- The calls that are made ready to be noted: none where no gathering is under way.
+abbrev pub to_note : GatheringState → List Effect → List Effect
+to_note n es = cond n.going es []
+
 -- What holds of every gathering, where there is room for so many calls: while it is under way there
 -- is room for 16,384.
 pub record IsKept (n : GatheringState) (room : ℕ) : Type 0 where
@@ -51,6 +58,21 @@ pub record IsKept (n : GatheringState) (room : ℕ) : Type 0 where
   pub fit : length n.effects ≤ max_effects
   pub roomy : n.going ≡ true → max_effects ≤ room
   pub short : AllByRecursion (λ e. IsShort widest e.call) n.effects
+
+-- ---- what is taken and what is marked
+
+-- what is copied of a collection, as a collection
+abbrev pub part_of : {P : Type 0} → (P → Collection) → Result (Option P) Refusal →
+    Result (Option Collection) Refusal
+part_of collection (Ok o) = Ok (option_map collection o)
+part_of collection (Err e) = Err e
+
+-- These are the live transactions of the state, and its format and wear are marked.
+pub record IsMarked {S : Type 0} (s : State S) (log : Log) (marks : Marks) : Type 0 where
+  pub live : log.live ≡ s.live
+  pub entries : log.entries ≡ s.entries
+  pub format : marks.format ≡ s.format
+  pub wear : marks.wear ≡ s.wear
 
 -- ---- what the calls did
 
@@ -71,11 +93,18 @@ pub record AreRun {S : Type 0} (meaning : Meaning S ℕ) (position : ℕ) (es : 
   pub short : AllByRecursion (λ e. IsShort widest e.call) es
   pub there : AllByRecursion (λ e. e.position ≡ position) es
 
--- The calls, one at most, take the newest call of the transaction back.
-pub record IsUndoing {S : Type 0} (meaning : Meaning S ℕ) (s : State S) (n position : ℕ)
-    (es : List Effect) : Type 0 where
-  pub leads : (t : State S) → BackRow meaning s n t → AreRun meaning position es s.now t.now
+-- The calls are the inverse of this one, on its collection, or none where it has no inverse.
+abbrev pub IsInverse : Event → List Effect → Type 0
+IsInverse x es = AllByRecursion (λ e. e.collection ≡ x.at) es ×
+    (map (λ e. e.call) es ≡ option_to_list (inverse_of x.call x.reply))
+
+-- The calls, one at most, take this call back from one content to another.
+pub record TakesBack {S : Type 0} (meaning : Meaning S ℕ) (position : ℕ) (x : Event)
+    (es : List Effect) (s t : S) : Type 0 where
+  pub undoes : Undoes meaning s x.at x.call x.reply t
+  pub run : AreRun meaning position es s t
   pub one : length es ≤ 1
+  pub inverse : IsInverse x es
 
 -- Calls, one at most, are noted that lead from one content to the other.
 pub record NotesUndoing {S : Type 0} (meaning : Meaning S ℕ) (n : GatheringState) (s : S)
@@ -90,6 +119,11 @@ pub record NotesUndoing {S : Type 0} (meaning : Meaning S ℕ) (n : GatheringSta
 -- What is gathered is not new, and is of the gathering that is under way.
 abbrev pub IsUnderWay : GatheringState → GatherState → Type 0
 IsUnderWay n g = (g.mark ≢ 0) × (n.going ≡ true) × (g.mark ≡ n.begun)
+
+-- What is gathered may be gone on with: it is new, and another gathering can be begun, or it is of
+-- the one that is under way.
+abbrev pub CanGoOn : GatheringState → GatherState → Type 0
+CanGoOn n g = ((g.mark ≡ 0) × (n.begun < number_end)) ⊎ IsUnderWay n g
 
 -- It is not new, and is not of the gathering that is under way. All is as before.
 abbrev pub IsOutrun : (n : GatheringState) → (g : GatherState) → (m : GatheringState) →
@@ -160,3 +194,12 @@ module _ {S : Type 0} (collections : S → List Collection) where
       Type 0 where
     pub new : g.mark ≡ 0 → (g.parts ≡ []) × (g.effects ≡ [])
     pub along : IsUnderWay n g → GoesAlong n now position g
+
+  -- It is gathered of these collections, of which there are so many. Where it may be gone on with,
+  -- the part is a copy of the next one, if one is left, or there was no memory for it.
+  pub record IsNextOf (n : GatheringState) (now : S) (position : ℕ) (g : GatherState) (many : ℕ)
+      (part : Result (Option Collection) Refusal) : Type 0 where
+    pub of_this : IsOfThis n now position g
+    pub count : many ≡ length (collections now)
+    pub copied : CanGoOn n g → IfOk part (λ p. p ≡ slice_get (collections now) (length g.parts))
+    pub refused : IfErr part (λ e. e ≡ Refusal.NoMemory)

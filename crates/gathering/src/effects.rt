@@ -1,16 +1,17 @@
 // The calls that a step runs on the collections.
 ghost use Rattle.std.specs.Prelude.{◌≡◌, [], ◌∷◌, map, IfOk, IsOkUnless};
 ghost use Rattle.std.specs.Option.{option_to_list};
+ghost use Rattle.calls.specs.Formats.{widest};
+ghost use Rattle.calls.specs.Rules.{Askable};
 ghost use Rattle.calls.specs.Transactions.{laters_of};
-ghost use Rattle.undo_log.specs.Entries.{event_of, entry_of, stamped_entry, HasNoCall};
-ghost use Rattle.undo_log.specs.Logs.{Lives};
-ghost use Rattle.gathering.specs.Gatherings.{effect_at, IsUndoing};
+ghost use Rattle.boosted.specs.Meaning.{Undoes};
+ghost use Rattle.record_format.specs.Short.{IsShortReply};
+ghost use Rattle.undo_log.specs.Entries.{event_of, entry_of, stamped_entry};
+ghost use Rattle.gathering.specs.Gatherings.{effect_at, TakesBack};
 
+use boosted::Boosted;
 use calls::{Refusal, Reply};
-use catalog::Parts;
 use images::Effect;
-use machine::Machine;
-use records::Coded;
 use std::alloc::Global;
 use std::collections::VecDeque;
 use undo_log::{Entry, Logged, Stamped};
@@ -28,26 +29,24 @@ pub(crate) fn effect_of(logged: &Logged, position: u64) -> Result<Effect, Refusa
     })
 }
 
-// The call that takes the newest one of the transaction back; none where that changed nothing.
-pub(crate) fn undoing_of<B: Parts + Coded>(
-    machine: &Machine<B>,
-    number: u64,
+// The call that takes this one back; none where that had changed nothing.
+pub(crate) fn undoing_of<C: Boosted<At = u8>>(
+    collections: &C,
+    newest: &Logged,
     position: u64,
 ) -> Result<Option<Effect>, Refusal>
-    requires live { Lives machine.now.live number }
-    requires call { HasNoCall number machine.now.entries → ⊥ }
-    ensures ok { IfOk result (λ undoing. IsUndoing B.meaning machine.now number position
-        (option_to_list undoing)) }
+    requires askable { Askable newest.now.call }
+    requires told { IsShortReply widest newest.now.reply }
+    requires undoes { (before : C) ×
+        Undoes C.meaning collections.now newest.now.at newest.now.call newest.now.reply before }
+    ensures ok { IfOk result (λ undoing. (before : C) × TakesBack C.meaning position
+        (event_of newest.now) (option_to_list undoing) collections.now before) }
     ensures refusal { IsOkUnless result Refusal.NoMemory }
 {
-    machine.upheld();
-    let Some(newest) = machine.live().newest(number) else {
-        unreachable!();
-    };
     let Some(call) = newest.call.inverse(&newest.reply)? else {
         return Ok(None);
     };
-    let reply = machine.parts().look(newest.at, &call)?;
+    let reply = collections.look(newest.at, &call)?;
     Ok(Some(Effect {
         position,
         collection: newest.at,

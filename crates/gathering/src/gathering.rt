@@ -1,40 +1,43 @@
 // The calls that are noted while a book is gathered, and what is handed over of them.
-ghost use Rattle.std.specs.Prelude.{◌≡◌, ◌≢◌, ◌≤◌, [], ◌∷◌, map, slice_get, true};
-ghost use Rattle.std.specs.Prelude.{OnOk};
-ghost use Rattle.std.specs.Prelude.{OnErr, IfOk, IfErr, IfSome, IsOkUnless};
+ghost use Rattle.std.specs.Prelude.{◌≡◌, ◌≢◌, ◌≤◌, ◌<◌, ◌↔◌, ℕ, List, [], ◌∷◌, map, length, true};
+ghost use Rattle.std.specs.Prelude.{OnOk, OnErr, IfOk, IfErr, IfSome, IsTrue, IsOkUnless};
 ghost use Rattle.std.specs.List.{AllByRecursion};
-ghost use Rattle.std.specs.Option.{option_map};
+ghost use Rattle.std.specs.Option.{option_to_list};
+ghost use Rattle.calls.specs.Contents.{Collection};
 ghost use Rattle.calls.specs.Formats.{widest};
-ghost use Rattle.calls.specs.Rules.{IsShort};
-ghost use Rattle.calls.specs.Transactions.{laters_of, own};
 ghost use Rattle.calls.specs.Limits.{number_end};
-ghost use Rattle.undo_log.specs.Entries.{event_of, HasNoCall};
+ghost use Rattle.calls.specs.Rules.{Askable, IsShort};
+ghost use Rattle.calls.specs.Transactions.{laters_of};
+ghost use Rattle.boosted.specs.Meaning.{Undoes};
+ghost use Rattle.undo_log.specs.Entries.{event_of, stamped_entry};
 ghost use Rattle.undo_log.specs.Logs.{Lives};
-ghost use Rattle.record_format.specs.Short.{HoldsShort};
-ghost use Rattle.machine.specs.Machine.{IsRunning, CanCall, CallRow, BackRow, CommitRow};
-ghost use Rattle.machine.specs.Machines.{HasRoomFor};
-ghost use Rattle.gathering.specs.Gatherings.{none_begun, noted, given_up, effect_at, NotesUndoing};
-ghost use Rattle.gathering.specs.Gatherings.{IsOfThis, IsUnderWay, GoesAlong, GatherAnswers};
+ghost use Rattle.record_format.specs.Records.{IsNumber};
+ghost use Rattle.record_format.specs.Short.{HoldsShort, IsShortReply};
+ghost use Rattle.machine.specs.Machine.{State};
+ghost use Rattle.machine.specs.Machines.{IsAskedEntry};
+ghost use Rattle.images.specs.declared.effect.Effect.{Effect};
+ghost use Rattle.gathering.specs.Gatherings.{none_begun, noted, to_note, given_up, effect_at};
+ghost use Rattle.gathering.specs.Gatherings.{TakesBack, CanGoOn, IsNextOf, part_of, IsMarked};
+ghost use Rattle.gathering.specs.Gatherings.{IsUnderWay, GoesAlong, GatherAnswers};
 ghost use Rattle.gathering.specs.Gatherings.{IsWhole, FreezeRefused, HoldsAll};
 
 use crate::effects::{effect_of, laters_in, undoing_of};
+use boosted::Boosted;
 use calls::Refusal;
 use calls::limits::NUMBER_END;
 use catalog::{Part, Parts};
 use images::{Effect, Gather, Marks};
-use machine::Machine;
-use records::Coded;
 use std::alloc::Global;
 use std::collections::VecDeque;
 use std::marker::Model;
-use undo_log::Logged;
+use undo_log::{Live, Logged, Stamped};
 
 // How many calls are noted between two copies, at most.
 const MAX_EFFECTS: usize = 16_384;
 
 /// What a book keeps of its gatherings beside its machine: how many were begun, whether the last of
 /// them is under way, and the calls that were run since it was handed some. Where none is under way
-/// a step costs one test more than that of the machine.
+/// a step costs two tests more.
 pub struct Gathering {
     alloc: Global,
     begun: u64,
@@ -81,224 +84,233 @@ impl Gathering {
         }
     }
 
-    /// Takes the machine's step `call`, and notes the call, which the record at the position tells
-    /// of.
+    /// The call as it is noted, which the record at the position tells of; none where no gathering
+    /// is under way. It is a copy of the call and of its reply.
     ///
-    /// NoMemory, which leaves all as before.
-    pub fn call<B: Parts + Coded>(
-        &mut self,
-        machine: &mut Machine<B>,
-        number: u64,
-        asked: Logged,
-        position: u64,
-    ) -> Result<(), Refusal>
-        requires can { CanCall B.meaning machine.old number (event_of asked) }
-        requires room { HasRoomFor machine.old 1 }
-        ensures ok { OnOk result (CallRow B.meaning machine.old number (event_of asked)
-            machine.new) }
-        ensures noted { OnOk result (self.new ≡
-            noted self.old (effect_at position (event_of asked) ∷ [])) }
-        ensures same { OnErr result ((machine.new ≡ machine.old) × (self.new ≡ self.old)) }
+    /// NoMemory, which comes only while a gathering is under way.
+    pub fn effect_of_call(&self, asked: &Logged, position: u64) -> Result<Option<Effect>, Refusal>
+        ensures ok { IfOk result (λ effect. option_to_list effect ≡
+            to_note self.now (effect_at position (event_of asked.now) ∷ [])) }
         ensures refusal { IsOkUnless result Refusal.NoMemory }
+        ensures succeeds { OnErr result (self.now.going ≡ true) }
     {
         if !self.going {
-            return machine.call(number, asked);
+            return Ok(None);
         }
-        let effect = effect_of(&asked, position)?;
-        machine.call(number, asked)?;
-        self.note(effect);
-        Ok(())
+        Ok(Some(effect_of(asked, position)?))
     }
 
-    /// Takes the machine's step `back`, and notes the call that took the newest one back, if that
-    /// had changed something; the record at the position tells of it.
+    /// The call that takes this one back, if it had changed something, as it is noted; none where no
+    /// gathering is under way. The record at the position tells of it. It costs what `Boosted::look`
+    /// does, and a copy of a value.
     ///
-    /// NoMemory, which leaves all as before.
-    pub fn back<B: Parts + Coded>(
-        &mut self,
-        machine: &mut Machine<B>,
-        number: u64,
+    /// NoMemory, which comes only while a gathering is under way.
+    pub fn effect_of_undoing<C: Boosted<At = u8>>(
+        &self,
+        collections: &C,
+        newest: &Logged,
         position: u64,
-    ) -> Result<(), Refusal>
-        requires live { Lives machine.old.live number }
-        requires call { HasNoCall number machine.old.entries → ⊥ }
-        ensures ok { OnOk result (BackRow B.meaning machine.old number machine.new) }
-        ensures noted { OnOk result (NotesUndoing B.meaning self.old machine.old.now position
-            self.new machine.new.now) }
-        ensures same { OnErr result ((machine.new ≡ machine.old) × (self.new ≡ self.old)) }
+    ) -> Result<Option<Effect>, Refusal>
+        requires askable { Askable newest.now.call }
+        requires told { IsShortReply widest newest.now.reply }
+        requires undoes { (before : C) × Undoes C.meaning collections.now newest.now.at
+            newest.now.call newest.now.reply before }
+        ensures ok { IfOk result (λ effect. (before : C) × (es : List Effect) ×
+            TakesBack C.meaning position (event_of newest.now) es collections.now before ×
+            (option_to_list effect ≡ to_note self.now es)) }
         ensures refusal { IsOkUnless result Refusal.NoMemory }
+        ensures succeeds { OnErr result (self.now.going ≡ true) }
     {
-        machine.upheld();
         if !self.going {
-            return machine.back(number);
+            return Ok(None);
         }
-        let undoing = undoing_of(machine, number, position)?;
-        machine.back(number)?;
-        if let Some(effect) = undoing {
-            self.note(effect);
-        }
-        Ok(())
+        undoing_of(collections, newest, position)
     }
 
-    /// Takes the machine's step `commit`, and notes what it ran: what the transaction put off, and
-    /// what its calls left, in the order asked. The record at the position tells of it.
+    /// What a commit runs of these entries, as it is noted: what they put off, and what their calls
+    /// left, in the order asked; nothing where no gathering is under way. The record at the position
+    /// tells of it.
     ///
-    /// NoMemory, which leaves all as before, and comes only while a gathering is under way.
-    pub fn commit<B: Parts + Coded>(
-        &mut self,
-        machine: &mut Machine<B>,
-        number: u64,
+    /// NoMemory, which comes only while a gathering is under way.
+    pub fn effects_of_commit(
+        &self,
+        entries: &[Stamped],
         position: u64,
-    ) -> Result<(), Refusal>
-        requires { IsRunning machine.old number }
-        ensures ok { OnOk result (CommitRow B.meaning machine.old number machine.new) }
-        ensures noted { OnOk result (self.new ≡
-            noted self.old (map (effect_at position) (laters_of (own number
-            machine.old.entries)))) }
-        ensures same { OnErr result ((machine.new ≡ machine.old) × (self.new ≡ self.old)) }
+    ) -> Result<VecDeque<Effect>, Refusal>
+        ensures ok { IfOk result (λ effects. effects.items ≡ to_note self.now
+            (map (effect_at position) (laters_of (map stamped_entry entries.now)))) }
         ensures refusal { IsOkUnless result Refusal.NoMemory }
-        ensures succeeds { OnErr result (self.old.going ≡ true) }
+        ensures succeeds { OnErr result (self.now.going ≡ true) }
     {
-        machine.upheld();
-        if self.going {
-            let entries = machine.live().entries_of(number);
-            let mut laters = laters_in(self.alloc, entries, position)?;
-            self.note_all(&mut laters);
+        if !self.going {
+            return Ok(VecDeque::new(self.alloc));
         }
-        machine.commit(number);
-        Ok(())
+        laters_in(self.alloc, entries, position)
     }
 
-    /// Goes on with a gathering of the machine, which so many records told of: copies the next
-    /// collection by rising number, if one is left, and hands over the calls that were run since it
-    /// was handed some. Answers whether a collection is not copied yet. What is new begins a
-    /// gathering, which replaces one that is under way.
+    /// Notes a call, if there is one, behind the others: it was run. With more than 16,384 the
+    /// gathering is given up. It takes no memory.
+    pub fn note(&mut self, effect: Option<Effect>)
+        requires short { AllByRecursion (λ e. IsShort widest e.call) (option_to_list effect) }
+        ensures { self.new ≡ noted self.old (option_to_list effect) }
+    {
+        if !self.going {
+            drop(effect);
+            return;
+        }
+        let Some(effect) = effect else {
+            return;
+        };
+        if self.effects.len() < MAX_EFFECTS {
+            self.effects.push_back_reserved(effect);
+        } else {
+            drop(effect);
+            self.give_up();
+        }
+    }
+
+    /// Notes these calls as `note` does, all or none of them. It takes no memory.
+    pub fn note_all(&mut self, mut effects: VecDeque<Effect>)
+        requires short { AllByRecursion (λ e. IsShort widest e.call) effects.items }
+        ensures { self.new ≡ noted self.old effects.items }
+    {
+        if !self.going || effects.len() > MAX_EFFECTS - self.effects.len() {
+            drop(effects);
+            self.give_up();
+        } else if self.effects.append(&mut effects).is_err() {
+            unreachable!();
+        }
+    }
+
+    /// Whether `gather` would go on with this: it is new, and another gathering can be begun, or it
+    /// is of the one that is under way.
+    pub fn can_go_on<P: Part>(&self, gather: &Gather<P>) -> bool
+        ensures { IsTrue result ↔ CanGoOn self.now gather.now }
+    {
+        if gather.mark() == 0 {
+            return self.begun < NUMBER_END;
+        }
+        self.is_under_way(gather)
+    }
+
+    /// Goes on with a gathering of collections, of which there are so many, and so many records told
+    /// of them: takes the part, a copy of the next one by rising number, if one is left, and hands
+    /// over the calls that were run since it was handed some. Answers whether a collection is not
+    /// copied yet. What is new begins a gathering, which replaces one that is under way.
     ///
     /// Outrun where the gathering is not under way: it was given up, replaced or frozen. Worn where
-    /// 2^61 were begun, and another would be. NoMemory. Each leaves all as before.
-    pub fn gather<B: Parts + Coded>(
+    /// 2^61 were begun, and another would be. NoMemory, also where there was none for the part. Each
+    /// leaves all as before.
+    pub fn gather<B: Parts>(
         &mut self,
-        machine: &Machine<B>,
+        count: usize,
+        part: Result<Option<B::Part>, Refusal>,
         position: u64,
         gather: &mut Gather<B::Part>,
     ) -> Result<bool, Refusal>
-        requires { IsOfThis B.collections self.old machine.now.now position gather.old }
-        ensures answer { GatherAnswers (B.collections machine.now.now) position self.old gather.old
-            result self.new gather.new }
-        ensures along { OnOk result (GoesAlong B.collections self.new machine.now.now position
-            gather.new) }
+        requires next { (now : B) × IsNextOf B.collections self.old now position gather.old count
+            (part_of B.Part.collection part) }
+        requires short { CanGoOn self.old gather.old → IfOk part (λ o. IfSome o
+            (λ p. HoldsShort widest (B.Part.collection p).content)) }
+        ensures answer { (now : B) → IsNextOf B.collections self.old now position gather.old count
+            (part_of B.Part.collection part) →
+            GatherAnswers (B.collections now) position self.old gather.old result self.new
+            gather.new }
+        ensures along { OnOk result ((now : B) → IsNextOf B.collections self.old now position
+            gather.old count (part_of B.Part.collection part) →
+            GoesAlong B.collections self.new now position gather.new) }
     {
         if gather.mark() == 0 {
-            return self.begin(machine, position, gather);
+            return self.begin::<B>(count, part, position, gather);
         }
         self.check_going(gather)?;
-        self.copy_next(machine, position, gather)
+        let part = part?;
+        gather.gather(self.begun, part, position, &mut self.effects)?;
+        Ok(gather.copied() < count)
     }
 
-    /// Whether `freeze` can end the gathering of the machine.
+    /// Whether `freeze` can end the gathering of collections, of which there are so many.
     ///
     /// Unfinished for what is new. Outrun as `gather` says. Unfinished where a collection is not
     /// copied.
-    pub fn check_freeze<B: Parts + Coded>(
-        &self,
-        machine: &Machine<B>,
-        gather: &Gather<B::Part>,
-    ) -> Result<(), Refusal>
-        ensures ok { OnOk result (IsWhole (B.collections machine.now.now) self.now gather.now) }
-        ensures err { IfErr result (FreezeRefused (B.collections machine.now.now) self.now
-            gather.now) }
+    pub fn check_freeze<P: Part>(&self, count: usize, gather: &Gather<P>) -> Result<(), Refusal>
+        ensures ok { OnOk result ((xs : List Collection) → (count ≡ length xs) →
+            IsWhole xs self.now gather.now) }
+        ensures err { IfErr result (λ e. (xs : List Collection) → (count ≡ length xs) →
+            FreezeRefused xs self.now gather.now e) }
     {
         if gather.mark() == 0 {
             return Err(Refusal::Unfinished);
         }
         self.check_going(gather)?;
-        if gather.copied() < machine.parts().count() {
+        if gather.copied() < count {
             return Err(Refusal::Unfinished);
         }
         Ok(())
     }
 
-    /// Ends the gathering of the machine, which `check_freeze` lets: hands over the rest of the
-    /// calls, and notes beside them the live transactions and where the machine stands: a number
-    /// above every one that was entered, the wear, how many records came before, and how many
-    /// commits and makes.
+    /// Ends the gathering, which `check_freeze` lets: hands over the rest of the calls, and notes
+    /// beside them the live transactions and the marks of where the book stands.
     ///
     /// NoMemory, which leaves all as before.
-    pub fn freeze<B: Parts + Coded>(
+    pub fn freeze<B: Parts>(
         &mut self,
-        machine: &Machine<B>,
-        next: u64,
-        place: u64,
-        position: u64,
+        marks: Marks,
+        live: &Live,
         gather: &mut Gather<B::Part>,
     ) -> Result<(), Refusal>
-        requires next { (1 ≤ next) × (next ≤ number_end) }
-        requires whole { IsWhole (B.collections machine.now.now) self.old gather.old }
-        requires along { GoesAlong B.collections self.old machine.now.now position gather.old }
+        requires next { (1 ≤ marks.next) × (marks.next ≤ number_end) }
+        requires numbers { (n : ℕ) → Lives live.now.live n → IsNumber n }
+        requires asked { AllByRecursion (λ e. IsNumber e.0 × IsAskedEntry widest e.1)
+            live.now.entries }
+        requires along { (now : B) × GoesAlong B.collections self.old now marks.end gather.old }
         ensures ended { OnOk result (self.new ≡ given_up self.old) }
         ensures mark { OnOk result (gather.new.mark ≡ gather.old.mark) }
-        ensures holds { OnOk result (HoldsAll B.collections next place position machine.now
-            gather.new) }
+        ensures holds { OnOk result ((s : State B) → IsMarked s live.now marks →
+            (length (B.collections s.now) ≤ length gather.old.parts) →
+            GoesAlong B.collections self.old s.now marks.end gather.old →
+            HoldsAll B.collections marks.next marks.place marks.end s gather.new) }
         ensures same { OnErr result ((self.new ≡ self.old) × (gather.new ≡ gather.old)) }
         ensures refusal { IsOkUnless result Refusal.NoMemory }
     {
-        machine.upheld();
-        let marks = Marks {
-            format: machine.format(),
-            next,
-            wear: machine.wear(),
-            end: position,
-            place,
-        };
-        gather.freeze(marks, machine.live(), &mut self.effects)?;
+        gather.freeze(marks, live, &mut self.effects)?;
         self.going = false;
         Ok(())
     }
 
     // Begins a gathering.
-    fn begin<B: Parts + Coded>(
+    fn begin<B: Parts>(
         &mut self,
-        machine: &Machine<B>,
+        count: usize,
+        part: Result<Option<B::Part>, Refusal>,
         position: u64,
         gather: &mut Gather<B::Part>,
     ) -> Result<bool, Refusal>
         requires new { gather.old.mark ≡ 0 }
-        requires nothing { (gather.old.parts ≡ []) × (gather.old.effects ≡ []) }
-        ensures answer { GatherAnswers (B.collections machine.now.now) position self.old gather.old
-            result self.new gather.new }
-        ensures along { OnOk result (GoesAlong B.collections self.new machine.now.now position
-            gather.new) }
+        requires next { (now : B) × IsNextOf B.collections self.old now position gather.old count
+            (part_of B.Part.collection part) }
+        requires short { CanGoOn self.old gather.old → IfOk part (λ o. IfSome o
+            (λ p. HoldsShort widest (B.Part.collection p).content)) }
+        ensures answer { (now : B) → IsNextOf B.collections self.old now position gather.old count
+            (part_of B.Part.collection part) →
+            GatherAnswers (B.collections now) position self.old gather.old result self.new
+            gather.new }
+        ensures along { OnOk result ((now : B) → IsNextOf B.collections self.old now position
+            gather.old count (part_of B.Part.collection part) →
+            GoesAlong B.collections self.new now position gather.new) }
     {
         if self.begun >= NUMBER_END {
+            drop(part);
             return Err(Refusal::Worn);
         }
+        let part = part?;
         self.effects.reserve(MAX_EFFECTS - self.effects.len())?;
-        let part = next_part(machine, gather.copied())?;
         let mut none = VecDeque::new(self.alloc);
         gather.gather(self.begun + 1, part, position, &mut none)?;
         self.effects.clear();
         self.begun += 1;
         self.going = true;
-        Ok(gather.copied() < machine.parts().count())
-    }
-
-    // Copies the next collection, if one is left, and hands over what was noted.
-    fn copy_next<B: Parts + Coded>(
-        &mut self,
-        machine: &Machine<B>,
-        position: u64,
-        gather: &mut Gather<B::Part>,
-    ) -> Result<bool, Refusal>
-        requires going { self.old.going ≡ true }
-        requires along { GoesAlong B.collections self.old machine.now.now position gather.old }
-        ensures answer { GatherAnswers (B.collections machine.now.now) position self.old gather.old
-            result self.new gather.new }
-        ensures along { OnOk result (GoesAlong B.collections self.new machine.now.now position
-            gather.new) }
-    {
-        let part = next_part(machine, gather.copied())?;
-        gather.gather(self.begun, part, position, &mut self.effects)?;
-        Ok(gather.copied() < machine.parts().count())
+        Ok(gather.copied() < count)
     }
 
     // Whether the gathering that this is of, which is not new, is under way.
@@ -308,37 +320,17 @@ impl Gathering {
         ensures err { OnErr result (IsUnderWay self.now gather.now → ⊥) }
         ensures refusal { IsOkUnless result Refusal.Outrun }
     {
-        if self.going && gather.mark() == self.begun {
+        if self.is_under_way(gather) {
             return Ok(());
         }
         Err(Refusal::Outrun)
     }
 
-    // Notes a call.
-    fn note(&mut self, effect: Effect)
-        requires going { self.old.going ≡ true }
-        requires short { IsShort widest effect.call }
-        ensures { self.new ≡ noted self.old (effect ∷ []) }
+    // Whether a gathering is under way, and this has its mark.
+    fn is_under_way<P: Part>(&self, gather: &Gather<P>) -> bool
+        ensures { IsTrue result ↔ ((self.now.going ≡ true) × (gather.now.mark ≡ self.now.begun)) }
     {
-        if self.effects.len() < MAX_EFFECTS {
-            self.effects.push_back_reserved(effect);
-        } else {
-            drop(effect);
-            self.give_up();
-        }
-    }
-
-    // Notes these calls.
-    fn note_all(&mut self, effects: &mut VecDeque<Effect>)
-        requires going { self.old.going ≡ true }
-        requires short { AllByRecursion (λ e. IsShort widest e.call) effects.old.items }
-        ensures { self.new ≡ noted self.old effects.old.items }
-    {
-        if effects.len() > MAX_EFFECTS - self.effects.len() {
-            self.give_up();
-        } else if self.effects.append(effects).is_err() {
-            unreachable!();
-        }
+        self.going && gather.mark() == self.begun
     }
 
     // Gives the gathering up.
@@ -348,23 +340,4 @@ impl Gathering {
         self.effects.clear();
         self.going = false;
     }
-}
-
-// A copy of the collection that comes behind so many, if there is one.
-fn next_part<B: Parts + Coded>(
-    machine: &Machine<B>,
-    copied: usize,
-) -> Result<Option<B::Part>, Refusal>
-    ensures ok { IfOk result (λ part. option_map (λ p. B.Part.collection p) part ≡
-        slice_get (B.collections machine.now.now) copied) }
-    ensures short { IfOk result (λ part. IfSome part (λ p. HoldsShort widest
-        (B.Part.collection p).content)) }
-    ensures refusal { IsOkUnless result Refusal.NoMemory }
-{
-    machine.upheld();
-    let parts = machine.parts();
-    if copied >= parts.count() {
-        return Ok(None);
-    }
-    Ok(Some(parts.copy(copied as u8)?))
 }

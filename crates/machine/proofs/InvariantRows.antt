@@ -10,9 +10,8 @@ use Rattle.calls.specs.declared.kind.Kind.{Kind}
 use Rattle.calls.specs.declared.call.Call.{Call}
 use Rattle.calls.specs.declared.reply.Reply.{Reply}
 use Rattle.calls.specs.Rules.{Disposable, inverse_of}
-use Rattle.calls.specs.Transactions.{Event, Entry, Asked, PutOff, Leads, laters_of, own}
+use Rattle.calls.specs.Transactions.{Event, Asked, PutOff, Leads, laters_of, own}
 use Rattle.undo_log.specs.Logs.{Lives, fallen}
-use Rattle.undo_log.specs.Entries.{IsNewestCall}
 use Rattle.boosted.specs.Meaning as shape
 use Rattle.boosted.specs.Meaning.{HasRoom, Meaning}
 use Rattle.boosted.proofs.Each.{weaker, each_append}
@@ -359,15 +358,6 @@ module _ {S : Type 0} (meaning : Meaning S ℕ) (making : Making S)
         let longer = pushed_length s.entries (n, Asked e) in
         let live = upheld.few_live in
         (omega arith, (s.wear, upheld.reached, omega arith))
-
-    -- and for the undoing of a call.
-    pub back_room : (n : ℕ) (x : Event) (rest : List (ℕ × Entry)) →
-        IsNewestCall n s.entries x rest → HasRoom meaning s.now
-    back_room n x rest new =
-        let fewer = rest_length s.entries new.before (n, Asked x) new.after rest new.is
-        new.rest_is in
-        let unworn = upheld.unworn in
-        (s.wear, upheld.reached, omega arith)
 
   -- A state with no live transaction.
   pub resting_upheld : (format : Format) (now : S) (wear : ℕ) → meaning.within now wear →

@@ -19,3 +19,8 @@ pub mod JoinedEntries
 pub mod HeldNeeds
 pub mod Journalled
 pub mod Readings
+pub mod AloneRows
+pub mod FourShelves
+pub mod OwedNeeds
+pub mod WholeRuns
+pub mod Joining

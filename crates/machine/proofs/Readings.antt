@@ -5,7 +5,6 @@ use Rattle.std.proofs.Common.{MatchOption, List, [], ◌∷◌, ◌++◌, map, r
 use Rattle.std.proofs.Common.{arith}
 use Rattle.std.specs.List.{filter}
 use Rattle.calls.specs.declared.format.Format.{Format}
-use Rattle.calls.specs.Formats.{widest}
 use Rattle.calls.specs.declared.call.Call.{Call}
 use Rattle.calls.specs.declared.reply.Reply.{Reply}
 use Rattle.calls.specs.Reads.{reads, is_journalled}
@@ -13,7 +12,7 @@ use Rattle.calls.specs.Transactions.{Event, Entry, Asked, PutOff, Leads, Act, As
 use Rattle.calls.proofs.Readings.{read_mode, read_inverse, read_leaves}
 use Rattle.boosted.specs.Meaning as shape
 use Rattle.boosted.specs.Meaning.{Meaning}
-use Rattle.boosted.proofs.Each.{each_filter, weaker}
+use Rattle.boosted.proofs.Each.{each_filter}
 use Rattle.catalog.specs.Making.{Making}
 use Rattle.record_format.specs.declared.record.Record.{Record}
 use Rattle.record_format.specs.Records.{record_of_call}
@@ -28,7 +27,6 @@ use Rattle.machine.proofs.Theory.Fewer.{fewer_sound}
 use Rattle.machine.proofs.BookLaws.{BookLaws}
 use Rattle.machine.proofs.InvariantRows.{call_upheld, back_upheld}
 use Rattle.machine.proofs.Journalled.{filter_length, own_fewer, calls_journalled, filter_map}
-use Rattle.machine.proofs.ShortValues.{widest_entry}
 use Rattle.machine.proofs.RecordRuns.{IsPlayed, one_step, Tells}
 use Rattle.machine.proofs.Steps as steps
 
@@ -117,23 +115,6 @@ module _ {S : Type 0} (meaning : Meaning S ℕ) (making : Making S)
   pub sound_worn : (t : State S) (wear : ℕ) → IsSound meaning making (record t { wear = wear }) →
       IsSound meaning making t
   sound_worn t wear is = record {
-    machine = is.machine;
-    shows = record {
-      now = is.shows.now;
-      entries = is.shows.entries;
-      live = is.shows.live;
-      falling = is.shows.falling;
-      needs = is.shows.needs;
-    };
-    sound = is.sound;
-    content = is.content;
-    settled = is.settled;
-  }
-
-  -- nor of the format
-  pub sound_widest : (t : State S) → IsSound meaning making t →
-      IsSound meaning making (record t { format = widest })
-  sound_widest t is = record {
     machine = is.machine;
     shows = record {
       now = is.shows.now;
@@ -275,23 +256,3 @@ module _ {S : Type 0} (meaning : Meaning S ℕ) (making : Making S) (short : For
         less_worn t (subst (λ v. meaning.within v.now v.wear) (sym row.is) up.reached) (omega arith)
         (back_upheld meaning making short laws s up n _
         (unread_backs meaning making laws.rules s t n row))
-
--- What holds of a state holds of it in the widest format, where no content that is short in a
--- format is too long for the widest one.
-pub widest_upheld : {S : Type 0} (meaning : Meaning S ℕ) (making : Making S)
-    (short : Format → S → Type 0) (laws : RuleLaws (collection_rules meaning making)) →
-    ((f : Format) (s : S) → short f s → short widest s) → (s : State S) →
-    IsUpheld meaning making short (IsSound meaning making) s →
-    IsUpheld meaning making short (IsSound meaning making) (record s { format = widest })
-widest_upheld meaning making short laws wide s up = record {
-  few_live = up.few_live;
-  few_calls = up.few_calls;
-  few_names = up.few_names;
-  reached = up.reached;
-  unworn = up.unworn;
-  numbers = up.numbers;
-  spells = wide s.format s.now up.spells;
-  asked = weaker (λ e. IsAskedEntry s.format e.1) (λ e. IsAskedEntry widest e.1)
-      (λ e asked. widest_entry s.format e.1 asked) s.entries up.asked;
-  holds = sound_widest meaning making laws s up.holds;
-}

@@ -1,21 +1,21 @@
 -- The rows of the machine, from the parts of its state before and after.
-use Rattle.std.proofs.Common.{◌≡◌, ℕ, ◌+◌, ◌<◌, true, false, List, [], ◌∷◌, ◌++◌, length, refl, ◌∙◌}
-use Rattle.std.proofs.Common.{ap, subst, arith}
+use Rattle.std.proofs.Common.{◌≡◌, ℕ, ◌+◌, ◌<◌, true, List, [], ◌∷◌, ◌++◌, length, refl}
+use Rattle.std.proofs.Common.{arith}
 use Rattle.std.specs.FinMap as maps
 use Rattle.calls.specs.declared.format.Format.{Format}
 use Rattle.calls.specs.declared.kind.Kind.{Kind}
 use Rattle.calls.specs.declared.call.Call.{Call}
 use Rattle.calls.specs.declared.reply.Reply.{Reply}
 use Rattle.calls.specs.Names.{IsName}
-use Rattle.calls.specs.Transactions.{Event, Entry, Asked, PutOff, Leads, own, others, laters_of}
+use Rattle.calls.specs.Transactions.{Event, Entry, Asked, PutOff}
 use Rattle.calls.specs.declared.refusal.Refusal.{Refusal}
 use Rattle.catalog.specs.Making as naming
 use Rattle.record_format.specs.declared.record.Record.{Record}
 use Rattle.abstract_locks.specs.declared.table.Hold.{Hold}
-use Rattle.abstract_locks.specs.Holds.{hold, IsAdded, IsGivenUp}
+use Rattle.abstract_locks.specs.Holds.{hold, IsAdded}
 use Rattle.undo_log.specs.Logs.{Statuses, Log}
-use Rattle.machine.specs.Machine.{State, Does, IsRunning, IsLeft, CanBegin, BeginRow, MakeRow}
-use Rattle.machine.specs.Machine.{CanCall, CallRow, ReadRow, CanPutOff, LaterRow, CommitRow}
+use Rattle.machine.specs.Machine.{State, MakeRow}
+use Rattle.machine.specs.Machine.{CanCall, CallRow, ReadRow, CanPutOff, LaterRow}
 use Rattle.machine.specs.Machines.{resting, unmade, HasRoomFor, StepAnswers}
 use Rattle.machine.specs.Views.{state_of}
 use Rattle.boosted.specs.Meaning.{Meaning}
@@ -84,12 +84,6 @@ module _ {S : Type 0} (format : Format) (now : S) (held : List Hold) (log : Log)
       abbrev behind : State S
       behind = state_of format now' held' log' wear'
 
-      -- A transaction is taken out.
-      pub left_row : now' ≡ now → IsGivenUp held held' n → log'.live ≡ maps.remove log.live n →
-          log'.entries ≡ others n log.entries → wear' ≡ wear → IsLeft before n behind
-      left_row there given live entries worn =
-          record { holds = given; is = same_parts format there live entries refl worn }
-
       module _ (meaning : Meaning S ℕ) where
         -- A call is made and noted.
         pub called_row : (e : Event) → CanCall meaning before n e → HasRoomFor before 1 →
@@ -128,32 +122,6 @@ module _ {S : Type 0} (format : Format) (now : S) (held : List Hold) (log : Log)
           holds = added;
           is = same_parts format there live entries refl worn;
         }
-
-        -- What was put off ran, and the transaction is taken out.
-        pub committed_row : (es : List Entry) → es ≡ own n log.entries → IsRunning before n →
-            Leads (Does meaning) (laters_of es) now now' → IsGivenUp held held' n →
-            log'.live ≡ maps.remove log.live n → log'.entries ≡ others n log.entries →
-            wear' ≡ wear + length (laters_of es) → CommitRow meaning before n behind
-        committed_row es same running runs given live entries worn = record {
-          running = running;
-          next = now';
-          runs = subst (λ l. Leads (Does meaning) (laters_of l) now now') same runs;
-          left = record {
-            holds = given;
-            is = same_parts format refl live entries refl
-                (worn ∙ ap (λ l. wear + length (laters_of l)) same);
-          };
-        }
-
-    -- A transaction begins.
-    pub begun_row : (log' : Log) (wear' : ℕ) → CanBegin before n → HasRoomFor before 0 →
-        log'.live ≡ maps.insert log.live n false → log'.entries ≡ log.entries → wear' ≡ wear + 1 →
-        BeginRow before n (state_of format now held log' wear')
-    begun_row log' wear' can room live entries worn = record {
-      can = can;
-      room = omega (arith, room);
-      is = same_parts format refl live entries refl worn;
-    }
 
 -- A making that the collections refuse is none of the machine's steps.
 pub make_stuck : {S : Type 0} (making : Making S) (steps : State S → Record → State S → Type 0)

@@ -12,7 +12,7 @@ use Rattle.undo_log.specs.declared.logged.Logged.{Logged}
 use Rattle.undo_log.specs.Entries.{event_of, HasNoCall, HasNewestCall, IsNewestCall}
 use Rattle.undo_log.specs.Logs.{Log, Lives, fallen}
 use Rattle.boosted.specs.Meaning.{Undoes, Meaning}
-use Rattle.machine.specs.Machine.{State, BackRow, FallRow, UnreadRow, HasNewestRead}
+use Rattle.machine.specs.Machine.{State, BackRow, UnreadRow, HasNewestRead}
 use Rattle.machine.specs.Machine.{WrittenBackRow}
 use Rattle.machine.specs.Views.{state_of}
 use Rattle.machine.proofs.Rows.{same_parts}
@@ -109,16 +109,6 @@ module _ {S : Type 0} (format : Format) (now : S) (held : List Hold) (log : Log)
               (rest ∙ popped_rest n log.entries left x newest.0 taken newest.1 found none) still
               worn;
         }
-
-    -- Nothing is left to undo.
-    pub fall_done : (log' : Log) (wear' : ℕ) → Lives log.live n → HasNoCall n log.entries →
-        log'.live ≡ fallen log.live n → log'.entries ≡ log.entries → wear' ≡ wear →
-        FallRow (state_of format now held log wear) n (state_of format now held log' wear')
-    fall_done log' wear' live none falls same worn = record {
-      live = live;
-      undone = none;
-      is = same_parts format refl falls same refl worn;
-    }
 
     -- The newest call is taken out, which only reads.
     pub unread_row : (left : List (ℕ × Entry)) (log' : Log) (wear' : ℕ) (taken : Option Logged) →

@@ -4,3 +4,5 @@ pub mod Machines
 pub mod Transactions
 pub mod Sound
 pub mod Views
+pub mod Wholes
+pub mod Accounts

@@ -30,6 +30,7 @@ ghost use Rattle.calls.specs.Rules.{need_of};
 ghost use Rattle.calls.specs.Reads.{reads};
 ghost use Rattle.calls.specs.Limits.{max_collections, max_calls, max_wear};
 
+use crate::Accounts;
 use calls::limits::MAX_LIVE;
 use calls::{Call, Format, Kind, Name, Need, Refusal, Reply};
 use catalog::Parts;
@@ -48,20 +49,15 @@ use undo_log::{Later, Live, Logged};
 pub struct Machine<B: Parts + Coded> {
     // all of the collections
     shelf: Shelf<B>,
-    ledger: Ledger,
-    format: Format,
+    accounts: Accounts,
 }
 
 // Written out, so that the crates above call it in place of proving it again.
 impl<B: Parts + Coded + Drop> Drop for Machine<B> {
     fn drop(self) {
-        let Self {
-            shelf,
-            ledger,
-            format: _format,
-        } = self;
+        let Self { shelf, accounts } = self;
         drop(shelf);
-        drop(ledger);
+        drop(accounts);
     }
 }
 
@@ -69,7 +65,7 @@ impl<B: Parts + Coded> Model for Machine<B> {
     ghost use Rattle.machine.specs.Machine.{State};
     ghost use Rattle.machine.specs.Machines.{IsUpheld};
     ghost use Rattle.machine.specs.Sound.{IsSound};
-    ghost use Rattle.machine.specs.Views.{state_with};
+    ghost use Rattle.machine.specs.Wholes.{state_on};
     ghost use Rattle.record_format.specs.Short.{AreShort};
     ghost use Rattle.std.specs.FinMap as maps;
     ghost use Rattle.std.specs.Ordering.{nat_cmp};
@@ -79,11 +75,10 @@ impl<B: Parts + Coded> Model for Machine<B> {
 
     ghost coded = { Prim.hlevel (codes, maps.code {R = nat_cmp} coded_ℕ coded_bool) };
 
-    ghost view = { λ m. state_with m.format m.shelf m.ledger };
+    ghost view = { λ m. state_on m.accounts m.shelf };
 
     ghost invariant = { λ m. IsUpheld B.meaning B.making (λ f s. AreShort f (B.collections s))
-        (IsSound B.meaning B.making)
-        (state_with m.format m.shelf m.ledger) };
+        (IsSound B.meaning B.making) (state_on m.accounts m.shelf) };
 }
 
 impl<B: Parts + Coded> Machine<B> {
@@ -98,8 +93,7 @@ impl<B: Parts + Coded> Machine<B> {
     {
         Self {
             shelf: Shelf::new(alloc, parts),
-            ledger: Ledger::new(alloc, wear),
-            format,
+            accounts: Accounts::new(alloc, format, wear),
         }
     }
 
@@ -114,7 +108,7 @@ impl<B: Parts + Coded> Machine<B> {
     pub fn format(&self) -> Format
         ensures { result ≡ self.now.format }
     {
-        self.format
+        self.accounts.format()
     }
 
     /// Whether a client can ask for the call.
@@ -126,7 +120,7 @@ impl<B: Parts + Coded> Machine<B> {
         ensures err { IfErr result (AskRefused B.meaning self.now.format self.now.now at call.now) }
     {
         self.parts().askable(at, call)?;
-        if !call.is_short(self.format) {
+        if !call.is_short(self.format()) {
             return Err(Refusal::TooLong);
         }
         Ok(())
@@ -137,7 +131,7 @@ impl<B: Parts + Coded> Machine<B> {
     pub fn wear(&self) -> u64
         ensures { result ≡ self.now.wear }
     {
-        self.ledger.wear()
+        self.accounts.wear()
     }
 
     /// What holds of every machine: the limits, that each call may still be undone, and what the
@@ -146,14 +140,14 @@ impl<B: Parts + Coded> Machine<B> {
         ensures { IsUpheld B.meaning B.making (λ f s. AreShort f (B.collections s))
             (IsSound B.meaning B.making) self.now }
     {
-        let _ = &self.format;
+        let _ = &self.accounts;
     }
 
     /// How many transactions are live.
     pub fn count_live(&self) -> usize
         ensures { result ≡ maps.len self.now.live }
     {
-        self.ledger.live().count_live()
+        self.live().count_live()
     }
 
     /// The least number that is live.
@@ -161,7 +155,7 @@ impl<B: Parts + Coded> Machine<B> {
         ensures found { IfSome result (IsLeastLive self.now.live) }
         ensures none { IfNone result (self.now.live ≡ maps.empty) }
     {
-        self.ledger.live().least()
+        self.live().least()
     }
 
     /// Whether a call of the transaction is not undone.
@@ -169,17 +163,7 @@ impl<B: Parts + Coded> Machine<B> {
         ensures some { IsTrue result ↔ (HasNoCall number self.now.entries → ⊥) }
         ensures none { result ≡ false → HasNoCall number self.now.entries }
     {
-        self.ledger.live().newest(number).is_some()
-    }
-
-    /// Whether the newest call of the transaction is there and only reads.
-    pub fn newest_reads(&self, number: u64) -> bool
-        ensures { IsTrue result ↔ HasNewestRead number self.now.entries }
-    {
-        match self.ledger.live().newest(number) {
-            Some(newest) => newest.call.reads(&newest.reply),
-            None => false,
-        }
+        self.live().newest(number).is_some()
     }
 
     /// Takes the record's step, where it is one from here, and answers true; false, with nothing
@@ -205,14 +189,7 @@ impl<B: Parts + Coded> Machine<B> {
         ensures err { OnErr result (self.new ≡ self.old) }
         ensures refusal { IsOkUnless result Refusal.NoMemory }
     {
-        let Some(newest) = self.ledger.live().newest(number) else {
-            unreachable!();
-        };
-        self.shelf.undo(newest)?;
-        let _undone = self.ledger.pop(number);
-        self.ledger.fall(number);
-        self.ledger.add_wear(1);
-        Ok(())
+        self.accounts.back(&mut self.shelf, number)
     }
 
     /// Ends a transaction whose calls are all undone: its needs go. It takes no memory.
@@ -221,8 +198,8 @@ impl<B: Parts + Coded> Machine<B> {
         requires undone { HasNoCall number self.old.entries }
         ensures { EndedRow self.old number self.new }
     {
-        self.ledger.remove(number);
         self.shelf.give_up(number);
+        self.accounts.finish(number, 0);
     }
 
     /// The collections, where the machine is no more needed.
@@ -237,12 +214,8 @@ impl<B: Parts + Coded> Machine<B> {
             self.live ≡ maps.empty → Serial (committed (acts_of rs)) (B.collections start)
             (B.collections result) }
     {
-        let Self {
-            shelf,
-            ledger,
-            format: _format,
-        } = self;
-        drop(ledger);
+        let Self { shelf, accounts } = self;
+        drop(accounts);
         shelf.into_collections()
     }
 
@@ -254,24 +227,7 @@ impl<B: Parts + Coded> Machine<B> {
     {
         Self {
             shelf,
-            ledger,
-            format,
-        }
-    }
-
-    /// The same machine in a store of the format with the longest values. It takes no memory.
-    pub fn widened(self) -> Self
-        ensures { result ≡ record self { format = widest } }
-    {
-        let Self {
-            shelf,
-            ledger,
-            format: _format,
-        } = self;
-        Self {
-            shelf,
-            ledger,
-            format: Format::Two,
+            accounts: Accounts::of_ledger(format, ledger),
         }
     }
 
@@ -299,9 +255,7 @@ impl<B: Parts + Coded> Machine<B> {
         ensures same { OnErr result (self.new ≡ self.old) }
         ensures refusal { IsOkUnless result Refusal.NoMemory }
     {
-        self.ledger.enter(number)?;
-        self.ledger.add_wear(1);
-        Ok(())
+        self.accounts.begin(number)
     }
 
     /// Makes the call, answered so, and notes it with the need that it has.
@@ -315,43 +269,8 @@ impl<B: Parts + Coded> Machine<B> {
         ensures same { OnErr result (self.new ≡ self.old) }
         ensures refusal { IsOkUnless result Refusal.NoMemory }
     {
-        self.ledger.reserve(number)?;
-        self.shelf
-            .take(number, asked.at, &asked.call, &asked.reply)?;
-        self.ledger.note_call(number, asked);
-        self.ledger.add_wear(1);
-        Ok(())
-    }
-
-    /// Notes a call that only reads, answered so, with the need that it has. No record tells of it,
-    /// so it does not wear.
-    ///
-    /// NoMemory leaves all as before.
-    pub fn read(&mut self, number: u64, asked: Logged) -> Result<(), Refusal>
-        requires can { CanCall B.meaning self.old number (logs.event_of asked) }
-        requires only_reads { reads asked.call asked.reply ≡ true }
-        requires room { HasRoomFor self.old 1 }
-        ensures ok { OnOk result (ReadRow B.meaning self.old number (logs.event_of asked)
-            self.new) }
-        ensures same { OnErr result (self.new ≡ self.old) }
-        ensures refusal { IsOkUnless result Refusal.NoMemory }
-    {
-        self.ledger.reserve(number)?;
-        let held = asked.call.need(&asked.reply);
-        self.shelf.hold(number, asked.at, held)?;
-        self.ledger.note_call(number, asked);
-        Ok(())
-    }
-
-    /// Undoes the newest call of the transaction, which only reads. From then on it is falling. It
-    /// holds its needs until `ended`. It takes no memory and does not wear.
-    pub fn unread(&mut self, number: u64)
-        requires live { Lives self.old.live number }
-        requires newest { HasNewestRead number self.old.entries }
-        ensures { UnreadRow self.old number self.new }
-    {
-        let _read = self.ledger.pop(number);
-        self.ledger.fall(number);
+        let need = asked.call.need(&asked.reply);
+        self.accounts.call(&mut self.shelf, number, asked, need)
     }
 
     /// Puts the call off to the commit of the transaction, and notes it with the need that it has.
@@ -364,12 +283,8 @@ impl<B: Parts + Coded> Machine<B> {
         ensures same { OnErr result (self.new ≡ self.old) }
         ensures refusal { IsOkUnless result Refusal.NoMemory }
     {
-        self.ledger.reserve(number)?;
         let need = put.call.need(&Reply::Done);
-        self.shelf.hold(number, put.at, need)?;
-        self.ledger.note_later(number, put);
-        self.ledger.add_wear(1);
-        Ok(())
+        self.accounts.later(&mut self.shelf, number, put, need)
     }
 
     /// Commits a transaction: what it put off, and what its calls left, runs in the order asked.
@@ -378,19 +293,9 @@ impl<B: Parts + Coded> Machine<B> {
         requires { IsRunning self.old number }
         ensures { CommitRow B.meaning self.old number self.new }
     {
-        let entries = self.ledger.live().entries_of(number);
+        let entries = self.accounts.live().entries_of(number);
         let ran = self.shelf.settle(number, entries);
-        self.ledger.remove(number);
-        self.ledger.add_wear(ran);
-    }
-
-    /// Makes a transaction falling of which nothing is left to undo. It takes no memory.
-    pub fn fall(&mut self, number: u64)
-        requires live { Lives self.old.live number }
-        requires undone { HasNoCall number self.old.entries }
-        ensures { FallRow self.old number self.new }
-    {
-        self.ledger.fall(number);
+        self.accounts.finish(number, ran);
     }
 
     /// The live transactions, and what they asked for and did not undo.
@@ -398,28 +303,21 @@ impl<B: Parts + Coded> Machine<B> {
         ensures live { result.now.live ≡ self.now.live }
         ensures entries { result.now.entries ≡ self.now.entries }
     {
-        self.ledger.live()
+        self.accounts.live()
     }
 
     /// Whether the transaction is live.
     pub fn is_live(&self, number: u64) -> bool
         ensures { IsTrue result ↔ Lives self.now.live number }
     {
-        self.ledger.live().is_live(number)
+        self.live().is_live(number)
     }
 
     /// Whether the transaction is live, and nothing of it was undone.
     pub fn is_running(&self, number: u64) -> bool
         ensures { IsTrue result ↔ IsRunning self.now number }
     {
-        self.is_live(number) && !self.ledger.live().is_falling(number)
-    }
-
-    /// How many calls of the transaction are not undone, those that it put off counted too.
-    pub fn count_calls(&self, number: u64) -> usize
-        ensures { result ≡ length (own number self.now.entries) }
-    {
-        self.ledger.live().count(number)
+        self.is_live(number) && !self.live().is_falling(number)
     }
 
     /// Whether the transaction has left to its commit already what this call, answered so, would
@@ -428,17 +326,7 @@ impl<B: Parts + Coded> Machine<B> {
         ensures { IsTrue result ↔ GoesTwice self.now.entries number
             (record { at = at; call = call.now; reply = reply.now }) }
     {
-        self.ledger.goes_twice(number, at, call, reply)
-    }
-
-    /// Whether no other transaction holds a need in the way.
-    ///
-    /// Busy with the least that does.
-    pub fn test(&self, number: u64, at: u8, need: &Need) -> Result<(), Refusal>
-        ensures clear { OnOk result (IsClear self.now.holds number at need.now) }
-        ensures busy { IfErr result (IsBusyRefusal self.now.holds number at need.now) }
-    {
-        self.shelf.test(number, at, need)
+        self.accounts.goes_twice(number, at, call, reply)
     }
 
     // The record's step, from this very state.
@@ -563,7 +451,7 @@ impl<B: Parts + Coded> Machine<B> {
         requires { IsNumber number }
         ensures { IsTrue result ↔ (CanBegin self.now number × HasRoomFor self.now 0) }
     {
-        !self.is_live(number) && self.count_live() < MAX_LIVE && self.ledger.has_room(1, 0)
+        !self.is_live(number) && self.count_live() < MAX_LIVE && self.accounts.has_room(1, 0)
     }
 
     // Whether the transaction can make the call and get the reply.
@@ -588,7 +476,7 @@ impl<B: Parts + Coded> Machine<B> {
         ensures { IsTrue result ↔ (IsRunning self.now number ×
             (length (own number self.now.entries) < max_calls) × HasRoomFor self.now 1) }
     {
-        self.ledger.has_place(number, 1) && !self.ledger.live().is_falling(number)
+        self.accounts.has_place(number, 1) && !self.live().is_falling(number)
     }
 
     // Whether the call can get the reply, which has no value too long for the format, leaves
@@ -603,7 +491,7 @@ impl<B: Parts + Coded> Machine<B> {
     {
         self.parts()
             .fits(called.collection, &called.call, &called.reply)
-            && is_short_reply(self.format, &called.reply)
+            && is_short_reply(self.format(), &called.reply)
             && !self.goes_twice(
                 called.number,
                 called.collection,

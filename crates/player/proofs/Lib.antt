@@ -2,3 +2,4 @@ pub mod Stepping
 pub mod ClientLemmas
 pub mod CheckpointLemmas
 pub mod RequestLemmas
+pub mod Removals

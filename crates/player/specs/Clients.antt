@@ -1,12 +1,13 @@
 -- What a script's client does on a world: the steps that it takes, the result, and the client
 -- behind them.
 use Rattle.std.specs.Prelude.{◌≡◌, ◌⊎◌, ◌↔◌, ℕ, suc, zero, ◌<◌, ◌≤◌, Bool, true, false, IsTrue}
-use Rattle.std.specs.Prelude.{List, [], ◌∷◌, ◌++◌, Option, None, Some, Result, Ok, Err}
+use Rattle.std.specs.Prelude.{List, [], ◌∷◌, ◌++◌, Option, None, Some, Result, Ok, Err, slice_get}
+use Rattle.std.specs.Option.{option_map}
 use Rattle.calls.specs.declared.call.Call.{Call}
 use Rattle.calls.specs.declared.kind.Kind.{Kind}
 use Rattle.calls.specs.declared.reply.Reply.{Reply}
 use Rattle.calls.specs.declared.refusal.Refusal.{Refusal}
-use Rattle.calls.specs.Contents.{Collection}
+use Rattle.calls.specs.Contents.{Collection, kind_of_content}
 use Rattle.calls.specs.Formats.{widest}
 use Rattle.calls.specs.Names.{IsName}
 use Rattle.boosted.specs.Meaning.{CanAsk}
@@ -66,6 +67,10 @@ EntersOpen (Some begun) k r steps l = EntersAs k begun.number begun.is_entered r
 
 abbrev pub Enters : Client → Result ℕ Refusal → Past → Client → Type 0
 Enters k r steps l = EntersOpen k.begun k r steps l
+
+-- the kind of the collection at a place, if there is one
+abbrev pub kind_at : List Collection → ℕ → Option Kind
+kind_at s at = option_map (λ x. kind_of_content x.content) (slice_get s at)
 
 -- a removal is one of a map where a client can ask for that, and else one of a set
 abbrev pub AskedFor : List Collection → ℕ → Operation → Call → Type 0

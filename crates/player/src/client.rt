@@ -1,13 +1,14 @@
 // What a script's client does, one request at a time.
+ghost use Rattle.std.specs.Prelude.{◌≡◌, ◌↔◌, ℕ, List, Some, IsTrue};
+ghost use Rattle.calls.specs.declared.kind.Kind.{Kind};
+ghost use Rattle.calls.specs.Contents.{Collection};
 ghost use Rattle.player.specs.declared.client.Client.{Client};
 ghost use Rattle.player.specs.Plays.{Runs};
 ghost use Rattle.player.specs.Clients.{Makes, Begins, Enters, AsksFor, PutsOff, Calls, Commits};
-ghost use Rattle.player.specs.Clients.{UndoesAll, Ends, Aborts, AskedFor, Looks};
+ghost use Rattle.player.specs.Clients.{UndoesAll, Ends, Aborts, kind_at, AskedFor, Looks};
 
-use boosted::Boosted;
 use calls::limits::MAX_CALLS;
 use calls::{Call, Kind, Name, Refusal, Reply};
-use catalog::Catalog;
 use disk_model::Disk;
 use script::Operation;
 use world::World;
@@ -107,7 +108,7 @@ impl Client {
     {
         let number = self.enter(world)?;
         let collection = world.book().find(name.as_str())?;
-        let call = call_of(world.book().parts(), collection, operation);
+        let call = call_of(world.book().kind(collection), operation);
         world.call(number, collection, &call)
     }
 
@@ -195,19 +196,26 @@ fn undo<D: Disk>(world: &mut World<D>, number: u64) -> Result<(), Refusal>
     world.ended(number)
 }
 
-// The call that is asked for. A removal is one of a map where a client can ask for that, and else
-// one of a set.
-fn call_of(catalog: &Catalog, collection: u8, operation: Operation) -> Call
-    ensures { AskedFor catalog.now collection operation result }
+// The call that is asked for of a collection of the kind, if there is one. A removal is one of a map
+// where a client can ask for that, and else one of a set.
+fn call_of(kind: Option<Kind>, operation: Operation) -> Call
+    ensures { (s : List Collection) (at : ℕ) → kind ≡ kind_at s at → AskedFor s at operation result }
 {
     match operation {
         Operation::Call(call) => call,
         Operation::Remove(key) => {
-            let call = Call::MapRemove(key);
-            match catalog.askable(collection, &call) {
-                Ok(()) => call,
-                Err(_) => Call::SetRemove(key),
+            if is_map(kind) {
+                Call::MapRemove(key)
+            } else {
+                Call::SetRemove(key)
             }
         }
     }
+}
+
+// Whether there is a collection, and it is a map.
+fn is_map(kind: Option<Kind>) -> bool
+    ensures { IsTrue result ↔ (kind ≡ Some Kind.Map) }
+{
+    matches!(kind, Some(Kind::Map))
 }

@@ -2,8 +2,12 @@
 use Rattle.boosted.specs.Laws.{BoostedLaws}
 use Rattle.std.proofs.Common.{◌≡◌, ℕ, ◌+◌, ◌<◌, ◌≤◌, ◌^◌, List, []}
 use Rattle.std.proofs.Common.{◌∷◌, ◌++◌, length, map, get_or, drop, refl, sym, ◌∙◌, ap, subst}
-use Rattle.std.proofs.Common.{arith, append-nil}
+use Rattle.std.proofs.Common.{arith, append-nil, ◌%◌, ◌==◌, cond, eq-eqb, ne_eqb}
+use Rattle.std.proofs.Common.{Option, Some, None}
+use mathlib.Core.Logic.{dite}
+use native.Mathlib.Decide.{ℕ_discrete}
 use Rattle.std.proofs.lemmas.List.{drop_more, drop_all, length-append}
+use Rattle.std.proofs.lemmas.List.Elements.{filter-append}
 use Rattle.calls.specs.declared.call.Call.{Call}
 use Rattle.calls.specs.declared.reply.Reply.{Reply}
 use Rattle.calls.specs.Rules.{Disposable, left_by}
@@ -13,7 +17,10 @@ use Rattle.undo_log.specs.Entries.{stamped_entry}
 use Rattle.boosted.proofs.Runs.{Leads-append, Leads-split}
 use Rattle.boosted.proofs.Each.{each_front, each_back}
 use Rattle.boosted.specs.Meaning.{Meaning}
-use Rattle.shelf.specs.Shelves.{Does, CanRun}
+use Rattle.shelf.specs.Shelves.{Does, CanRun, on_quarter, of_quarter, IsOutside}
+
+decided : (m n : ℕ) → ((m ≡ n → ⊥) → ⊥) → m ≡ n
+decided m n twice = dite (ℕ_discrete m n) (λ same. same) (λ other. absurd (twice other))
 
 -- a later, as transactions are told
 abbrev pub later : (at : ℕ) → Call → Event
@@ -25,15 +32,61 @@ first_laters (Asked e) es = ap (λ l. l ++ laters_of es)
     (sym (append-nil (map (later e.at) (left_by e.call e.reply))))
 first_laters (PutOff at c) es = refl
 
--- what these entries put off
-abbrev pub put_off : List Stamped → List Event
-put_off ss = laters_of (map stamped_entry ss)
+quarter_append : (q : Option ℕ) (es fs : List Event) →
+    of_quarter q (es ++ fs) ≡ of_quarter q es ++ of_quarter q fs
+quarter_append None es fs = refl
+quarter_append (Some q) es fs = filter-append (λ (e : Event). e.at % 4 == q) es fs
 
-module _ (ss : List Stamped) (i : ℕ) (s : Stamped) (below : i < length ss)
+quarter_none : (q : Option ℕ) → of_quarter q [] ≡ []
+quarter_none None = refl
+quarter_none (Some q) = refl
+
+-- ---- what one entry puts off is of its quarter
+
+inside_all : (at q : ℕ) → at % 4 ≡ q → (cs : List Call) →
+    on_quarter q (map (later at) cs ++ []) ≡ map (later at) cs ++ []
+inside_all at q same [] = refl
+inside_all at q same (c ∷ cs) =
+    ap (λ b. cond b (later at c ∷ on_quarter q (map (later at) cs ++ []))
+    (on_quarter q (map (later at) cs ++ []))) (eq-eqb (at % 4) q same) ∙
+    ap (λ l. later at c ∷ l) (inside_all at q same cs)
+
+outside_none : (at q : ℕ) → (at % 4 ≡ q → ⊥) → (cs : List Call) →
+    on_quarter q (map (later at) cs ++ []) ≡ []
+outside_none at q other [] = refl
+outside_none at q other (c ∷ cs) =
+    ap (λ b. cond b (later at c ∷ on_quarter q (map (later at) cs ++ []))
+    (on_quarter q (map (later at) cs ++ []))) (ne_eqb (at % 4) q other) ∙
+    outside_none at q other cs
+
+-- all of it, or nothing
+pub put_off_inside : (q : Option ℕ) (e : Entry) → (IsOutside q e → ⊥) →
+    of_quarter q (laters_of (e ∷ [])) ≡ laters_of (e ∷ [])
+put_off_inside None e here = refl
+put_off_inside (Some q) (Asked e) here = inside_all e.at q
+    (decided (e.at % 4) q here) (left_by e.call e.reply)
+put_off_inside (Some q) (PutOff at c) here = inside_all at q (decided (at % 4) q here) (c ∷ [])
+
+pub put_off_outside : (q : Option ℕ) (e : Entry) → IsOutside q e →
+    of_quarter q (laters_of (e ∷ [])) ≡ []
+put_off_outside None e there = absurd there
+put_off_outside (Some q) (Asked e) there = outside_none e.at q there (left_by e.call e.reply)
+put_off_outside (Some q) (PutOff at c) there = outside_none at q there (c ∷ [])
+
+-- what these entries put off, of a quarter or all
+abbrev pub put_off : Option ℕ → List Stamped → List Event
+put_off q ss = of_quarter q (laters_of (map stamped_entry ss))
+
+module _ (q : Option ℕ) (ss : List Stamped) (i : ℕ) (s : Stamped) (below : i < length ss)
     (is : s ≡ get_or ss i s) where
-  pub next : put_off (drop i ss) ≡ laters_of (stamped_entry s ∷ []) ++ put_off (drop (i + 1) ss)
-  next = ap put_off (drop_more ss i s below ∙ ap (λ v. v ∷ drop (i + 1) ss) (sym is))
-      ∙ first_laters (stamped_entry s) (map stamped_entry (drop (i + 1) ss))
+  abbrev pub ones : List Event
+  ones = of_quarter q (laters_of (stamped_entry s ∷ []))
+
+  pub next : put_off q (drop i ss) ≡ ones ++ put_off q (drop (i + 1) ss)
+  next = ap (put_off q) (drop_more ss i s below ∙ ap (λ v. v ∷ drop (i + 1) ss) (sym is))
+      ∙ ap (of_quarter q) (first_laters (stamped_entry s) (map stamped_entry (drop (i + 1) ss)))
+      ∙ quarter_append q (laters_of (stamped_entry s ∷ []))
+      (laters_of (map stamped_entry (drop (i + 1) ss)))
 
 module _ {S : Type 0} (meaning : Meaning S ℕ) where
   -- Calls one after another have one end.
@@ -44,12 +97,13 @@ module _ {S : Type 0} (meaning : Meaning S ℕ) where
       leads_once es w.0 s t w.2 (subst (λ m. Leads (Does meaning) es m t) (v.1.1 ∙ sym w.1.1) v.2)
 
   -- So far the entries before the place ran: where the others lead, all lead from the start.
-  pub record IsRunningSo (ss : List Stamped) (start : S) (i : ℕ) (now : S) (ran : ℕ) : Type 0 where
-    pub can : CanRun meaning (put_off (drop i ss)) now
-    pub leads : (t : S) → Leads (Does meaning) (put_off (drop i ss)) now t →
-        Leads (Does meaning) (put_off ss) start t
-    pub count : ran + length (put_off (drop i ss)) ≡ length (put_off ss)
-    pub few : length (put_off ss) ≤ 2 ^ 61 + 65536
+  pub record IsRunningSo (q : Option ℕ) (ss : List Stamped) (start : S) (i : ℕ) (now : S)
+      (ran : ℕ) : Type 0 where
+    pub can : CanRun meaning (put_off q (drop i ss)) now
+    pub leads : (t : S) → Leads (Does meaning) (put_off q (drop i ss)) now t →
+        Leads (Does meaning) (put_off q ss) start t
+    pub count : ran + length (put_off q (drop i ss)) ≡ length (put_off q ss)
+    pub few : length (put_off q ss) ≤ 2 ^ 61 + 65536
 
   module _ (laws : BoostedLaws meaning) where
     abbrev Can : List Event → S → Type 0
@@ -97,53 +151,54 @@ module _ {S : Type 0} (meaning : Meaning S ℕ) where
           room = omega arith;
         }
 
-    module _ (ss : List Stamped) (start : S) where
-      pub running_first : Can (put_off ss) start → IsRunningSo ss start 0 start 0
+    module _ (q : Option ℕ) (ss : List Stamped) (start : S) where
+      pub running_first : Can (put_off q ss) start → IsRunningSo q ss start 0 start 0
       running_first can = let room = can.room in
           record { can = can; leads = λ t w. w; count = omega arith; few = omega arith }
 
       module _ (i : ℕ) (s : Stamped) (below : i < length ss) (is : s ≡ get_or ss i s) (now : S)
-          (ran : ℕ) (so : IsRunningSo ss start i now ran) where
-        abbrev ones : List Event
-        ones = laters_of (stamped_entry s ∷ [])
+          (ran : ℕ) (so : IsRunningSo q ss start i now ran) where
+        abbrev these : List Event
+        these = ones q ss i s below is
 
-        split : Can (ones ++ put_off (drop (i + 1) ss)) now
-        split = subst (λ l. Can l now) (next ss i s below is) so.can
+        split : Can (these ++ put_off q (drop (i + 1) ss)) now
+        split = subst (λ l. Can l now) (next q ss i s below is) so.can
 
         -- what an entry put off can run,
-        pub running_can : Can ones now
-        running_can = can_first ones (put_off (drop (i + 1) ss)) now split
+        pub running_can : Can these now
+        running_can = can_first these (put_off q (drop (i + 1) ss)) now split
 
         -- can be counted,
-        pub running_fits : ran + length ones ≤ 2 ^ 61 + 65536
+        pub running_fits : ran + length these ≤ 2 ^ 61 + 65536
         running_fits =
-            let size = ap length (next ss i s below is) ∙
-            length-append ones (put_off (drop (i + 1) ss)) in
+            let size = ap length (next q ss i s below is) ∙
+            length-append these (put_off q (drop (i + 1) ss)) in
             let count = so.count in
             let few = so.few in
             omega arith
 
         -- and ran
-        pub running_more : (more : S) → Leads (Does meaning) ones now more →
-            IsRunningSo ss start (i + 1) more (ran + length ones)
+        pub running_more : (more : S) → Leads (Does meaning) these now more →
+            IsRunningSo q ss start (i + 1) more (ran + length these)
         running_more more runs =
-            let same = next ss i s below is in
-            let size = ap length same ∙ length-append ones (put_off (drop (i + 1) ss)) in
+            let same = next q ss i s below is in
+            let size = ap length same ∙ length-append these (put_off q (drop (i + 1) ss)) in
             let count = so.count in
             record {
-              can = can_rest ones (put_off (drop (i + 1) ss)) now more split runs;
+              can = can_rest these (put_off q (drop (i + 1) ss)) now more split runs;
               leads = λ t w. so.leads t (subst (λ l. Leads (Does meaning) l now t) (sym same)
-                  (Leads-append (Does meaning) ones (put_off (drop (i + 1) ss)) now more t runs w));
+                  (Leads-append (Does meaning) these (put_off q (drop (i + 1) ss)) now more t runs w));
               count = omega arith;
               few = so.few;
             }
 
       -- all ran
       pub running_end : (i : ℕ) (now : S) (ran : ℕ) → length ss ≤ i →
-          IsRunningSo ss start i now ran →
-          Leads (Does meaning) (put_off ss) start now × (ran ≡ length (put_off ss))
+          IsRunningSo q ss start i now ran →
+          Leads (Does meaning) (put_off q ss) start now × (ran ≡ length (put_off q ss))
       running_end i now ran past so =
-          let none : put_off (drop i ss) ≡ [] = ap put_off (drop_all i ss past) in
+          let none : put_off q (drop i ss) ≡ [] = ap (put_off q) (drop_all i ss past) ∙
+          quarter_none q in
           let size = ap length none in
           let count = so.count in
           (so.leads now (subst (λ l. Leads (Does meaning) l now now) (sym none) refl), omega arith)

@@ -1,11 +1,12 @@
 -- A shelf: what its collections hold, the needs that are held on them, and what a commit runs
 -- there.
-use Rattle.std.specs.Prelude.{ℕ, ◌+◌, ◌≤◌, List, length}
-use Rattle.std.specs.List.{AllByRecursion}
+use Rattle.std.specs.Prelude.{◌≢◌, ℕ, ◌+◌, ◌≤◌, ◌==◌, ◌%◌, List, length, Option, Some, None}
+use Rattle.std.specs.List.{AllByRecursion, filter}
 use Rattle.calls.specs.Rules.{Disposable}
-use Rattle.calls.specs.Transactions.{Event, Leads}
+use Rattle.calls.specs.Transactions.{Event, Entry, Asked, PutOff, Leads}
 use Rattle.calls.specs.Limits.{max_wear}
 use Rattle.abstract_locks.specs.declared.table.Hold.{Hold}
+use Rattle.abstract_locks.specs.Holds.{IsGivenUp}
 use Rattle.boosted.specs.Meaning as shape
 use Rattle.boosted.specs.Meaning.{Meaning}
 
@@ -29,3 +30,24 @@ pub record CanRun {C : Type 0} (meaning : Meaning C ℕ) (es : List Event) (s : 
   pub wear : ℕ
   pub reached : meaning.within s wear
   pub room : wear + length es ≤ max_wear
+
+-- The calls of the collections whose numbers leave the quarter on division by 4, in their order.
+abbrev pub on_quarter : ℕ → List Event → List Event
+on_quarter quarter es = filter (λ e. e.at % 4 == quarter) es
+
+-- All calls, or those of a quarter alone.
+abbrev pub of_quarter : Option ℕ → List Event → List Event
+of_quarter None es = es
+of_quarter (Some quarter) es = on_quarter quarter es
+
+-- The collection of what was asked for is in another quarter.
+abbrev pub IsOutside : Option ℕ → Entry → Type 0
+IsOutside None e = ⊥
+IsOutside (Some quarter) (Asked e) = e.at % 4 ≢ quarter
+IsOutside (Some quarter) (PutOff at c) = at % 4 ≢ quarter
+
+-- A transaction is settled on the shelf: these calls ran, and its needs are gone.
+pub record Settles {C : Type 0} (meaning : Meaning C ℕ) (s : ShelfState C) (number : ℕ)
+    (laters : List Event) (t : ShelfState C) : Type 0 where
+  pub runs : Leads (Does meaning) laters s.now t.now
+  pub holds : IsGivenUp s.holds t.holds number

@@ -1,26 +1,48 @@
 // What transactions put off to their commits, and what their calls left to these.
-ghost use Rattle.std.specs.Prelude.{◌≡◌, [], ◌∷◌, length, map};
+ghost use Rattle.std.specs.Prelude.{◌≡◌, ◌↔◌, [], ◌∷◌, IsTrue, length, map};
 ghost use Rattle.calls.specs.declared.reply.Reply.{Reply};
 ghost use Rattle.calls.specs.Transactions.{Leads, laters_of};
 ghost use Rattle.undo_log.specs.Entries.{entry_of, stamped_entry};
-ghost use Rattle.shelf.specs.Shelves.{Does, CanRun};
+ghost use Rattle.shelf.specs.Shelves.{Does, CanRun, of_quarter, IsOutside};
 
 use boosted::Boosted;
 use calls::{Call, Reply};
 use undo_log::{Entry, Stamped};
 
-// Runs what a transaction put off among its entries, in the order asked. How many calls that were.
-pub(crate) fn run_laters<C: Boosted<At = u8>>(collections: &mut C, entries: &[Stamped]) -> u64
-    requires can { CanRun C.meaning (laters_of (map stamped_entry entries.now)) collections.old }
-    ensures runs { Leads (Does C.meaning) (laters_of (map stamped_entry entries.now))
+// Runs what a transaction put off among its entries, in the order asked: all of it, or that of a
+// quarter alone. How many calls that were.
+pub(crate) fn run_laters<C: Boosted<At = u8>>(
+    collections: &mut C,
+    entries: &[Stamped],
+    quarter: Option<u8>,
+) -> u64
+    requires can { CanRun C.meaning (of_quarter quarter (laters_of (map stamped_entry entries.now)))
+        collections.old }
+    ensures runs { Leads (Does C.meaning)
+        (of_quarter quarter (laters_of (map stamped_entry entries.now)))
         collections.old collections.new }
-    ensures count { result ≡ length (laters_of (map stamped_entry entries.now)) }
+    ensures count { result ≡ length (of_quarter quarter (laters_of (map stamped_entry
+        entries.now))) }
 {
     let mut count = 0;
     for stamped in entries {
-        count += run_put_off(collections, &stamped.entry);
+        count += run_entry(collections, &stamped.entry, quarter);
     }
     count
+}
+
+// Runs what was put off by one entry, if that is of the quarter. How many calls that were.
+fn run_entry<C: Boosted<At = u8>>(collections: &mut C, entry: &Entry, quarter: Option<u8>) -> u64
+    requires can { CanRun C.meaning (of_quarter quarter (laters_of (entry_of entry.now ∷ [])))
+        collections.old }
+    ensures runs { Leads (Does C.meaning) (of_quarter quarter (laters_of (entry_of entry.now ∷ [])))
+        collections.old collections.new }
+    ensures count { result ≡ length (of_quarter quarter (laters_of (entry_of entry.now ∷ []))) }
+{
+    if is_outside(entry, quarter) {
+        return 0;
+    }
+    run_put_off(collections, entry)
 }
 
 // Runs what was put off by one entry. How many calls that were.
@@ -36,6 +58,20 @@ fn run_put_off<C: Boosted<At = u8>>(collections: &mut C, entry: &Entry) -> u64
             None => 0,
         },
         Entry::PutOff(later) => run_later(collections, later.at, &later.call),
+    }
+}
+
+// Whether the entry's collection is one of another quarter.
+fn is_outside(entry: &Entry, quarter: Option<u8>) -> bool
+    ensures { IsTrue result ↔ IsOutside quarter (entry_of entry.now) }
+{
+    let at = match entry {
+        Entry::Asked(logged) => logged.at,
+        Entry::PutOff(later) => later.at,
+    };
+    match quarter {
+        Some(quarter) => at % 4 != quarter,
+        None => false,
     }
 }
 

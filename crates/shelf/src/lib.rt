@@ -8,16 +8,19 @@ ghost use Rattle.calls.specs.Rules.{Askable, need_of};
 ghost use Rattle.calls.specs.Transactions.{Leads, laters_of};
 ghost use Rattle.abstract_locks.specs.Holds.{hold, IsClear, IsBusyRefusal, IsAdded, IsGivenUp};
 ghost use Rattle.undo_log.specs.Entries.{stamped_entry};
-ghost use Rattle.boosted.specs.Meaning.{Undoes, HasRoom};
-ghost use Rattle.shelf.specs.Shelves.{Does, CanRun};
+ghost use Rattle.boosted.specs.Meaning.{CanAsk, AskRefused, Undoes, HasRoom};
+ghost use Rattle.shelf.specs.Looks.{IsLooked, IsLookedLater};
+ghost use Rattle.shelf.specs.Shelves.{Does, CanRun, on_quarter};
 ghost use Rattle.shelf.specs.contracts.Shelf.{the_row};
 
 mod laters;
+mod looked;
 
 use abstract_locks::NeedTable;
 use boosted::Boosted;
-use calls::{Call, Need, Refusal, Reply};
+use calls::{Call, Format, Need, Refusal, Reply};
 use laters::run_laters;
+pub use looked::Looked;
 use std::alloc::Global;
 use std::marker::Model;
 use undo_log::{Logged, Stamped};
@@ -66,7 +69,8 @@ impl<C: Boosted<At = u8>> Shelf<C> {
         &self.collections
     }
 
-    /// The collections, for what is no call: to make or to load one. The needs stay.
+    /// The collections, for what is no call of a transaction: to make or to load one, and to take
+    /// an image's calls back. The needs stay.
     pub fn collections_mut(&mut self) -> &mut C
         ensures* lends { sem 𝓛 (Lends (the_row C.row ⟦<C as Boosted>⟧) C.row self.entry result
             (λ w. record self.old { now = w })) }
@@ -93,26 +97,71 @@ impl<C: Boosted<At = u8>> Shelf<C> {
         self.needs.test(number, at, need)
     }
 
+    /// What the call of the transaction comes to here, in a store of the format. It changes
+    /// nothing, and costs what `Boosted::askable`, `Boosted::look` and `NeedTable::test` do.
+    ///
+    /// Refused as `Boosted::askable` says, and then with TooLong for a value that the format does
+    /// not have. Starved where there is no memory for the reply.
+    pub fn look(&self, format: Format, number: u64, at: u8, call: &Call) -> Looked
+        ensures { IsLooked C.meaning format self.now number at call.now result }
+    {
+        if let Err(refusal) = self.check(format, at, call) {
+            return Looked::Refused(refusal);
+        }
+        let Ok(reply) = self.collections.look(at, call) else {
+            return Looked::Starved;
+        };
+        let need = call.need(&reply);
+        let clear = self.test(number, at, &need);
+        Looked::Answered { reply, need, clear }
+    }
+
+    /// What it comes to here that the transaction puts the call off: it is Done at the commit. It
+    /// changes nothing, takes no memory, and costs what `Boosted::deferrable` and
+    /// `NeedTable::test` do.
+    ///
+    /// Refused as `Boosted::deferrable` says.
+    pub fn look_later(&self, number: u64, at: u8, call: &Call) -> Looked
+        ensures { IsLookedLater C.meaning self.now number at call.now result }
+    {
+        if let Err(refusal) = self.collections.deferrable(at, call) {
+            return Looked::Refused(refusal);
+        }
+        let need = call.need(&Reply::Done);
+        let clear = self.test(number, at, &need);
+        Looked::Answered {
+            reply: Reply::Done,
+            need,
+            clear,
+        }
+    }
+
     /// Makes the call, answered so, and lets the transaction hold the need that it has. That is
     /// free, and there is room in the wear.
     ///
     /// NoMemory leaves all as before. It costs what `Boosted::run`, `NeedTable::reserve` and
     /// `NeedTable::grant` do.
-    pub fn take(&mut self, number: u64, at: u8, call: &Call, reply: &Reply) -> Result<(), Refusal>
+    pub fn take(
+        &mut self,
+        number: u64,
+        at: u8,
+        call: &Call,
+        reply: &Reply,
+        need: Need,
+    ) -> Result<(), Refusal>
         requires answered { C.meaning.answers self.old.now at call.now reply.now }
         requires room { HasRoom C.meaning self.old.now }
-        requires clear { IsClear self.old.holds number at (need_of call.now reply.now) }
+        requires need { need ≡ need_of call.now reply.now }
+        requires clear { IsClear self.old.holds number at need }
         ensures made { OnOk result
             (self.new.now ≡ C.meaning.leaves self.old.now at call.now reply.now) }
-        ensures held { OnOk result (IsAdded self.old.holds self.new.holds
-            (hold number at (need_of call.now reply.now))) }
+        ensures held { OnOk result (IsAdded self.old.holds self.new.holds (hold number at need)) }
         ensures same { OnErr result (self.new ≡ self.old) }
         ensures refusal { IsOkUnless result Refusal.NoMemory }
     {
         self.needs.reserve(at)?;
         self.collections.run(at, call, reply)?;
-        let held = call.need(reply);
-        self.needs.grant(number, at, held);
+        self.needs.grant(number, at, need);
         Ok(())
     }
 
@@ -166,7 +215,23 @@ impl<C: Boosted<At = u8>> Shelf<C> {
         ensures count { result ≡ length (laters_of (map stamped_entry entries.now)) }
         ensures holds { IsGivenUp self.old.holds self.new.holds number }
     {
-        let ran = run_laters(&mut self.collections, entries);
+        let ran = run_laters(&mut self.collections, entries, None);
+        self.give_up(number);
+        ran
+    }
+
+    /// The same of those entries alone whose collection's number leaves `quarter` on division by 4.
+    pub fn settle_quarter(&mut self, number: u64, entries: &[Stamped], quarter: u8) -> u64
+        requires { CanRun C.meaning (on_quarter quarter (laters_of (map stamped_entry entries.now)))
+            self.old.now }
+        ensures runs { Leads (Does C.meaning)
+            (on_quarter quarter (laters_of (map stamped_entry entries.now))) self.old.now
+            self.new.now }
+        ensures count { result ≡
+            length (on_quarter quarter (laters_of (map stamped_entry entries.now))) }
+        ensures holds { IsGivenUp self.old.holds self.new.holds number }
+    {
+        let ran = run_laters(&mut self.collections, entries, Some(quarter));
         self.give_up(number);
         ran
     }
@@ -178,5 +243,17 @@ impl<C: Boosted<At = u8>> Shelf<C> {
         ensures now { self.new.now ≡ self.old.now }
     {
         self.needs.give_up(number);
+    }
+
+    // Whether a client can ask for the call, in a store of the format.
+    fn check(&self, format: Format, at: u8, call: &Call) -> Result<(), Refusal>
+        ensures ok { OnOk result (CanAsk C.meaning format self.now.now at call.now) }
+        ensures err { IfErr result (AskRefused C.meaning format self.now.now at call.now) }
+    {
+        self.collections.askable(at, call)?;
+        if !call.is_short(format) {
+            return Err(Refusal::TooLong);
+        }
+        Ok(())
     }
 }

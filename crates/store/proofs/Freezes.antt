@@ -24,6 +24,7 @@ use Rattle.images.specs.declared.gather.Marks.{Marks}
 use Rattle.images.specs.Gathers.{GatherState, FrozenState, Packs}
 use Rattle.gathering.specs.Gatherings.{HoldsAll, IsUnderWay}
 use Rattle.gathering.proofs.Going.{holds_image}
+use Rattle.machine.specs.Machine as machine
 use Rattle.machine.specs.Machine.{journalled}
 use Rattle.machine.specs.Sound.{IsSound}
 use Rattle.repetition.specs.Journals.{records_in}
@@ -35,7 +36,10 @@ use Rattle.txn.specs.Handing.{HasHanded}
 use Rattle.txn.specs.Histories.{records_by, committed_by}
 use Rattle.txn.proofs.Handings.{records_by-push, gathers_on, frozen_not, freezes_gathered}
 use Rattle.txn.proofs.Handings.{freezes_nothing}
+use Rattle.boosted.specs.Meaning.{Meaning}
+use Rattle.catalog.specs.Making.{Making}
 use Rattle.catalog.specs.Meaning.{catalog_meaning, catalog_making}
+use Rattle.records.specs.Told.{Tells}
 use Rattle.checkpoint.specs.Crash.{Yields, YieldsUpTo, committed_of}
 use Rattle.checkpoint.specs.ImageAnswers.{HoldAnswers}
 use Rattle.checkpoint.specs.Keepers.{KeeperState}
@@ -45,7 +49,7 @@ use Rattle.checkpoint.proofs.ReceivedLemmas.{mark_few}
 use Rattle.world.proofs.FreezeLemmas as freezes
 use Rattle.world.proofs.GatherLemmas.{held_same, repeats_none}
 use Rattle.world.proofs.KeeperSteps.{none_crossed}
-use Rattle.world.proofs.Readings.{history_yields}
+use Rattle.world.proofs.Readings.{comes_to, history_yields}
 use Rattle.group_commit.specs.Accords.{AccordState}
 use Rattle.group_commit.specs.Lines as lines
 use Rattle.group_commit.specs.Lines.{stepped}
@@ -56,6 +60,8 @@ use Rattle.group_commit.specs.Orders.{SenderState, ReceiverState, AreInTransit, 
 use Rattle.clients.specs.declared.naming.Naming.{Ghosts}
 use Rattle.clients.specs.Desks.{AreRecorded, IsDesk, PacksImages, frozen_end, frozen_ends}
 use Rattle.clients.specs.Notes.{alone}
+use Rattle.clients.specs.Told.{told_book}
+use Rattle.clients.proofs.Telling.{kept_told}
 use Rattle.clients.proofs.DeskSteps.{owned_then}
 use Rattle.store.specs.Closing.{Closes}
 use Rattle.store.specs.Gatherers.{Froze}
@@ -141,6 +147,20 @@ module _ {J : Type 0} (j : Ghosts J) where
         owned = owned_then seat.all step is.owned refl;
         recorded = λ s. rw (all, ap (λ (v : Book). v.state) same) (is.recorded s);
       })
+
+  -- What holds of every book holds of it as its named collections tell of it.
+  pub desk_kept : {S : Type 0} {meaning : Meaning S ℕ} {making : Making S}
+      {collections : S → List Collection} (told : Tells meaning making collections)
+      (sound : machine.State S → Type 0) (b : BookState S) (seat : lines.BookState)
+      (sender : SenderState) (near : AccordState) →
+      IsDesk j (told_book collections b) seat sender near →
+      IsKept meaning making (λ f s. AreShort f (collections s)) sound b →
+      IsKept catalog_meaning catalog_making AreShort (IsSound catalog_meaning catalog_making)
+      (told_book collections b)
+  desk_kept {collections = collections} told sound b seat sender near is kept =
+      kept_told told sound b kept
+      (comes_to j.format j.start j.wear seat.all (standing (told_book collections b))
+      is.handed.legal).is_sound
 
 -- ---- both locks
 

@@ -29,7 +29,7 @@ in_world b g none of = record { gathered = of; over = λ some. absurd (some none
 -- What is known of the book's is of the book.
 pub known_of_book : (b : Book) (side : AccordState) (g : GatherState) → Of b side.gather →
     IsKnown side g → g.frozen ≡ None → Of b g
-known_of_book b side g of (inl new) none = subst (Of b) (sym new) (gathered_none b)
+known_of_book b side g of (inl new) none = subst (Of b) (sym new) (gathered_none (λ v. v) b)
 known_of_book b side g of (inr repeats) none =
     (of_repeated b side.gather g repeats
     (in_world b side.gather (sym repeats.frozen ∙ none) of)).gathered

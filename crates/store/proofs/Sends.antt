@@ -3,12 +3,33 @@ use denote.RattleType.{RattleType}
 use denote.Param.Send.{IsSend, IsSync, sendable, recorded_sync, struct_sync}
 use denote.Ref.{NamedLft}
 use denote.Struct.Declared.{shape}
+use denote.Struct.Field.{u8-field}
 use Rattle.std.proofs.Crossing.{crosses}
 use Rattle.std.specs.contracts.sync.Mutex as mutex
 use Rattle.disk_model.specs.declared.disk.Disk as disks
 use Rattle.blocks.specs.contracts.pending.Pending.{the_row}
-use Rattle.catalog.proofs.catalog.Catalog.TheSendSync as catalogs
-use Rattle.machine.proofs.machine.Machine.TheSendSync as machines
+use Rattle.boosted.specs.declared.Boosted as boosted
+use Rattle.catalog.specs.declared.parts.Parts as collections
+use Rattle.catalog.specs.declared.part.Part as part
+use Rattle.catalog.specs.declared.names.Named as named
+use Rattle.catalog.specs.declared.shelf.Shelved as shelved
+use Rattle.catalog.specs.contracts.catalog.Catalog as catalog
+use Rattle.catalog.specs.contracts.catalog.CatalogParts.TheImpl as catalog_parts
+use Rattle.catalog.specs.contracts.catalog.CatalogBoosted.TheImpl as catalog_boosted
+use Rattle.catalog.specs.contracts.part.NamedHolding as holding
+use Rattle.catalog.specs.contracts.part.NamedHoldingPart.TheImpl as holding_part
+use Rattle.catalog.specs.contracts.names.Names as names
+use Rattle.catalog.specs.contracts.names.NamesNamed.TheImpl as names_named
+use Rattle.catalog.specs.contracts.shelf.CatalogShelf as quarter
+use Rattle.catalog.specs.contracts.shelf.CatalogShelfShelved.TheImpl as quarter_shelved
+use Rattle.catalog.specs.contracts.shelf.CatalogShelfBoosted.TheImpl as quarter_boosted
+use Rattle.catalog.proofs.part.NamedHolding.TheSendSync as holdings
+use Rattle.catalog.proofs.names.Names.TheSendSync as label_lists
+use Rattle.catalog.proofs.shelf.CatalogShelf.TheSendSync as quarters
+use Rattle.catalog.proofs.four.Four.TheSendSync as fours
+use Rattle.abstract_locks.proofs.table.NeedTable.TheSendSync as tables
+use Rattle.shelf.proofs.Shelf.TheSendSync as shelves
+use Rattle.machine.proofs.accounts.Accounts.TheSendSync as accounts
 use Rattle.gathering.proofs.gathering.Gathering.TheSendSync as gatherings
 use Rattle.checkpoint.proofs.keeper.Keeper.TheSendSync as keepers
 use Rattle.group_commit.proofs.accord.Accord.TheSendSync as accords
@@ -44,8 +65,10 @@ pub ruleset parts = (
   sendable,
   crosses,
   pending_sends,
-  catalogs.the_send,
-  machines.the_send,
+  tables.the_send,
+  shelves.the_send,
+  fours.the_send,
+  accounts.the_send,
   gatherings.the_send,
   keepers.the_send,
   accords.the_sync,
@@ -66,29 +89,56 @@ pub ruleset parts = (
   signals.the_sync,
 )
 
--- What clients share of a store may be shared, and a client may be sent.
-module _ (J : RattleType) (n : namings.Ghosts J.Denot) (J_send : IsSend J) (J_sync : IsSync J) where
-  pub desk_sync : IsSync (desk_lock.the_field J n).row
-  desk_sync = struct_sync (shape (desk_lock.the_type J n)) (search parts depth 80 fits 100000)
+-- What clients share of a store may be shared, and a client may be sent, where the names and the
+-- shelves may be sent. B: the collections, P: a copy of one of them, N: their names, T: a quarter of
+-- them.
+module _ (J : RattleType) (n : namings.Ghosts J.Denot) (J_send : IsSend J) (J_sync : IsSync J)
+    (B P N T : RattleType) (b : collections.Ghosts B.Denot P.Denot N.Denot T.Denot)
+    (c : boosted.Ghosts B.Denot u8-field.Value) (p : part.Ghosts P.Denot)
+    (m : named.Ghosts N.Denot) (s : shelved.Ghosts T.Denot P.Denot)
+    (t : boosted.Ghosts T.Denot u8-field.Value) (N_send : IsSend N) (T_send : IsSend T) where
+  pub desk_sync : IsSync (desk_lock.the_field J B P N T n b c p m s t).row
+  desk_sync = struct_sync (shape (desk_lock.the_type J B P N T n b c p m s t))
+      (search parts depth 80 fits 100000)
 
   pub shared_sync : IsSync (shared.the_field J n).row
   shared_sync = struct_sync (shape (shared.the_type J n)) (search parts depth 80 fits 100000)
 
-  pub client_send : (ν : NamedLft) → IsSend (client.the_row ν J n)
+  pub client_send : (ν : NamedLft) → IsSend (client.the_row ν J B P N T n b c p m s t)
   client_send ν = search (parts, desk_sync, shared_sync) depth 80 fits 100000
 
--- A store may be shared where its disk may be sent.
+-- A store may be shared where its disk, and what is gathered of it, may be sent too.
 module _ (D J : RattleType) (n : namings.Ghosts J.Denot) (d : disks.Ghosts D.Denot)
-    (D_send : IsSend D) (J_send : IsSend J) (J_sync : IsSync J) where
+    (D_send : IsSend D) (J_send : IsSend J) (J_sync : IsSync J)
+    (B P N T : RattleType) (b : collections.Ghosts B.Denot P.Denot N.Denot T.Denot)
+    (c : boosted.Ghosts B.Denot u8-field.Value) (p : part.Ghosts P.Denot)
+    (m : named.Ghosts N.Denot) (s : shelved.Ghosts T.Denot P.Denot)
+    (t : boosted.Ghosts T.Denot u8-field.Value) (P_send : IsSend P) (N_send : IsSend N)
+    (T_send : IsSend T) where
   vault_sync : IsSync (mutex.the_row (vault.the_row D J d n))
   vault_sync = search (parts, vaults.the_send) depth 80 fits 100000
 
-  gatherer_sync : IsSync (mutex.the_row (gatherer.the_row J n))
+  gatherer_sync : IsSync (mutex.the_row (gatherer.the_row J B P N T n b c p m s t))
   gatherer_sync = search (parts, gatherers.the_send) depth 80 fits 100000
 
-  pub store_sync : IsSync (store.the_row D J n d)
-  store_sync = recorded_sync (store.the_field D J n d).row _ _ (store.the_type D J n d).to_one
-      (struct_sync (shape (store.the_type D J n d)) (
-        desk_sync J n J_send J_sync,
-        (vault_sync, (gatherer_sync, (shared_sync J n J_send J_sync, tt))),
+  pub any_store_sync : IsSync (store.the_row D J B P N T n d b c p m s t)
+  any_store_sync = recorded_sync (store.the_field D J B P N T n d b c p m s t).row _ _
+      (store.the_type D J B P N T n d b c p m s t).to_one
+      (struct_sync (shape (store.the_type D J B P N T n d b c p m s t)) (
+        desk_sync J n J_send J_sync B P N T b c p m s t N_send T_send,
+        (
+          vault_sync,
+          (gatherer_sync, (shared_sync J n J_send J_sync B P N T b c p m s t N_send T_send, tt)),
+        ),
       ))
+
+-- So may one of a catalog.
+module _ (D J : RattleType) (n : namings.Ghosts J.Denot) (d : disks.Ghosts D.Denot)
+    (D_send : IsSend D) (J_send : IsSend J) (J_sync : IsSync J) where
+  pub store_sync : IsSync (store.the_row D J catalog.the_row holding.the_row names.the_row
+      quarter.the_row n d catalog_parts.ghosts catalog_boosted.ghosts holding_part.ghosts
+      names_named.ghosts quarter_shelved.ghosts quarter_boosted.ghosts)
+  store_sync = any_store_sync D J n d D_send J_send J_sync catalog.the_row holding.the_row
+      names.the_row quarter.the_row catalog_parts.ghosts catalog_boosted.ghosts
+      holding_part.ghosts names_named.ghosts quarter_shelved.ghosts quarter_boosted.ghosts
+      holdings.the_send label_lists.the_send quarters.the_send

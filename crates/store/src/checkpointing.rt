@@ -5,9 +5,11 @@ ghost use Rattle.store.specs.Turns.{CheckTells, IsCheckRefusal};
 use crate::gatherer::Gatherer;
 use crate::vault::{Vault, note_failure};
 use calls::Refusal;
+use catalog::Catalog;
 use clients::{DeskLock, Naming, Shared};
 use disk_model::Disk;
 use group_commit::Watcher;
+use records::Coded;
 use std::marker::Model;
 use std::sync::{Mutex, Wait};
 
@@ -31,15 +33,15 @@ pub enum Checkpoint {
 /// it the store, with no journal behind it. A store has one checkpoint under way, with which each
 /// checkpointer goes on. Contracts see what it has loaded of the mark.
 #[derive(Drop)]
-pub struct Checkpointer<'s, D: Disk, J: Naming> {
-    desk: &'s DeskLock<J>,
+pub struct Checkpointer<'s, D: Disk, J: Naming, B: Coded = Catalog> {
+    desk: &'s DeskLock<J, B>,
     vault: &'s Mutex<Vault<D, J>>,
-    gatherer: &'s Mutex<Gatherer<J>>,
+    gatherer: &'s Mutex<Gatherer<J, B>>,
     shared: &'s Shared<J>,
     watcher: Watcher,
 }
 
-impl<'s, D: Disk, J: Naming> Model for Checkpointer<'s, D, J> {
+impl<'s, D: Disk, J: Naming, B: Coded> Model for Checkpointer<'s, D, J, B> {
     ghost use Rattle.std.specs.Prelude.{◌≡◌};
     ghost use Rattle.group_commit.specs.Marks.{WatcherState};
 
@@ -50,11 +52,11 @@ impl<'s, D: Disk, J: Naming> Model for Checkpointer<'s, D, J> {
     ghost invariant = { λ c. c.watcher.table ≡ J.mark };
 }
 
-impl<'s, D: Disk, J: Naming> Checkpointer<'s, D, J> {
+impl<'s, D: Disk, J: Naming, B: Coded> Checkpointer<'s, D, J, B> {
     pub(crate) fn new(
-        desk: &'s DeskLock<J>,
+        desk: &'s DeskLock<J, B>,
         vault: &'s Mutex<Vault<D, J>>,
-        gatherer: &'s Mutex<Gatherer<J>>,
+        gatherer: &'s Mutex<Gatherer<J, B>>,
         shared: &'s Shared<J>,
         watcher: Watcher,
     ) -> Self
@@ -77,10 +79,10 @@ impl<'s, D: Disk, J: Naming> Checkpointer<'s, D, J> {
     /// Else it goes on towards an image. It lets those who wait for the book's lock have it, and
     /// copies the next collection under it, in the time and memory that one copy takes. So a client
     /// waits for one copy as a rule, and not for several in a row. What was run behind the copies
-    /// is repeated under no lock that clients take. Where all are copied it freezes the book
-    /// under both locks, in the time of what the live transactions asked for, with no device
-    /// called. Then it packs the image under no lock, and begins it under the keeper's. Take turns
-    /// until `Flipped`.
+    /// is repeated under no lock that clients take. Where all are copied it freezes the book under
+    /// both locks, in the time of what the live transactions asked for, with no device called. Then
+    /// it packs the image under no lock, and begins it under the keeper's. Take turns until
+    /// `Flipped`.
     ///
     /// Towards an image it is refused: Outrun where more calls were run between two copies than are
     /// noted; NoMemory; Worn where 2^61 gatherings were begun; Full where the image does not fit

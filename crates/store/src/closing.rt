@@ -3,25 +3,26 @@ ghost use Rattle.std.specs.Prelude.{◌≡◌};
 ghost use mathlib.Core.List.{IsPrefix};
 ghost use Rattle.group_commit.specs.Marks.{AreNoted};
 ghost use Rattle.clients.specs.Known.{seen_of, counts_of};
+ghost use Rattle.clients.specs.Told.{told_book};
 ghost use Rattle.store.specs.Closing.{Closes};
 
 use crate::vault::Vault;
-use catalog::Catalog;
 use checkpoint::Keeper;
 use clients::{Desk, Naming, Seen, Shared};
 use disk_model::Disk;
 use group_commit::{BookSeat, KeeperSeat};
+use records::Coded;
 use txn::Book;
 
 /// The book and the keeper of a store that nobody shares any more.
-pub(crate) fn close<D: Disk, J: Naming>(
+pub(crate) fn close<D: Disk, J: Naming, B: Coded>(
     shared: &Shared<J>,
-    desk: Desk<J>,
+    desk: Desk<J, B>,
     vault: Vault<D, J>,
     last: Option<Seen<J>>,
-) -> (Book<Catalog>, Keeper<D>)
-    ensures { Closes ⟦<J as Naming>⟧ ⟦<D as Disk>⟧ (seen_of last) (counts_of last) result.0
-        result.1 }
+) -> (Book<B>, Keeper<D>)
+    ensures { Closes ⟦<J as Naming>⟧ ⟦<D as Disk>⟧ (seen_of last) (counts_of last)
+        (told_book B.collections result.0) result.1 }
 {
     let (book, mut seat, mut sender) = desk.into_parts();
     let Vault {

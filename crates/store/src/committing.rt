@@ -5,24 +5,26 @@ ghost use Rattle.store.specs.Turns.{TurnTells, IsTurnRefusal};
 
 use crate::vault::Vault;
 use calls::Refusal;
+use catalog::Catalog;
 use checkpoint::Turn;
 use clients::{DeskLock, Naming, Shared};
 use disk_model::Disk;
 use group_commit::Watcher;
+use records::Coded;
 use std::marker::Model;
 use std::sync::{Mutex, Wait};
 
 /// Brings what a store's clients did to its disk, block by block. One thread has it at a time, and
 /// takes its turns in a loop. Contracts see what it has loaded of the mark.
 #[derive(Drop)]
-pub struct Committer<'s, D: Disk, J: Naming> {
-    desk: &'s DeskLock<J>,
+pub struct Committer<'s, D: Disk, J: Naming, B: Coded = Catalog> {
+    desk: &'s DeskLock<J, B>,
     vault: &'s Mutex<Vault<D, J>>,
     shared: &'s Shared<J>,
     watcher: Watcher,
 }
 
-impl<'s, D: Disk, J: Naming> Model for Committer<'s, D, J> {
+impl<'s, D: Disk, J: Naming, B: Coded> Model for Committer<'s, D, J, B> {
     ghost use Rattle.std.specs.Prelude.{◌≡◌};
     ghost use Rattle.group_commit.specs.Marks.{WatcherState};
 
@@ -33,9 +35,9 @@ impl<'s, D: Disk, J: Naming> Model for Committer<'s, D, J> {
     ghost invariant = { λ c. c.watcher.table ≡ J.mark };
 }
 
-impl<'s, D: Disk, J: Naming> Committer<'s, D, J> {
+impl<'s, D: Disk, J: Naming, B: Coded> Committer<'s, D, J, B> {
     pub(crate) fn new(
-        desk: &'s DeskLock<J>,
+        desk: &'s DeskLock<J, B>,
         vault: &'s Mutex<Vault<D, J>>,
         shared: &'s Shared<J>,
         watcher: Watcher,

@@ -2,6 +2,7 @@
 use crate::store::Store;
 use clients::{Client, Naming, Seen};
 use disk_model::Disk;
+use records::Coded;
 
 fn sent<T: Send>(x: T) -> T {
     x
@@ -10,12 +11,21 @@ fn sent<T: Send>(x: T) -> T {
 fn shared<T: Sync>(_x: &T) {}
 
 // A store.
-fn shares_store<D: Disk + Send, J: Naming + Send + Sync>(store: &Store<D, J>) {
+fn shares_store<D: Disk + Send, J: Naming + Send + Sync, B: Coded>(store: &Store<D, J, B>)
+where
+    B::Part: Send,
+    B::Names: Send,
+    B::Shelf: Send,
+{
     shared(store);
 }
 
 // What a client's thread has.
-fn sends_client<'s, J: Naming + Send + Sync>(client: Client<'s, J>) -> Client<'s, J> {
+fn sends_client<'s, J: Naming + Send + Sync, B: Coded>(client: Client<'s, J, B>) -> Client<'s, J, B>
+where
+    B::Names: Send,
+    B::Shelf: Send,
+{
     sent(client)
 }
 

@@ -6,6 +6,7 @@ ghost use Rattle.images.specs.Gathers.{Packs};
 ghost use Rattle.txn.specs.Freezing.{IsGatheredOf};
 ghost use Rattle.group_commit.specs.Accords.{nothing_gathered};
 ghost use Rattle.group_commit.specs.Orders.{noting, noting_too};
+ghost use Rattle.clients.specs.Told.{told_book};
 ghost use Rattle.store.specs.Gatherers.{IsKnown, Froze};
 ghost use Rattle.store.specs.Turns.{IsPrepared, IsCheckRefusal, IsFreezeRefusal};
 
@@ -13,12 +14,13 @@ use crate::checkpointing::Checkpoint;
 use crate::vault::Vault;
 use blocks::Image;
 use calls::Refusal;
-use catalog::{Catalog, NamedHolding};
+use catalog::Part;
 use checkpoint::Keeper;
 use clients::{Desk, DeskLock, Naming, Room, Shared, note_alone};
 use disk_model::Disk;
 use group_commit::{Accord, Far, Handoff, Near, OneGather, Receiver, Sender};
 use images::Gather;
+use records::Coded;
 use std::alloc::Global;
 use std::marker::{Brand, Model, PhantomData};
 use std::mem;
@@ -30,9 +32,9 @@ use txn::Book;
 /// it. It belongs to the store, so whichever checkpointer takes the next turn goes on with it.
 /// Contracts see all three.
 #[derive(Drop)]
-pub(crate) struct Gatherer<J: Naming> {
+pub(crate) struct Gatherer<J: Naming, B: Coded> {
     alloc: Global,
-    gather: Gather<NamedHolding>,
+    gather: Gather<B::Part>,
     // Whether the last gather left no collection to copy.
     is_whole: bool,
     // How many records the undoing takes of what was live at the freeze.
@@ -42,7 +44,7 @@ pub(crate) struct Gatherer<J: Naming> {
     of: PhantomData<J>,
 }
 
-impl<J: Naming> Model for Gatherer<J> {
+impl<J: Naming, B: Coded> Model for Gatherer<J, B> {
     ghost use Rattle.std.specs.Coded.{codes};
     ghost use Rattle.catalog.specs.Holdings.{collection_code};
     ghost use Rattle.store.specs.Gatherers.{GathererState, IsGatherer};
@@ -64,7 +66,7 @@ impl<J: Naming> Model for Gatherer<J> {
     }) };
 }
 
-impl<J: Naming> Gatherer<J> {
+impl<J: Naming, B: Coded> Gatherer<J, B> {
     /// Nothing is gathered. It takes no memory.
     pub(crate) fn new(alloc: Global, of_book: Far, of_keeper: Far) -> Self
         requires book { of_book ≡ record { table = J.gathering; gather = nothing_gathered } }
@@ -95,7 +97,7 @@ impl<J: Naming> Gatherer<J> {
         &mut self,
         rt: &R,
         shared: &Shared<J>,
-        desk: &DeskLock<J>,
+        desk: &DeskLock<J, B>,
         vault: &Mutex<Vault<D, J>>,
         leaves_room: bool,
     ) -> Result<Checkpoint, Refusal>
@@ -121,7 +123,7 @@ impl<J: Naming> Gatherer<J> {
         &mut self,
         rt: &R,
         shared: &Shared<J>,
-        desk: &DeskLock<J>,
+        desk: &DeskLock<J, B>,
     ) -> Result<Checkpoint, Refusal>
         requires { self.old.gather.frozen ≡ None }
         ensures prepared { IfOk result IsPrepared }
@@ -152,7 +154,7 @@ impl<J: Naming> Gatherer<J> {
         &mut self,
         rt: &R,
         shared: &Shared<J>,
-        desk: &DeskLock<J>,
+        desk: &DeskLock<J, B>,
         vault: &Mutex<Vault<D, J>>,
     ) -> Result<Checkpoint, Refusal>
         requires { self.old.gather.frozen ≡ None }
@@ -224,10 +226,10 @@ fn goes_on(refusal: Refusal) -> bool
 
 // Copies the next collection of the book, a step of no client: the refusals of `Book::gather`. The
 // book's side knows what is gathered then.
-fn copy_next<J: Naming>(
+fn copy_next<J: Naming, B: Coded>(
     shared: &Shared<J>,
-    desk: &mut Desk<J>,
-    gather: &mut Gather<NamedHolding>,
+    desk: &mut Desk<J, B>,
+    gather: &mut Gather<B::Part>,
     far: &mut Far,
 ) -> Result<bool, Refusal>
     requires table { far.old.table ≡ J.gathering }
@@ -239,7 +241,7 @@ fn copy_next<J: Naming>(
 {
     shared.gathering.compare(&mut desk.near, far);
     let copied = desk.book.gather(gather);
-    agree::<Brand>(
+    agree::<Brand, _>(
         &shared.gathering,
         &mut desk.near,
         far,
@@ -253,11 +255,11 @@ fn copy_next<J: Naming>(
 // `Book::freeze`, then those of `Keeper::hold`. No block behind the freeze is kept before the end
 // is held, as both locks are. Both ends of the hand-off note what is frozen, and the keeper's side
 // knows it. No device is called.
-fn freeze<D: Disk, J: Naming>(
+fn freeze<D: Disk, J: Naming, B: Coded>(
     shared: &Shared<J>,
-    desk: &mut Desk<J>,
+    desk: &mut Desk<J, B>,
     vault: &mut Vault<D, J>,
-    gather: &mut Gather<NamedHolding>,
+    gather: &mut Gather<B::Part>,
     of_book: &mut Far,
     of_keeper: &mut Far,
 ) -> Result<(), Refusal>
@@ -281,25 +283,26 @@ fn freeze<D: Disk, J: Naming>(
     note_alone::<Brand, _>(&shared.line, &mut desk.seat, &frozen);
     frozen?;
     let shown = Snapshot::of(gather);
-    note_frozen::<Brand>(
+    note_frozen::<Brand, _>(
         &shared.handoff,
         &mut desk.sender,
         &mut vault.receiver,
         &shown,
     );
-    agree::<Brand>(&shared.awaited, &mut vault.near, of_keeper, &shown);
+    agree::<Brand, _>(&shared.awaited, &mut vault.near, of_keeper, &shown);
     Ok(())
 }
 
 // Freezes the book, and asks the keeper to hold the end of its image.
-fn freeze_book<D: Disk>(
-    book: &mut Book<Catalog>,
+fn freeze_book<D: Disk, B: Coded>(
+    book: &mut Book<B>,
     keeper: &mut Keeper<D>,
-    gather: &mut Gather<NamedHolding>,
+    gather: &mut Gather<B::Part>,
 ) -> Result<(), Refusal>
-    requires { IsGatheredOf (λ v. v) book.old gather.old }
-    ensures { (frozen : Result (Unit {0}) Refusal) × Froze ⟦<D as Disk>⟧ book.old keeper.old
-        gather.old frozen result book.new keeper.new gather.new }
+    requires { IsGatheredOf B.collections book.old gather.old }
+    ensures { (frozen : Result (Unit {0}) Refusal) × Froze ⟦<D as Disk>⟧
+        (told_book B.collections book.old) keeper.old gather.old frozen result
+        (told_book B.collections book.new) keeper.new gather.new }
 {
     book.freeze(gather)?;
     let Some(marks) = gather.marks() else {
@@ -366,7 +369,7 @@ fn begin<D: Disk, J: Naming>(
 }
 
 // Gives up what is gathered where that is outrun, or frozen and its end not held.
-fn give_up(alloc: Global, refusal: Refusal, gather: &mut Gather<NamedHolding>)
+fn give_up<P: Part>(alloc: Global, refusal: Refusal, gather: &mut Gather<P>)
     ensures unfrozen { gather.new.frozen ≡ None }
     ensures same { (gather.new ≡ gather.old) ⊎ (gather.new ≡ nothing_gathered) }
 {
@@ -376,11 +379,11 @@ fn give_up(alloc: Global, refusal: Refusal, gather: &mut Gather<NamedHolding>)
 }
 
 // Both ends know what W names. It is there for who picks W.
-fn agree<W: OneGather>(
+fn agree<W: OneGather, P: Part>(
     accord: &Accord,
     near: &mut Near,
     far: &mut Far,
-    gather: &Snapshot<Gather<NamedHolding>>,
+    gather: &Snapshot<Gather<P>>,
 )
     requires near { near.old.table ≡ accord.now }
     requires far { far.old.table ≡ accord.now }
@@ -392,11 +395,11 @@ fn agree<W: OneGather>(
 }
 
 // Both ends note what W names as frozen. It is there for who picks W.
-fn note_frozen<W: OneGather>(
+fn note_frozen<W: OneGather, P: Part>(
     handoff: &Handoff,
     sender: &mut Sender,
     receiver: &mut Receiver,
-    gather: &Snapshot<Gather<NamedHolding>>,
+    gather: &Snapshot<Gather<P>>,
 )
     requires sender { sender.old.table ≡ handoff.now }
     requires receiver { receiver.old.table ≡ handoff.now }

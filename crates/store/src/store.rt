@@ -5,6 +5,7 @@ ghost use Rattle.group_commit.specs.Lines.{IsLonger};
 ghost use Rattle.group_commit.specs.Marks.{new_watcher};
 ghost use Rattle.clients.specs.Known.{newcomer};
 ghost use Rattle.clients.specs.Known.{seen_of, counts_of};
+ghost use Rattle.clients.specs.Told.{told_book};
 ghost use Rattle.store.specs.Closing.{Closes};
 
 use crate::checkpointing::Checkpointer;
@@ -17,6 +18,7 @@ use catalog::Catalog;
 use checkpoint::Keeper;
 use clients::{Client, Desk, DeskLock, Naming, Seen, Shared, Signal};
 use disk_model::Disk;
+use records::Coded;
 use std::sync::{Mutex, Wait};
 use txn::Book;
 
@@ -24,15 +26,15 @@ use txn::Book;
 /// lies under one lock, the keeper of the disk under another, and what is gathered for an image
 /// under a third, which checkpointers alone take. No device is called under the book's lock, so a
 /// client waits for the disk only in `Client::wait`, and where many records wait for it already.
-pub struct Store<D: Disk, J: Naming> {
-    desk: DeskLock<J>,
+pub struct Store<D: Disk, J: Naming, B: Coded = Catalog> {
+    desk: DeskLock<J, B>,
     vault: Mutex<Vault<D, J>>,
-    gatherer: Mutex<Gatherer<J>>,
+    gatherer: Mutex<Gatherer<J, B>>,
     shared: Shared<J>,
 }
 
 // Written out, so that the crates above call it in place of proving it again.
-impl<D: Disk + Drop, J: Naming> Drop for Store<D, J> {
+impl<D: Disk + Drop, J: Naming, B: Coded> Drop for Store<D, J, B> {
     fn drop(self) {
         let Self {
             desk,
@@ -47,11 +49,11 @@ impl<D: Disk + Drop, J: Naming> Drop for Store<D, J> {
     }
 }
 
-impl<D: Disk, J: Naming> Store<D, J> {
+impl<D: Disk, J: Naming, B: Coded> Store<D, J, B> {
     pub(crate) fn new(
-        desk: Desk<J>,
+        desk: Desk<J, B>,
         vault: Vault<D, J>,
-        gatherer: Gatherer<J>,
+        gatherer: Gatherer<J, B>,
         shared: Shared<J>,
     ) -> Self {
         Self {
@@ -71,7 +73,7 @@ impl<D: Disk, J: Naming> Store<D, J> {
     /// ```text
     /// let mut client = store.client(rt)?;
     /// ```
-    pub fn client<R: Wait>(&self, rt: &R) -> Result<Client<'_, J>, Refusal>
+    pub fn client<R: Wait>(&self, rt: &R) -> Result<Client<'_, J, B>, Refusal>
         ensures client { IfOk result (λ c. c ≡ newcomer c.number) }
         ensures worn { IsOkUnless result Refusal.Worn }
     {
@@ -81,7 +83,7 @@ impl<D: Disk, J: Naming> Store<D, J> {
 
     /// A committer, whose turns bring what clients did to the disk. A store may have several. It
     /// takes the book's lock once, and no memory, and is never refused.
-    pub fn committer<R: Wait>(&self, rt: &R) -> Committer<'_, D, J>
+    pub fn committer<R: Wait>(&self, rt: &R) -> Committer<'_, D, J, B>
         ensures { result ≡ new_watcher J.mark }
     {
         let watcher = self.desk.lock(rt).watcher(&self.shared);
@@ -90,7 +92,7 @@ impl<D: Disk, J: Naming> Store<D, J> {
 
     /// A checkpointer, whose turns write an image of the store and make it the store. It takes the
     /// book's lock once, and no memory, and is never refused.
-    pub fn checkpointer<R: Wait>(&self, rt: &R) -> Checkpointer<'_, D, J>
+    pub fn checkpointer<R: Wait>(&self, rt: &R) -> Checkpointer<'_, D, J, B>
         ensures { result ≡ new_watcher J.mark }
     {
         let watcher = self.desk.lock(rt).watcher(&self.shared);
@@ -139,9 +141,9 @@ impl<D: Disk, J: Naming> Store<D, J> {
     /// the last client had seen. Whatever a stop leaves of the disk is sound, and stands for a
     /// content that a beginning of its committed transactions gives. That beginning holds all that
     /// was told to be kept.
-    pub fn close(self, last: Option<Seen<J>>) -> (Book<Catalog>, Keeper<D>)
-        ensures { Closes ⟦<J as Naming>⟧ ⟦<D as Disk>⟧ (seen_of last) (counts_of last) result.0
-            result.1 }
+    pub fn close(self, last: Option<Seen<J>>) -> (Book<B>, Keeper<D>)
+        ensures { Closes ⟦<J as Naming>⟧ ⟦<D as Disk>⟧ (seen_of last) (counts_of last)
+            (told_book B.collections result.0) result.1 }
     {
         let Store {
             desk,

@@ -22,10 +22,6 @@ use Rattle.txn.specs.Rows.{record_of, later_record}
 use Rattle.txn.specs.Books.{BookState, opened, next_behind, Appends, Moves, CutAnswers, IsKept}
 use Rattle.machine.specs.Machines.{IsUpheld}
 use Rattle.blocks.specs.declared.block.Block.{Block}
-use Rattle.blocks.specs.Waits.{Waiting, waiting, freezes}
-use Rattle.gathering.specs.Gatherings.{GatheringState}
-use Rattle.txn.specs.Views.{book_of}
-use Rattle.txn.proofs.BookLemmas.{reserved_same}
 use Rattle.machine.specs.Sound.{IsSound}
 use Rattle.machine.proofs.LiveNumbers.{nobody, lives_more, lives_fewer}
 use Rattle.machine.proofs.BookLaws.{BookLaws}
@@ -57,18 +53,6 @@ back_is_record n number = let below = number.below in
 ended_is_record : (n : ℕ) → IsNumber n → IsRecord None (Record.Ended n)
 ended_is_record n number = let below = number.below in
     record { fits = omega arith; suits = tt; sound = number }
-
--- Room that is made, and nothing else, leaves what holds of a book.
-pub reserved_keeps : {S : Type 0} {meaning : Meaning S ℕ} {making : Making S}
-    {short : Format → S → Type 0}
-    {s t : State S} (w w' : Waiting) {places next : ℕ} {m n : GatheringState} → t ≡ s → n ≡ m →
-    waiting w' ≡ waiting w → freezes w' ≡ freezes w → w'.handed ≡ w.handed →
-    IsKept meaning making short (IsSound meaning making) (book_of s w places next m) →
-    IsKept meaning making short (IsSound meaning making) (book_of t w' places next n)
-reserved_keeps {S} {meaning} {making} {short} {s} {t} w w' {places} {next} {m} {n} same noted waits
-    marks handed kept =
-    subst (IsKept meaning making short (IsSound meaning making))
-    (sym (reserved_same s t w w' places next m n same noted waits marks handed)) kept
 
 module _ {S : Type 0} (meaning : Meaning S ℕ) (making : Making S)
     (short : Format → S → Type 0) (laws : BookLaws meaning making short) where

@@ -8,3 +8,11 @@ pub mod Readings
 pub mod Goings
 pub mod Handings
 pub mod UndoCounts
+pub mod JournalLemmas
+pub mod JournalSteps
+pub mod BookParts
+pub mod JournalEnds
+pub mod Making
+pub mod Copying
+pub mod Opened
+pub mod Measuring

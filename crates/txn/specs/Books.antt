@@ -1,13 +1,16 @@
 -- A book: the state that its records lead to, and the records that wait for a block.
 use Rattle.calls.specs.declared.format.Format.{Format}
-use Rattle.std.specs.Prelude.{◌≡◌, ◌⊎◌, ℕ, ◌+◌, ◌*◌, ◌<◌, ◌≤◌, max, Bool, List, [], ◌∷◌, ◌++◌}
-use Rattle.std.specs.Prelude.{length, Contains, None, Result}
+use Rattle.std.specs.Prelude.{◌≡◌, ◌⊎◌, ℕ, ◌+◌, ◌*◌, ◌<◌, ◌≤◌, max, Bool, true, false, cond, List, []}
+use Rattle.std.specs.Prelude.{◌∷◌, ◌++◌, length, map, Contains, None, Result, Ok}
 use Rattle.std.specs.FinMap as maps
 use Rattle.std.specs.List.{AllByRecursion}
 use Rattle.calls.specs.declared.kind.Kind.{Kind}
 use Rattle.calls.specs.declared.refusal.Refusal.{Refusal}
 use Rattle.calls.specs.Contents.{Collection}
 use Rattle.calls.specs.Limits.{max_pending, number_end}
+use Rattle.calls.specs.Reads.{reads}
+use Rattle.calls.specs.Transactions.{Event, own, laters_of}
+use Rattle.undo_log.specs.Entries.{HasNewestCall}
 use Rattle.undo_log.specs.Logs.{Lives}
 use Rattle.boosted.specs.Meaning.{Meaning}
 use Rattle.catalog.specs.Making.{Making}
@@ -20,7 +23,9 @@ use Rattle.blocks.specs.Cuts.{CutsOff}
 use Rattle.blocks.specs.declared.block.Block.{Block}
 use Rattle.images.specs.declared.effect.Effect.{Effect}
 use Rattle.gathering.specs.Gatherings.{GatheringState, none_begun, noted, AreRun, KeepsGoing}
+use Rattle.gathering.specs.Gatherings.{effect_at, IsInverse}
 use Rattle.txn.specs.declared.steps.Action.{Action}
+use Rattle.txn.specs.declared.steps.Target.{Target}
 use Rattle.txn.specs.Rows.{Standing, Answers}
 
 pub record BookState (S : Type 0) : Type 0 where
@@ -102,6 +107,23 @@ NotesRuns meaning making b c =
     (c.gathering ≡ noted b.gathering es))
     ⊎ ((c.gathering ≡ b.gathering) ×
     ((c.state.now ≡ b.state.now) ⊎ MakesOne making b.state.now c.state.now))
+
+-- Which calls an accepted step notes while the book is gathered: a call itself, unless it only
+-- reads; of an undoing the one that takes the newest call back, if that did not only read and one is
+-- needed; what a commit ran, in its order; of all others none.
+abbrev pub Notes : {S : Type 0} → Meaning S ℕ → BookState S → Action → BookState S → Type 0
+Notes meaning b (Action.Call n (Target.Number at) call (Ok reply)) c =
+    c.gathering ≡ cond (reads call reply) b.gathering (noted b.gathering
+    (effect_at (position b + 1) (record { at = at; call = call; reply = reply }) ∷ []))
+Notes meaning b (Action.Commit n (Ok place)) c =
+    c.gathering ≡ noted b.gathering (map (effect_at (position b + 1)) (laters_of
+    (own n b.state.entries)))
+Notes meaning b (Action.Back n (Ok true)) c = (x : Event) × HasNewestCall n b.state.entries x ×
+    (((reads x.call x.reply ≡ true) × (c.gathering ≡ b.gathering)) ⊎
+    ((reads x.call x.reply ≡ false) × ((es : List Effect) × IsInverse x es ×
+    AreRun meaning (position b + 1) es b.state.now c.state.now ×
+    (c.gathering ≡ noted b.gathering es))))
+Notes meaning b action c = c.gathering ≡ b.gathering
 
 -- What the step ran is noted, and what is gathered of the book goes along.
 pub record GoesOn {S : Type 0} (meaning : Meaning S ℕ) (making : Making S)

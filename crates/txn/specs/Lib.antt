@@ -5,3 +5,5 @@ pub mod Histories
 pub mod Handing
 pub mod Views
 pub mod Undoings
+pub mod Shelved
+pub mod Parts

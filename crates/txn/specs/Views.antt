@@ -1,15 +1,16 @@
--- A book as contracts see it, from its parts.
+-- A journal as contracts see it, from its parts.
 use Rattle.std.specs.Prelude.{ℕ}
-use Rattle.machine.specs.Machine.{State}
 use Rattle.blocks.specs.Waits.{Waiting, waiting, freezes}
 use Rattle.gathering.specs.Gatherings.{GatheringState}
-use Rattle.txn.specs.Books.{BookState}
+use Rattle.machine.specs.Wholes.{AccountsState}
+use Rattle.txn.specs.Shelved.{JournalState}
 
--- a book
-abbrev pub book_of : {S : Type 0} → State S → Waiting → (places next : ℕ) → GatheringState →
-    BookState S
-book_of state w places next gathering = record {
-  state = state;
+-- a journal
+abbrev pub journal_of : {N : Type 0} → N → AccountsState → Waiting → (places next : ℕ) →
+    GatheringState → JournalState N
+journal_of names accounts w places next gathering = record {
+  names = names;
+  accounts = accounts;
   pending = waiting w;
   freezes = freezes w;
   end = w.handed.end;

@@ -8,24 +8,35 @@
 //! (`specs/Handing`), and an image that is packed of a frozen book stands for such a beginning
 //! (`images`).
 //!
-//! **Where its argument stands.** `specs/Books` is the state that contracts see. That each step
-//! leaves a book a book is in `proofs/BookInvariant`; that it takes its row in `proofs/Takings`;
-//! what a history comes to in `proofs/BookHistory`, over the theory of `machine`. The needs, the
-//! live lists and what is owed are the `ledger`'s, the spelling of records is that of `blocks`.
+//! A book is four shelves and a journal. A step is a method of the journal that takes one shelf,
+//! and is a step of the book whatever the other shelves are (`specs/Shelved`).
 //!
-//! **To change it.** A new step is a method of `Book`, an `Action` in `steps.rt`, a row in
-//! `specs/Rows` and in `specs/Histories`, and a case in `Takings`, `LiveCalls`, `BookHistory`,
-//! `Readings` and `BookInvariant`; one that stands apart from the table, as a cut does, has one in
-//! `Handings` too. A new refusal of a step is a line of its row. A new kind or mode touches nothing
-//! here.
+//! **Where its argument stands.** `specs/Books` is the state that contracts see. That each step
+//! leaves a book a book is in `proofs/BookInvariant`; that a row on one shelf is a step of the book
+//! in `proofs/JournalSteps`; that it takes its row in `proofs/Takings`; what a history comes to in
+//! `proofs/BookHistory`, over the theory of `machine`. The needs are the `shelf`'s, the live lists
+//! the `ledger`'s, the spelling of records is that of `blocks`.
+//!
+//! **To change it.** A new step is a method of `Journal` and one of `Book`, an `Action` in
+//! `steps.rt`, a row in `specs/Rows` and in `specs/Histories`, and a case in `Takings`,
+//! `LiveCalls`, `BookHistory`, `Readings` and `BookInvariant`; one that stands apart from the
+//! table, as a cut does, has one in `Handings` too. A new refusal of a step is a line of its row. A
+//! new kind or mode touches nothing here.
 #![tactic(auto)]
 
+mod asks;
 mod book;
+mod ends;
+mod gathers;
 mod history;
+mod journal;
+mod makes;
+mod parts;
 mod steps;
 mod undoing;
 
 pub use blocks::{Block, Outbox};
 pub use book::Book;
 pub use history::{images, one_history};
+pub use journal::Journal;
 pub use steps::{Action, BookStep, Target};

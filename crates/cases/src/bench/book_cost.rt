@@ -23,6 +23,7 @@ const BETWEEN_CUTS: u64 = 64;
 /// What is measured of a book.
 #[derive(Clone, Copy)]
 pub struct Cost {
+    workload: Workload,
     content: Content,
     /// How many other transactions are live, each with 1,000 calls on a collection of their own.
     others: u64,
@@ -42,9 +43,10 @@ impl Cost {
         let workload = Workload::named(workload)?;
         let size = size.parse::<u32>().ok()?;
         Some(Cost {
+            workload,
             content: Content {
                 size,
-                ..Content::of(workload)
+                ..workload.content(0)
             },
             others: others.parse::<u64>().ok()?,
             count: count.parse::<u64>().ok()?,
@@ -59,9 +61,9 @@ impl Cost {
         out: &mut impl Write,
     ) -> Result<(), Trouble> {
         let time = self.time(rt)?;
-        let Content { workload, size, .. } = self.content;
-        let calls = self.count.wrapping_mul(u64::from(workload.calls()));
-        let (workload, others) = (workload.name(), self.others);
+        let size = self.content.size;
+        let calls = self.count.wrapping_mul(u64::from(self.workload.calls()));
+        let (workload, others) = (self.workload.name(), self.others);
         write!(out, "{{\"workload\":\"{workload}\",\"others\":{others},")?;
         writeln!(
             out,
@@ -75,7 +77,7 @@ impl Cost {
     fn time<R: Clock + AllocGlobal>(&self, rt: &R) -> Result<Duration, Trouble> {
         let mut bench = BookBench::new(rt.alloc(), self.content)?;
         bench.prepare(self.others)?;
-        bench.time(rt, self.count)
+        bench.time(rt, self.count, self.workload.calls())
     }
 }
 
@@ -100,7 +102,7 @@ impl BookBench {
     // A book with an empty collection of the workload's kind, and a counter for other transactions.
     fn new(alloc: Global, content: Content) -> Result<BookBench, Refusal> {
         let mut book = Book::new(alloc, Format::One, Catalog::new(alloc), 1, 0);
-        book.make(content.collection, content.workload.kind())?;
+        book.make(content.collection, content.kind)?;
         book.make("others", Kind::Counter)?;
         Ok(BookBench {
             alloc,
@@ -128,22 +130,23 @@ impl BookBench {
         Ok(())
     }
 
-    // How long so many transactions of the workload take.
-    fn time<R: Clock>(&mut self, rt: &R, count: u64) -> Result<Duration, Trouble> {
+    // How long so many transactions take, each of so many of the same call.
+    fn time<R: Clock>(&mut self, rt: &R, count: u64, calls: u32) -> Result<Duration, Trouble> {
         let start = Instant::now(rt)?;
-        self.run(count)?;
+        self.run(count, calls)?;
         Ok(start.elapsed(rt)?)
     }
 
-    // Runs so many transactions of the workload. Of the queue every other one puts a job.
-    fn run(&mut self, count: u64) -> Result<(), Refusal> {
+    // Runs so many transactions of so many of the same call. Of the queue every other one puts a
+    // job.
+    fn run(&mut self, count: u64, calls: u32) -> Result<(), Refusal> {
         let mut numbers = Pcg32::new(1, 1);
         let mut put = 0;
         for turn in 0..count {
             let call = self
                 .content
                 .next_call(self.alloc, turn, &mut numbers, &mut put)?;
-            self.transact(&call, self.content.workload.calls())?;
+            self.transact(&call, calls)?;
         }
         Ok(())
     }

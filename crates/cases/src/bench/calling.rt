@@ -1,5 +1,4 @@
 // The calls that clients make.
-use crate::bench::workload::Workload;
 use calls::limits::MAX_AMOUNT;
 use calls::{Bytes, Call, Kind};
 use rand_core::utils::NextWord;
@@ -9,28 +8,28 @@ use std::alloc::{AllocError, Global};
 // Priorities of jobs are below that.
 const PRIORITIES: u32 = 1000;
 
-// How many bytes a value has.
-const VALUE_SIZE: usize = 100;
+/// How many bytes a value has.
+pub const VALUE_SIZE: usize = 100;
 
 /// What a collection holds at the start.
 #[derive(Clone, Copy)]
 pub struct Content {
-    /// The workload whose calls make it.
-    pub workload: Workload,
     /// The name of the collection.
     pub collection: &'static str,
+    /// Its kind.
+    pub kind: Kind,
     /// How many calls made it, which is how many entries it has; of a counter it is its number, and
     /// a stock is filled so often.
     pub size: u32,
 }
 
 impl Content {
-    /// What the collection of the workload holds.
-    pub fn of(workload: Workload) -> Content {
+    /// What a collection of that name and kind holds, which so many calls made.
+    pub fn new(collection: &'static str, kind: Kind, size: u32) -> Content {
         Content {
-            workload,
-            collection: workload.collection(),
-            size: workload.first_count(),
+            collection,
+            kind,
+            size,
         }
     }
 
@@ -41,10 +40,10 @@ impl Content {
         number: u64,
         numbers: &mut Pcg32,
     ) -> Result<Call, AllocError> {
-        match self.workload.kind() {
+        match self.kind {
             Kind::Set => Ok(Call::SetAdd(number)),
             Kind::Queue => Ok(Call::QueueAdd(priority(numbers), tag(u64::MAX, number))),
-            Kind::Map => Ok(Call::Put(number, value(alloc, b'v')?)),
+            Kind::Map => Ok(Call::Put(number, value_of(alloc, 0, VALUE_SIZE)?)),
             Kind::Pool => Ok(Call::Draw),
             Kind::Stock => Ok(Call::Fill(MAX_AMOUNT)),
             Kind::Quotas => Ok(Call::QuotaFill(number, MAX_AMOUNT)),
@@ -61,7 +60,7 @@ impl Content {
         numbers: &mut Pcg32,
         put: &mut u64,
     ) -> Result<Call, AllocError> {
-        match self.workload.kind() {
+        match self.kind {
             Kind::Set => Ok(Call::Pick),
             Kind::Queue if client % 2 == 1 => Ok(Call::Take),
             Kind::Queue => {
@@ -70,7 +69,7 @@ impl Content {
             }
             Kind::Map => {
                 let key = u64::from(numbers.next_word() % self.size.max(1));
-                Ok(Call::Put(key, value(alloc, b'a')?))
+                Ok(Call::Put(key, value_of(alloc, 1, VALUE_SIZE)?))
             }
             Kind::Pool => Ok(Call::Draw),
             Kind::Stock => Ok(Call::Spend(1)),
@@ -88,12 +87,25 @@ fn priority(numbers: &mut Pcg32) -> u64 {
     u64::from(numbers.next_word() % PRIORITIES)
 }
 
-// A job's tag: no other job has it, as long as a client puts fewer than 2^32.
-fn tag(client: u64, number: u64) -> u64 {
+/// A job's tag, or the key of a line of history: no other one has it, as long as a client puts
+/// fewer than 2^32.
+pub fn tag(client: u64, number: u64) -> u64 {
     (client % (1 << 32) * (1 << 32)) | (number % (1 << 32))
 }
 
-// A value of that letter.
-fn value(alloc: Global, letter: u8) -> Result<Bytes, AllocError> {
-    Ok(Bytes::new(vec![in alloc; letter; VALUE_SIZE]?))
+/// A value of so many bytes, the first eight of which tell an amount.
+pub fn value_of(alloc: Global, amount: i64, size: usize) -> Result<Bytes, AllocError> {
+    let mut bytes = vec![in alloc; 0; size]?;
+    if let Some(told) = bytes.as_mut_slice().first_chunk_mut::<8>() {
+        *told = amount.to_be_bytes();
+    }
+    Ok(Bytes::new(bytes))
+}
+
+/// The amount that a value tells.
+pub fn amount_of(value: &Bytes) -> i64 {
+    match value.as_slice().first_chunk::<8>() {
+        Some(told) => i64::from_be_bytes(*told),
+        None => 0,
+    }
 }

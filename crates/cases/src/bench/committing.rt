@@ -21,11 +21,11 @@ pub struct SameCall {
 }
 
 impl SameCall {
-    /// The transaction of a call of the collection with that content.
-    pub fn of(content: Content, call: Call) -> SameCall {
+    /// The transaction of so many of the same call of the collection of that name, at least one.
+    pub fn new(collection: &'static str, count: u32, call: Call) -> SameCall {
         SameCall {
-            collection: content.collection,
-            count: content.workload.calls(),
+            collection,
+            count,
             call,
         }
     }
@@ -83,7 +83,7 @@ pub fn commit_all<J: Naming, R: Wait + Clock + AllocGlobal>(
     let mut last = None;
     for number in 0..count {
         let call = content.first_call(rt.alloc(), number, &mut numbers)?;
-        let (_, ticket) = transact(rt, client, &SameCall::of(content, call))?;
+        let (_, ticket) = transact(rt, client, &SameCall::new(content.collection, 1, call))?;
         last = Some(ticket);
     }
     if let Some(ticket) = last {

@@ -27,6 +27,10 @@ const LARGE_AREA: u64 = 112 << 20;
 // The same, with one million bytes behind it, for clients that commit a thousand times a second.
 const TIGHT_AREA: u64 = 107 << 20;
 
+// The same of four maps of a million values each, with room for the puts of seconds behind it; and
+// of the history of millions of transactions.
+const WIDE_AREA: u64 = 960 << 20;
+
 /// A file as a disk. What it holds is not known.
 pub type StoredDisk = FileDisk<Unknown>;
 
@@ -61,10 +65,15 @@ fn area_of(workload: Workload) -> u64
 {
     match workload {
         Workload::CounterBesideImages | Workload::CounterAsyncBesideImages => SMALL_AREA,
-        Workload::CounterBesideImagesMillion => LARGE_AREA,
+        Workload::CounterBesideImagesMillion | Workload::MapsBesideImages => LARGE_AREA,
         Workload::CounterAsyncBesideImagesMillion | Workload::CounterAsyncBesideImagesOfEight => {
             TIGHT_AREA
         }
+        Workload::MapsFour
+        | Workload::MapsFourMillion
+        | Workload::MapsOne
+        | Workload::MapsOneMillion
+        | Workload::Tpcb => WIDE_AREA,
         _ => AREA,
     }
 }

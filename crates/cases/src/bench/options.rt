@@ -58,10 +58,10 @@ impl<'a> Options<'a> {
         })
     }
 
-    /// In how many threads clients run: one alone where it does not wait for each transaction.
+    /// In how many threads clients run: one alone where it fills the store.
     pub fn threads(&self) -> usize {
         match self.workload {
-            Workload::CounterAsync | Workload::OpenFill => 1,
+            Workload::OpenFill => 1,
             _ => self.clients,
         }
     }

@@ -9,8 +9,7 @@ use std::rt::Clock;
 use std::sync::Wait;
 use store::{Client, Naming};
 
-/// Makes the collection of a workload, with what it holds at the start, and the maps beside which
-/// images are written.
+/// Makes the collections of a workload, one after another, with what they hold at the start.
 #[derive(Clone, Copy)]
 pub struct Preparing {
     pub workload: Workload,
@@ -25,15 +24,8 @@ impl Work for Preparing {
         client: &mut Client<'_, J>,
         _thread: usize,
     ) -> Result<(), Refusal> {
-        fill(rt, client, Content::of(self.workload))?;
-        let maps = self.workload.maps();
-        for collection in maps.names {
-            let content = Content {
-                workload: Workload::Map,
-                collection,
-                size: maps.size,
-            };
-            fill(rt, client, content)?;
+        for number in 0..self.workload.collections() {
+            fill(rt, client, self.workload.content(number))?;
         }
         Ok(())
     }
@@ -45,7 +37,7 @@ fn fill<J: Naming, R: Wait + Clock + AllocGlobal>(
     client: &mut Client<'_, J>,
     content: Content,
 ) -> Result<(), Refusal> {
-    let ticket = client.make(rt, content.collection, content.workload.kind())?;
+    let ticket = client.make(rt, content.collection, content.kind)?;
     client.wait(rt, &ticket)?;
     commit_all(rt, client, content, u64::from(content.size))
 }

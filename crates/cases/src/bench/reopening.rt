@@ -48,7 +48,7 @@ fn open_once<R: Clock + Files<File = File> + AllocGlobal>(
 ) -> Result<(Duration, Option<i128>), Trouble> {
     let start = Instant::now(rt)?;
     match open(rt.alloc(), open_disk(rt, options.folder)?) {
-        Ok((book, _keeper)) => read_since(rt, start, book.parts()),
+        Ok((book, _keeper)) => read_since(rt, start, &book.into_parts()),
         Err((refusal, _disk)) => Err(Trouble::Refused(refusal)),
     }
 }

@@ -87,7 +87,7 @@ fn is_kept<D: Disk + Drop>(
     outcome: &Outcome,
 ) -> Result<bool, Refusal> {
     match open(rt.alloc(), disk) {
-        Ok((book, _keeper)) => is_right(rt.alloc(), book.parts(), workload, outcome),
+        Ok((book, _keeper)) => is_right(rt.alloc(), &book.into_parts(), workload, outcome),
         Err((refusal, _disk)) => Err(refusal),
     }
 }

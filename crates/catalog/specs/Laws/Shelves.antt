@@ -1,5 +1,5 @@
 -- A catalog in four shelves keeps the laws of shelves.
-use Rattle.std.proofs.Common.{◌≡◌, ℕ, ◌≤◌, ◌↔◌, List, [], ◌∷◌, ◌++◌, length, refl, sym}
+use Rattle.std.proofs.Common.{◌≡◌, ℕ, zero, suc, ◌≤◌, ◌↔◌, List, [], ◌∷◌, ◌++◌, length, refl, sym}
 use Rattle.std.proofs.Common.{◌∙◌, Some, slice_get}
 use Rattle.std.proofs.Common.{ap, subst}
 use Rattle.calls.specs.declared.call.Call.{Call}
@@ -69,6 +69,27 @@ module _ (xs : List Label) (f : Four ShelfContent) (fits : Fits xs f) (at : ℕ)
       subst (λ l. At P l (quarter at)) (held_in f here)
           (there_only P xs f.first.held f.second.held f.third.held f.fourth.held at h),
     )
+
+  abbrev Has : Content → Content → Type 0
+  Has k c = c ≡ k
+
+  -- what is at a place, as the member there
+  has_at : (k : Content) (s : List Collection) (p : ℕ) (x : Collection) → x.content ≡ k →
+      slice_get s p ≡ Some x → At (λ y. Has k y.content) s p
+  has_at k [] p x same is = absurd (cc)
+  has_at k (y ∷ s) zero x same is = let found : y ≡ x = cc in ap (λ (z : Collection). z.content) found ∙ same
+  has_at k (y ∷ s) (suc p) x same is = has_at k s p x same is
+
+  at_has : (k : Content) (l : List Content) (p : ℕ) → At (Has k) l p → slice_get l p ≡ Some k
+  at_has k [] p has = absurd has
+  at_has k (c ∷ l) zero has = ap Some has
+  at_has k (c ∷ l) (suc p) has = at_has k l p has
+
+  held_here : (x : Collection) → slice_get (woven xs f) at ≡ Some x →
+      IsHeld (pick f here) at x.content
+  held_here x is =
+      let on = on_only (Has x.content) (has_at x.content (woven xs f) at x refl is) in
+      (on.0, at_has x.content (pick f here).held (quarter at) on.1)
 
   answers_join : (c : Call) (r : Reply) →
       AnswersAt (woven xs f) at c r ↔ On (λ x. Answers x c r) (pick f here) at
@@ -166,6 +187,7 @@ catalog_shelves = record {
       (subst (λ (l : List Content).
       slice_get l (quarter at) ≡ Some k)
       (sym (held_in f (which_of at))) holds.1);
+  holds_here = λ n f at x fits is. held_here n f fits at x is;
   answers = λ n f at c r fits. answers_join n f fits at c r;
   leaves = λ n f at c r fits h. leave n f fits at c r;
   stays = λ n f at c r fits h. stay n f fits at c r;

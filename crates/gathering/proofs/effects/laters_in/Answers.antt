@@ -1,4 +1,4 @@
-use Rattle.std.proofs.Common.{sym, ◌∙◌, ap, ◌++◌, map, append-nil}
+use Rattle.std.proofs.Common.{None, sym, ◌∙◌, ap, ◌++◌, map, append-nil}
 use Rattle.std.specs.Option.{option_to_list}
 use Rattle.shelf.proofs.PutOffRuns.{put_off}
 use Rattle.gathering.specs.Gatherings.{effect_at}
@@ -7,7 +7,7 @@ use Rattle.gathering.proofs.effects.laters_in.Goals.{in-Some+in_ok-push_back, in
 use Rattle.gathering.proofs.effects.laters_in.Goals as goal
 
 pub loop-stamped-init : goal.loop-stamped-init
-loop-stamped-init c = ap (λ l. l ++ map (effect_at c.args.position) (put_off c.args.entries.now))
+loop-stamped-init c = ap (λ l. l ++ map (effect_at c.args.position) (put_off None c.args.entries.now))
     c.new-effects.ensures.items
 
 pub loop-stamped-preserved : goal.loop-stamped-preserved

@@ -1,12 +1,15 @@
-use Rattle.std.proofs.Common.{subst}
-use Rattle.abstract_locks.specs.Holds.{hold, IsAdded}
+use Rattle.std.proofs.Common.{sym, ◌∙◌, ap, subst}
+use Rattle.abstract_locks.specs.Holds.{hold, IsClear, IsAdded}
+use Rattle.shelf.specs.Shelves.{ShelfState}
 use Rattle.shelf.proofs.Shelf.take.Goals as goal
 
+pub grant-requires-clause-clear : goal.grant-requires-clause-clear
+grant-requires-clause-clear g c =
+    subst (λ l. IsClear l c.args.number c.args.at c.args.need)
+    (ap (λ (s : ShelfState _). s.holds) (sym c.self.view_is) ∙ sym c.in_ok-reserve.ensures.holds)
+    c.requires.clear
+
 pub returns-clause-held : goal.returns-clause-held
-returns-clause-held g c =
-    let n = c.args.number in
-    let holds = c.grant.new.self.holds in
-    rw (← c.self.view_is) (subst
-    (λ k. IsAdded c.self.inside.needs.holds holds (hold n c.args.at k)) c.need-held.ensures
-    (subst (λ l. IsAdded l holds (hold n c.args.at c.need-held.result))
-    c.in_ok-reserve.ensures.holds c.grant.ensures.held))
+returns-clause-held g c = rw (← c.self.view_is)
+    (subst (λ l. IsAdded l c.grant.new.self.holds (hold c.args.number c.args.at c.args.need))
+    c.in_ok-reserve.ensures.holds c.grant.ensures.held)

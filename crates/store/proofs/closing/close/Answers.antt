@@ -1,10 +1,12 @@
 use Rattle.clients.specs.Known.{seen_of, counts_of}
+use Rattle.clients.specs.Told.{told_book}
 use Rattle.store.proofs.Freezes.{closes}
 use Rattle.store.proofs.closing.close.Goals as goal
 
 pub returns : goal.returns
 returns g c =
-    closes g.J.Naming g.D.Disk c.into_parts-book.result.0 c.into_parts-book.result.1
+    closes g.J.Naming g.D.Disk (told_book g.B.Parts.collections c.into_parts-book.result.0)
+    c.into_parts-book.result.1
     c.into_parts-book.result.2 c.into_parts-book.ensures.0 c.into_parts-book.ensures.1
     c.vault.inside.keeper c.vault.inside.receiver c.vault.inside.mark c.vault.inside.near
     c.vault.invariant.0 c.compare.ensures.order.0 c.compare.ensures.order.1 c.compare.ensures.noted

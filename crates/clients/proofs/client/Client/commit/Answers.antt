@@ -4,6 +4,7 @@ use Rattle.txn.specs.declared.steps.Action.{Action}
 use Rattle.clients.specs.declared.phase.Phase.{Phase}
 use Rattle.clients.specs.Known.{Known, Steps, known_of}
 use Rattle.clients.specs.Calls.{Acts}
+use Rattle.clients.proofs.Phases.{does_refused}
 use Rattle.clients.proofs.Seeing.{acts_one, does_next}
 use Rattle.clients.proofs.client.Client.commit.Goals as goal
 
@@ -37,3 +38,9 @@ returns-in_err-place-clause-step g c =
     (subst (λ r. Steps g.J.Naming i.line (Action.Commit n r) c.commit.new.me) c.in_err-place.was
     c.commit.ensures)))
     (λ entered. ap (λ (k : Known). k.phase) c.self-2.view_is ∙ entered))
+
+pub returns-in_err-number-clause-step : goal.returns-in_err-number-clause-step
+returns-in_err-number-clause-step g c =
+    let p = err_from_is_err_and c.from_residual.result c.from_residual.ensures.1 in
+    rw (p.1, p.2) (does_refused g.J.Naming c.args.self.now.phase c.args.self.now _ _ _
+    c.in_err-number.field-0.0 c.enter.new.self c.in_err-number.ensures refl)

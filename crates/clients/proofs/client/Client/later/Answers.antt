@@ -1,10 +1,11 @@
 use Rattle.std.proofs.Common.{[], refl, ap, ◌∙◌, subst}
+use Rattle.std.proofs.lemmas.Result.{err_from_is_err_and}
 use Rattle.txn.specs.declared.steps.Action.{Action}
 use Rattle.txn.specs.declared.steps.Target.{Target}
 use Rattle.clients.specs.declared.phase.Phase.{Phase}
 use Rattle.clients.specs.Known.{Known, known_of}
 use Rattle.clients.specs.Calls.{Acts}
-use Rattle.clients.proofs.Phases.{does_open, enters_open}
+use Rattle.clients.proofs.Phases.{does_open, does_refused, enters_open}
 use Rattle.clients.proofs.Seeing.{acts_one, does_next}
 use Rattle.clients.proofs.client.Client.later.Goals as goal
 
@@ -30,3 +31,9 @@ pub returns-in_err-number-clause-open : goal.returns-in_err-number-clause-open
 returns-in_err-number-clause-open g c =
     enters_open g.J.Naming c.args.self.now.phase c.args.self.now c.in_err-number.field-0.0
     c.enter.new.self c.in_err-number.ensures
+
+pub returns-in_err-number-clause-step : goal.returns-in_err-number-clause-step
+returns-in_err-number-clause-step g c =
+    let p = err_from_is_err_and c.from_residual.result c.from_residual.ensures.1 in
+    rw (p.1, p.2) (does_refused g.J.Naming c.args.self.now.phase c.args.self.now _ _ _
+    c.in_err-number.field-0.0 c.enter.new.self c.in_err-number.ensures refl)

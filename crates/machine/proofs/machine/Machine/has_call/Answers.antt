@@ -1,8 +1,7 @@
-use Rattle.std.proofs.Common.{◌↔◌, true, subst, ◌≡◌}
+use Rattle.std.proofs.Common.{◌↔◌, ℕ, List, true, subst, ◌≡◌}
 use Rattle.std.specs.Option.{is_some}
+use Rattle.calls.specs.Transactions.{Entry}
 use Rattle.undo_log.specs.Entries.{event_of, HasNoCall}
-use Rattle.undo_log.specs.Logs.{Log}
-use Rattle.machine.specs.Machine.{State}
 use Rattle.machine.proofs.UndoneCall.{call_there, some_or_none}
 use Rattle.machine.proofs.machine.Machine.has_call.Given.{Over}
 use Rattle.machine.proofs.machine.Machine.has_call.Goals as goal
@@ -11,12 +10,10 @@ use Rattle.machine.proofs.machine.Machine.has_call.Goals as goal
 found : (g : Over) (c : goal.After-is_some g) →
     (is_some c.newest.result ≡ true) ↔ (HasNoCall c.args.number c.args.self.now.entries → ⊥)
 found g c =
-    subst (λ (s : State _). (is_some c.newest.result ≡ true) ↔
-    (HasNoCall c.args.number s.entries → ⊥)) c.self.view_is
-    (subst (λ (l : Log). (is_some c.newest.result ≡ true) ↔ (HasNoCall c.args.number l.entries → ⊥))
-    c.live.ensures
+    subst (λ (es : List (ℕ × Entry)). (is_some c.newest.result ≡ true) ↔
+    (HasNoCall c.args.number es → ⊥)) c.live.ensures.entries
     (call_there c.args.number c.live.result.now.entries (λ l. event_of l.now) c.newest.result
-    c.newest.ensures.found c.newest.ensures.none))
+    c.newest.ensures.found c.newest.ensures.none)
 
 pub returns-clause-some : goal.returns-clause-some
 returns-clause-some g c = rw (c.is_some.ensures) (found g c)

@@ -1,7 +1,6 @@
-use Rattle.std.proofs.Common.{arith}
+use Rattle.std.proofs.Common.{[], arith}
 use Rattle.record_format.specs.Short.{AreShort}
-use Rattle.machine.specs.Views.{state_with}
-use Rattle.ledger.specs.Ledgers.{log_of}
+use Rattle.machine.specs.Wholes.{state_on}
 use Rattle.machine.proofs.BookLaws.{BookLaws, book_laws}
 use Rattle.machine.specs.Machine.{MakeRow}
 use Rattle.machine.proofs.Rows.{made_row}
@@ -16,13 +15,14 @@ laws g = book_laws g.met.B.Boosted.laws g.met.B.Parts.laws g.met.B.Coded.told
 
 -- the collection is made
 step : (g : Over) (c : goal.Else-prove g) → let i = c.self.inside in
-    MakeRow g.B.Parts.making (state_with i.format i.shelf i.ledger) c.args.name.now c.args.kind
-    (state_with i.format (record i.shelf { now = c.make.new.self }) i.ledger)
+    MakeRow g.B.Parts.making (state_on i.accounts i.shelf) c.args.name.now c.args.kind
+    (state_on i.accounts (record i.shelf { now = c.make.new.self }))
 step g c =
     let i = c.self.inside in
     let made = rw c.collections_mut.ensures.now at c.in_ok-at.ensures.ok in
-    made_row g.met.B.Parts.laws i.format i.shelf.now i.shelf.holds (log_of i.ledger) i.ledger.wear
-    c.args.name.now c.args.kind c.make.new.self c.in_ok-at.at made.0 made.1
+    made_row g.met.B.Parts.laws i.accounts.format i.shelf.now i.shelf.holds
+    (record { live = i.accounts.live; entries = i.accounts.entries; rooms = [] })
+    i.accounts.wear c.args.name.now c.args.kind c.make.new.self c.in_ok-at.at made.0 made.1
     (omega (arith, c.if-prove.false)) made.2
 
 pub invariant_of-self-2 : goal.invariant_of-self-2

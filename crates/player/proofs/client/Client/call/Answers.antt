@@ -1,7 +1,8 @@
+use Rattle.std.proofs.Common.{◌∙◌, ap}
 use Rattle.std.proofs.lemmas.Result.{err_from_is_err_and}
 use Rattle.calls.specs.Names.{IsName}
 use Rattle.catalog.specs.Making.{names_of, IsPlaceOf, FindRefused}
-use Rattle.player.specs.Clients.{AskedFor, AsksFor}
+use Rattle.player.specs.Clients.{AskedFor, AsksFor, kind_at}
 use Rattle.world.specs.declared.steps.Step.{Step}
 use Rattle.world.specs.declared.steps.Answer.{Answer}
 use Rattle.player.proofs.Stepping.{asked}
@@ -34,7 +35,8 @@ returns g c =
     rw (c.as_str.ensures, c.book.ensures) at c.in_ok-collection.ensures.ok in
     let is_asked : AskedFor c.enter.new.world.book.state.now c.in_ok-collection.collection
     c.args.operation c.call_of-call.result =
-    rw (c.parts.ensures, c.book-2.ensures) at c.call_of-call.ensures in
+    c.call_of-call.ensures c.enter.new.world.book.state.now c.in_ok-collection.collection
+    (c.kind.ensures ∙ ap (λ b. kind_at b.state.now c.in_ok-collection.collection) c.book-2.ensures) in
     let ran = asked g.D.Disk c.enter.new.world c.call.new.self
     (Step.Call c.in_ok-number.number c.in_ok-collection.collection c.call_of-call.result)
     Answer.Replied c.call.result c.call.ensures in

@@ -1,109 +1,88 @@
-use Rattle.std.proofs.Common.{◌<◌, ◌+◌, length, refl, sym, subst, arith}
-use Rattle.record_format.specs.declared.record.Record.{Record}
+use Rattle.std.proofs.Common.{◌∙◌, length, sym, ap, subst, arith, Ok}
+use Rattle.calls.specs.Transactions.{own, laters_of}
+use Rattle.catalog.specs.Fours.{rank, pick}
+use Rattle.shelf.specs.Shelves.{CanRun, on_quarter, Settles}
 use Rattle.record_format.specs.Short.{AreShort}
-use Rattle.machine.specs.Machine.{IsRunning, CommitRow}
-use Rattle.txn.specs.Books.{BookState, Appends}
-use Rattle.txn.specs.Views.{book_of}
-use Rattle.blocks.specs.Waits.{HasRoomFor}
+use Rattle.machine.specs.Wholes.{AccountsState, whole_state}
 use Rattle.machine.proofs.BookLaws.{BookLaws, book_laws}
-use Rattle.txn.proofs.BookLemmas.{mark_length, recorded}
-use Rattle.txn.proofs.BookInvariant.{commit_keeps}
-use Rattle.machine.proofs.Steps.{commit_settles}
-use Rattle.txn.proofs.book.Book.commit.Given.{Over}
-use Rattle.gathering.proofs.Running.{are_run, late_short}
-use Rattle.machine.proofs.Steps.{laters_disposable}
 use Rattle.machine.proofs.InvariantRows.{commit_fits}
-use Rattle.machine.specs.Machine.{State, Does}
-use Rattle.calls.specs.Transactions.{Event, Leads, laters_of, own}
-use Rattle.std.proofs.Common.{◌≡◌}
-use Rattle.calls.specs.declared.reply.Reply.{Reply}
-use Rattle.calls.specs.Rules.{Disposable}
-use Rattle.boosted.proofs.Each.{weaker}
-use Rattle.std.proofs.lemmas.List.{length-map}
-use Rattle.std.proofs.Common.{map, ap, ◌∙◌}
-use Rattle.gathering.specs.Gatherings.{noted, effect_at}
-use Rattle.txn.specs.Books.{position}
-use Rattle.txn.proofs.Goings.{goes_ran, position_after}
-use Rattle.txn.proofs.BookInvariant.{reserved_keeps}
+use Rattle.machine.proofs.Joining.{ready_join}
+use Rattle.txn.specs.declared.steps.Action.{Action}
+use Rattle.txn.specs.Shelved.{IsBook, IsServed, SettlesWhole, book_state}
+use Rattle.txn.proofs.JournalEnds.{commit_book}
+use Rattle.txn.proofs.book.Book.commit.Given.{Over}
 use Rattle.txn.proofs.book.Book.commit.Goals as goal
-
-pub push-requires-clause-room : goal.push-requires-clause-room
-push-requires-clause-room g c =
-    subst (HasRoomFor c.reserve.new.self) (mark_length c.args.number) c.in_ok-reserve.ensures.room
-
-pub commit-requires : goal.commit-requires
-commit-requires g c = subst (λ (b : BookState _). IsRunning b.state c.args.number)
-    (sym c.self.view_is) c.in_ok-check_running.ensures.ok
 
 -- the laws of the collections
 laws : (g : Over) → BookLaws g.B.Boosted.meaning g.B.Parts.making
     (λ f s. AreShort f (g.B.Parts.collections s))
 laws g = book_laws g.met.B.Boosted.laws g.met.B.Parts.laws g.met.B.Coded.told
 
--- the step that was taken
-step : (g : Over) (c : goal.After-self-1 g) → let i = c.self.inside in
-    let old = book_of i.machine i.pending i.places i.next i.gathering in
-    CommitRow g.B.Boosted.meaning old.state c.args.number c.commit.new.machine ×
-    Appends old (Record.Commit c.args.number)
-    (book_of c.commit.new.machine c.push.new.self (i.places + 1) i.next c.commit.new.self)
-step g c =
+pub settle_all-ran-requires : goal.settle_all-ran-requires
+settle_all-ran-requires g c =
     let i = c.self.inside in
-    let written = recorded i.machine i.pending i.places i.next i.gathering c.commit.new.self
-    (Record.Commit c.args.number) c.commit.new.machine c.reserve.new.self c.push.new.self
-    (i.places + 1) i.next
-    (subst (λ b. length b.pending < 16384) (sym c.self.view_is) c.in_ok-check_backlog.ensures.ok)
-    c.in_ok-reserve.ensures.records c.in_ok-reserve.ensures.freezes c.in_ok-reserve.ensures.handed
-    c.push.ensures.records c.push.ensures.freezes c.push.ensures.handed (omega arith) refl in
-    (c.in_ok-commit.ensures.ok, written)
+    let n = c.args.number in
+    let running = c.in_ok-place.ensures.running in
+    let noted = c.entries_of.ensures ∙
+    ap (λ (a : AccountsState). own n a.entries) c.in_ok-place.ensures.accounts in
+    record {
+      can = λ w. subst (λ es. CanRun g.B.Shelf.Boosted.meaning (on_quarter (rank w) (laters_of es))
+          (pick i.shelves w).now) (sym noted)
+          (ready_join g.met.B.Parts.shelf_laws (laws g) i.journal.names i.journal.accounts i.shelves
+          i.shelves n c.self.invariant.joined running.live running.standing w);
+    }
+
+pub finish-requires : goal.finish-requires
+finish-requires g c =
+    let i = c.self.inside in
+    let n = c.args.number in
+    let noted = c.entries_of.ensures ∙
+    ap (λ (a : AccountsState). own n a.entries) c.in_ok-place.ensures.accounts in
+    let ran = c.settle_all-ran.ensures.count ∙ ap (λ es. length (laters_of es)) noted in
+    let same = ap (λ (a : AccountsState). a.wear) c.in_ok-place.ensures.accounts in
+    let fits = commit_fits g.B.Boosted.meaning g.B.Parts.making
+    (λ f s. AreShort f (g.B.Parts.collections s)) (laws g)
+    (whole_state g.B.Parts.whole i.journal.names i.journal.accounts i.shelves)
+    c.self.invariant.kept.upheld n in
+    omega arith
+
+-- the transaction is committed
+done : (g : Over) (c : goal.After-finish g) → let i = c.self.inside in
+    let j = i.journal in
+    let k = c.finish.new.self in
+    let shelves = c.settle_all-ran.new.shelves in
+    let b = book_state g.B.Parts.whole j i.shelves in
+    let d = book_state g.B.Parts.whole k shelves in
+    IsBook g.B.Boosted.meaning g.B.Parts.making g.B.Parts.collections g.B.Parts.whole
+    g.B.Parts.fits k shelves × IsServed g.B.Boosted.meaning g.B.Parts.making g.B.Parts.collections
+    (Action.Commit c.args.number) (Ok c.in_ok-place.place)
+    (SettlesWhole g.B.Boosted.meaning g.B.Parts.making c.args.number b d) b d
+done g c =
+    let i = c.self.inside in
+    let n = c.args.number in
+    let told = c.in_ok-place.ensures in
+    let noted = c.entries_of.ensures ∙ ap (λ (a : AccountsState). own n a.entries) told.accounts in
+    commit_book g.met.B.Boosted.laws g.met.B.Parts.laws g.met.B.Coded.told
+    g.met.B.Parts.shelf_laws i.journal
+    c.prepare_commit.new.self c.finish.new.self n c.settle_all-ran.result i.shelves
+    c.settle_all-ran.new.shelves c.self.invariant told.accounts told.names c.finish.ensures
+    c.in_ok-place.place told.running told.written told.place told.noted
+    (c.settle_all-ran.ensures.count ∙ ap (λ es. length (laters_of es)) noted)
+    (λ w. subst (λ es. Settles g.B.Shelf.Boosted.meaning (pick i.shelves w) n
+    (on_quarter (rank w) (laters_of es)) (pick c.settle_all-ran.new.shelves w)) noted
+    (c.settle_all-ran.ensures.settled w))
 
 pub invariant_of-self-2 : goal.invariant_of-self-2
-invariant_of-self-2 g c = commit_keeps g.B.Boosted.meaning g.B.Parts.making
-    (λ f s. AreShort f (g.B.Parts.collections s)) (laws g) _ c.self.invariant c.args.number _
-    (step g c).0 (step g c).1
+invariant_of-self-2 g c = (done g c).0
 
 pub returns-clause-answer : goal.returns-clause-answer
-returns-clause-answer g c = rw (← c.self.view_is) ((step g c).0, (step g c).1, refl)
+returns-clause-answer g c = rw (← c.self.view_is) (done g c).1.answer
 
 pub returns-clause-settled : goal.returns-clause-settled
-returns-clause-settled g c = rw (← c.self.view_is)
-    (λ d w. commit_settles g.B.Boosted.meaning g.B.Parts.making (laws g).rules _
-    c.self.invariant.upheld.holds c.args.number _ d (step g c).0 w)
+returns-clause-settled g c = rw (← c.self.view_is) (done g c).1.settles
 
 pub returns-clause-goes : goal.returns-clause-goes
-returns-clause-goes g c =
-    let i = c.self.inside in
-    let s = i.machine in
-    let meaning = g.B.Boosted.meaning in
-    let old = book_of s i.pending i.places i.next i.gathering in
-    let new = book_of c.commit.new.machine c.push.new.self (i.places + 1) i.next
-    c.commit.new.self in
-    let row = (step g c).0 in
-    let ls = laters_of (own c.args.number s.entries) in
-    let late = weaker (λ (e : Event). Disposable e.call × (e.reply ≡ Reply.Done))
-    (λ (e : Event). Disposable e.call) (λ e l. l.0) ls
-    (laters_disposable meaning g.B.Parts.making (laws g).rules s c.self.invariant.upheld.holds
-    c.args.number) in
-    let next = c.next_position-position.ensures ∙ ap (λ b. position b + 1) (sym c.self.view_is) in
-    let fits = commit_fits meaning g.B.Parts.making (λ f s. AreShort f (g.B.Parts.collections s))
-    (laws g)
-    s c.self.invariant.upheld c.args.number in
-    let runs = subst (λ t. Leads (Does meaning) ls s.now t)
-    (sym (ap (λ (v : State _). v.now) row.left.is)) row.runs in
-    rw (← c.self.view_is) (goes_ran g.met.B.Boosted.laws g.met.B.Coded.told old new
-    (map (effect_at (position old + 1)) ls) s.wear c.self.invariant.upheld.reached
-    (omega (arith, length-map ls (effect_at (position old + 1)), fits))
-    (are_run meaning (position old + 1) ls s.now c.commit.new.machine.now runs (late_short ls late))
-    (c.in_ok-commit.ensures.noted ∙ ap (λ q. noted i.gathering (map (effect_at q) ls)) next)
-    (position_after old new (Record.Commit c.args.number) (step g c).1))
+returns-clause-goes g c = rw (← c.self.view_is) (done g c).1.goes
 
-pub invariant_of-self : goal.invariant_of-self
-invariant_of-self g c =
-    let kept = c.in_err-reserve.ensures in
-    reserved_keeps c.self.inside.pending c.reserve.new.self refl refl kept.records kept.freezes
-    kept.handed c.self.invariant
-
-pub invariant_of-self-in_err-commit : goal.invariant_of-self-in_err-commit
-invariant_of-self-in_err-commit g c =
-    let kept = c.in_ok-reserve.ensures in
-    reserved_keeps c.self.inside.pending c.reserve.new.self c.in_err-commit.ensures.same.0
-    c.in_err-commit.ensures.same.1 kept.records kept.freezes kept.handed c.self.invariant
+pub returns-clause-notes : goal.returns-clause-notes
+returns-clause-notes g c = rw (← c.self.view_is) (done g c).1.notes

@@ -1,14 +1,44 @@
-use Rattle.std.proofs.Common.{rules}
+use Rattle.std.proofs.Common.{OnOk, subst}
+use Rattle.catalog.specs.Fours.{which_of, put}
+use Rattle.txn.specs.declared.steps.Action.{Action}
+use Rattle.txn.specs.declared.steps.Target.{Target}
+use Rattle.txn.specs.Books.{Notes}
+use Rattle.txn.specs.Shelved.{book_state}
+use Rattle.txn.proofs.BookParts.{of_book, book_told, book_kept}
 use Rattle.txn.proofs.book.Book.later.Goals as goal
 
-pub put_off-requires-clause-open : goal.put_off-requires-clause-open
-put_off-requires-clause-open g c = search rules
+pub later-requires-clause-kept : goal.later-requires-clause-kept
+later-requires-clause-kept g c = of_book (which_of c.args.col) c.self.inside.journal
+    c.self.inside.shelves c.self.invariant c.of_mut-shelf.result.now c.of_mut-shelf.ensures.value
 
-pub put_off-requires-clause-clear : goal.put_off-requires-clause-clear
-put_off-requires-clause-clear g c = search rules
-
-pub put_off-requires-clause-entry : goal.put_off-requires-clause-entry
-put_off-requires-clause-entry g c = search rules
+pub invariant_of-self : goal.invariant_of-self
+invariant_of-self g c = book_kept (which_of c.args.col) c.self.inside.journal
+    c.self.inside.shelves c.self.invariant c.of_mut-shelf.result.now c.of_mut-shelf.ensures.value
+    c.later.new.self c.later.new.shelf c.later.ensures
 
 pub returns-clause-answer : goal.returns-clause-answer
-returns-clause-answer g c = search rules
+returns-clause-answer g c = rw (← c.self.view_is)
+    (book_told (which_of c.args.col) c.self.inside.journal
+    c.self.inside.shelves c.self.invariant c.of_mut-shelf.result.now c.of_mut-shelf.ensures.value
+    c.later.new.self c.later.new.shelf c.later.ensures).answer
+
+pub returns-clause-settled : goal.returns-clause-settled
+returns-clause-settled g c = rw (← c.self.view_is)
+    (book_told (which_of c.args.col) c.self.inside.journal
+    c.self.inside.shelves c.self.invariant c.of_mut-shelf.result.now c.of_mut-shelf.ensures.value
+    c.later.new.self c.later.new.shelf c.later.ensures).settles
+
+pub returns-clause-goes : goal.returns-clause-goes
+returns-clause-goes g c = rw (← c.self.view_is)
+    (book_told (which_of c.args.col) c.self.inside.journal
+    c.self.inside.shelves c.self.invariant c.of_mut-shelf.result.now c.of_mut-shelf.ensures.value
+    c.later.new.self c.later.new.shelf c.later.ensures).goes
+
+pub returns-clause-notes : goal.returns-clause-notes
+returns-clause-notes g c = subst
+    (λ b. OnOk c.later.result (Notes g.B.Boosted.meaning b (Action.Later c.args.number (Target.Number c.args.col) c.args.call.now c.later.result)
+    (book_state g.B.Parts.whole c.later.new.self
+    (put c.self.inside.shelves (which_of c.args.col) c.later.new.shelf))))
+    c.self.view_is (book_told (which_of c.args.col) c.self.inside.journal
+    c.self.inside.shelves c.self.invariant c.of_mut-shelf.result.now c.of_mut-shelf.ensures.value
+    c.later.new.self c.later.new.shelf c.later.ensures).notes

@@ -7,4 +7,4 @@ use Rattle.txn.proofs.book.Book.upheld.Goals as goal
 pub returns : goal.returns
 returns g c =
     subst (IsKept g.B.Boosted.meaning g.B.Parts.making (λ f s. AreShort f (g.B.Parts.collections s))
-    (IsSound g.B.Boosted.meaning g.B.Parts.making)) c.self.view_is c.self.invariant
+    (IsSound g.B.Boosted.meaning g.B.Parts.making)) c.self.view_is c.self.invariant.kept

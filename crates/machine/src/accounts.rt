@@ -1,0 +1,284 @@
+// What a machine keeps beside its collections, and its steps: the same for all collections on one
+// shelf and for a quarter of them.
+ghost use Rattle.std.specs.Prelude.{◌≡◌, ◌↔◌, ◌+◌, ◌<◌, ◌≤◌, ◌^◌, true, length};
+ghost use Rattle.std.specs.Prelude.{IsTrue, OnOk, OnErr, IsOkUnless};
+ghost use Rattle.calls.specs.Formats.{widest};
+ghost use Rattle.calls.specs.Limits.{max_calls, max_wear};
+ghost use Rattle.calls.specs.Reads.{reads};
+ghost use Rattle.calls.specs.Rules.{need_of};
+ghost use Rattle.calls.specs.Transactions.{own};
+ghost use Rattle.calls.specs.declared.reply.Reply.{Reply};
+ghost use Rattle.undo_log.specs.Entries.{event_of, HasNoCall};
+ghost use Rattle.undo_log.specs.Logs.{Lives};
+ghost use Rattle.boosted.specs.Meaning.{HasRoom};
+ghost use Rattle.ledger.specs.LeftCalls.{GoesTwice};
+ghost use Rattle.machine.specs.Machine.{CanBegin, BeginRow, FallRow, UnreadRow, HasNewestRead};
+ghost use Rattle.machine.specs.Machine.{CanCall, CallRow, ReadRow, CanPutOff, LaterRow, BackRow};
+ghost use Rattle.machine.specs.Machines.{HasRoomFor};
+ghost use Rattle.machine.specs.Wholes.{state_on};
+ghost use Rattle.machine.specs.Accounts.{accounts_of, alone, rested, finished, CanUndo};
+
+use boosted::Boosted;
+use calls::{Call, Format, Need, Refusal, Reply};
+use ledger::Ledger;
+use shelf::Shelf;
+use std::alloc::Global;
+use std::marker::Model;
+use undo_log::{Later, Live, Logged};
+
+/// What a machine keeps beside its collections and the needs on them: the live transactions with
+/// what they asked for, the wear, and the format of the store.
+///
+/// A step on collections takes the shelf that they lie on, of which nothing else is asked.
+pub struct Accounts {
+    ledger: Ledger,
+    format: Format,
+}
+
+// Written out, so that the crates above call it in place of proving it again.
+impl Drop for Accounts {
+    fn drop(self) {
+        let Self {
+            ledger,
+            format: _format,
+        } = self;
+        drop(ledger);
+    }
+}
+
+impl Model for Accounts {
+    ghost use Rattle.std.specs.FinMap as maps;
+    ghost use Rattle.std.specs.Ordering.{nat_cmp};
+    ghost use Rattle.std.specs.Coded.{codes, coded_ℕ, coded_bool};
+    ghost use Rattle.machine.specs.Wholes.{AccountsState};
+    ghost use Rattle.machine.specs.Accounts.{accounts_of};
+
+    ghost Value = { AccountsState };
+
+    ghost coded = { Prim.hlevel (codes, maps.code {R = nat_cmp} coded_ℕ coded_bool) };
+
+    ghost view = { λ a. accounts_of a.format a.ledger };
+}
+
+impl Accounts {
+    /// Of a store of the format, with no live transaction, and so much wear. It takes no memory.
+    pub fn new(alloc: Global, format: Format, wear: u64) -> Self
+        ensures { result ≡ rested format wear }
+    {
+        Self {
+            ledger: Ledger::new(alloc, wear),
+            format,
+        }
+    }
+
+    // Of a store of the format, with what the ledger has.
+    pub(crate) fn of_ledger(format: Format, ledger: Ledger) -> Self
+        ensures { result ≡ accounts_of format ledger }
+    {
+        Self { ledger, format }
+    }
+
+    /// The live transactions, and what they asked for and did not undo.
+    pub fn live(&self) -> &Live
+        ensures live { result.now.live ≡ self.now.live }
+        ensures entries { result.now.entries ≡ self.now.entries }
+    {
+        self.ledger.live()
+    }
+
+    /// How often anything was entered, called, put off, run in a commit or undone. What `read`
+    /// noted and `unread` undid does not count.
+    pub fn wear(&self) -> u64
+        ensures { result ≡ self.now.wear }
+    {
+        self.ledger.wear()
+    }
+
+    /// The format of the store.
+    pub fn format(&self) -> Format
+        ensures { result ≡ self.now.format }
+    {
+        self.format
+    }
+
+    /// Whether the transaction has left to its commit already what this call, answered so, would
+    /// leave. It costs what `Ledger::goes_twice` does.
+    pub fn goes_twice(&self, number: u64, at: u8, call: &Call, reply: &Reply) -> bool
+        ensures { IsTrue result ↔ GoesTwice self.now.entries number
+            (record { at = at; call = call.now; reply = reply.now }) }
+    {
+        self.ledger.goes_twice(number, at, call, reply)
+    }
+
+    /// Whether the wear has room for so many runs more, and then for the undoing of all entries and
+    /// of so many more.
+    pub fn has_room(&self, runs: u64, more: usize) -> bool
+        requires { self.now.wear + runs + (length self.now.entries + more) < 2 ^ 64 }
+        ensures { IsTrue result ↔
+            (self.now.wear + runs + (length self.now.entries + more) ≤ max_wear) }
+    {
+        self.ledger.has_room(runs, more)
+    }
+
+    /// Whether the transaction is live, and one entry more of it can be noted, behind so many runs
+    /// more.
+    pub fn has_place(&self, number: u64, runs: u64) -> bool
+        requires { self.now.wear + runs + (length self.now.entries + 1) < 2 ^ 64 }
+        ensures { IsTrue result ↔ (Lives self.now.live number ×
+            (length (own number self.now.entries) < max_calls) ×
+            (self.now.wear + runs + (length self.now.entries + 1) ≤ max_wear)) }
+    {
+        self.ledger.has_place(number, runs)
+    }
+
+    /// Begins a transaction.
+    ///
+    /// NoMemory leaves all as before.
+    pub fn begin(&mut self, number: u64) -> Result<(), Refusal>
+        requires can { CanBegin (alone self.old) number }
+        requires room { HasRoomFor (alone self.old) 0 }
+        ensures ok { OnOk result (BeginRow (alone self.old) number (alone self.new)) }
+        ensures same { OnErr result (self.new ≡ self.old) }
+        ensures refusal { IsOkUnless result Refusal.NoMemory }
+    {
+        self.ledger.enter(number)?;
+        self.ledger.add_wear(1);
+        Ok(())
+    }
+
+    /// Makes the call on the shelf, answered so, and notes it with the need that it has.
+    ///
+    /// NoMemory leaves all as before.
+    pub fn call<C: Boosted<At = u8>>(
+        &mut self,
+        shelf: &mut Shelf<C>,
+        number: u64,
+        asked: Logged,
+        need: Need,
+    ) -> Result<(), Refusal>
+        requires can { CanCall C.meaning (state_on self.old shelf.old) number (event_of asked) }
+        requires room { HasRoomFor (state_on self.old shelf.old) 1 }
+        requires reach { HasRoom C.meaning shelf.old.now }
+        requires need { need ≡ need_of asked.call asked.reply }
+        ensures ok { OnOk result (CallRow C.meaning (state_on self.old shelf.old) number
+            (event_of asked) (state_on self.new shelf.new)) }
+        ensures same { OnErr result ((self.new ≡ self.old) × (shelf.new ≡ shelf.old)) }
+        ensures refusal { IsOkUnless result Refusal.NoMemory }
+    {
+        self.ledger.reserve(number)?;
+        shelf.take(number, asked.at, &asked.call, &asked.reply, need)?;
+        self.ledger.note_call(number, asked);
+        self.ledger.add_wear(1);
+        Ok(())
+    }
+
+    /// Notes a call that only reads on the shelf, answered so, with the need that it has. No record
+    /// tells of it, so it does not wear.
+    ///
+    /// NoMemory leaves all as before.
+    pub fn read<C: Boosted<At = u8>>(
+        &mut self,
+        shelf: &mut Shelf<C>,
+        number: u64,
+        asked: Logged,
+        need: Need,
+    ) -> Result<(), Refusal>
+        requires can { CanCall C.meaning (state_on self.old shelf.old) number (event_of asked) }
+        requires only_reads { reads asked.call asked.reply ≡ true }
+        requires room { HasRoomFor (state_on self.old shelf.old) 1 }
+        requires need { need ≡ need_of asked.call asked.reply }
+        ensures ok { OnOk result (ReadRow C.meaning (state_on self.old shelf.old) number
+            (event_of asked) (state_on self.new shelf.new)) }
+        ensures same { OnErr result ((self.new ≡ self.old) × (shelf.new ≡ shelf.old)) }
+        ensures refusal { IsOkUnless result Refusal.NoMemory }
+    {
+        self.ledger.reserve(number)?;
+        shelf.hold(number, asked.at, need)?;
+        self.ledger.note_call(number, asked);
+        Ok(())
+    }
+
+    /// Puts a call on the shelf off to the commit, under the need that it has with the reply Done.
+    ///
+    /// NoMemory leaves all as before.
+    pub fn later<C: Boosted<At = u8>>(
+        &mut self,
+        shelf: &mut Shelf<C>,
+        number: u64,
+        put: Later,
+        need: Need,
+    ) -> Result<(), Refusal>
+        requires can { CanPutOff C.meaning (state_on self.old shelf.old) number put.at put.call }
+        requires room { HasRoomFor (state_on self.old shelf.old) 1 }
+        requires need { need ≡ need_of put.call Reply.Done }
+        ensures ok { OnOk result (LaterRow C.meaning (state_on self.old shelf.old) number put.at
+            put.call (state_on self.new shelf.new)) }
+        ensures same { OnErr result ((self.new ≡ self.old) × (shelf.new ≡ shelf.old)) }
+        ensures refusal { IsOkUnless result Refusal.NoMemory }
+    {
+        self.ledger.reserve(number)?;
+        shelf.hold(number, put.at, need)?;
+        self.ledger.note_later(number, put);
+        self.ledger.add_wear(1);
+        Ok(())
+    }
+
+    /// Undoes the newest call of the transaction, which is on the shelf. From then on it is
+    /// falling. It holds its needs still.
+    ///
+    /// NoMemory leaves all as before.
+    pub fn back<C: Boosted<At = u8>>(
+        &mut self,
+        shelf: &mut Shelf<C>,
+        number: u64,
+    ) -> Result<(), Refusal>
+        requires live { Lives self.old.live number }
+        requires call { HasNoCall number self.old.entries → ⊥ }
+        requires undoes { CanUndo C.meaning self.old shelf.old number }
+        requires reach { HasRoom C.meaning shelf.old.now }
+        requires room { self.old.wear + 1 < 2 ^ 64 }
+        ensures ok { OnOk result (BackRow C.meaning (state_on self.old shelf.old) number
+            (state_on self.new shelf.new)) }
+        ensures same { OnErr result ((self.new ≡ self.old) × (shelf.new ≡ shelf.old)) }
+        ensures refusal { IsOkUnless result Refusal.NoMemory }
+    {
+        let Some(newest) = self.ledger.live().newest(number) else {
+            unreachable!();
+        };
+        shelf.undo(newest)?;
+        let _undone = self.ledger.pop(number);
+        self.ledger.fall(number);
+        self.ledger.add_wear(1);
+        Ok(())
+    }
+
+    /// Undoes the newest call of the transaction, which only reads. From then on it is falling. It
+    /// holds its needs still. It takes no memory and does not wear.
+    pub fn unread(&mut self, number: u64)
+        requires live { Lives self.old.live number }
+        requires newest { HasNewestRead number self.old.entries }
+        ensures { UnreadRow (alone self.old) number (alone self.new) }
+    {
+        let _read = self.ledger.pop(number);
+        self.ledger.fall(number);
+    }
+
+    /// Makes a transaction falling of which nothing is left to undo. It takes no memory.
+    pub fn fall(&mut self, number: u64)
+        requires live { Lives self.old.live number }
+        requires undone { HasNoCall number self.old.entries }
+        ensures { FallRow (alone self.old) number (alone self.new) }
+    {
+        self.ledger.fall(number);
+    }
+
+    /// Takes a transaction out that was settled on its shelves, where so many calls ran for it, or
+    /// that gave up its needs there. It takes no memory.
+    pub fn finish(&mut self, number: u64, ran: u64)
+        requires { self.old.wear + ran < 2 ^ 64 }
+        ensures { self.new ≡ finished number ran self.old }
+    {
+        self.ledger.remove(number);
+        self.ledger.add_wear(ran);
+    }
+}

@@ -1,0 +1,554 @@
+-- A step of the journal, on one shelf or beside all, is one of the book.
+use Rattle.std.proofs.Common.{cond, ◌≡◌, ℕ, ◌+◌, ◌<◌, ◌^◌, inl, inr, List, [], ◌∷◌}
+use Rattle.std.proofs.Common.{Result, Ok, Err, Bool, true, false, refl, sym, ◌∙◌, ap, subst, arith}
+use Rattle.calls.specs.declared.call.Call.{Call}
+use Rattle.calls.specs.declared.reply.Reply.{Reply}
+use Rattle.calls.specs.declared.refusal.Refusal.{Refusal}
+use Rattle.calls.specs.Contents.{Content, Collection}
+use Rattle.calls.specs.Reads.{reads}
+use Rattle.calls.specs.Rules.{need_of, AsksForValue}
+use Rattle.calls.specs.Transactions.{Event}
+use Rattle.abstract_locks.specs.Holds.{IsClear, IsBusyRefusal}
+use Rattle.ledger.specs.LeftCalls.{GoesTwice}
+use Rattle.std.specs.Prelude.{OnOk, OnErr, IsOkUnless}
+use Rattle.boosted.specs.Meaning.{Meaning, HasRoom, CanAsk, AskRefused, CanDefer, DeferRefused}
+use Rattle.boosted.specs.Laws.{BoostedLaws}
+use Rattle.catalog.specs.declared.four.Four.{Four}
+use Rattle.catalog.specs.Fours.{Which, which_of, put}
+use Rattle.catalog.specs.Making.{Making, MakingLaws}
+use Rattle.catalog.specs.Shelving.{ShelfLaws}
+use Rattle.catalog.specs.Woven.{Label}
+use Rattle.shelf.specs.Shelves.{ShelfState}
+use Rattle.record_format.specs.declared.record.Record.{Record}
+use Rattle.record_format.specs.Records.{FitsCall, FitsReply}
+use Rattle.record_format.specs.Short.{AreShort}
+use Rattle.records.specs.Told.{Tells}
+use Rattle.records.proofs.Items.{widest_call}
+use Rattle.blocks.specs.Cuts.{CutsOff}
+use Rattle.blocks.specs.declared.block.Block.{Block}
+use Rattle.machine.specs.Machine.{State, IsRunning, IsSettled, CanCall, BeginRow, CallRow, ReadRow}
+use Rattle.machine.specs.Machine.{LaterRow}
+use Rattle.machine.specs.Machines.{HasRoomFor}
+use Rattle.machine.specs.Sound.{IsSound}
+use Rattle.machine.specs.Wholes.{state_on, contents, whole_state, IsJoined, StepsOn}
+use Rattle.machine.specs.Wholes.{StepsBeside}
+use Rattle.machine.specs.Accounts.{alone}
+use Rattle.machine.proofs.BookLaws.{BookLaws, book_laws}
+use Rattle.machine.proofs.Joining as joining
+use Rattle.machine.proofs.Steps.{begin_settles, call_settles, later_settles}
+use Rattle.machine.proofs.Readings.{read_settles}
+use Rattle.machine.proofs.InvariantRows.{call_room}
+use Rattle.gathering.specs.Gatherings.{noted, effect_at}
+use Rattle.gathering.proofs.Running.{are_run}
+use Rattle.txn.specs.declared.steps.Action.{Action}
+use Rattle.txn.specs.declared.steps.Target.{Target}
+use Rattle.txn.specs.Rows.{IsOpen, RunRefused, OpenRefused}
+use Rattle.txn.specs.Rows.{IsMade, record_of, later_record}
+use Rattle.txn.specs.Books.{BookState, standing, IsKept, Takes, CutAnswers, Appends, Moves}
+use Rattle.txn.specs.Books.{position}
+use Rattle.txn.specs.Shelved.{JournalState, book_state, standing_of, journal_position, Writes}
+use Rattle.txn.specs.Shelved.{Charges, Settles, IsBook, LeadsOn, LeadsBeside, Serves}
+use Rattle.txn.proofs.BookInvariant.{cut_keeps, enter_keeps, call_keeps, read_keeps, later_keeps}
+use Rattle.txn.proofs.CallRecords.{is_record}
+use Rattle.txn.proofs.Goings.{goes_still, goes_ran, position_after}
+
+module _ {S T N : Type 0} (whole : N → Four T → S) where
+  -- What the journal writes, the book appends.
+  pub appended : {j k : JournalState N} {r : Record} (f g : Four (ShelfState T)) → Writes j r k →
+      Appends (book_state whole j f) r (book_state whole k g)
+  appended {j} {k} f g writes = record {
+    room = writes.room;
+    is = ap (λ (v : JournalState N). record (book_state whole v f) {
+      state = whole_state whole k.names k.accounts g;
+      gathering = k.gathering;
+    }) writes.is;
+  }
+
+  -- Where only the accounts change, the book moves.
+  pub moved : (j k : JournalState N) (f g : Four (ShelfState T)) → Charges j k →
+      Moves (book_state whole j f) (book_state whole k g)
+  moved j k f g is = ap (λ (v : JournalState N). record (book_state whole v f) {
+    state = whole_state whole k.names k.accounts g;
+    gathering = k.gathering;
+  }) is
+
+-- ---- refusals, of what stands of the journal alone
+
+module _ {S T N : Type 0} (whole : N → Four T → S) (j : JournalState N) (f : Four (ShelfState T))
+    (n : ℕ) where
+  pub runs_whole : IsRunning (alone j.accounts) n →
+      IsRunning (whole_state whole j.names j.accounts f) n
+  runs_whole running = record { live = running.live; standing = running.standing }
+
+  pub opens_whole : (ask : Type 0) → IsOpen (Unit {0}) (standing_of j) n → ask →
+      IsOpen ask (standing (book_state whole j f)) n
+  opens_whole ask is asked = record {
+    running = runs_whole is.running;
+    asked = asked;
+    unworn = is.unworn;
+    few = is.few;
+    room = is.room;
+  }
+
+  pub run_refused : (ask : Type 0) (e : Refusal) → RunRefused (standing_of j) n e →
+      OpenRefused ask (standing (book_state whole j f)) n e
+  run_refused ask Refusal.NoSuchTxn is = is
+  run_refused ask Refusal.Falling is = is
+  run_refused ask e is = absurd is
+
+  pub open_refused : (ask : Type 0) (e : Refusal) → OpenRefused (Unit {0}) (standing_of j) n e →
+      ask → OpenRefused ask (standing (book_state whole j f)) n e
+  open_refused ask Refusal.NoSuchTxn is asked = is
+  open_refused ask Refusal.Falling is asked = is
+  open_refused ask Refusal.Worn is asked = (runs_whole is.0, asked, is.2)
+  open_refused ask Refusal.TooManyCalls is asked = (runs_whole is.0, asked, is.2, is.3)
+  open_refused ask Refusal.Backlog is asked = (runs_whole is.0, asked, is.2, is.3, is.4)
+  open_refused ask e is asked = absurd is
+
+module _ {S T N : Type 0} {meaning : Meaning S ℕ} {making : Making S}
+    {collections : S → List Collection} {shelf : Meaning T ℕ} {index : T → Which}
+    {holds : T → ℕ → Content → Type 0} {labels : N → List Label} {whole : N → Four T → S}
+    {fits : N → Four T → Type 0} (calls : BoostedLaws meaning) (makings : MakingLaws meaning making)
+    (told : Tells meaning making collections)
+    (shelves : ShelfLaws labels whole fits meaning making collections shelf index holds) where
+  laws : BookLaws meaning making (λ f s. AreShort f (collections s))
+  laws = book_laws calls makings told
+
+  abbrev Book : JournalState N → Four (ShelfState T) → Type 0
+  Book j f = IsBook meaning making collections whole fits j f
+
+  abbrev Kept : BookState S → Type 0
+  Kept b = IsKept meaning making (λ f s. AreShort f (collections s)) (IsSound meaning making) b
+
+  abbrev Served : {R : Type 0} → (Result R Refusal → Action) → Result R Refusal →
+      BookState S → BookState S → Type 0
+  Served action result b c = Serves meaning making collections action result b c
+
+  abbrev On : (BookState S → BookState S → Type 0) → Which → JournalState N → ShelfState T →
+      JournalState N → ShelfState T → Type 0
+  On Told w j s k t = LeadsOn meaning making collections whole fits Told w j s k t
+
+  abbrev Beside : (BookState S → BookState S → Type 0) → JournalState N → JournalState N → Type 0
+  Beside Told j k = LeadsBeside meaning making collections whole fits Told j k
+
+  -- A row of the machine that keeps a book, and is told of it so.
+  abbrev Keeps : (State S → State S → Type 0) → (BookState S → BookState S → Type 0) →
+      BookState S → BookState S → Type 0
+  Keeps Row Told b c = Kept b → Row b.state c.state → Kept c × Told b c
+
+  -- a refused step
+  pub refused_on : {R : Type 0} {action : Result R Refusal → Action} {e : Refusal} (w : Which)
+      (j : JournalState N) (s : ShelfState T) →
+      ((rest : Four (ShelfState T)) → Book j (put rest w s) → let b = book_state whole j
+      (put rest w s) in Takes meaning making b (action (Err e)) b) →
+      On (Served action (Err e)) w j s j s
+  refused_on w j s answer = record {
+    told = λ rest is. record { answer = answer rest is; settles = λ d v. v; goes = tt; notes = tt };
+    kept = λ rest is. is;
+  }
+
+  -- a step that only memory can refuse, and that leaves all as before then
+  pub or_refused : {R : Type 0} {action : Result R Refusal → Action} {w : Which}
+      {j : JournalState N} {s : ShelfState T} (k : JournalState N) (t : ShelfState T)
+      (result : Result R Refusal) → OnOk result (On (Served action result) w j s k t) →
+      OnErr result ((k ≡ j) × (t ≡ s)) → IsOkUnless result Refusal.NoMemory →
+      On (Served action (Err Refusal.NoMemory)) w j s j s → On (Served action result) w j s k t
+  or_refused k t (Ok done) ok same why none = ok
+  or_refused k t (Err e) ok same why none = rw (why, same.0, same.1) none
+
+  -- a step whose row the machine has in parts
+  pub leads_on : {Row : State S → State S → Type 0} {Told : BookState S → BookState S → Type 0}
+      {w : Which} {j k : JournalState N} {s t : ShelfState T} → k.names ≡ j.names →
+      StepsOn meaning making collections whole fits Row w j.names j.accounts s k.accounts t →
+      ((rest : Four (ShelfState T)) → Keeps Row Told (book_state whole j (put rest w s))
+      (book_state whole k (put rest w t))) → On Told w j s k t
+  leads_on {Row} {Told} {w} {j} {k} {s} {t} same steps keeps =
+      let both : (rest : Four (ShelfState T)) → Book j (put rest w s) → Book k (put rest w t) ×
+      Told (book_state whole j (put rest w s)) (book_state whole k (put rest w t)) =
+      λ rest is.
+      let c = book_state whole k (put rest w t) in
+      let row = subst (λ m. Row (whole_state whole j.names j.accounts (put rest w s))
+      (whole_state whole m k.accounts (put rest w t))) (sym same) (steps.row rest is.joined) in
+      let done = keeps rest is.kept row in (
+        record {
+          joined = subst (λ m. IsJoined meaning making collections whole fits m k.accounts
+              (put rest w t)) (sym same) (steps.joined rest is.joined);
+          kept = done.0;
+        },
+        done.1,
+      ) in
+      record { told = λ rest is. (both rest is).1; kept = λ rest is. (both rest is).0 }
+
+  pub leads_beside : {Row : State S → State S → Type 0} {Told : BookState S → BookState S → Type 0}
+      {j k : JournalState N} → k.names ≡ j.names →
+      StepsBeside meaning making collections whole fits Row j.names j.accounts k.accounts →
+      ((f : Four (ShelfState T)) → Keeps Row Told (book_state whole j f) (book_state whole k f)) →
+      Beside Told j k
+  leads_beside {Row} {Told} {j} {k} same steps keeps =
+      let both : (f : Four (ShelfState T)) → Book j f → Book k f ×
+      Told (book_state whole j f) (book_state whole k f) =
+      λ f is.
+      let row = subst (λ m. Row (whole_state whole j.names j.accounts f)
+      (whole_state whole m k.accounts f)) (sym same) (steps.row f is.joined) in
+      let done = keeps f is.kept row in (
+        record {
+          joined = subst (λ m. IsJoined meaning making collections whole fits m k.accounts f)
+              (sym same) (steps.joined f is.joined);
+          kept = done.0;
+        },
+        done.1,
+      ) in
+      record { told = λ f is. (both f is).1; kept = λ f is. (both f is).0 }
+
+  -- ---- records are handed over
+
+  pub cut_beside : (sends : List Block → Type 0) (full : Type 0) (result : Result Bool Refusal)
+      (j k : JournalState N) →
+      CutsOff j.pending j.freezes j.end j.place sends full result k.pending k.freezes k.end
+      k.place →
+      k ≡ record j { pending = k.pending; freezes = k.freezes; end = k.end; place = k.place } →
+      Beside (λ b c. CutAnswers b sends full result c × Settles meaning b c) j k
+  cut_beside sends full result j k cuts same =
+      let answer : (f : Four (ShelfState T)) →
+      CutAnswers (book_state whole j f) sends full result (book_state whole k f) =
+      λ f. (cuts, ap (λ v. book_state whole v f) same) in
+      record {
+        told = λ f is. (
+          answer f,
+          λ d v. subst (λ (u : JournalState N). IsSettled meaning
+              (whole_state whole u.names u.accounts f) d) (sym same) v,
+        );
+        kept = λ f is. record {
+          joined = subst (λ (u : JournalState N). IsJoined meaning making collections whole fits
+              u.names u.accounts f) (sym same) is.joined;
+          kept = cut_keeps meaning making (λ form s. AreShort form (collections s)) laws
+              (book_state whole j f) is.kept sends full result (book_state whole k f) (answer f);
+        };
+      }
+
+  -- ---- a transaction begins
+
+  pub enter_beside : (j k : JournalState N) (n : ℕ) →
+      BeginRow (alone j.accounts) n (alone k.accounts) → j.accounts.wear < 2 ^ 61 →
+      Writes j (Record.Begin n) k → k.names ≡ j.names → k.gathering ≡ j.gathering →
+      Beside (Served (Action.Enter n) (Ok tt)) j k
+  enter_beside j k n row unworn writes same still =
+      leads_beside same (joining.begin_joins shelves laws j.names j.accounts k.accounts n row)
+      (λ f kept row.
+      let b = book_state whole j f in
+      let c = book_state whole k f in
+      let to = appended whole f f writes in (
+        enter_keeps meaning making (λ form s. AreShort form (collections s)) laws b kept n c row
+            to,
+        record {
+          answer = (row, unworn, to);
+          settles = λ d v. begin_settles meaning making laws.rules b.state kept.upheld.holds n
+              c.state d row v;
+          goes = goes_still calls told b c (ap (λ (v : State S). v.now) row.is) still
+              (omega (arith, position_after b c (Record.Begin n) to));
+          notes = still;
+        },
+      ))
+
+  -- ---- calls
+
+  module _ (j : JournalState N) (s : ShelfState T) (n at : ℕ) (call : Call) where
+    abbrev Refuses : Refusal → Type 0
+    Refuses e = On (Served (Action.Call n (Target.Number at) call) (Err e)) (which_of at) j s j s
+
+    abbrev Opens : Type 0
+    Opens = IsOpen (Unit {0}) (standing_of j) n
+
+    abbrev can_ask : (rest : Four (ShelfState T)) → Book j (put rest (which_of at) s) →
+        CanAsk shelf j.accounts.format s.now at call →
+        CanAsk meaning j.accounts.format (whole j.names (contents (put rest (which_of at) s))) at
+        call
+    can_ask rest is asks = joining.asked_join shelves laws j.names j.accounts rest at s is.joined
+        j.accounts.format call asks
+
+    -- It is refused as its shelf shows,
+    pub call_misplaced : (e : Refusal) → IsRunning (alone j.accounts) n →
+        AskRefused shelf j.accounts.format s.now at call e → Refuses e
+    call_misplaced e running why = refused_on (which_of at) j s
+        (λ rest is. (
+          refl,
+          inr (inl (
+            runs_whole whole j (put rest (which_of at) s) n running,
+            joining.refused_join shelves laws j.names j.accounts rest at s is.joined
+                j.accounts.format call e why,
+          )),
+        ))
+
+    -- as the journal has no room,
+    pub call_unopened : (e : Refusal) → OpenRefused (Unit {0}) (standing_of j) n e →
+        CanAsk shelf j.accounts.format s.now at call → Refuses e
+    call_unopened e why asks = refused_on (which_of at) j s
+        (λ rest is. (
+          refl,
+          inl (open_refused whole j (put rest (which_of at) s) n _ e why
+              (can_ask rest is asks)),
+        ))
+
+    -- for want of memory for the reply,
+    pub call_starved : Opens → CanAsk shelf j.accounts.format s.now at call → AsksForValue call →
+        Refuses Refusal.NoMemory
+    call_starved opened asks value = refused_on (which_of at) j s
+        (λ rest is. (
+          refl,
+          inr (inr (
+            opens_whole whole j (put rest (which_of at) s) n _ opened
+                (can_ask rest is asks),
+            inl value,
+          )),
+        ))
+
+    module _ (reply : Reply) (opened : Opens) (asks : CanAsk shelf j.accounts.format s.now at call)
+        (answers : shelf.answers s.now at call reply) where
+      abbrev event : Event
+      event = record { at = at; call = call; reply = reply }
+
+      answered : (rest : Four (ShelfState T)) → Book j (put rest (which_of at) s) →
+          meaning.answers (whole j.names (contents (put rest (which_of at) s))) at call reply
+      answered rest is = joining.answered_join shelves laws j.names j.accounts rest at s is.joined
+          call reply answers
+
+      -- as it would leave what is going already,
+      pub call_twice : GoesTwice j.accounts.entries n event → Refuses Refusal.AlreadyGoing
+      call_twice twice = refused_on (which_of at) j s
+          (λ rest is. (
+            refl,
+            inr (inr (
+              opens_whole whole j (put rest (which_of at) s) n _ opened
+                  (can_ask rest is asks),
+              (reply, answered rest is, twice),
+            )),
+          ))
+
+      module _ (once : GoesTwice j.accounts.entries n event → ⊥) where
+        -- as a need is in its way,
+        pub call_busy : (e : Refusal) → IsBusyRefusal s.holds n at (need_of call reply) e →
+            Refuses e
+        call_busy (Refusal.Busy m) busy = refused_on (which_of at) j s
+            (λ rest is. (
+              refl,
+              inr (inr (
+                opens_whole whole j (put rest (which_of at) s) n _ opened
+                    (can_ask rest is asks),
+                (
+                  reply,
+                  answered rest is,
+                  once,
+                  joining.busy_join shelves laws
+                      j.names j.accounts rest at s is.joined n (need_of call reply) (Refusal.Busy m) busy,
+                ),
+              )),
+            ))
+        call_busy e busy = absurd busy
+
+        module _ (clear : IsClear s.holds n at (need_of call reply)) where
+          -- or for want of memory to note it.
+          pub call_hungry : Refuses Refusal.NoMemory
+          call_hungry = refused_on (which_of at) j s
+              (λ rest is. (
+                refl,
+                inr (inr (
+                  opens_whole whole j (put rest (which_of at) s) n _ opened
+                      (can_ask rest is asks),
+                  inr (
+                    reply,
+                    answered rest is,
+                    once,
+                    joining.clear_join shelves
+                        laws j.names j.accounts rest at s is.joined n (need_of call reply) clear,
+                  ),
+                )),
+              ))
+
+          -- Else it can be made.
+          pub can_call : (rest : Four (ShelfState T)) → Book j (put rest (which_of at) s) →
+              CanCall shelf (state_on j.accounts s) n event
+          can_call rest is = record {
+            running = record { live = opened.running.live; standing = opened.running.standing };
+            asked = asks;
+            told = joining.told_join shelves laws j.names j.accounts rest at s is.joined call reply
+                answers;
+            few = opened.few;
+            answered = answers;
+            once = once;
+            clear = clear;
+          }
+
+    -- There is room for one call more.
+    pub room_on : Opens → (rest : Four (ShelfState T)) → Book j (put rest (which_of at) s) →
+        HasRoomFor (state_on j.accounts s) 1
+    room_on opened rest is = (call_room meaning making (λ form s. AreShort form (collections s))
+        laws
+        (whole_state whole j.names j.accounts (put rest (which_of at) s)) is.kept.upheld n at call
+        (runs_whole whole j (put rest (which_of at) s) n opened.running) opened.few opened.unworn).0
+
+    pub reach_on : (rest : Four (ShelfState T)) → Book j (put rest (which_of at) s) →
+        HasRoom shelf s.now
+    reach_on rest is = joining.reach_join shelves laws j.names j.accounts rest at s is.joined
+
+    -- A call is made.
+    pub call_on : (reply : Reply) (k : JournalState N) (t : ShelfState T) →
+        let e : Event = record { at = at; call = call; reply = reply } in
+        Opens → reads call reply ≡ false → (FitsCall call) → (FitsReply reply) → at < 256 →
+        CallRow shelf (state_on j.accounts s) n e (state_on k.accounts t) →
+        Writes j (record_of n e) k → k.names ≡ j.names →
+        k.gathering ≡ noted j.gathering (effect_at (journal_position j + 1) e ∷ []) →
+        On (Served (Action.Call n (Target.Number at) call) (Ok reply)) (which_of at) j s k t
+    call_on reply k t opened written fit fits_reply few row writes same notes =
+        let e : Event = record { at = at; call = call; reply = reply } in
+        leads_on same (joining.call_joins shelves laws j.names j.accounts k.accounts s t n e row)
+        (λ rest kept row.
+        let f = put rest (which_of at) s in
+        let b = book_state whole j f in
+        let c = book_state whole k (put rest (which_of at) t) in
+        let to = appended whole f (put rest (which_of at) t) writes in
+        let room = row.room in
+        let good = is_record n at (collections b.state.now) call reply
+        (kept.upheld.numbers n opened.running.live) few row.can.asked.1
+        ((told.answers b.state.now at call reply).0 row.can.answered) fit fits_reply in (
+          call_keeps meaning making (λ form s. AreShort form (collections s)) laws b kept n e c
+              row to good,
+          record {
+            answer = (
+              subst (λ only. IsMade meaning making standing Appends Moves only b n e c)
+                  (sym written) (row, to),
+              opened.unworn,
+            );
+            settles = λ d v. call_settles meaning making laws.rules b.state kept.upheld.holds n
+                e c.state d row v;
+            goes = goes_ran calls told b c (effect_at (position b + 1) e ∷ []) b.state.wear
+                kept.upheld.reached (omega arith)
+                (are_run meaning (position b + 1) (e ∷ []) b.state.now c.state.now
+                (c.state.now, (row.can.answered, ap (λ (v : State S). v.now) row.is), refl)
+                (widest_call b.state.format call row.can.asked.2, tt)) notes
+                (position_after b c (record_of n e) to);
+            notes = notes ∙ sym (ap (λ r. cond r b.gathering (noted b.gathering
+                (effect_at (position b + 1) e ∷ []))) written);
+          },
+        ))
+
+    -- One that only reads is noted.
+    pub read_on : (reply : Reply) (k : JournalState N) (t : ShelfState T) →
+        let e : Event = record { at = at; call = call; reply = reply } in
+        Opens → reads call reply ≡ true →
+        ReadRow shelf (state_on j.accounts s) n e (state_on k.accounts t) → Charges j k →
+        On (Served (Action.Call n (Target.Number at) call) (Ok reply)) (which_of at) j s k t
+    read_on reply k t opened only_reads row charges =
+        let e : Event = record { at = at; call = call; reply = reply } in
+        leads_on (ap (λ (v : JournalState N). v.names) charges)
+        (joining.read_joins shelves laws j.names j.accounts k.accounts s t n e row)
+        (λ rest kept row.
+        let f = put rest (which_of at) s in
+        let b = book_state whole j f in
+        let c = book_state whole k (put rest (which_of at) t) in
+        let to = moved whole j k f (put rest (which_of at) t) charges in (
+          read_keeps meaning making (λ form s. AreShort form (collections s)) laws b kept n e c
+              row to,
+          record {
+            answer = (
+              subst (λ only. IsMade meaning making standing Appends Moves only b n e c)
+                  (sym only_reads) (row, opened.room, to),
+              opened.unworn,
+            );
+            settles = λ d v. read_settles meaning making laws.rules b.state c.state n e d
+                kept.upheld.holds row v;
+            goes = goes_still calls told b c (ap (λ (v : State S). v.now) row.is)
+                (ap (λ (v : JournalState N). v.gathering) charges)
+                (omega (arith, ap (λ (v : BookState S). position v) to));
+            notes = ap (λ (v : JournalState N). v.gathering) charges ∙ sym (ap (λ r. cond r b.gathering
+                (noted b.gathering (effect_at (position b + 1) e ∷ []))) only_reads);
+          },
+        ))
+
+    -- ---- calls that are put off
+
+    abbrev Declines : Refusal → Type 0
+    Declines e = On (Served (Action.Later n (Target.Number at) call) (Err e)) (which_of at) j s j s
+
+    abbrev can_defer : (rest : Four (ShelfState T)) → Book j (put rest (which_of at) s) →
+        CanDefer shelf s.now at call →
+        CanDefer meaning (whole j.names (contents (put rest (which_of at) s))) at call
+    can_defer rest is defers = joining.deferred_join shelves laws j.names j.accounts rest at s
+        is.joined call defers
+
+    -- It is refused as its shelf shows,
+    pub later_misplaced : (e : Refusal) → IsRunning (alone j.accounts) n →
+        DeferRefused shelf s.now at call e → Declines e
+    later_misplaced e running why = refused_on (which_of at) j s
+        (λ rest is. (
+          refl,
+          inr (inl (
+            runs_whole whole j (put rest (which_of at) s) n running,
+            joining.defer_refused_join shelves laws j.names j.accounts rest at s is.joined call e
+                why,
+          )),
+        ))
+
+    -- as the journal has no room,
+    pub later_unopened : (e : Refusal) → OpenRefused (Unit {0}) (standing_of j) n e →
+        CanDefer shelf s.now at call → Declines e
+    later_unopened e why defers = refused_on (which_of at) j s
+        (λ rest is. (
+          refl,
+          inl (open_refused whole j (put rest (which_of at) s) n _ e why
+              (can_defer rest is defers)),
+        ))
+
+    module _ (opened : Opens) (defers : CanDefer shelf s.now at call) where
+      -- as a need is in its way,
+      pub later_busy : (e : Refusal) → IsBusyRefusal s.holds n at (need_of call Reply.Done) e →
+          Declines e
+      later_busy (Refusal.Busy m) busy = refused_on (which_of at) j s
+          (λ rest is. (
+            refl,
+            inr (inr (
+              opens_whole whole j (put rest (which_of at) s) n _ opened
+                  (can_defer rest is defers),
+              joining.busy_join shelves laws j.names j.accounts rest at s
+                  is.joined n (need_of call Reply.Done) (Refusal.Busy m) busy,
+            )),
+          ))
+      later_busy e busy = absurd busy
+
+      module _ (clear : IsClear s.holds n at (need_of call Reply.Done)) where
+        -- or for want of memory to note it.
+        pub later_hungry : Declines Refusal.NoMemory
+        later_hungry = refused_on (which_of at) j s
+            (λ rest is. (
+              refl,
+              inr (inr (
+                opens_whole whole j (put rest (which_of at) s) n _ opened
+                    (can_defer rest is defers),
+                joining.clear_join shelves laws j.names j.accounts rest at s
+                    is.joined n (need_of call Reply.Done) clear,
+              )),
+            ))
+
+    -- It is put off.
+    pub later_on : (k : JournalState N) (t : ShelfState T) → Opens → at < 256 →
+        LaterRow shelf (state_on j.accounts s) n at call (state_on k.accounts t) →
+        Writes j (later_record n at call) k → k.names ≡ j.names → k.gathering ≡ j.gathering →
+        On (Served (Action.Later n (Target.Number at) call) (Ok tt)) (which_of at) j s k t
+    later_on k t opened few row writes same still =
+        leads_on same (joining.later_joins shelves laws j.names j.accounts k.accounts s t n at call
+        row)
+        (λ rest kept row.
+        let f = put rest (which_of at) s in
+        let b = book_state whole j f in
+        let c = book_state whole k (put rest (which_of at) t) in
+        let to = appended whole f (put rest (which_of at) t) writes in (
+          later_keeps meaning making (λ form s. AreShort form (collections s)) laws b kept n at
+              call c row to few,
+          record {
+            answer = (row, opened.unworn, to);
+            settles = λ d v. later_settles meaning making laws.rules b.state kept.upheld.holds n
+                at call c.state d row v;
+            goes = goes_still calls told b c (ap (λ (v : State S). v.now) row.is) still
+                (omega (arith, position_after b c (later_record n at call) to));
+            notes = still;
+          },
+        ))

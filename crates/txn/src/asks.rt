@@ -1,0 +1,274 @@
+// Calls of transactions on one shelf, at once and put off.
+ghost use Rattle.std.specs.Prelude.{◌≡◌, true, false, Ok, OnOk, OnErr, IfOk, IfErr, IsOkUnless};
+ghost use Rattle.calls.specs.Reads.{reads};
+ghost use Rattle.calls.specs.Rules.{need_of};
+ghost use Rattle.calls.specs.declared.reply.Reply.{Reply};
+ghost use Rattle.undo_log.specs.Entries.{event_of};
+ghost use Rattle.catalog.specs.Fours.{which_of};
+ghost use Rattle.shelf.specs.Looks.{IsLooked, IsLookedLater};
+ghost use Rattle.machine.specs.Machine.{IsRunning, CanCall, CanPutOff};
+ghost use Rattle.machine.specs.Wholes.{state_on};
+ghost use Rattle.txn.specs.declared.steps.Action.{Action};
+ghost use Rattle.txn.specs.declared.steps.Target.{Target};
+ghost use Rattle.txn.specs.Rows.{later_record, IsOpen, OpenRefused};
+ghost use Rattle.txn.specs.Shelved.{standing_of, IsOfBook, LeadsOn, Serves};
+
+use crate::Journal;
+use calls::limits::{MAX_CALLS, NUMBER_END};
+use calls::{Call, Need, Refusal, Reply};
+use catalog::Parts;
+use records::{Coded, LaterRecord, Record, call_len, encoded_len, fits_call, fits_reply};
+use shelf::{Looked, Shelf};
+use undo_log::{Later, Logged};
+
+impl<B: Parts + Coded> Journal<B> {
+    /// The transaction's call on the collection of a number, made at once under the need that it
+    /// has with its reply. It is what `Shelf::look` came to on the shelf of the number, which has
+    /// not changed since. A call that only reads is not journalled: no record waits for it, and it
+    /// does not wear. Its need is held to the end as that of another.
+    ///
+    /// NoSuchTxn, Falling, what the look was refused with, Worn, TooManyCalls at 1,024 calls and
+    /// laters, Backlog, NoMemory where the look starved, AlreadyGoing where the transaction left to
+    /// its commit already what this call would leave, Busy as the look says, NoMemory. Each leaves
+    /// journal and shelf as before.
+    pub fn call(
+        &mut self,
+        shelf: &mut Shelf<B::Shelf>,
+        number: u64,
+        at: u8,
+        call: &Call,
+        looked: Looked,
+    ) -> Result<Reply, Refusal>
+        requires kept { IsOfBook B.meaning B.making B.collections B.whole B.fits (which_of at)
+            self.old shelf.old }
+        requires looked { IsLooked B.Shelf.meaning self.old.accounts.format shelf.old number at
+            call.now looked }
+        ensures { LeadsOn B.meaning B.making B.collections B.whole B.fits
+            (Serves B.meaning B.making B.collections
+            (Action.Call number (Target.Number at) call.now) result) (which_of at) self.old
+            shelf.old self.new shelf.new }
+    {
+        self.check_running(number)?;
+        match looked {
+            Looked::Refused(refusal) => Err(refusal),
+            Looked::Starved => {
+                self.check_room(number)?;
+                Err(Refusal::NoMemory)
+            }
+            Looked::Answered { reply, need, clear } => {
+                self.check_room(number)?;
+                if self.accounts.goes_twice(number, at, call, &reply) {
+                    return Err(Refusal::AlreadyGoing);
+                }
+                clear?;
+                self.make_call(shelf, number, at, call, &reply, need)?;
+                Ok(reply)
+            }
+        }
+    }
+
+    /// Puts the call off to the transaction's commit, under the need that it has with the reply
+    /// Done. It is what `Shelf::look_later` came to on the shelf of the number, which has not
+    /// changed since. Until the commit it shows in no reply, not even to its own transaction.
+    ///
+    /// NoSuchTxn, Falling, what the look was refused with, Worn, TooManyCalls at 1,024 calls and
+    /// laters, Backlog, Busy as the look says, NoMemory. Each leaves journal and shelf as before.
+    pub fn later(
+        &mut self,
+        shelf: &mut Shelf<B::Shelf>,
+        number: u64,
+        at: u8,
+        call: &Call,
+        looked: Looked,
+    ) -> Result<(), Refusal>
+        requires kept { IsOfBook B.meaning B.making B.collections B.whole B.fits (which_of at)
+            self.old shelf.old }
+        requires looked { IsLookedLater B.Shelf.meaning shelf.old number at call.now looked }
+        ensures { LeadsOn B.meaning B.making B.collections B.whole B.fits
+            (Serves B.meaning B.making B.collections
+            (Action.Later number (Target.Number at) call.now) result) (which_of at) self.old
+            shelf.old self.new shelf.new }
+    {
+        self.check_running(number)?;
+        match looked {
+            Looked::Refused(refusal) => Err(refusal),
+            Looked::Starved => unreachable!(),
+            Looked::Answered {
+                reply: _reply,
+                need,
+                clear,
+            } => {
+                self.check_room(number)?;
+                clear?;
+                self.put_off(shelf, number, at, call, need)
+            }
+        }
+    }
+
+    // Makes the call that gets the reply, under its record unless it only reads.
+    fn make_call(
+        &mut self,
+        shelf: &mut Shelf<B::Shelf>,
+        number: u64,
+        at: u8,
+        call: &Call,
+        reply: &Reply,
+        need: Need,
+    ) -> Result<(), Refusal>
+        requires kept { IsOfBook B.meaning B.making B.collections B.whole B.fits (which_of at)
+            self.old shelf.old }
+        requires open { IsOpen (Unit {0}) (standing_of self.old) number }
+        requires can { CanCall B.Shelf.meaning (state_on self.old.accounts shelf.old) number
+            (record { at = at; call = call.now; reply = reply.now }) }
+        requires needed { need ≡ need_of call.now reply.now }
+        ensures ok { OnOk result (LeadsOn B.meaning B.making B.collections B.whole B.fits
+            (Serves B.meaning B.making B.collections
+            (Action.Call number (Target.Number at) call.now) (Ok reply.now)) (which_of at) self.old
+            shelf.old self.new shelf.new) }
+        ensures same { OnErr result ((self.new ≡ self.old) × (shelf.new ≡ shelf.old)) }
+        ensures refusal { IsOkUnless result Refusal.NoMemory }
+    {
+        if call.reads(reply) {
+            self.note_read(shelf, number, at, call, reply, need)
+        } else {
+            self.note_call(shelf, number, at, call, reply, need)
+        }
+    }
+
+    // Notes the call, which only reads.
+    fn note_read(
+        &mut self,
+        shelf: &mut Shelf<B::Shelf>,
+        number: u64,
+        at: u8,
+        call: &Call,
+        reply: &Reply,
+        need: Need,
+    ) -> Result<(), Refusal>
+        requires kept { IsOfBook B.meaning B.making B.collections B.whole B.fits (which_of at)
+            self.old shelf.old }
+        requires open { IsOpen (Unit {0}) (standing_of self.old) number }
+        requires can { CanCall B.Shelf.meaning (state_on self.old.accounts shelf.old) number
+            (record { at = at; call = call.now; reply = reply.now }) }
+        requires needed { need ≡ need_of call.now reply.now }
+        requires only_reads { reads call.now reply.now ≡ true }
+        ensures ok { OnOk result (LeadsOn B.meaning B.making B.collections B.whole B.fits
+            (Serves B.meaning B.making B.collections
+            (Action.Call number (Target.Number at) call.now) (Ok reply.now)) (which_of at) self.old
+            shelf.old self.new shelf.new) }
+        ensures same { OnErr result ((self.new ≡ self.old) × (shelf.new ≡ shelf.old)) }
+        ensures refusal { IsOkUnless result Refusal.NoMemory }
+    {
+        let asked = logged(at, call, reply)?;
+        self.accounts.read(shelf, number, asked, need)
+    }
+
+    // Makes the call, which does not only read, under its record, from its parts.
+    fn note_call(
+        &mut self,
+        shelf: &mut Shelf<B::Shelf>,
+        number: u64,
+        at: u8,
+        call: &Call,
+        reply: &Reply,
+        need: Need,
+    ) -> Result<(), Refusal>
+        requires kept { IsOfBook B.meaning B.making B.collections B.whole B.fits (which_of at)
+            self.old shelf.old }
+        requires open { IsOpen (Unit {0}) (standing_of self.old) number }
+        requires can { CanCall B.Shelf.meaning (state_on self.old.accounts shelf.old) number
+            (record { at = at; call = call.now; reply = reply.now }) }
+        requires needed { need ≡ need_of call.now reply.now }
+        requires written { reads call.now reply.now ≡ false }
+        ensures ok { OnOk result (LeadsOn B.meaning B.making B.collections B.whole B.fits
+            (Serves B.meaning B.making B.collections
+            (Action.Call number (Target.Number at) call.now) (Ok reply.now)) (which_of at) self.old
+            shelf.old self.new shelf.new) }
+        ensures same { OnErr result ((self.new ≡ self.old) × (shelf.new ≡ shelf.old)) }
+        ensures refusal { IsOkUnless result Refusal.NoMemory }
+    {
+        prove!(fits_call(call));
+        prove!(fits_reply(reply));
+        let position = self.next_position();
+        self.pending.reserve(call_len(call, reply))?;
+        let asked = logged(at, call, reply)?;
+        let effect = self.gathering.effect_of_call(&asked, position)?;
+        self.accounts.call(shelf, number, asked, need)?;
+        self.gathering.note(effect);
+        self.pending.push_call(number, at, call, reply);
+        Ok(())
+    }
+
+    // Puts the call off, under its record.
+    fn put_off(
+        &mut self,
+        shelf: &mut Shelf<B::Shelf>,
+        number: u64,
+        at: u8,
+        call: &Call,
+        need: Need,
+    ) -> Result<(), Refusal>
+        requires kept { IsOfBook B.meaning B.making B.collections B.whole B.fits (which_of at)
+            self.old shelf.old }
+        requires open { IsOpen (Unit {0}) (standing_of self.old) number }
+        requires can { CanPutOff B.Shelf.meaning (state_on self.old.accounts shelf.old) number at
+            call.now }
+        requires needed { need ≡ need_of call.now Reply.Done }
+        ensures ok { OnOk result (LeadsOn B.meaning B.making B.collections B.whole B.fits
+            (Serves B.meaning B.making B.collections
+            (Action.Later number (Target.Number at) call.now) result) (which_of at) self.old
+            shelf.old self.new shelf.new) }
+        ensures same { OnErr result ((self.new ≡ self.old) × (shelf.new ≡ shelf.old)) }
+        ensures refusal { IsOkUnless result Refusal.NoMemory }
+    {
+        let put = Later {
+            at,
+            call: call.copy()?,
+        };
+        let entry = later_record(number, at, call)?;
+        self.pending.reserve(encoded_len(&entry))?;
+        self.accounts.later(shelf, number, put, need)?;
+        self.pending.push(entry);
+        Ok(())
+    }
+
+    // Whether the running transaction has room for what it can ask.
+    fn check_room(&self, number: u64) -> Result<(), Refusal>
+        requires { IsRunning (standing_of self.now).state number }
+        ensures ok { OnOk result (IsOpen (Unit {0}) (standing_of self.now) number) }
+        ensures err { IfErr result (OpenRefused (Unit {0}) (standing_of self.now) number) }
+    {
+        if self.accounts.wear() >= NUMBER_END {
+            return Err(Refusal::Worn);
+        }
+        if self.accounts.live().count(number) >= MAX_CALLS {
+            return Err(Refusal::TooManyCalls);
+        }
+        self.check_backlog()
+    }
+}
+
+// The call with its reply once more, for the log.
+fn logged(at: u8, call: &Call, reply: &Reply) -> Result<Logged, Refusal>
+    ensures ok { IfOk result (λ asked. event_of asked ≡
+        record { at = at; call = call.now; reply = reply.now }) }
+    ensures refusal { IsOkUnless result Refusal.NoMemory }
+{
+    Ok(Logged {
+        at,
+        call: call.copy()?,
+        reply: reply.copy()?,
+    })
+}
+
+// The record of a call that is put off.
+fn later_record(number: u64, at: u8, call: &Call) -> Result<Record, Refusal>
+    ensures ok { IfOk result (λ entry. entry ≡ later_record number at call.now) }
+    ensures refusal { IsOkUnless result Refusal.NoMemory }
+{
+    Ok(Record::Later(LaterRecord {
+        number,
+        collection: at,
+        call: call.copy()?,
+    }))
+}

@@ -1,0 +1,201 @@
+// Ends of transactions: undoing, commits, and what is done with.
+ghost use Rattle.std.specs.Prelude.{◌≡◌, ◌+◌, ◌<◌, ◌^◌, ◌∷◌, [], map, length, IfOk, IfErr, IfSome};
+ghost use Rattle.std.specs.Prelude.{IfNone, OnOk, OnErr, IsOkUnless, IsTrue, ◌↔◌, Ok, true};
+ghost use Rattle.calls.specs.Limits.{max_pending};
+ghost use Rattle.calls.specs.Transactions.{own, laters_of};
+ghost use Rattle.undo_log.specs.Entries.{stamped_entry, HasNoCall};
+ghost use Rattle.undo_log.specs.Logs.{Lives};
+ghost use Rattle.catalog.specs.Fours.{which_of};
+ghost use Rattle.record_format.specs.declared.record.Record.{Record};
+ghost use Rattle.machine.specs.Machine.{IsRunning, HasNewestRead};
+ghost use Rattle.machine.specs.Accounts.{finished};
+ghost use Rattle.gathering.specs.Gatherings.{noted, effect_at};
+ghost use Rattle.txn.specs.declared.steps.Action.{Action};
+ghost use Rattle.txn.specs.Rows.{CommitRefused, EndedRefused};
+ghost use Rattle.txn.specs.Shelved.{standing_of, journal_position, IsJournal, IsOfBook, LeadsOn};
+ghost use Rattle.txn.specs.Shelved.{LeadsBeside, Serves, Writes, HasNewestAt};
+
+use crate::Journal;
+use crate::journal::MARK_LEN;
+use calls::Refusal;
+use catalog::Parts;
+use records::{Coded, Record};
+use shelf::Shelf;
+use undo_log::Stamped;
+
+impl<B: Parts + Coded> Journal<B> {
+    /// The number of the collection of the transaction's newest call that is not undone, if there
+    /// is one. This is no step.
+    pub fn newest(&self, number: u64) -> Option<u8>
+        ensures some { IfSome result (HasNewestAt number self.now.accounts.entries) }
+        ensures none { IfNone result (HasNoCall number self.now.accounts.entries) }
+    {
+        match self.accounts.live().newest(number) {
+            Some(newest) => Some(newest.at),
+            None => None,
+        }
+    }
+
+    /// Undoes the newest call of the transaction that is not undone, which is on this shelf, and
+    /// answers true. From then on the transaction is falling. It holds its needs until it ends. No
+    /// record tells of the undoing of a call that only read, and it does not wear.
+    ///
+    /// NoSuchTxn, Backlog, NoMemory. Each leaves journal and shelf as before.
+    pub fn back(
+        &mut self,
+        shelf: &mut Shelf<B::Shelf>,
+        number: u64,
+        at: u8,
+    ) -> Result<bool, Refusal>
+        requires kept { IsOfBook B.meaning B.making B.collections B.whole B.fits (which_of at)
+            self.old shelf.old }
+        requires newest { HasNewestAt number self.old.accounts.entries at }
+        ensures { LeadsOn B.meaning B.making B.collections B.whole B.fits
+            (Serves B.meaning B.making B.collections (Action.Back number) result) (which_of at)
+            self.old shelf.old self.new shelf.new }
+    {
+        self.check_live(number)?;
+        self.check_backlog()?;
+        if self.newest_reads(number) {
+            self.accounts.unread(number);
+            return Ok(true);
+        }
+        self.write_back(shelf, number, at)?;
+        Ok(true)
+    }
+
+    /// Answers the undoing of a transaction of which no call is left: false, and it is falling from
+    /// then on.
+    ///
+    /// NoSuchTxn, Backlog. Each leaves the journal as before.
+    pub fn back_none(&mut self, number: u64) -> Result<bool, Refusal>
+        requires kept { IsJournal B.meaning B.making B.collections B.whole B.fits self.old }
+        requires none { HasNoCall number self.old.accounts.entries }
+        ensures { LeadsBeside B.meaning B.making B.collections B.whole B.fits
+            (Serves B.meaning B.making B.collections (Action.Back number) result) self.old
+            self.new }
+    {
+        self.check_live(number)?;
+        self.check_backlog()?;
+        self.accounts.fall(number);
+        Ok(false)
+    }
+
+    /// The first part of a commit, and the one that can be refused: the record waits, what the
+    /// commit runs is noted, and the answer is the count of commits and makes since the book was
+    /// opened, this one included. The transaction's shelves are settled next, and then it is
+    /// finished.
+    ///
+    /// NoSuchTxn, Falling, Backlog, NoMemory. Each leaves the journal as before.
+    pub fn prepare_commit(&mut self, number: u64) -> Result<u64, Refusal>
+        requires kept { IsJournal B.meaning B.making B.collections B.whole B.fits self.old }
+        ensures running { OnOk result (IsRunning (standing_of self.old).state number) }
+        ensures written { OnOk result (Writes self.old (Record.Commit number) self.new) }
+        ensures place { IfOk result (λ place. place ≡ self.new.places) }
+        ensures accounts { OnOk result (self.new.accounts ≡ self.old.accounts) }
+        ensures names { OnOk result (self.new.names ≡ self.old.names) }
+        ensures noted { OnOk result (self.new.gathering ≡ noted self.old.gathering
+            (map (effect_at (journal_position self.old + 1))
+            (laters_of (own number self.old.accounts.entries)))) }
+        ensures same { OnErr result (self.new ≡ self.old) }
+        ensures err { IfErr result (CommitRefused (standing_of self.old) number) }
+    {
+        self.check_running(number)?;
+        self.check_backlog()?;
+        let position = self.next_position();
+        self.pending.reserve(MARK_LEN)?;
+        let entries = self.accounts.live().entries_of(number);
+        let effects = self.gathering.effects_of_commit(entries, position)?;
+        self.gathering.note_all(effects);
+        self.pending.push(Record::Commit(number));
+        self.places += 1;
+        Ok(self.places)
+    }
+
+    /// The first part of an end, and the one that can be refused: the record waits. The
+    /// transaction's needs are given up next, and then it is finished.
+    ///
+    /// NoSuchTxn, Unfinished where a call is not undone, Backlog, NoMemory. Each leaves the journal
+    /// as before.
+    pub fn prepare_end(&mut self, number: u64) -> Result<(), Refusal>
+        requires kept { IsJournal B.meaning B.making B.collections B.whole B.fits self.old }
+        ensures live { OnOk result (Lives self.old.accounts.live number) }
+        ensures undone { OnOk result (HasNoCall number self.old.accounts.entries) }
+        ensures written { OnOk result (Writes self.old (Record.Ended number) self.new) }
+        ensures accounts { OnOk result (self.new.accounts ≡ self.old.accounts) }
+        ensures names { OnOk result (self.new.names ≡ self.old.names) }
+        ensures noted { OnOk result (self.new.gathering ≡ self.old.gathering) }
+        ensures same { OnErr result (self.new ≡ self.old) }
+        ensures err { IfErr result (EndedRefused (standing_of self.old) number) }
+    {
+        self.check_live(number)?;
+        if self.newest(number).is_some() {
+            return Err(Refusal::Unfinished);
+        }
+        self.check_backlog()?;
+        self.pending.reserve(MARK_LEN)?;
+        self.pending.push(Record::Ended(number));
+        Ok(())
+    }
+
+    /// What the transaction asked for and did not undo, in the order asked. This is no step.
+    pub fn entries_of(&self, number: u64) -> &[Stamped]
+        ensures { map stamped_entry result.now ≡ own number self.now.accounts.entries }
+    {
+        self.accounts.live().entries_of(number)
+    }
+
+    /// The last part of a commit or an end: the transaction is taken out, for which so many calls
+    /// ran on its shelves. It takes no memory.
+    pub fn finish(&mut self, number: u64, ran: u64)
+        requires { self.old.accounts.wear + ran < 2 ^ 64 }
+        ensures { self.new ≡ record self.old {
+          accounts = finished number ran self.old.accounts;
+        } }
+    {
+        self.accounts.finish(number, ran);
+    }
+
+    // Undoes the newest call, which does not only read, under its record.
+    fn write_back(
+        &mut self,
+        shelf: &mut Shelf<B::Shelf>,
+        number: u64,
+        at: u8,
+    ) -> Result<(), Refusal>
+        requires kept { IsOfBook B.meaning B.making B.collections B.whole B.fits (which_of at)
+            self.old shelf.old }
+        requires live { Lives self.old.accounts.live number }
+        requires newest { HasNewestAt number self.old.accounts.entries at }
+        requires written { HasNewestRead number self.old.accounts.entries → ⊥ }
+        requires room { length self.old.pending < max_pending }
+        ensures ok { OnOk result (LeadsOn B.meaning B.making B.collections B.whole B.fits
+            (Serves B.meaning B.making B.collections (Action.Back number) (Ok true)) (which_of at)
+            self.old shelf.old self.new shelf.new) }
+        ensures same { OnErr result ((self.new ≡ self.old) × (shelf.new ≡ shelf.old)) }
+        ensures refusal { IsOkUnless result Refusal.NoMemory }
+    {
+        let position = self.next_position();
+        self.pending.reserve(MARK_LEN)?;
+        let Some(newest) = self.accounts.live().newest(number) else {
+            unreachable!();
+        };
+        let effect = self
+            .gathering
+            .effect_of_undoing(shelf.collections(), newest, position)?;
+        self.accounts.back(shelf, number)?;
+        self.gathering.note(effect);
+        self.pending.push(Record::Back(number));
+        Ok(())
+    }
+
+    // Whether the newest call of the transaction is there and only reads.
+    fn newest_reads(&self, number: u64) -> bool
+        ensures { IsTrue result ↔ HasNewestRead number self.now.accounts.entries }
+    {
+        match self.accounts.live().newest(number) {
+            Some(newest) => newest.call.reads(&newest.reply),
+            None => false,
+        }
+    }
+}
