@@ -16,7 +16,8 @@ use Rattle.recovery.specs.Openings.{KeepsContent}
 use Rattle.repetition.specs.Journals.{StandsFor}
 use Rattle.clients.specs.Known.{SeenState}
 use Rattle.store.specs.Closing.{Closes, WasKept}
-use Rattle.clients.specs.Known.{Known, step_of, AreOwned}
+use Rattle.clients.specs.Known.{Known, step_of}
+use Rattle.clients.specs.Owners.{AreOwned}
 use Rattle.clients.specs.declared.naming.Naming as namings
 use Rattle.txn.specs.Books.{BookState}
 use Rattle.txn.specs.declared.steps.Action.{Action}

@@ -4,7 +4,7 @@ use crate::plays::workbench::Workbench;
 use crate::plays::{questions, talked};
 use crate::sweeps::{any_areas, copies, stops, sweeping, upgrades};
 use crate::system::System;
-use crate::threads::{load, second_call_during_sync};
+use crate::threads::{load, looks_on_two_shelves, second_call_during_sync};
 use crate::{bench, comparison, damage, files, image_bytes, runs, spellings, texts, watched};
 use std::fs::{self, File};
 use std::io;
@@ -39,6 +39,10 @@ fn ask_of_threads(
         "serve_ends" => runs::serve_ends(rt, bench, told),
         "second_call_during_sync" => {
             second_call_during_sync::run(rt, told);
+            Ok(())
+        }
+        "looks_on_two_shelves" => {
+            looks_on_two_shelves::run(rt, told);
             Ok(())
         }
         "load" => load::run(rt, told),

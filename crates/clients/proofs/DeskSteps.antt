@@ -4,14 +4,16 @@ use Rattle.std.proofs.Common.{Result, Ok, Err, List, [], ◌∷◌, ◌++◌, re
 use Rattle.std.proofs.Common.{subst, arith}
 use Rattle.std.specs.List.{AllByRecursion}
 use Rattle.std.proofs.lemmas.List.{append-nil}
-use Rattle.boosted.proofs.Each.{each_append, each_back}
+use Rattle.boosted.proofs.Each.{each_back}
 use Rattle.calls.specs.Contents.{Collection}
 use Rattle.calls.specs.declared.refusal.Refusal.{Refusal}
 use Rattle.record_format.specs.declared.record.Record.{Record}
 use Rattle.record_format.specs.Records.{IsRecord}
 use Rattle.blocks.specs.declared.block.Block.{Block}
 use Rattle.machine.specs.Machine.{journalled}
+use Rattle.repetition.specs.Steps as repeated
 use Rattle.repetition.specs.Steps.{Repeats}
+use Rattle.repetition.proofs.OneFormat.{repeats_format}
 use Rattle.txn.specs.declared.steps.Action.{Action}
 use Rattle.txn.specs.declared.steps.BookStep.{BookStep}
 use Rattle.txn.specs.Books.{BookState, standing, opened, Takes, CutAnswers}
@@ -30,21 +32,17 @@ use Rattle.group_commit.specs.Lines.{stepped, with_client}
 use Rattle.group_commit.specs.Orders.{SenderState}
 use Rattle.clients.specs.declared.naming.Naming.{Ghosts}
 use Rattle.clients.specs.Desks.{AreRecorded, IsDesk, frozen_ends}
-use Rattle.clients.specs.Known.{IsOwned, AreOwned, MayTake}
+use Rattle.clients.specs.Owners.{no_owner, owners_behind, MayTake}
 use Rattle.clients.specs.Notes.{handed_count}
 use Rattle.clients.specs.Notes.{IsSent}
 use Rattle.clients.specs.Told.{told_book}
+use Rattle.clients.proofs.Owning.{owned_then}
 use Rattle.clients.proofs.Gathered.{Goes, gathered_takes, gathered_cut, gathered_none}
 use Rattle.clients.proofs.Recording.{recorded_none, recorded_leads, recorded_unheard}
 use Rattle.clients.proofs.Telling.{takes_told, gathered_told, gathered_back}
 
 abbrev Book : Type 0
 Book = BookState (List Collection)
-
--- one step more, of who may take it
-pub owned_then : (steps : List BookStep) (step : BookStep) → AreOwned steps → IsOwned step →
-    AreOwned (steps ++ step ∷ [])
-owned_then steps step owned may = each_append IsOwned steps (step ∷ []) owned (may, tt)
 
 module _ {J : Type 0} (j : Ghosts J) where
   -- a book that was just opened
@@ -94,7 +92,7 @@ module _ {J : Type 0} (j : Ghosts J) where
 
     -- a step that hands nothing over
     pub desk_takes : (action : Action) (new : BookState S) (now : lines.BookState) →
-        MayTake client action → Takes meaning making old action new →
+        MayTake (owners_behind no_owner seat.all) client action → Takes meaning making old action new →
         AllByRecursion (IsRecord None) new.pending →
         Goes meaning making collections old action new → now ≡ stepped seat (step action) →
         IsDesk j (told_book collections new) now sender near
@@ -137,6 +135,20 @@ module _ {J : Type 0} (j : Ghosts J) where
               (journalled book.state) (journalled after.state) unheard.1 had))
               left.leads);
         })
+
+    -- and leaves the format
+    pub takes_format : (action : Action) (new : BookState S) → Takes meaning making old action new →
+        new.state.format ≡ old.state.format
+    takes_format action new takes =
+        let left = taken_left catalog_meaning catalog_making (λ v. v) j.format j.start j.wear
+        seat.all book
+        (told_book collections new) sender.sent is.groups (frozen_ends sender.noted) [] is.handed
+        client action (takes_told told old new action takes) in
+        ⊎_elim
+        (λ leads. repeats_format (records_then seat.all action) (journalled book.state)
+        (journalled (told_book collections new).state) leads)
+        (λ unheard. ap (λ (v : repeated.State). v.format) unheard.1.is)
+        left.leads
 
   abbrev Handed : List BookStep → Book → List Block → List (List Record) → List ℕ → Type 0
   Handed steps book sent groups freezes =

@@ -1,8 +1,14 @@
-pub mod Attempting
 pub mod Ends
 pub mod Recording
 pub mod Telling
 pub mod Gathered
+pub mod Owning
 pub mod DeskSteps
+pub mod Touching
+pub mod ShelfSteps
+pub mod Settling
+pub mod Unsettled
 pub mod Seeing
+pub mod Visits
 pub mod Phases
+pub mod Attempting

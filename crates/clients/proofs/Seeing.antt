@@ -1,6 +1,6 @@
 -- What a client has seen goes on with its steps.
 use Rattle.std.proofs.Common.{◌≡◌, ℕ, ◌+◌, List, [], ◌∷◌, ◌++◌, map, sym, ap, ◌∙◌, subst}
-use Rattle.std.proofs.Common.{append_assoc, ⊎_elim, inl, Bool, true}
+use Rattle.std.proofs.Common.{append_assoc, ⊎_elim, inl, inr, Bool, true}
 use Rattle.std.proofs.Common.{Result, Ok, Err}
 use Rattle.calls.specs.declared.refusal.Refusal.{Refusal}
 use mathlib.Core.List.{IsPrefix}
@@ -20,8 +20,8 @@ use Rattle.group_commit.specs.declared.mark.Raised.{Raised}
 use Rattle.clients.specs.declared.naming.Naming.{Ghosts}
 use Rattle.clients.specs.Desks.{IsDesk}
 use Rattle.clients.specs.declared.phase.Phase.{Phase}
-use Rattle.clients.specs.Calls.{IsClient, Moves, Acts, Does, Enters, back, backs, Hears, Decides}
-use Rattle.clients.specs.Calls.{Waits}
+use Rattle.clients.specs.Calls.{IsClient, HasOwn, Moves, Acts, Does, Enters, IsEntering, IsOpen, number_in}
+use Rattle.clients.specs.Calls.{back, backs, Hears, Decides, Waits}
 use Rattle.clients.specs.Known.{Known, known_of, step_of, IsHistory, IsSeen, Grows, Took, Steps}
 
 ok_same : (m n : ℕ) → ◌≡◌ {A = Result ℕ Refusal} (Ok m) (Ok n) → m ≡ n
@@ -125,20 +125,21 @@ module _ {J : Type 0} (j : Ghosts J) where
       ⊎_elim (λ e. subst (IsSeen j) (sym e) a) (λ e. subst (IsSeen j) (sym e) b) is.either
 
   pub client_meets : (old new : ClientState) (w : WatcherState) (d e : DrawerState)
-      (seen : List BookStep) → IsClient j old w d → IsSeen j seen → new ≡ seeing old seen →
-      e ≡ d → IsClient j new w e
-  client_meets old new w d e seen is legal new_is same = rw (new_is, same) (record {
-    line_is = is.line_is;
+      (p q : Phase) (seen : List BookStep) → IsClient j old w d p → IsSeen j seen →
+      new ≡ seeing old seen → e ≡ d → HasOwn q new → IsClient j new w e q
+  client_meets old new w d e p q seen is legal new_is same own = record {
+    line_is = ap (λ (c : ClientState). c.table) new_is ∙ is.line_is;
     mark_is = is.mark_is;
-    numbers_is = is.numbers_is;
-    from = is.from;
-    legal = legal;
-  })
+    numbers_is = ap (λ (x : DrawerState). x.table) same ∙ is.numbers_is;
+    from = ap (λ (x : DrawerState). x.from) same ∙ is.from;
+    legal = subst (IsSeen j) (sym (ap (λ (c : ClientState). c.seen) new_is)) legal;
+    own = own;
+  }
 
   -- ---- the calls of a client
 
   -- the number is entered then
-  enters_phase : (p : Phase) (old mid : Known) (n : ℕ) → old.phase ≡ p →
+  pub enters_phase : (p : Phase) (old mid : Known) (n : ℕ) → old.phase ≡ p →
       Enters j p old (Ok n) mid → mid.phase ≡ Phase.Entered n
   enters_phase Phase.Closed old mid n at enters = absurd enters
   enters_phase (Phase.Entered m) old mid n at enters =
@@ -173,6 +174,56 @@ module _ {J : Type 0} (j : Ghosts J) where
   does_next p old mid new n own refused after action at enters its acts behind =
       does_at p old mid new n own refused after action enters its acts
       (behind (enters_phase p old mid n at enters))
+
+  -- ---- the number is entered first
+
+  -- what is done behind that is done
+  pub does_entering : (p : Phase) (old mid new : Known) (own : ℕ → Action → Type 0)
+      (refused : Refusal → Type 0) (after : ℕ → Phase) → old.phase ≡ p → IsEntering j p old mid →
+      Does j mid.phase mid own refused after new → Does j p old own refused after new
+  does_entering p old mid new own refused after at entering does = ⊎_elim
+      (λ same. subst (λ q. Does j q old own refused after new) at
+      (subst (λ (k : Known). Does j k.phase k own refused after new) same does))
+      (λ (entered : (n : ℕ) × Enters j p old (Ok n) mid).
+      let n = entered.0 in
+      let so = subst (λ q. Does j q mid own refused after new)
+      (enters_phase p old mid n at entered.1) does in
+      does_at p old mid new n own refused after so.0 entered.1 so.1 so.2 so.3) entering
+
+  -- and what is entered again is entered
+  pub entering_again : (p : Phase) (old mid new : Known) → old.phase ≡ p →
+      IsEntering j p old mid → IsEntering j mid.phase mid new → IsEntering j p old new
+  entering_again p old mid new at entering again = ⊎_elim
+      (λ same. subst (λ q. IsEntering j q old new) at
+      (subst (λ (k : Known). IsEntering j k.phase k new) same again))
+      (λ (entered : (n : ℕ) × Enters j p old (Ok n) mid).
+      let n = entered.0 in
+      let stays = ⊎_elim (λ same. same) (λ (more : (m : ℕ) × Enters j (Phase.Entered n) mid (Ok m) new).
+      more.1.1) (subst (λ q. IsEntering j q mid new) (enters_phase p old mid n at entered.1) again) in
+      inr (n, subst (λ k. Enters j p old (Ok n) k) (sym stays) entered.1)) entering
+
+  pub entering_open : (p : Phase) (old new : Known) → old.phase ≡ p → IsOpen p →
+      IsEntering j p old new → IsOpen new.phase
+  entering_open p old new at is entering = ⊎_elim
+      (λ same. subst IsOpen (sym (ap (λ (k : Known). k.phase) same ∙ at)) is)
+      (λ (entered : (n : ℕ) × Enters j p old (Ok n) new).
+      subst IsOpen (sym (enters_phase p old new entered.0 at entered.1)) tt) entering
+
+  -- One that is refused as another is.
+  pub does_refused_so : (p : Phase) (old new : Known) (own : ℕ → Action → Type 0)
+      (refused so : Refusal → Type 0) (after : ℕ → Phase) → ((e : Refusal) → refused e → so e) →
+      Does j p old own refused after new → Does j p old own so after new
+  does_refused_so Phase.Closed old new own refused so after gives does = absurd does
+  does_refused_so (Phase.Entered n) old new own refused so after gives does = does
+  does_refused_so (Phase.Drawn n) old new own refused so after gives does =
+      ⊎_elim (λ done. inl done) (λ none. inr (none.0, gives none.0 none.1, none.2, none.3)) does
+
+  -- The number that is entered is the transaction's.
+  pub entered_number : (p : Phase) (old new : Known) (n : ℕ) → Enters j p old (Ok n) new →
+      number_in p ≡ n
+  entered_number Phase.Closed old new n enters = absurd enters
+  entered_number (Phase.Entered m) old new n enters = sym (ok_same n m enters.0)
+  entered_number (Phase.Drawn m) old new n enters = sym enters.0
 
   -- one call more is undone
   pub undoes_next : (n : ℕ) (a b c : Known) (count : ℕ) → Moves a b →

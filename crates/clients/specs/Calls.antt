@@ -13,25 +13,38 @@ use Rattle.clients.specs.declared.naming.Naming.{Ghosts}
 use Rattle.clients.specs.declared.phase.Phase.{Phase}
 use Rattle.clients.specs.declared.ticket.Ticket.{Ticket}
 use Rattle.clients.specs.Known.{Known, IsSeen, Took}
+use Rattle.clients.specs.Owners.{HasEntered}
 
 -- the client has a transaction
 abbrev pub IsOpen : Phase → Type 0
 IsOpen Phase.Closed = ⊥
 IsOpen phase = Unit {0}
 
+-- the number of the transaction that it has
+abbrev pub number_in : Phase → ℕ
+number_in Phase.Closed = 0
+number_in (Phase.Drawn n) = n
+number_in (Phase.Entered n) = n
+
 -- it has none where the end of the one that it had was accepted, and else it still has it
 abbrev pub IsEnded : {T : Type 0} → Result T Refusal → Phase → Type 0
 IsEnded (Ok done) phase = phase ≡ Phase.Closed
 IsEnded (Err e) phase = IsOpen phase
 
--- its seats are of the store, and what it has seen is legal
+-- A transaction that it has entered is its own, by its own steps.
+abbrev pub HasOwn : Phase → ClientState → Type 0
+HasOwn (Phase.Entered n) line = HasEntered line n
+HasOwn phase line = Unit {0}
+
+-- its seats are of the store, what it has seen is legal, and its transaction is its own
 pub record IsClient {J : Type 0} (j : Ghosts J) (line : ClientState) (watcher : WatcherState)
-    (drawer : DrawerState) : Type 0 where
+    (drawer : DrawerState) (phase : Phase) : Type 0 where
   pub line_is : line.table ≡ j.line
   pub mark_is : watcher.table ≡ j.mark
   pub numbers_is : drawer.table ≡ j.numbers
   pub from : drawer.from ≡ j.next
   pub legal : IsSeen j line.seen
+  pub own : HasOwn phase line
 
 -- ---- numbers
 
@@ -82,6 +95,10 @@ module _ {J : Type 0} (j : Ghosts J) where
       (m ≡ n) × Acts old [] (Action.Enter n (Ok tt)) new × (new.phase ≡ Phase.Entered n)
   Enters (Phase.Drawn n) old (Err e) new =
       Acts old [] (Action.Enter n (Err e)) new × (new.phase ≡ Phase.Drawn n)
+
+  -- Nothing happened, or the number of the open transaction is entered.
+  abbrev pub IsEntering : Phase → Known → Known → Type 0
+  IsEntering p old new = (new ≡ old) ⊎ ((n : ℕ) × Enters p old (Ok n) new)
 
 -- where a transaction is after a step that ends it where it is accepted
 abbrev pub ended_by : {T : Type 0} → Result T Refusal → ℕ → Phase

@@ -1,4 +1,4 @@
--- What lies under the book's lock.
+-- What lies under the journal's lock.
 use Rattle.calls.specs.declared.format.Format.{Format}
 use Rattle.std.specs.Prelude.{◌≡◌, ℕ, List, [], map, Option, Some, None}
 use Rattle.std.specs.List.{AllByRecursion}
@@ -22,7 +22,7 @@ use Rattle.group_commit.specs.Accords.{AccordState}
 use Rattle.group_commit.specs.Lines as lines
 use Rattle.group_commit.specs.Orders.{SenderState}
 use Rattle.clients.specs.declared.naming.Naming.{Ghosts}
-use Rattle.clients.specs.Known.{AreOwned}
+use Rattle.clients.specs.Owners.{AreOwned}
 
 -- how many records came before a freeze
 abbrev pub frozen_end : Option FrozenState → ℕ

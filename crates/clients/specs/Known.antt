@@ -1,6 +1,5 @@
 -- What a client of a store knows, and how that grows.
-use Rattle.std.specs.Prelude.{◌≡◌, ℕ, Bool, List, [], ◌∷◌, ◌++◌, map, Option, Some, None, IsSome}
-use Rattle.std.specs.List.{AllByRecursion}
+use Rattle.std.specs.Prelude.{◌≡◌, ℕ, Bool, List, [], ◌∷◌, ◌++◌, map, Option, Some, None}
 use mathlib.Core.List.{IsPrefix}
 use Rattle.calls.specs.Contents.{Collection}
 use Rattle.txn.specs.declared.steps.Action.{Action}
@@ -14,6 +13,7 @@ use Rattle.group_commit.specs.Marks.{WatcherState}
 use Rattle.group_commit.specs.Numbers.{DrawerState}
 use Rattle.clients.specs.declared.naming.Naming.{Ghosts}
 use Rattle.clients.specs.declared.phase.Phase.{Phase}
+use Rattle.clients.specs.Owners.{AreOwned}
 
 -- a step of the client of this number
 abbrev pub step_of : ℕ → Action → BookStep
@@ -65,20 +65,6 @@ seen_of (Some s) = s.seen
 abbrev pub counts_of : Option SeenState → List Raised
 counts_of None = []
 counts_of (Some s) = s.counts
-
--- Who may take a step: a cut, a gathering and a freeze are of no client, every other step is of
--- one.
-abbrev pub MayTake : Option ℕ → Action → Type 0
-MayTake client (Action.Cut count a) = client ≡ None
-MayTake client (Action.Gather a) = client ≡ None
-MayTake client (Action.Freeze a) = client ≡ None
-MayTake client action = IsSome client
-
-abbrev pub IsOwned : BookStep → Type 0
-IsOwned step = MayTake step.client step.action
-
-abbrev pub AreOwned : List BookStep → Type 0
-AreOwned steps = AllByRecursion IsOwned steps
 
 module _ {J : Type 0} (j : Ghosts J) where
   -- The steps lead the opened book there, each of who may take it.

@@ -4,5 +4,7 @@ pub mod Desks
 pub mod Known
 pub mod NoStore
 pub mod Notes
+pub mod Owners
 pub mod Statuses
 pub mod Told
+pub mod Touches

@@ -1,9 +1,11 @@
 // A client of a store.
 ghost use Rattle.std.specs.Prelude.{◌≡◌, ◌≢◌, ◌↔◌, ◌≤◌, ◌<◌, ℕ, [], ◌∷◌, ◌++◌, Ok, Err};
 ghost use Rattle.std.specs.Prelude.{◌⊎◌, List, Bool, Option, false, IsTrue, IfOk, IfErr};
-ghost use Rattle.std.specs.Prelude.{IfSome, IfNone, IsOkUnless};
+ghost use Rattle.std.specs.Prelude.{IfSome, IfNone, IsNone, IsOkUnless, OnOk};
+ghost use Rattle.catalog.specs.Fours.{which_of};
 ghost use Rattle.calls.specs.declared.refusal.Refusal.{Refusal};
 ghost use Rattle.calls.specs.Limits.{number_end};
+ghost use Rattle.shelf.specs.Looks.{IsLooked, IsLookedLater};
 ghost use Rattle.txn.specs.declared.steps.Action.{Action};
 ghost use Rattle.txn.specs.declared.steps.Target.{Target};
 ghost use Rattle.group_commit.specs.Lines.{IsLonger, steps_of};
@@ -12,22 +14,27 @@ ghost use Rattle.group_commit.specs.declared.mark.Raised.{Raised};
 ghost use Rattle.clients.specs.declared.phase.Phase.{Phase};
 ghost use Rattle.clients.specs.Known.{Known, IsSeen, newcomer};
 ghost use Rattle.clients.specs.Calls.{IsOpen, IsEnded, IsWorn, Draws, Acts, Does, Enters, Undoes};
-ghost use Rattle.clients.specs.Calls.{Aborts};
+ghost use Rattle.clients.specs.Calls.{Aborts, IsEntering, number_in};
 ghost use Rattle.clients.specs.Calls.{ended_by, placed, back, backs, Loads, Hears, Waits};
 
 use crate::desk::Desk;
-use crate::desk_lock::DeskLock;
+use crate::hints::Hints;
+use crate::lock::Lock;
 use crate::naming::Naming;
 use crate::phase::Phase;
+use crate::quarter::Quarter;
 use crate::seen::Seen;
 use crate::shared::Shared;
+use crate::shelf_desk::ShelfDesk;
+use crate::shelves::{Held, Shelves};
 use crate::status::Status;
 use crate::ticket::Ticket;
 use calls::{Call, Kind, Refusal, Reply};
-use catalog::Catalog;
+use catalog::{Catalog, Four};
 use crossbeam_utils::Backoff;
 use group_commit::{ClientSeat, Drawer, Watcher};
 use records::Coded;
+use shelf::Looked;
 use std::alloc::Global;
 use std::marker::Model;
 use std::sync::Wait;
@@ -39,24 +46,31 @@ use std::sync::Wait;
 /// (`Signal::set_attended`), each step but `begin` sleeps first while 8,192 records wait. So a
 /// client is refused Backlog only where no committer is at work, or keeping has failed.
 pub struct Client<'s, J: Naming, B: Coded = Catalog> {
-    desk: &'s DeskLock<J, B>,
+    shelves: &'s Shelves<J, B>,
+    desk: &'s Lock<Desk<J, B>>,
     shared: &'s Shared<J>,
     line: ClientSeat,
     watcher: Watcher,
     drawer: Drawer,
     phase: Phase,
+    // where collections were found, and on which shelves the transaction asked for something
+    hints: Hints,
+    touched: Four<bool>,
 }
 
 // Written out, so that the crates above call it in place of proving it again.
 impl<'s, J: Naming, B: Coded> Drop for Client<'s, J, B> {
     fn drop(self) {
         let Self {
+            shelves: _shelves,
             desk: _desk,
             shared: _shared,
             line,
             watcher,
             drawer,
             phase: _phase,
+            hints: _hints,
+            touched: _touched,
         } = self;
         drop(line);
         drop(watcher);
@@ -72,13 +86,14 @@ impl<'s, J: Naming, B: Coded> Model for Client<'s, J, B> {
 
     ghost view = { λ c. known_of c.line c.watcher c.drawer c.phase };
 
-    ghost invariant = { λ c. IsClient ⟦<J as Naming>⟧ c.line c.watcher c.drawer };
+    ghost invariant = { λ c. IsClient ⟦<J as Naming>⟧ c.line c.watcher c.drawer c.phase };
 }
 
 impl<'s, J: Naming, B: Coded> Client<'s, J, B> {
     /// A client with no transaction, of seats that were just made: `Store::client` makes it.
     pub fn new(
-        desk: &'s DeskLock<J, B>,
+        shelves: &'s Shelves<J, B>,
+        desk: &'s Lock<Desk<J, B>>,
         shared: &'s Shared<J>,
         line: ClientSeat,
         watcher: Watcher,
@@ -91,12 +106,15 @@ impl<'s, J: Naming, B: Coded> Client<'s, J, B> {
         ensures { result ≡ newcomer line.number }
     {
         Self {
+            shelves,
             desk,
             shared,
             line,
             watcher,
             drawer,
             phase: Phase::Closed,
+            hints: Hints::new(),
+            touched: each(false),
         }
     }
 
@@ -134,8 +152,8 @@ impl<'s, J: Naming, B: Coded> Client<'s, J, B> {
     }
 
     /// Makes an empty collection under the name, and gives its ticket. It is a committed
-    /// transaction of its own, whether the client has one or not. It takes the book's lock once,
-    /// and calls no device.
+    /// transaction of its own, whether the client has one or not. It takes the locks of all
+    /// shelves and then the journal's, each once, and calls no device.
     ///
     /// Backlog, BadName, TooLong, NameTaken, TooManyCollections, NoMemory. Everything is as before
     /// then.
@@ -145,15 +163,28 @@ impl<'s, J: Naming, B: Coded> Client<'s, J, B> {
         ensures phase { self.new.phase ≡ self.old.phase }
     {
         self.shared.signal.let_drain(rt);
-        let desk = self.desk;
-        let place = desk.lock(rt).make(self.shared, &mut self.line, name, kind)?;
+        let place = self.make_held(rt, name, kind)?;
         Ok(Ticket { place })
+    }
+
+    // Makes the collection, under all locks.
+    fn make_held<R: Wait>(&mut self, rt: &R, name: &str, kind: Kind) -> Result<u64, Refusal>
+        ensures step { Acts ⟦<J as Naming>⟧ self.old [] (Action.Make name.now kind result)
+            self.new }
+        ensures phase { self.new.phase ≡ self.old.phase }
+    {
+        let (shelves, mutex) = (self.shelves, self.desk);
+        let mut held = shelves.lock_all(rt);
+        let mut desk = mutex.lock(rt);
+        desk.make(shelves, self.shared, &mut self.line, &mut held, name, kind)
     }
 
     /// Makes a call of the client's transaction on the collection of the name, and gives the reply.
     /// From then on calls of other transactions that conflict with it are answered Busy, until this
-    /// one ends. Call it only of a client with a transaction. It takes the book's lock once, and
-    /// calls no device.
+    /// one ends. Call it only of a client with a transaction. It takes the lock of the shelf of the
+    /// collection and then the journal's, each once; the journal's once before where the client
+    /// does not know the collection's number, and both anew where it was mistaken in it. It calls
+    /// no device.
     ///
     /// At the first call of a transaction TooManyLive, Worn, Backlog, NoMemory, and then the book
     /// does not know the transaction yet. After that BadName, TooLong, NoSuchCollection, Falling,
@@ -176,15 +207,160 @@ impl<'s, J: Naming, B: Coded> Client<'s, J, B> {
         ensures open { IsOpen self.new.phase }
     {
         self.shared.signal.let_drain(rt);
+        let mut hint = self.hints.told(name);
+        for _ in rt.forever() {
+            let at = self.place_of_call(rt, name, call, hint)?;
+            if let Some(answer) = self.call_at(rt, name, at, call) {
+                self.remember(name, at);
+                return answer;
+            }
+            hint = None;
+        }
+        unreachable!()
+    }
+
+    // The number of the collection of the name: the one that is told, or the one that the journal
+    // finds, for which the transaction is entered first.
+    fn place_of_call<R: Wait>(
+        &mut self,
+        rt: &R,
+        name: &str,
+        call: &Call,
+        hint: Option<u8>,
+    ) -> Result<u8, Refusal>
+        requires { IsOpen self.old.phase }
+        ensures ok { OnOk result
+            (IsEntering ⟦<J as Naming>⟧ self.old.phase self.old self.new) }
+        ensures err { IfErr result (λ e. Does ⟦<J as Naming>⟧ self.old.phase self.old
+            (λ n a. (found : Option ℕ) ×
+            (a ≡ Action.Call n (Target.Named name.now found) call.now (Err e)))
+            (λ d. e ≡ d) Phase.Entered self.new) }
+    {
+        if let Some(at) = hint {
+            return Ok(at);
+        }
         let mutex = self.desk;
         let mut desk = mutex.lock(rt);
-        let number = self.enter(&mut desk)?;
-        desk.call(self.shared, &mut self.line, number, name, call)
+        self.find_for_call(&mut desk, name, call)
+    }
+
+    // The number that the journal finds.
+    fn find_for_call(
+        &mut self,
+        desk: &mut Desk<J, B>,
+        name: &str,
+        call: &Call,
+    ) -> Result<u8, Refusal>
+        requires { IsOpen self.old.phase }
+        ensures ok { OnOk result
+            (IsEntering ⟦<J as Naming>⟧ self.old.phase self.old self.new) }
+        ensures err { IfErr result (λ e. Does ⟦<J as Naming>⟧ self.old.phase self.old
+            (λ n a. (found : Option ℕ) ×
+            (a ≡ Action.Call n (Target.Named name.now found) call.now (Err e)))
+            (λ d. e ≡ d) Phase.Entered self.new) }
+    {
+        let number = self.enter(desk)?;
+        desk.find_for_call(self.shared, &mut self.line, number, name, call)
+    }
+
+    // Makes the call on the collection of the number, under the locks of its shelf and of the
+    // journal. None where that has another name.
+    fn call_at<R: Wait>(
+        &mut self,
+        rt: &R,
+        name: &str,
+        at: u8,
+        call: &Call,
+    ) -> Option<Result<Reply, Refusal>>
+        requires { IsOpen self.old.phase }
+        ensures some { IfSome result (λ r. Does ⟦<J as Naming>⟧ self.old.phase self.old
+            (λ n a. (found : Option ℕ) ×
+            (a ≡ Action.Call n (Target.Named name.now found) call.now r))
+            (λ e. r ≡ Err e) Phase.Entered self.new) }
+        ensures none { IsNone result →
+            IsEntering ⟦<J as Naming>⟧ self.old.phase self.old self.new }
+    {
+        let shelves = self.shelves;
+        if at % 4 == 0 {
+            return self.call_on(rt, &shelves.first, name, at, call);
+        }
+        if at % 4 == 1 {
+            return self.call_on(rt, &shelves.second, name, at, call);
+        }
+        if at % 4 == 2 {
+            return self.call_on(rt, &shelves.third, name, at, call);
+        }
+        self.call_on(rt, &shelves.fourth, name, at, call)
+    }
+
+    // Makes it under the lock of this shelf, which is that of the number, and then the journal's.
+    fn call_on<Q: Quarter, R: Wait>(
+        &mut self,
+        rt: &R,
+        lock: &Lock<ShelfDesk<J, B, Q>>,
+        name: &str,
+        at: u8,
+        call: &Call,
+    ) -> Option<Result<Reply, Refusal>>
+        requires going { IsOpen self.old.phase }
+        requires place { which_of at ≡ Q.which }
+        ensures some { IfSome result (λ r. Does ⟦<J as Naming>⟧ self.old.phase self.old
+            (λ n a. (found : Option ℕ) ×
+            (a ≡ Action.Call n (Target.Named name.now found) call.now r))
+            (λ e. r ≡ Err e) Phase.Entered self.new) }
+        ensures none { IsNone result →
+            IsEntering ⟦<J as Naming>⟧ self.old.phase self.old self.new }
+    {
+        let mut held = lock.lock(rt);
+        let looked = held.look(self.shared.format, self.number(), at, call);
+        let mutex = self.desk;
+        let mut desk = mutex.lock(rt);
+        self.call_held(&mut desk, &mut held, name, at, call, looked)
+    }
+
+    // Makes it where both locks are held, with what the look came to under the shelf's.
+    fn call_held<Q: Quarter>(
+        &mut self,
+        desk: &mut Desk<J, B>,
+        held: &mut ShelfDesk<J, B, Q>,
+        name: &str,
+        at: u8,
+        call: &Call,
+        looked: Looked,
+    ) -> Option<Result<Reply, Refusal>>
+        requires going { IsOpen self.old.phase }
+        requires place { which_of at ≡ Q.which }
+        requires looked { IsLooked B.Shelf.meaning J.format held.old (number_in self.old.phase) at
+            call.now looked }
+        ensures some { IfSome result (λ r. Does ⟦<J as Naming>⟧ self.old.phase self.old
+            (λ n a. (found : Option ℕ) ×
+            (a ≡ Action.Call n (Target.Named name.now found) call.now r))
+            (λ e. r ≡ Err e) Phase.Entered self.new) }
+        ensures none { IsNone result →
+            IsEntering ⟦<J as Naming>⟧ self.old.phase self.old self.new }
+    {
+        match self.enter(desk) {
+            Ok(number) => desk.call(
+                self.shelves,
+                self.shared,
+                &mut self.line,
+                held,
+                number,
+                name,
+                at,
+                call,
+                looked,
+            ),
+            Err(refusal) => {
+                drop(looked);
+                Some(Err(refusal))
+            }
+        }
     }
 
     /// Puts a bump or a fill off to the commit of the client's transaction. Until then it shows in
     /// no reply, and an abort drops it. Call it only of a client with a transaction. It takes the
-    /// book's lock once, and calls no device.
+    /// locks that `call` takes, and calls no device.
     ///
     /// The refusals of `call`, with BadArg for every call that `Call::is_deferrable` does not take.
     /// They leave what those leave.
@@ -197,16 +373,164 @@ impl<'s, J: Naming, B: Coded> Client<'s, J, B> {
         ensures open { IsOpen self.new.phase }
     {
         self.shared.signal.let_drain(rt);
+        let mut hint = self.hints.told(name);
+        for _ in rt.forever() {
+            let at = self.place_of_later(rt, name, call, hint)?;
+            if let Some(answer) = self.later_at(rt, name, at, call) {
+                self.remember(name, at);
+                return answer;
+            }
+            hint = None;
+        }
+        unreachable!()
+    }
+
+    // The number of the collection of the name: the one that is told, or the one that the journal
+    // finds, for which the transaction is entered first.
+    fn place_of_later<R: Wait>(
+        &mut self,
+        rt: &R,
+        name: &str,
+        call: &Call,
+        hint: Option<u8>,
+    ) -> Result<u8, Refusal>
+        requires { IsOpen self.old.phase }
+        ensures ok { OnOk result
+            (IsEntering ⟦<J as Naming>⟧ self.old.phase self.old self.new) }
+        ensures err { IfErr result (λ e. Does ⟦<J as Naming>⟧ self.old.phase self.old
+            (λ n a. (found : Option ℕ) ×
+            (a ≡ Action.Later n (Target.Named name.now found) call.now (Err e)))
+            (λ d. e ≡ d) Phase.Entered self.new) }
+    {
+        if let Some(at) = hint {
+            return Ok(at);
+        }
         let mutex = self.desk;
         let mut desk = mutex.lock(rt);
-        let number = self.enter(&mut desk)?;
-        desk.later(self.shared, &mut self.line, number, name, call)
+        self.find_for_later(&mut desk, name, call)
+    }
+
+    // The number that the journal finds.
+    fn find_for_later(
+        &mut self,
+        desk: &mut Desk<J, B>,
+        name: &str,
+        call: &Call,
+    ) -> Result<u8, Refusal>
+        requires { IsOpen self.old.phase }
+        ensures ok { OnOk result
+            (IsEntering ⟦<J as Naming>⟧ self.old.phase self.old self.new) }
+        ensures err { IfErr result (λ e. Does ⟦<J as Naming>⟧ self.old.phase self.old
+            (λ n a. (found : Option ℕ) ×
+            (a ≡ Action.Later n (Target.Named name.now found) call.now (Err e)))
+            (λ d. e ≡ d) Phase.Entered self.new) }
+    {
+        let number = self.enter(desk)?;
+        desk.find_for_later(self.shared, &mut self.line, number, name, call)
+    }
+
+    // Puts the call off on the collection of the number, under the locks of its shelf and of the
+    // journal. None where that has another name.
+    fn later_at<R: Wait>(
+        &mut self,
+        rt: &R,
+        name: &str,
+        at: u8,
+        call: &Call,
+    ) -> Option<Result<(), Refusal>>
+        requires { IsOpen self.old.phase }
+        ensures some { IfSome result (λ r. Does ⟦<J as Naming>⟧ self.old.phase self.old
+            (λ n a. (found : Option ℕ) ×
+            (a ≡ Action.Later n (Target.Named name.now found) call.now r))
+            (λ e. r ≡ Err e) Phase.Entered self.new) }
+        ensures none { IsNone result →
+            IsEntering ⟦<J as Naming>⟧ self.old.phase self.old self.new }
+    {
+        let shelves = self.shelves;
+        if at % 4 == 0 {
+            return self.later_on(rt, &shelves.first, name, at, call);
+        }
+        if at % 4 == 1 {
+            return self.later_on(rt, &shelves.second, name, at, call);
+        }
+        if at % 4 == 2 {
+            return self.later_on(rt, &shelves.third, name, at, call);
+        }
+        self.later_on(rt, &shelves.fourth, name, at, call)
+    }
+
+    // Puts it off under the lock of this shelf, which is that of the number, and then the
+    // journal's.
+    fn later_on<Q: Quarter, R: Wait>(
+        &mut self,
+        rt: &R,
+        lock: &Lock<ShelfDesk<J, B, Q>>,
+        name: &str,
+        at: u8,
+        call: &Call,
+    ) -> Option<Result<(), Refusal>>
+        requires going { IsOpen self.old.phase }
+        requires place { which_of at ≡ Q.which }
+        ensures some { IfSome result (λ r. Does ⟦<J as Naming>⟧ self.old.phase self.old
+            (λ n a. (found : Option ℕ) ×
+            (a ≡ Action.Later n (Target.Named name.now found) call.now r))
+            (λ e. r ≡ Err e) Phase.Entered self.new) }
+        ensures none { IsNone result →
+            IsEntering ⟦<J as Naming>⟧ self.old.phase self.old self.new }
+    {
+        let mut held = lock.lock(rt);
+        let looked = held.look_later(self.number(), at, call);
+        let mutex = self.desk;
+        let mut desk = mutex.lock(rt);
+        self.later_held(&mut desk, &mut held, name, at, call, looked)
+    }
+
+    // Puts it off where both locks are held, with what the look came to under the shelf's.
+    fn later_held<Q: Quarter>(
+        &mut self,
+        desk: &mut Desk<J, B>,
+        held: &mut ShelfDesk<J, B, Q>,
+        name: &str,
+        at: u8,
+        call: &Call,
+        looked: Looked,
+    ) -> Option<Result<(), Refusal>>
+        requires going { IsOpen self.old.phase }
+        requires place { which_of at ≡ Q.which }
+        requires looked { IsLookedLater B.Shelf.meaning held.old (number_in self.old.phase) at
+            call.now looked }
+        ensures some { IfSome result (λ r. Does ⟦<J as Naming>⟧ self.old.phase self.old
+            (λ n a. (found : Option ℕ) ×
+            (a ≡ Action.Later n (Target.Named name.now found) call.now r))
+            (λ e. r ≡ Err e) Phase.Entered self.new) }
+        ensures none { IsNone result →
+            IsEntering ⟦<J as Naming>⟧ self.old.phase self.old self.new }
+    {
+        match self.enter(desk) {
+            Ok(number) => desk.later(
+                self.shelves,
+                self.shared,
+                &mut self.line,
+                held,
+                number,
+                name,
+                at,
+                call,
+                looked,
+            ),
+            Err(refusal) => {
+                drop(looked);
+                Some(Err(refusal))
+            }
+        }
     }
 
     /// Commits the client's transaction, and gives its ticket. What was put off runs now, and the
     /// locks go. It is in effect for all at once, and kept through a stop a moment later: `kept`
     /// and `wait` tell. It wakes the store's committer. Call it only of a client with a
-    /// transaction. It takes the book's lock once, and calls no device.
+    /// transaction. It takes the locks of the shelves on which the transaction asked for something
+    /// and then the journal's, each once; all of them where that was not enough. It calls no
+    /// device.
     ///
     /// Falling where an abort was begun, Backlog, NoMemory. Of a transaction without a call also
     /// TooManyLive and Worn. The transaction stays open then, and can be committed again.
@@ -222,18 +546,63 @@ impl<'s, J: Naming, B: Coded> Client<'s, J, B> {
         ensures phase { IsEnded result self.new.phase }
     {
         self.shared.signal.let_drain(rt);
-        let mutex = self.desk;
+        let mut wanted = self.wanted();
+        for _ in rt.forever() {
+            if let Some(placed) = self.commit_on(rt, &wanted) {
+                return placed;
+            }
+            wanted = each(true);
+        }
+        unreachable!()
+    }
+
+    // Commits the transaction under the locks of these shelves and the journal's. None where it
+    // asked for something on another shelf.
+    fn commit_on<R: Wait>(&mut self, rt: &R, wanted: &Four<bool>) -> Option<Result<Ticket, Refusal>>
+        requires { IsOpen self.old.phase }
+        ensures step { IfSome result (λ r. Does ⟦<J as Naming>⟧ self.old.phase self.old
+            (λ n a. a ≡ Action.Commit n (placed r)) (λ e. r ≡ Err e) (ended_by r) self.new) }
+        ensures phase { IfSome result (λ r. IsEnded r self.new.phase) }
+        ensures none { IsNone result →
+            IsEntering ⟦<J as Naming>⟧ self.old.phase self.old self.new }
+    {
+        let (shelves, mutex) = (self.shelves, self.desk);
+        let mut held = shelves.lock_some(rt, wanted);
         let mut desk = mutex.lock(rt);
-        let number = self.enter(&mut desk)?;
-        let place = desk.commit(self.shared, &mut self.line, number)?;
-        self.phase = Phase::Closed;
-        Ok(Ticket { place })
+        self.commit_held(&mut desk, &mut held)
+    }
+
+    // Commits it where the locks are held.
+    fn commit_held(
+        &mut self,
+        desk: &mut Desk<J, B>,
+        held: &mut Held<'_, J, B>,
+    ) -> Option<Result<Ticket, Refusal>>
+        requires { IsOpen self.old.phase }
+        ensures step { IfSome result (λ r. Does ⟦<J as Naming>⟧ self.old.phase self.old
+            (λ n a. a ≡ Action.Commit n (placed r)) (λ e. r ≡ Err e) (ended_by r) self.new) }
+        ensures phase { IfSome result (λ r. IsEnded r self.new.phase) }
+        ensures none { IsNone result →
+            IsEntering ⟦<J as Naming>⟧ self.old.phase self.old self.new }
+    {
+        let number = match self.enter(desk) {
+            Ok(number) => number,
+            Err(refusal) => return Some(Err(refusal)),
+        };
+        match desk.commit(self.shelves, self.shared, &mut self.line, held, number)? {
+            Ok(place) => {
+                close(&mut self.phase, &mut self.touched);
+                Some(Ok(Ticket { place }))
+            }
+            Err(refusal) => Some(Err(refusal)),
+        }
     }
 
     /// Aborts the client's transaction: takes its calls back one by one, the newest first, and then
     /// ends it, so that its locks go. Call it only of a client with a transaction. It takes the
-    /// book's lock once for each call and twice more, or not at all where the transaction has asked
-    /// for nothing, and calls no device.
+    /// journal's lock twice for each call, once with that of the call's shelf, and twice more, once
+    /// with those of all shelves; none where the transaction has asked for nothing. It calls no
+    /// device.
     ///
     /// Backlog, NoMemory. The transaction stays open then. Once a call was taken back it can do
     /// nothing but be aborted again, which goes on from there.
@@ -243,13 +612,9 @@ impl<'s, J: Naming, B: Coded> Client<'s, J, B> {
         ensures phase { IsEnded result self.new.phase }
     {
         match self.phase {
-            Phase::Entered(number) => {
-                self.end(rt, number)?;
-                self.phase = Phase::Closed;
-                Ok(())
-            }
+            Phase::Entered(number) => self.end(rt, number),
             Phase::Drawn(_) => {
-                self.phase = Phase::Closed;
+                close(&mut self.phase, &mut self.touched);
                 Ok(())
             }
             Phase::Closed => unreachable!(),
@@ -258,21 +623,36 @@ impl<'s, J: Naming, B: Coded> Client<'s, J, B> {
 
     // Undoes a transaction's calls, and ends it.
     fn end<R: Wait>(&mut self, rt: &R, number: u64) -> Result<(), Refusal>
+        requires { self.old.phase ≡ Phase.Entered number }
         ensures step { (count : ℕ) ×
             (Acts ⟦<J as Naming>⟧ self.old (backs number count ++ back number (Ok false) ∷ [])
             (Action.Ended number result) self.new
             ⊎ ((e : Refusal) × (result ≡ Err e) ×
             Acts ⟦<J as Naming>⟧ self.old (backs number count) (back number (Err e)) self.new)) }
-        ensures phase { self.new.phase ≡ self.old.phase }
+        ensures phase { self.new.phase ≡ ended_by result number }
     {
         self.undo(rt, number)?;
         self.shared.signal.let_drain(rt);
-        let desk = self.desk;
-        desk.lock(rt).ended(self.shared, &mut self.line, number)
+        self.end_held(rt, number)
+    }
+
+    // Ends a transaction whose calls are all undone, under all locks.
+    fn end_held<R: Wait>(&mut self, rt: &R, number: u64) -> Result<(), Refusal>
+        requires { self.old.phase ≡ Phase.Entered number }
+        ensures step { Acts ⟦<J as Naming>⟧ self.old [] (Action.Ended number result) self.new }
+        ensures phase { self.new.phase ≡ ended_by result number }
+    {
+        let (shelves, mutex) = (self.shelves, self.desk);
+        let mut held = shelves.lock_all(rt);
+        let mut desk = mutex.lock(rt);
+        desk.ended(shelves, self.shared, &mut self.line, &mut held, number)?;
+        close(&mut self.phase, &mut self.touched);
+        Ok(())
     }
 
     // Undoes a transaction's calls, until none is left.
     fn undo<R: Wait>(&mut self, rt: &R, number: u64) -> Result<(), Refusal>
+        requires { self.old.phase ≡ Phase.Entered number }
         ensures step { Undoes ⟦<J as Naming>⟧ number self.old result self.new }
         ensures phase { self.new.phase ≡ self.old.phase }
     {
@@ -287,12 +667,78 @@ impl<'s, J: Naming, B: Coded> Client<'s, J, B> {
 
     // Undoes a transaction's newest call.
     fn back<R: Wait>(&mut self, rt: &R, number: u64) -> Result<bool, Refusal>
+        requires { self.old.phase ≡ Phase.Entered number }
         ensures step { Acts ⟦<J as Naming>⟧ self.old [] (back number result) self.new }
         ensures phase { self.new.phase ≡ self.old.phase }
     {
         self.shared.signal.let_drain(rt);
-        let desk = self.desk;
-        desk.lock(rt).back(self.shared, &mut self.line, number)
+        for _ in rt.forever() {
+            match self.find_newest(rt, number) {
+                Err(answer) => return answer,
+                Ok(at) => {
+                    if let Some(answer) = self.back_at(rt, number, at) {
+                        return answer;
+                    }
+                }
+            }
+        }
+        unreachable!()
+    }
+
+    // The number of the collection of the newest call, or what the undoing answers without one.
+    fn find_newest<R: Wait>(&mut self, rt: &R, number: u64) -> Result<u8, Result<bool, Refusal>>
+        requires { self.old.phase ≡ Phase.Entered number }
+        ensures ok { OnOk result (self.new ≡ self.old) }
+        ensures step { IfErr result (λ r. Acts ⟦<J as Naming>⟧ self.old [] (back number r)
+            self.new) }
+        ensures phase { self.new.phase ≡ self.old.phase }
+    {
+        let mutex = self.desk;
+        let mut desk = mutex.lock(rt);
+        desk.find_newest(self.shared, &mut self.line, number)
+    }
+
+    // Undoes the newest call, under the locks of the shelf of the number and of the journal. None
+    // where it is on another collection.
+    fn back_at<R: Wait>(&mut self, rt: &R, number: u64, at: u8) -> Option<Result<bool, Refusal>>
+        requires { self.old.phase ≡ Phase.Entered number }
+        ensures step { IfSome result (λ r. Acts ⟦<J as Naming>⟧ self.old [] (back number r)
+            self.new) }
+        ensures none { IsNone result → self.new ≡ self.old }
+        ensures phase { self.new.phase ≡ self.old.phase }
+    {
+        let shelves = self.shelves;
+        if at % 4 == 0 {
+            return self.back_on(rt, &shelves.first, number, at);
+        }
+        if at % 4 == 1 {
+            return self.back_on(rt, &shelves.second, number, at);
+        }
+        if at % 4 == 2 {
+            return self.back_on(rt, &shelves.third, number, at);
+        }
+        self.back_on(rt, &shelves.fourth, number, at)
+    }
+
+    // Undoes it under the lock of this shelf, which is that of the number, and then the journal's.
+    fn back_on<Q: Quarter, R: Wait>(
+        &mut self,
+        rt: &R,
+        lock: &Lock<ShelfDesk<J, B, Q>>,
+        number: u64,
+        at: u8,
+    ) -> Option<Result<bool, Refusal>>
+        requires place { which_of at ≡ Q.which }
+        requires own { self.old.phase ≡ Phase.Entered number }
+        ensures step { IfSome result (λ r. Acts ⟦<J as Naming>⟧ self.old [] (back number r)
+            self.new) }
+        ensures none { IsNone result → self.new ≡ self.old }
+        ensures phase { self.new.phase ≡ self.old.phase }
+    {
+        let (shelves, mutex) = (self.shelves, self.desk);
+        let mut held = lock.lock(rt);
+        let mut desk = mutex.lock(rt);
+        desk.back(shelves, self.shared, &mut self.line, &mut held, number, at)
     }
 
     // The number of the client's transaction, which is entered if it was only drawn.
@@ -309,6 +755,35 @@ impl<'s, J: Naming, B: Coded> Client<'s, J, B> {
             }
             Phase::Closed => unreachable!(),
         }
+    }
+
+    // The number of the client's transaction.
+    fn number(&self) -> u64
+        requires { IsOpen self.now.phase }
+        ensures { result ≡ number_in self.now.phase }
+    {
+        match self.phase {
+            Phase::Entered(number) | Phase::Drawn(number) => number,
+            Phase::Closed => unreachable!(),
+        }
+    }
+
+    // The shelves on which the transaction asked for something.
+    fn wanted(&self) -> Four<bool> {
+        Four {
+            first: self.touched.first,
+            second: self.touched.second,
+            third: self.touched.third,
+            fourth: self.touched.fourth,
+        }
+    }
+
+    // The transaction asked for something of the collection of the name, which is at the number.
+    fn remember(&mut self, name: &str, at: u8)
+        ensures { self.new ≡ self.old }
+    {
+        self.hints.tell(name, at);
+        *self.touched.of_mut(at) = true;
     }
 
     /// Whether the commit or making of the ticket is kept through a stop. It takes no memory, and
@@ -422,20 +897,23 @@ impl<'s, J: Naming, B: Coded> Client<'s, J, B> {
             (result.counts ≡ self.entry.counts) }
     {
         let Self {
+            shelves: _shelves,
             desk: _desk,
             shared: _shared,
             line,
             watcher,
             drawer,
             phase: _phase,
+            hints: _hints,
+            touched: _touched,
         } = self;
         drop(drawer);
         Seen::new(line, watcher)
     }
 
     /// How the store stands. It is answered at once, whether the client has a transaction or not:
-    /// it takes the book's lock once, for the time of as many names as there are collections, and
-    /// calls no device. The text of the names takes memory.
+    /// it takes the locks of all shelves and the journal's, each once, for the time of as many
+    /// names as there are collections, and calls no device. The text of the names takes memory.
     ///
     /// `used` and `first` are as the committer last told them, and so behind the disk by a block at
     /// most while it is at work; as the store was opened, where none has told (`Committer::turn`
@@ -445,7 +923,27 @@ impl<'s, J: Naming, B: Coded> Client<'s, J, B> {
     pub fn status<R: Wait>(&self, rt: &R, alloc: Global) -> Result<Status, Refusal>
         ensures { IsOkUnless result Refusal.NoMemory }
     {
-        let desk = self.desk;
-        desk.lock(rt).status(alloc)
+        let (shelves, mutex) = (self.shelves, self.desk);
+        let mut held = shelves.lock_all(rt);
+        let mut desk = mutex.lock(rt);
+        desk.status(alloc, shelves, &mut held)
     }
+}
+
+// The same for each shelf.
+fn each(is: bool) -> Four<bool> {
+    Four {
+        first: is,
+        second: is,
+        third: is,
+        fourth: is,
+    }
+}
+
+// The client has no transaction any more.
+fn close(phase: &mut Phase, touched: &mut Four<bool>)
+    ensures { phase.new ≡ Phase.Closed }
+{
+    *phase = Phase::Closed;
+    *touched = each(false);
 }

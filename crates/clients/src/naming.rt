@@ -9,6 +9,7 @@ pub trait Naming {
     ghost use Rattle.calls.specs.Contents.{Collection};
     ghost use Rattle.calls.specs.declared.format.Format.{Format};
     ghost use Rattle.atomic_table.specs.Seated.{TableId};
+    ghost use Rattle.catalog.specs.declared.four.Four.{Four};
 
     /// The tables of the line, of the mark, of the numbers and of the hand-off, and of the accords
     /// on what is gathered of the book and on the image that the keeper awaits.
@@ -23,6 +24,9 @@ pub trait Naming {
     ghost gathering: { TableId };
 
     ghost awaited: { TableId };
+
+    /// The tables of the twins, one for each shelf.
+    ghost shelves: { Four TableId };
 
     /// What the opened book held, the format of its store, its wear and its next number.
     ghost start: { List Collection };
@@ -60,6 +64,13 @@ impl Naming for Brand {
     ghost gathering = { no_table };
 
     ghost awaited = { no_table };
+
+    ghost shelves = { record {
+      first = no_table;
+      second = no_table;
+      third = no_table;
+      fourth = no_table;
+    } };
 
     ghost start = { [] };
 

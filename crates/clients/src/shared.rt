@@ -3,12 +3,13 @@ ghost use Rattle.std.specs.Prelude.{◌≡◌};
 
 use crate::naming::Naming;
 use crate::signal::Signal;
+use calls::Format;
 use group_commit::{Accord, Handoff, Line, Mark, Numbers};
 use std::marker::PhantomData;
 
 /// The parts that threads share by `&`, of the store's own name: the one history, the mark, the
 /// numbers, the hand-off of blocks, the accords on what is gathered of the book and on the image
-/// that the keeper awaits, and what wakes the committer.
+/// that the keeper awaits, what wakes the committer, and the format of the store.
 #[derive(Drop)]
 pub struct Shared<J: Naming> {
     pub line: Line,
@@ -18,6 +19,7 @@ pub struct Shared<J: Naming> {
     pub gathering: Accord,
     pub awaited: Accord,
     pub signal: Signal,
+    pub format: Format,
     pub of: PhantomData<J>,
     pub ghost line_is: { line ≡ J.line },
     pub ghost mark_is: { mark ≡ J.mark },
@@ -25,4 +27,5 @@ pub struct Shared<J: Naming> {
     pub ghost handoff_is: { handoff ≡ J.handoff },
     pub ghost gathering_is: { gathering ≡ J.gathering },
     pub ghost awaited_is: { awaited ≡ J.awaited },
+    pub ghost format_is: { format ≡ J.format },
 }

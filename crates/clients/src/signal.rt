@@ -56,7 +56,7 @@ impl Signal {
     }
 
     // So many records wait behind a step. Many wake the committer, if it sleeps; too many have
-    // clients wait. Call it under the book's lock.
+    // clients wait. Call it under the journal's lock.
     pub(crate) fn left(&self, waiting: usize) {
         if waiting >= MANY {
             self.events.notify_all();
@@ -67,7 +67,7 @@ impl Signal {
     }
 
     // So many records wait behind a cut. Clients that wait go on, unless these are too many. Call it
-    // under the book's lock.
+    // under the journal's lock.
     pub(crate) fn cut(&self, waiting: usize) {
         if waiting < TOO_MANY && self.is_crowded() {
             self.is_crowded.store(false, Ordering::SeqCst);

@@ -5,3 +5,4 @@ pub mod Marking
 pub mod Moves
 pub mod Seats
 pub mod Sitting
+pub mod Twinned

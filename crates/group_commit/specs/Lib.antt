@@ -12,3 +12,4 @@ pub mod Orders
 pub mod Parties
 pub mod Rising
 pub mod Transit
+pub mod Twins

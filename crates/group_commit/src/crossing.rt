@@ -4,6 +4,7 @@ use crate::handoff::{Handoff, Receiver, Sender};
 use crate::line::{BookSeat, ClientSeat, Line};
 use crate::mark::{KeeperSeat, Mark, Watcher};
 use crate::numbers::{Drawer, DrawerMaker, Numbers};
+use crate::twin::{Twin, TwinFar, TwinNear};
 
 fn sent<T: Send>(x: T) -> T {
     x
@@ -20,7 +21,7 @@ fn shares(accord: &Accord, handoff: &Handoff, line: &Line, mark: &Mark, numbers:
     shared(numbers);
 }
 
-// What lies under the book's lock.
+// What lies under the journal's lock.
 fn sends_book(
     sender: Sender,
     book: BookSeat,
@@ -45,5 +46,18 @@ fn sends_client(
 
 // The two ends of an accord.
 fn sends_ends(near: Near, far: Far) -> (Near, Far) {
+    (sent(near), sent(far))
+}
+
+// A twin, of touches that may cross threads.
+fn shares_twin<T: Send + Sync>(twin: &Twin<T>) {
+    shared(twin);
+}
+
+// The two ends of a twin.
+fn sends_twin_ends<T: Send + Sync>(
+    near: TwinNear<T>,
+    far: TwinFar<T>,
+) -> (TwinNear<T>, TwinFar<T>) {
     (sent(near), sent(far))
 }

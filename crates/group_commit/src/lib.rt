@@ -11,20 +11,23 @@
 //! - `Numbers`: each number that was drawn was drawn once.
 //! - `Accord`: what is gathered of the book for an image, as two ends know it. Both know the same
 //!   state, and only both together change it.
+//! - `Twin`: a list of touches, as two ends know it. Both know the same list, and only both
+//!   together lengthen it.
 //!
-//! Threads share the five by `&`. What a thread knows of one lies in a seat, which goes with it: a
+//! Threads share the six by `&`. What a thread knows of one lies in a seat, which goes with it: a
 //! sender, a receiver, a keeper's seat, a watcher, the book's seat, a client's, a drawer, the near
-//! end and the far end of an accord. A seat is made of another one by a function of its part, and
-//! only its own steps change what it knows. So what contracts say of a seat holds whatever the
-//! other threads do: the rule of a part is kept by each step, and is proved here.
+//! end and the far end of an accord or of a twin. A seat is made of another one by a function of
+//! its part, and only its own steps change what it knows. So what contracts say of a seat holds
+//! whatever the other threads do: the rule of a part is kept by each step, and is proved here.
 //!
-//! There are nine kinds of step: blocks are sent and received; the mark is brought on, its flag is
-//! set, and both are loaded; a step is tallied on the line, and the line is loaded; a number is
-//! drawn; an accord is loaded. Seats are joined and cut, too: so one is told what another knows,
-//! both ends of a hand-off note what was frozen, and both ends of an accord come to know another
-//! state. The book's lock is held where blocks are sent, steps tallied and clients made, the
-//! keeper's where blocks are received and the mark is brought on and tells, and both where what was
-//! frozen is noted. Whoever takes a step of an accord holds the locks of both of its ends.
+//! There are eleven kinds of step: blocks are sent and received; the mark is brought on, its flag
+//! is set, and both are loaded; a step is tallied on the line, and the line is loaded; a number is
+//! drawn; an accord is loaded; a twin is loaded, and touched. Seats are joined and cut, too: so one
+//! is told what another knows, both ends of a hand-off note what was frozen, and both ends of an
+//! accord come to know another state. The journal's lock is held where blocks are sent, steps
+//! tallied and clients made, the keeper's where blocks are received and the mark is brought on and
+//! tells, and both where what was frozen is noted. Whoever takes a step of an accord or of a twin
+//! holds the locks of both of its ends.
 //!
 //! The value of a seat names its `table`, and a call asks for the seats of the part itself. What
 //! lies under a lock is known by its type alone: pick the tables by a type parameter, and let the
@@ -38,6 +41,7 @@ mod handoff;
 mod line;
 mod mark;
 mod numbers;
+mod twin;
 mod view;
 
 pub use accord::{Accord, Far, Near, OneGather};
@@ -46,4 +50,5 @@ pub use handoff::{Handoff, Receiver, Sender};
 pub use line::{BookSeat, ClientSeat, Line};
 pub use mark::{KeeperSeat, Mark, OneMoment, Raised, Watcher};
 pub use numbers::{Drawer, DrawerMaker, Numbers};
+pub use twin::{OneTouch, Twin, TwinFar, TwinNear};
 pub use view::OneStep;

@@ -140,7 +140,7 @@ impl Line {
     }
 
     /// A client's step stands at the end of the history, which the client has then seen whole. Take
-    /// it under the book's lock, with the step of the book.
+    /// it under the journal's lock, with the step of the book.
     pub fn tally<W: OneStep>(&self, book: &mut BookSeat, client: &mut ClientSeat)
         requires book { book.old.table ≡ self.now }
         requires client { client.old.table ≡ self.now }
@@ -156,7 +156,7 @@ impl Line {
         self.alight(host, &mut client.seat);
     }
 
-    /// A step of no client stands at the end of the history. Take it under the book's lock, with
+    /// A step of no client stands at the end of the history. Take it under the journal's lock, with
     /// the step of the book.
     pub fn tally_alone<W: OneStep>(&self, book: &mut BookSeat)
         requires book { book.old.table ≡ self.now }

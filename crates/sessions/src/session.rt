@@ -244,7 +244,7 @@ impl<J: Naming> Speaker for Session<'_, '_, J> {
     ghost refuses = { IsRefusal };
 
     /// Carries a request out, and says what it is answered: a refusal of the store too. It waits
-    /// for the book's lock alone.
+    /// for locks of the book alone.
     fn say<R: Wait>(&mut self, rt: &R, request: &Request) -> Said {
         match self.obey(rt, request) {
             Ok(said) => said,

@@ -62,7 +62,7 @@ use Rattle.clients.specs.Desks.{AreRecorded, IsDesk, PacksImages, frozen_end, fr
 use Rattle.clients.specs.Notes.{alone}
 use Rattle.clients.specs.Told.{told_book}
 use Rattle.clients.proofs.Telling.{kept_told}
-use Rattle.clients.proofs.DeskSteps.{owned_then}
+use Rattle.clients.proofs.Owning.{owned_then}
 use Rattle.store.specs.Closing.{Closes}
 use Rattle.store.specs.Gatherers.{Froze}
 use Rattle.store.specs.Vaults.{LeavesSince, IsVault, IsKeptSince}

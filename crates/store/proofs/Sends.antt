@@ -47,10 +47,16 @@ use Rattle.group_commit.proofs.mark.Watcher.TheSendSync as watchers
 use Rattle.group_commit.proofs.numbers.Numbers.TheSendSync as numbers
 use Rattle.group_commit.proofs.numbers.Drawer.TheSendSync as drawers
 use Rattle.group_commit.proofs.numbers.DrawerMaker.TheSendSync as makers
+use Rattle.group_commit.proofs.twin.Twin.TheSendSync as twins
+use Rattle.group_commit.proofs.twin.TwinNear.TheSendSync as twin_nears
+use Rattle.group_commit.proofs.twin.TwinFar.TheSendSync as twin_fars
+use Rattle.clients.proofs.shelf_desk.ShelfDesk.TheSendSync as shelf_desks
 use Rattle.clients.proofs.signal.Signal.TheSendSync as signals
 use Rattle.clients.specs.contracts.client.Client as client
 use Rattle.clients.specs.declared.naming.Naming as namings
-use Rattle.clients.specs.contracts.desk_lock.DeskLock as desk_lock
+use Rattle.clients.specs.contracts.desk.Desk as desk
+use Rattle.clients.specs.contracts.lock.Lock as lock
+use Rattle.clients.specs.contracts.shelves.Shelves as four_shelves
 use Rattle.store.specs.contracts.gatherer.Gatherer as gatherer
 use Rattle.store.specs.contracts.vault.Vault as vault
 use Rattle.clients.specs.contracts.shared.Shared as shared
@@ -68,6 +74,7 @@ pub ruleset parts = (
   tables.the_send,
   shelves.the_send,
   fours.the_send,
+  fours.the_sync,
   accounts.the_send,
   gatherings.the_send,
   keepers.the_send,
@@ -86,6 +93,10 @@ pub ruleset parts = (
   numbers.the_sync,
   drawers.the_send,
   makers.the_send,
+  twins.the_sync,
+  twin_nears.the_send,
+  twin_fars.the_send,
+  shelf_desks.the_send,
   signals.the_sync,
 )
 
@@ -97,15 +108,19 @@ module _ (J : RattleType) (n : namings.Ghosts J.Denot) (J_send : IsSend J) (J_sy
     (c : boosted.Ghosts B.Denot u8-field.Value) (p : part.Ghosts P.Denot)
     (m : named.Ghosts N.Denot) (s : shelved.Ghosts T.Denot P.Denot)
     (t : boosted.Ghosts T.Denot u8-field.Value) (N_send : IsSend N) (T_send : IsSend T) where
-  pub desk_sync : IsSync (desk_lock.the_field J B P N T n b c p m s t).row
-  desk_sync = struct_sync (shape (desk_lock.the_type J B P N T n b c p m s t))
+  pub shelves_sync : IsSync (four_shelves.the_field J B P N T n b c p m s t).row
+  shelves_sync = struct_sync (shape (four_shelves.the_type J B P N T n b c p m s t))
+      (search parts depth 80 fits 100000)
+
+  pub desk_sync : IsSync (lock.the_field (desk.the_row J B P N T n b c p m s t)).row
+  desk_sync = struct_sync (shape (lock.the_type (desk.the_row J B P N T n b c p m s t)))
       (search parts depth 80 fits 100000)
 
   pub shared_sync : IsSync (shared.the_field J n).row
   shared_sync = struct_sync (shape (shared.the_type J n)) (search parts depth 80 fits 100000)
 
   pub client_send : (ν : NamedLft) → IsSend (client.the_row ν J B P N T n b c p m s t)
-  client_send ν = search (parts, desk_sync, shared_sync) depth 80 fits 100000
+  client_send ν = search (parts, shelves_sync, desk_sync, shared_sync) depth 80 fits 100000
 
 -- A store may be shared where its disk, and what is gathered of it, may be sent too.
 module _ (D J : RattleType) (n : namings.Ghosts J.Denot) (d : disks.Ghosts D.Denot)
@@ -121,14 +136,17 @@ module _ (D J : RattleType) (n : namings.Ghosts J.Denot) (d : disks.Ghosts D.Den
   gatherer_sync : IsSync (mutex.the_row (gatherer.the_row J B P N T n b c p m s t))
   gatherer_sync = search (parts, gatherers.the_send) depth 80 fits 100000
 
-  pub any_store_sync : IsSync (store.the_row D J B P N T n d b c p m s t)
-  any_store_sync = recorded_sync (store.the_field D J B P N T n d b c p m s t).row _ _
-      (store.the_type D J B P N T n d b c p m s t).to_one
-      (struct_sync (shape (store.the_type D J B P N T n d b c p m s t)) (
-        desk_sync J n J_send J_sync B P N T b c p m s t N_send T_send,
+  pub any_store_sync : IsSync (store.the_row D J B P N T n b c p m s t d)
+  any_store_sync = recorded_sync (store.the_field D J B P N T n b c p m s t d).row _ _
+      (store.the_type D J B P N T n b c p m s t d).to_one
+      (struct_sync (shape (store.the_type D J B P N T n b c p m s t d)) (
+        shelves_sync J n J_send J_sync B P N T b c p m s t N_send T_send,
         (
-          vault_sync,
-          (gatherer_sync, (shared_sync J n J_send J_sync B P N T b c p m s t N_send T_send, tt)),
+          desk_sync J n J_send J_sync B P N T b c p m s t N_send T_send,
+          (
+            vault_sync,
+            (gatherer_sync, (shared_sync J n J_send J_sync B P N T b c p m s t N_send T_send, tt)),
+          ),
         ),
       ))
 
@@ -136,8 +154,8 @@ module _ (D J : RattleType) (n : namings.Ghosts J.Denot) (d : disks.Ghosts D.Den
 module _ (D J : RattleType) (n : namings.Ghosts J.Denot) (d : disks.Ghosts D.Denot)
     (D_send : IsSend D) (J_send : IsSend J) (J_sync : IsSync J) where
   pub store_sync : IsSync (store.the_row D J catalog.the_row holding.the_row names.the_row
-      quarter.the_row n d catalog_parts.ghosts catalog_boosted.ghosts holding_part.ghosts
-      names_named.ghosts quarter_shelved.ghosts quarter_boosted.ghosts)
+      quarter.the_row n catalog_parts.ghosts catalog_boosted.ghosts holding_part.ghosts
+      names_named.ghosts quarter_shelved.ghosts quarter_boosted.ghosts d)
   store_sync = any_store_sync D J n d D_send J_send J_sync catalog.the_row holding.the_row
       names.the_row quarter.the_row catalog_parts.ghosts catalog_boosted.ghosts
       holding_part.ghosts names_named.ghosts quarter_shelved.ghosts quarter_boosted.ghosts

@@ -1,16 +1,30 @@
 -- What is gathered of the book of a store for an image.
-use Rattle.std.specs.Prelude.{◌≡◌, ◌≢◌, ◌⊎◌, None, List, Result, Ok, Err}
-use Rattle.calls.specs.Contents.{Collection}
+use Rattle.std.specs.Prelude.{◌≡◌, ◌≢◌, ◌⊎◌, ℕ, Option, Some, None, List, length, Result, Ok, Err}
+use Rattle.std.specs.Prelude.{IfOk, IfErr}
+use Rattle.calls.specs.Contents.{Content, Collection}
 use Rattle.calls.specs.declared.refusal.Refusal.{Refusal}
 use Rattle.disk_model.specs.declared.disk.Disk as disks
+use Rattle.boosted.specs.Meaning.{Meaning}
+use Rattle.catalog.specs.declared.four.Four.{Four}
+use Rattle.catalog.specs.Making.{Making}
+use Rattle.catalog.specs.Woven.{Label}
+use Rattle.shelf.specs.Shelves.{ShelfState}
 use Rattle.images.specs.Gathers.{GatherState, Repeats}
+use Rattle.gathering.specs.Gatherings.{CanGoOn}
+use Rattle.txn.specs.Parts.{IsCopy}
+use Rattle.txn.specs.Shelved.{JournalState}
 use Rattle.txn.specs.Books.{BookState, position}
 use Rattle.txn.specs.Freezing.{FreezeAnswers}
 use Rattle.checkpoint.specs.ImageAnswers.{HoldAnswers}
 use Rattle.checkpoint.specs.Keepers.{KeeperState}
 use Rattle.checkpoint.specs.Keeping.{HoldKeeps}
 use Rattle.group_commit.specs.Accords.{AccordState, nothing_gathered}
+use Rattle.group_commit.specs.Lines as lines
+use Rattle.group_commit.specs.Orders.{SenderState}
+use Rattle.group_commit.specs.Twins.{EndState}
 use Rattle.clients.specs.declared.naming.Naming.{Ghosts}
+use Rattle.clients.specs.declared.touch.Touch.{Touch}
+use Rattle.clients.specs.Touches.{IsJournalDesk}
 
 -- what is gathered, and what the book's side and the keeper's know of it
 pub record GathererState : Type 0 where
@@ -28,6 +42,27 @@ pub record IsGatherer {J : Type 0} (j : Ghosts J) (s : GathererState) : Type 0 w
   pub awaited : s.of_keeper.table ≡ j.awaited
   pub unfrozen : s.gather.frozen ≡ None → IsKnown s.of_book s.gather
   pub frozen : s.gather.frozen ≢ None → Repeats s.of_keeper.gather s.gather
+
+-- a copy, as what is gathered is gone on with
+abbrev pub as_next : {P : Type 0} → Result P Refusal → Result (Option P) Refusal
+as_next (Ok part) = Ok (Some part)
+as_next (Err e) = Err e
+
+-- S: contents of the collections. T: contents of a shelf. N: names with kinds. P: a copy of a
+-- collection. The others as a book in parts has them.
+module _ {J S T N P : Type 0} (j : Ghosts J) (labels : N → List Label)
+    (holds : T → ℕ → Content → Type 0) (collection : P → Collection) (meaning : Meaning S ℕ)
+    (making : Making S) (collections : S → List Collection) (whole : N → Four T → S)
+    (fits : N → Four T → Type 0) where
+  -- The journal is of a store. Where what is gathered may be gone on with, the part is a copy of the
+  -- next collection of the book, or there was no memory for one.
+  pub record IsGivenTo (k : JournalState N) (nears : Four (EndState (Touch (ShelfState T))))
+      (seat : lines.BookState) (sender : SenderState) (near : AccordState) (g : GatherState)
+      (part : Result (Option P) Refusal) : Type 0 where
+    pub desk : IsJournalDesk j meaning making collections whole fits k nears seat sender near
+    pub copied : CanGoOn k.gathering g →
+        IfOk part (IsCopy labels holds collection k.names desk.shelves (length g.parts))
+    pub refused : IfErr part (λ e. e ≡ Refusal.NoMemory)
 
 -- The book froze, and then the keeper was asked to hold the end of its image. Where the book
 -- refused, the keeper is not asked.

@@ -2,6 +2,7 @@
 use Rattle.std.specs.Prelude.{◌≡◌, ℕ, List}
 use Rattle.calls.specs.Contents.{Collection}
 use Rattle.atomic_table.specs.Seated.{TableId}
+use Rattle.catalog.specs.declared.four.Four.{Four}
 use Rattle.disk_model.specs.declared.disk.Disk as disks
 use Rattle.txn.specs.Books.{BookState}
 use Rattle.checkpoint.specs.Keepers.{KeeperState}
@@ -16,6 +17,7 @@ pub record Tables : Type 0 where
   pub handoff : TableId
   pub gathering : TableId
   pub awaited : TableId
+  pub shelves : Four TableId
   pub from : ℕ
 
 -- its book and its keeper, and the tables of its parts
@@ -39,6 +41,7 @@ pub record IsNamed {J D : Type 0} (j : Ghosts J) (g : disks.Ghosts D) (o : Opene
   pub handoff : o.tables.handoff ≡ j.handoff
   pub gathering : o.tables.gathering ≡ j.gathering
   pub awaited : o.tables.awaited ≡ j.awaited
+  pub shelves : o.tables.shelves ≡ j.shelves
   pub start : o.book.state.now ≡ j.start
   pub format : o.book.state.format ≡ j.format
   pub wear : o.book.state.wear ≡ j.wear
@@ -59,6 +62,7 @@ naming_of g o = record {
   handoff = o.tables.handoff;
   gathering = o.tables.gathering;
   awaited = o.tables.awaited;
+  shelves = o.tables.shelves;
   start = o.book.state.now;
   format = o.book.state.format;
   wear = o.book.state.wear;

@@ -6,7 +6,7 @@ use crate::gatherer::Gatherer;
 use crate::vault::{Vault, note_failure};
 use calls::Refusal;
 use catalog::Catalog;
-use clients::{DeskLock, Naming, Shared};
+use clients::{Desk, Lock, Naming, Shared, Shelves};
 use disk_model::Disk;
 use group_commit::Watcher;
 use records::Coded;
@@ -34,7 +34,8 @@ pub enum Checkpoint {
 /// checkpointer goes on. Contracts see what it has loaded of the mark.
 #[derive(Drop)]
 pub struct Checkpointer<'s, D: Disk, J: Naming, B: Coded = Catalog> {
-    desk: &'s DeskLock<J, B>,
+    shelves: &'s Shelves<J, B>,
+    desk: &'s Lock<Desk<J, B>>,
     vault: &'s Mutex<Vault<D, J>>,
     gatherer: &'s Mutex<Gatherer<J, B>>,
     shared: &'s Shared<J>,
@@ -54,7 +55,8 @@ impl<'s, D: Disk, J: Naming, B: Coded> Model for Checkpointer<'s, D, J, B> {
 
 impl<'s, D: Disk, J: Naming, B: Coded> Checkpointer<'s, D, J, B> {
     pub(crate) fn new(
-        desk: &'s DeskLock<J, B>,
+        shelves: &'s Shelves<J, B>,
+        desk: &'s Lock<Desk<J, B>>,
         vault: &'s Mutex<Vault<D, J>>,
         gatherer: &'s Mutex<Gatherer<J, B>>,
         shared: &'s Shared<J>,
@@ -64,6 +66,7 @@ impl<'s, D: Disk, J: Naming, B: Coded> Checkpointer<'s, D, J, B> {
         ensures { result ≡ watcher }
     {
         Self {
+            shelves,
             desk,
             vault,
             gatherer,
@@ -76,13 +79,15 @@ impl<'s, D: Disk, J: Naming, B: Coded> Checkpointer<'s, D, J, B> {
     /// which is one write, or makes the image the store where no piece is left, which is a write
     /// and two syncs. Both go on under the keeper's lock alone, so clients go on meanwhile.
     ///
-    /// Else it goes on towards an image. It lets those who wait for the book's lock have it, and
-    /// copies the next collection under it, in the time and memory that one copy takes. So a client
-    /// waits for one copy as a rule, and not for several in a row. What was run behind the copies
-    /// is repeated under no lock that clients take. Where all are copied it freezes the book under
-    /// both locks, in the time of what the live transactions asked for, with no device called. Then
-    /// it packs the image under no lock, and begins it under the keeper's. Take turns until
-    /// `Flipped`.
+    /// Else it goes on towards an image. It lets those who wait for the lock of the next
+    /// collection's shelf have it, and copies the collection under it, in the time and memory that
+    /// one copy takes. So a client of that shelf waits for one copy as a rule, and not for several
+    /// in a row; clients of the other three go on. The journal's lock is taken once before it, to
+    /// find the collection, and once behind it. What was run behind the copies is repeated under no
+    /// lock that clients take. Where all are copied it freezes the book under the locks of the
+    /// keeper, of all shelves and of the journal, in the time of what the live transactions asked
+    /// for, with no device called. Then it packs the image under no lock, and begins it under the
+    /// keeper's. Take turns until `Flipped`.
     ///
     /// Towards an image it is refused: Outrun where more calls were run between two copies than are
     /// noted; NoMemory; Worn where 2^61 gatherings were begun; Full where the image does not fit
@@ -127,9 +132,14 @@ impl<'s, D: Disk, J: Naming, B: Coded> Checkpointer<'s, D, J, B> {
         ensures refused { IfErr result IsCheckRefusal }
     {
         let gatherer = self.gatherer;
-        let prepared = gatherer
-            .lock(rt)
-            .turn(rt, self.shared, self.desk, self.vault, leaves_room);
+        let prepared = gatherer.lock(rt).turn(
+            rt,
+            self.shared,
+            self.shelves,
+            self.desk,
+            self.vault,
+            leaves_room,
+        );
         if let Err(refusal) = &prepared {
             note_failure(&self.shared.mark, &mut self.watcher, *refusal);
         }

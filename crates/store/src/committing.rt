@@ -7,7 +7,7 @@ use crate::vault::Vault;
 use calls::Refusal;
 use catalog::Catalog;
 use checkpoint::Turn;
-use clients::{DeskLock, Naming, Shared};
+use clients::{Desk, Lock, Naming, Shared};
 use disk_model::Disk;
 use group_commit::Watcher;
 use records::Coded;
@@ -18,7 +18,7 @@ use std::sync::{Mutex, Wait};
 /// takes its turns in a loop. Contracts see what it has loaded of the mark.
 #[derive(Drop)]
 pub struct Committer<'s, D: Disk, J: Naming, B: Coded = Catalog> {
-    desk: &'s DeskLock<J, B>,
+    desk: &'s Lock<Desk<J, B>>,
     vault: &'s Mutex<Vault<D, J>>,
     shared: &'s Shared<J>,
     watcher: Watcher,
@@ -37,7 +37,7 @@ impl<'s, D: Disk, J: Naming, B: Coded> Model for Committer<'s, D, J, B> {
 
 impl<'s, D: Disk, J: Naming, B: Coded> Committer<'s, D, J, B> {
     pub(crate) fn new(
-        desk: &'s DeskLock<J, B>,
+        desk: &'s Lock<Desk<J, B>>,
         vault: &'s Mutex<Vault<D, J>>,
         shared: &'s Shared<J>,
         watcher: Watcher,
@@ -57,7 +57,7 @@ impl<'s, D: Disk, J: Naming, B: Coded> Committer<'s, D, J, B> {
     /// block to the disk, with two writes and two syncs. `Turn::Kept` gives a place: all commits
     /// and makings up to it are kept. `Turn::Idle` says that nothing was there to do, and
     /// `Turn::Held` that the block waits for the image in progress. The block is cut under the
-    /// book's lock and written under the keeper's alone. It takes no memory. How far the area in
+    /// journal's lock and written under the keeper's alone. It takes no memory. How far the area in
     /// use is filled is not told for `Client::status`.
     ///
     /// Failed after a Fault; Full where the block does not fit into the area: it is held, and goes
@@ -77,7 +77,7 @@ impl<'s, D: Disk, J: Naming, B: Coded> Committer<'s, D, J, B> {
     /// undoing of all that is live behind the block fits behind it, so that the disk can be opened
     /// again. While an image is written no block past it is cut, and none that does not fit, as the
     /// image may cover it: `Turn::Held`. The keeper's lock is held where the block is cut under the
-    /// book's. How far the area in use is filled then is told for `Client::status`.
+    /// journal's. How far the area in use is filled then is told for `Client::status`.
     ///
     /// The refusals of `turn`. Full where the block, with that undoing, does not fit: it is not
     /// cut, and is handed over once a checkpoint has made room.

@@ -1,24 +1,35 @@
 // What is gathered of the book for an image, up to where the keeper begins it.
 ghost use Rattle.std.specs.Prelude.{◌≡◌, ◌≢◌, ◌⊎◌, None, Err, OnOk, OnErr, IfOk, IfErr};
-ghost use Rattle.std.specs.Prelude.{IsSome, IsFalse, Result};
+ghost use Rattle.std.specs.Prelude.{IsSome, IsFalse, IfSome, Result, length, string_bytes};
+ghost use Rattle.calls.specs.Names.{IsName};
 ghost use Rattle.calls.specs.declared.refusal.Refusal.{Refusal};
+ghost use Rattle.catalog.specs.declared.four.Four.{Four};
+ghost use Rattle.catalog.specs.Fours.{which_of};
+ghost use Rattle.catalog.specs.Shelving.{CopyRefused};
+ghost use Rattle.shelf.specs.Shelves.{ShelfState};
 ghost use Rattle.images.specs.Gathers.{Packs};
+ghost use Rattle.gathering.specs.Gatherings.{CanGoOn};
 ghost use Rattle.txn.specs.Freezing.{IsGatheredOf};
+ghost use Rattle.txn.specs.Parts.{IsCopy};
+ghost use Rattle.txn.specs.Shelved.{book_state, IsBook};
 ghost use Rattle.group_commit.specs.Accords.{nothing_gathered};
-ghost use Rattle.group_commit.specs.Orders.{noting, noting_too};
+ghost use Rattle.group_commit.specs.Orders.{SenderState, noting, noting_too};
+ghost use Rattle.group_commit.specs.Twins.{EndState};
+ghost use Rattle.clients.specs.declared.touch.Touch.{Touch};
 ghost use Rattle.clients.specs.Told.{told_book};
-ghost use Rattle.store.specs.Gatherers.{IsKnown, Froze};
+ghost use Rattle.clients.specs.Touches.{IsJournalDesk};
+ghost use Rattle.store.specs.Gatherers.{IsKnown, IsGivenTo, as_next, Froze};
 ghost use Rattle.store.specs.Turns.{IsPrepared, IsCheckRefusal, IsFreezeRefusal};
 
 use crate::checkpointing::Checkpoint;
 use crate::vault::Vault;
 use blocks::Image;
 use calls::Refusal;
-use catalog::Part;
+use catalog::{Part, Shelved};
 use checkpoint::Keeper;
-use clients::{Desk, DeskLock, Naming, Room, Shared, note_alone};
+use clients::{Desk, Lock, Naming, Quarter, Room, Shared, ShelfDesk, Shelves, note_alone};
 use disk_model::Disk;
-use group_commit::{Accord, Far, Handoff, Near, OneGather, Receiver, Sender};
+use group_commit::{Accord, BookSeat, Far, Handoff, Near, OneGather, Receiver, Sender};
 use images::Gather;
 use records::Coded;
 use std::alloc::Global;
@@ -26,10 +37,10 @@ use std::marker::{Brand, Model, PhantomData};
 use std::mem;
 use std::snapshot::Snapshot;
 use std::sync::{Mutex, Wait};
-use txn::Book;
+use txn::Journal;
 
-/// What is gathered of the book, with the far ends of what the book's side and the keeper's know of
-/// it. It belongs to the store, so whichever checkpointer takes the next turn goes on with it.
+/// What is gathered of the book, with the far ends of what the journal's side and the keeper's know
+/// of it. It belongs to the store, so whichever checkpointer takes the next turn goes on with it.
 /// Contracts see all three.
 #[derive(Drop)]
 pub(crate) struct Gatherer<J: Naming, B: Coded> {
@@ -42,6 +53,13 @@ pub(crate) struct Gatherer<J: Naming, B: Coded> {
     of_book: Far,
     of_keeper: Far,
     of: PhantomData<J>,
+}
+
+// The collection that is copied next, by its number, with its name.
+#[derive(Drop)]
+struct Next {
+    at: u8,
+    name: String,
 }
 
 impl<J: Naming, B: Coded> Model for Gatherer<J, B> {
@@ -97,7 +115,8 @@ impl<J: Naming, B: Coded> Gatherer<J, B> {
         &mut self,
         rt: &R,
         shared: &Shared<J>,
-        desk: &DeskLock<J, B>,
+        shelves: &Shelves<J, B>,
+        desk: &Lock<Desk<J, B>>,
         vault: &Mutex<Vault<D, J>>,
         leaves_room: bool,
     ) -> Result<Checkpoint, Refusal>
@@ -109,34 +128,28 @@ impl<J: Naming, B: Coded> Gatherer<J, B> {
             return self.pack(rt, shared, vault, undoing);
         }
         if mem::replace(&mut self.is_whole, false) {
-            match self.freeze(rt, shared, desk, vault) {
+            match self.freeze(rt, shared, shelves, desk, vault) {
                 Err(refusal) if goes_on(refusal) => {}
                 frozen => return frozen,
             }
         }
-        self.copy(rt, shared, desk)
+        self.copy(rt, shared, shelves, desk)
     }
 
-    // Copies the next collection under the book's lock, once those who wait for it have had it, and
-    // repeats on the copies what was run behind them under none.
+    // Copies the next collection, and repeats on the copies what was run behind them under no lock
+    // that clients take.
     fn copy<R: Wait>(
         &mut self,
         rt: &R,
         shared: &Shared<J>,
-        desk: &DeskLock<J, B>,
+        shelves: &Shelves<J, B>,
+        desk: &Lock<Desk<J, B>>,
     ) -> Result<Checkpoint, Refusal>
         requires { self.old.gather.frozen ≡ None }
         ensures prepared { IfOk result IsPrepared }
         ensures refused { IfErr result IsCheckRefusal }
     {
-        desk.give_way(rt);
-        let copied = copy_next(
-            shared,
-            &mut desk.lock(rt),
-            &mut self.gather,
-            &mut self.of_book,
-        );
-        match copied {
+        match self.copy_next(rt, shared, shelves, desk) {
             Ok(more) => {
                 self.is_whole = !more;
                 self.gather.catch_up()?;
@@ -149,12 +162,171 @@ impl<J: Naming, B: Coded> Gatherer<J, B> {
         }
     }
 
-    // Freezes the book under both locks, and holds the end of its image.
+    // Copies the next collection, if one is left: the refusals of `Journal::gather`. The journal's
+    // side knows what is gathered then.
+    fn copy_next<R: Wait>(
+        &mut self,
+        rt: &R,
+        shared: &Shared<J>,
+        shelves: &Shelves<J, B>,
+        desk: &Lock<Desk<J, B>>,
+    ) -> Result<bool, Refusal>
+        requires { self.old.gather.frozen ≡ None }
+        ensures unfrozen { self.new.gather.frozen ≡ None }
+        ensures refused { IfErr result IsCheckRefusal }
+    {
+        for _ in rt.forever() {
+            if let Some(copied) = self.try_copy(rt, shared, shelves, desk) {
+                return copied;
+            }
+        }
+        unreachable!()
+    }
+
+    // Finds the next collection under the journal's lock, and copies it under its shelf's. None
+    // where another collection has its number by then.
+    fn try_copy<R: Wait>(
+        &mut self,
+        rt: &R,
+        shared: &Shared<J>,
+        shelves: &Shelves<J, B>,
+        desk: &Lock<Desk<J, B>>,
+    ) -> Option<Result<bool, Refusal>>
+        requires { self.old.gather.frozen ≡ None }
+        ensures unfrozen { self.new.gather.frozen ≡ None }
+        ensures refused { IfSome result (λ r. IfErr r IsCheckRefusal) }
+    {
+        let found = self.find_next(shared, &mut desk.lock(rt));
+        match found {
+            Ok(next) => self.copy_at(rt, shared, shelves, desk, &next),
+            Err(gathered) => Some(gathered),
+        }
+    }
+
+    // The collection that is to be copied next. Where none is, or there is no memory for its name,
+    // the step is taken here, without a copy.
+    fn find_next(
+        &mut self,
+        shared: &Shared<J>,
+        desk: &mut Desk<J, B>,
+    ) -> Result<Next, Result<bool, Refusal>>
+        requires { self.old.gather.frozen ≡ None }
+        ensures number { IfOk result (λ next. next.at ≡ length self.new.gather.parts) }
+        ensures name { IfOk result (λ next. IsName (string_bytes next.name)) }
+        ensures unfrozen { self.new.gather.frozen ≡ None }
+        ensures refused { IfErr result (λ r. IfErr r IsCheckRefusal) }
+    {
+        match next_of(&desk.journal, &self.gather) {
+            Ok(next) => Ok(next),
+            Err(part) => Err(gather_part(
+                shared,
+                &mut desk.journal,
+                &mut desk.seat,
+                &mut desk.near,
+                part,
+                &mut self.gather,
+                &mut self.of_book,
+            )),
+        }
+    }
+
+    // Copies the collection under the lock of its shelf.
+    fn copy_at<R: Wait>(
+        &mut self,
+        rt: &R,
+        shared: &Shared<J>,
+        shelves: &Shelves<J, B>,
+        desk: &Lock<Desk<J, B>>,
+        next: &Next,
+    ) -> Option<Result<bool, Refusal>>
+        requires number { next.now.at ≡ length self.old.gather.parts }
+        requires name { IsName (string_bytes next.now.name) }
+        requires unfrozen { self.old.gather.frozen ≡ None }
+        ensures unfrozen { self.new.gather.frozen ≡ None }
+        ensures refused { IfSome result (λ r. IfErr r IsCheckRefusal) }
+    {
+        if next.at % 4 == 0 {
+            return self.copy_on(rt, shared, shelves, &shelves.first, desk, next);
+        }
+        if next.at % 4 == 1 {
+            return self.copy_on(rt, shared, shelves, &shelves.second, desk, next);
+        }
+        if next.at % 4 == 2 {
+            return self.copy_on(rt, shared, shelves, &shelves.third, desk, next);
+        }
+        self.copy_on(rt, shared, shelves, &shelves.fourth, desk, next)
+    }
+
+    // Copies the collection under the lock of this shelf, once those who wait for it have had it.
+    // The journal's lock is taken behind that.
+    fn copy_on<Q: Quarter, R: Wait>(
+        &mut self,
+        rt: &R,
+        shared: &Shared<J>,
+        shelves: &Shelves<J, B>,
+        shelf: &Lock<ShelfDesk<J, B, Q>>,
+        desk: &Lock<Desk<J, B>>,
+        next: &Next,
+    ) -> Option<Result<bool, Refusal>>
+        requires place { which_of next.now.at ≡ Q.which }
+        requires number { next.now.at ≡ length self.old.gather.parts }
+        requires name { IsName (string_bytes next.now.name) }
+        requires unfrozen { self.old.gather.frozen ≡ None }
+        ensures unfrozen { self.new.gather.frozen ≡ None }
+        ensures refused { IfSome result (λ r. IfErr r IsCheckRefusal) }
+    {
+        shelf.give_way(rt);
+        let mut held = shelf.lock(rt);
+        let part = held.copy(next.at, &next.name);
+        self.gather_copy(shared, shelves, &mut held, &mut desk.lock(rt), next, part)
+    }
+
+    // Goes on with the copy of a collection of the shelf that is held. None, with nothing changed,
+    // where the collection does not have the number.
+    fn gather_copy<Q: Quarter>(
+        &mut self,
+        shared: &Shared<J>,
+        shelves: &Shelves<J, B>,
+        held: &mut ShelfDesk<J, B, Q>,
+        desk: &mut Desk<J, B>,
+        next: &Next,
+        part: Result<B::Part, Refusal>,
+    ) -> Option<Result<bool, Refusal>>
+        requires place { which_of next.now.at ≡ Q.which }
+        requires number { next.now.at ≡ length self.old.gather.parts }
+        requires copied { IfOk part (λ p. B.Shelf.holds held.old.now next.now.at
+            (B.Part.collection p).content) }
+        requires name { IfOk part (λ p. (B.Part.collection p).name ≡ string_bytes next.now.name) }
+        requires refused { IfErr part (CopyRefused (B.Shelf.holds held.old.now next.now.at)) }
+        requires unfrozen { self.old.gather.frozen ≡ None }
+        ensures unfrozen { self.new.gather.frozen ≡ None }
+        ensures refused { IfSome result (λ r. IfErr r IsCheckRefusal) }
+    {
+        if !desk.journal.is_at(&next.name, next.at) {
+            return None;
+        }
+        let twin = shelves.twins.of(next.at);
+        let near = desk.nears.of_mut(next.at);
+        held.compare(twin, near);
+        Some(gather_part(
+            shared,
+            &mut desk.journal,
+            &mut desk.seat,
+            &mut desk.near,
+            as_next(part),
+            &mut self.gather,
+            &mut self.of_book,
+        ))
+    }
+
+    // Freezes the book under the locks of the keeper, of all shelves and of the journal, and holds
+    // the end of its image.
     fn freeze<D: Disk, R: Wait>(
         &mut self,
         rt: &R,
         shared: &Shared<J>,
-        desk: &DeskLock<J, B>,
+        shelves: &Shelves<J, B>,
+        desk: &Lock<Desk<J, B>>,
         vault: &Mutex<Vault<D, J>>,
     ) -> Result<Checkpoint, Refusal>
         requires { self.old.gather.frozen ≡ None }
@@ -163,6 +335,7 @@ impl<J: Naming, B: Coded> Gatherer<J, B> {
         ensures unfrozen { OnErr result (self.new.gather.frozen ≡ None) }
     {
         let mut vault = vault.lock(rt);
+        let _held = shelves.lock_all(rt);
         let mut desk = desk.lock(rt);
         let frozen = freeze(
             shared,
@@ -174,7 +347,7 @@ impl<J: Naming, B: Coded> Gatherer<J, B> {
         );
         match frozen {
             Ok(()) => {
-                self.undoing = desk.book.undoing();
+                self.undoing = desk.undoing();
                 Ok(Checkpoint::Frozen)
             }
             Err(refusal) => {
@@ -224,37 +397,73 @@ fn goes_on(refusal: Refusal) -> bool
     matches!(refusal, Refusal::Unfinished | Refusal::Imaging)
 }
 
-// Copies the next collection of the book, a step of no client: the refusals of `Book::gather`. The
-// book's side knows what is gathered then.
-fn copy_next<J: Naming, B: Coded>(
+// The collection that is to be copied next. Else what is gone on with in place of a copy: none
+// where none is to be copied, NoMemory where there was none for the name.
+fn next_of<B: Coded>(
+    journal: &Journal<B>,
+    gather: &Gather<B::Part>,
+) -> Result<Next, Result<Option<B::Part>, Refusal>>
+    ensures number { IfOk result (λ next. next.at ≡ length gather.now.parts) }
+    ensures name { IfOk result (λ next. IsName (string_bytes next.name)) }
+    ensures copied { IfErr result (λ part. (f : Four (ShelfState B.Shelf)) →
+        CanGoOn journal.now.gathering gather.now → IfOk part (IsCopy B.Names.labels B.Shelf.holds
+        B.Part.collection journal.now.names f (length gather.now.parts))) }
+    ensures refused { IfErr result (λ part. IfErr part (λ e. e ≡ Refusal.NoMemory)) }
+{
+    let Some((at, name)) = journal.next_copy(gather) else {
+        return Err(Ok(None));
+    };
+    match name.clone() {
+        Ok(name) => Ok(Next { at, name }),
+        Err(_) => Err(Err(Refusal::NoMemory)),
+    }
+}
+
+// A copy, as what is gathered is gone on with.
+fn as_next<P>(copied: Result<P, Refusal>) -> Result<Option<P>, Refusal>
+    ensures { result ≡ as_next copied }
+{
+    copied.map(Some)
+}
+
+// Goes on with what is gathered by the part, a step of no client: the refusals of
+// `Journal::gather`. The journal's side knows what is gathered then.
+fn gather_part<J: Naming, B: Coded>(
     shared: &Shared<J>,
-    desk: &mut Desk<J, B>,
+    journal: &mut Journal<B>,
+    seat: &mut BookSeat,
+    near: &mut Near,
+    part: Result<Option<B::Part>, Refusal>,
     gather: &mut Gather<B::Part>,
     far: &mut Far,
 ) -> Result<bool, Refusal>
+    requires given { (nears : Four (EndState (Touch (ShelfState B.Shelf)))) ×
+        (sender : SenderState) × IsGivenTo ⟦<J as Naming>⟧ B.Names.labels B.Shelf.holds
+        B.Part.collection B.meaning B.making B.collections B.whole B.fits journal.old nears seat.old
+        sender near.old gather.old part }
     requires table { far.old.table ≡ J.gathering }
     requires known { IsKnown far.old gather.old }
     requires unfrozen { gather.old.frozen ≡ None }
+    ensures desk { (nears : Four (EndState (Touch (ShelfState B.Shelf)))) (sender : SenderState) →
+        IsGivenTo ⟦<J as Naming>⟧ B.Names.labels B.Shelf.holds B.Part.collection B.meaning B.making
+        B.collections B.whole B.fits journal.old nears seat.old sender near.old gather.old part →
+        IsJournalDesk ⟦<J as Naming>⟧ B.meaning B.making B.collections B.whole B.fits journal.new
+        nears seat.new sender near.new }
     ensures far { far.new ≡ record { table = J.gathering; gather = gather.new } }
     ensures unfrozen { gather.new.frozen ≡ None }
     ensures refused { IfErr result IsCheckRefusal }
 {
-    shared.gathering.compare(&mut desk.near, far);
-    let copied = desk.book.gather(gather);
-    agree::<Brand, _>(
-        &shared.gathering,
-        &mut desk.near,
-        far,
-        &Snapshot::of(gather),
-    );
-    note_alone::<Brand, _>(&shared.line, &mut desk.seat, &copied);
+    shared.gathering.compare(near, far);
+    let copied = journal.gather(part, gather);
+    agree::<Brand, _>(&shared.gathering, near, far, &Snapshot::of(gather));
+    note_alone::<Brand, _>(&shared.line, seat, &copied);
     copied
 }
 
 // Freezes the book, a step of no client, and holds the end of its image: the refusals of
-// `Book::freeze`, then those of `Keeper::hold`. No block behind the freeze is kept before the end
-// is held, as both locks are. Both ends of the hand-off note what is frozen, and the keeper's side
-// knows it. No device is called.
+// `Journal::freeze`, then those of `Keeper::hold`. No block behind the freeze is kept before the end
+// is held, as the locks of both are. Both ends of the hand-off note what is frozen, and the
+// keeper's side knows it. No device is called.
 fn freeze<D: Disk, J: Naming, B: Coded>(
     shared: &Shared<J>,
     desk: &mut Desk<J, B>,
@@ -274,12 +483,11 @@ fn freeze<D: Disk, J: Naming, B: Coded>(
         (gather.new.frozen ≡ None → gather.new ≡ gather.old)) }
     ensures refused { IfErr result IsFreezeRefusal }
 {
-    desk.book.upheld();
     shared.gathering.compare(&mut desk.near, of_book);
     shared
         .handoff
         .compare(&mut desk.sender, &mut vault.receiver);
-    let frozen = freeze_book(&mut desk.book, &mut vault.keeper, gather);
+    let frozen = freeze_journal(&mut desk.journal, &mut vault.keeper, gather);
     note_alone::<Brand, _>(&shared.line, &mut desk.seat, &frozen);
     frozen?;
     let shown = Snapshot::of(gather);
@@ -293,18 +501,26 @@ fn freeze<D: Disk, J: Naming, B: Coded>(
     Ok(())
 }
 
-// Freezes the book, and asks the keeper to hold the end of its image.
-fn freeze_book<D: Disk, B: Coded>(
-    book: &mut Book<B>,
+// Freezes the book of the journal, and asks the keeper to hold the end of its image.
+fn freeze_journal<D: Disk, B: Coded>(
+    journal: &mut Journal<B>,
     keeper: &mut Keeper<D>,
     gather: &mut Gather<B::Part>,
 ) -> Result<(), Refusal>
-    requires { IsGatheredOf B.collections book.old gather.old }
-    ensures { (frozen : Result (Unit {0}) Refusal) × Froze ⟦<D as Disk>⟧
-        (told_book B.collections book.old) keeper.old gather.old frozen result
-        (told_book B.collections book.new) keeper.new gather.new }
+    requires gathered { (f : Four (ShelfState B.Shelf)) × IsBook B.meaning B.making B.collections
+        B.whole B.fits journal.old f ×
+        IsGatheredOf B.collections (book_state B.whole journal.old f) gather.old }
+    ensures froze { (f : Four (ShelfState B.Shelf)) → IsBook B.meaning B.making B.collections
+        B.whole B.fits journal.old f →
+        IsGatheredOf B.collections (book_state B.whole journal.old f) gather.old →
+        (frozen : Result (Unit {0}) Refusal) × Froze ⟦<D as Disk>⟧
+        (told_book B.collections (book_state B.whole journal.old f)) keeper.old gather.old frozen
+        result (told_book B.collections (book_state B.whole journal.new f)) keeper.new gather.new }
+    ensures kept { (f : Four (ShelfState B.Shelf)) → IsBook B.meaning B.making B.collections
+        B.whole B.fits journal.old f → IsBook B.meaning B.making B.collections B.whole B.fits
+        journal.new f }
 {
-    book.freeze(gather)?;
+    journal.freeze(gather)?;
     let Some(marks) = gather.marks() else {
         unreachable!();
     };

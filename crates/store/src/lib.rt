@@ -16,7 +16,8 @@
 //! call that another transaction is in the way of answers Busy at once: the client tries it again,
 //! or aborts. Two clients may be in each other's way for ever, so abort after some tries.
 //!
-//! No device is called under the book's lock. `begin`, `kept`, `meet` and `stop` wait for nobody.
+//! No device is called under a lock that clients take. `begin`, `kept`, `meet` and `stop` wait for
+//! nobody.
 //!
 //! Three lines open a store, the second in a function that is generic in its name:
 //!
@@ -38,12 +39,14 @@
 //! ghosts-serve g a = naming_of g.D.Disk a.opened
 //! ```
 //!
-//! **Where its argument stands.** Under the book's lock is a `Desk` (crate `clients`), under the
-//! keeper's a vault (`specs/Vaults`): for every history of a book that sent those blocks, the
-//! keeper has received them, and a stop at any moment since the opening leaves a beginning of what
-//! it commits, with all that the mark had told by then. `proofs/VaultSteps` keeps that over each
-//! step of the keeper, `proofs/Freezes` over a freeze, which has both locks; there `Closes` is
-//! proved. What threads share beside the locks are tables of `group_commit`.
+//! **Where its argument stands.** Under the journal's lock is a `Desk` (crate `clients`), which
+//! knows what each shelf holds, under a shelf's a `ShelfDesk`, under the keeper's a vault
+//! (`specs/Vaults`): for every history of a book that sent those blocks, the keeper has received
+//! them, and a stop at any moment since the opening leaves a beginning of what it commits, with all
+//! that the mark had told by then. `proofs/VaultSteps` keeps that over each step of the keeper,
+//! `proofs/Freezes` over a freeze, which has the journal's lock and the keeper's; there `Closes` is
+//! proved. `proofs/Copied` keeps what lies under the journal's lock over a copy and a freeze. What
+//! threads share beside the locks are tables of `group_commit`.
 //!
 //! **To change it.** A step of the committer or the checkpointer is a method of the vault or of the
 //! gatherer. What lies under a lock is known by its type's invariant alone, so a new field has its
@@ -57,6 +60,7 @@ mod crossing;
 mod gatherer;
 mod opened;
 mod store;
+mod twins;
 mod vault;
 
 pub use checkpointing::{Checkpoint, Checkpointer};

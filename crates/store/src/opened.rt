@@ -5,39 +5,44 @@ ghost use Rattle.calls.specs.declared.refusal.Refusal.{Refusal};
 ghost use Rattle.calls.specs.Limits.{number_end};
 ghost use Rattle.disk_model.specs.Disk.{Rises, IsAtRest};
 ghost use Rattle.repetition.specs.Journals.{StandsFor};
+ghost use Rattle.txn.specs.Books.{opened};
+ghost use Rattle.checkpoint.specs.Keepers.{IsFresh};
 ghost use Rattle.recovery.specs.Heads.{HasNoHeader};
 ghost use Rattle.recovery.specs.Openings.{IsOpened, IsDamagedAt, HasNoRoom, IsReadyStore};
 ghost use Rattle.recovery.specs.Openings.{IsOpenRefusal, KeepsContent};
+ghost use Rattle.clients.specs.Told.{told_book};
 ghost use Rattle.store.specs.Openings.{IsNamed};
 
 use crate::gatherer::Gatherer;
 use crate::store::Store;
+use crate::twins::Twins;
 use crate::vault::Vault;
 use calls::Refusal;
 use catalog::Catalog;
 use checkpoint::Keeper;
-use clients::{Desk, Extent, Naming, Shared, Signal};
+use clients::{Desk, Extent, Naming, Shared, Shelves, Signal};
 use disk_model::Disk;
 use group_commit::{
     Accord, BookSeat, DrawerMaker, Far, Handoff, KeeperSeat, Line, Mark, Near, Numbers, Receiver,
     Sender, Watcher,
 };
+use records::Coded;
 use recovery::open;
 use std::alloc::Global;
 use std::marker::{Model, PhantomData};
 use txn::Book;
 
-/// A store that was opened and has no name yet: `named` gives the store. Contracts see its book,
-/// its keeper, and the tables of its parts.
-pub struct Opened<D: Disk> {
+/// A store that was opened and has no name yet: `named` gives the store. Contracts see its book, as
+/// its named collections tell of it, its keeper, and the tables of its parts.
+pub struct Opened<D: Disk, B: Coded = Catalog> {
     alloc: Global,
-    book: Book<Catalog>,
+    book: Book<B>,
     keeper: Keeper<D>,
-    parts: Parts,
+    parts: Parts<B>,
 }
 
 // Written out, so that the crates above call it in place of proving it again.
-impl<D: Disk + Drop> Drop for Opened<D> {
+impl<D: Disk + Drop, B: Coded> Drop for Opened<D, B> {
     fn drop(self) {
         let Self {
             alloc: _alloc,
@@ -53,7 +58,7 @@ impl<D: Disk + Drop> Drop for Opened<D> {
 
 // What threads share beside the locks, with the first seats.
 #[derive(Drop)]
-struct Parts {
+struct Parts<B: Coded> {
     line: Line,
     seat: BookSeat,
     mark: Mark,
@@ -72,9 +77,10 @@ struct Parts {
     awaited: Accord,
     awaited_near: Near,
     awaited_far: Far,
+    twins: Twins<B>,
 }
 
-impl Model for Parts {
+impl<B: Coded> Model for Parts<B> {
     ghost use Rattle.std.specs.Prelude.{◌≡◌, []};
     ghost use Rattle.group_commit.specs.Accords.{nothing_gathered};
     ghost use Rattle.group_commit.specs.Marks.{new_watcher};
@@ -89,6 +95,7 @@ impl Model for Parts {
       handoff = p.handoff;
       gathering = p.gathering;
       awaited = p.awaited;
+      shelves = p.twins;
       from = p.maker.from;
     } };
 
@@ -104,7 +111,7 @@ impl Model for Parts {
         × (p.awaited_far ≡ record { table = p.awaited; gather = nothing_gathered }) };
 }
 
-impl<D: Disk> Model for Opened<D> {
+impl<D: Disk, B: Coded> Model for Opened<D, B> {
     ghost use Rattle.std.specs.Prelude.{◌≡◌};
     ghost use Rattle.std.specs.Coded.{codes, coded_ℕ, coded_bool};
     ghost use Rattle.std.specs.FinMap as maps;
@@ -112,21 +119,26 @@ impl<D: Disk> Model for Opened<D> {
     ghost use Rattle.catalog.specs.Holdings.{catalog_code};
     ghost use Rattle.txn.specs.Books.{opened};
     ghost use Rattle.checkpoint.specs.Keepers.{IsFresh};
+    ghost use Rattle.clients.specs.Told.{told_book};
     ghost use Rattle.store.specs.Openings.{OpenedState};
 
     ghost Value = { OpenedState D };
 
     ghost coded = { Prim.hlevel (codes, catalog_code, maps.code {R = nat_cmp} coded_ℕ coded_bool) };
 
-    ghost view = { λ o. record { book = o.book; keeper = o.keeper; tables = o.parts } };
+    ghost view = { λ o. record {
+      book = told_book B.collections o.book;
+      keeper = o.keeper;
+      tables = o.parts;
+    } };
 
     ghost invariant = { λ o. (o.parts.from ≡ o.book.next) × IsFresh o.keeper ×
         (o.book ≡ opened o.book.state.format o.book.state.now o.book.next o.book.state.wear) };
 }
 
-impl Parts {
+impl<B: Coded> Parts<B> {
     // Parts of a store whose numbers begin there. Refused only for want of memory.
-    fn new(alloc: Global, from: u64) -> Result<Parts, Refusal>
+    fn new(alloc: Global, from: u64) -> Result<Self, Refusal>
         requires { from ≤ number_end }
         ensures from { IfOk result (λ p. p.from ≡ from) }
         ensures refusal { IsOkUnless result Refusal.NoMemory }
@@ -137,6 +149,7 @@ impl Parts {
         let (handoff, sender, receiver) = Handoff::new(alloc)?;
         let (gathering, gathered_near, gathered_far) = Accord::new(alloc)?;
         let (awaited, awaited_near, awaited_far) = Accord::new(alloc)?;
+        let twins = Twins::new(alloc)?;
         Ok(Parts {
             line,
             seat,
@@ -154,6 +167,7 @@ impl Parts {
             awaited,
             awaited_near,
             awaited_far,
+            twins,
         })
     }
 }
@@ -196,21 +210,50 @@ impl<D: Disk> Opened<D> {
         ensures honest_in_refusal { IfErr result (λ x. D.is_honest x.1 → D.is_honest disk) }
     {
         let (book, keeper) = open(alloc, disk)?;
+        match Opened::over(alloc, book, keeper) {
+            Ok(opened) => Ok(opened),
+            Err((refusal, _book, keeper)) => Err((refusal, keeper.into_disk())),
+        }
+    }
+}
+
+impl<D: Disk, B: Coded> Opened<D, B> {
+    /// The store of a book that was just opened, and of the keeper of its disk. Any collections
+    /// will do that records tell of. It takes a few words of memory, and calls no device.
+    ///
+    /// NoMemory hands both back as they were.
+    ///
+    /// ```text
+    /// let (book, keeper) = recovery::open(alloc, disk)?;
+    /// let opened = Opened::over(alloc, book, keeper)?;
+    /// ```
+    pub fn over(
+        alloc: Global,
+        book: Book<B>,
+        keeper: Keeper<D>,
+    ) -> Result<Self, (Refusal, Book<B>, Keeper<D>)>
+        requires book { book ≡ opened book.state.format book.state.now book.next book.state.wear }
+        requires fresh { IsFresh keeper }
+        ensures book { IfOk result (λ o. o.book ≡ told_book B.collections book) }
+        ensures keeper { IfOk result (λ o. o.keeper ≡ keeper) }
+        ensures refused { IfErr result (λ x. (x.0 ≡ Refusal.NoMemory) × (x.1 ≡ book) ×
+            (x.2 ≡ keeper)) }
+    {
         book.upheld();
         match Parts::new(alloc, book.next()) {
-            Ok(parts) => Ok(Opened {
+            Ok(parts) => Ok(Self {
                 alloc,
                 book,
                 keeper,
                 parts,
             }),
-            Err(refusal) => Err((refusal, keeper.into_disk())),
+            Err(refusal) => Err((refusal, book, keeper)),
         }
     }
 
     /// The store, under its name, which the caller picks (see the crate's page). It takes no
     /// memory, calls no device and is never refused.
-    pub fn named<J: Naming>(self) -> Store<D, J>
+    pub fn named<J: Naming>(self) -> Store<D, J, B>
         requires { IsNamed ⟦<J as Naming>⟧ ⟦<D as Disk>⟧ self }
     {
         let Opened {
@@ -236,7 +279,13 @@ impl<D: Disk> Opened<D> {
             awaited,
             awaited_near,
             awaited_far,
+            twins,
         } = parts;
+        let Twins {
+            twins,
+            mut nears,
+            fars,
+        } = twins;
         let shared = Shared {
             line,
             mark,
@@ -245,11 +294,23 @@ impl<D: Disk> Opened<D> {
             gathering,
             awaited,
             signal: Signal::new(),
+            format: book.format(),
             of: PhantomData,
         };
         let extent = Extent::of(keeper.area());
+        let (journal, shelves) = book.into_shelves();
         Store::new(
-            Desk::new(book, seat, sender, gathered_near, maker, watcher, extent),
+            Shelves::new(twins, &mut nears, fars, shelves),
+            Desk::new(
+                journal,
+                nears,
+                seat,
+                sender,
+                gathered_near,
+                maker,
+                watcher,
+                extent,
+            ),
             Vault::new(keeper, receiver, kept, awaited_near),
             Gatherer::new(alloc, gathered_far, awaited_far),
             shared,

@@ -16,18 +16,24 @@ use crate::vault::Vault;
 use calls::Refusal;
 use catalog::Catalog;
 use checkpoint::Keeper;
-use clients::{Client, Desk, DeskLock, Naming, Seen, Shared, Signal};
+use clients::{Client, Desk, Lock, Naming, Seen, Shared, Shelves, Signal};
 use disk_model::Disk;
 use records::Coded;
 use std::sync::{Mutex, Wait};
 use txn::Book;
 
 /// A store of named collections that threads share. The book, which runs transactions in memory,
-/// lies under one lock, the keeper of the disk under another, and what is gathered for an image
-/// under a third, which checkpointers alone take. No device is called under the book's lock, so a
-/// client waits for the disk only in `Client::wait`, and where many records wait for it already.
+/// lies under five locks: each of its four shelves under one, which has every fourth collection,
+/// and its journal under one. The keeper of the disk lies under another, and what is gathered for
+/// an image under a last one, which checkpointers alone take. No device is called under a lock that
+/// clients take, so a client waits for the disk only in `Client::wait`, and where many records wait
+/// for it already.
+///
+/// Who takes several of them takes them in this order: what is gathered, the keeper, the shelves by
+/// rising number, the journal.
 pub struct Store<D: Disk, J: Naming, B: Coded = Catalog> {
-    desk: DeskLock<J, B>,
+    shelves: Shelves<J, B>,
+    desk: Lock<Desk<J, B>>,
     vault: Mutex<Vault<D, J>>,
     gatherer: Mutex<Gatherer<J, B>>,
     shared: Shared<J>,
@@ -37,11 +43,13 @@ pub struct Store<D: Disk, J: Naming, B: Coded = Catalog> {
 impl<D: Disk + Drop, J: Naming, B: Coded> Drop for Store<D, J, B> {
     fn drop(self) {
         let Self {
+            shelves,
             desk,
             vault,
             gatherer,
             shared,
         } = self;
+        drop(shelves);
         drop(desk);
         drop(vault);
         drop(gatherer);
@@ -51,21 +59,23 @@ impl<D: Disk + Drop, J: Naming, B: Coded> Drop for Store<D, J, B> {
 
 impl<D: Disk, J: Naming, B: Coded> Store<D, J, B> {
     pub(crate) fn new(
+        shelves: Shelves<J, B>,
         desk: Desk<J, B>,
         vault: Vault<D, J>,
         gatherer: Gatherer<J, B>,
         shared: Shared<J>,
     ) -> Self {
         Self {
-            desk: DeskLock::new(desk),
+            shelves,
+            desk: Lock::new(desk),
             vault: Mutex::new(vault),
             gatherer: Mutex::new(gatherer),
             shared,
         }
     }
 
-    /// A new client, for one thread at a time, with no transaction. It takes the book's lock once,
-    /// and no memory.
+    /// A new client, for one thread at a time, with no transaction. It takes the journal's lock
+    /// once, and no memory.
     ///
     /// Worn where 65,536 clients were made since the store was opened. Everything is as before
     /// then.
@@ -78,11 +88,18 @@ impl<D: Disk, J: Naming, B: Coded> Store<D, J, B> {
         ensures worn { IsOkUnless result Refusal.Worn }
     {
         let (line, watcher, drawer) = self.desk.lock(rt).client(&self.shared)?;
-        Ok(Client::new(&self.desk, &self.shared, line, watcher, drawer))
+        Ok(Client::new(
+            &self.shelves,
+            &self.desk,
+            &self.shared,
+            line,
+            watcher,
+            drawer,
+        ))
     }
 
     /// A committer, whose turns bring what clients did to the disk. A store may have several. It
-    /// takes the book's lock once, and no memory, and is never refused.
+    /// takes the journal's lock once, and no memory, and is never refused.
     pub fn committer<R: Wait>(&self, rt: &R) -> Committer<'_, D, J, B>
         ensures { result ≡ new_watcher J.mark }
     {
@@ -91,12 +108,13 @@ impl<D: Disk, J: Naming, B: Coded> Store<D, J, B> {
     }
 
     /// A checkpointer, whose turns write an image of the store and make it the store. It takes the
-    /// book's lock once, and no memory, and is never refused.
+    /// journal's lock once, and no memory, and is never refused.
     pub fn checkpointer<R: Wait>(&self, rt: &R) -> Checkpointer<'_, D, J, B>
         ensures { result ≡ new_watcher J.mark }
     {
         let watcher = self.desk.lock(rt).watcher(&self.shared);
         Checkpointer::new(
+            &self.shelves,
             &self.desk,
             &self.vault,
             &self.gatherer,
@@ -146,12 +164,19 @@ impl<D: Disk, J: Naming, B: Coded> Store<D, J, B> {
             (told_book B.collections result.0) result.1 }
     {
         let Store {
+            shelves,
             desk,
             vault,
             gatherer,
             shared,
         } = self;
         drop(gatherer);
-        close(&shared, desk.into_inner(), vault.into_inner(), last)
+        close(
+            &shared,
+            shelves,
+            desk.into_inner(),
+            vault.into_inner(),
+            last,
+        )
     }
 }

@@ -16,3 +16,4 @@ pub mod Making
 pub mod Copying
 pub mod Opened
 pub mod Measuring
+pub mod Untouched

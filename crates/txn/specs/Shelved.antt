@@ -1,16 +1,18 @@
 -- A book in parts: what its journal keeps, and four shelves. A step on one shelf says what it is of
 -- the book whatever the other shelves are.
-use Rattle.std.specs.Prelude.{◌≡◌, ℕ, ◌+◌, ◌<◌, List, [], ◌∷◌, ◌++◌, length, OnOk, Result}
+use Rattle.std.specs.Prelude.{◌≡◌, ◌≢◌, ℕ, ◌+◌, ◌<◌, List, [], ◌∷◌, ◌++◌, length, OnOk, Result}
+use Rattle.std.specs.List.{AllByRecursion}
 use Rattle.calls.specs.declared.refusal.Refusal.{Refusal}
 use Rattle.calls.specs.Contents.{Collection}
 use Rattle.calls.specs.Transactions.{Event, Entry, Whole, own}
+use Rattle.abstract_locks.specs.Holds.{IsGivenUp}
 use Rattle.undo_log.specs.Entries.{HasNewestCall}
 use Rattle.calls.specs.Limits.{max_pending}
 use Rattle.calls.specs.declared.kind.Kind.{Kind}
 use Rattle.calls.specs.declared.format.Format.{Format}
 use Rattle.boosted.specs.Meaning.{Meaning}
 use Rattle.catalog.specs.declared.four.Four.{Four}
-use Rattle.catalog.specs.Fours.{Which, put}
+use Rattle.catalog.specs.Fours.{Which, which_of, put}
 use Rattle.catalog.specs.Making.{Making}
 use Rattle.shelf.specs.Shelves.{ShelfState}
 use Rattle.record_format.specs.declared.record.Record.{Record}
@@ -19,7 +21,7 @@ use Rattle.record_format.specs.Short.{AreShort}
 use Rattle.machine.specs.Machine.{IsSettled}
 use Rattle.machine.specs.Sound.{IsSound}
 use Rattle.machine.specs.Transactions.{RunsWhole}
-use Rattle.machine.specs.Wholes.{AccountsState, whole_state, IsJoined}
+use Rattle.machine.specs.Wholes.{AccountsState, place_of, whole_state, IsJoined}
 use Rattle.machine.specs.Accounts.{alone, rested}
 use Rattle.gathering.specs.Gatherings.{GatheringState, none_begun}
 use Rattle.txn.specs.declared.steps.Action.{Action}
@@ -102,6 +104,14 @@ Charges j k = k ≡ record j { accounts = k.accounts }
 -- The newest call of the number is there, on this collection.
 abbrev pub HasNewestAt : ℕ → List (ℕ × Entry) → ℕ → Type 0
 HasNewestAt n es at = (x : Event) × HasNewestCall n es x × (x.at ≡ at)
+
+-- Nothing that the transaction asked for is of a collection on this shelf.
+abbrev pub IsUntouched : Which → ℕ → List (ℕ × Entry) → Type 0
+IsUntouched w n es = AllByRecursion (λ e. which_of (place_of e) ≢ w) (own n es)
+
+-- There is nothing to settle on the shelf for the transaction: no call, and no need of its own.
+abbrev pub IsIdle : {T : Type 0} → ShelfState T → ℕ → List Event → Type 0
+IsIdle s n es = (es ≡ []) × IsGivenUp s.holds s.holds n
 
 -- ---- what a step is of the book
 

@@ -84,6 +84,14 @@ impl<B: Parts + Coded> Book<B> {
         (journal, shelves)
     }
 
+    /// The book that a journal and four shelves are. It takes no memory, and nothing is copied.
+    pub fn of_shelves(journal: Journal<B>, shelves: Four<Shelf<B::Shelf>>) -> Self
+        requires { IsBook B.meaning B.making B.collections B.whole B.fits journal shelves }
+        ensures { result ≡ book_state B.whole journal shelves }
+    {
+        Self { shelves, journal }
+    }
+
     /// The kind of the collection of the number, if there is one. One index; this is no step.
     pub fn kind(&self, at: u8) -> Option<Kind>
         ensures { result ≡ option_map (λ x. kind_of_content x.content)
@@ -182,7 +190,8 @@ impl<B: Parts + Coded> Book<B> {
         ensures settled { (c : B) → IsSettled B.meaning self.old.state c →
             IsSettled B.meaning self.new.state c }
         ensures goes { OnOk result (GoesOn B.meaning B.making B.collections self.old self.new) }
-        ensures notes { OnOk result (Notes B.meaning self.old (Action.Enter number result) self.new) }
+        ensures notes { OnOk result (Notes B.meaning self.old (Action.Enter number result)
+            self.new) }
     {
         self.journal.enter(number)
     }
@@ -201,7 +210,8 @@ impl<B: Parts + Coded> Book<B> {
         ensures settled { (c : B) → IsSettled B.meaning self.old.state c →
             IsSettled B.meaning self.new.state c }
         ensures goes { OnOk result (GoesOn B.meaning B.making B.collections self.old self.new) }
-        ensures notes { OnOk result (Notes B.meaning self.old (Action.Call number (Target.Number col) call.now result) self.new) }
+        ensures notes { OnOk result (Notes B.meaning self.old
+            (Action.Call number (Target.Number col) call.now result) self.new) }
     {
         let Self { shelves, journal } = self;
         let shelf = shelves.of_mut(col);
@@ -221,7 +231,8 @@ impl<B: Parts + Coded> Book<B> {
         ensures settled { (c : B) → IsSettled B.meaning self.old.state c →
             IsSettled B.meaning self.new.state c }
         ensures goes { OnOk result (GoesOn B.meaning B.making B.collections self.old self.new) }
-        ensures notes { OnOk result (Notes B.meaning self.old (Action.Later number (Target.Number col) call.now result) self.new) }
+        ensures notes { OnOk result (Notes B.meaning self.old
+            (Action.Later number (Target.Number col) call.now result) self.new) }
     {
         let Self { shelves, journal } = self;
         let shelf = shelves.of_mut(col);
@@ -240,7 +251,8 @@ impl<B: Parts + Coded> Book<B> {
             (d : B) × RunsWhole B.meaning B.making c (Whole (own number self.old.state.entries)) d ×
             IsSettled B.meaning self.new.state d) }
         ensures goes { OnOk result (GoesOn B.meaning B.making B.collections self.old self.new) }
-        ensures notes { OnOk result (Notes B.meaning self.old (Action.Commit number result) self.new) }
+        ensures notes { OnOk result (Notes B.meaning self.old (Action.Commit number result)
+            self.new) }
     {
         let Self { shelves, journal } = self;
         let place = journal.prepare_commit(number)?;
@@ -259,7 +271,8 @@ impl<B: Parts + Coded> Book<B> {
         ensures settled { (c : B) → IsSettled B.meaning self.old.state c →
             IsSettled B.meaning self.new.state c }
         ensures goes { OnOk result (GoesOn B.meaning B.making B.collections self.old self.new) }
-        ensures notes { OnOk result (Notes B.meaning self.old (Action.Back number result) self.new) }
+        ensures notes { OnOk result (Notes B.meaning self.old (Action.Back number result)
+            self.new) }
     {
         let Self { shelves, journal } = self;
         let Some(at) = journal.newest(number) else {
@@ -277,7 +290,8 @@ impl<B: Parts + Coded> Book<B> {
         ensures settled { (c : B) → IsSettled B.meaning self.old.state c →
             IsSettled B.meaning self.new.state c }
         ensures goes { OnOk result (GoesOn B.meaning B.making B.collections self.old self.new) }
-        ensures notes { OnOk result (Notes B.meaning self.old (Action.Ended number result) self.new) }
+        ensures notes { OnOk result (Notes B.meaning self.old (Action.Ended number result)
+            self.new) }
     {
         let Self { shelves, journal } = self;
         journal.prepare_end(number)?;

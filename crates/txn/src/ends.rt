@@ -1,27 +1,30 @@
 // Ends of transactions: undoing, commits, and what is done with.
 ghost use Rattle.std.specs.Prelude.{◌≡◌, ◌+◌, ◌<◌, ◌^◌, ◌∷◌, [], map, length, IfOk, IfErr, IfSome};
 ghost use Rattle.std.specs.Prelude.{IfNone, OnOk, OnErr, IsOkUnless, IsTrue, ◌↔◌, Ok, true};
+ghost use Rattle.std.specs.Prelude.{◌≢◌, ◌%◌, false};
+ghost use Rattle.std.specs.List.{AllByRecursion};
 ghost use Rattle.calls.specs.Limits.{max_pending};
 ghost use Rattle.calls.specs.Transactions.{own, laters_of};
 ghost use Rattle.undo_log.specs.Entries.{stamped_entry, HasNoCall};
 ghost use Rattle.undo_log.specs.Logs.{Lives};
-ghost use Rattle.catalog.specs.Fours.{which_of};
+ghost use Rattle.catalog.specs.Fours.{Which, which_of, pick};
 ghost use Rattle.record_format.specs.declared.record.Record.{Record};
 ghost use Rattle.machine.specs.Machine.{IsRunning, HasNewestRead};
+ghost use Rattle.machine.specs.Wholes.{place_of};
 ghost use Rattle.machine.specs.Accounts.{finished};
 ghost use Rattle.gathering.specs.Gatherings.{noted, effect_at};
 ghost use Rattle.txn.specs.declared.steps.Action.{Action};
 ghost use Rattle.txn.specs.Rows.{CommitRefused, EndedRefused};
 ghost use Rattle.txn.specs.Shelved.{standing_of, journal_position, IsJournal, IsOfBook, LeadsOn};
-ghost use Rattle.txn.specs.Shelved.{LeadsBeside, Serves, Writes, HasNewestAt};
+ghost use Rattle.txn.specs.Shelved.{LeadsBeside, Serves, Writes, HasNewestAt, IsUntouched};
 
 use crate::Journal;
 use crate::journal::MARK_LEN;
 use calls::Refusal;
-use catalog::Parts;
+use catalog::{Four, Parts};
 use records::{Coded, Record};
 use shelf::Shelf;
-use undo_log::Stamped;
+use undo_log::{Entry, Stamped};
 
 impl<B: Parts + Coded> Journal<B> {
     /// The number of the collection of the transaction's newest call that is not undone, if there
@@ -145,6 +148,21 @@ impl<B: Parts + Coded> Journal<B> {
         self.accounts.live().entries_of(number)
     }
 
+    /// Of each shelf, whether the transaction asked for something there and did not undo it. It
+    /// looks at what the transaction asked for, and takes no memory. This is no step.
+    pub fn shelves_of(&self, number: u64) -> Four<bool>
+        ensures { (w : Which) → (pick result w ≡ false) ↔
+            IsUntouched w number self.now.accounts.entries }
+    {
+        let entries = self.entries_of(number);
+        Four {
+            first: has_entry(entries, 0),
+            second: has_entry(entries, 1),
+            third: has_entry(entries, 2),
+            fourth: has_entry(entries, 3),
+        }
+    }
+
     /// The last part of a commit or an end: the transaction is taken out, for which so many calls
     /// ran on its shelves. It takes no memory.
     pub fn finish(&mut self, number: u64, ran: u64)
@@ -197,5 +215,23 @@ impl<B: Parts + Coded> Journal<B> {
             Some(newest) => newest.call.reads(&newest.reply),
             None => false,
         }
+    }
+}
+
+// Whether one of the entries is of a collection whose number leaves the quarter on division by 4.
+fn has_entry(entries: &[Stamped], quarter: u8) -> bool
+    ensures { (result ≡ false) ↔
+        AllByRecursion (λ s. place_of (stamped_entry s) % 4 ≢ quarter) entries.now }
+{
+    !entries.iter().all(|stamped| is_elsewhere(stamped, quarter))
+}
+
+// Whether the entry is of a collection whose number does not.
+fn is_elsewhere(stamped: &Stamped, quarter: u8) -> bool
+    ensures { IsTrue result ↔ (place_of (stamped_entry stamped.now) % 4 ≢ quarter) }
+{
+    match &stamped.entry {
+        Entry::Asked(logged) => logged.at % 4 != quarter,
+        Entry::PutOff(later) => later.at % 4 != quarter,
     }
 }

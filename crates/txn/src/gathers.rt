@@ -1,10 +1,14 @@
 // What is gathered of a book for an image, one collection after another.
 ghost use Rattle.std.specs.Prelude.{◌≡◌, ◌≤◌, Some, OnOk, IfSome, IsNone, length, slice_get};
-ghost use Rattle.std.specs.Prelude.{string_bytes};
+ghost use Rattle.std.specs.Prelude.{◌<◌, IfOk, IsOkUnless, string_bytes};
 ghost use Rattle.std.specs.Option.{option_map};
 ghost use Rattle.calls.specs.Names.{IsName};
 ghost use Rattle.catalog.specs.declared.four.Four.{Four};
+ghost use Rattle.catalog.specs.Fours.{which_of, pick};
+ghost use Rattle.catalog.specs.Holdings.{Measures};
+ghost use Rattle.catalog.specs.Places.{At};
 ghost use Rattle.shelf.specs.Shelves.{ShelfState};
+ghost use Rattle.machine.specs.Wholes.{contents};
 ghost use Rattle.gathering.specs.Gatherings.{CanGoOn};
 ghost use Rattle.txn.specs.Parts.{IsGivenNext, GathersOn};
 ghost use Rattle.txn.specs.Freezing.{IsGatheredOf, FreezeAnswers};
@@ -12,9 +16,10 @@ ghost use Rattle.txn.specs.Shelved.{book_state, IsBook};
 
 use crate::Journal;
 use calls::Refusal;
-use catalog::{Named, Parts};
+use catalog::{Measured, Named, Parts, Shelved};
 use images::{Gather, Marks};
 use records::Coded;
+use shelf::Shelf;
 
 impl<B: Parts + Coded> Journal<B> {
     /// The name of the collection of the number, if there is one. One index; this is no step.
@@ -24,6 +29,26 @@ impl<B: Parts + Coded> Journal<B> {
         ensures good { IfSome result (λ name. IsName (string_bytes name.now)) }
     {
         self.names.name(at)
+    }
+
+    /// How large the collection of the number is, which is there, on its shelf. It takes memory for
+    /// its name. This is no step.
+    ///
+    /// NoMemory alone is refused.
+    pub fn measured(&self, shelf: &Shelf<B::Shelf>, at: u8) -> Result<Measured, Refusal>
+        requires { at < length (B.Names.labels self.now.names) }
+        ensures ok { (f : Four (ShelfState B.Shelf)) → IsBook B.meaning B.making B.collections
+            B.whole B.fits self.now f → shelf.now ≡ pick f (which_of at) →
+            IfOk result (λ measured. At (λ x. Measures x measured)
+            (B.collections (B.whole self.now.names (contents f))) at) }
+        ensures refusal { (f : Four (ShelfState B.Shelf)) → IsBook B.meaning B.making B.collections
+            B.whole B.fits self.now f → shelf.now ≡ pick f (which_of at) →
+            IsOkUnless result Refusal.NoMemory }
+    {
+        let Some(name) = self.name(at) else {
+            unreachable!();
+        };
+        shelf.collections().measured(at, name)
     }
 
     /// The collection that `gather` wants a copy of next, by its number, with its name; none where

@@ -20,7 +20,7 @@ ghost use Rattle.txn.specs.Undoings.{undo_count};
 
 use crate::undoing::count_journalled;
 use blocks::{NextBlock, Outbox, Pending};
-use calls::limits::{MAX_LIVE, MAX_PENDING, NUMBER_END};
+use calls::limits::{MAX_COLLECTIONS, MAX_LIVE, MAX_PENDING, NUMBER_END};
 use calls::{Format, Kind, Refusal};
 use catalog::{Named, Parts};
 use gathering::Gathering;
@@ -193,9 +193,15 @@ impl<B: Parts + Coded> Journal<B> {
 
     /// Whether the collection of the number has the name. One index; this is no step.
     pub fn is_at(&self, name: &str, at: u8) -> bool
-        ensures { IsTrue result ↔
+        ensures there { IsTrue result ↔
             (slice_get (names_in (B.Names.labels self.now.names)) at ≡ Some name.now) }
+        ensures place { IsTrue result → IsName name.now ×
+            IsPlaceOf (names_in (B.Names.labels self.now.names)) name.now at }
     {
+        prove!(self.names.count() <= MAX_COLLECTIONS);
+        let Some(_) = self.names.name(at) else {
+            return false;
+        };
         self.names.is_at(name, at)
     }
 

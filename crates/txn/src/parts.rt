@@ -148,10 +148,7 @@ impl<B: Parts + Coded> Book<B> {
             (B.collections self.now.state.now) at) }
         ensures refusal { IsOkUnless result Refusal.NoMemory }
     {
-        let Some(name) = self.journal.name(at) else {
-            unreachable!();
-        };
-        self.shelves.of(at).collections().measured(at, name)
+        self.journal.measured(self.shelves.of(at), at)
     }
 }
 

@@ -42,8 +42,9 @@ fn tell_answered<R: Threads + Wait + AllocGlobal + Sync>(
     Ok(())
 }
 
-/// Shows that no device is called under the book's lock: the disk holds the sync of one client's
-/// commit until a second client's call is answered. Tells whether that call was answered then.
+/// Shows that no device is called under the locks of the shelves and of the journal: the disk holds
+/// the sync of one client's commit until a second client's call is answered. Tells whether that
+/// call was answered then.
 pub fn run<R: Threads + Wait + AllocGlobal + Sync>(rt: &R, told: &mut Told) {
     let done = tell_answered(rt, told);
     tell_refusal(done, told);

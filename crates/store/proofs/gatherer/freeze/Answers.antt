@@ -1,67 +1,100 @@
-use Rattle.std.proofs.Common.{◌≡◌, ◌∙◌, List, sym, subst, ap}
-use Rattle.calls.specs.Contents.{Collection}
+use Rattle.std.proofs.Common.{◌≡◌, ◌∙◌, None, Ok, Err, refl, sym, subst, ap}
+use Rattle.std.proofs.lemmas.Result.{err_from_is_err_and}
+use Rattle.atomic_table.specs.Seated.{TableId}
 use Rattle.images.specs.Gathers.{GatherState}
-use Rattle.txn.specs.Books.{BookState}
-use Rattle.txn.specs.Freezing.{IsGatheredOf}
+use Rattle.txn.specs.declared.steps.Action.{Action}
+use Rattle.txn.specs.Shelved.{book_state}
 use Rattle.checkpoint.specs.Keepers.{KeeperState}
 use Rattle.group_commit.specs.Accords.{AccordState}
+use Rattle.group_commit.specs.Lines.{stepped}
 use Rattle.group_commit.specs.Orders.{SenderState, ReceiverState, noting, noting_too}
-use Rattle.clients.specs.Desks.{IsDesk}
 use Rattle.clients.specs.Notes.{alone}
 use Rattle.clients.specs.Told.{told_book}
-use Rattle.clients.proofs.Telling.{gathered_back}
-use Rattle.txn.specs.declared.steps.Action.{Action}
-use Rattle.group_commit.specs.Lines.{stepped}
+use Rattle.clients.specs.Touches.{IsJournalDesk}
 use Rattle.store.specs.Gatherers.{Froze}
+use Rattle.store.specs.Turns.{IsFreezeRefusal}
 use Rattle.store.specs.Vaults.{IsVault, Awaits}
 use Rattle.store.proofs.Awaiting.{awaits_frozen, froze_not}
+use Rattle.store.proofs.Copied.{gathered_there, frozen_on, froze_same, froze_refused, froze_some}
 use Rattle.store.proofs.Freezes.{desk_kept, freeze_refused, freeze_held}
-use Rattle.store.proofs.Gathers.{known_of_book}
 use Rattle.store.proofs.gatherer.freeze.Given.{Over}
 use Rattle.store.proofs.gatherer.freeze.Goals as goal
 
--- the book as its named collections tell of it
-abbrev told : (g : Over) → BookState g.row.B.Denot → BookState (List Collection)
-told g = told_book g.B.Parts.collections
-
-pub freeze_book-frozen-requires : goal.freeze_book-frozen-requires
-freeze_book-frozen-requires g c =
-    gathered_back g.B.Parts.collections c.desk.inside.book c.args.gather.now
-    (known_of_book (told g c.desk.inside.book) c.args.of_book.now c.args.gather.now
-    (subst (IsGatheredOf (λ v. v) (told g c.desk.inside.book)) c.compare.ensures.same
-    c.desk.invariant.0.gathered) c.requires.known c.requires.unfrozen)
+-- what is gathered is of the book
+pub freeze_journal-frozen-requires : goal.freeze_journal-frozen-requires
+freeze_journal-frozen-requires g c = let d = c.desk.invariant.0 in let i = c.desk.inside in record {
+  gathered = (
+    d.shelves,
+    d.known.book,
+    gathered_there g.J.Naming i.journal i.nears i.seat i.sender i.near d c.args.of_book.now
+        c.args.gather.now c.compare.ensures.same c.requires.known c.requires.unfrozen,
+  );
+}
 
 -- What a freeze leaves that is refused,
 refused : (g : Over) (c : goal.After-from_residual g) →
-    IsDesk g.J.Naming (told g c.freeze_book-frozen.new.book) c.note_alone.new.seat
-    c.desk.inside.sender
-    c.desk.inside.near
-    × IsVault g.J.Naming g.D.Disk c.freeze_book-frozen.new.keeper c.vault.inside.receiver
+    IsJournalDesk g.J.Naming g.B.Boosted.meaning g.B.Parts.making g.B.Parts.collections
+    g.B.Parts.whole g.B.Parts.fits c.freeze_journal-frozen.new.journal c.desk.inside.nears
+    c.note_alone.new.seat c.desk.inside.sender c.desk.inside.near
+    × IsVault g.J.Naming g.D.Disk c.freeze_journal-frozen.new.keeper c.vault.inside.receiver
     c.vault.inside.mark c.vault.inside.near
+    × Awaits c.freeze_journal-frozen.new.keeper.stage c.vault.inside.near.gather
+    × (c.freeze_journal-frozen.new.gather.frozen ≡ None →
+    c.freeze_journal-frozen.new.gather ≡ c.args.gather.now)
+    × IsFreezeRefusal c.in_err-frozen.field-0.0
 refused g c =
-    freeze_refused g.J.Naming g.D.Disk (told g c.desk.inside.book) c.desk.inside.seat
-    c.desk.inside.sender
-    c.desk.inside.near c.desk.invariant.0 c.vault.inside.keeper c.vault.inside.receiver
-    c.vault.inside.mark c.vault.inside.near c.vault.invariant.0 c.compare-2.ensures.order.0
+    let i = c.desk.inside in
+    let v = c.vault.inside in
+    let d = c.desk.invariant.0 in
+    let e = c.in_err-frozen.field-0.0 in
+    let l = c.freeze_journal-frozen.new.journal in
+    let k = c.freeze_journal-frozen.new.keeper in
+    let m = c.args.gather.now in
+    let n = c.freeze_journal-frozen.new.gather in
+    let b = told_book g.B.Parts.collections (book_state g.B.Parts.whole i.journal d.shelves) in
+    let a = told_book g.B.Parts.collections (book_state g.B.Parts.whole l d.shelves) in
+    let said = c.freeze_journal-frozen.ensures.froze d.shelves d.known.book (gathered_there g.J.Naming
+    i.journal i.nears i.seat i.sender i.near d c.args.of_book.now m c.compare.ensures.same
+    c.requires.known c.requires.unfrozen) in
+    let froze = subst (λ r. Froze g.D.Disk b v.keeper m said.0 r a k n) c.in_err-frozen.was said.1
+    in
+    let both = freeze_refused g.J.Naming g.D.Disk b i.seat i.sender i.near d.desk v.keeper
+    v.receiver v.mark v.near c.vault.invariant.0 c.compare-2.ensures.order.0
     c.compare-2.ensures.order.1 c.compare-2.ensures.noted
-    (desk_kept g.J.Naming g.met.B.Coded.told _ c.desk.inside.book c.desk.inside.seat
-    c.desk.inside.sender c.desk.inside.near c.desk.invariant.0 c.upheld.ensures)
-    c.args.gather.now
-    c.freeze_book-frozen.new.gather c.freeze_book-frozen.ensures.0 c.in_err-frozen.field-0.0
-    (told g c.freeze_book-frozen.new.book) c.freeze_book-frozen.new.keeper c.note_alone.new.seat
-    (subst (λ r. Froze g.D.Disk (told g c.desk.inside.book) c.vault.inside.keeper c.args.gather.now
-    c.freeze_book-frozen.ensures.0 r (told g c.freeze_book-frozen.new.book)
-    c.freeze_book-frozen.new.keeper c.freeze_book-frozen.new.gather) c.in_err-frozen.was
-    c.freeze_book-frozen.ensures.1)
-    (subst (λ r. c.note_alone.new.seat ≡ stepped c.desk.inside.seat (alone (Action.Freeze r)))
-    c.in_err-frozen.was c.note_alone.ensures.book)
+    (desk_kept g.J.Naming g.met.B.Coded.told _
+    (book_state g.B.Parts.whole i.journal d.shelves) i.seat i.sender i.near d.desk d.known.book.kept)
+    m n said.0 e a k c.note_alone.new.seat froze
+    (subst (λ r. c.note_alone.new.seat ≡ stepped i.seat (alone (Action.Freeze r)))
+    c.in_err-frozen.was c.note_alone.ensures.book) in (
+      frozen_on g.J.Naming i.journal i.nears i.seat i.sender i.near d g.D.Disk v.keeper k m n said.0
+          (Err e) l c.note_alone.new.seat i.sender i.near froze
+          (c.freeze_journal-frozen.ensures.kept d.shelves d.known.book) both.0,
+      both.1,
+      subst (λ (k : KeeperState _). Awaits k.stage v.near.gather)
+          (sym (froze_not g.D.Disk b v.keeper m n said.0 e a k froze)) c.vault.invariant.1,
+      froze_same g.D.Disk b a v.keeper k m n said.0 e froze,
+      froze_refused g.D.Disk b a v.keeper k m n said.0 e froze,
+    )
+
+pub returns-in_err-frozen-clause-err : goal.returns-in_err-frozen-clause-err
+returns-in_err-frozen-clause-err g c =
+    let p = err_from_is_err_and c.from_residual.result c.from_residual.ensures.1 in
+    rw p.1 (refl, (refused g c).3)
+
+pub returns-in_err-frozen-clause-refused : goal.returns-in_err-frozen-clause-refused
+returns-in_err-frozen-clause-refused g c =
+    let p = err_from_is_err_and c.from_residual.result c.from_residual.ensures.1 in
+    rw (p.1, p.2) (refused g c).4
 
 pub invariant_of-desk : goal.invariant_of-desk
 invariant_of-desk g c = (
-  subst (IsDesk g.J.Naming (told g c.freeze_book-frozen.new.book) c.note_alone.new.seat
-      c.compare-2.new.sender) (sym c.compare.ensures.near)
-      (subst (λ s. IsDesk g.J.Naming (told g c.freeze_book-frozen.new.book) c.note_alone.new.seat s
-      c.desk.inside.near) (sym c.compare-2.ensures.sender) (refused g c).0),
+  subst (IsJournalDesk g.J.Naming g.B.Boosted.meaning g.B.Parts.making g.B.Parts.collections
+      g.B.Parts.whole g.B.Parts.fits c.freeze_journal-frozen.new.journal c.desk.inside.nears
+      c.note_alone.new.seat c.compare-2.new.sender) (sym c.compare.ensures.near)
+      (subst (λ s. IsJournalDesk g.J.Naming g.B.Boosted.meaning g.B.Parts.making
+      g.B.Parts.collections g.B.Parts.whole g.B.Parts.fits c.freeze_journal-frozen.new.journal
+      c.desk.inside.nears c.note_alone.new.seat s c.desk.inside.near)
+      (sym c.compare-2.ensures.sender) (refused g c).0),
   c.desk.invariant.1,
   c.desk.invariant.2,
   c.desk.invariant.3,
@@ -69,85 +102,97 @@ invariant_of-desk g c = (
 
 pub invariant_of-vault : goal.invariant_of-vault
 invariant_of-vault g c = (
-  subst (λ r. IsVault g.J.Naming g.D.Disk c.freeze_book-frozen.new.keeper r
+  subst (λ r. IsVault g.J.Naming g.D.Disk c.freeze_journal-frozen.new.keeper r
       c.vault.inside.mark c.vault.inside.near) (sym c.compare-2.ensures.receiver)
       (refused g c).1,
-  subst (λ (k : KeeperState _). Awaits k.stage c.vault.inside.near.gather)
-      (sym (froze_not g.D.Disk (told g c.desk.inside.book) c.vault.inside.keeper c.args.gather.now
-      c.freeze_book-frozen.new.gather c.freeze_book-frozen.ensures.0
-      c.in_err-frozen.field-0.0 (told g c.freeze_book-frozen.new.book)
-      c.freeze_book-frozen.new.keeper
-      (subst (λ r. Froze g.D.Disk (told g c.desk.inside.book) c.vault.inside.keeper
-      c.args.gather.now
-      c.freeze_book-frozen.ensures.0 r (told g c.freeze_book-frozen.new.book)
-      c.freeze_book-frozen.new.keeper c.freeze_book-frozen.new.gather) c.in_err-frozen.was
-      c.freeze_book-frozen.ensures.1))) c.vault.invariant.1,
+  (refused g c).2,
 )
 
 -- and one whose end is held.
 held : (g : Over) (c : goal.After-drop-shown g) →
-    IsDesk g.J.Naming (told g c.freeze_book-frozen.new.book) c.note_alone.new.seat
-    (noting c.desk.inside.sender c.freeze_book-frozen.new.gather) c.desk.inside.near
-    × IsVault g.J.Naming g.D.Disk c.freeze_book-frozen.new.keeper
-    (noting_too c.vault.inside.receiver c.freeze_book-frozen.new.gather) c.vault.inside.mark
-    (record { table = c.vault.inside.near.table; gather = c.freeze_book-frozen.new.gather })
+    IsJournalDesk g.J.Naming g.B.Boosted.meaning g.B.Parts.making g.B.Parts.collections
+    g.B.Parts.whole g.B.Parts.fits c.freeze_journal-frozen.new.journal c.desk.inside.nears
+    c.note_alone.new.seat (noting c.desk.inside.sender c.freeze_journal-frozen.new.gather)
+    c.desk.inside.near
+    × IsVault g.J.Naming g.D.Disk c.freeze_journal-frozen.new.keeper
+    (noting_too c.vault.inside.receiver c.freeze_journal-frozen.new.gather) c.vault.inside.mark
+    (record { table = c.vault.inside.near.table; gather = c.freeze_journal-frozen.new.gather })
+    × Awaits c.freeze_journal-frozen.new.keeper.stage c.freeze_journal-frozen.new.gather
+    × (c.freeze_journal-frozen.new.gather.frozen ≡ None → ⊥)
 held g c =
-    freeze_held g.J.Naming g.D.Disk (told g c.desk.inside.book) c.desk.inside.seat
-    c.desk.inside.sender
-    c.desk.inside.near c.desk.invariant.0 c.vault.inside.keeper c.vault.inside.receiver
-    c.vault.inside.mark c.vault.inside.near c.vault.invariant.0 c.compare-2.ensures.order.0
-    c.compare-2.ensures.order.1 c.compare-2.ensures.noted
-    (desk_kept g.J.Naming g.met.B.Coded.told _ c.desk.inside.book c.desk.inside.seat
-    c.desk.inside.sender c.desk.inside.near c.desk.invariant.0 c.upheld.ensures)
-    c.args.gather.now
-    c.freeze_book-frozen.new.gather c.freeze_book-frozen.ensures.0
-    (told g c.freeze_book-frozen.new.book)
-    c.freeze_book-frozen.new.keeper c.note_alone.new.seat
-    (subst (λ r. Froze g.D.Disk (told g c.desk.inside.book) c.vault.inside.keeper c.args.gather.now
-    c.freeze_book-frozen.ensures.0 r (told g c.freeze_book-frozen.new.book)
-    c.freeze_book-frozen.new.keeper c.freeze_book-frozen.new.gather) c.in_ok-frozen.was
-    c.freeze_book-frozen.ensures.1)
-    (subst (λ r. c.note_alone.new.seat ≡ stepped c.desk.inside.seat (alone (Action.Freeze r)))
-    c.in_ok-frozen.was c.note_alone.ensures.book)
+    let i = c.desk.inside in
+    let v = c.vault.inside in
+    let d = c.desk.invariant.0 in
+    let l = c.freeze_journal-frozen.new.journal in
+    let k = c.freeze_journal-frozen.new.keeper in
+    let m = c.args.gather.now in
+    let n = c.freeze_journal-frozen.new.gather in
+    let b = told_book g.B.Parts.collections (book_state g.B.Parts.whole i.journal d.shelves) in
+    let a = told_book g.B.Parts.collections (book_state g.B.Parts.whole l d.shelves) in
+    let said = c.freeze_journal-frozen.ensures.froze d.shelves d.known.book (gathered_there g.J.Naming
+    i.journal i.nears i.seat i.sender i.near d c.args.of_book.now m c.compare.ensures.same
+    c.requires.known c.requires.unfrozen) in
+    let froze = subst (λ r. Froze g.D.Disk b v.keeper m said.0 r a k n) c.in_ok-frozen.was said.1 in
+    let both = freeze_held g.J.Naming g.D.Disk b i.seat i.sender i.near d.desk v.keeper v.receiver
+    v.mark v.near c.vault.invariant.0 c.compare-2.ensures.order.0 c.compare-2.ensures.order.1
+    c.compare-2.ensures.noted
+    (desk_kept g.J.Naming g.met.B.Coded.told _
+    (book_state g.B.Parts.whole i.journal d.shelves) i.seat i.sender i.near d.desk d.known.book.kept)
+    m n said.0 a k c.note_alone.new.seat froze
+    (subst (λ r. c.note_alone.new.seat ≡ stepped i.seat (alone (Action.Freeze r)))
+    c.in_ok-frozen.was c.note_alone.ensures.book) in (
+      frozen_on g.J.Naming i.journal i.nears i.seat i.sender i.near d g.D.Disk v.keeper k m n said.0
+          (Ok tt) l c.note_alone.new.seat (noting i.sender n) i.near froze
+          (c.freeze_journal-frozen.ensures.kept d.shelves d.known.book) both.0,
+      both.1,
+      awaits_frozen g.D.Disk b v.keeper m n said.0 a k froze,
+      froze_some g.D.Disk b a v.keeper k m n said.0 froze,
+    )
+
+pub returns-clause-ok : goal.returns-clause-ok
+returns-clause-ok g c = (
+  (held g c).3,
+  c.agree.ensures.far ∙
+      ap (λ (t : TableId). record { table = t; gather = c.of-shown.result.value })
+      c.requires.keeper ∙
+      ap (λ (v : GatherState). record { table = g.J.Naming.awaited; gather = v })
+      c.of-shown.ensures,
+)
 
 pub invariant_of-desk-2 : goal.invariant_of-desk-2
 invariant_of-desk-2 g c = (
-  subst (IsDesk g.J.Naming (told g c.freeze_book-frozen.new.book) c.note_alone.new.seat
-      c.note_frozen.new.sender) (sym c.compare.ensures.near)
-      (subst (λ s. IsDesk g.J.Naming (told g c.freeze_book-frozen.new.book) c.note_alone.new.seat s
-      c.desk.inside.near) (sym sender_is) (held g c).0),
+  subst (IsJournalDesk g.J.Naming g.B.Boosted.meaning g.B.Parts.making g.B.Parts.collections
+      g.B.Parts.whole g.B.Parts.fits c.freeze_journal-frozen.new.journal c.desk.inside.nears
+      c.note_alone.new.seat c.note_frozen.new.sender) (sym c.compare.ensures.near)
+      (subst (λ s. IsJournalDesk g.J.Naming g.B.Boosted.meaning g.B.Parts.making
+      g.B.Parts.collections g.B.Parts.whole g.B.Parts.fits c.freeze_journal-frozen.new.journal
+      c.desk.inside.nears c.note_alone.new.seat s c.desk.inside.near) (sym sender_is)
+      (held g c).0),
   c.desk.invariant.1,
   c.desk.invariant.2,
   c.desk.invariant.3,
 )
   where
     sender_is : c.note_frozen.new.sender ≡
-        noting c.desk.inside.sender c.freeze_book-frozen.new.gather
+        noting c.desk.inside.sender c.freeze_journal-frozen.new.gather
     sender_is = c.note_frozen.ensures.sender ∙
         ap (λ (s : SenderState). noting s c.of-shown.result.value) c.compare-2.ensures.sender ∙
         ap (noting c.desk.inside.sender) c.of-shown.ensures
 
 pub invariant_of-vault-2 : goal.invariant_of-vault-2
 invariant_of-vault-2 g c = (
-  subst (IsVault g.J.Naming g.D.Disk c.freeze_book-frozen.new.keeper
+  subst (IsVault g.J.Naming g.D.Disk c.freeze_journal-frozen.new.keeper
       c.note_frozen.new.receiver c.vault.inside.mark) (sym near_is)
-      (subst (λ r. IsVault g.J.Naming g.D.Disk c.freeze_book-frozen.new.keeper r
+      (subst (λ r. IsVault g.J.Naming g.D.Disk c.freeze_journal-frozen.new.keeper r
       c.vault.inside.mark
-      (record { table = c.vault.inside.near.table; gather = c.freeze_book-frozen.new.gather }))
+      (record { table = c.vault.inside.near.table; gather = c.freeze_journal-frozen.new.gather }))
       (sym receiver_is) (held g c).1),
-  subst (λ (a : AccordState). Awaits c.freeze_book-frozen.new.keeper.stage a.gather)
-      (sym near_is) (awaits_frozen g.D.Disk (told g c.desk.inside.book) c.vault.inside.keeper
-      c.args.gather.now c.freeze_book-frozen.new.gather c.freeze_book-frozen.ensures.0
-      (told g c.freeze_book-frozen.new.book) c.freeze_book-frozen.new.keeper
-      (subst (λ r. Froze g.D.Disk (told g c.desk.inside.book) c.vault.inside.keeper
-      c.args.gather.now
-      c.freeze_book-frozen.ensures.0 r (told g c.freeze_book-frozen.new.book)
-      c.freeze_book-frozen.new.keeper c.freeze_book-frozen.new.gather) c.in_ok-frozen.was
-      c.freeze_book-frozen.ensures.1)),
+  subst (λ (a : AccordState). Awaits c.freeze_journal-frozen.new.keeper.stage a.gather)
+      (sym near_is) (held g c).2,
 )
   where
     receiver_is : c.note_frozen.new.receiver ≡
-        noting_too c.vault.inside.receiver c.freeze_book-frozen.new.gather
+        noting_too c.vault.inside.receiver c.freeze_journal-frozen.new.gather
     receiver_is = c.note_frozen.ensures.receiver ∙
         ap (λ (r : ReceiverState). noting_too r c.of-shown.result.value)
         c.compare-2.ensures.receiver ∙
@@ -155,7 +200,7 @@ invariant_of-vault-2 g c = (
 
     near_is : c.agree.new.near ≡ record {
       table = c.vault.inside.near.table;
-      gather = c.freeze_book-frozen.new.gather;
+      gather = c.freeze_journal-frozen.new.gather;
     }
     near_is = c.agree.ensures.near ∙
         ap (λ (v : GatherState). record { table = c.vault.inside.near.table; gather = v })

@@ -5,7 +5,16 @@ use Rattle.clients.specs.declared.phase.Phase.{Phase}
 use Rattle.clients.specs.Known.{Known, Steps, known_of}
 use Rattle.clients.specs.Calls.{Acts, Enters}
 use Rattle.clients.proofs.Seeing.{acts_one}
+use Rattle.clients.proofs.Visits.{enters_on}
 use Rattle.clients.proofs.client.Client.enter.Goals as goal
+
+pub invariant_of-self-in-Drawn : goal.invariant_of-self-in-Drawn
+invariant_of-self-in-Drawn g c =
+    let i = c.self.inside in
+    let n = c.in-Drawn.number in
+    enters_on g.J.Naming i.line c.enter.new.me i.watcher i.drawer i.phase c.self.invariant n
+    (subst (λ r. Steps g.J.Naming i.line (Action.Enter n r) c.enter.new.me)
+    c.in_ok-enter-in-Drawn.was c.enter.ensures)
 
 pub returns-in_ok-enter-in-Drawn : goal.returns-in_ok-enter-in-Drawn
 returns-in_ok-enter-in-Drawn g c =

@@ -1,39 +1,27 @@
-use Rattle.std.proofs.Common.{[], refl, ap, ◌∙◌, subst}
+use Rattle.std.proofs.Common.{Err, refl, ap}
 use Rattle.std.proofs.lemmas.Result.{err_from_is_err_and}
-use Rattle.txn.specs.declared.steps.Action.{Action}
-use Rattle.txn.specs.declared.steps.Target.{Target}
-use Rattle.clients.specs.declared.phase.Phase.{Phase}
-use Rattle.clients.specs.Known.{Known, known_of}
-use Rattle.clients.specs.Calls.{Acts}
-use Rattle.clients.proofs.Phases.{does_open, does_refused, enters_open}
-use Rattle.clients.proofs.Seeing.{acts_one, does_next}
+use Rattle.clients.proofs.Seeing.{does_entering, does_refused_so, entering_again}
 use Rattle.clients.proofs.client.Client.later.Goals as goal
 
-pub returns-clause-step : goal.returns-clause-step
-returns-clause-step g c =
-    let i = c.self-2.inside in
-    let n = c.in_ok-number.number in
-    let after = known_of c.later.new.me i.watcher i.drawer i.phase in
-    let action = Action.Later n (Target.Named c.args.name.now c.later.ensures.0) c.args.call.now
-    c.later.result in
-    does_next g.J.Naming c.args.self.now.phase c.args.self.now c.enter.new.self after n _ _
-    (λ m. Phase.Entered m) action refl c.in_ok-number.ensures (c.later.ensures.0, refl)
-    (subst (λ m. Acts g.J.Naming m [] action after) c.self-2.view_is
-    (acts_one g.J.Naming i.line c.later.new.me i.watcher i.drawer i.phase i.phase action
-    c.later.ensures.1))
-    (λ entered. ap (λ (k : Known). k.phase) c.self-2.view_is ∙ entered)
-
-pub returns-clause-open : goal.returns-clause-open
-returns-clause-open g c =
-    does_open g.J.Naming c.args.self.now.phase c.args.self.now _ _ _ (returns-clause-step g c)
-
-pub returns-in_err-number-clause-open : goal.returns-in_err-number-clause-open
-returns-in_err-number-clause-open g c =
-    enters_open g.J.Naming c.args.self.now.phase c.args.self.now c.in_err-number.field-0.0
-    c.enter.new.self c.in_err-number.ensures
-
-pub returns-in_err-number-clause-step : goal.returns-in_err-number-clause-step
-returns-in_err-number-clause-step g c =
+pub returns-in_err-at-clause-step : goal.returns-in_err-at-clause-step
+returns-in_err-at-clause-step g c =
     let p = err_from_is_err_and c.from_residual.result c.from_residual.ensures.1 in
-    rw (p.1, p.2) (does_refused g.J.Naming c.args.self.now.phase c.args.self.now _ _ _
-    c.in_err-number.field-0.0 c.enter.new.self c.in_err-number.ensures refl)
+    rw (p.1, p.2) (does_entering g.J.Naming c.args.self.now.phase c.args.self.now c.loop.self
+    c.place_of_later.new.self _ _ _ refl c.loop.invariant
+    (does_refused_so g.J.Naming c.loop.self.phase c.loop.self c.place_of_later.new.self _ _ _ _
+    (λ d is. ap Err is) c.in_err-at.ensures.err))
+
+pub returns-in-Some-later_at-clause-step : goal.returns-in-Some-later_at-clause-step
+returns-in-Some-later_at-clause-step g c = rw c.remember.ensures
+    (does_entering g.J.Naming c.args.self.now.phase c.args.self.now c.place_of_later.new.self
+    c.later_at.new.self _ _ _ refl
+    (entering_again g.J.Naming c.args.self.now.phase c.args.self.now c.loop.self
+    c.place_of_later.new.self refl c.loop.invariant c.in_ok-at.ensures.ok)
+    c.in-Some-later_at.ensures.some)
+
+pub loop-preserved : goal.loop-preserved
+loop-preserved g c = entering_again g.J.Naming c.args.self.now.phase c.args.self.now
+    c.place_of_later.new.self c.later_at.new.self refl
+    (entering_again g.J.Naming c.args.self.now.phase c.args.self.now c.loop.self
+    c.place_of_later.new.self refl c.loop.invariant c.in_ok-at.ensures.ok)
+    (c.in_default.ensures.none refl)

@@ -13,4 +13,5 @@ invariant_of-result g c = record {
     opening g.J.Naming.format g.J.Naming.start g.J.Naming.wear,
     record { legal = refl; owned = tt },
   );
+  own = tt;
 }

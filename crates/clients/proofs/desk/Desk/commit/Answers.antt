@@ -1,35 +1,60 @@
-use Rattle.std.proofs.Common.{Some, refl}
+use Rattle.std.proofs.Common.{Some}
+use Rattle.catalog.specs.Fours.{First, Second, Third, Fourth}
 use Rattle.txn.specs.declared.steps.Action.{Action}
-use Rattle.clients.specs.Desks.{IsDesk}
-use Rattle.clients.specs.Told.{told_book}
-use Rattle.clients.proofs.DeskSteps.{desk_takes}
-use Rattle.clients.proofs.Seeing.{steps_one}
+use Rattle.clients.specs.Touches.{IsJournalDesk}
+use Rattle.clients.proofs.ShelfSteps.{steps_over, steps_journal, owns_step}
 use Rattle.clients.proofs.desk.Desk.commit.Given.{Over}
 use Rattle.clients.proofs.desk.Desk.commit.Goals as goal
 
-abbrev action : (g : Over) → goal.After-wake g → Action
-action g c = Action.Commit c.args.number c.commit-committed.result
+pub commit_over-committed-requires-clause-known :
+    goal.commit_over-committed-requires-clause-known
+commit_over-committed-requires-clause-known g c =
+    let is = c.self.invariant.0 in
+    (is.shelves, is.known)
 
-keeps : (g : Over) (c : goal.After-wake g) →
-    IsDesk g.J.Naming (told_book g.B.Parts.collections c.commit-committed.new.self) c.note.new.seat
-    c.self.inside.sender
-    c.self.inside.near
+pub commit_over-committed-requires-clause-first :
+    goal.commit_over-committed-requires-clause-first
+commit_over-committed-requires-clause-first g c none =
+    (c.shelves_of-needed.ensures First).0 (c.covers.ensures.first c.if-not-covers.false none)
+
+pub commit_over-committed-requires-clause-second :
+    goal.commit_over-committed-requires-clause-second
+commit_over-committed-requires-clause-second g c none =
+    (c.shelves_of-needed.ensures Second).0 (c.covers.ensures.second c.if-not-covers.false none)
+
+pub commit_over-committed-requires-clause-third :
+    goal.commit_over-committed-requires-clause-third
+commit_over-committed-requires-clause-third g c none =
+    (c.shelves_of-needed.ensures Third).0 (c.covers.ensures.third c.if-not-covers.false none)
+
+pub commit_over-committed-requires-clause-fourth :
+    goal.commit_over-committed-requires-clause-fourth
+commit_over-committed-requires-clause-fourth g c none =
+    (c.shelves_of-needed.ensures Fourth).0 (c.covers.ensures.fourth c.if-not-covers.false none)
+
+abbrev action : (g : Over) → goal.After-wake g → Action
+action g c = Action.Commit c.args.number c.commit_over-committed.result
+
+keeps : (g : Over) (c : goal.After-wake g) → IsJournalDesk g.J.Naming g.B.Boosted.meaning
+    g.B.Parts.making g.B.Parts.collections g.B.Parts.whole g.B.Parts.fits
+    c.commit_over-committed.new.journal c.commit_over-committed.new.nears c.note.new.seat
+    c.self.inside.sender c.self.inside.near
 keeps g c =
-    desk_takes g.J.Naming g.met.B.Coded.told c.self.inside.book
-    c.self.inside.seat c.self.inside.sender
-    c.self.inside.near c.self.invariant.0 (Some c.args.me.now.number) (action g c)
-    c.commit-committed.new.self
-    c.note.new.seat refl c.commit-committed.ensures.answer c.upheld.ensures.records
-    c.commit-committed.ensures.goes c.note.ensures.book
+    let i = c.self.inside in
+    let is = c.self.invariant.0 in
+    let done = c.commit_over-committed.ensures is.shelves is.known in
+    steps_over g.J.Naming g.met.B.Coded.told (Some c.args.me.now.number) i.journal i.nears i.seat
+    i.sender i.near is c.commit_over-committed.new.journal c.commit_over-committed.new.nears
+    done.0 c.note.new.seat (action g c)
+    (owns_step g.J.Naming is c.note.new.seat c.args.me.now c.note.new.me (action g c)
+    c.args.number c.note.ensures.book c.note.ensures.client c.note.ensures.mine c.requires.own) done.1 done.2.answer done.2.goes c.note.ensures.book
 
 pub invariant_of-self : goal.invariant_of-self
 invariant_of-self g c =
     (keeps g c, c.self.invariant.1, c.self.invariant.2, c.self.invariant.3)
 
-pub returns : goal.returns
-returns g c =
-    steps_one g.J.Naming (told_book g.B.Parts.collections c.commit-committed.new.self)
-    c.self.inside.seat c.note.new.seat
-    c.self.inside.sender c.self.inside.near c.args.me.now c.note.new.me (action g c) (keeps g c)
-    c.note.ensures.book
+pub returns-clause-some : goal.returns-clause-some
+returns-clause-some g c = steps_journal g.J.Naming c.commit_over-committed.new.journal
+    c.commit_over-committed.new.nears c.self.inside.seat c.note.new.seat c.self.inside.sender
+    c.self.inside.near c.args.me.now c.note.new.me (action g c) (keeps g c) c.note.ensures.book
     c.note.ensures.client c.note.ensures.seen c.note.ensures.mine

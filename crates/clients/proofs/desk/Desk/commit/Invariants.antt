@@ -5,6 +5,5 @@ use Rattle.clients.proofs.desk.Desk.commit.Given as goal
 -- the step that was taken
 abbrev pub ghosts-note : goal.ghosts-note
 ghosts-note g a = record {
-  step = step_of a.me.now.number
-      (Action.Commit a.parts.now.0 a.parts.now.1.now);
+  step = step_of a.me.now.number (Action.Commit a.parts.now.0 a.parts.now.1.now);
 }

@@ -1,34 +1,38 @@
-use Rattle.std.proofs.Common.{Some, refl}
+use Rattle.std.proofs.Common.{Some}
 use Rattle.txn.specs.declared.steps.Action.{Action}
-use Rattle.clients.specs.Desks.{IsDesk}
-use Rattle.clients.specs.Told.{told_book}
-use Rattle.clients.proofs.DeskSteps.{desk_takes}
-use Rattle.clients.proofs.Seeing.{steps_one}
+use Rattle.clients.specs.Touches.{IsJournalDesk}
+use Rattle.clients.proofs.ShelfSteps.{steps_over, steps_journal, owns_step}
 use Rattle.clients.proofs.desk.Desk.ended.Given.{Over}
 use Rattle.clients.proofs.desk.Desk.ended.Goals as goal
 
-abbrev action : (g : Over) → goal.After-wake g → Action
-action g c = Action.Ended c.args.number c.ended-ended.result
+pub end_over-ended-requires-clause-known : goal.end_over-ended-requires-clause-known
+end_over-ended-requires-clause-known g c =
+    let is = c.self.invariant.0 in
+    (is.shelves, is.known)
 
-keeps : (g : Over) (c : goal.After-wake g) →
-    IsDesk g.J.Naming (told_book g.B.Parts.collections c.ended-ended.new.self) c.note.new.seat
-    c.self.inside.sender c.self.inside.near
+abbrev action : (g : Over) → goal.After-wake g → Action
+action g c = Action.Ended c.args.number c.end_over-ended.result
+
+keeps : (g : Over) (c : goal.After-wake g) → IsJournalDesk g.J.Naming g.B.Boosted.meaning
+    g.B.Parts.making g.B.Parts.collections g.B.Parts.whole g.B.Parts.fits
+    c.end_over-ended.new.journal c.end_over-ended.new.nears c.note.new.seat c.self.inside.sender
+    c.self.inside.near
 keeps g c =
-    desk_takes g.J.Naming g.met.B.Coded.told c.self.inside.book
-    c.self.inside.seat c.self.inside.sender
-    c.self.inside.near c.self.invariant.0 (Some c.args.me.now.number) (action g c)
-    c.ended-ended.new.self
-    c.note.new.seat refl c.ended-ended.ensures.answer c.upheld.ensures.records
-    c.ended-ended.ensures.goes c.note.ensures.book
+    let i = c.self.inside in
+    let is = c.self.invariant.0 in
+    let done = c.end_over-ended.ensures is.shelves is.known in
+    steps_over g.J.Naming g.met.B.Coded.told (Some c.args.me.now.number) i.journal i.nears i.seat
+    i.sender i.near is c.end_over-ended.new.journal c.end_over-ended.new.nears done.0
+    c.note.new.seat (action g c)
+    (owns_step g.J.Naming is c.note.new.seat c.args.me.now c.note.new.me (action g c)
+    c.args.number c.note.ensures.book c.note.ensures.client c.note.ensures.mine c.requires.own) done.1 done.2.answer done.2.goes c.note.ensures.book
 
 pub invariant_of-self : goal.invariant_of-self
 invariant_of-self g c =
     (keeps g c, c.self.invariant.1, c.self.invariant.2, c.self.invariant.3)
 
 pub returns : goal.returns
-returns g c =
-    steps_one g.J.Naming (told_book g.B.Parts.collections c.ended-ended.new.self) c.self.inside.seat
-    c.note.new.seat
-    c.self.inside.sender c.self.inside.near c.args.me.now c.note.new.me (action g c) (keeps g c)
-    c.note.ensures.book
-    c.note.ensures.client c.note.ensures.seen c.note.ensures.mine
+returns g c = steps_journal g.J.Naming c.end_over-ended.new.journal c.end_over-ended.new.nears
+    c.self.inside.seat c.note.new.seat c.self.inside.sender c.self.inside.near c.args.me.now
+    c.note.new.me (action g c) (keeps g c) c.note.ensures.book c.note.ensures.client
+    c.note.ensures.seen c.note.ensures.mine

@@ -1,9 +1,7 @@
 use Rattle.std.proofs.Common.{Some, refl}
 use Rattle.txn.specs.declared.steps.Action.{Action}
-use Rattle.clients.specs.Desks.{IsDesk}
-use Rattle.clients.specs.Told.{told_book}
-use Rattle.clients.proofs.DeskSteps.{desk_takes}
-use Rattle.clients.proofs.Seeing.{steps_one}
+use Rattle.clients.specs.Touches.{IsJournalDesk}
+use Rattle.clients.proofs.ShelfSteps.{steps_beside, steps_journal}
 use Rattle.clients.proofs.desk.Desk.enter.Given.{Over}
 use Rattle.clients.proofs.desk.Desk.enter.Goals as goal
 
@@ -11,16 +9,21 @@ abbrev action : (g : Over) → goal.After-wake g → Action
 action g c = Action.Enter c.args.number c.enter-entered.result
 
 keeps : (g : Over) (c : goal.After-wake g) →
-    IsDesk g.J.Naming (told_book g.B.Parts.collections c.enter-entered.new.self) c.note.new.seat
-    c.self.inside.sender
-    c.self.inside.near
+    IsJournalDesk g.J.Naming g.B.Boosted.meaning g.B.Parts.making g.B.Parts.collections
+    g.B.Parts.whole g.B.Parts.fits c.enter-entered.new.self c.self.inside.nears c.note.new.seat
+    c.self.inside.sender c.self.inside.near
 keeps g c =
-    desk_takes g.J.Naming g.met.B.Coded.told c.self.inside.book
-    c.self.inside.seat c.self.inside.sender
-    c.self.inside.near c.self.invariant.0 (Some c.args.me.now.number) (action g c)
-    c.enter-entered.new.self
-    c.note.new.seat refl c.enter-entered.ensures.answer c.upheld.ensures.records
-    c.enter-entered.ensures.goes c.note.ensures.book
+    let i = c.self.inside in
+    let is = c.self.invariant.0 in
+    let leads = c.enter-entered.ensures in
+    let served = leads.told is.shelves is.known.book in
+    steps_beside g.J.Naming g.met.B.Coded.told (Some c.args.me.now.number) i.journal i.nears i.seat
+    i.sender i.near is c.enter-entered.new.self c.note.new.seat (action g c) refl
+    (leads.kept is.shelves is.known.book) served.answer served.goes c.note.ensures.book
+
+pub enter-entered-requires : goal.enter-entered-requires
+enter-entered-requires g c =
+    record { kept = (c.self.invariant.0.shelves, c.self.invariant.0.known.book) }
 
 pub invariant_of-self : goal.invariant_of-self
 invariant_of-self g c =
@@ -28,8 +31,7 @@ invariant_of-self g c =
 
 pub returns : goal.returns
 returns g c =
-    steps_one g.J.Naming (told_book g.B.Parts.collections c.enter-entered.new.self)
-    c.self.inside.seat c.note.new.seat
-    c.self.inside.sender c.self.inside.near c.args.me.now c.note.new.me (action g c) (keeps g c)
-    c.note.ensures.book
-    c.note.ensures.client c.note.ensures.seen c.note.ensures.mine
+    steps_journal g.J.Naming c.enter-entered.new.self c.self.inside.nears c.self.inside.seat
+    c.note.new.seat c.self.inside.sender c.self.inside.near c.args.me.now c.note.new.me
+    (action g c) (keeps g c) c.note.ensures.book c.note.ensures.client c.note.ensures.seen
+    c.note.ensures.mine

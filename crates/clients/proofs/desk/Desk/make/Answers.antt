@@ -1,34 +1,37 @@
 use Rattle.std.proofs.Common.{Some, refl}
 use Rattle.txn.specs.declared.steps.Action.{Action}
-use Rattle.clients.specs.Desks.{IsDesk}
-use Rattle.clients.specs.Told.{told_book}
-use Rattle.clients.proofs.DeskSteps.{desk_takes}
-use Rattle.clients.proofs.Seeing.{steps_one}
+use Rattle.clients.specs.Touches.{IsJournalDesk}
+use Rattle.clients.proofs.ShelfSteps.{steps_over, steps_journal}
 use Rattle.clients.proofs.desk.Desk.make.Given.{Over}
 use Rattle.clients.proofs.desk.Desk.make.Goals as goal
 
-abbrev action : (g : Over) → goal.After-wake g → Action
-action g c = Action.Make c.args.name.now c.args.kind c.make-made.result
+pub make_over-made-requires-clause-known : goal.make_over-made-requires-clause-known
+make_over-made-requires-clause-known g c =
+    let i = c.self.inside in
+    let is = c.self.invariant.0 in
+    (is.shelves, is.known)
 
-keeps : (g : Over) (c : goal.After-wake g) →
-    IsDesk g.J.Naming (told_book g.B.Parts.collections c.make-made.new.self) c.note.new.seat
-    c.self.inside.sender c.self.inside.near
+abbrev action : (g : Over) → goal.After-wake g → Action
+action g c = Action.Make c.args.name.now c.args.kind c.make_over-made.result
+
+keeps : (g : Over) (c : goal.After-wake g) → IsJournalDesk g.J.Naming g.B.Boosted.meaning
+    g.B.Parts.making g.B.Parts.collections g.B.Parts.whole g.B.Parts.fits
+    c.make_over-made.new.journal c.make_over-made.new.nears c.note.new.seat c.self.inside.sender
+    c.self.inside.near
 keeps g c =
-    desk_takes g.J.Naming g.met.B.Coded.told c.self.inside.book
-    c.self.inside.seat c.self.inside.sender
-    c.self.inside.near c.self.invariant.0 (Some c.args.me.now.number) (action g c)
-    c.make-made.new.self
-    c.note.new.seat refl c.make-made.ensures.answer c.upheld.ensures.records
-    c.make-made.ensures.goes c.note.ensures.book
+    let i = c.self.inside in
+    let is = c.self.invariant.0 in
+    let done = c.make_over-made.ensures is.shelves is.known in
+    steps_over g.J.Naming g.met.B.Coded.told (Some c.args.me.now.number) i.journal i.nears i.seat
+    i.sender i.near is c.make_over-made.new.journal c.make_over-made.new.nears done.0
+    c.note.new.seat (action g c) refl done.1 done.2.answer done.2.goes c.note.ensures.book
 
 pub invariant_of-self : goal.invariant_of-self
 invariant_of-self g c =
     (keeps g c, c.self.invariant.1, c.self.invariant.2, c.self.invariant.3)
 
 pub returns : goal.returns
-returns g c =
-    steps_one g.J.Naming (told_book g.B.Parts.collections c.make-made.new.self) c.self.inside.seat
-    c.note.new.seat
-    c.self.inside.sender c.self.inside.near c.args.me.now c.note.new.me (action g c) (keeps g c)
-    c.note.ensures.book
-    c.note.ensures.client c.note.ensures.seen c.note.ensures.mine
+returns g c = steps_journal g.J.Naming c.make_over-made.new.journal c.make_over-made.new.nears
+    c.self.inside.seat c.note.new.seat c.self.inside.sender c.self.inside.near c.args.me.now
+    c.note.new.me (action g c) (keeps g c) c.note.ensures.book c.note.ensures.client
+    c.note.ensures.seen c.note.ensures.mine

@@ -1,15 +1,15 @@
 use Rattle.std.proofs.Common.{ap}
 use Rattle.group_commit.specs.Numbers.{MakerState}
-use Rattle.clients.specs.Told.{told_book}
-use Rattle.clients.proofs.DeskSteps.{desk_opens}
+use Rattle.clients.proofs.ShelfSteps.{journal_opens}
 use Rattle.clients.proofs.desk.Desk.new.Goals as goal
 
 pub invariant_of-result : goal.invariant_of-result
-invariant_of-result g c = (
-  desk_opens g.J.Naming (told_book g.B.Parts.collections c.args.book) c.args.seat c.args.sender
-      c.args.near c.requires.book
-      c.requires.seat c.requires.sender c.requires.near,
-  ap (λ (m : MakerState). m.table) c.requires.maker,
-  ap (λ (m : MakerState). m.from) c.requires.maker,
-  c.requires.watcher,
-)
+invariant_of-result g c =
+    let parts = c.requires.parts in (
+      journal_opens g.J.Naming c.args.journal c.args.nears parts.0 c.args.seat c.args.sender
+          c.args.near parts.1 parts.2 parts.3 parts.4 c.requires.seat c.requires.sender
+          c.requires.near,
+      ap (λ (m : MakerState). m.table) c.requires.maker,
+      ap (λ (m : MakerState). m.from) c.requires.maker,
+      c.requires.watcher,
+    )

@@ -1,0 +1,41 @@
+use Rattle.std.proofs.Common.{subst, refl}
+use Rattle.std.proofs.lemmas.Option.{IfSome_then}
+use Rattle.shelf.specs.Looks.{IsLooked}
+use Rattle.txn.specs.declared.steps.Action.{Action}
+use Rattle.txn.specs.declared.steps.Target.{Target}
+use Rattle.clients.proofs.Phases.{does_refused}
+use Rattle.clients.proofs.Seeing.{entered_number}
+use Rattle.clients.proofs.Visits.{entered_own, tried_client, took_on}
+use Rattle.clients.proofs.client.Client.call_held.Goals as goal
+
+pub call-requires : goal.call-requires
+call-requires g c = record {
+  line = c.self.invariant.line_is;
+  own =
+      let i = c.self.inside in
+      entered_own g.J.Naming c.args.self.now c.enter.new.self c.in-Ok.number c.in-Ok.ensures i.line
+      i.watcher i.drawer i.phase c.self.view_is c.self.invariant.own;
+  place = c.requires.place;
+  looked = subst (λ n. IsLooked g.B.Shelf.Boosted.meaning g.J.Naming.format c.args.held.now n c.args.at c.args.call.now c.args.looked)
+      (entered_number g.J.Naming c.args.self.now.phase c.args.self.now c.enter.new.self
+      c.in-Ok.number c.in-Ok.ensures) c.requires.looked;
+}
+
+pub invariant_of-self : goal.invariant_of-self
+invariant_of-self g c =
+    let i = c.self.inside in
+    tried_client g.J.Naming i.line c.call.new.me i.watcher i.drawer i.phase c.self.invariant
+    c.call.result _ (λ r steps. (_, steps.1, λ owners client. refl)) c.call.ensures.some c.call.ensures.none
+
+pub returns-in-Ok-clause-some : goal.returns-in-Ok-clause-some
+returns-in-Ok-clause-some g c =
+    let i = c.self.inside in
+    let n = c.in-Ok.number in
+    IfSome_then c.call.result c.call.ensures.some (λ r steps. took_on g.J.Naming c.args.self.now
+    c.enter.new.self n c.in-Ok.ensures i.line i.watcher i.drawer i.phase c.self.view_is
+    c.call.new.me _ _ (Action.Call n (Target.Named c.args.name.now steps.0) c.args.call.now r)
+    (steps.0, refl) steps.1)
+
+pub returns-in-Err-clause-some : goal.returns-in-Err-clause-some
+returns-in-Err-clause-some g c = does_refused g.J.Naming c.args.self.now.phase c.args.self.now
+    _ _ _ c.in-Err.refusal c.enter.new.self c.in-Err.ensures refl

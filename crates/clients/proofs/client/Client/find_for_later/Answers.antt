@@ -1,0 +1,28 @@
+use Rattle.std.proofs.Common.{None, Err, refl}
+use Rattle.std.proofs.lemmas.Result.{IfErr-weaker}
+use Rattle.txn.specs.declared.steps.Action.{Action}
+use Rattle.txn.specs.declared.steps.Target.{Target}
+use Rattle.clients.proofs.Visits.{entered_own, found_client, took_on}
+use Rattle.clients.proofs.client.Client.find_for_later.Goals as goal
+
+pub find_for_later-requires-clause-own : goal.find_for_later-requires-clause-own
+find_for_later-requires-clause-own g c =
+    let i = c.self.inside in
+    entered_own g.J.Naming c.args.self.now c.enter.new.self c.in_ok-number.number
+    c.in_ok-number.ensures i.line i.watcher i.drawer i.phase c.self.view_is c.self.invariant.own
+
+pub invariant_of-self : goal.invariant_of-self
+invariant_of-self g c =
+    let i = c.self.inside in
+    found_client g.J.Naming i.line c.find_for_later.new.me i.watcher i.drawer i.phase c.self.invariant
+    c.find_for_later.result _ c.find_for_later.ensures.ok c.find_for_later.ensures.err
+    (λ e owners client. refl)
+
+pub returns-clause-err : goal.returns-clause-err
+returns-clause-err g c =
+    let i = c.self.inside in
+    let n = c.in_ok-number.number in
+    IfErr-weaker c.find_for_later.result _ _ (λ e steps. took_on g.J.Naming c.args.self.now
+    c.enter.new.self n c.in_ok-number.ensures i.line i.watcher i.drawer i.phase c.self.view_is
+    c.find_for_later.new.me _ _ (Action.Later n (Target.Named c.args.name.now None) c.args.call.now (Err e))
+    (None, refl) steps) c.find_for_later.ensures.err

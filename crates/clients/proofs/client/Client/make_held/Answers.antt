@@ -1,0 +1,9 @@
+use Rattle.std.proofs.Common.{refl}
+use Rattle.clients.proofs.Visits.{steps_on}
+use Rattle.clients.proofs.client.Client.make_held.Goals as goal
+
+pub invariant_of-self : goal.invariant_of-self
+invariant_of-self g c =
+    let i = c.self.inside in
+    steps_on g.J.Naming i.line c.make.new.me i.watcher i.drawer i.phase c.self.invariant _
+    c.make.ensures (λ owners client. refl)

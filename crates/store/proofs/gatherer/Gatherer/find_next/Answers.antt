@@ -1,0 +1,29 @@
+use Rattle.store.proofs.Copied.{given_none, holds_known}
+use Rattle.store.proofs.gatherer.Gatherer.find_next.Goals as goal
+
+-- nothing is given
+pub gather_part-requires-clause-given : goal.gather_part-requires-clause-given
+gather_part-requires-clause-given g c =
+    let i = c.desk.inside in (
+      i.nears,
+      i.sender,
+      given_none g.J.Naming g.B.Part.Part.collection g.met.B.Parts.shelf_laws i.journal i.nears
+          i.seat i.sender i.near c.self.inside.gather c.desk.invariant.0 c.in-Err.part
+          c.in-Err.ensures.copied c.in-Err.ensures.refused,
+    )
+
+pub invariant_of-desk : goal.invariant_of-desk
+invariant_of-desk g c =
+    let i = c.desk.inside in (
+      c.gather_part.ensures.desk i.nears i.sender (given_none g.J.Naming g.B.Part.Part.collection
+          g.met.B.Parts.shelf_laws i.journal i.nears i.seat i.sender i.near c.self.inside.gather
+          c.desk.invariant.0 c.in-Err.part c.in-Err.ensures.copied c.in-Err.ensures.refused),
+      c.desk.invariant.1,
+      c.desk.invariant.2,
+      c.desk.invariant.3,
+    )
+
+pub invariant_of-self : goal.invariant_of-self
+invariant_of-self g c = holds_known g.J.Naming c.gather_part.new.far c.self.inside.of_keeper
+    c.gather_part.new.gather c.gather_part.ensures.far c.self.invariant.awaited
+    c.gather_part.ensures.unfrozen
