@@ -42,7 +42,7 @@ knows_heard old new counts flags hears =
 module _ {J : Type 0} (j : Ghosts J) where
   -- steps were taken
   pub knows_acted : (old new : Known) (firsts : List Action) (last : Action) →
-      Acts j old firsts last new → KnowsStill old new
+      Acts j.origin old firsts last new → KnowsStill old new
   knows_acted old new firsts last acts = record {
     number = ap (λ (k : Known). k.number) acts.0;
     seen = acts.1.grows.begins;

@@ -18,7 +18,7 @@ no_refusal t e same = cc
 
 module _ {J : Type 0} (j : Ghosts J) where
   committed : (old new : Known) (n : ℕ) (t : Ticket) (firsts : List Action) (action : Action) →
-      action ≡ Action.Commit n (Ok t.place) → Acts j old firsts action new →
+      action ≡ Action.Commit n (Ok t.place) → Acts j.origin old firsts action new →
       HasCommitted new t.place
   committed old new n t firsts action is acts =
       let same : new.number ≡ old.number = ap (λ (k : Known). k.number) acts.0 in record {
@@ -30,7 +30,7 @@ module _ {J : Type 0} (j : Ghosts J) where
       }
 
   -- behind a commit that gave a ticket
-  pub has_committed : (p : Phase) (old new : Known) (t : Ticket) → Does j p old
+  pub has_committed : (p : Phase) (old new : Known) (t : Ticket) → Does j.origin p old
       (λ n a. a ≡ Action.Commit n (placed (Ok t)))
       (λ e. ◌≡◌ {A = Result Ticket Refusal} (Ok t) (Err e))
       (ended_by {T = Ticket} (Ok t)) new → HasCommitted new t.place

@@ -58,7 +58,7 @@ refused_with P r e f is same p = subst (λ x. IfErr x P) (sym is) (subst P (sym 
 
 module _ {J : Type 0} (j : Ghosts J) where
   -- nothing
-  pub tried_none : (known : Known) → IsSeen j known.seen → Tried j known [] known
+  pub tried_none : (known : Known) → IsSeen j.origin known.seen → Tried j.origin known [] known
   tried_none known legal = record {
     knows = knows_same known;
     grows = grows_none j known.number known.seen legal;
@@ -70,12 +70,13 @@ module _ {J : Type 0} (j : Ghosts J) where
   }
 
   -- one thing behind another
-  pub tried_then : (a b c : Known) (xs ys : List Action) → Tried j a xs b → Tried j b ys c →
-      Tried j a (xs ++ ys) c
+  pub tried_then : (a b c : Known) (xs ys : List Action) → Tried j.origin a xs b →
+      Tried j.origin b ys c →
+      Tried j.origin a (xs ++ ys) c
   tried_then a b c xs ys one two = record {
     knows = knows_through a b c one.knows two.knows;
     grows = grows_then j a.number a.seen b.seen c.seen xs ys one.grows
-        (subst (λ k. Grows j k b.seen ys c.seen) one.knows.number two.grows);
+        (subst (λ k. Grows j.origin k b.seen ys c.seen) one.knows.number two.grows);
     commits_nothing = each_append CommitsNothing xs ys one.commits_nothing two.commits_nothing;
     are_ended = ended;
   }
@@ -103,24 +104,24 @@ module _ {J : Type 0} (j : Ghosts J) where
       ]
 
   -- the flag was loaded
-  pub tried_heard : (a b c : Known) (xs : List Action) (flags : List Bool) → Tried j a xs b →
-      Hears b [] flags c → Tried j a xs c
+  pub tried_heard : (a b c : Known) (xs : List Action) (flags : List Bool) → Tried j.origin a xs b →
+      Hears b [] flags c → Tried j.origin a xs c
   tried_heard a b c xs flags is hears =
       let seen : c.seen ≡ b.seen = ap (λ (k : Known). k.seen) hears in
       let phase : c.phase ≡ b.phase = ap (λ (k : Known). k.phase) hears in record {
         knows = knows_through a b c is.knows (knows_heard b c [] flags hears);
-        grows = subst (Grows j a.number a.seen xs) (sym seen) is.grows;
+        grows = subst (Grows j.origin a.number a.seen xs) (sym seen) is.grows;
         commits_nothing = is.commits_nothing;
         are_ended = λ n live. subst (λ p. WasEnded xs p n) (sym phase) (is.are_ended n live);
       }
 
   -- what it knows changed in nothing that counts here
-  tried_same : (a b c : Known) (xs : List Action) → Tried j a xs b → KnowsStill b c →
+  tried_same : (a b c : Known) (xs : List Action) → Tried j.origin a xs b → KnowsStill b c →
       c.seen ≡ b.seen → ((n : ℕ) → b.phase ≡ Phase.Entered n → c.phase ≡ Phase.Entered n) →
-      Tried j a xs c
+      Tried j.origin a xs c
   tried_same a b c xs is knows seen stays = record {
     knows = knows_through a b c is.knows knows;
-    grows = subst (Grows j a.number a.seen xs) (sym seen) is.grows;
+    grows = subst (Grows j.origin a.number a.seen xs) (sym seen) is.grows;
     commits_nothing = is.commits_nothing;
     are_ended = λ n live. elim (is.are_ended n live) [
       | inl there ↦ inl there
@@ -143,18 +144,18 @@ module _ {J : Type 0} (j : Ghosts J) where
   drawn_not_entered m n e = cc
 
   -- a number was drawn
-  pub tried_drawn : (a b c : Known) (xs : List Action) (n next : ℕ) → Tried j a xs b →
-      b.phase ≡ Phase.Closed → Draws next b n c → Tried j a xs c
+  pub tried_drawn : (a b c : Known) (xs : List Action) (n next : ℕ) → Tried j.origin a xs b →
+      b.phase ≡ Phase.Closed → Draws next b n c → Tried j.origin a xs c
   tried_drawn a b c xs n next is closed draws =
       tried_same a b c xs is (knows_drawn b c n next draws)
       (ap (λ (k : Known). k.seen) draws.new_is)
       (λ m entered. absurd (not_both m (sym closed ∙ entered)))
 
   -- no number was drawn that serves
-  pub tried_worn : (a b c : Known) (xs : List Action) (next : ℕ) → Tried j a xs b →
-      IsWorn next b c → Tried j a xs c
+  pub tried_worn : (a b c : Known) (xs : List Action) (next : ℕ) → Tried j.origin a xs b →
+      IsWorn next b c → Tried j.origin a xs c
   tried_worn a b c xs next is worn = elim worn [
-    | inl few ↦ subst (Tried j a xs) (sym few.1) is
+    | inl few ↦ subst (Tried j.origin a xs) (sym few.1) is
     | inr drawn ↦
         tried_same a b c xs is (knows_drawn b c drawn.0 next drawn.2)
         (ap (λ (k : Known). k.seen) drawn.2.new_is) (λ m entered. drawn.3 ∙ entered)
@@ -164,9 +165,9 @@ module _ {J : Type 0} (j : Ghosts J) where
 
   -- steps were taken
   tried_acts : (old new : Known) (firsts : List Action) (last : Action) →
-      Acts j old firsts last new → AllByRecursion CommitsNothing (firsts ++ last ∷ []) →
+      Acts j.origin old firsts last new → AllByRecursion CommitsNothing (firsts ++ last ∷ []) →
       ((n : ℕ) → WasLive old.phase (firsts ++ last ∷ []) n →
-      WasEnded (firsts ++ last ∷ []) new.phase n) → Tried j old (firsts ++ last ∷ []) new
+      WasEnded (firsts ++ last ∷ []) new.phase n) → Tried j.origin old (firsts ++ last ∷ []) new
   tried_acts old new firsts last acts nothing ended = record {
     knows = knows_acted j old new firsts last acts;
     grows = acts.1.grows;
@@ -195,10 +196,10 @@ all_backs P n (suc count) p = (p, all_backs P n count p)
 
 module _ {J : Type 0} (j : Ghosts J) where
   undone_acts : (n : ℕ) (old new : Known) (firsts : List Action) (last : Action) →
-      old.phase ≡ Phase.Entered n → Acts j old firsts last new →
+      old.phase ≡ Phase.Entered n → Acts j.origin old firsts last new →
       AllByRecursion IsNoEntry (firsts ++ last ∷ []) →
       AllByRecursion CommitsNothing (firsts ++ last ∷ []) →
-      WasEnded (firsts ++ last ∷ []) new.phase n → Tried j old (firsts ++ last ∷ []) new
+      WasEnded (firsts ++ last ∷ []) new.phase n → Tried j.origin old (firsts ++ last ∷ []) new
   undone_acts n old new firsts last at acts no_entries nothing ended =
       tried_acts j old new firsts last acts nothing (λ m live. elim live [
         | inl was ↦
@@ -208,8 +209,8 @@ module _ {J : Type 0} (j : Ghosts J) where
       ])
 
   aborted : (n : ℕ) (old new : Known) (r : Result (Unit {0}) Refusal) →
-      old.phase ≡ Phase.Entered n → Aborts j (Phase.Entered n) old r new →
-      (actions : List Action) × Tried j old actions new
+      old.phase ≡ Phase.Entered n → Aborts j.origin (Phase.Entered n) old r new →
+      (actions : List Action) × Tried j.origin old actions new
   aborted n old new (Ok done) at aborts = elim aborts.1.1 [
     | inl ended ↦
         let firsts = backs n aborts.1.0 ++ back n (Ok false) ∷ [] in
@@ -255,8 +256,8 @@ module _ {J : Type 0} (j : Ghosts J) where
         )
   ]
 
-  abandoned : (n : ℕ) (old new : Known) → IsSeen j old.seen → old.phase ≡ Phase.Drawn n →
-      new ≡ record old { phase = Phase.Closed } → Tried j old [] new
+  abandoned : (n : ℕ) (old new : Known) → IsSeen j.origin old.seen → old.phase ≡ Phase.Drawn n →
+      new ≡ record old { phase = Phase.Closed } → Tried j.origin old [] new
   abandoned n old new legal at is =
       tried_same j old old new [] (tried_none j old legal) (record {
         number = ap (λ (k : Known). k.number) is;
@@ -268,8 +269,8 @@ module _ {J : Type 0} (j : Ghosts J) where
 
   -- a transaction was aborted, or that was refused
   pub tried_aborted : (p : Phase) (old new : Known) (r : Result (Unit {0}) Refusal) →
-      old.phase ≡ p → IsSeen j old.seen → Aborts j p old r new →
-      (actions : List Action) × Tried j old actions new
+      old.phase ≡ p → IsSeen j.origin old.seen → Aborts j.origin p old r new →
+      (actions : List Action) × Tried j.origin old actions new
   tried_aborted Phase.Closed old new r at legal aborts = absurd aborts
   tried_aborted (Phase.Drawn n) old new r at legal aborts =
       ([], abandoned n old new legal at aborts.1)
@@ -299,7 +300,8 @@ module _ {J : Type 0} (j : Ghosts J) where
       ap Phase.Entered
       (opened ∙ sym (each_holds (IsOfCalls n) made (Action.Enter m (Ok tt)) entered calls))
 
-  knows_attempted : (n : ℕ) (old new : Known) (made : List Action) → Attempts j n old made new →
+  knows_attempted : (n : ℕ) (old new : Known) (made : List Action) →
+      Attempts j.origin n old made new →
       KnowsStill old new
   knows_attempted n old new made is = record {
     number = ap (λ (k : Known). k.number) is.moves;
@@ -309,7 +311,7 @@ module _ {J : Type 0} (j : Ghosts J) where
   }
 
   pub tried_attempted : (n : ℕ) (old new : Known) (made : List Action) → IsBegun old.phase →
-      Attempts j n old made new → Tried j old made new
+      Attempts j.origin n old made new → Tried j.origin old made new
   tried_attempted n old new made begun is = record {
     knows = knows_attempted n old new made is;
     grows = is.grows;
@@ -324,10 +326,11 @@ module _ {J : Type 0} (j : Ghosts J) where
   -- ---- a commit
 
   -- one that was refused
-  pub tried_commit : (p : Phase) (old new : Known) (e : Refusal) → old.phase ≡ p → Does j p old
+  pub tried_commit : (p : Phase) (old new : Known) (e : Refusal) → old.phase ≡ p →
+      Does j.origin p old
       (λ n a. a ≡ Action.Commit n (placed (Err e)))
       (λ f. ◌≡◌ {A = Result Ticket Refusal} (Err e) (Err f))
-      (ended_by {T = Ticket} (Err e)) new → (actions : List Action) × Tried j old actions new
+      (ended_by {T = Ticket} (Err e)) new → (actions : List Action) × Tried j.origin old actions new
   tried_commit Phase.Closed old new e at does = absurd does
   tried_commit (Phase.Entered n) old new e at does = (
     does.0 ∷ [],
@@ -361,9 +364,10 @@ module _ {J : Type 0} (j : Ghosts J) where
 
   -- one that was accepted
   commits_by : (n : ℕ) (made : List Action) (p : Phase) (mid new : Known) (t : Ticket) →
-      IsOpenUnder n made p → Does j p mid (λ m a. a ≡ Action.Commit m (placed (Ok t)))
+      IsOpenUnder n made p → Does j.origin p mid (λ m a. a ≡ Action.Commit m (placed (Ok t)))
       (λ e. ◌≡◌ {A = Result Ticket Refusal} (Ok t) (Err e)) (ended_by {T = Ticket} (Ok t)) new →
-      (ends : List Action) × (Commits n t.place ends × (Grows j mid.number mid.seen ends new.seen ×
+      (ends : List Action) × (Commits n t.place ends ×
+      (Grows j.origin mid.number mid.seen ends new.seen ×
       KnowsStill mid new))
   commits_by n made Phase.Closed mid new t opened does = absurd opened
   commits_by n made (Phase.Entered m) mid new t opened does = (
@@ -399,10 +403,11 @@ module _ {J : Type 0} (j : Ghosts J) where
   none_open (Phase.Entered n) none = absurd (none tt)
 
   -- there was nothing to take back
-  pub took_none : (known : Known) → (IsOpen known.phase → ⊥) → TakesBack j known (Ok tt) known
+  pub took_none : (known : Known) → (IsOpen known.phase → ⊥) →
+      TakesBack j.origin known (Ok tt) known
   took_none known none = inl (none_open known.phase none, refl, refl)
 
-  pub begun_is : (old begun : Known) → Begins j old begun → IsBegun begun.phase
+  pub begun_is : (old begun : Known) → Begins j.origin old begun → IsBegun begun.phase
   begun_is old begun begins = subst IsBegun (sym begins.drawn) tt
 
   -- ---- an attempt that goes through
@@ -410,17 +415,19 @@ module _ {J : Type 0} (j : Ghosts J) where
   module _ (refuses : Refusal → List Action → Type 0) where
     -- behind an attempt and its commit
     pub ran_through : (says : List Action → Type 0) (old begun mid new : Known)
-        (tried made : List Action) (t : Ticket) → Tried j old tried begun → Begins j old begun →
-        Attempts j (number_of begun.phase) begun made mid → says made →
-        AsksCommit j mid (Ok t) new → new.phase ≡ Phase.Closed →
-        Ran j refuses 1 says old t.place new
+        (tried made : List Action) (t : Ticket) → Tried j.origin old tried begun →
+        Begins j.origin old begun →
+        Attempts j.origin (number_of begun.phase) begun made mid → says made →
+        AsksCommit j.origin mid (Ok t) new → new.phase ≡ Phase.Closed →
+        Ran j.origin refuses 1 says old t.place new
     ran_through says old begun mid new tried made t tries begins is said does closed =
         let n = number_of begun.phase in
         let known = knows_attempted n begun mid made is in
         let commit = commits_by n made mid.phase mid new t is.is_open does in
-        let grown : Grows j begun.number begun.seen (made ++ commit.0) new.seen =
+        let grown : Grows j.origin begun.number begun.seen (made ++ commit.0) new.seen =
         grows_then j begun.number begun.seen mid.seen new.seen made commit.0 is.grows
-        (subst (λ k. Grows j k mid.seen commit.0 new.seen) known.number commit.1.1.0) in record {
+        (subst (λ k. Grows j.origin k mid.seen commit.0 new.seen) known.number commit.1.1.0) in
+        record {
           knows = knows_through old begun new tries.knows
               (knows_through begun mid new known commit.1.1.1);
           refused = 0;
@@ -436,14 +443,14 @@ module _ {J : Type 0} (j : Ghosts J) where
           are_calls = is.are_calls;
           ends = commit.0;
           commits = commit.1.0;
-          grows = subst (λ k. Grows j k begun.seen (made ++ commit.0) new.seen)
+          grows = subst (λ k. Grows j.origin k begun.seen (made ++ commit.0) new.seen)
               tries.knows.number grown;
           closed = closed;
         }
 
     -- where one attempt alone may be made, none was made before
     first_is : (refused : ℕ) (old before : Known) → IsWithin 1 refused →
-        PassesOften j refuses refused old before → before ≡ old
+        PassesOften j.origin refuses refused old before → before ≡ old
     first_is zero old before within passes = passes
     first_is (suc n) old before within passes = elim within [
       | inl none ↦ let no : ⊥ = omega (arith, none) in absurd no
@@ -452,8 +459,8 @@ module _ {J : Type 0} (j : Ghosts J) where
 
     -- and behind the loading of a mark
     pub ran_heard : (bound : ℕ) (says : List Action → Type 0) (a b c : Known) (place : ℕ)
-        (counts : List Raised) (flags : List Bool) → Ran j refuses bound says a place b →
-        Hears b counts flags c → Ran j refuses bound says a place c
+        (counts : List Raised) (flags : List Bool) → Ran j.origin refuses bound says a place b →
+        Hears b counts flags c → Ran j.origin refuses bound says a place c
     ran_heard bound says a b c place counts flags ran hears = record {
       knows = knows_through a b c ran.knows (knows_heard b c counts flags hears);
       refused = ran.refused;
@@ -469,7 +476,7 @@ module _ {J : Type 0} (j : Ghosts J) where
       are_calls = ran.are_calls;
       ends = ran.ends;
       commits = ran.commits;
-      grows = subst (Grows j a.number ran.begun.seen (ran.made ++ ran.ends))
+      grows = subst (Grows j.origin a.number ran.begun.seen (ran.made ++ ran.ends))
           (sym (ap (λ (k : Known). k.seen) hears)) ran.grows;
       closed = ap (λ (k : Known). k.phase) hears ∙ ran.closed;
     }
@@ -477,9 +484,10 @@ module _ {J : Type 0} (j : Ghosts J) where
     -- ---- attempts that were refused
 
     -- one that was taken back, or that was refused
-    pub refused_as : (old left new : Known) (own e : Refusal) → Stops j refuses old own left →
-        ((e ≡ own) × TakesBack j left (Ok tt) new) ⊎ TakesBack j left (Err e) new →
-        IsRefused j refuses old e new
+    pub refused_as : (old left new : Known) (own e : Refusal) →
+        Stops j.origin refuses old own left →
+        ((e ≡ own) × TakesBack j.origin left (Ok tt) new) ⊎ TakesBack j.origin left (Err e) new →
+        IsRefused j.origin refuses old e new
     refused_as old left new own e stops takes = record {
       own = own;
       left = left;
@@ -493,12 +501,13 @@ module _ {J : Type 0} (j : Ghosts J) where
       pub refused : ℕ
       pub is : number ≡ refused + 1
       pub within : IsWithin bound refused
-      pub passes : PassesOften j refuses refused old now
+      pub passes : PassesOften j.origin refuses refused old now
       pub tried : List Action
-      pub tries : Tried j old tried now
+      pub tries : Tried j.origin old tried now
 
     -- the first one
-    pub goes_first : (bound : ℕ) (known : Known) → IsSeen j known.seen → Goes bound known 1 known
+    pub goes_first : (bound : ℕ) (known : Known) → IsSeen j.origin known.seen →
+        Goes bound known 1 known
     goes_first bound known legal = record {
       refused = 0;
       is = omega arith;
@@ -510,14 +519,15 @@ module _ {J : Type 0} (j : Ghosts J) where
 
     -- the next one
     pub goes_on : (bound : ℕ) (old now left new : Known) (number : ℕ) (e : Refusal) →
-        Goes bound old number now → number < bound → IsPassing e → IsRefused j refuses now e left →
-        (xs : List Action) × Tried j now xs left → Hears left [] (false ∷ []) new →
+        Goes bound old number now → number < bound → IsPassing e →
+        IsRefused j.origin refuses now e left →
+        (xs : List Action) × Tried j.origin now xs left → Hears left [] (false ∷ []) new →
         Goes bound old (number + 1) new
     goes_on bound old now left new number e goes few passing is tried hears = record {
       refused = goes.refused + 1;
       is = ap (λ k. k + 1) goes.is;
       within = inr (let same = goes.is in omega (arith, few, same));
-      passes = subst (λ k. PassesOften j refuses k old new) (sym (add-one goes.refused)) (
+      passes = subst (λ k. PassesOften j.origin refuses k old new) (sym (add-one goes.refused)) (
         now,
         goes.passes,
         record {
@@ -535,9 +545,9 @@ module _ {J : Type 0} (j : Ghosts J) where
 
     -- an attempt behind which no other is made
     pub gives_up : (bound : ℕ) (old now new : Known) (number : ℕ) (e : Refusal) →
-        Goes bound old number now → IsRefused j refuses now e new →
-        (xs : List Action) × Tried j now xs new → (IsPassing e → bound ≤ number) →
-        GivesUp j refuses bound old e new
+        Goes bound old number now → IsRefused j.origin refuses now e new →
+        (xs : List Action) × Tried j.origin now xs new → (IsPassing e → bound ≤ number) →
+        GivesUp j.origin refuses bound old e new
     gives_up bound old now new number e goes is tried ends = record {
       tried = goes.tried ++ tried.0;
       tries = tried_then j old now new goes.tried tried.0 goes.tries tried.1;
@@ -557,9 +567,9 @@ module _ {J : Type 0} (j : Ghosts J) where
 
     -- one behind which keeping had failed
     pub gives_up_lost : (bound : ℕ) (old now left new : Known) (number : ℕ) (e : Refusal) →
-        Goes bound old number now → IsPassing e → IsRefused j refuses now e left →
-        (xs : List Action) × Tried j now xs left → Hears left [] (true ∷ []) new →
-        GivesUp j refuses bound old Refusal.Lost new
+        Goes bound old number now → IsPassing e → IsRefused j.origin refuses now e left →
+        (xs : List Action) × Tried j.origin now xs left → Hears left [] (true ∷ []) new →
+        GivesUp j.origin refuses bound old Refusal.Lost new
     gives_up_lost bound old now left new number e goes passing is tried hears = record {
       tried = goes.tried ++ tried.0;
       tries = tried_heard j old left new (goes.tried ++ tried.0) (true ∷ [])
@@ -576,8 +586,8 @@ module _ {J : Type 0} (j : Ghosts J) where
 
     -- one that goes through
     pub goes_through : (bound : ℕ) (says : List Action → Type 0) (old now new : Known)
-        (number place : ℕ) → Goes bound old number now → Ran j refuses 1 says now place new →
-        Ran j refuses bound says old place new
+        (number place : ℕ) → Goes bound old number now → Ran j.origin refuses 1 says now place new →
+        Ran j.origin refuses bound says old place new
     goes_through bound says old now new number place goes ran =
         let same = first_is ran.refused now ran.before ran.within ran.passes in record {
           knows = knows_through old now new goes.tries.knows ran.knows;
@@ -586,7 +596,7 @@ module _ {J : Type 0} (j : Ghosts J) where
           before = now;
           passes = goes.passes;
           begun = ran.begun;
-          begins = subst (λ k. Begins j k ran.begun) same ran.begins;
+          begins = subst (λ k. Begins j.origin k ran.begun) same ran.begins;
           tried = goes.tried ++ ran.tried;
           tries = tried_then j old now ran.begun goes.tried ran.tried goes.tries ran.tries;
           made = ran.made;
@@ -594,7 +604,7 @@ module _ {J : Type 0} (j : Ghosts J) where
           are_calls = ran.are_calls;
           ends = ran.ends;
           commits = ran.commits;
-          grows = subst (λ k. Grows j k ran.begun.seen (ran.made ++ ran.ends) new.seen)
+          grows = subst (λ k. Grows j.origin k ran.begun.seen (ran.made ++ ran.ends) new.seen)
               goes.tries.knows.number ran.grows;
           closed = ran.closed;
         }
@@ -603,11 +613,11 @@ module _ {J : Type 0} (j : Ghosts J) where
       -- an attempt that is the last one, however it ended
       pub transacts_last : (bound : ℕ) (old now new : Known) (number : ℕ)
           (r : Result (A × Ticket) Refusal) → Goes bound old number now →
-          IfOk r (λ done. Ran j refuses 1 (says done.0) now done.1.place new) →
-          IfErr r (λ e. (xs : List Action) × Tried j now xs new) →
-          IfErr r (λ e. IsRefused j refuses now e new) →
+          IfOk r (λ done. Ran j.origin refuses 1 (says done.0) now done.1.place new) →
+          IfErr r (λ e. (xs : List Action) × Tried j.origin now xs new) →
+          IfErr r (λ e. IsRefused j.origin refuses now e new) →
           ((e : Refusal) → r ≡ Err e → IsPassing e → bound ≤ number) →
-          Transacts j refuses says bound old r new
+          Transacts j.origin refuses says bound old r new
       transacts_last bound old now new number (Ok done) goes ran tried is ends =
           goes_through bound (says done.0) old now new number done.1.place goes ran
       transacts_last bound old now new number (Err e) goes ran tried is ends =
@@ -646,11 +656,12 @@ module _ {J : Type 0} (j : Ghosts J) where
       -- a wait that was lost
       pub keeps_lost : (bound : ℕ) (a b c : Known) (done : A × Ticket)
           (r : Result (A × Ticket) Refusal) (e f : Refusal) → r ≡ Err e → e ≡ f →
-          Ran j refuses bound (says done.0) a done.1.place b → Waits b done.1.place (Err f) c →
-          Keeps j refuses says bound a r c
+          Ran j.origin refuses bound (says done.0) a done.1.place b →
+          Waits b done.1.place (Err f) c →
+          Keeps j.origin refuses says bound a r c
       keeps_lost bound a b c done r e f is same ran waits =
           let lost = lost_is done.1.place waits.counts waits.flags f waits.decides in
-          subst (λ x. Keeps j refuses says bound a x c) (sym is) (inr (
+          subst (λ x. Keeps j.origin refuses says bound a x c) (sym is) (inr (
             same ∙ lost,
             (
               done.0,

@@ -21,6 +21,7 @@ use Rattle.recovery.specs.Openings.{KeepsContent}
 use Rattle.repetition.specs.Journals.{StandsFor}
 use Rattle.repetition.specs.Reading.{IsSound}
 use Rattle.clients.specs.Known.{SeenState}
+use Rattle.clients.specs.Origins.{Origin}
 use Rattle.clients.specs.Known.{Known}
 use Rattle.clients.specs.declared.naming.Naming as namings
 use Rattle.txn.specs.Books.{standing}
@@ -155,16 +156,16 @@ module _ {D : Type 0} (g : Ghosts D) where
   -- A store that was opened under a name was worked on.
   pub was_opened : {J : Type 0} (j : namings.Ghosts J)
       (parts : List BookStep → List Raised → Type 0)
-      (told : List BookStep → (Raised → Type 0) → Type 0) (old opened new : D) (kept : ℕ) →
+      (told : Origin → List BookStep → (Raised → Type 0) → Type 0) (old opened new : D) (kept : ℕ) →
       (closed : IsClosed j g parts new kept) →
       ((was_kept : Raised → Type 0) →
       ((x : Raised) → Contains closed.counts x → 0 < x.count → was_kept x) →
-      told closed.closes.steps was_kept) →
+      told j.origin closed.closes.steps was_kept) →
       (g.is_honest opened → KeepsContent g.seen g.may_leave g.moment g.left_since old opened) →
       (g.is_honest opened → IsAtRest g.seen g.may_leave old → j.sound) →
       (g.is_honest opened → IsSound (g.seen old)) →
       ((content : List Collection) → StandsFor (g.seen old) content → g.is_honest opened →
-      j.start ≡ content) → (j.opened_at ≡ g.moment opened) →
+      j.origin.start ≡ content) → (j.opened_at ≡ g.moment opened) →
       ((t : ℕ) (bytes : List ℕ) → j.left_since t bytes → g.left_since opened t bytes) →
       WasOpened g told old new kept
   was_opened j parts told old opened new kept closed told_of keeps sound whole start at was =
@@ -172,14 +173,11 @@ module _ {D : Type 0} (g : Ghosts D) where
         opened = opened;
         keeps = keeps;
         worked = λ honest content rest stands. record {
-          format = j.format;
-          wear = j.wear;
+          origin = j.origin;
+          start = start content stands honest;
           steps = steps;
           behind = standing closed.book;
-          legal = subst (λ s. IsLegal catalog_meaning catalog_making (opening j.format s j.wear)
-              steps
-              (standing closed.book)) (start content stands honest) closed.closes.legal.legal;
-          owned = closed.closes.legal.owned;
+          history = closed.closes.legal;
           told_of = told_of (WasKept g new content (committed_by steps) (g.moment old))
               (λ x there told.
               let opening = keeps honest content rest (whole honest) stands in
@@ -205,7 +203,8 @@ module _ {D : Type 0} (g : Ghosts D) where
           stop = λ bytes left.
               subst (λ s. Yields s (committed_by steps) (take kept (committed_by steps)) bytes)
               (start content stands honest)
-              (subst (λ n. Yields j.start (committed_by steps) (take n (committed_by steps)) bytes)
+              (subst (λ n. Yields j.origin.start (committed_by steps) (take n (committed_by steps))
+              bytes)
               (sym closed.mark) (closed.closes.stop (sound honest rest) bytes
               (subst (λ d. g.may_leave d bytes) closed.disk left)));
         };

@@ -4,7 +4,7 @@ use Rattle.std.specs.Prelude.{◌++◌, Result, Ok, Err, Contains}
 use Rattle.std.specs.List.{AllByRecursion}
 use Rattle.calls.specs.declared.refusal.Refusal.{Refusal}
 use Rattle.txn.specs.declared.steps.Action.{Action}
-use Rattle.clients.specs.declared.naming.Naming.{Ghosts}
+use Rattle.clients.specs.Origins.{Origin}
 use Rattle.clients.specs.declared.phase.Phase.{Phase}
 use Rattle.clients.specs.declared.ticket.Ticket.{Ticket}
 use Rattle.clients.specs.Attempts.{Attempts, IsOfCalls, number_of}
@@ -46,12 +46,12 @@ IsPassing e = ⊥
 abbrev pub IsWithin : ℕ → ℕ → Type 0
 IsWithin bound refused = (refused ≡ 0) ⊎ (refused < bound)
 
-module _ {J : Type 0} (j : Ghosts J) where
+module _ (o : Origin) where
   -- The client's own steps were these actions. None of them committed anything, and each number
   -- that was live was ended by an abort, but for one that is live still.
   pub record Tried (old : Known) (actions : List Action) (new : Known) : Type 0 where
     pub knows : KnowsStill old new
-    pub grows : Grows j old.number old.seen actions new.seen
+    pub grows : Grows o old.number old.seen actions new.seen
     pub commits_nothing : AllByRecursion CommitsNothing actions
     pub are_ended : (n : ℕ) → WasLive old.phase actions n → WasEnded actions new.phase n
 
@@ -60,25 +60,25 @@ module _ {J : Type 0} (j : Ghosts J) where
   -- The open transaction was taken back, if there was one, or that was refused.
   abbrev pub TakesBack : Known → Result (Unit {0}) Refusal → Known → Type 0
   TakesBack old r new = ((old.phase ≡ Phase.Closed) × (r ≡ Ok tt) × (new ≡ old))
-      ⊎ Aborts j old.phase old r new
+      ⊎ Aborts o old.phase old r new
 
   -- What was open was taken back, and a number was drawn for a transaction.
   pub record Begins (old begun : Known) : Type 0 where
     pub closed : Known
     pub taken_back : TakesBack old (Ok tt) closed
     pub number : ℕ
-    pub draws : Draws j.next closed number begun
+    pub draws : Draws o.next closed number begun
     pub drawn : begun.phase ≡ Phase.Drawn number
 
   -- That was refused: what was open was not taken back, or numbers have run out.
   abbrev pub IsNotBegun : Known → Refusal → Known → Type 0
   IsNotBegun old e new = TakesBack old (Err e) new
       ⊎ ((e ≡ Refusal.Worn) × ((closed : Known) × TakesBack old (Ok tt) closed ×
-      IsWorn j.next closed new))
+      IsWorn o.next closed new))
 
   -- The commit of the open transaction was answered so.
   abbrev pub AsksCommit : Known → Result Ticket Refusal → Known → Type 0
-  AsksCommit old r new = Does j old.phase old (λ n a. a ≡ Action.Commit n (placed r))
+  AsksCommit old r new = Does o old.phase old (λ n a. a ≡ Action.Commit n (placed r))
       (λ e. r ≡ Err e) (ended_by r) new
 
   -- ---- attempts
@@ -90,8 +90,8 @@ module _ {J : Type 0} (j : Ghosts J) where
     abbrev pub Stops : Known → Refusal → Known → Type 0
     Stops old e new = IsNotBegun old e new
         ⊎ ((begun : Known) × Begins old begun × ((made : List Action) ×
-        ((Attempts j (number_of begun.phase) begun made new × refuses e made)
-        ⊎ ((asked : Known) × Attempts j (number_of begun.phase) begun made asked ×
+        ((Attempts o (number_of begun.phase) begun made new × refuses e made)
+        ⊎ ((asked : Known) × Attempts o (number_of begun.phase) begun made asked ×
         AsksCommit asked (Err e) new))))
 
     -- One attempt was refused, and what it left open was taken back. A refusal of that stands in
@@ -150,7 +150,7 @@ module _ {J : Type 0} (j : Ghosts J) where
       pub are_calls : AllByRecursion (IsOfCalls (number_of begun.phase)) made
       pub ends : List Action
       pub commits : Commits (number_of begun.phase) place ends
-      pub grows : Grows j old.number begun.seen (made ++ ends) new.seen
+      pub grows : Grows o old.number begun.seen (made ++ ends) new.seen
       pub closed : new.phase ≡ Phase.Closed
 
     -- says: what the output says of the calls. bound: how many attempts are made at most.

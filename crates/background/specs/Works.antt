@@ -2,10 +2,8 @@
 use Rattle.std.specs.Prelude.{◌≡◌, ◌⊎◌, ℕ, ◌<◌, ◌≤◌, List, [], ◌∷◌, ◌++◌, Some, Result, Ok, IfOk}
 use Rattle.std.specs.Prelude.{Contains, slice_get, slice_index_or, take}
 use mathlib.Core.List.{IsPrefix}
-use Rattle.calls.specs.declared.format.Format.{Format}
 use Rattle.calls.specs.Contents.{Collection}
 use Rattle.calls.specs.declared.refusal.Refusal.{Refusal}
-use Rattle.catalog.specs.Meaning.{catalog_meaning, catalog_making}
 use Rattle.checkpoint.specs.Crash.{Yields}
 use Rattle.disk_model.specs.Disk.{IsAtRest}
 use Rattle.disk_model.specs.declared.disk.Disk.{Ghosts}
@@ -14,16 +12,15 @@ use Rattle.group_commit.specs.Marks.{AreReached}
 use Rattle.checkpoint.specs.Keepers.{KeeperState}
 use Rattle.recovery.specs.Openings.{KeepsContent}
 use Rattle.repetition.specs.Journals.{StandsFor}
-use Rattle.clients.specs.Known.{SeenState}
+use Rattle.clients.specs.Origins.{Origin}
+use Rattle.clients.specs.Known.{Known, SeenState, IsHistory, step_of}
 use Rattle.store.specs.Closing.{Closes, WasKept}
-use Rattle.clients.specs.Known.{Known, step_of}
-use Rattle.clients.specs.Owners.{AreOwned}
 use Rattle.clients.specs.declared.naming.Naming as namings
 use Rattle.txn.specs.Books.{BookState}
 use Rattle.txn.specs.declared.steps.Action.{Action}
 use Rattle.txn.specs.declared.steps.BookStep.{BookStep}
-use Rattle.txn.specs.Histories.{IsLegal, committed_by}
-use Rattle.txn.specs.Rows.{Standing, opening}
+use Rattle.txn.specs.Histories.{committed_by}
+use Rattle.txn.specs.Rows.{Standing}
 
 -- ---- what threads answer
 
@@ -94,17 +91,17 @@ module _ {A : Type 0} (says : ℕ → A → Known → Type 0) where
 -- might have left of the disk is sound, and stands for a content that some beginning of the
 -- transactions gives that the history commits, each run whole, one after another, with the replies
 -- that its client got; and of what a stop leaves now that beginning holds the first so many of
--- them. told: what is known of the history, and of the counts that were kept from a moment on.
+-- them. told: what is known of what the store was opened with, of the history, and of the counts
+-- that were kept from a moment on.
 pub record IsWorkedOn {D : Type 0} (g : Ghosts D)
-    (told : List BookStep → (Raised → Type 0) → Type 0)
+    (told : Origin → List BookStep → (Raised → Type 0) → Type 0)
     (content : List Collection) (since : ℕ) (new : D) (kept : ℕ) : Type 0 where
-  pub format : Format
-  pub wear : ℕ
+  pub origin : Origin
+  pub start : origin.start ≡ content
   pub steps : List BookStep
   pub behind : Standing (List Collection)
-  pub legal : IsLegal catalog_meaning catalog_making (opening format content wear) steps behind
-  pub owned : AreOwned steps
-  pub told_of : told steps (WasKept g new content (committed_by steps) since)
+  pub history : IsHistory origin steps behind
+  pub told_of : told origin steps (WasKept g new content (committed_by steps) since)
   pub any_moment : (bytes : List ℕ) → g.left_since new since bytes →
       Yields content (committed_by steps) [] bytes
   pub stop : (bytes : List ℕ) → g.may_leave new bytes →
@@ -115,7 +112,8 @@ pub record IsWorkedOn {D : Type 0} (g : Ghosts D)
 -- went on from that, and what is said of a stop at any moment is said of each since the opening
 -- began.
 pub record WasOpened {D : Type 0} (g : Ghosts D)
-    (told : List BookStep → (Raised → Type 0) → Type 0) (old new : D) (kept : ℕ) : Type 0 where
+    (told : Origin → List BookStep → (Raised → Type 0) → Type 0) (old new : D) (kept : ℕ) :
+    Type 0 where
   pub opened : D
   pub keeps : g.is_honest opened →
       KeepsContent g.seen g.may_leave g.moment g.left_since old opened
@@ -127,7 +125,7 @@ pub record WasOpened {D : Type 0} (g : Ghosts D)
 abbrev pub IsLeftByWork : {D : Type 0} (g : Ghosts D) → (old new : D) → (kept : ℕ) → Type 0
 IsLeftByWork g old new kept =
     (g.is_honest new → KeepsContent g.seen g.may_leave g.moment g.left_since old new)
-    ⊎ WasOpened g (λ steps was_kept. Unit {0}) old new kept
+    ⊎ WasOpened g (λ origin steps was_kept. Unit {0}) old new kept
 
 -- A store was closed, and this is its disk, and its keeper's mark. parts: of what the clients had
 -- seen and loaded that was compared.

@@ -1,5 +1,5 @@
 // A program's work on the store of a disk.
-ghost use Rattle.std.specs.Prelude.{◌≡◌, ◌++◌, All, Contains, Ok, Err, IfOk, IsOkUnless};
+ghost use Rattle.std.specs.Prelude.{◌≡◌, ◌++◌, All, Contains, Err, IfOk, IsOk, IsOkUnless};
 ghost use Rattle.std.specs.Prelude.{MatchResult, vec_len};
 ghost use Rattle.std.specs.Thread.{IsSend, IsSync};
 ghost use mathlib.Core.List.{IsPrefix};
@@ -26,12 +26,13 @@ use store::{Client, Naming, Opened, Seen, Store};
 pub trait Work {
     ghost use Rattle.std.specs.Prelude.{ℕ, ⊤};
     ghost use Rattle.clients.specs.Known.{Known};
+    ghost use Rattle.clients.specs.Origins.{Origin};
 
     type Output: Send + Drop;
 
-    /// What the answer of the thread of this number says of what its client knows at the end, of
-    /// the history and of the mark.
-    ghost says: { Self → ℕ → Self.Output → Known → Type 0 } = { λ _ _ _ _. ⊤ };
+    /// What the answer of the thread of this number, on a store that was opened so, says of what
+    /// its client knows at the end, of the history and of the mark.
+    ghost says: { Self → Origin → ℕ → Self.Output → Known → Type 0 } = { λ _ _ _ _ _. ⊤ };
 
     /// What the thread of this number does; they are counted from 0. The client is its own. What it
     /// leaves open is taken back behind the work, so a `?` leaves no lock.
@@ -42,7 +43,7 @@ pub trait Work {
         thread: usize,
     ) -> Self::Output
         requires { client.old ≡ newcomer client.old.number }
-        ensures { says self.now thread result client.new };
+        ensures { says self.now J.origin thread result client.new };
 }
 
 /// The disk of a store that was worked on and closed.
@@ -90,14 +91,15 @@ type Ended<O, J> = Result<(O, Seen<J>), Refusal>;
 /// On a disk at rest that reads true until it is open, and whose bytes stand for a content, a stop
 /// in the opening leaves the content, and one behind the call a beginning of what was committed,
 /// which has all commits up to `kept`. One at any moment since the opening began leaves a beginning
-/// too, and from the moment on at which a thread could be told that so many commits are kept, it has
-/// them. What a thread's client has seen begins the history of these commits, and no count of kept
-/// commits that it was told is past `kept`: so a commit that a thread was told is kept is there, from
-/// then on. Each answer says of its client what `Work::says` says.
+/// too, and from the moment on at which a thread could be told that so many commits are kept, it
+/// has them. What a thread's client has seen begins the history of these commits, and no count of
+/// kept commits that it was told is past `kept`: so a commit that a thread was told is kept is
+/// there, from then on. Each answer says of its client what `Work::says` says.
 ///
 /// The refusals of `Opened::open`, and NoMemory where the committer's thread or the checkpointer's
-/// cannot be started: no work is begun then. NoMemory also where the answers take more than there is, and Worn where a
-/// thread above the 65,536th wants a client: then some of the work may be done.
+/// cannot be started: no work is begun then. NoMemory also where the answers take more than there
+/// is, and Worn where a thread above the 65,536th wants a client: then some of the work may be
+/// done.
 pub fn run<D: Disk + Drop + Send, W: Work + Sync, R: Threads + Wait + Clock + AllocGlobal + Sync>(
     rt: &R,
     disk: D,
@@ -106,7 +108,8 @@ pub fn run<D: Disk + Drop + Send, W: Work + Sync, R: Threads + Wait + Clock + Al
 ) -> (Result<Vec<W::Output>, Refusal>, Closed<D>)
     ensures answers { IfOk result.0 (λ answers. vec_len answers ≡ threads) }
     ensures opened { IfOk result.0 (λ answers. WasOpened ⟦<D as Disk>⟧
-        (AreTold (W.says work.now) answers.items result.1.kept) disk result.1.disk result.1.kept) }
+        (λ o. AreTold (W.says work.now o) answers.items result.1.kept) disk result.1.disk
+        result.1.kept) }
     ensures left { IsLeftByWork ⟦<D as Disk>⟧ disk result.1.disk result.1.kept }
 {
     match Opened::open(rt.alloc(), disk) {
@@ -137,7 +140,7 @@ fn run_opened<
     requires { IsNamed ⟦<J as Naming>⟧ ⟦<D as Disk>⟧ opened }
     ensures answers { IfOk result.0 (λ answers. vec_len answers ≡ threads) }
     ensures closed { IsClosed ⟦<J as Naming>⟧ ⟦<D as Disk>⟧ (λ seen counts. IfOk result.0
-        (λ answers. AreParts (W.says work.now) answers.items seen counts)) result.1.disk
+        (λ answers. AreParts (W.says work.now J.origin) answers.items seen counts)) result.1.disk
         result.1.kept }
 {
     let store = opened.named::<J>();
@@ -180,10 +183,10 @@ fn gather<J: Naming, D: Disk, W: Work>(
     work: &W,
     ended: Vec<Ended<W::Output, J>>,
 ) -> Result<(Vec<W::Output>, Option<Seen<J>>), Refusal>
-    requires { AreSaid (W.says work.now) ended.items (vec_len ended) }
+    requires { AreSaid (W.says work.now J.origin) ended.items (vec_len ended) }
     ensures len { IfOk result (λ r. vec_len r.0 ≡ vec_len ended) }
     ensures parts { IfOk result (λ r.
-        AreParts (W.says work.now) r.0.items (seen_of r.1) (counts_of r.1)) }
+        AreParts (W.says work.now J.origin) r.0.items (seen_of r.1) (counts_of r.1)) }
 {
     let _ = work;
     let mut answers = Vec::new(alloc);
@@ -226,7 +229,7 @@ fn run_beside<
     threads: usize,
 ) -> Result<Vec<Ended<W::Output, J>>, Refusal>
     ensures len { IfOk result (λ ended. vec_len ended ≡ threads) }
-    ensures said { IfOk result (λ ended. AreSaid (W.says work.now) ended.items threads) }
+    ensures said { IfOk result (λ ended. AreSaid (W.says work.now J.origin) ended.items threads) }
 {
     thread::scope(
         thread::scope_env(),
@@ -235,7 +238,7 @@ fn run_beside<
             requires { IsSend J.row × IsSync J.row × IsSync S.row × IsSync W.row × IsSync R.row }
             ensures len { IfOk result (λ ended. vec_len ended ≡ threads) }
             ensures said { IfOk result (λ ended.
-                AreSaid (W.says work.entry.now) ended.items threads) }
+                AreSaid (W.says work.entry.now J.origin) ended.items threads) }
         {
             let keeping = start(scope, rt, store, checkpoints)?;
             let done = work_all::<J, S, W, R>(rt, store, work, threads);
@@ -254,10 +257,10 @@ fn work_all<
     R: Threads + Wait + Clock + AllocGlobal + Sync,
 >(rt: &R, store: &S, work: &W, threads: usize) -> Result<Vec<Ended<W::Output, J>>, Refusal>
     ensures len { IfOk result (λ ended. vec_len ended ≡ threads) }
-    ensures said { IfOk result (λ ended. AreSaid (W.says work.now) ended.items threads) }
+    ensures said { IfOk result (λ ended. AreSaid (W.says work.now J.origin) ended.items threads) }
 {
     let one = |thread: usize| -> Ended<W::Output, J>
-        ensures { IfOk result (λ e. IsSaid (W.says work.entry.now) thread e.0 e.1) }
+        ensures { IfOk result (λ e. IsSaid (W.says work.entry.now J.origin) thread e.0 e.1) }
     { work_one::<J, S, W, R>(rt, store, work, thread) };
     Ok(thread::map_indices(rt, rt.alloc(), threads, &one)?)
 }
@@ -269,7 +272,7 @@ fn work_one<J: Naming, S: Clients<J>, W: Work, R: Wait + Clock + AllocGlobal>(
     work: &W,
     thread: usize,
 ) -> Ended<W::Output, J>
-    ensures { IfOk result (λ e. IsSaid (W.says work.now) thread e.0 e.1) }
+    ensures { IfOk result (λ e. IsSaid (W.says work.now J.origin) thread e.0 e.1) }
 {
     let mut client = store.client(rt)?;
     let answer = work.work::<J, R>(rt, &mut client, thread);
@@ -278,12 +281,13 @@ fn work_one<J: Naming, S: Clients<J>, W: Work, R: Wait + Clock + AllocGlobal>(
 }
 
 /// Refused with the first refusal that threads answered, if there is one.
-pub fn all_ended(ended: &[Result<(), Refusal>]) -> Result<(), Refusal>
-    ensures { MatchResult result (λ _. All (λ end. end ≡ Ok tt) ended.now)
-        (λ e. Contains ended.now (Err e)) }
+pub fn all_ended<T>(ended: &[Result<T, Refusal>]) -> Result<(), Refusal>
+    ensures { MatchResult result (λ _. All IsOk ended.now) (λ e. Contains ended.now (Err e)) }
 {
     for end in ended {
-        (*end)?;
+        if let Err(refusal) = end {
+            return Err(*refusal);
+        }
     }
     Ok(())
 }

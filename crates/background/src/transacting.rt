@@ -38,7 +38,7 @@ pub fn transact<T: Transaction, J: Naming, R: Wait + Clock>(
 ) -> Result<(T::Output, Ticket), Refusal>
     ensures closed { OnOk result (client.new.phase ≡ Phase.Closed) }
     ensures committed { IfOk result (λ done. HasCommitted client.new done.1.place) }
-    ensures transacts { Transacts ⟦<J as Naming>⟧ (T.refuses transaction.now)
+    ensures transacts { Transacts J.origin (T.refuses transaction.now)
         (T.says transaction.now) (2 ^ 32 - 1) client.old result client.new }
 {
     transact_within(rt, client, transaction, u32::MAX)
@@ -56,7 +56,7 @@ pub fn transact_within<T: Transaction, J: Naming, R: Wait + Clock>(
 ) -> Result<(T::Output, Ticket), Refusal>
     ensures closed { OnOk result (client.new.phase ≡ Phase.Closed) }
     ensures committed { IfOk result (λ done. HasCommitted client.new done.1.place) }
-    ensures transacts { Transacts ⟦<J as Naming>⟧ (T.refuses transaction.now)
+    ensures transacts { Transacts J.origin (T.refuses transaction.now)
         (T.says transaction.now) attempts client.old result client.new }
 {
     client.upheld();
@@ -86,7 +86,7 @@ pub fn keep<T: Transaction, J: Naming, R: Wait + Clock>(
     ensures closed { OnOk result (client.new.phase ≡ Phase.Closed) }
     ensures committed { IfOk result (λ done. HasCommitted client.new done.1.place) }
     ensures kept { IfOk result (λ done. WasToldKept client.new done.1.place) }
-    ensures keeps { Keeps ⟦<J as Naming>⟧ (T.refuses transaction.now)
+    ensures keeps { Keeps J.origin (T.refuses transaction.now)
         (T.says transaction.now) (2 ^ 32 - 1) client.old result client.new }
 {
     keep_within(rt, client, transaction, u32::MAX)
@@ -104,7 +104,7 @@ pub fn keep_within<T: Transaction, J: Naming, R: Wait + Clock>(
     ensures closed { OnOk result (client.new.phase ≡ Phase.Closed) }
     ensures committed { IfOk result (λ done. HasCommitted client.new done.1.place) }
     ensures kept { IfOk result (λ done. WasToldKept client.new done.1.place) }
-    ensures keeps { Keeps ⟦<J as Naming>⟧ (T.refuses transaction.now)
+    ensures keeps { Keeps J.origin (T.refuses transaction.now)
         (T.says transaction.now) attempts client.old result client.new }
 {
     let (output, ticket) = transact_within(rt, client, transaction, attempts)?;
@@ -169,11 +169,11 @@ fn try_once<T: Transaction, J: Naming, R: Wait>(
     transaction: &T,
 ) -> Result<(T::Output, Ticket), Refusal>
     ensures committed { IfOk result (λ done. HasCommitted client.new done.1.place) }
-    ensures ran { IfOk result (λ done. Ran ⟦<J as Naming>⟧ (T.refuses transaction.now) 1
+    ensures ran { IfOk result (λ done. Ran J.origin (T.refuses transaction.now) 1
         (T.says transaction.now done.0) client.old done.1.place client.new) }
     ensures tried { IfErr result (λ _. (tried : List Action) ×
-        Tried ⟦<J as Naming>⟧ client.old tried client.new) }
-    ensures refused { IfErr result (λ e. IsRefused ⟦<J as Naming>⟧ (T.refuses transaction.now)
+        Tried J.origin client.old tried client.new) }
+    ensures refused { IfErr result (λ e. IsRefused J.origin (T.refuses transaction.now)
         client.old e client.new) }
 {
     match go_through(rt, client, transaction) {
@@ -186,9 +186,9 @@ fn try_once<T: Transaction, J: Naming, R: Wait>(
 // taking back.
 fn refused_by<J: Naming, R: Wait>(rt: &R, client: &mut Client<'_, J>, refusal: Refusal) -> Refusal
     ensures taken_back { ((result ≡ refusal) ×
-        TakesBack ⟦<J as Naming>⟧ client.old (Ok tt) client.new)
-        ⊎ TakesBack ⟦<J as Naming>⟧ client.old (Err result) client.new }
-    ensures tried { (tried : List Action) × Tried ⟦<J as Naming>⟧ client.old tried client.new }
+        TakesBack J.origin client.old (Ok tt) client.new)
+        ⊎ TakesBack J.origin client.old (Err result) client.new }
+    ensures tried { (tried : List Action) × Tried J.origin client.old tried client.new }
 {
     match take_back(rt, client) {
         Ok(()) => refusal,
@@ -203,11 +203,11 @@ fn go_through<T: Transaction, J: Naming, R: Wait>(
     transaction: &T,
 ) -> Result<(T::Output, Ticket), Refusal>
     ensures committed { IfOk result (λ done. HasCommitted client.new done.1.place) }
-    ensures ran { IfOk result (λ done. Ran ⟦<J as Naming>⟧ (T.refuses transaction.now) 1
+    ensures ran { IfOk result (λ done. Ran J.origin (T.refuses transaction.now) 1
         (T.says transaction.now done.0) client.old done.1.place client.new) }
     ensures tried { IfErr result (λ _. (tried : List Action) ×
-        Tried ⟦<J as Naming>⟧ client.old tried client.new) }
-    ensures stops { IfErr result (λ e. Stops ⟦<J as Naming>⟧ (T.refuses transaction.now)
+        Tried J.origin client.old tried client.new) }
+    ensures stops { IfErr result (λ e. Stops J.origin (T.refuses transaction.now)
         client.old e client.new) }
 {
     begin(rt, client)?;
@@ -218,9 +218,9 @@ fn go_through<T: Transaction, J: Naming, R: Wait>(
 
 // Begins a transaction. One that is open is taken back first.
 fn begin<J: Naming, R: Wait>(rt: &R, client: &mut Client<'_, J>) -> Result<(), Refusal>
-    ensures begun { OnOk result (Begins ⟦<J as Naming>⟧ client.old client.new) }
-    ensures refused { IfErr result (λ e. IsNotBegun ⟦<J as Naming>⟧ client.old e client.new) }
-    ensures tried { (tried : List Action) × Tried ⟦<J as Naming>⟧ client.old tried client.new }
+    ensures begun { OnOk result (Begins J.origin client.old client.new) }
+    ensures refused { IfErr result (λ e. IsNotBegun J.origin client.old e client.new) }
+    ensures tried { (tried : List Action) × Tried J.origin client.old tried client.new }
 {
     take_back(rt, client)?;
     let _number = client.begin()?;
@@ -230,8 +230,8 @@ fn begin<J: Naming, R: Wait>(rt: &R, client: &mut Client<'_, J>) -> Result<(), R
 // Takes the open transaction back, if there is one.
 fn take_back<J: Naming, R: Wait>(rt: &R, client: &mut Client<'_, J>) -> Result<(), Refusal>
     ensures closed { OnOk result (client.new.phase ≡ Phase.Closed) }
-    ensures taken_back { TakesBack ⟦<J as Naming>⟧ client.old result client.new }
-    ensures tried { (tried : List Action) × Tried ⟦<J as Naming>⟧ client.old tried client.new }
+    ensures taken_back { TakesBack J.origin client.old result client.new }
+    ensures tried { (tried : List Action) × Tried J.origin client.old tried client.new }
 {
     client.upheld();
     if client.is_open() {

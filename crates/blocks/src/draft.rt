@@ -1,7 +1,7 @@
 // A block in the making.
 ghost use Rattle.std.specs.Prelude.{◌≡◌, ◌+◌, ◌≤◌, ◌<◌, ◌^◌, [], ◌∷◌, ◌++◌, ◌↔◌, IsTrue, length};
 ghost use Rattle.std.specs.Prelude.{drop, ◌-◌, vec_len, vec_capacity, OnOk, OnErr, IfErr};
-ghost use Rattle.std.specs.Prelude.{IsOkUnless};
+ghost use Rattle.std.specs.Prelude.{IsOk, IsOkUnless};
 ghost use Rattle.gate_block.specs.Row.{IsBlockOf};
 ghost use Rattle.blocks.specs.Drafts.{HasPlace};
 ghost use Rattle.blocks.specs.Offers.{IsOffered};
@@ -103,12 +103,14 @@ impl Draft {
         self.bytes.len().saturating_sub(BLOCK_HEAD)
     }
 
-    // Makes room for a record of the length. NoMemory leaves the records.
+    // Makes room for a record of the length. NoMemory leaves the records, and comes only where there
+    // was no room.
     pub(crate) fn reserve(&mut self, len: usize) -> Result<(), Refusal>
         requires { len ≤ max_body }
         ensures room { OnOk result (HasPlace self.new len) }
         ensures records { self.new.records ≡ self.old.records }
         ensures refusal { IsOkUnless result Refusal.NoMemory }
+        ensures succeeds { HasPlace self.old len → IsOk result }
     {
         if self.bytes.len() < BLOCK_HEAD {
             self.bytes.resize(BLOCK_HEAD, 0)?;

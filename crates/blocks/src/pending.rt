@@ -118,7 +118,7 @@ impl Pending {
     /// Makes room for a record of the length, so that `push` can write it: in the block that is
     /// filled now, or in one more where it does not fit there.
     ///
-    /// NoMemory, which leaves the records.
+    /// NoMemory, which leaves the records, and comes only where there was no room.
     pub fn reserve(&mut self, len: usize) -> Result<(), Refusal>
         requires { len ≤ max_body }
         ensures room { OnOk result (HasRoomFor self.new len) }
@@ -126,6 +126,7 @@ impl Pending {
         ensures freezes { freezes self.new ≡ freezes self.old }
         ensures handed { self.new.handed ≡ self.old.handed }
         ensures refusal { IsOkUnless result Refusal.NoMemory }
+        ensures succeeds { HasRoomFor self.old len → IsOk result }
     {
         if self.fits(len) {
             return self.last.reserve(len);

@@ -1,3 +1,4 @@
 pub mod Commands
 pub mod Failures
 pub mod Effects
+pub mod Serving

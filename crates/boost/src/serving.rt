@@ -1,14 +1,16 @@
 // Serving a script: each of its clients runs in a thread of its own.
-ghost use Rattle.std.specs.Prelude.{◌≡◌, ◌⊎◌, ℕ, OnOk, IfErr, None, false};
+ghost use Rattle.std.specs.Prelude.{◌≡◌, ◌⊎◌, ℕ, List, All, OnOk, IfErr, IsOk, MatchResult, None};
+ghost use Rattle.std.specs.Prelude.{false};
 ghost use Rattle.boost.specs.declared.commands.failure.Failure.{Failure};
 ghost use Rattle.boost.specs.Commands.{IsUnderstood, IsOfStore, IsWhyUnplayed, IsNotUnderstoodAt};
+ghost use Rattle.boost.specs.Serving.{WasServed};
 ghost use Rattle.background.specs.Works.{IsLeftByWork};
+ghost use Rattle.script.specs.Scripts.{IsScriptOf};
 
 use crate::commands::{Failure, report};
-use crate::script_work::{Script, collect};
+use crate::script_work::Script;
 use background::{Closed, all_ended, run};
 use calls::Refusal;
-use crossbeam_channel::Receiver;
 use disk_model::Disk;
 use player::Said;
 use script::{Line, parse};
@@ -19,6 +21,9 @@ use std::rt::Clock;
 use std::sync::Wait;
 use std::thread::Threads;
 
+// What a thread answers of the client that it ran.
+type Told = Result<Option<Transcript>, Refusal>;
+
 /// Opens the store of a disk, runs each client of a script in a thread of its own, beside a thread
 /// that brings what they commit to the disk, and prints, once all have ended, each client's number,
 /// the number and the answer of each of its lines, and whether its last ticket is kept. Lines
@@ -27,7 +32,8 @@ use std::thread::Threads;
 ///
 /// On a disk at rest that reads true until it is open, and whose bytes are sound, a stop in the
 /// opening leaves the content, and one behind the call a beginning of what the clients committed,
-/// which has all that is kept.
+/// which has all that is kept. At status 0 each thread's transcript tells what the lines of its
+/// client were answered over the store.
 ///
 /// The status is 0 where all were served, lines that were refused among them; else a text goes to
 /// `err`, as `Failure` says: 3 for a script with a line that is not understood, of which no line is
@@ -49,6 +55,8 @@ pub fn serve<D: Disk + Drop + Send, R: Threads + Wait + Clock + AllocGlobal + Sy
     ensures understood { result.0 ≡ 0 → IsUnderstood script.now }
     ensures not_understood { result.0 ≡ 3 → (line : ℕ) × IsNotUnderstoodAt script.now line }
     ensures untouched { result.0 ≡ 3 → result.1.disk ≡ disk }
+    ensures served { result.0 ≡ 0 →
+        WasServed ⟦<D as Disk>⟧ script.now disk result.1.disk result.1.kept }
     ensures refused { result.0 ≡ 1 → IsUnderstood script.now ⊎ (result.1.disk ≡ disk) }
     ensures left { IsLeftByWork ⟦<D as Disk>⟧ disk result.1.disk result.1.kept }
     ensures silent { why ≡ false → (result.0 ≡ 0) ⊎ (result.0 ≡ 4) → err.new ≡ err.old }
@@ -83,6 +91,8 @@ fn serve_script<D: Disk + Drop + Send, R: Threads + Wait + Clock + AllocGlobal +
     out: &mut impl Write,
 ) -> (Result<(), Failure<'static>>, Closed<D>)
     ensures understood { OnOk result.0 (IsUnderstood script.now) }
+    ensures served { OnOk result.0
+        (WasServed ⟦<D as Disk>⟧ script.now disk result.1.disk result.1.kept) }
     ensures why { IfErr result.0 (IsWhyUnplayed script.now (result.1.disk ≡ disk)) }
     ensures left { IsLeftByWork ⟦<D as Disk>⟧ disk result.1.disk result.1.kept }
 {
@@ -100,13 +110,14 @@ fn serve_lines<D: Disk + Drop + Send, R: Threads + Wait + Clock + AllocGlobal + 
     out: &mut impl Write,
 ) -> (Result<(), Failure<'static>>, Closed<D>)
     ensures why { IfErr result.0 IsOfStore }
+    ensures served { OnOk result.0 ((script : List ℕ) → IsScriptOf lines.now script →
+        WasServed ⟦<D as Disk>⟧ script disk result.1.disk result.1.kept) }
     ensures left { IsLeftByWork ⟦<D as Disk>⟧ disk result.1.disk result.1.kept }
 {
     match Script::new(rt.alloc(), lines) {
-        Ok((script, receiver)) => {
+        Ok(script) => {
             let (ended, closed) = run(rt, disk, &script, script.threads());
-            drop(script);
-            (print(rt, ended, receiver, out), closed)
+            (print(rt.alloc(), ended, out), closed)
         }
         Err(refusal) => (Err(Failure::Refused(refusal)), untouched(disk)),
     }
@@ -125,31 +136,28 @@ fn untouched<D: Disk>(disk: D) -> Closed<D>
 }
 
 // Prints what the clients were told, and answers whether each of them told it.
-fn print<R: Wait + AllocGlobal>(
-    rt: &R,
-    ended: Result<Vec<Result<(), Refusal>>, Refusal>,
-    receiver: Receiver<Transcript>,
+fn print(
+    alloc: Global,
+    ended: Result<Vec<Told>, Refusal>,
     out: &mut impl Write,
 ) -> Result<(), Failure<'static>>
-    ensures { IfErr result IsOfStore }
+    ensures why { IfErr result IsOfStore }
+    ensures all { OnOk result (MatchResult ended (λ answers. All IsOk answers.items) (λ e. ⊥)) }
 {
-    let ended = ended?;
-    let transcripts = collect(rt, rt.alloc(), receiver)?;
-    print_all(rt.alloc(), transcripts.as_slice(), out)?;
-    Ok(all_ended(ended.as_slice())?)
+    let answers = ended?;
+    print_all(alloc, answers.as_slice(), out)?;
+    Ok(all_ended(answers.as_slice())?)
 }
 
-// Prints transcripts, one after another.
-fn print_all(
-    alloc: Global,
-    transcripts: &[Transcript],
-    out: &mut impl Write,
-) -> Result<(), Failure<'static>>
+// Prints the transcripts among the answers, one after another.
+fn print_all(alloc: Global, answers: &[Told], out: &mut impl Write) -> Result<(), Failure<'static>>
     ensures { IfErr result IsOfStore }
 {
     let mut out = BufWriter::new(alloc, out)?;
-    for transcript in transcripts {
-        write!(out, "{transcript}")?;
+    for answer in answers {
+        if let Ok(Some(transcript)) = answer {
+            write!(out, "{transcript}")?;
+        }
     }
     Ok(out.flush()?)
 }

@@ -9,7 +9,7 @@ ghost use Rattle.std.specs.Prelude.{◌≡◌, ◌↔◌, IsTrue, OnOk, OnErr, I
 ghost use Rattle.std.specs.Option.{option_to_list};
 ghost use Rattle.calls.specs.declared.refusal.Refusal.{Refusal};
 ghost use Rattle.calls.specs.Rules.{need_of, inverse_of, Askable, Disposable, left_by};
-ghost use Rattle.calls.specs.Rules.{TakesNoMemory, AsksForValue};
+ghost use Rattle.calls.specs.Rules.{TakesNoMemory, AsksForValue, PutsNothingBack};
 ghost use Rattle.calls.specs.Formats.{widest};
 ghost use Rattle.boosted.specs.Meaning.{Meaning, HasReply, HasRoom, CanAsk, CanDefer, AskRefused};
 ghost use Rattle.boosted.specs.Meaning.{DeferRefused};
@@ -88,11 +88,12 @@ pub trait Boosted: Drop {
     }
 
     /// The call that takes back what a call did, answered so; none where it changed nothing.
-    /// NoMemory only for a call that holds a value.
+    /// NoMemory only for one that puts a value back.
     fn inverse(call: &Call, reply: &Reply) -> Result<Option<Call>, Refusal>
         requires { Askable call.now }
         ensures ok { IfOk result (λ back. back ≡ inverse_of call.now reply.now) }
         ensures refusal { IsOkUnless result Refusal.NoMemory }
+        ensures value { OnErr result (PutsNothingBack call.now reply.now → ⊥) }
     {
         call.inverse(reply)
     }

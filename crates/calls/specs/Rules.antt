@@ -259,6 +259,11 @@ AsksForValue (Call.MapRemove k) = Unit {0}
 AsksForValue (Call.Ceiling k) = Unit {0}
 AsksForValue c = ⊥
 
+-- The call, answered so, is taken back without memory: its inverse, where there is one, puts nothing in, and no reply of it
+-- holds a value.
+abbrev pub IsUndoneInPlace : Call → Reply → Type 0
+IsUndoneInPlace c r = (back : Call) → inverse_of c r ≡ Some back → TakesNoMemory back × (AsksForValue back → ⊥)
+
 -- A client can put the call off to its commit.
 abbrev pub Deferrable : Call → Type 0
 Deferrable (Call.Bump n) = IsStep n

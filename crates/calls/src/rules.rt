@@ -1,7 +1,7 @@
 // What of a call does not depend on a content: its need, its inverse, what it leaves, and who may
 // ask for it.
-ghost use Rattle.std.specs.Prelude.{◌≡◌, ◌↔◌, IsTrue, IsOk, IfOk, IfErr, IsOkUnless, MatchOption};
-ghost use Rattle.std.specs.Prelude.{Some};
+ghost use Rattle.std.specs.Prelude.{◌≡◌, ◌↔◌, ℕ, List, Some, IsTrue, IsOk, IfOk, IfErr, OnErr};
+ghost use Rattle.std.specs.Prelude.{IsOkUnless, MatchOption};
 ghost use Rattle.std.specs.Option.{option_to_list};
 ghost use Rattle.calls.specs.declared.call.Call.{Call};
 ghost use Rattle.calls.specs.declared.refusal.Refusal.{Refusal};
@@ -108,6 +108,7 @@ impl Call {
         requires { Askable self.now }
         ensures ok { IfOk result (λ back. back ≡ inverse_of self.now reply.now) }
         ensures refusal { IsOkUnless result Refusal.NoMemory }
+        ensures value { OnErr result (PutsNothingBack self.now reply.now → ⊥) }
     {
         match self.taken_entry(reply) {
             Some((key, old)) => Ok(Some(Call::Put(key, old.clone()?))),
@@ -120,6 +121,7 @@ impl Call {
     pub fn undone_by(&self, reply: &Reply) -> Result<Reply, Refusal>
         ensures ok { IfOk result (λ undone. undone ≡ undone_by self.now reply.now) }
         ensures refusal { IsOkUnless result Refusal.NoMemory }
+        ensures value { OnErr result ((v : List ℕ) × (undone_by self.now reply.now ≡ Reply.Value v)) }
     {
         match (self, reply) {
             (Call::SetAdd(_) | Call::SetRemove(_), Reply::Yes) => Ok(Reply::Yes),

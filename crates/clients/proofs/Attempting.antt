@@ -32,7 +32,8 @@ fits_as n a b same fits = subst (IsOfCalls n) (sym same) fits
 
 module _ {J : Type 0} (j : Ghosts J) where
   -- it is what the client did
-  done_is : (old new : Known) (made : List Action) → Grows j old.number old.seen made new.seen →
+  done_is : (old new : Known) (made : List Action) →
+      Grows j.origin old.number old.seen made new.seen →
       done_since old new ≡ made
   done_is old new made grows =
       ap (λ l. map (λ (x : BookStep). x.action) (drop (length (steps_of old.number old.seen)) l))
@@ -47,16 +48,17 @@ module _ {J : Type 0} (j : Ghosts J) where
 
   -- steps of the client behind those of an attempt
   behind : (n : ℕ) (old now new : Known) (made firsts : List Action) (last : Action) →
-      Attempts j n old made now → Acts j now firsts last new →
+      Attempts j.origin n old made now → Acts j.origin now firsts last new →
       AllByRecursion (IsOfCalls n) (firsts ++ last ∷ []) →
       IsOpenUnder n (made ++ (firsts ++ last ∷ [])) new.phase →
-      Attempts j n old (made ++ (firsts ++ last ∷ [])) new
+      Attempts j.origin n old (made ++ (firsts ++ last ∷ [])) new
   behind n old now new made firsts last is acts calls opened =
       let same : now.number ≡ old.number = ap (λ (k : Known). k.number) is.moves in record {
         moves = moves_then j old now new is.moves acts.0;
         grows = grows_then j old.number old.seen now.seen new.seen made (firsts ++ last ∷ [])
             is.grows
-            (subst (λ k. Grows j k now.seen (firsts ++ last ∷ []) new.seen) same acts.1.grows);
+            (subst (λ k. Grows j.origin k now.seen (firsts ++ last ∷ []) new.seen) same
+            acts.1.grows);
         are_calls = each_append (IsOfCalls n) made (firsts ++ last ∷ []) is.are_calls calls;
         is_open = opened;
       }
@@ -64,9 +66,10 @@ module _ {J : Type 0} (j : Ghosts J) where
   module _ (own : ℕ → Action → Type 0) (refused : Refusal → Type 0)
       (fits : (n : ℕ) (a : Action) → own n a → IsOfCalls n a) where
     goes_on : (n : ℕ) (old now new : Known) (made : List Action) (p : Phase) →
-        Attempts j n old made now → IsOpenUnder n made p →
-        Does j p now own refused (λ m. Phase.Entered m) new →
-        (more : List Action) × (Attempts j n old (made ++ more) new × IsCalled own refused n more)
+        Attempts j.origin n old made now → IsOpenUnder n made p →
+        Does j.origin p now own refused (λ m. Phase.Entered m) new →
+        (more : List Action) × (Attempts j.origin n old (made ++ more) new ×
+        IsCalled own refused n more)
     goes_on n old now new made Phase.Closed is opened does = absurd opened
     goes_on n old now new made (Phase.Entered m) is opened does =
         let mine : own n does.0 = subst (λ k. own k does.0) opened does.1 in (
@@ -102,14 +105,15 @@ module _ {J : Type 0} (j : Ghosts J) where
     ]
 
     -- one call more
-    pub going_on : (n : ℕ) (old now new : Known) → Attempts j n old (done_since old now) now →
-        Does j now.phase now own refused (λ m. Phase.Entered m) new →
-        Attempts j n old (done_since old new) new ×
+    pub going_on : (n : ℕ) (old now new : Known) →
+        Attempts j.origin n old (done_since old now) now →
+        Does j.origin now.phase now own refused (λ m. Phase.Entered m) new →
+        Attempts j.origin n old (done_since old new) new ×
         Adds own refused (done_since old now) (done_since old new)
     going_on n old now new is does =
         let next = goes_on n old now new (done_since old now) now.phase is is.is_open does in
         let made = done_is old new (done_since old now ++ next.0) next.1.0.grows in (
-          subst (λ l. Attempts j n old l new) (sym made) next.1.0,
+          subst (λ l. Attempts j.origin n old l new) (sym made) next.1.0,
           (n, next.0, next.1.1, made),
         )
 
@@ -121,5 +125,5 @@ module _ {J : Type 0} (j : Ghosts J) where
 
   pub attempt_open : {A : Type 0} (says : A → List Action → Type 0)
       (refuses : Refusal → List Action → Type 0) (n : ℕ) (old new : Known) (r : Result A Refusal) →
-      IsAttempt j says refuses n old r new → IsOpen new.phase
+      IsAttempt j.origin says refuses n old r new → IsOpen new.phase
   attempt_open says refuses n old new r is = open_under n is.0 new.phase is.1.is_open

@@ -47,7 +47,8 @@ Book = BookState (List Collection)
 module _ {J : Type 0} (j : Ghosts J) where
   -- a book that was just opened
   pub desk_opens : (book : Book) (seat : lines.BookState) (sender : SenderState)
-      (near : AccordState) → book ≡ opened j.format j.start j.next j.wear →
+      (near : AccordState) → book ≡ opened j.origin.format j.origin.start j.origin.next
+      j.origin.wear →
       seat ≡ record { table = j.line; all = []; clients = 0 } →
       sender ≡ record { table = j.handoff; sent = []; noted = [] } →
       near ≡ record { table = j.gathering; gather = nothing_gathered } →
@@ -57,11 +58,13 @@ module _ {J : Type 0} (j : Ghosts J) where
         line = refl;
         handoff = refl;
         gathering = refl;
-        gathered = gathered_none (λ v. v) (opened j.format j.start j.next j.wear);
+        gathered = gathered_none (λ v. v)
+            (opened j.origin.format j.origin.start j.origin.next j.origin.wear);
         groups = [];
-        handed = opens catalog_meaning catalog_making (λ v. v) j.format j.start j.wear j.next;
+        handed = opens catalog_meaning catalog_making (λ v. v) j.origin.format j.origin.start
+            j.origin.wear j.origin.next;
         owned = tt;
-        recorded = λ s. recorded_none j.format j.start j.wear;
+        recorded = λ s. recorded_none j.origin.format j.origin.start j.origin.wear;
       })
 
   -- one client more was made
@@ -92,7 +95,8 @@ module _ {J : Type 0} (j : Ghosts J) where
 
     -- a step that hands nothing over
     pub desk_takes : (action : Action) (new : BookState S) (now : lines.BookState) →
-        MayTake (owners_behind no_owner seat.all) client action → Takes meaning making old action new →
+        MayTake (owners_behind no_owner seat.all) client action →
+        Takes meaning making old action new →
         AllByRecursion (IsRecord None) new.pending →
         Goes meaning making collections old action new → now ≡ stepped seat (step action) →
         IsDesk j (told_book collections new) now sender near
@@ -100,7 +104,8 @@ module _ {J : Type 0} (j : Ghosts J) where
         let after : Book = told_book collections new in
         let took = takes_told told old new action takes in
         let rs = records_then seat.all action in
-        let left = taken_left catalog_meaning catalog_making (λ v. v) j.format j.start j.wear
+        let left = taken_left catalog_meaning catalog_making (λ v. v) j.origin.format j.origin.start
+        j.origin.wear
         seat.all book
         after sender.sent is.groups (frozen_ends sender.noted) [] is.handed client action took in
         let more : AllByRecursion (IsRecord None) rs = each_back (IsRecord None) book.pending rs
@@ -113,25 +118,30 @@ module _ {J : Type 0} (j : Ghosts J) where
               (gathered_takes meaning making collections old new near.gather action takes goes
               (gathered_back collections old near.gather is.gathered));
           groups = is.groups;
-          handed = takes_on catalog_meaning catalog_making (λ v. v) j.format j.start j.wear seat.all
+          handed = takes_on catalog_meaning catalog_making (λ v. v) j.origin.format j.origin.start
+              j.origin.wear seat.all
               book
               after sender.sent is.groups (frozen_ends sender.noted) [] is.handed client action took
               good;
           owned = owned_then seat.all (step action) is.owned may;
           recorded = λ s.
               let had = is.recorded s in
-              subst (λ l. AreRecorded j.format j.start j.wear l (journalled after.state)
+              subst (λ l. AreRecorded j.origin.format j.origin.start j.origin.wear l
+              (journalled after.state)
               sender.noted)
               (sym (records_by-push seat.all (step action)))
               (⊎_elim
               (λ (leads : Repeats rs (journalled book.state) (journalled after.state)).
-              recorded_leads j.format j.start j.wear sender.noted (records_by seat.all)
+              recorded_leads j.origin.format j.origin.start j.origin.wear sender.noted
+              (records_by seat.all)
               (journalled book.state) rs (journalled after.state) more leads had)
               (λ unheard. subst
-              (λ l. AreRecorded j.format j.start j.wear l (journalled after.state) sender.noted)
+              (λ l. AreRecorded j.origin.format j.origin.start j.origin.wear l
+              (journalled after.state) sender.noted)
               (sym (append-nil (records_by seat.all)) ∙
               ap (λ l. records_by seat.all ++ l) (sym unheard.0))
-              (recorded_unheard j.format j.start j.wear sender.noted (records_by seat.all)
+              (recorded_unheard j.origin.format j.origin.start j.origin.wear sender.noted
+              (records_by seat.all)
               (journalled book.state) (journalled after.state) unheard.1 had))
               left.leads);
         })
@@ -140,7 +150,8 @@ module _ {J : Type 0} (j : Ghosts J) where
     pub takes_format : (action : Action) (new : BookState S) → Takes meaning making old action new →
         new.state.format ≡ old.state.format
     takes_format action new takes =
-        let left = taken_left catalog_meaning catalog_making (λ v. v) j.format j.start j.wear
+        let left = taken_left catalog_meaning catalog_making (λ v. v) j.origin.format j.origin.start
+        j.origin.wear
         seat.all book
         (told_book collections new) sender.sent is.groups (frozen_ends sender.noted) [] is.handed
         client action (takes_told told old new action takes) in
@@ -152,7 +163,8 @@ module _ {J : Type 0} (j : Ghosts J) where
 
   abbrev Handed : List BookStep → Book → List Block → List (List Record) → List ℕ → Type 0
   Handed steps book sent groups freezes =
-      HasHanded catalog_meaning catalog_making (λ v. v) j.format j.start j.wear steps book sent
+      HasHanded catalog_meaning catalog_making (λ v. v) j.origin.format j.origin.start j.origin.wear
+      steps book sent
       groups
       freezes []
 
@@ -175,7 +187,8 @@ module _ {J : Type 0} (j : Ghosts J) where
         action = Action.Cut (handed_count book.pending after.pending) a;
       }) → IsDesk j after now ends near
   desk_cuts book seat sender near is after now ends full a cut now_is =
-      let on = cuts_on catalog_meaning catalog_making (λ v. v) j.format j.start j.wear seat.all book
+      let on = cuts_on catalog_meaning catalog_making (λ v. v) j.origin.format j.origin.start
+      j.origin.wear seat.all book
       after
       sender.sent is.groups (frozen_ends sender.noted) [] is.handed None
       (λ bs. IsSent sender bs ends) full a cut in
@@ -202,12 +215,15 @@ module _ {J : Type 0} (j : Ghosts J) where
             on.4));
         owned = owned_then seat.all step is.owned refl;
         recorded = λ s.
-            subst (λ l. AreRecorded j.format j.start j.wear (records_by (seat.all ++ step ∷ []))
+            subst (λ l. AreRecorded j.origin.format j.origin.start j.origin.wear
+            (records_by (seat.all ++ step ∷ []))
             (journalled after.state) l) (sym on.3.noted)
-            (subst (λ l. AreRecorded j.format j.start j.wear l (journalled after.state)
+            (subst (λ l. AreRecorded j.origin.format j.origin.start j.origin.wear l
+            (journalled after.state)
             sender.noted)
             (sym same)
-            (subst (λ v. AreRecorded j.format j.start j.wear (records_by seat.all) v sender.noted)
+            (subst (λ v. AreRecorded j.origin.format j.origin.start j.origin.wear
+            (records_by seat.all) v sender.noted)
             (sym (ap (λ (x : Book). journalled x.state) cut.1)) (is.recorded s)));
       })
 

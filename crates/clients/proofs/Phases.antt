@@ -14,7 +14,7 @@ module _ {J : Type 0} (j : Ghosts J) where
   -- behind a call the transaction is open
   pub does_open : (p : Phase) (old : Known) (own : ℕ → Action → Type 0)
       (refused : Refusal → Type 0) (new : Known) →
-      Does j p old own refused Phase.Entered new → IsOpen new.phase
+      Does j.origin p old own refused Phase.Entered new → IsOpen new.phase
   does_open Phase.Closed old own refused new does = absurd does
   does_open (Phase.Entered n) old own refused new does = subst IsOpen (sym does.3) tt
   does_open (Phase.Drawn n) old own refused new does = elim does [
@@ -23,7 +23,7 @@ module _ {J : Type 0} (j : Ghosts J) where
   ]
 
   pub enters_open : (p : Phase) (old : Known) (e : Refusal) (new : Known) →
-      Enters j p old (Err e) new → IsOpen new.phase
+      Enters j.origin p old (Err e) new → IsOpen new.phase
   enters_open Phase.Closed old e new enters = absurd enters
   enters_open (Phase.Entered n) old e new enters = absurd (ok_no_err n e (sym enters.0))
   enters_open (Phase.Drawn n) old e new enters = subst IsOpen (sym enters.1) tt
@@ -31,7 +31,7 @@ module _ {J : Type 0} (j : Ghosts J) where
   -- where the entering is refused, the call is
   pub does_refused : (p : Phase) (old : Known) (own : ℕ → Action → Type 0)
       (refused : Refusal → Type 0) (after : ℕ → Phase) (e : Refusal) (new : Known) →
-      Enters j p old (Err e) new → refused e → Does j p old own refused after new
+      Enters j.origin p old (Err e) new → refused e → Does j.origin p old own refused after new
   does_refused Phase.Closed old own refused after e new enters is = absurd enters
   does_refused (Phase.Entered n) old own refused after e new enters is =
       absurd (ok_no_err n e (sym enters.0))

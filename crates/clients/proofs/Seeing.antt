@@ -20,7 +20,8 @@ use Rattle.group_commit.specs.declared.mark.Raised.{Raised}
 use Rattle.clients.specs.declared.naming.Naming.{Ghosts}
 use Rattle.clients.specs.Desks.{IsDesk}
 use Rattle.clients.specs.declared.phase.Phase.{Phase}
-use Rattle.clients.specs.Calls.{IsClient, HasOwn, Moves, Acts, Does, Enters, IsEntering, IsOpen, number_in}
+use Rattle.clients.specs.Calls.{IsClient, HasOwn, Moves, Acts, Does, Enters, IsEntering, IsOpen}
+use Rattle.clients.specs.Calls.{number_in}
 use Rattle.clients.specs.Calls.{back, backs, Hears, Decides, Waits}
 use Rattle.clients.specs.Known.{Known, known_of, step_of, IsHistory, IsSeen, Grows, Took, Steps}
 
@@ -33,7 +34,7 @@ module _ {J : Type 0} (j : Ghosts J) where
       (sender : SenderState) (near : AccordState) (old new : ClientState) (action : Action) →
       IsDesk j book now sender near → now ≡ stepped seat (step_of old.number action) →
       new ≡ seeing old now.all → IsPrefix old.seen seat.all →
-      mine_of new ≡ mine_of old ++ step_of old.number action ∷ [] → Steps j old action new
+      mine_of new ≡ mine_of old ++ step_of old.number action ∷ [] → Steps j.origin old action new
   steps_one book seat now sender near old new action is now_is new_is begins mine =
       let step = step_of old.number action in
       let all : new.seen ≡ seat.all ++ step ∷ [] =
@@ -51,7 +52,7 @@ module _ {J : Type 0} (j : Ghosts J) where
                 (sym (ap (λ (c : ClientState). c.number) new_is)) ∙ mine;
             legal = (
               standing book,
-              subst (λ l. IsHistory j l (standing book))
+              subst (λ l. IsHistory j.origin l (standing book))
                   (sym (ap (λ (c : ClientState). c.seen) new_is))
                   (record { legal = is.handed.legal; owned = is.owned }),
             );
@@ -62,7 +63,8 @@ module _ {J : Type 0} (j : Ghosts J) where
       )
 
   -- nothing was seen since
-  pub grows_none : (n : ℕ) (seen : List BookStep) → IsSeen j seen → Grows j n seen [] seen
+  pub grows_none : (n : ℕ) (seen : List BookStep) → IsSeen j.origin seen →
+      Grows j.origin n seen [] seen
   grows_none n seen legal = record {
     begins = ([], append-nil seen);
     mine = sym (append-nil (steps_of n seen));
@@ -70,7 +72,7 @@ module _ {J : Type 0} (j : Ghosts J) where
   }
 
   pub grows_then : (n : ℕ) (xs ys zs : List BookStep) (us vs : List Action) →
-      Grows j n xs us ys → Grows j n ys vs zs → Grows j n xs (us ++ vs) zs
+      Grows j.origin n xs us ys → Grows j.origin n ys vs zs → Grows j.origin n xs (us ++ vs) zs
   grows_then n xs ys zs us vs one two = record {
     begins = (
       one.begins.0 ++ two.begins.0,
@@ -85,7 +87,8 @@ module _ {J : Type 0} (j : Ghosts J) where
 
   -- one step more
   pub took_next : (n : ℕ) (xs ys zs : List BookStep) (firsts : List Action) (last : Action) →
-      Grows j n xs firsts ys → Took j n ys [] last zs → Took j n xs firsts last zs
+      Grows j.origin n xs firsts ys → Took j.origin n ys [] last zs →
+      Took j.origin n xs firsts last zs
   took_next n xs ys zs firsts last grows took = record {
     grows = grows_then n xs ys zs firsts (last ∷ []) grows took.grows;
     before = took.before;
@@ -100,8 +103,8 @@ module _ {J : Type 0} (j : Ghosts J) where
 
   -- a step of the line is one of the client
   pub acts_one : (old new : ClientState) (w : WatcherState) (d : DrawerState) (p q : Phase)
-      (action : Action) → Steps j old action new →
-      Acts j (known_of old w d p) [] action (known_of new w d q)
+      (action : Action) → Steps j.origin old action new →
+      Acts j.origin (known_of old w d p) [] action (known_of new w d q)
   acts_one old new w d p q action steps = (
     ap (λ (c : ClientState). known_of c w d q) steps.0,
     steps.1,
@@ -109,30 +112,32 @@ module _ {J : Type 0} (j : Ghosts J) where
 
   -- and one more
   pub acts_next : (a b c : Known) (firsts : List Action) (mid last : Action) →
-      Acts j a firsts mid b → Acts j b [] last c → Acts j a (firsts ++ mid ∷ []) last c
+      Acts j.origin a firsts mid b → Acts j.origin b [] last c →
+      Acts j.origin a (firsts ++ mid ∷ []) last c
   acts_next a b c firsts mid last one two =
       let same : b.number ≡ a.number = ap (λ (x : Known). x.number) one.0 in (
         moves_then a b c one.0 two.0,
         took_next a.number a.seen b.seen c.seen (firsts ++ mid ∷ []) last one.1.grows
-            (subst (λ n. Took j n b.seen [] last c.seen) same two.1),
+            (subst (λ n. Took j.origin n b.seen [] last c.seen) same two.1),
       )
 
   -- ---- clients that meet
 
   pub longer_legal : (one other longer : List BookStep) → IsLonger one other longer →
-      IsSeen j one → IsSeen j other → IsSeen j longer
+      IsSeen j.origin one → IsSeen j.origin other → IsSeen j.origin longer
   longer_legal one other longer is a b =
-      ⊎_elim (λ e. subst (IsSeen j) (sym e) a) (λ e. subst (IsSeen j) (sym e) b) is.either
+      ⊎_elim (λ e. subst (IsSeen j.origin) (sym e) a) (λ e. subst (IsSeen j.origin) (sym e) b)
+      is.either
 
   pub client_meets : (old new : ClientState) (w : WatcherState) (d e : DrawerState)
-      (p q : Phase) (seen : List BookStep) → IsClient j old w d p → IsSeen j seen →
+      (p q : Phase) (seen : List BookStep) → IsClient j old w d p → IsSeen j.origin seen →
       new ≡ seeing old seen → e ≡ d → HasOwn q new → IsClient j new w e q
   client_meets old new w d e p q seen is legal new_is same own = record {
     line_is = ap (λ (c : ClientState). c.table) new_is ∙ is.line_is;
     mark_is = is.mark_is;
     numbers_is = ap (λ (x : DrawerState). x.table) same ∙ is.numbers_is;
     from = ap (λ (x : DrawerState). x.from) same ∙ is.from;
-    legal = subst (IsSeen j) (sym (ap (λ (c : ClientState). c.seen) new_is)) legal;
+    legal = subst (IsSeen j.origin) (sym (ap (λ (c : ClientState). c.seen) new_is)) legal;
     own = own;
   }
 
@@ -140,7 +145,7 @@ module _ {J : Type 0} (j : Ghosts J) where
 
   -- the number is entered then
   pub enters_phase : (p : Phase) (old mid : Known) (n : ℕ) → old.phase ≡ p →
-      Enters j p old (Ok n) mid → mid.phase ≡ Phase.Entered n
+      Enters j.origin p old (Ok n) mid → mid.phase ≡ Phase.Entered n
   enters_phase Phase.Closed old mid n at enters = absurd enters
   enters_phase (Phase.Entered m) old mid n at enters =
       ap (λ (k : Known). k.phase) enters.1 ∙ at ∙ ap Phase.Entered (sym (ok_same n m enters.0))
@@ -148,15 +153,16 @@ module _ {J : Type 0} (j : Ghosts J) where
 
   does_at : (p : Phase) (old mid new : Known) (n : ℕ) (own : ℕ → Action → Type 0)
       (refused : Refusal → Type 0) (after : ℕ → Phase) (action : Action) →
-      Enters j p old (Ok n) mid → own n action → Acts j mid [] action new → new.phase ≡ after n →
-      Does j p old own refused after new
+      Enters j.origin p old (Ok n) mid → own n action → Acts j.origin mid [] action new →
+      new.phase ≡ after n →
+      Does j.origin p old own refused after new
   does_at Phase.Closed old mid new n own refused after action enters its acts behind =
       absurd enters
   does_at (Phase.Entered m) old mid new n own refused after action enters its acts behind =
       let same = ok_same n m enters.0 in (
         action,
         subst (λ k. own k action) same its,
-        subst (λ k. Acts j k [] action new) enters.1 acts,
+        subst (λ k. Acts j.origin k [] action new) enters.1 acts,
         behind ∙ ap after same,
       )
   does_at (Phase.Drawn m) old mid new n own refused after action enters its acts behind = inl (
@@ -169,8 +175,9 @@ module _ {J : Type 0} (j : Ghosts J) where
   -- a step behind the entering
   pub does_next : (p : Phase) (old mid new : Known) (n : ℕ) (own : ℕ → Action → Type 0)
       (refused : Refusal → Type 0) (after : ℕ → Phase) (action : Action) → old.phase ≡ p →
-      Enters j p old (Ok n) mid → own n action → Acts j mid [] action new →
-      (mid.phase ≡ Phase.Entered n → new.phase ≡ after n) → Does j p old own refused after new
+      Enters j.origin p old (Ok n) mid → own n action → Acts j.origin mid [] action new →
+      (mid.phase ≡ Phase.Entered n → new.phase ≡ after n) →
+      Does j.origin p old own refused after new
   does_next p old mid new n own refused after action at enters its acts behind =
       does_at p old mid new n own refused after action enters its acts
       (behind (enters_phase p old mid n at enters))
@@ -179,47 +186,51 @@ module _ {J : Type 0} (j : Ghosts J) where
 
   -- what is done behind that is done
   pub does_entering : (p : Phase) (old mid new : Known) (own : ℕ → Action → Type 0)
-      (refused : Refusal → Type 0) (after : ℕ → Phase) → old.phase ≡ p → IsEntering j p old mid →
-      Does j mid.phase mid own refused after new → Does j p old own refused after new
+      (refused : Refusal → Type 0) (after : ℕ → Phase) → old.phase ≡ p →
+      IsEntering j.origin p old mid →
+      Does j.origin mid.phase mid own refused after new → Does j.origin p old own refused after new
   does_entering p old mid new own refused after at entering does = ⊎_elim
-      (λ same. subst (λ q. Does j q old own refused after new) at
-      (subst (λ (k : Known). Does j k.phase k own refused after new) same does))
-      (λ (entered : (n : ℕ) × Enters j p old (Ok n) mid).
+      (λ same. subst (λ q. Does j.origin q old own refused after new) at
+      (subst (λ (k : Known). Does j.origin k.phase k own refused after new) same does))
+      (λ (entered : (n : ℕ) × Enters j.origin p old (Ok n) mid).
       let n = entered.0 in
-      let so = subst (λ q. Does j q mid own refused after new)
+      let so = subst (λ q. Does j.origin q mid own refused after new)
       (enters_phase p old mid n at entered.1) does in
       does_at p old mid new n own refused after so.0 entered.1 so.1 so.2 so.3) entering
 
   -- and what is entered again is entered
   pub entering_again : (p : Phase) (old mid new : Known) → old.phase ≡ p →
-      IsEntering j p old mid → IsEntering j mid.phase mid new → IsEntering j p old new
+      IsEntering j.origin p old mid → IsEntering j.origin mid.phase mid new →
+      IsEntering j.origin p old new
   entering_again p old mid new at entering again = ⊎_elim
-      (λ same. subst (λ q. IsEntering j q old new) at
-      (subst (λ (k : Known). IsEntering j k.phase k new) same again))
-      (λ (entered : (n : ℕ) × Enters j p old (Ok n) mid).
+      (λ same. subst (λ q. IsEntering j.origin q old new) at
+      (subst (λ (k : Known). IsEntering j.origin k.phase k new) same again))
+      (λ (entered : (n : ℕ) × Enters j.origin p old (Ok n) mid).
       let n = entered.0 in
-      let stays = ⊎_elim (λ same. same) (λ (more : (m : ℕ) × Enters j (Phase.Entered n) mid (Ok m) new).
-      more.1.1) (subst (λ q. IsEntering j q mid new) (enters_phase p old mid n at entered.1) again) in
-      inr (n, subst (λ k. Enters j p old (Ok n) k) (sym stays) entered.1)) entering
+      let stays = ⊎_elim (λ same. same)
+      (λ (more : (m : ℕ) × Enters j.origin (Phase.Entered n) mid (Ok m) new).
+      more.1.1) (subst (λ q. IsEntering j.origin q mid new) (enters_phase p old mid n at entered.1)
+      again) in
+      inr (n, subst (λ k. Enters j.origin p old (Ok n) k) (sym stays) entered.1)) entering
 
   pub entering_open : (p : Phase) (old new : Known) → old.phase ≡ p → IsOpen p →
-      IsEntering j p old new → IsOpen new.phase
+      IsEntering j.origin p old new → IsOpen new.phase
   entering_open p old new at is entering = ⊎_elim
       (λ same. subst IsOpen (sym (ap (λ (k : Known). k.phase) same ∙ at)) is)
-      (λ (entered : (n : ℕ) × Enters j p old (Ok n) new).
+      (λ (entered : (n : ℕ) × Enters j.origin p old (Ok n) new).
       subst IsOpen (sym (enters_phase p old new entered.0 at entered.1)) tt) entering
 
   -- One that is refused as another is.
   pub does_refused_so : (p : Phase) (old new : Known) (own : ℕ → Action → Type 0)
       (refused so : Refusal → Type 0) (after : ℕ → Phase) → ((e : Refusal) → refused e → so e) →
-      Does j p old own refused after new → Does j p old own so after new
+      Does j.origin p old own refused after new → Does j.origin p old own so after new
   does_refused_so Phase.Closed old new own refused so after gives does = absurd does
   does_refused_so (Phase.Entered n) old new own refused so after gives does = does
   does_refused_so (Phase.Drawn n) old new own refused so after gives does =
       ⊎_elim (λ done. inl done) (λ none. inr (none.0, gives none.0 none.1, none.2, none.3)) does
 
   -- The number that is entered is the transaction's.
-  pub entered_number : (p : Phase) (old new : Known) (n : ℕ) → Enters j p old (Ok n) new →
+  pub entered_number : (p : Phase) (old new : Known) (n : ℕ) → Enters j.origin p old (Ok n) new →
       number_in p ≡ n
   entered_number Phase.Closed old new n enters = absurd enters
   entered_number (Phase.Entered m) old new n enters = sym (ok_same n m enters.0)
@@ -227,25 +238,26 @@ module _ {J : Type 0} (j : Ghosts J) where
 
   -- one call more is undone
   pub undoes_next : (n : ℕ) (a b c : Known) (count : ℕ) → Moves a b →
-      Grows j a.number a.seen (backs n count) b.seen → Acts j b [] (back n (Ok true)) c →
-      Moves a c × Grows j a.number a.seen (backs n (count + 1)) c.seen
+      Grows j.origin a.number a.seen (backs n count) b.seen →
+      Acts j.origin b [] (back n (Ok true)) c →
+      Moves a c × Grows j.origin a.number a.seen (backs n (count + 1)) c.seen
   undoes_next n a b c count moves grows acts =
       let same : b.number ≡ a.number = ap (λ (x : Known). x.number) moves in
       let more = took_next a.number a.seen b.seen c.seen (backs n count) (back n (Ok true)) grows
-      (subst (λ m. Took j m b.seen [] (back n (Ok true)) c.seen) same acts.1) in (
+      (subst (λ m. Took j.origin m b.seen [] (back n (Ok true)) c.seen) same acts.1) in (
         moves_then a b c moves acts.0,
-        subst (λ l. Grows j a.number a.seen l c.seen)
+        subst (λ l. Grows j.origin a.number a.seen l c.seen)
             (replicate-append-replicate count 1 (back n (Ok true))) more.grows,
       )
 
   pub undoes_last : (n : ℕ) (a b c : Known) (count : ℕ) (last : Action) → Moves a b →
-      Grows j a.number a.seen (backs n count) b.seen → Acts j b [] last c →
-      Acts j a (backs n count) last c
+      Grows j.origin a.number a.seen (backs n count) b.seen → Acts j.origin b [] last c →
+      Acts j.origin a (backs n count) last c
   undoes_last n a b c count last moves grows acts =
       let same : b.number ≡ a.number = ap (λ (x : Known). x.number) moves in (
         moves_then a b c moves acts.0,
         took_next a.number a.seen b.seen c.seen (backs n count) last grows
-            (subst (λ m. Took j m b.seen [] last c.seen) same acts.1),
+            (subst (λ m. Took j.origin m b.seen [] last c.seen) same acts.1),
       )
 
 -- ---- waiting
@@ -265,7 +277,8 @@ hears_then a b c xs ys us vs one two =
       flags = append_assoc a.flags us vs i;
     })
 
-decides_more : (place : ℕ) (xs ys : List Raised) (us vs : List Bool) (r : Result (Unit {0}) Refusal) →
+decides_more : (place : ℕ) (xs ys : List Raised) (us vs : List Bool)
+    (r : Result (Unit {0}) Refusal) →
     Decides place ys vs r → Decides place (xs ++ ys) (us ++ vs) r
 decides_more place xs ys us vs (Ok done) d = (d.0, Contains-append_right xs ys d.0 d.1, d.2)
 decides_more place xs ys us vs (Err Refusal.Lost) d = Contains-append_right us vs true d

@@ -1,5 +1,6 @@
 -- Each step on a shelf, on all, or beside them keeps what lies under the journal's lock.
-use Rattle.std.proofs.Common.{◌≡◌, ℕ, List, ◌∷◌, [], ◌++◌, Option, Some, None, refl, sym, ap, ◌∙◌, subst}
+use Rattle.std.proofs.Common.{◌≡◌, ℕ, List, ◌∷◌, [], ◌++◌, Option, Some, None, refl, sym, ap, ◌∙◌}
+use Rattle.std.proofs.Common.{subst}
 use Rattle.std.proofs.Common.{Bool, Result}
 use Rattle.calls.specs.declared.refusal.Refusal.{Refusal}
 use mathlib.Core.List.{IsPrefix}
@@ -59,7 +60,8 @@ module _ {S T N J : Type 0} (j : Ghosts J) {meaning : Meaning S ℕ} {making : M
       ((w : Which) → (pick nears w).table ≡ pick j.shelves w) →
       ((w : Which) → Leads (pick nears w) (pick f w)) →
       IsBook meaning making collections whole fits k f →
-      told_book collections (book_state whole k f) ≡ opened j.format j.start j.next j.wear →
+      told_book collections (book_state whole k f) ≡
+      opened j.origin.format j.origin.start j.origin.next j.origin.wear →
       seat ≡ record { table = j.line; all = []; clients = 0 } →
       sender ≡ record { table = j.handoff; sent = []; noted = [] } →
       near ≡ record { table = j.gathering; gather = nothing_gathered } →
@@ -111,7 +113,7 @@ module _ {S T N J : Type 0} (j : Ghosts J) {meaning : Meaning S ℕ} {making : M
       IsJournalDesk j meaning making collections whole fits k nears now sender near →
       now ≡ stepped seat (step_of old.number action) →
       new ≡ seeing old now.all → IsPrefix old.seen seat.all →
-      mine_of new ≡ mine_of old ++ step_of old.number action ∷ [] → Steps j old action new
+      mine_of new ≡ mine_of old ++ step_of old.number action ∷ [] → Steps j.origin old action new
   steps_journal k nears seat now sender near old new action is now_is new_is begins mine =
       steps_one j (told_book collections (book_state whole k is.shelves)) seat now sender near old
       new action is.desk now_is new_is begins mine
@@ -125,7 +127,8 @@ module _ {S T N J : Type 0} (j : Ghosts J) {meaning : Meaning S ℕ} {making : M
       mine_of new ≡ mine_of old ++ step_of old.number action ∷ [] → HasEntered old n →
       Owns (owners_behind no_owner seat.all) (Some old.number) n
   owns_step {k} {nears} {seat} {sender} {near} is now old new action n now_is new_is mine own =
-      owns_here catalog_meaning catalog_making (opening j.format j.start j.wear)
+      owns_here catalog_meaning catalog_making
+      (opening j.origin.format j.origin.start j.origin.wear)
       (standing (told_book collections (book_state whole k is.shelves))) refl seat now old new
       action n is.desk.handed.legal is.desk.owned now_is new_is mine own
 
@@ -193,7 +196,8 @@ module _ {S T N J : Type 0} (j : Ghosts J) {meaning : Meaning S ℕ} {making : M
 
     -- A step beside the shelves.
     pub steps_beside : (l : JournalState N) (now : lines.BookState) (action : Action) →
-        MayTake (owners_behind no_owner seat.all) client action → IsBook meaning making collections whole fits l is.shelves →
+        MayTake (owners_behind no_owner seat.all) client action →
+        IsBook meaning making collections whole fits l is.shelves →
         Takes meaning making (book_state whole k is.shelves) action
         (book_state whole l is.shelves) →
         Goes meaning making collections (book_state whole k is.shelves) action

@@ -16,37 +16,37 @@ use Rattle.clients.proofs.Owning.{owners_next}
 use Rattle.clients.proofs.Seeing.{acts_one, client_meets, does_next, enters_phase}
 
 module _ {J : Type 0} (j : Ghosts J) (old mid : Known) (n : ℕ)
-    (enters : Enters j old.phase old (Ok n) mid) (line : ClientState) (w : WatcherState)
+    (enters : Enters j.origin old.phase old (Ok n) mid) (line : ClientState) (w : WatcherState)
     (d : DrawerState) (p : Phase) (view : known_of line w d p ≡ mid) (line' : ClientState) where
   -- Nothing happened but the entering.
-  pub entered_so : line' ≡ line → IsEntering j old.phase old (known_of line' w d p)
+  pub entered_so : line' ≡ line → IsEntering j.origin old.phase old (known_of line' w d p)
   entered_so same = inr (
     n,
-    subst (Enters j old.phase old (Ok n))
+    subst (Enters j.origin old.phase old (Ok n))
         (sym (ap (λ (l : ClientState). known_of l w d p) same ∙ view)) enters,
   )
 
   took : (own : ℕ → Action → Type 0) (refused : Refusal → Type 0) (after : ℕ → Phase) (q : Phase)
-      (action : Action) → own n action → Steps j line action line' →
+      (action : Action) → own n action → Steps j.origin line action line' →
       (p ≡ Phase.Entered n → q ≡ after n) →
-      Does j old.phase old own refused after (known_of line' w d q)
+      Does j.origin old.phase old own refused after (known_of line' w d q)
   took own refused after q action its steps behind =
       does_next j old.phase old mid (known_of line' w d q) n own refused after action refl enters
-      its (subst (λ m. Acts j m [] action (known_of line' w d q)) view
+      its (subst (λ m. Acts j.origin m [] action (known_of line' w d q)) view
       (acts_one j line line' w d p q action steps))
       (λ entered. behind (ap (λ (k : Known). k.phase) view ∙ entered))
 
   -- A step was taken, and the transaction goes on.
   pub took_on : (own : ℕ → Action → Type 0) (refused : Refusal → Type 0) (action : Action) →
-      own n action → Steps j line action line' →
-      Does j old.phase old own refused Phase.Entered (known_of line' w d p)
+      own n action → Steps j.origin line action line' →
+      Does j.origin old.phase old own refused Phase.Entered (known_of line' w d p)
   took_on own refused action its steps =
       took own refused (λ m. Phase.Entered m) p action its steps (λ entered. entered)
 
   -- A step was taken, and it is closed.
   pub took_last : (own : ℕ → Action → Type 0) (refused : Refusal → Type 0) (action : Action) →
-      own n action → Steps j line action line' →
-      Does j old.phase old own refused (λ m. Phase.Closed) (known_of line' w d Phase.Closed)
+      own n action → Steps j.origin line action line' →
+      Does j.origin old.phase old own refused (λ m. Phase.Closed) (known_of line' w d Phase.Closed)
   took_last own refused action its steps =
       took own refused (λ m. Phase.Closed) Phase.Closed action its steps (λ entered. refl)
 
@@ -65,7 +65,8 @@ own_held line w d p k n view entered own =
 
 -- also one that it entered right before
 pub entered_own : {J : Type 0} (j : Ghosts J) (old mid : Known) (n : ℕ) →
-    Enters j old.phase old (Ok n) mid → (line : ClientState) (w : WatcherState) (d : DrawerState)
+    Enters j.origin old.phase old (Ok n) mid →
+    (line : ClientState) (w : WatcherState) (d : DrawerState)
     (p : Phase) → known_of line w d p ≡ mid → HasOwn p line → HasEntered line n
 entered_own j old mid n enters line w d p view own =
     own_held line w d p mid n view (enters_phase j old.phase old mid n refl enters) own
@@ -79,7 +80,7 @@ own_meets (Phase.Entered n) old new number mine own =
     ap (λ l. owners_behind no_owner l n) mine ∙ own ∙ ap (λ k. Some k) (sym number)
 
 module _ {J : Type 0} (j : Ghosts J) (old new : ClientState) (action : Action)
-    (steps : Steps j old action new) where
+    (steps : Steps j.origin old action new) where
   same_number : new.number ≡ old.number
   same_number = ap (λ (c : ClientState). c.number) steps.0
 
@@ -114,37 +115,40 @@ module _ {J : Type 0} (j : Ghosts J) (old new : ClientState) (w : WatcherState) 
   stays same = subst (λ l. IsClient j l w d p) (sym same) is
 
   -- where it is in a phase then
-  steps_into : (q : Phase) (action : Action) → Steps j old action new → HasOwn q new →
+  steps_into : (q : Phase) (action : Action) → Steps j.origin old action new → HasOwn q new →
       IsClient j new w d q
   steps_into q action steps own =
       client_meets j old new w d d p q new.seen is steps.1.grows.legal steps.0 refl own
 
   -- where it closes
-  pub closes_on : (action : Action) → Steps j old action new → IsClient j new w d Phase.Closed
+  pub closes_on : (action : Action) → Steps j.origin old action new →
+      IsClient j new w d Phase.Closed
   closes_on action steps = steps_into Phase.Closed action steps tt
 
   -- where it is entered
-  pub enters_on : (n : ℕ) → Steps j old (Action.Enter n (Ok tt)) new →
+  pub enters_on : (n : ℕ) → Steps j.origin old (Action.Enter n (Ok tt)) new →
       IsClient j new w d (Phase.Entered n)
   enters_on n steps = steps_into (Phase.Entered n) (Action.Enter n (Ok tt)) steps
       (own_entered j old new (Action.Enter n (Ok tt)) steps n refl)
 
   -- where it goes on
-  pub steps_on : (action : Action) → Steps j old action new → Keeps action →
+  pub steps_on : (action : Action) → Steps j.origin old action new → Keeps action →
       IsClient j new w d p
   steps_on action steps keeps =
       steps_into p action steps (own_on j old new action steps p keeps is.own)
 
   -- Where something was looked for, and a refusal is a step,
   pub found_client : {X E : Type 0} (r : Result X E) (act : E → Action) →
-      OnOk r (new ≡ old) → IfErr r (λ e. Steps j old (act e) new) → ((e : E) → Keeps (act e)) →
+      OnOk r (new ≡ old) → IfErr r (λ e. Steps j.origin old (act e) new) →
+      ((e : E) → Keeps (act e)) →
       IsClient j new w d p
   found_client (Ok x) act same steps keeps = stays same
   found_client (Err e) act same steps keeps = steps_on (act e) steps (keeps e)
 
   -- and where a step was tried.
   pub tried_client : {X : Type 0} (o : Option X) (P : X → Type 0) →
-      ((x : X) → P x → (action : Action) × Steps j old action new × Keeps action) → IfSome o P →
+      ((x : X) → P x → (action : Action) × Steps j.origin old action new × Keeps action) →
+      IfSome o P →
       (IsNone o → new ≡ old) → IsClient j new w d p
   tried_client None P step some none = stays (none refl)
   tried_client (Some x) P step some none = let so = step x some in steps_on so.0 so.1 so.2

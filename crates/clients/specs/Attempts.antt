@@ -5,7 +5,7 @@ use Rattle.std.specs.List.{AllByRecursion}
 use Rattle.calls.specs.declared.refusal.Refusal.{Refusal}
 use Rattle.group_commit.specs.Lines.{steps_of}
 use Rattle.txn.specs.declared.steps.Action.{Action}
-use Rattle.clients.specs.declared.naming.Naming.{Ghosts}
+use Rattle.clients.specs.Origins.{Origin}
 use Rattle.clients.specs.declared.phase.Phase.{Phase}
 use Rattle.clients.specs.Calls.{Moves}
 use Rattle.clients.specs.Known.{Known, Grows}
@@ -36,12 +36,12 @@ IsOpenUnder n made Phase.Closed = ⊥
 IsOpenUnder n made (Phase.Drawn m) = (m ≡ n) × AllByRecursion IsRefusedEntry made
 IsOpenUnder n made (Phase.Entered m) = m ≡ n
 
-module _ {J : Type 0} (j : Ghosts J) where
+module _ (o : Origin) where
   -- The client, whose transaction of this number is open, made these calls in it, and did nothing
   -- else.
   pub record Attempts (n : ℕ) (old : Known) (made : List Action) (new : Known) : Type 0 where
     pub moves : Moves old new
-    pub grows : Grows j old.number old.seen made new.seen
+    pub grows : Grows o old.number old.seen made new.seen
     pub are_calls : AllByRecursion (IsOfCalls n) made
     pub is_open : IsOpenUnder n made new.phase
 

@@ -12,6 +12,7 @@ use Rattle.group_commit.specs.Numbers.{DrawerState}
 use Rattle.clients.specs.declared.naming.Naming.{Ghosts}
 use Rattle.clients.specs.declared.phase.Phase.{Phase}
 use Rattle.clients.specs.declared.ticket.Ticket.{Ticket}
+use Rattle.clients.specs.Origins.{Origin}
 use Rattle.clients.specs.Known.{Known, IsSeen, Took}
 use Rattle.clients.specs.Owners.{HasEntered}
 
@@ -42,8 +43,8 @@ pub record IsClient {J : Type 0} (j : Ghosts J) (line : ClientState) (watcher : 
   pub line_is : line.table ≡ j.line
   pub mark_is : watcher.table ≡ j.mark
   pub numbers_is : drawer.table ≡ j.numbers
-  pub from : drawer.from ≡ j.next
-  pub legal : IsSeen j line.seen
+  pub from : drawer.from ≡ j.origin.next
+  pub legal : IsSeen j.origin line.seen
   pub own : HasOwn phase line
 
 -- ---- numbers
@@ -68,10 +69,10 @@ IsWorn next old new =
 abbrev pub Moves : Known → Known → Type 0
 Moves old new = new ≡ record old { seen = new.seen; phase = new.phase }
 
-module _ {J : Type 0} (j : Ghosts J) where
+module _ (o : Origin) where
   -- The client took these steps of its own, the last one last.
   abbrev pub Acts : Known → List Action → Action → Known → Type 0
-  Acts old firsts last new = Moves old new × Took j old.number old.seen firsts last new.seen
+  Acts old firsts last new = Moves old new × Took o old.number old.seen firsts last new.seen
 
   -- The client's open transaction did this. A number that was drawn is entered first, and a refusal
   -- of that stands in place of the step. own: the step of a number. refused: the call's refusal.
@@ -119,11 +120,11 @@ back n r = Action.Back n r
 abbrev pub backs : ℕ → ℕ → List Action
 backs n count = replicate count (back n (Ok true))
 
-module _ {J : Type 0} (j : Ghosts J) where
+module _ (o : Origin) where
   -- Calls are undone until none is left, or one is refused.
   abbrev pub Undoes : ℕ → Known → Result (Unit {0}) Refusal → Known → Type 0
-  Undoes n old (Ok done) new = (count : ℕ) × Acts j old (backs n count) (back n (Ok false)) new
-  Undoes n old (Err e) new = (count : ℕ) × Acts j old (backs n count) (back n (Err e)) new
+  Undoes n old (Ok done) new = (count : ℕ) × Acts o old (backs n count) (back n (Ok false)) new
+  Undoes n old (Err e) new = (count : ℕ) × Acts o old (backs n count) (back n (Err e)) new
 
   -- An open transaction is aborted. One that was not entered takes no step.
   abbrev pub Aborts : Phase → Known → Result (Unit {0}) Refusal → Known → Type 0
@@ -131,8 +132,8 @@ module _ {J : Type 0} (j : Ghosts J) where
   Aborts (Phase.Drawn n) old r new = (r ≡ Ok tt) × (new ≡ record old { phase = Phase.Closed })
   Aborts (Phase.Entered n) old r new =
       (new.phase ≡ ended_by r n) × ((count : ℕ) ×
-      (Acts j old (backs n count ++ back n (Ok false) ∷ []) (Action.Ended n r) new
-      ⊎ ((e : Refusal) × (r ≡ Err e) × Acts j old (backs n count) (back n (Err e)) new)))
+      (Acts o old (backs n count ++ back n (Ok false) ∷ []) (Action.Ended n r) new
+      ⊎ ((e : Refusal) × (r ≡ Err e) × Acts o old (backs n count) (back n (Err e)) new)))
 
 -- ---- the mark
 

@@ -67,9 +67,11 @@ pub record IsDesk {J : Type 0} (j : Ghosts J) (book : BookState (List Collection
   pub gathering : near.table ≡ j.gathering
   pub gathered : IsGatheredOf (λ v. v) book near.gather
   pub groups : List (List Record)
-  pub handed : HasHanded catalog_meaning catalog_making (λ v. v) j.format j.start j.wear seat.all
+  pub handed : HasHanded catalog_meaning catalog_making (λ v. v) j.origin.format j.origin.start
+      j.origin.wear seat.all
       book
       sender.sent groups (frozen_ends sender.noted) []
   pub owned : AreOwned seat.all
   pub recorded : j.sound →
-      AreRecorded j.format j.start j.wear (records_by seat.all) (journalled book.state) sender.noted
+      AreRecorded j.origin.format j.origin.start j.origin.wear (records_by seat.all)
+      (journalled book.state) sender.noted

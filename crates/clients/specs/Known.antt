@@ -11,7 +11,7 @@ use Rattle.group_commit.specs.declared.mark.Raised.{Raised}
 use Rattle.group_commit.specs.Lines.{ClientState, steps_of, seeing}
 use Rattle.group_commit.specs.Marks.{WatcherState}
 use Rattle.group_commit.specs.Numbers.{DrawerState}
-use Rattle.clients.specs.declared.naming.Naming.{Ghosts}
+use Rattle.clients.specs.Origins.{Origin}
 use Rattle.clients.specs.declared.phase.Phase.{Phase}
 use Rattle.clients.specs.Owners.{AreOwned}
 
@@ -66,10 +66,10 @@ abbrev pub counts_of : Option SeenState → List Raised
 counts_of None = []
 counts_of (Some s) = s.counts
 
-module _ {J : Type 0} (j : Ghosts J) where
+module _ (o : Origin) where
   -- The steps lead the opened book there, each of who may take it.
   pub record IsHistory (steps : List BookStep) (s : Standing (List Collection)) : Type 0 where
-    pub legal : IsLegal catalog_meaning catalog_making (opening j.format j.start j.wear) steps s
+    pub legal : IsLegal catalog_meaning catalog_making (opening o.format o.start o.wear) steps s
     pub owned : AreOwned steps
 
   -- The steps are a legal history of the opened book.

@@ -4,6 +4,7 @@ pub mod Desks
 pub mod Known
 pub mod NoStore
 pub mod Notes
+pub mod Origins
 pub mod Owners
 pub mod Statuses
 pub mod Told

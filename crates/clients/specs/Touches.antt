@@ -50,7 +50,8 @@ module _ {S T N J : Type 0} (j : Ghosts J) (meaning : Meaning S ℕ) (making : M
       (k : JournalState N) (nears : Four (EndState (Touch (ShelfState T)))) (l : JournalState N)
       (ends : Four (EndState (Touch (ShelfState T)))) → Type 0
   LeadsKnown Told k nears l ends = (f : Four (ShelfState T)) → IsKnown k nears f →
-      (g : Four (ShelfState T)) × IsKnown l ends g × Told (book_state whole k f) (book_state whole l g)
+      (g : Four (ShelfState T)) × IsKnown l ends g ×
+      Told (book_state whole k f) (book_state whole l g)
 
   -- The journal's side: with the shelves that its ends know it is a book, which stands where its
   -- history led.
@@ -58,5 +59,5 @@ module _ {S T N J : Type 0} (j : Ghosts J) (meaning : Meaning S ℕ) (making : M
       (seat : lines.BookState) (sender : SenderState) (near : AccordState) : Type 0 where
     pub shelves : Four (ShelfState T)
     pub known : IsKnown k nears shelves
-    pub format : k.accounts.format ≡ j.format
+    pub format : k.accounts.format ≡ j.origin.format
     pub desk : IsDesk j (told_book collections (book_state whole k shelves)) seat sender near

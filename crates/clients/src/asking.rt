@@ -34,7 +34,7 @@ impl<J: Naming, B: Coded> Desk<J, B> {
         requires line { me.old.table ≡ J.line }
         requires own { HasEntered me.old number }
         ensures ok { OnOk result (me.new ≡ me.old) }
-        ensures err { IfErr result (λ e. Steps ⟦<J as Naming>⟧ me.old
+        ensures err { IfErr result (λ e. Steps J.origin me.old
             (Action.Call number (Target.Named name.now None) call.now (Err e)) me.new) }
     {
         match self.journal.find(name) {
@@ -64,7 +64,7 @@ impl<J: Naming, B: Coded> Desk<J, B> {
         requires line { me.old.table ≡ J.line }
         requires own { HasEntered me.old number }
         ensures ok { OnOk result (me.new ≡ me.old) }
-        ensures err { IfErr result (λ e. Steps ⟦<J as Naming>⟧ me.old
+        ensures err { IfErr result (λ e. Steps J.origin me.old
             (Action.Later number (Target.Named name.now None) call.now (Err e)) me.new) }
     {
         match self.journal.find(name) {
@@ -99,8 +99,9 @@ impl<J: Naming, B: Coded> Desk<J, B> {
         requires line { me.old.table ≡ J.line }
         requires own { HasEntered me.old number }
         requires place { which_of at ≡ Q.which }
-        requires looked { IsLooked B.Shelf.meaning J.format held.old number at call.now looked }
-        ensures some { IfSome result (λ r. (found : Option ℕ) × Steps ⟦<J as Naming>⟧ me.old
+        requires looked { IsLooked B.Shelf.meaning J.origin.format held.old number at call.now
+            looked }
+        ensures some { IfSome result (λ r. (found : Option ℕ) × Steps J.origin me.old
             (Action.Call number (Target.Named name.now found) call.now r) me.new) }
         ensures none { IsNone result → me.new ≡ me.old }
     {
@@ -143,7 +144,7 @@ impl<J: Naming, B: Coded> Desk<J, B> {
         requires own { HasEntered me.old number }
         requires place { which_of at ≡ Q.which }
         requires looked { IsLookedLater B.Shelf.meaning held.old number at call.now looked }
-        ensures some { IfSome result (λ r. (found : Option ℕ) × Steps ⟦<J as Naming>⟧ me.old
+        ensures some { IfSome result (λ r. (found : Option ℕ) × Steps J.origin me.old
             (Action.Later number (Target.Named name.now found) call.now r) me.new) }
         ensures none { IsNone result → me.new ≡ me.old }
     {

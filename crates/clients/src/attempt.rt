@@ -96,7 +96,7 @@ impl<'s, 'r, J: Naming, B: Coded, F: Beginning, R> Model for Going<'s, 'r, J, B,
     ghost view = { λ a. a.client };
 
     ghost invariant = { λ a.
-        Attempts ⟦<J as Naming>⟧ F.number F.start (done_since F.start a.client) a.client };
+        Attempts J.origin F.number F.start (done_since F.start a.client) a.client };
 }
 
 impl<'s, 'r, J: Naming, B: Coded, F: Beginning, R: Wait> Attempt for Going<'s, 'r, J, B, F, R> {
@@ -125,7 +125,7 @@ impl<J: Naming, B: Coded> Client<'_, J, B> {
         transaction: &T,
     ) -> Result<T::Output, Refusal>
         requires { IsBegun self.old.phase }
-        ensures attempt { IsAttempt ⟦<J as Naming>⟧ (T.says transaction.now)
+        ensures attempt { IsAttempt J.origin (T.says transaction.now)
             (T.refuses transaction.now) (number_of self.old.phase) self.old result self.new }
         ensures open { IsOpen self.new.phase }
     {
@@ -139,7 +139,7 @@ fn attempt_by<'s, T: Transaction, J: Naming, B: Coded, R: Wait>(
     with: (&R, &T, PhantomData<T::Output>),
 ) -> (Client<'s, J, B>, Result<T::Output, Refusal>)
     requires { IsBegun client.phase }
-    ensures { IsAttempt ⟦<J as Naming>⟧ (T.says with.entry.1.now) (T.refuses with.entry.1.now)
+    ensures { IsAttempt J.origin (T.says with.entry.1.now) (T.refuses with.entry.1.now)
         (number_of client.entry.phase) client.entry result.1 result.0 }
 {
     let (rt, transaction, _output) = with;
@@ -155,7 +155,7 @@ fn go_through<'s, F: Beginning, T: Transaction, J: Naming, B: Coded, R: Wait>(
     requires begun { IsBegun client.phase }
     requires number { number_of client.phase ≡ F.number }
     requires start { client ≡ F.start }
-    ensures { IsAttempt ⟦<J as Naming>⟧ (T.says transaction.now) (T.refuses transaction.now)
+    ensures { IsAttempt J.origin (T.says transaction.now) (T.refuses transaction.now)
         F.number client.entry result.1 result.0 }
 {
     client.upheld();

@@ -101,7 +101,7 @@ impl<'s, J: Naming, B: Coded> Client<'s, J, B> {
     ) -> Self
         requires line { (line.table ≡ J.line) × (line.seen ≡ []) }
         requires watcher { (watcher.table ≡ J.mark) × (watcher.counts ≡ []) × (watcher.flags ≡ []) }
-        requires drawer { (drawer.table ≡ J.numbers) × (drawer.from ≡ J.next) ×
+        requires drawer { (drawer.table ≡ J.numbers) × (drawer.from ≡ J.origin.next) ×
             (drawer.drawn ≡ []) }
         ensures { result ≡ newcomer line.number }
     {
@@ -121,7 +121,7 @@ impl<'s, J: Naming, B: Coded> Client<'s, J, B> {
     /// A law and no work: what a client has seen is a legal history, steps that one thread alone
     /// could take from the opened content.
     pub fn upheld(&self)
-        ensures { IsSeen ⟦<J as Naming>⟧ self.now.seen }
+        ensures { IsSeen J.origin self.now.seen }
     {
         let _ = &self.phase;
     }
@@ -142,9 +142,11 @@ impl<'s, J: Naming, B: Coded> Client<'s, J, B> {
     /// transaction then.
     pub fn begin(&mut self) -> Result<u64, Refusal>
         requires { self.old.phase ≡ Phase.Closed }
-        ensures drawn { IfOk result (λ n. (n < number_end) × Draws J.next self.old n self.new ×
+        ensures drawn { IfOk result (λ n. (n < number_end) ×
+            Draws J.origin.next self.old n self.new ×
             (self.new.phase ≡ Phase.Drawn n)) }
-        ensures worn { IfErr result (λ e. (e ≡ Refusal.Worn) × IsWorn J.next self.old self.new) }
+        ensures worn { IfErr result (λ e. (e ≡ Refusal.Worn) ×
+            IsWorn J.origin.next self.old self.new) }
     {
         let number = self.shared.numbers.draw(&mut self.drawer)?;
         self.phase = Phase::Drawn(number);
@@ -152,13 +154,13 @@ impl<'s, J: Naming, B: Coded> Client<'s, J, B> {
     }
 
     /// Makes an empty collection under the name, and gives its ticket. It is a committed
-    /// transaction of its own, whether the client has one or not. It takes the locks of all
-    /// shelves and then the journal's, each once, and calls no device.
+    /// transaction of its own, whether the client has one or not. It takes the locks of all shelves
+    /// and then the journal's, each once, and calls no device.
     ///
     /// Backlog, BadName, TooLong, NameTaken, TooManyCollections, NoMemory. Everything is as before
     /// then.
     pub fn make<R: Wait>(&mut self, rt: &R, name: &str, kind: Kind) -> Result<Ticket, Refusal>
-        ensures step { Acts ⟦<J as Naming>⟧ self.old []
+        ensures step { Acts J.origin self.old []
             (Action.Make name.now kind (placed result)) self.new }
         ensures phase { self.new.phase ≡ self.old.phase }
     {
@@ -169,7 +171,7 @@ impl<'s, J: Naming, B: Coded> Client<'s, J, B> {
 
     // Makes the collection, under all locks.
     fn make_held<R: Wait>(&mut self, rt: &R, name: &str, kind: Kind) -> Result<u64, Refusal>
-        ensures step { Acts ⟦<J as Naming>⟧ self.old [] (Action.Make name.now kind result)
+        ensures step { Acts J.origin self.old [] (Action.Make name.now kind result)
             self.new }
         ensures phase { self.new.phase ≡ self.old.phase }
     {
@@ -200,7 +202,7 @@ impl<'s, J: Naming, B: Coded> Client<'s, J, B> {
     /// ```
     pub fn call<R: Wait>(&mut self, rt: &R, name: &str, call: &Call) -> Result<Reply, Refusal>
         requires { IsOpen self.old.phase }
-        ensures step { Does ⟦<J as Naming>⟧ self.old.phase self.old
+        ensures step { Does J.origin self.old.phase self.old
             (λ n a. (found : Option ℕ) ×
             (a ≡ Action.Call n (Target.Named name.now found) call.now result))
             (λ e. result ≡ Err e) Phase.Entered self.new }
@@ -230,8 +232,8 @@ impl<'s, J: Naming, B: Coded> Client<'s, J, B> {
     ) -> Result<u8, Refusal>
         requires { IsOpen self.old.phase }
         ensures ok { OnOk result
-            (IsEntering ⟦<J as Naming>⟧ self.old.phase self.old self.new) }
-        ensures err { IfErr result (λ e. Does ⟦<J as Naming>⟧ self.old.phase self.old
+            (IsEntering J.origin self.old.phase self.old self.new) }
+        ensures err { IfErr result (λ e. Does J.origin self.old.phase self.old
             (λ n a. (found : Option ℕ) ×
             (a ≡ Action.Call n (Target.Named name.now found) call.now (Err e)))
             (λ d. e ≡ d) Phase.Entered self.new) }
@@ -253,8 +255,8 @@ impl<'s, J: Naming, B: Coded> Client<'s, J, B> {
     ) -> Result<u8, Refusal>
         requires { IsOpen self.old.phase }
         ensures ok { OnOk result
-            (IsEntering ⟦<J as Naming>⟧ self.old.phase self.old self.new) }
-        ensures err { IfErr result (λ e. Does ⟦<J as Naming>⟧ self.old.phase self.old
+            (IsEntering J.origin self.old.phase self.old self.new) }
+        ensures err { IfErr result (λ e. Does J.origin self.old.phase self.old
             (λ n a. (found : Option ℕ) ×
             (a ≡ Action.Call n (Target.Named name.now found) call.now (Err e)))
             (λ d. e ≡ d) Phase.Entered self.new) }
@@ -273,12 +275,12 @@ impl<'s, J: Naming, B: Coded> Client<'s, J, B> {
         call: &Call,
     ) -> Option<Result<Reply, Refusal>>
         requires { IsOpen self.old.phase }
-        ensures some { IfSome result (λ r. Does ⟦<J as Naming>⟧ self.old.phase self.old
+        ensures some { IfSome result (λ r. Does J.origin self.old.phase self.old
             (λ n a. (found : Option ℕ) ×
             (a ≡ Action.Call n (Target.Named name.now found) call.now r))
             (λ e. r ≡ Err e) Phase.Entered self.new) }
         ensures none { IsNone result →
-            IsEntering ⟦<J as Naming>⟧ self.old.phase self.old self.new }
+            IsEntering J.origin self.old.phase self.old self.new }
     {
         let shelves = self.shelves;
         if at % 4 == 0 {
@@ -304,12 +306,12 @@ impl<'s, J: Naming, B: Coded> Client<'s, J, B> {
     ) -> Option<Result<Reply, Refusal>>
         requires going { IsOpen self.old.phase }
         requires place { which_of at ≡ Q.which }
-        ensures some { IfSome result (λ r. Does ⟦<J as Naming>⟧ self.old.phase self.old
+        ensures some { IfSome result (λ r. Does J.origin self.old.phase self.old
             (λ n a. (found : Option ℕ) ×
             (a ≡ Action.Call n (Target.Named name.now found) call.now r))
             (λ e. r ≡ Err e) Phase.Entered self.new) }
         ensures none { IsNone result →
-            IsEntering ⟦<J as Naming>⟧ self.old.phase self.old self.new }
+            IsEntering J.origin self.old.phase self.old self.new }
     {
         let mut held = lock.lock(rt);
         let looked = held.look(self.shared.format, self.number(), at, call);
@@ -330,14 +332,15 @@ impl<'s, J: Naming, B: Coded> Client<'s, J, B> {
     ) -> Option<Result<Reply, Refusal>>
         requires going { IsOpen self.old.phase }
         requires place { which_of at ≡ Q.which }
-        requires looked { IsLooked B.Shelf.meaning J.format held.old (number_in self.old.phase) at
+        requires looked { IsLooked B.Shelf.meaning J.origin.format held.old
+            (number_in self.old.phase) at
             call.now looked }
-        ensures some { IfSome result (λ r. Does ⟦<J as Naming>⟧ self.old.phase self.old
+        ensures some { IfSome result (λ r. Does J.origin self.old.phase self.old
             (λ n a. (found : Option ℕ) ×
             (a ≡ Action.Call n (Target.Named name.now found) call.now r))
             (λ e. r ≡ Err e) Phase.Entered self.new) }
         ensures none { IsNone result →
-            IsEntering ⟦<J as Naming>⟧ self.old.phase self.old self.new }
+            IsEntering J.origin self.old.phase self.old self.new }
     {
         match self.enter(desk) {
             Ok(number) => desk.call(
@@ -366,7 +369,7 @@ impl<'s, J: Naming, B: Coded> Client<'s, J, B> {
     /// They leave what those leave.
     pub fn later<R: Wait>(&mut self, rt: &R, name: &str, call: &Call) -> Result<(), Refusal>
         requires { IsOpen self.old.phase }
-        ensures step { Does ⟦<J as Naming>⟧ self.old.phase self.old
+        ensures step { Does J.origin self.old.phase self.old
             (λ n a. (found : Option ℕ) ×
             (a ≡ Action.Later n (Target.Named name.now found) call.now result))
             (λ e. result ≡ Err e) Phase.Entered self.new }
@@ -396,8 +399,8 @@ impl<'s, J: Naming, B: Coded> Client<'s, J, B> {
     ) -> Result<u8, Refusal>
         requires { IsOpen self.old.phase }
         ensures ok { OnOk result
-            (IsEntering ⟦<J as Naming>⟧ self.old.phase self.old self.new) }
-        ensures err { IfErr result (λ e. Does ⟦<J as Naming>⟧ self.old.phase self.old
+            (IsEntering J.origin self.old.phase self.old self.new) }
+        ensures err { IfErr result (λ e. Does J.origin self.old.phase self.old
             (λ n a. (found : Option ℕ) ×
             (a ≡ Action.Later n (Target.Named name.now found) call.now (Err e)))
             (λ d. e ≡ d) Phase.Entered self.new) }
@@ -419,8 +422,8 @@ impl<'s, J: Naming, B: Coded> Client<'s, J, B> {
     ) -> Result<u8, Refusal>
         requires { IsOpen self.old.phase }
         ensures ok { OnOk result
-            (IsEntering ⟦<J as Naming>⟧ self.old.phase self.old self.new) }
-        ensures err { IfErr result (λ e. Does ⟦<J as Naming>⟧ self.old.phase self.old
+            (IsEntering J.origin self.old.phase self.old self.new) }
+        ensures err { IfErr result (λ e. Does J.origin self.old.phase self.old
             (λ n a. (found : Option ℕ) ×
             (a ≡ Action.Later n (Target.Named name.now found) call.now (Err e)))
             (λ d. e ≡ d) Phase.Entered self.new) }
@@ -439,12 +442,12 @@ impl<'s, J: Naming, B: Coded> Client<'s, J, B> {
         call: &Call,
     ) -> Option<Result<(), Refusal>>
         requires { IsOpen self.old.phase }
-        ensures some { IfSome result (λ r. Does ⟦<J as Naming>⟧ self.old.phase self.old
+        ensures some { IfSome result (λ r. Does J.origin self.old.phase self.old
             (λ n a. (found : Option ℕ) ×
             (a ≡ Action.Later n (Target.Named name.now found) call.now r))
             (λ e. r ≡ Err e) Phase.Entered self.new) }
         ensures none { IsNone result →
-            IsEntering ⟦<J as Naming>⟧ self.old.phase self.old self.new }
+            IsEntering J.origin self.old.phase self.old self.new }
     {
         let shelves = self.shelves;
         if at % 4 == 0 {
@@ -471,12 +474,12 @@ impl<'s, J: Naming, B: Coded> Client<'s, J, B> {
     ) -> Option<Result<(), Refusal>>
         requires going { IsOpen self.old.phase }
         requires place { which_of at ≡ Q.which }
-        ensures some { IfSome result (λ r. Does ⟦<J as Naming>⟧ self.old.phase self.old
+        ensures some { IfSome result (λ r. Does J.origin self.old.phase self.old
             (λ n a. (found : Option ℕ) ×
             (a ≡ Action.Later n (Target.Named name.now found) call.now r))
             (λ e. r ≡ Err e) Phase.Entered self.new) }
         ensures none { IsNone result →
-            IsEntering ⟦<J as Naming>⟧ self.old.phase self.old self.new }
+            IsEntering J.origin self.old.phase self.old self.new }
     {
         let mut held = lock.lock(rt);
         let looked = held.look_later(self.number(), at, call);
@@ -499,12 +502,12 @@ impl<'s, J: Naming, B: Coded> Client<'s, J, B> {
         requires place { which_of at ≡ Q.which }
         requires looked { IsLookedLater B.Shelf.meaning held.old (number_in self.old.phase) at
             call.now looked }
-        ensures some { IfSome result (λ r. Does ⟦<J as Naming>⟧ self.old.phase self.old
+        ensures some { IfSome result (λ r. Does J.origin self.old.phase self.old
             (λ n a. (found : Option ℕ) ×
             (a ≡ Action.Later n (Target.Named name.now found) call.now r))
             (λ e. r ≡ Err e) Phase.Entered self.new) }
         ensures none { IsNone result →
-            IsEntering ⟦<J as Naming>⟧ self.old.phase self.old self.new }
+            IsEntering J.origin self.old.phase self.old self.new }
     {
         match self.enter(desk) {
             Ok(number) => desk.later(
@@ -540,7 +543,7 @@ impl<'s, J: Naming, B: Coded> Client<'s, J, B> {
     /// ```
     pub fn commit<R: Wait>(&mut self, rt: &R) -> Result<Ticket, Refusal>
         requires { IsOpen self.old.phase }
-        ensures step { Does ⟦<J as Naming>⟧ self.old.phase self.old
+        ensures step { Does J.origin self.old.phase self.old
             (λ n a. a ≡ Action.Commit n (placed result)) (λ e. result ≡ Err e) (ended_by result)
             self.new }
         ensures phase { IsEnded result self.new.phase }
@@ -560,11 +563,11 @@ impl<'s, J: Naming, B: Coded> Client<'s, J, B> {
     // asked for something on another shelf.
     fn commit_on<R: Wait>(&mut self, rt: &R, wanted: &Four<bool>) -> Option<Result<Ticket, Refusal>>
         requires { IsOpen self.old.phase }
-        ensures step { IfSome result (λ r. Does ⟦<J as Naming>⟧ self.old.phase self.old
+        ensures step { IfSome result (λ r. Does J.origin self.old.phase self.old
             (λ n a. a ≡ Action.Commit n (placed r)) (λ e. r ≡ Err e) (ended_by r) self.new) }
         ensures phase { IfSome result (λ r. IsEnded r self.new.phase) }
         ensures none { IsNone result →
-            IsEntering ⟦<J as Naming>⟧ self.old.phase self.old self.new }
+            IsEntering J.origin self.old.phase self.old self.new }
     {
         let (shelves, mutex) = (self.shelves, self.desk);
         let mut held = shelves.lock_some(rt, wanted);
@@ -579,11 +582,11 @@ impl<'s, J: Naming, B: Coded> Client<'s, J, B> {
         held: &mut Held<'_, J, B>,
     ) -> Option<Result<Ticket, Refusal>>
         requires { IsOpen self.old.phase }
-        ensures step { IfSome result (λ r. Does ⟦<J as Naming>⟧ self.old.phase self.old
+        ensures step { IfSome result (λ r. Does J.origin self.old.phase self.old
             (λ n a. a ≡ Action.Commit n (placed r)) (λ e. r ≡ Err e) (ended_by r) self.new) }
         ensures phase { IfSome result (λ r. IsEnded r self.new.phase) }
         ensures none { IsNone result →
-            IsEntering ⟦<J as Naming>⟧ self.old.phase self.old self.new }
+            IsEntering J.origin self.old.phase self.old self.new }
     {
         let number = match self.enter(desk) {
             Ok(number) => number,
@@ -608,7 +611,7 @@ impl<'s, J: Naming, B: Coded> Client<'s, J, B> {
     /// nothing but be aborted again, which goes on from there.
     pub fn abort<R: Wait>(&mut self, rt: &R) -> Result<(), Refusal>
         requires { IsOpen self.old.phase }
-        ensures step { Aborts ⟦<J as Naming>⟧ self.old.phase self.old result self.new }
+        ensures step { Aborts J.origin self.old.phase self.old result self.new }
         ensures phase { IsEnded result self.new.phase }
     {
         match self.phase {
@@ -625,10 +628,10 @@ impl<'s, J: Naming, B: Coded> Client<'s, J, B> {
     fn end<R: Wait>(&mut self, rt: &R, number: u64) -> Result<(), Refusal>
         requires { self.old.phase ≡ Phase.Entered number }
         ensures step { (count : ℕ) ×
-            (Acts ⟦<J as Naming>⟧ self.old (backs number count ++ back number (Ok false) ∷ [])
+            (Acts J.origin self.old (backs number count ++ back number (Ok false) ∷ [])
             (Action.Ended number result) self.new
             ⊎ ((e : Refusal) × (result ≡ Err e) ×
-            Acts ⟦<J as Naming>⟧ self.old (backs number count) (back number (Err e)) self.new)) }
+            Acts J.origin self.old (backs number count) (back number (Err e)) self.new)) }
         ensures phase { self.new.phase ≡ ended_by result number }
     {
         self.undo(rt, number)?;
@@ -639,7 +642,7 @@ impl<'s, J: Naming, B: Coded> Client<'s, J, B> {
     // Ends a transaction whose calls are all undone, under all locks.
     fn end_held<R: Wait>(&mut self, rt: &R, number: u64) -> Result<(), Refusal>
         requires { self.old.phase ≡ Phase.Entered number }
-        ensures step { Acts ⟦<J as Naming>⟧ self.old [] (Action.Ended number result) self.new }
+        ensures step { Acts J.origin self.old [] (Action.Ended number result) self.new }
         ensures phase { self.new.phase ≡ ended_by result number }
     {
         let (shelves, mutex) = (self.shelves, self.desk);
@@ -653,7 +656,7 @@ impl<'s, J: Naming, B: Coded> Client<'s, J, B> {
     // Undoes a transaction's calls, until none is left.
     fn undo<R: Wait>(&mut self, rt: &R, number: u64) -> Result<(), Refusal>
         requires { self.old.phase ≡ Phase.Entered number }
-        ensures step { Undoes ⟦<J as Naming>⟧ number self.old result self.new }
+        ensures step { Undoes J.origin number self.old result self.new }
         ensures phase { self.new.phase ≡ self.old.phase }
     {
         self.upheld();
@@ -668,7 +671,7 @@ impl<'s, J: Naming, B: Coded> Client<'s, J, B> {
     // Undoes a transaction's newest call.
     fn back<R: Wait>(&mut self, rt: &R, number: u64) -> Result<bool, Refusal>
         requires { self.old.phase ≡ Phase.Entered number }
-        ensures step { Acts ⟦<J as Naming>⟧ self.old [] (back number result) self.new }
+        ensures step { Acts J.origin self.old [] (back number result) self.new }
         ensures phase { self.new.phase ≡ self.old.phase }
     {
         self.shared.signal.let_drain(rt);
@@ -689,7 +692,7 @@ impl<'s, J: Naming, B: Coded> Client<'s, J, B> {
     fn find_newest<R: Wait>(&mut self, rt: &R, number: u64) -> Result<u8, Result<bool, Refusal>>
         requires { self.old.phase ≡ Phase.Entered number }
         ensures ok { OnOk result (self.new ≡ self.old) }
-        ensures step { IfErr result (λ r. Acts ⟦<J as Naming>⟧ self.old [] (back number r)
+        ensures step { IfErr result (λ r. Acts J.origin self.old [] (back number r)
             self.new) }
         ensures phase { self.new.phase ≡ self.old.phase }
     {
@@ -702,7 +705,7 @@ impl<'s, J: Naming, B: Coded> Client<'s, J, B> {
     // where it is on another collection.
     fn back_at<R: Wait>(&mut self, rt: &R, number: u64, at: u8) -> Option<Result<bool, Refusal>>
         requires { self.old.phase ≡ Phase.Entered number }
-        ensures step { IfSome result (λ r. Acts ⟦<J as Naming>⟧ self.old [] (back number r)
+        ensures step { IfSome result (λ r. Acts J.origin self.old [] (back number r)
             self.new) }
         ensures none { IsNone result → self.new ≡ self.old }
         ensures phase { self.new.phase ≡ self.old.phase }
@@ -730,7 +733,7 @@ impl<'s, J: Naming, B: Coded> Client<'s, J, B> {
     ) -> Option<Result<bool, Refusal>>
         requires place { which_of at ≡ Q.which }
         requires own { self.old.phase ≡ Phase.Entered number }
-        ensures step { IfSome result (λ r. Acts ⟦<J as Naming>⟧ self.old [] (back number r)
+        ensures step { IfSome result (λ r. Acts J.origin self.old [] (back number r)
             self.new) }
         ensures none { IsNone result → self.new ≡ self.old }
         ensures phase { self.new.phase ≡ self.old.phase }
@@ -744,7 +747,7 @@ impl<'s, J: Naming, B: Coded> Client<'s, J, B> {
     // The number of the client's transaction, which is entered if it was only drawn.
     fn enter(&mut self, desk: &mut Desk<J, B>) -> Result<u64, Refusal>
         requires { IsOpen self.old.phase }
-        ensures { Enters ⟦<J as Naming>⟧ self.old.phase self.old result self.new }
+        ensures { Enters J.origin self.old.phase self.old result self.new }
     {
         match self.phase {
             Phase::Entered(number) => Ok(number),

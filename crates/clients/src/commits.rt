@@ -39,7 +39,7 @@ impl<J: Naming, B: Coded> Desk<J, B> {
     ) -> Option<Result<u64, Refusal>>
         requires line { me.old.table ≡ J.line }
         requires own { HasEntered me.old number }
-        ensures some { IfSome result (λ r. Steps ⟦<J as Naming>⟧ me.old (Action.Commit number r)
+        ensures some { IfSome result (λ r. Steps J.origin me.old (Action.Commit number r)
             me.new) }
         ensures none { IsNone result → me.new ≡ me.old }
     {
@@ -91,7 +91,8 @@ fn commit_over<J: Naming, B: Coded>(
 }
 
 // Runs on each shelf what these entries of the transaction put off or left there, and gives its
-// needs up. A shelf that is not held stays, as there is nothing to settle on it. How many calls ran.
+// needs up. A shelf that is not held stays, as there is nothing to settle on it. How many calls
+// ran.
 fn settle_all<J: Naming, B: Coded>(
     shelves: &Shelves<J, B>,
     nears: &mut Four<TwinNear<Touch<Shelf<B::Shelf>>>>,

@@ -94,7 +94,8 @@ impl<J: Naming, B: Coded> Model for Desk<J, B> {
     ghost invariant = { λ d.
         IsJournalDesk ⟦<J as Naming>⟧ B.meaning B.making B.collections B.whole B.fits d.journal
         d.nears d.seat d.sender d.near
-        × (d.maker.table ≡ J.numbers) × (d.maker.from ≡ J.next) × (d.watcher.table ≡ J.mark) };
+        × (d.maker.table ≡ J.numbers) × (d.maker.from ≡ J.origin.next) ×
+        (d.watcher.table ≡ J.mark) };
 }
 
 impl<J: Naming, B: Coded> Desk<J, B> {
@@ -115,11 +116,11 @@ impl<J: Naming, B: Coded> Desk<J, B> {
             ((w : Which) → Leads (pick nears w) (pick f w)) ×
             IsBook B.meaning B.making B.collections B.whole B.fits journal f ×
             (told_book B.collections (book_state B.whole journal f) ≡
-            opened J.format J.start J.next J.wear) }
+            opened J.origin.format J.origin.start J.origin.next J.origin.wear) }
         requires seat { seat ≡ record { table = J.line; all = []; clients = 0 } }
         requires sender { sender ≡ record { table = J.handoff; sent = []; noted = [] } }
         requires near { near ≡ record { table = J.gathering; gather = nothing_gathered } }
-        requires maker { maker ≡ record { table = J.numbers; from = J.next; made = 0 } }
+        requires maker { maker ≡ record { table = J.numbers; from = J.origin.next; made = 0 } }
         requires watcher { watcher.table ≡ J.mark }
     {
         Self {
@@ -144,7 +145,7 @@ impl<J: Naming, B: Coded> Desk<J, B> {
         number: u64,
     ) -> Result<(), Refusal>
         requires { me.old.table ≡ J.line }
-        ensures { Steps ⟦<J as Naming>⟧ me.old (Action.Enter number result) me.new }
+        ensures { Steps J.origin me.old (Action.Enter number result) me.new }
     {
         let entered = self.journal.enter(number);
         note::<Brand, _>(&shared.line, &mut self.seat, me, &(number, &entered));
@@ -205,7 +206,7 @@ impl<J: Naming, B: Coded> Desk<J, B> {
     pub fn client(&mut self, shared: &Shared<J>) -> Result<(ClientSeat, Watcher, Drawer), Refusal>
         ensures line { IfOk result (λ r. (r.0.table ≡ J.line) × (r.0.seen ≡ [])) }
         ensures watcher { IfOk result (λ r. r.1 ≡ new_watcher J.mark) }
-        ensures drawer { IfOk result (λ r. (r.2.table ≡ J.numbers) × (r.2.from ≡ J.next) ×
+        ensures drawer { IfOk result (λ r. (r.2.table ≡ J.numbers) × (r.2.from ≡ J.origin.next) ×
             (r.2.drawn ≡ [])) }
         ensures worn { IsOkUnless result Refusal.Worn }
     {

@@ -36,7 +36,7 @@ impl<J: Naming, B: Coded> Desk<J, B> {
     ) -> Result<(), Refusal>
         requires line { me.old.table ≡ J.line }
         requires own { HasEntered me.old number }
-        ensures { Steps ⟦<J as Naming>⟧ me.old (Action.Ended number result) me.new }
+        ensures { Steps J.origin me.old (Action.Ended number result) me.new }
     {
         let Self {
             journal,

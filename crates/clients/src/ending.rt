@@ -29,7 +29,7 @@ impl<J: Naming, B: Coded> Desk<J, B> {
         requires line { me.old.table ≡ J.line }
         requires own { HasEntered me.old number }
         ensures ok { OnOk result (me.new ≡ me.old) }
-        ensures err { IfErr result (λ r. Steps ⟦<J as Naming>⟧ me.old (Action.Back number r)
+        ensures err { IfErr result (λ r. Steps J.origin me.old (Action.Back number r)
             me.new) }
     {
         match self.journal.newest(number) {
@@ -57,7 +57,7 @@ impl<J: Naming, B: Coded> Desk<J, B> {
         requires line { me.old.table ≡ J.line }
         requires own { HasEntered me.old number }
         requires place { which_of at ≡ Q.which }
-        ensures some { IfSome result (λ r. Steps ⟦<J as Naming>⟧ me.old (Action.Back number r)
+        ensures some { IfSome result (λ r. Steps J.origin me.old (Action.Back number r)
             me.new) }
         ensures none { IsNone result → me.new ≡ me.old }
     {

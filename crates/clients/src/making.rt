@@ -35,7 +35,7 @@ impl<J: Naming, B: Coded> Desk<J, B> {
         kind: Kind,
     ) -> Result<u64, Refusal>
         requires { me.old.table ≡ J.line }
-        ensures { Steps ⟦<J as Naming>⟧ me.old (Action.Make name.now kind result) me.new }
+        ensures { Steps J.origin me.old (Action.Make name.now kind result) me.new }
     {
         let Self {
             journal,

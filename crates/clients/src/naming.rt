@@ -6,10 +6,9 @@ use std::marker::Brand;
 /// a function that is generic in it. The crate's page shows how. No value of it is made.
 pub trait Naming {
     ghost use Rattle.std.specs.Prelude.{ℕ, List};
-    ghost use Rattle.calls.specs.Contents.{Collection};
-    ghost use Rattle.calls.specs.declared.format.Format.{Format};
     ghost use Rattle.atomic_table.specs.Seated.{TableId};
     ghost use Rattle.catalog.specs.declared.four.Four.{Four};
+    ghost use Rattle.clients.specs.Origins.{Origin};
 
     /// The tables of the line, of the mark, of the numbers and of the hand-off, and of the accords
     /// on what is gathered of the book and on the image that the keeper awaits.
@@ -28,14 +27,8 @@ pub trait Naming {
     /// The tables of the twins, one for each shelf.
     ghost shelves: { Four TableId };
 
-    /// What the opened book held, the format of its store, its wear and its next number.
-    ghost start: { List Collection };
-
-    ghost format: { Format };
-
-    ghost wear: { ℕ };
-
-    ghost next: { ℕ };
+    /// What the store was opened with.
+    ghost origin: { Origin };
 
     /// The moment of the disk at which it was open, and what a stop at a moment since an earlier
     /// one might have left then.
@@ -72,13 +65,12 @@ impl Naming for Brand {
       fourth = no_table;
     } };
 
-    ghost start = { [] };
-
-    ghost format = { Format.One };
-
-    ghost wear = { 0 };
-
-    ghost next = { 0 };
+    ghost origin = { record {
+      start = [];
+      format = Format.One;
+      wear = 0;
+      next = 0;
+    } };
 
     ghost opened_at = { 0 };
 

@@ -29,14 +29,14 @@ impl<J: Naming> Model for Seen<J> {
     } };
 
     ghost invariant = { λ s. (s.line.table ≡ J.line) × (s.watcher.table ≡ J.mark) ×
-        IsSeen ⟦<J as Naming>⟧ s.line.seen };
+        IsSeen J.origin s.line.seen };
 }
 
 impl<J: Naming> Seen<J> {
     pub fn new(line: ClientSeat, watcher: Watcher) -> Self
         requires line { line.table ≡ J.line }
         requires watcher { watcher.table ≡ J.mark }
-        requires legal { IsSeen ⟦<J as Naming>⟧ line.seen }
+        requires legal { IsSeen J.origin line.seen }
         ensures { result ≡ record {
           number = line.number;
           seen = line.seen;

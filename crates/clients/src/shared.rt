@@ -27,5 +27,5 @@ pub struct Shared<J: Naming> {
     pub ghost handoff_is: { handoff ≡ J.handoff },
     pub ghost gathering_is: { gathering ≡ J.gathering },
     pub ghost awaited_is: { awaited ≡ J.awaited },
-    pub ghost format_is: { format ≡ J.format },
+    pub ghost format_is: { format ≡ J.origin.format },
 }

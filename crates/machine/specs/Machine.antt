@@ -8,7 +8,7 @@ use Rattle.calls.specs.declared.kind.Kind.{Kind}
 use Rattle.calls.specs.declared.call.Call.{Call}
 use Rattle.calls.specs.declared.reply.Reply.{Reply}
 use Rattle.calls.specs.declared.format.Format.{Format}
-use Rattle.calls.specs.Rules.{need_of}
+use Rattle.calls.specs.Rules.{need_of, IsUndoneInPlace}
 use Rattle.calls.specs.Reads.{reads, is_journalled}
 use Rattle.calls.specs.Transactions.{Event, Entry, Asked, PutOff, own, others, calls_of, laters_of}
 use Rattle.ledger.specs.LeftCalls.{GoesTwice}
@@ -16,7 +16,7 @@ use Rattle.calls.specs.Transactions.{Leads}
 use Rattle.calls.specs.Limits.{max_live, max_calls, max_wear}
 use Rattle.abstract_locks.specs.declared.table.Hold.{Hold}
 use Rattle.abstract_locks.specs.Holds.{hold, IsClear, IsAdded, IsGivenUp}
-use Rattle.undo_log.specs.Entries.{HasNoCall, IsNewestCall}
+use Rattle.undo_log.specs.Entries.{HasNoCall, IsNewestCall, HasNewestCall}
 use Rattle.undo_log.specs.Logs.{Statuses, Lives, Falls, fallen}
 use Rattle.boosted.specs.Meaning.{CanAsk, CanDefer, Undoes, Meaning}
 use Rattle.shelf.specs.Shelves as shelves
@@ -91,6 +91,10 @@ pub record FallRow {S : Type 0} (s : State S) (n : ℕ) (t : State S) : Type 0 w
 abbrev pub HasNewestRead : ℕ → List (ℕ × Entry) → Type 0
 HasNewestRead n es = (x : Event) × (rest : List (ℕ × Entry)) × IsNewestCall n es x rest ×
     (reads x.call x.reply ≡ true)
+
+-- The newest call of the number is there, and is not undone in place.
+abbrev pub UndoingTakesMemory : ℕ → List (ℕ × Entry) → Type 0
+UndoingTakesMemory n es = (x : Event) × HasNewestCall n es x × (IsUndoneInPlace x.call x.reply → ⊥)
 
 -- The newest call of a transaction is undone, which only reads: nothing was changed by it. This
 -- leaves no record, and does not wear.

@@ -13,6 +13,7 @@ ghost use Rattle.undo_log.specs.Logs.{Lives};
 ghost use Rattle.boosted.specs.Meaning.{HasRoom};
 ghost use Rattle.ledger.specs.LeftCalls.{GoesTwice};
 ghost use Rattle.machine.specs.Machine.{CanBegin, BeginRow, FallRow, UnreadRow, HasNewestRead};
+ghost use Rattle.machine.specs.Machine.{UndoingTakesMemory};
 ghost use Rattle.machine.specs.Machine.{CanCall, CallRow, ReadRow, CanPutOff, LaterRow, BackRow};
 ghost use Rattle.machine.specs.Machines.{HasRoomFor};
 ghost use Rattle.machine.specs.Wholes.{state_on};
@@ -226,7 +227,7 @@ impl Accounts {
     /// Undoes the newest call of the transaction, which is on the shelf. From then on it is
     /// falling. It holds its needs still.
     ///
-    /// NoMemory leaves all as before.
+    /// NoMemory leaves all as before, and comes only for a call that is not undone in place.
     pub fn back<C: Boosted<At = u8>>(
         &mut self,
         shelf: &mut Shelf<C>,
@@ -241,6 +242,7 @@ impl Accounts {
             (state_on self.new shelf.new)) }
         ensures same { OnErr result ((self.new ≡ self.old) × (shelf.new ≡ shelf.old)) }
         ensures refusal { IsOkUnless result Refusal.NoMemory }
+        ensures in_place { OnErr result (UndoingTakesMemory number self.old.entries) }
     {
         let Some(newest) = self.ledger.live().newest(number) else {
             unreachable!();

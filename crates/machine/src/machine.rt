@@ -21,6 +21,7 @@ ghost use Rattle.calls.specs.Formats.{widest};
 ghost use Rattle.machine.specs.Machine.{IsRunning, CanBegin, BeginRow, CommitRow, EndedRow};
 ghost use Rattle.machine.specs.Machine.{FallRow, MakeRow, CanCall, CallRow, CanPutOff, LaterRow};
 ghost use Rattle.machine.specs.Machine.{BackRow, ReadRow, UnreadRow, HasNewestRead, Steps};
+ghost use Rattle.machine.specs.Machine.{UndoingTakesMemory};
 ghost use Rattle.ledger.specs.LeftCalls.{GoesTwice};
 ghost use Rattle.machine.specs.Machines.{resting, unmade, HasRoomFor, IsUpheld, StepAnswers};
 ghost use Rattle.machine.specs.Machines.{RepeatAnswers};
@@ -181,13 +182,14 @@ impl<B: Parts + Coded> Machine<B> {
     /// Undoes the newest call of the transaction. From then on it is falling. It holds its needs
     /// until `ended`.
     ///
-    /// NoMemory leaves all as before.
+    /// NoMemory leaves all as before, and comes only for a call that is not undone in place.
     pub fn back(&mut self, number: u64) -> Result<(), Refusal>
         requires live { Lives self.old.live number }
         requires call { HasNoCall number self.old.entries → ⊥ }
         ensures ok { OnOk result (BackRow B.meaning self.old number self.new) }
         ensures err { OnErr result (self.new ≡ self.old) }
         ensures refusal { IsOkUnless result Refusal.NoMemory }
+        ensures in_place { OnErr result (UndoingTakesMemory number self.old.entries) }
     {
         self.accounts.back(&mut self.shelf, number)
     }

@@ -10,15 +10,15 @@ use Rattle.sessions.specs.Sessions.{SessionState, Answers, CarriesOut, answers_o
 module _ {J : Type 0} (j : Ghosts J) where
   -- a line more
   pub carries_on : (k : ℕ) (old mid new : SessionState) (lines : List Line) (line : Line)
-      (said : List Answer) (more : Option Answer) → CarriesOut j k old lines said mid →
-      Answers j k mid line more new →
-      CarriesOut j k old (lines ++ line ∷ []) (said ++ answers_of more) new
+      (said : List Answer) (more : Option Answer) → CarriesOut j.origin k old lines said mid →
+      Answers j.origin k mid line more new →
+      CarriesOut j.origin k old (lines ++ line ∷ []) (said ++ answers_of more) new
   carries_on k old mid new [] line said more carried answered = (
     more,
     [],
     new,
     ap (λ l. l ++ answers_of more) carried.0 ∙ sym (append-nil (answers_of more)),
-    subst (λ s. Answers j k s line more new) carried.1 answered,
+    subst (λ s. Answers j.origin k s line more new) carried.1 answered,
     (refl, refl),
   )
   carries_on k old mid new (l ∷ lines) line said more carried answered =

@@ -8,7 +8,7 @@ use Rattle.calls.specs.declared.refusal.Refusal.{Refusal}
 use Rattle.calls.specs.Limits.{number_end}
 use Rattle.txn.specs.declared.steps.Action.{Action}
 use Rattle.txn.specs.declared.steps.Target.{Target}
-use Rattle.clients.specs.declared.naming.Naming.{Ghosts}
+use Rattle.clients.specs.Origins.{Origin}
 use Rattle.clients.specs.declared.phase.Phase.{Phase}
 use Rattle.clients.specs.declared.ticket.Ticket.{Ticket}
 use Rattle.clients.specs.Known.{Known}
@@ -58,22 +58,22 @@ abbrev pub answers_of : Option Answer → List Answer
 answers_of None = []
 answers_of (Some answer) = answer ∷ []
 
-module _ {J : Type 0} (j : Ghosts J) where
+module _ (o : Origin) where
   -- A collection is made. Its place is the ticket then.
   pub record Makes (old : SessionState) (name : List ℕ) (kind : Kind) (r : Result Ticket Refusal)
       (new : SessionState) : Type 0 where
-    pub acts : calls.Acts j old.known [] (Action.Make name kind (calls.placed r)) new.known
+    pub acts : calls.Acts o old.known [] (Action.Make name kind (calls.placed r)) new.known
     pub phase : new.known.phase ≡ old.known.phase
     pub ticket : new.ticket ≡ ticket_after old.ticket r
 
   -- A transaction begins under a number that is drawn, unless one is open.
   abbrev pub Begins : SessionState → Result ℕ Refusal → SessionState → Type 0
   Begins old (Ok n) new = IsClosed old.known × (n < number_end) ×
-      calls.Draws j.next old.known n new.known ×
+      calls.Draws o.next old.known n new.known ×
       (new.known.phase ≡ Phase.Drawn n) × (new.ticket ≡ old.ticket)
   Begins old (Err e) new =
       (calls.IsOpen old.known.phase × (e ≡ Refusal.AlreadyLive) × (new ≡ old))
-      ⊎ (IsClosed old.known × (e ≡ Refusal.Worn) × calls.IsWorn j.next old.known new.known ×
+      ⊎ (IsClosed old.known × (e ≡ Refusal.Worn) × calls.IsWorn o.next old.known new.known ×
       (new.ticket ≡ old.ticket))
 
   -- Without an open transaction nothing is done, and NoSuchTxn is answered; in one it does this.
@@ -85,7 +85,7 @@ module _ {J : Type 0} (j : Ghosts J) where
 
   -- the transaction makes a call on the collection of a name
   abbrev pub Asks : List ℕ → Call → Known → Result Reply Refusal → Known → Type 0
-  Asks name call old r new = calls.Does j old.phase old
+  Asks name call old r new = calls.Does o old.phase old
       (λ n a. (found : Option ℕ) × (a ≡ Action.Call n (Target.Named name found) call r))
       (λ e. r ≡ Err e) Phase.Entered new
 
@@ -101,13 +101,13 @@ module _ {J : Type 0} (j : Ghosts J) where
 
   -- it puts a call off to the commit
   abbrev pub PutsOff : List ℕ → Call → Known → Result (Unit {0}) Refusal → Known → Type 0
-  PutsOff name call old r new = calls.Does j old.phase old
+  PutsOff name call old r new = calls.Does o old.phase old
       (λ n a. (found : Option ℕ) × (a ≡ Action.Later n (Target.Named name found) call r))
       (λ e. r ≡ Err e) Phase.Entered new
 
   -- it commits
   abbrev pub Commits : Known → Result Ticket Refusal → Known → Type 0
-  Commits old r new = calls.Does j old.phase old (λ n a. a ≡ Action.Commit n (calls.placed r))
+  Commits old r new = calls.Does o old.phase old (λ n a. a ≡ Action.Commit n (calls.placed r))
       (λ e. r ≡ Err e) (calls.ended_by r) new
 
   -- The client is told whether its last ticket is kept: the mark is loaded where it has one.
@@ -137,7 +137,7 @@ module _ {J : Type 0} (j : Ghosts J) where
       (new.ticket ≡ ticket_after old.ticket placed))
   Obeys old Request.Abort r new =
       (aborted : Result (Unit {0}) Refusal) × (r ≡ telling (λ done. Said.Aborted) aborted) ×
-      InOpen old aborted new (calls.Aborts j old.known.phase old.known aborted new.known ×
+      InOpen old aborted new (calls.Aborts o old.known.phase old.known aborted new.known ×
       (new.ticket ≡ old.ticket))
   Obeys old Request.Kept r new =
       (kept : Option Bool) × (r ≡ Ok (said_kept kept)) × Looks old kept new
@@ -173,16 +173,16 @@ Ends old End.Kept new = (ticket : Ticket) × (old.ticket ≡ Some ticket) ×
 Ends old End.Lost new = (ticket : Ticket) × (old.ticket ≡ Some ticket) ×
     calls.Waits old.known ticket.place (Err Refusal.Lost) new.known × (new.ticket ≡ old.ticket)
 
-module _ {J : Type 0} (j : Ghosts J) where
+module _ (o : Origin) where
   -- what a request is answered
   abbrev pub Says : SessionState → Request → Said → SessionState → Type 0
   Says old request said new = (r : Result Said Refusal) × (said ≡ saying r) ×
-      Obeys j old request r new
+      Obeys o old request r new
 
   -- The transcript tells what the client's lines were answered, and how its wait ended.
   pub record IsRun (k : ℕ) (old : SessionState) (lines : List Line) (new : SessionState)
       (t : Transcript) : Type 0 where
     pub client : t.client ≡ k
     pub behind : SessionState
-    pub carried : CarriesOut j k old lines t.answers.items behind
+    pub carried : CarriesOut o k old lines t.answers.items behind
     pub ended : Ends behind t.end new

@@ -55,7 +55,7 @@ impl<'c, 's, J: Naming> Session<'c, 's, J> {
         client: u8,
         lines: &[Line],
     ) -> Result<Transcript, Refusal>
-        ensures run { IfOk result (IsRun ⟦<J as Naming>⟧ client self.old lines.now self.new) }
+        ensures run { IfOk result (IsRun J.origin client self.old lines.now self.new) }
         ensures refused { IsOkUnless result Refusal.NoMemory }
     {
         let answers = self.carry_out(rt, alloc, client, lines)?;
@@ -76,7 +76,7 @@ impl<'c, 's, J: Naming> Session<'c, 's, J> {
         lines: &[Line],
     ) -> Result<Vec<Answer>, Refusal>
         ensures carried { IfOk result (λ answers.
-            CarriesOut ⟦<J as Naming>⟧ client self.old lines.now answers.items self.new) }
+            CarriesOut J.origin client self.old lines.now answers.items self.new) }
         ensures refused { IsOkUnless result Refusal.NoMemory }
     {
         let mut answers = Vec::new(alloc);
@@ -94,7 +94,7 @@ impl<'c, 's, J: Naming> Session<'c, 's, J> {
         line: &Line,
         answers: &mut Vec<Answer>,
     ) -> Result<(), Refusal>
-        ensures noted { OnOk result (Notes ⟦<J as Naming>⟧ client self.old line.now
+        ensures noted { OnOk result (Notes J.origin client self.old line.now
             answers.old.items answers.new.items self.new) }
         ensures refused { IsOkUnless result Refusal.NoMemory }
     {
@@ -106,7 +106,7 @@ impl<'c, 's, J: Naming> Session<'c, 's, J> {
 
     // What a line answers the client of this number, if it is one of its requests.
     fn answer<R: Wait>(&mut self, rt: &R, client: u8, line: &Line) -> Option<Answer>
-        ensures { Answers ⟦<J as Naming>⟧ client self.old line.now result self.new }
+        ensures { Answers J.origin client self.old line.now result self.new }
     {
         match &line.what {
             Action::Client(number, request) if *number == client => {
@@ -121,7 +121,7 @@ impl<'c, 's, J: Naming> Session<'c, 's, J> {
 
     // Carries a request out.
     fn obey<R: Wait>(&mut self, rt: &R, request: &Request) -> Result<Said, Refusal>
-        ensures { Obeys ⟦<J as Naming>⟧ self.old request.now result self.new }
+        ensures { Obeys J.origin self.old request.now result self.new }
     {
         match request {
             Request::Make(kind, name) => Ok(Said::Placed(self.make(rt, *kind, name)?.place)),
@@ -142,7 +142,7 @@ impl<'c, 's, J: Naming> Session<'c, 's, J> {
 
     // Makes a collection, whose ticket is the client's then.
     fn make<R: Wait>(&mut self, rt: &R, kind: Kind, name: &Name) -> Result<Ticket, Refusal>
-        ensures { Makes ⟦<J as Naming>⟧ self.old name.now kind result self.new }
+        ensures { Makes J.origin self.old name.now kind result self.new }
     {
         let ticket = self.client.make(rt, name.as_str(), kind)?;
         self.ticket = Some(ticket);
@@ -151,7 +151,7 @@ impl<'c, 's, J: Naming> Session<'c, 's, J> {
 
     // Begins a transaction: AlreadyLive where one is open, else the refusal of `Client::begin`.
     fn begin(&mut self) -> Result<u64, Refusal>
-        ensures { Begins ⟦<J as Naming>⟧ self.old result self.new }
+        ensures { Begins J.origin self.old result self.new }
     {
         if self.client.is_open() {
             return Err(Refusal::AlreadyLive);
@@ -167,8 +167,8 @@ impl<'c, 's, J: Naming> Session<'c, 's, J> {
         name: &Name,
         operation: &Operation,
     ) -> Result<Reply, Refusal>
-        ensures { InOpen ⟦<J as Naming>⟧ self.old result self.new
-            (AsksFor ⟦<J as Naming>⟧ name.now operation.now self.old.known result self.new.known ×
+        ensures { InOpen J.origin self.old result self.new
+            (AsksFor J.origin name.now operation.now self.old.known result self.new.known ×
             (self.new.ticket ≡ self.old.ticket)) }
     {
         if !self.client.is_open() {
@@ -180,8 +180,8 @@ impl<'c, 's, J: Naming> Session<'c, 's, J> {
     // Puts the call on the collection of the name off to the commit: NoSuchTxn where no transaction
     // is open, else what `Client::later` answers.
     fn later<R: Wait>(&mut self, rt: &R, name: &Name, call: &Call) -> Result<(), Refusal>
-        ensures { InOpen ⟦<J as Naming>⟧ self.old result self.new
-            (PutsOff ⟦<J as Naming>⟧ name.now call.now self.old.known result self.new.known ×
+        ensures { InOpen J.origin self.old result self.new
+            (PutsOff J.origin name.now call.now self.old.known result self.new.known ×
             (self.new.ticket ≡ self.old.ticket)) }
     {
         if !self.client.is_open() {
@@ -193,8 +193,8 @@ impl<'c, 's, J: Naming> Session<'c, 's, J> {
     // Commits the open transaction, whose ticket is the client's then: NoSuchTxn where none is
     // open, else what `Client::commit` answers.
     fn commit<R: Wait>(&mut self, rt: &R) -> Result<Ticket, Refusal>
-        ensures { InOpen ⟦<J as Naming>⟧ self.old result self.new
-            (Commits ⟦<J as Naming>⟧ self.old.known result self.new.known ×
+        ensures { InOpen J.origin self.old result self.new
+            (Commits J.origin self.old.known result self.new.known ×
             (self.new.ticket ≡ ticket_after self.old.ticket result)) }
     {
         if !self.client.is_open() {
@@ -208,8 +208,8 @@ impl<'c, 's, J: Naming> Session<'c, 's, J> {
     // Takes the open transaction back: NoSuchTxn where none is open, else what `Client::abort`
     // answers.
     fn abort<R: Wait>(&mut self, rt: &R) -> Result<(), Refusal>
-        ensures { InOpen ⟦<J as Naming>⟧ self.old result self.new
-            (Aborts ⟦<J as Naming>⟧ self.old.known.phase self.old.known result self.new.known ×
+        ensures { InOpen J.origin self.old result self.new
+            (Aborts J.origin self.old.known.phase self.old.known result self.new.known ×
             (self.new.ticket ≡ self.old.ticket)) }
     {
         if !self.client.is_open() {
@@ -220,7 +220,7 @@ impl<'c, 's, J: Naming> Session<'c, 's, J> {
 
     // Whether the client's last ticket is kept, if it has one.
     fn is_kept(&mut self) -> Option<bool>
-        ensures { Looks ⟦<J as Naming>⟧ self.old result self.new }
+        ensures { Looks J.origin self.old result self.new }
     {
         let ticket = self.ticket?;
         Some(self.client.kept(&ticket))
@@ -233,7 +233,7 @@ impl<J: Naming> Speaker for Session<'_, '_, J> {
 
     type Said = Said;
 
-    ghost says = { Says ⟦<J as Naming>⟧ };
+    ghost says = { Says J.origin };
 
     ghost ends = { Ends };
 
@@ -294,7 +294,7 @@ fn ask<J: Naming, R: Wait>(
     operation: &Operation,
 ) -> Result<Reply, Refusal>
     requires { IsOpen client.old.phase }
-    ensures { AsksFor ⟦<J as Naming>⟧ name.now operation.now client.old result client.new }
+    ensures { AsksFor J.origin name.now operation.now client.old result client.new }
 {
     match operation {
         Operation::Call(call) => client.call(rt, name.as_str(), call),
@@ -310,7 +310,7 @@ fn remove<J: Naming, R: Wait>(
     key: u64,
 ) -> Result<Reply, Refusal>
     requires { IsOpen client.old.phase }
-    ensures { AsksFor ⟦<J as Naming>⟧ name.now (Operation.Remove key) client.old result client.new }
+    ensures { AsksFor J.origin name.now (Operation.Remove key) client.old result client.new }
 {
     let answer = client.call(rt, name, &Call::MapRemove(key));
     if is_of_another_kind(&answer) {

@@ -2,9 +2,9 @@
 //! what concerns contents and needs; what was asked for, and the wear, are kept elsewhere.
 #![tactic(auto)]
 
-ghost use Rattle.std.specs.Prelude.{◌≡◌, [], map, length, IfErr, OnOk, OnErr, IsOkUnless};
+ghost use Rattle.std.specs.Prelude.{◌≡◌, [], map, length, IfErr, OnOk, OnErr, IsOk, IsOkUnless};
 ghost use Rattle.std.specs.Borrow.{Lends, sem};
-ghost use Rattle.calls.specs.Rules.{Askable, need_of};
+ghost use Rattle.calls.specs.Rules.{Askable, need_of, IsUndoneInPlace};
 ghost use Rattle.calls.specs.Transactions.{Leads, laters_of};
 ghost use Rattle.abstract_locks.specs.Holds.{hold, IsClear, IsBusyRefusal, IsAdded, IsGivenUp};
 ghost use Rattle.undo_log.specs.Entries.{stamped_entry};
@@ -184,8 +184,9 @@ impl<C: Boosted<At = u8>> Shelf<C> {
 
     /// Takes a call back, which can be. The needs stay.
     ///
-    /// NoMemory leaves all as before. It costs what `Boosted::look` and `Boosted::run` do, and a
-    /// copy of the value that the call put in or took out.
+    /// NoMemory leaves all as before, and comes only for a call that is not undone in place: its
+    /// inverse puts something in, or may be answered a value. It costs what `Boosted::look` and
+    /// `Boosted::run` do, and a copy of the value that the call put in or took out.
     pub fn undo(&mut self, newest: &Logged) -> Result<(), Refusal>
         requires askable { Askable newest.now.call }
         requires undoes { (before : C) ×
@@ -196,6 +197,7 @@ impl<C: Boosted<At = u8>> Shelf<C> {
         ensures holds { self.new.holds ≡ self.old.holds }
         ensures same { OnErr result (self.new ≡ self.old) }
         ensures refusal { IsOkUnless result Refusal.NoMemory }
+        ensures in_place { IsUndoneInPlace newest.now.call newest.now.reply → IsOk result }
     {
         let Some(call) = newest.call.inverse(&newest.reply)? else {
             return Ok(());

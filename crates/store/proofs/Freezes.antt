@@ -116,7 +116,8 @@ module _ {J : Type 0} (j : Ghosts J) where
         gathering = table ∙ is.gathering;
         gathered = of;
         groups = is.groups;
-        handed = gathers_on catalog_meaning catalog_making (λ v. v) j.format j.start j.wear seat.all
+        handed = gathers_on catalog_meaning catalog_making (λ v. v) j.origin.format j.origin.start
+            j.origin.wear seat.all
             book c
             sender.sent is.groups (frozen_ends sender.noted) [] is.handed None r same;
         owned = owned_then seat.all step is.owned refl;
@@ -140,7 +141,8 @@ module _ {J : Type 0} (j : Ghosts J) where
         gathering = is.gathering;
         gathered = subst (λ b. IsGatheredOf (λ v. v) b near.gather) (sym same) is.gathered;
         groups = is.groups;
-        handed = freezes_nothing catalog_meaning catalog_making (λ v. v) j.format j.start j.wear
+        handed = freezes_nothing catalog_meaning catalog_making (λ v. v) j.origin.format
+            j.origin.start j.origin.wear
             seat.all
             book c sender.sent is.groups (frozen_ends sender.noted) [] is.handed None m n e froze
             r;
@@ -159,7 +161,8 @@ module _ {J : Type 0} (j : Ghosts J) where
       (told_book collections b)
   desk_kept {collections = collections} told sound b seat sender near is kept =
       kept_told told sound b kept
-      (comes_to j.format j.start j.wear seat.all (standing (told_book collections b))
+      (comes_to j.origin.format j.origin.start j.origin.wear seat.all
+      (standing (told_book collections b))
       is.handed.legal).is_sound
 
 -- ---- both locks
@@ -175,9 +178,11 @@ module _ {J D : Type 0} (j : Ghosts J) (g : disks.Ghosts D) where
     ends = frozen_ends sender.noted
 
     -- what was sent
-    handed : HasHanded catalog_meaning catalog_making (λ v. v) j.format j.start j.wear seat.all book
+    handed : HasHanded catalog_meaning catalog_making (λ v. v) j.origin.format j.origin.start
+        j.origin.wear seat.all book
         (receiver.received ++ transit) desk.groups ends []
-    handed = subst (λ bs. HasHanded catalog_meaning catalog_making (λ v. v) j.format j.start j.wear
+    handed = subst (λ bs. HasHanded catalog_meaning catalog_making (λ v. v) j.origin.format
+        j.origin.start j.origin.wear
         seat.all book bs desk.groups ends []) order.order desk.handed
 
     -- what was received of that carries the first records
@@ -197,13 +202,15 @@ module _ {J D : Type 0} (j : Ghosts J) (g : disks.Ghosts D) where
 
     -- the keeper has received it, and begun some images
     module _ (s : j.sound) where
-      received : ((begun : List BegunImage) × HasReceived g.seen g.may_leave j.format j.start j.wear
+      received : ((begun : List BegunImage) ×
+          HasReceived g.seen g.may_leave j.origin.format j.origin.start j.origin.wear
           (records_by seat.all) (journalled book.state) ends begun receiver.received k)
-          × LeavesSince j g k.disk (YieldsUpTo j.start (records_by seat.all) 0)
-          × All (IsKeptSince j g k (YieldsUpTo j.start (records_by seat.all))) mark.raised
+          × LeavesSince j g k.disk (YieldsUpTo j.origin.start (records_by seat.all) 0)
+          × All (IsKeptSince j g k (YieldsUpTo j.origin.start (records_by seat.all))) mark.raised
       received =
           let had = vault.received s (records_by seat.all) (journalled book.state) parts.0
-          (subst (AreRecorded j.format j.start j.wear (records_by seat.all) (journalled book.state))
+          (subst (AreRecorded j.origin.format j.origin.start j.origin.wear (records_by seat.all)
+          (journalled book.state))
           same
           (desk.recorded s)) parts.3 begins_all
           (subst (λ gs. Uncrossed (frozen_ends gs) parts.0) same
@@ -211,7 +218,7 @@ module _ {J D : Type 0} (j : Ghosts J) (g : disks.Ghosts D) where
           (subst (Uncrossed ends) parts.2
           (none_crossed desk.groups book handed.end ends handed.between)))) in (
             subst (λ gs. (begun : List BegunImage) ×
-                HasReceived g.seen g.may_leave j.format j.start j.wear
+                HasReceived g.seen g.may_leave j.origin.format j.origin.start j.origin.wear
                 (records_by seat.all) (journalled book.state) (frozen_ends gs) begun
                 receiver.received k) (sym same) had.0,
             had.1,
@@ -221,15 +228,17 @@ module _ {J D : Type 0} (j : Ghosts J) (g : disks.Ghosts D) where
       abbrev begun : List BegunImage
       begun = received.0.0
 
-      keeps : HasReceived g.seen g.may_leave j.format j.start j.wear (records_by seat.all)
+      keeps : HasReceived g.seen g.may_leave j.origin.format j.origin.start j.origin.wear
+          (records_by seat.all)
           (journalled book.state) ends begun receiver.received k
       keeps = received.0.1
 
       -- what a stop since the opening left is what some beginning of the history gives
-      yields : (bytes : List ℕ) → YieldsUpTo j.start (records_by seat.all) 0 bytes →
-          Yields j.start (committed_by seat.all) [] bytes
+      yields : (bytes : List ℕ) → YieldsUpTo j.origin.start (records_by seat.all) 0 bytes →
+          Yields j.origin.start (committed_by seat.all) [] bytes
       yields bytes y =
-          history_yields j.format j.start j.wear seat.all (standing book) handed.legal 0
+          history_yields j.origin.format j.origin.start j.origin.wear seat.all (standing book)
+          handed.legal 0
           (omega arith) bytes
           y
 
@@ -242,8 +251,10 @@ module _ {J D : Type 0} (j : Ghosts J) (g : disks.Ghosts D) where
       reached = reached_more counts (top mark.raised).count k.mark vault.marked
           (noted_reached counts mark.raised noted);
       stop = λ s bytes left.
-          history_yields j.format j.start j.wear seat.all (standing book) handed.legal k.mark
-          (mark_few g.seen g.may_leave j.format j.start j.wear (records_by seat.all)
+          history_yields j.origin.format j.origin.start j.origin.wear seat.all (standing book)
+          handed.legal k.mark
+          (mark_few g.seen g.may_leave j.origin.format j.origin.start j.origin.wear
+          (records_by seat.all)
           (journalled book.state) ends (begun s) receiver.received k (keeps s)) bytes
           ((keeps s).stop bytes left);
       any_moment = λ s. let since = (received s).1 in record {
@@ -256,12 +267,14 @@ module _ {J D : Type 0} (j : Ghosts J) (g : disks.Ghosts D) where
       };
       since_told = λ s x some told.
           let come = All-contains (HasCome mark.raised) counts x noted some in
-          let since = All-contains (IsKeptSince j g k (YieldsUpTo j.start (records_by seat.all)))
+          let since = All-contains (IsKeptSince j g k
+          (YieldsUpTo j.origin.start (records_by seat.all)))
           mark.raised x (received s).2 (raised_some x mark.raised told come.noted) in record {
             later = since.opened;
             past = since.past;
             each = λ bytes left.
-                history_yields j.format j.start j.wear seat.all (standing book) handed.legal x.count
+                history_yields j.origin.format j.origin.start j.origin.wear seat.all (standing book)
+                handed.legal x.count
                 (few s x.count since.within) bytes (since.each bytes left);
           };
     }
@@ -269,7 +282,8 @@ module _ {J D : Type 0} (j : Ghosts J) (g : disks.Ghosts D) where
         -- no more than were committed
         few : (s : j.sound) (n : ℕ) → n ≤ k.mark → n ≤ length (committed_of (records_by seat.all))
         few s n le =
-            let all = mark_few g.seen g.may_leave j.format j.start j.wear (records_by seat.all)
+            let all = mark_few g.seen g.may_leave j.origin.format j.origin.start j.origin.wear
+            (records_by seat.all)
             (journalled book.state) ends (begun s) receiver.received k (keeps s) in
             omega (arith, le, all)
 
@@ -294,16 +308,20 @@ module _ {J D : Type 0} (j : Ghosts J) (g : disks.Ghosts D) where
           record { packed = is.0; end = is.1; place = is.2 }
 
       -- and whatever is packed of it stands for all records
-      packs_images : j.sound → PacksImages j.format j.start j.wear (records_by seat.all)
+      packs_images : j.sound → PacksImages j.origin.format j.origin.start j.origin.wear
+          (records_by seat.all)
           (journalled book.state) n
       packs_images s image packs =
           let is = image_of image packs in record {
-            begun = freezes.begins g j.format j.start j.wear seat.all book receiver.received transit
+            begun = freezes.begins g j.origin.format j.origin.start j.origin.wear seat.all book
+                receiver.received transit
                 desk.groups ends ends [] (begun s) k handed (keeps s) kept image is;
-            is_for = freezes.is_for g j.format j.start j.wear seat.all book receiver.received
+            is_for = freezes.is_for g j.origin.format j.origin.start j.origin.wear seat.all book
+                receiver.received
                 transit
                 desk.groups ends ends [] (begun s) k handed (keeps s) kept image is;
-            stands = freezes.stands g j.format j.start j.wear seat.all book receiver.received
+            stands = freezes.stands g j.origin.format j.origin.start j.origin.wear seat.all book
+                receiver.received
                 transit
                 desk.groups ends ends [] (begun s) k handed (keeps s) kept image is;
           }
@@ -328,10 +346,12 @@ module _ {J D : Type 0} (j : Ghosts J) (g : disks.Ghosts D) where
         all_records : records_by (seat.all ++ step ∷ []) ≡ records_by seat.all
         all_records = records_by-push seat.all step ∙ append-nil (records_by seat.all)
 
-        frozen_handed : HasHanded catalog_meaning catalog_making (λ v. v) j.format j.start j.wear
+        frozen_handed : HasHanded catalog_meaning catalog_making (λ v. v) j.origin.format
+            j.origin.start j.origin.wear
             (seat.all ++ step ∷ []) c sender.sent desk.groups (position book ∷ ends) []
-        frozen_handed = freezes_gathered catalog_meaning catalog_making (λ v. v) j.format j.start
-            j.wear
+        frozen_handed = freezes_gathered catalog_meaning catalog_making (λ v. v) j.origin.format
+            j.origin.start
+            j.origin.wear
             seat.all book c sender.sent desk.groups ends [] desk.handed None m n r froze
 
         -- its end is not held
@@ -366,8 +386,9 @@ module _ {J D : Type 0} (j : Ghosts J) (g : disks.Ghosts D) where
           gathering = desk.gathering;
           gathered = over;
           groups = desk.groups;
-          handed = subst (λ p. HasHanded catalog_meaning catalog_making (λ v. v) j.format j.start
-              j.wear
+          handed = subst (λ p. HasHanded catalog_meaning catalog_making (λ v. v) j.origin.format
+              j.origin.start
+              j.origin.wear
               (seat.all ++ step ∷ []) c sender.sent desk.groups (p ∷ ends) [])
               (sym (end_is n froze.1)) frozen_handed;
           owned = owned_then seat.all step desk.owned refl;
@@ -392,15 +413,18 @@ module _ {J D : Type 0} (j : Ghosts J) (g : disks.Ghosts D) where
       covers : j.sound → (groups : List (List Record)) → Carries 0 0 receiver.received groups →
           (length (records_in groups) ≤ position book) × (k.covered ≤ position book)
       covers s groups carried =
-          let first = freezes.received_begins g j.format j.start j.wear seat.all book
+          let first = freezes.received_begins g j.origin.format j.origin.start j.origin.wear
+          seat.all book
           receiver.received
           transit desk.groups ends ends [] (begun s) k handed (keeps s) kept in
           let size = carried_length 0 0 receiver.received groups first.0 carried first.1 in
-          let within = freezes.covers_received g j.format j.start j.wear seat.all book
+          let within = freezes.covers_received g j.origin.format j.origin.start j.origin.wear
+          seat.all book
           receiver.received
           transit desk.groups ends ends [] (begun s) k handed (keeps s) kept in (
             omega (arith, size, within),
-            freezes.covers_use g j.format j.start j.wear seat.all book receiver.received transit
+            freezes.covers_use g j.origin.format j.origin.start j.origin.wear seat.all book
+                receiver.received transit
                 desk.groups ends ends [] (begun s) k handed (keeps s) kept,
           )
 
@@ -417,7 +441,8 @@ module _ {J D : Type 0} (j : Ghosts J) (g : disks.Ghosts D) where
         noted = λ some. inl refl;
         received = λ s records state groups recorded carried begin apart.
             let room = covers s groups carried in
-            let others : AreRecorded j.format j.start j.wear records state receiver.noted = record {
+            let others : AreRecorded j.origin.format j.origin.start j.origin.wear records state
+            receiver.noted = record {
               good = recorded.good;
               of_book = recorded.of_book;
               trail = recorded.trail;
@@ -429,12 +454,14 @@ module _ {J D : Type 0} (j : Ghosts J) (g : disks.Ghosts D) where
             (All-tail (λ p. IsApart 0 groups p) (frozen_end n.frozen)
             (frozen_ends receiver.noted) apart) in
             let images = had.0.0 in
-            let kept = holds j.format j.start j.wear records state (frozen_ends receiver.noted)
+            let kept = holds j.origin.format j.origin.start j.origin.wear records state
+            (frozen_ends receiver.noted)
             images
             receiver.received groups carried begin room.0 room.1 had.0.1 in (
               (
                 images,
-                subst (λ p. HasReceived g.seen g.may_leave j.format j.start j.wear records state
+                subst (λ p. HasReceived g.seen g.may_leave j.origin.format j.origin.start
+                    j.origin.wear records state
                     (p ∷ frozen_ends receiver.noted) images receiver.received l)
                     (sym (ap frozen_end froze.1.is_frozen ∙
                     ap (λ (v : Marks). v.end) froze.1.marks)) kept.0,

@@ -126,9 +126,9 @@ module _ {D : Type 0} (g : disks.Ghosts D) where
         let wear = sym (ap (λ (b : Book). b.state.wear) told.book_is) ∙ named.wear in
         let blocks = told.blocks ++ told.written in
         let read = openings.are_read sound.bytes o.book o.keeper.area (g.seen o.keeper.disk) told in
-        let had = opening j.format j.start j.wear o.keeper blocks
-        (subst (λ c. AreReadTo blocks (resting j.format c j.wear)) start
-        (subst (λ f. AreReadTo blocks (resting f told.undone.now j.wear)) format
+        let had = opening j.origin.format j.origin.start j.origin.wear o.keeper blocks
+        (subst (λ c. AreReadTo blocks (resting j.origin.format c j.origin.wear)) start
+        (subst (λ f. AreReadTo blocks (resting f told.undone.now j.origin.wear)) format
         (subst (λ n. AreReadTo blocks (resting told.undone.format told.undone.now n)) wear read)))
         fresh
         (subst (λ f. IsInUse g.seen g.may_leave f o.keeper.area o.keeper.disk blocks) format
@@ -137,46 +137,47 @@ module _ {D : Type 0} (g : disks.Ghosts D) where
           ([], had),
           record {
             later = omega (arith, named.opened_at);
-            each = λ bytes left. yields_some j.start records o.keeper.mark bytes
+            each = λ bytes left. yields_some j.origin.start records o.keeper.mark bytes
                 (had.stop bytes (only_now bytes
                 (subst (λ t. g.left_since o.keeper.disk t bytes) (sym named.opened_at) left)));
             before = λ t bytes early left. inl (named.left_since t bytes left);
           },
-          All-nil (IsKeptSince j g o.keeper (YieldsUpTo j.start records)),
+          All-nil (IsKeptSince j g o.keeper (YieldsUpTo j.origin.start records)),
         )
 
     -- A call of the keeper goes on so: what a stop since the opening left stays what it was.
     pub leaves_on : (records : List Record) (k l : KeeperState D) →
-        LeavesSince j g k.disk (YieldsUpTo j.start records 0) → LeavesKept g j.start records k l →
-        LeavesSince j g l.disk (YieldsUpTo j.start records 0)
+        LeavesSince j g k.disk (YieldsUpTo j.origin.start records 0) →
+        LeavesKept g j.origin.start records k l →
+        LeavesSince j g l.disk (YieldsUpTo j.origin.start records 0)
     leaves_on records k l since kept = record {
       later = omega (arith, since.later, kept.later);
       each = λ bytes left. elim (kept.before j.opened_at bytes since.later left) [
         | inl before ↦ since.each bytes before
-        | inr yields ↦ yields_some j.start records k.mark bytes yields
+        | inr yields ↦ yields_some j.origin.start records k.mark bytes yields
       ];
       before = λ t bytes early left.
           elim (kept.before t bytes (omega (arith, early, since.later)) left) [
             | inl before ↦ since.before t bytes early before
-            | inr yields ↦ inr (yields_some j.start records k.mark bytes yields)
+            | inr yields ↦ inr (yields_some j.origin.start records k.mark bytes yields)
           ];
     }
 
     -- And what one left since the mark was raised.
     pub kept_on : (records : List Record) (k l : KeeperState D) (raised : List Raised) →
-        All (IsKeptSince j g k (YieldsUpTo j.start records)) raised →
-        LeavesKept g j.start records k l → k.mark ≤ l.mark →
-        All (IsKeptSince j g l (YieldsUpTo j.start records)) raised
+        All (IsKeptSince j g k (YieldsUpTo j.origin.start records)) raised →
+        LeavesKept g j.origin.start records k l → k.mark ≤ l.mark →
+        All (IsKeptSince j g l (YieldsUpTo j.origin.start records)) raised
     kept_on records k l raised all kept rises =
-        All-weaker (IsKeptSince j g k (YieldsUpTo j.start records))
-        (IsKeptSince j g l (YieldsUpTo j.start records)) (λ x is. record {
+        All-weaker (IsKeptSince j g k (YieldsUpTo j.origin.start records))
+        (IsKeptSince j g l (YieldsUpTo j.origin.start records)) (λ x is. record {
           opened = is.opened;
           past = omega (arith, is.past, kept.later);
           within = omega (arith, is.within, rises);
           each = λ bytes left. elim (kept.before x.moment bytes is.past left) [
             | inl before ↦ is.each bytes before
             | inr yields ↦
-                yields_less j.start records k.mark x.count bytes is.within yields
+                yields_less j.origin.start records k.mark x.count bytes is.within yields
           ];
         }) raised all
 
@@ -184,19 +185,20 @@ module _ {D : Type 0} (g : disks.Ghosts D) where
     kept_now : (records : List Record) (l : KeeperState D) (raised : List Raised) (place : ℕ) →
         j.opened_at ≤ g.moment l.disk → place ≤ l.mark → (top raised).count ≤ l.mark →
         Since l.disk →
-        ((bytes : List ℕ) → g.may_leave l.disk bytes → YieldsUpTo j.start records l.mark bytes) →
-        All (IsKeptSince j g l (YieldsUpTo j.start records)) raised →
-        All (IsKeptSince j g l (YieldsUpTo j.start records))
+        ((bytes : List ℕ) → g.may_leave l.disk bytes →
+        YieldsUpTo j.origin.start records l.mark bytes) →
+        All (IsKeptSince j g l (YieldsUpTo j.origin.start records)) raised →
+        All (IsKeptSince j g l (YieldsUpTo j.origin.start records))
         (raised_to place (g.moment l.disk) raised)
     kept_now records l raised place opened within below only_now stop all =
-        let P : Raised → Type 0 = IsKeptSince j g l (YieldsUpTo j.start records) in
+        let P : Raised → Type 0 = IsKeptSince j g l (YieldsUpTo j.origin.start records) in
         let x : Raised =
         record { count = max (top raised).count place; moment = g.moment l.disk } in
         let now : P x = record {
           opened = opened;
           past = omega arith;
           within = omega (arith, within, below);
-          each = λ bytes left. yields_less j.start records l.mark x.count bytes
+          each = λ bytes left. yields_less j.origin.start records l.mark x.count bytes
               (omega (arith, within, below)) (stop bytes (only_now bytes left));
         } in
         All-append P (x ∷ []) raised (All-push P [] x (All-nil P) now) all
@@ -231,8 +233,10 @@ module _ {D : Type 0} (g : disks.Ghosts D) where
             sym (append_assoc (records_in parts.0) (records_in parts.1) begin.0) ∙
                 ap (λ l. l ++ begin.0) (sym both) ∙ begin.1,
           ) in
-          let recorded' : AreRecorded j.format j.start j.wear records state receiver.noted =
-          subst (AreRecorded j.format j.start j.wear records state) brings.receives.noted
+          let recorded' : AreRecorded j.origin.format j.origin.start j.origin.wear records state
+          receiver.noted =
+          subst (AreRecorded j.origin.format j.origin.start j.origin.wear records state)
+          brings.receives.noted
           recorded in
           let ends = frozen_ends receiver.noted in
           let apart' : Uncrossed ends groups =
@@ -240,20 +244,23 @@ module _ {D : Type 0} (g : disks.Ghosts D) where
           let had = is.received s records state parts.0 recorded' parts.3 begin'
           (uncrossed_front ends parts.0 parts.1 (subst (Uncrossed ends) parts.2 apart')) in
           let images = had.0.0 in
-          let kept = brings.keeps j.format j.start j.wear records state ends images
+          let kept = brings.keeps j.origin.format j.origin.start j.origin.wear records state ends
+          images
           receiver.received
           brings.more groups brings.receives carried' begin apart' had.0.1 in (
             (
               images,
-              subst (λ bs. HasReceived g.seen g.may_leave j.format j.start j.wear records state
+              subst (λ bs. HasReceived g.seen g.may_leave j.origin.format j.origin.start
+                  j.origin.wear records state
                   (frozen_ends after.noted) images bs l) (sym all)
-                  (subst (λ gs. HasReceived g.seen g.may_leave j.format j.start j.wear records state
+                  (subst (λ gs. HasReceived g.seen g.may_leave j.origin.format j.origin.start
+                  j.origin.wear records state
                   (frozen_ends gs) images (receiver.received ++ brings.more) l)
                   (sym brings.receives.noted) kept.0),
             ),
             leaves_on records k l had.1 kept.1,
             subst (λ (m : KeeperMark).
-                All (IsKeptSince j g l (YieldsUpTo j.start records)) m.raised) (sym now_is)
+                All (IsKeptSince j g l (YieldsUpTo j.origin.start records)) m.raised) (sym now_is)
                 (kept_brought records l seat.raised r
                 (omega (arith, had.1.later, kept.1.later)) brings.told
                 (omega (arith, is.marked, brings.rises)) only_now kept.0.stop
@@ -265,9 +272,9 @@ module _ {D : Type 0} (g : disks.Ghosts D) where
             (r : Result Turn Refusal) → j.opened_at ≤ g.moment l.disk → IsWithin r l.mark →
             (top raised).count ≤ l.mark → Since l.disk →
             ((bytes : List ℕ) → g.may_leave l.disk bytes →
-            YieldsUpTo j.start records l.mark bytes) →
-            All (IsKeptSince j g l (YieldsUpTo j.start records)) raised →
-            All (IsKeptSince j g l (YieldsUpTo j.start records))
+            YieldsUpTo j.origin.start records l.mark bytes) →
+            All (IsKeptSince j g l (YieldsUpTo j.origin.start records)) raised →
+            All (IsKeptSince j g l (YieldsUpTo j.origin.start records))
             (brought_to raised (g.moment l.disk) r)
         kept_brought records l raised (Ok (Turn.Kept place)) opened told below only_now stop all =
             kept_now records l raised place opened told below only_now stop all
@@ -287,7 +294,8 @@ module _ {D : Type 0} (g : disks.Ghosts D) where
       noted = is.noted;
       received = λ s records state groups recorded carried begin apart.
           let had = is.received s records state groups recorded carried begin apart in
-          let kept = keeps j.format j.start j.wear records state (frozen_ends receiver.noted)
+          let kept = keeps j.origin.format j.origin.start j.origin.wear records state
+          (frozen_ends receiver.noted)
           had.0.0
           receiver.received had.0.1 in (
             (had.0.0, kept.0),
@@ -340,10 +348,12 @@ module _ {D : Type 0} (g : disks.Ghosts D) where
       received = λ s records state groups recorded carried begin apart.
           let had = is.received s records state groups recorded carried begin apart in
           let there = is.noted (some_frozen near.gather image packs) in
-          let of = each_among (PacksImages j.format j.start j.wear records state) near.gather
+          let of = each_among (PacksImages j.origin.format j.origin.start j.origin.wear records
+          state) near.gather
           receiver.noted
           recorded.stand there image packs in
-          let kept = keeps j.format j.start j.wear records state (frozen_ends receiver.noted)
+          let kept = keeps j.origin.format j.origin.start j.origin.wear records state
+          (frozen_ends receiver.noted)
           had.0.0
           receiver.received of.begun of.is_for of.stands had.0.1 in
           let same = (begun_same k image l r answers).1 in (

@@ -15,9 +15,9 @@ use Rattle.clients.specs.declared.naming.Naming.{Ghosts}
 use Rattle.clients.specs.Known.{IsHistory}
 use Rattle.store.specs.Vaults.{LeavesSince}
 
--- The mark was brought to a count at a moment, not before this one. Whatever a stop at any moment from
--- then on might have left of the disk is sound, and stands for a content that some beginning of the
--- transactions gives; that beginning holds so many of them.
+-- The mark was brought to a count at a moment, not before this one. Whatever a stop at any moment
+-- from then on might have left of the disk is sound, and stands for a content that some beginning
+-- of the transactions gives; that beginning holds so many of them.
 pub record WasKept {D : Type 0} (g : disks.Ghosts D) (disk : D) (start : List Collection)
     (transactions : List Transaction) (from : ℕ) (x : Raised) : Type 0 where
   pub later : from ≤ x.moment
@@ -29,18 +29,19 @@ pub record WasKept {D : Type 0} (g : disks.Ghosts D) (disk : D) (start : List Co
 -- seen. Whatever a stop leaves of the disk now is sound, and stands for a content that some
 -- beginning of the transactions gives that the history commits; that beginning holds all that the
 -- mark tells, and each count that was loaded of it. And whatever a stop at any moment since the
--- opening might have left is sound, and stands for a content that some such beginning gives; from the
--- moment on at which the mark was brought to a count that was loaded, that beginning holds so many.
+-- opening might have left is sound, and stands for a content that some such beginning gives; from
+-- the moment on at which the mark was brought to a count that was loaded, that beginning holds so
+-- many.
 pub record Closes {J D : Type 0} (j : Ghosts J) (g : disks.Ghosts D) (seen : List BookStep)
     (counts : List Raised) (book : BookState (List Collection)) (keeper : KeeperState D) :
     Type 0 where
   pub steps : List BookStep
-  pub legal : IsHistory j steps (standing book)
+  pub legal : IsHistory j.origin steps (standing book)
   pub begins : IsPrefix seen steps
   pub reached : AreReached counts keeper.mark
   pub stop : j.sound → (bytes : List ℕ) → g.may_leave keeper.disk bytes →
-      Yields j.start (committed_by steps) (take keeper.mark (committed_by steps)) bytes
+      Yields j.origin.start (committed_by steps) (take keeper.mark (committed_by steps)) bytes
   pub any_moment : j.sound →
-      LeavesSince j g keeper.disk (Yields j.start (committed_by steps) [])
+      LeavesSince j g keeper.disk (Yields j.origin.start (committed_by steps) [])
   pub since_told : j.sound → (x : Raised) → Contains counts x → 0 < x.count →
-      WasKept g keeper.disk j.start (committed_by steps) j.opened_at x
+      WasKept g keeper.disk j.origin.start (committed_by steps) j.opened_at x

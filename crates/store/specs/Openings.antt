@@ -42,10 +42,10 @@ pub record IsNamed {J D : Type 0} (j : Ghosts J) (g : disks.Ghosts D) (o : Opene
   pub gathering : o.tables.gathering ≡ j.gathering
   pub awaited : o.tables.awaited ≡ j.awaited
   pub shelves : o.tables.shelves ≡ j.shelves
-  pub start : o.book.state.now ≡ j.start
-  pub format : o.book.state.format ≡ j.format
-  pub wear : o.book.state.wear ≡ j.wear
-  pub next : o.book.next ≡ j.next
+  pub start : o.book.state.now ≡ j.origin.start
+  pub format : o.book.state.format ≡ j.origin.format
+  pub wear : o.book.state.wear ≡ j.origin.wear
+  pub next : o.book.next ≡ j.origin.next
   pub opened_at : g.moment o.keeper.disk ≡ j.opened_at
   pub left_since : (t : ℕ) (bytes : List ℕ) → g.left_since o.keeper.disk t bytes →
       j.left_since t bytes
@@ -63,10 +63,12 @@ naming_of g o = record {
   gathering = o.tables.gathering;
   awaited = o.tables.awaited;
   shelves = o.tables.shelves;
-  start = o.book.state.now;
-  format = o.book.state.format;
-  wear = o.book.state.wear;
-  next = o.book.next;
+  origin = record {
+    start = o.book.state.now;
+    format = o.book.state.format;
+    wear = o.book.state.wear;
+    next = o.book.next;
+  };
   opened_at = g.moment o.keeper.disk;
   left_since = g.left_since o.keeper.disk;
   sound = IsSoundly g o;

@@ -46,12 +46,14 @@ abbrev pub ReceivesAny : {J D : Type 0} → Ghosts J → disks.Ghosts D → List
     List Block → List Raised → KeeperState D → Type 0
 ReceivesAny j g noted received raised keeper =
     (records : List Record) (now : State) (groups : List (List Record)) →
-    AreRecorded j.format j.start j.wear records now noted → Carries 0 0 received groups →
+    AreRecorded j.origin.format j.origin.start j.origin.wear records now noted →
+    Carries 0 0 received groups →
     IsPrefix (records_in groups) records → Uncrossed (frozen_ends noted) groups →
-    ((begun : List BegunImage) × HasReceived g.seen g.may_leave j.format j.start j.wear records now
+    ((begun : List BegunImage) × HasReceived g.seen g.may_leave j.origin.format j.origin.start
+    j.origin.wear records now
     (frozen_ends noted) begun received keeper)
-    × LeavesSince j g keeper.disk (YieldsUpTo j.start records 0)
-    × All (IsKeptSince j g keeper (YieldsUpTo j.start records)) raised
+    × LeavesSince j g keeper.disk (YieldsUpTo j.origin.start records 0)
+    × All (IsKeptSince j g keeper (YieldsUpTo j.origin.start records)) raised
 
 -- What is known to be frozen is awaited: the keeper holds the end of its image.
 abbrev pub Awaits : Stage → GatherState → Type 0

@@ -8,7 +8,7 @@ use Rattle.background.proofs.running.gather.Goals as goal
 
 pub loop-one-init : goal.loop-one-init
 loop-one-init g c =
-    let says = g.W.Work.says c.args.work.now in
+    let says = g.W.Work.says c.args.work.now g.J.Naming.origin in
     let none = c.new-answers.ensures.items in (
       ap length none,
       subst (λ answers. AreParts says answers [] []) (sym none) (parts_none says),
@@ -16,7 +16,7 @@ loop-one-init g c =
 
 pub loop-one-preserved : goal.loop-one-preserved
 loop-one-preserved g c =
-    let says = g.W.Work.says c.args.work.now in
+    let says = g.W.Work.says c.args.work.now g.J.Naming.origin in
     let l = c.loop-one in
     let ended = c.args.ended in
     let answer = c.in_ok-answer.answer in

@@ -7,4 +7,5 @@ use Rattle.background.proofs.running.gather.Given as goal
 abbrev pub invariant-loop-one : goal.invariant-loop-one
 invariant-loop-one g l =
     (length l.answers.items ≡ length l.yielded) ×
-    AreParts (g.W.Work.says l.work) l.answers.items (seen_of l.last) (counts_of l.last)
+    AreParts (g.W.Work.says l.work g.J.Naming.origin) l.answers.items (seen_of l.last)
+    (counts_of l.last)

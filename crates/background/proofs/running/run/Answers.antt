@@ -1,6 +1,7 @@
 use Rattle.std.proofs.Common.{inl, inr, refl, sym, subst}
 use Rattle.group_commit.specs.Marks.{AreReached}
 use Rattle.recovery.proofs.Stores.{opened_sound}
+use Rattle.store.specs.Openings.{naming_of}
 use Rattle.background.specs.Works.{AreTold}
 use Rattle.background.proofs.WorkLemmas.{ok_then, parts_told, was_opened}
 use Rattle.background.proofs.running.run.Goals as goal
@@ -12,9 +13,10 @@ returns-in-Ok-clause-opened g c =
     let closed = c.run_opened.ensures.closed in
     let says = g.W.Work.says c.args.work.now in
     ok_then result.0 _ _ closed.parts_of (λ answers are.
-    was_opened g.D.Disk _ _ (AreTold says answers.items result.1.kept) c.args.disk
+    was_opened g.D.Disk _ _ (λ o. AreTold (says o) answers.items result.1.kept) c.args.disk
     c.in-Ok.opened.keeper.disk result.1.disk result.1.kept closed
-    (λ was_kept all. parts_told says answers.items closed.seen closed.closes.steps closed.counts
+    (λ was_kept all. parts_told (says (naming_of {J = Unit {0}} g.D.Disk c.in-Ok.opened).origin) answers.items
+    closed.seen closed.closes.steps closed.counts
     result.1.kept are closed.closes.begins
     (subst (AreReached closed.counts) (sym closed.mark) closed.closes.reached) was_kept all)
     opened.kept (λ honest rest. record {
@@ -29,7 +31,7 @@ pub returns-in-Ok-clause-left : goal.returns-in-Ok-clause-left
 returns-in-Ok-clause-left g c =
     let opened = c.in-Ok.ensures in
     let result = c.run_opened.result in
-    inr (was_opened g.D.Disk _ _ (λ steps was_kept. Unit {0}) c.args.disk
+    inr (was_opened g.D.Disk _ _ (λ origin steps was_kept. Unit {0}) c.args.disk
     c.in-Ok.opened.keeper.disk result.1.disk result.1.kept c.run_opened.ensures.closed
     (λ was_kept all. tt) opened.kept
     (λ honest rest. record {

@@ -15,7 +15,8 @@ run_beside-ended-requires-sync-S g c κs within =
 
 pub returns-in-Ok-gather-clause-closed : goal.returns-in-Ok-gather-clause-closed
 returns-in-Ok-gather-clause-closed g c =
-    let all = AreParts (g.W.Work.says c.args.work.now) c.in-Ok-gather.answers.items in
+    let all = AreParts (g.W.Work.says c.args.work.now g.J.Naming.origin)
+    c.in-Ok-gather.answers.items in
     closed_with g.J.Naming g.D.Disk _ all c.close.result.disk c.close.result.kept c.close.ensures
     (λ seen counts is. subst (λ s. all s counts) (sym is.0)
     (subst (all (seen_of c.in-Ok-gather.last)) (sym is.1) c.in-Ok-gather.ensures.parts))

@@ -13,7 +13,7 @@ pub returns-in_err-begin-clause-stops : goal.returns-in_err-begin-clause-stops
 returns-in_err-begin-clause-stops g c =
     let p = err_from_is_err_and c.from_residual.result
     c.from_residual.ensures.1 in
-    refused_with (λ e. Stops g.J.Naming (g.T.Transaction.refuses c.args.transaction.now)
+    refused_with (λ e. Stops g.J.Naming.origin (g.T.Transaction.refuses c.args.transaction.now)
     c.args.client.now e c.begin.new.client) c.from_residual.result p.0
     c.in_err-begin.field-0.0 p.1 p.2 (inl c.in_err-begin.ensures.refused)
 
@@ -22,7 +22,7 @@ returns-in_err-output-clause-tried g c =
     let begun = c.in_ok-begin.ensures in let made = c.in_err-output.ensures.attempt in
     let p = err_from_is_err_and c.from_residual-in_err-output.result
     c.from_residual-in_err-output.ensures.1 in
-    refused_with (λ e. (tried : List Action) × Tried g.J.Naming c.args.client.now tried
+    refused_with (λ e. (tried : List Action) × Tried g.J.Naming.origin c.args.client.now tried
     c.attempt.new.self) c.from_residual-in_err-output.result p.0 c.in_err-output.field-0.0 p.1 p.2 (
       begun.tried.0 ++ made.0,
       tried_then g.J.Naming c.args.client.now c.begin.new.client c.attempt.new.self begun.tried.0
@@ -36,7 +36,7 @@ returns-in_err-output-clause-stops g c =
     let made = c.in_err-output.ensures.attempt in
     let p = err_from_is_err_and c.from_residual-in_err-output.result
     c.from_residual-in_err-output.ensures.1 in
-    refused_with (λ e. Stops g.J.Naming (g.T.Transaction.refuses c.args.transaction.now)
+    refused_with (λ e. Stops g.J.Naming.origin (g.T.Transaction.refuses c.args.transaction.now)
     c.args.client.now e c.attempt.new.self) c.from_residual-in_err-output.result p.0
     c.in_err-output.field-0.0 p.1 p.2 (inr (
       c.begin.new.client,
@@ -56,7 +56,7 @@ returns-in_err-ticket-clause-tried g c =
     (begun_is g.J.Naming c.args.client.now c.begin.new.client begun.begun) made.1) in
     let two = tried_commit g.J.Naming c.attempt.new.self.phase c.attempt.new.self c.commit.new.self
     c.in_err-ticket.field-0.0 refl c.in_err-ticket.ensures.step in
-    refused_with (λ e. (tried : List Action) × Tried g.J.Naming c.args.client.now tried
+    refused_with (λ e. (tried : List Action) × Tried g.J.Naming.origin c.args.client.now tried
     c.commit.new.self) c.from_residual-in_err-ticket.result p.0 c.in_err-ticket.field-0.0 p.1 p.2 (
       (begun.tried.0 ++ made.0) ++ two.0,
       tried_then g.J.Naming c.args.client.now c.attempt.new.self c.commit.new.self
@@ -68,7 +68,7 @@ returns-in_err-ticket-clause-stops g c =
     let made = c.in_ok-output.ensures.attempt in
     let p = err_from_is_err_and c.from_residual-in_err-ticket.result
     c.from_residual-in_err-ticket.ensures.1 in
-    refused_with (λ e. Stops g.J.Naming (g.T.Transaction.refuses c.args.transaction.now)
+    refused_with (λ e. Stops g.J.Naming.origin (g.T.Transaction.refuses c.args.transaction.now)
     c.args.client.now e c.commit.new.self) c.from_residual-in_err-ticket.result p.0
     c.in_err-ticket.field-0.0 p.1 p.2 (inr (
       c.begin.new.client,

@@ -16,3 +16,7 @@ look-requires-clause-place g c =
     (λ d. (reply : Reply) × Does g.C.Boosted.meaning now newest.at d reply before))
     (sym c.in_ok-call.ensures.ok ∙ c.in-Some.is) undoes in
     (g.met.C.Boosted.laws.holds now).answered_belongs newest.at c.in-Some.call back.0 back.1.0
+
+pub returns-in_err-call-clause-in_place : goal.returns-in_err-call-clause-in_place
+returns-in_err-call-clause-in_place g c = λ in_place.
+    absurd (c.in_err-call.ensures.value (λ k old is. (in_place (Call.Put k old) is).0))

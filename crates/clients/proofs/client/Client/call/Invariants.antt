@@ -3,4 +3,4 @@ use Rattle.clients.proofs.client.Client.call.Given as goal
 
 -- the number is entered at most
 abbrev pub invariant-loop : goal.invariant-loop
-invariant-loop g l = IsEntering g.J.Naming l.fn.self.phase l.fn.self l.self
+invariant-loop g l = IsEntering g.J.Naming.origin l.fn.self.phase l.fn.self l.self

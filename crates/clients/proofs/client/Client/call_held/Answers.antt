@@ -16,7 +16,8 @@ call-requires g c = record {
       entered_own g.J.Naming c.args.self.now c.enter.new.self c.in-Ok.number c.in-Ok.ensures i.line
       i.watcher i.drawer i.phase c.self.view_is c.self.invariant.own;
   place = c.requires.place;
-  looked = subst (λ n. IsLooked g.B.Shelf.Boosted.meaning g.J.Naming.format c.args.held.now n c.args.at c.args.call.now c.args.looked)
+  looked = subst (λ n. IsLooked g.B.Shelf.Boosted.meaning g.J.Naming.origin.format c.args.held.now n
+      c.args.at c.args.call.now c.args.looked)
       (entered_number g.J.Naming c.args.self.now.phase c.args.self.now c.enter.new.self
       c.in-Ok.number c.in-Ok.ensures) c.requires.looked;
 }
@@ -25,7 +26,8 @@ pub invariant_of-self : goal.invariant_of-self
 invariant_of-self g c =
     let i = c.self.inside in
     tried_client g.J.Naming i.line c.call.new.me i.watcher i.drawer i.phase c.self.invariant
-    c.call.result _ (λ r steps. (_, steps.1, λ owners client. refl)) c.call.ensures.some c.call.ensures.none
+    c.call.result _ (λ r steps. (_, steps.1, λ owners client. refl)) c.call.ensures.some
+    c.call.ensures.none
 
 pub returns-in-Ok-clause-some : goal.returns-in-Ok-clause-some
 returns-in-Ok-clause-some g c =

@@ -22,7 +22,7 @@ invariant_of-self-in-Err-2 g c =
     let n = c.in-Ok.number in
     steps_on g.J.Naming i.line c.commit.new.me i.watcher i.drawer i.phase c.self.invariant
     (Action.Commit n (Err c.in-Err-2.refusal))
-    (subst (λ r. Steps g.J.Naming i.line (Action.Commit n r) c.commit.new.me) c.in-Err-2.is
+    (subst (λ r. Steps g.J.Naming.origin i.line (Action.Commit n r) c.commit.new.me) c.in-Err-2.is
     c.in_ok-place.ensures.some) (λ owners client. refl)
 
 pub returns-in-Ok-2-clause-step : goal.returns-in-Ok-2-clause-step
@@ -32,7 +32,7 @@ returns-in-Ok-2-clause-step g c =
     rw c.close.ensures (took_last g.J.Naming c.args.self.now c.enter.new.self n c.in-Ok.ensures
     i.line i.watcher i.drawer i.phase c.self.view_is c.commit.new.me _ _
     (Action.Commit n (Ok c.in-Ok-2.place)) refl
-    (subst (λ r. Steps g.J.Naming i.line (Action.Commit n r) c.commit.new.me) c.in-Ok-2.is
+    (subst (λ r. Steps g.J.Naming.origin i.line (Action.Commit n r) c.commit.new.me) c.in-Ok-2.is
     c.in_ok-place.ensures.some))
 
 pub returns-in-Err-2-clause-step : goal.returns-in-Err-2-clause-step
@@ -42,5 +42,5 @@ returns-in-Err-2-clause-step g c =
     took_on g.J.Naming c.args.self.now c.enter.new.self n c.in-Ok.ensures i.line i.watcher
     i.drawer i.phase c.self.view_is c.commit.new.me _ _
     (Action.Commit n (Err c.in-Err-2.refusal)) refl
-    (subst (λ r. Steps g.J.Naming i.line (Action.Commit n r) c.commit.new.me) c.in-Err-2.is
+    (subst (λ r. Steps g.J.Naming.origin i.line (Action.Commit n r) c.commit.new.me) c.in-Err-2.is
     c.in_ok-place.ensures.some)

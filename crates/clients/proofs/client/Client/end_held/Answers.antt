@@ -16,5 +16,6 @@ invariant_of-self g c =
     let n = c.args.number in
     steps_on g.J.Naming i.line c.ended.new.me i.watcher i.drawer i.phase c.self.invariant
     (Action.Ended n (Err c.in_err-ended.field-0.0))
-    (subst (λ r. Steps g.J.Naming i.line (Action.Ended n r) c.ended.new.me) c.in_err-ended.was
+    (subst (λ r. Steps g.J.Naming.origin i.line (Action.Ended n r) c.ended.new.me)
+    c.in_err-ended.was
     c.ended.ensures) (λ owners client. refl)

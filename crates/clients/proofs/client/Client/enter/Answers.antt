@@ -13,7 +13,7 @@ invariant_of-self-in-Drawn g c =
     let i = c.self.inside in
     let n = c.in-Drawn.number in
     enters_on g.J.Naming i.line c.enter.new.me i.watcher i.drawer i.phase c.self.invariant n
-    (subst (λ r. Steps g.J.Naming i.line (Action.Enter n r) c.enter.new.me)
+    (subst (λ r. Steps g.J.Naming.origin i.line (Action.Enter n r) c.enter.new.me)
     c.in_ok-enter-in-Drawn.was c.enter.ensures)
 
 pub returns-in_ok-enter-in-Drawn : goal.returns-in_ok-enter-in-Drawn
@@ -22,12 +22,12 @@ returns-in_ok-enter-in-Drawn g c =
     let n = c.in-Drawn.number in
     let after = known_of c.enter.new.me i.watcher i.drawer (Phase.Entered n) in
     let action = Action.Enter n (Ok tt) in
-    subst (λ p. Enters g.J.Naming p c.args.self.now (Ok n) after)
+    subst (λ p. Enters g.J.Naming.origin p c.args.self.now (Ok n) after)
     (sym (ap (λ (k : Known). k.phase) (sym c.self.view_is) ∙ c.in-Drawn.is)) (
       refl,
-      subst (λ m. Acts g.J.Naming m [] action after) c.self.view_is
+      subst (λ m. Acts g.J.Naming.origin m [] action after) c.self.view_is
           (acts_one g.J.Naming i.line c.enter.new.me i.watcher i.drawer i.phase (Phase.Entered n)
-          action (subst (λ r. Steps g.J.Naming i.line (Action.Enter n r) c.enter.new.me)
+          action (subst (λ r. Steps g.J.Naming.origin i.line (Action.Enter n r) c.enter.new.me)
           c.in_ok-enter-in-Drawn.was c.enter.ensures)),
       refl,
     )
@@ -41,11 +41,11 @@ returns-in_err-enter-in-Drawn g c =
     let after = known_of c.enter.new.me i.watcher i.drawer i.phase in
     let action = Action.Enter n (Err e) in
     rw (p.1, p.2)
-    (subst (λ q. Enters g.J.Naming q c.args.self.now (Err e) after)
+    (subst (λ q. Enters g.J.Naming.origin q c.args.self.now (Err e) after)
     (sym (ap (λ (k : Known). k.phase) (sym c.self.view_is) ∙ c.in-Drawn.is)) (
-      subst (λ m. Acts g.J.Naming m [] action after) c.self.view_is
+      subst (λ m. Acts g.J.Naming.origin m [] action after) c.self.view_is
           (acts_one g.J.Naming i.line c.enter.new.me i.watcher i.drawer i.phase i.phase action
-          (subst (λ r. Steps g.J.Naming i.line (Action.Enter n r) c.enter.new.me)
+          (subst (λ r. Steps g.J.Naming.origin i.line (Action.Enter n r) c.enter.new.me)
           c.in_err-enter-in-Drawn.was c.enter.ensures)),
       c.in-Drawn.is,
     ))

@@ -9,8 +9,8 @@ invariant_of-result g c = record {
   mark_is = c.requires.watcher.0;
   numbers_is = c.requires.drawer.0;
   from = c.requires.drawer.1;
-  legal = subst (IsSeen g.J.Naming) (sym c.requires.line.1) (
-    opening g.J.Naming.format g.J.Naming.start g.J.Naming.wear,
+  legal = subst (IsSeen g.J.Naming.origin) (sym c.requires.line.1) (
+    opening g.J.Naming.origin.format g.J.Naming.origin.start g.J.Naming.origin.wear,
     record { legal = refl; owned = tt },
   );
   own = tt;

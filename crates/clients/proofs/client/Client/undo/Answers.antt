@@ -21,7 +21,8 @@ loop-preserved g c =
     let undone = c.if-not-branch.false in
     let more = undoes_next g.J.Naming c.args.number c.args.self.now c.loop.self c.back.new.self
     so.2.0
-    so.0 so.2.1 (subst (λ (b : Bool). Acts g.J.Naming c.loop.self [] (back c.args.number (Ok b))
+    so.0 so.2.1 (subst (λ (b : Bool). Acts g.J.Naming.origin c.loop.self []
+    (back c.args.number (Ok b))
     c.back.new.self) undone c.in_ok-back.ensures.step) in
     (more.0, c.in_ok-back.ensures.phase ∙ so.1, (so.2.0 + 1, more.1))
 
@@ -32,6 +33,6 @@ returns-then-not-branch-clause-step g c =
       so.2.0,
       undoes_last g.J.Naming c.args.number c.args.self.now c.loop.self c.back.new.self so.2.0
           (back c.args.number (Ok false)) so.0 so.2.1
-          (subst (λ (b : Bool). Acts g.J.Naming c.loop.self [] (back c.args.number (Ok b))
+          (subst (λ (b : Bool). Acts g.J.Naming.origin c.loop.self [] (back c.args.number (Ok b))
           c.back.new.self) none c.in_ok-back.ensures.step),
     )

@@ -6,7 +6,8 @@ use Rattle.txn.specs.declared.steps.Target.{Target}
 use Rattle.txn.proofs.BookParts.{of_book, book_told, book_kept}
 use Rattle.group_commit.specs.Twins.{EndState}
 use Rattle.clients.specs.Touches.{IsJournalDesk}
-use Rattle.clients.proofs.ShelfSteps.{twin_is, here, found_there, known_on, steps_over, steps_journal, owns_step}
+use Rattle.clients.proofs.ShelfSteps.{twin_is, here, found_there, known_on, steps_over}
+use Rattle.clients.proofs.ShelfSteps.{steps_journal, owns_step}
 use Rattle.clients.proofs.Touching.{leads_on, shelf_touched}
 use Rattle.clients.proofs.desk.Desk.call.Given.{Over}
 use Rattle.clients.proofs.desk.Desk.call.Goals as goal
@@ -43,7 +44,8 @@ pub call-replied-requires-clause-looked : goal.call-replied-requires-clause-look
 call-replied-requires-clause-looked g c = subst
     (λ f. IsLooked g.B.Shelf.Boosted.meaning f c.held.inside.shelf c.args.number c.args.at
     c.args.call.now c.args.looked) (sym c.self.invariant.0.format)
-    (subst (λ s. IsLooked g.B.Shelf.Boosted.meaning g.J.Naming.format s c.args.number c.args.at
+    (subst (λ s. IsLooked g.B.Shelf.Boosted.meaning g.J.Naming.origin.format s c.args.number
+    c.args.at
     c.args.call.now c.args.looked) (sym c.held.view_is) c.requires.looked)
 
 keeps : (g : Over) (c : goal.After-wake g) → IsJournalDesk g.J.Naming g.B.Boosted.meaning
@@ -61,7 +63,8 @@ keeps g c =
     let there = here g.J.Naming i.journal i.nears is.shelves is.known w s
     c.of_mut-near.result.now c.held.inside.far c.of_mut-near.ensures.value c.compare.ensures.same
     c.held.invariant.leads in
-    let served = book_told w i.journal is.shelves is.known.book s there l t c.call-replied.ensures in
+    let served = book_told w i.journal is.shelves is.known.book s there l t
+    c.call-replied.ensures in
     let table : e.table ≡ (pick i.nears w).table =
     ap (λ (v : EndState _). v.table) c.note_touch.ensures.near ∙
     ap (λ (v : EndState _). v.table) c.compare.ensures.near ∙

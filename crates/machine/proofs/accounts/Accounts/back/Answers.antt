@@ -1,4 +1,5 @@
-use Rattle.std.proofs.Common.{◌+◌, ◌∙◌, sym, ap, subst}
+use Rattle.std.proofs.Common.{◌+◌, ◌∙◌, sym, ap, subst, Result, Ok, Err, OnErr}
+use Rattle.std.proofs.Common.{true≢false}
 use Rattle.undo_log.specs.Entries.{event_of, HasNewestCall}
 use Rattle.undo_log.specs.Logs.{Log, Lives, fallen}
 use Rattle.machine.specs.Machine.{BackRow}
@@ -47,3 +48,19 @@ step g c =
 
 pub returns-clause-ok : goal.returns-clause-ok
 returns-clause-ok g c = rw (← c.self.view_is) (step g c)
+
+-- what holds anyway holds of a refusal
+of_refusal : {T E : Type 0} (r : Result T E) (P : Type 0) → P → OnErr r P
+of_refusal (Ok x) P holds = tt
+of_refusal (Err e) P holds = holds
+
+pub returns-in_err-undo-clause-in_place : goal.returns-in_err-undo-clause-in_place
+returns-in_err-undo-clause-in_place g c =
+    let x = event_of c.in-Some.newest.now in
+    of_refusal c.from_residual.result _ (
+      x,
+      subst (λ (a : AccountsState). HasNewestCall c.args.number a.entries x) c.self.view_is
+          (subst (λ (l : Log). HasNewestCall c.args.number l.entries x) c.live.ensures
+          c.in-Some.ensures.found),
+      λ in_place. true≢false (sym (c.in_err-undo.ensures.in_place in_place)),
+    )

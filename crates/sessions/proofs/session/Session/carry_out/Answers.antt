@@ -15,15 +15,15 @@ loop-line-preserved g c =
     let more : take (i + 1) lines ≡ take i lines ++ c.line-item.result ∷ [] =
     take_more lines i c.line-item.result c.loop-line-test.true
     ∙ ap (λ (x : Line). take i lines ++ x ∷ []) (sym c.line-item.is) in
-    subst (λ (ls : List Line). CarriesOut g.J.Naming c.args.client c.args.self.now ls
+    subst (λ (ls : List Line). CarriesOut g.J.Naming.origin c.args.client c.args.self.now ls
     c.note.new.answers.items c.note.new.self) (sym more)
-    (subst (λ (said : List Answer). CarriesOut g.J.Naming c.args.client c.args.self.now
+    (subst (λ (said : List Answer). CarriesOut g.J.Naming.origin c.args.client c.args.self.now
     (take i lines ++ c.line-item.result ∷ []) said c.note.new.self) (sym noted.1)
     (carries_on g.J.Naming c.args.client c.args.self.now l.self c.note.new.self (take i lines)
     c.line-item.result l.answers.items noted.0 l.invariant noted.2))
 
 pub returns-clause-carried : goal.returns-clause-carried
 returns-clause-carried g c =
-    subst (λ (ls : List Line). CarriesOut g.J.Naming c.args.client c.args.self.now ls
+    subst (λ (ls : List Line). CarriesOut g.J.Naming.origin c.args.client c.args.self.now ls
     c.loop-line.answers.items c.loop-line.self)
     (take_all c.loop-line.line-index c.args.lines.now c.loop-line-test.false) c.loop-line.invariant

@@ -13,7 +13,8 @@ new-requires-3-clause-parts g c =
       c.new-2.ensures.known,
       c.into_shelves-journal.ensures.book,
       named_book g.B.Parts.collections c.self.inside.book _ c.into_shelves-journal.ensures.whole
-          g.J.Naming.format g.J.Naming.start g.J.Naming.next g.J.Naming.wear c.self.invariant.2
+          g.J.Naming.origin.format g.J.Naming.origin.start g.J.Naming.origin.next
+          g.J.Naming.origin.wear c.self.invariant.2
           n.format n.start n.next n.wear,
     )
 
