@@ -1,2 +1,3 @@
 pub mod OpenLemmas
 pub mod EffectLemmas
+pub mod ScriptClients

@@ -1,11 +1,12 @@
 // The threads of a script's clients.
-ghost use Rattle.std.specs.Prelude.{◌≡◌, length, IfOk, IsOkUnless};
+ghost use Rattle.std.specs.Prelude.{◌≡◌, ◌↔◌, Any, length, IfOk, IsOkUnless, IsTrue};
 ghost use Rattle.calls.specs.declared.refusal.Refusal.{Refusal};
+ghost use Rattle.boost.specs.Serving.{HaveLines, IsOfClient};
 
 use background::Work;
 use calls::Refusal;
 use script::{Action, Line};
-use sessions::{Session, Transcript};
+use sessions::{Transcript, run_lines};
 use std::alloc::{AllocGlobal, Global};
 use std::marker::Model;
 use std::rt::Clock;
@@ -35,6 +36,7 @@ impl<'a> Script<'a> {
     /// The script of the lines. Refused only for want of memory.
     pub fn new(alloc: Global, lines: &'a [Line]) -> Result<Script<'a>, Refusal>
         ensures lines { IfOk result (λ script. script.lines ≡ lines.now) }
+        ensures clients { IfOk result (λ script. HaveLines script.clients lines.now) }
         ensures refused { IsOkUnless result Refusal.NoMemory }
     {
         let clients = clients_of(alloc, lines)?;
@@ -56,7 +58,7 @@ impl Work for Script<'_> {
 
     ghost says = { Tells };
 
-    /// Runs the lines of a client (`Session::run`), and answers what it was told; none for a thread
+    /// Runs the lines of a client (`run_lines`), and answers what it was told; none for a thread
     /// behind those of the clients.
     ///
     /// NoMemory where the answers take more than there is.
@@ -69,17 +71,17 @@ impl Work for Script<'_> {
         let Some(number) = self.clients.get(thread) else {
             return Ok(None);
         };
-        let mut session = Session::new(client);
-        Ok(Some(session.run(rt, rt.alloc(), *number, self.lines)?))
+        Ok(Some(run_lines(rt, rt.alloc(), client, *number, self.lines)?))
     }
 }
 
 // The numbers of the clients that have lines, rising.
 fn clients_of(alloc: Global, lines: &[Line]) -> Result<Vec<u8>, Refusal>
-    ensures { IsOkUnless result Refusal.NoMemory }
+    ensures clients { IfOk result (λ clients. HaveLines clients.items lines.now) }
+    ensures refused { IsOkUnless result Refusal.NoMemory }
 {
     let mut clients = Vec::new(alloc);
-    for client in 1..=CLIENTS {
+    for client in 1..CLIENTS + 1 {
         if has_lines(lines, client) {
             clients.push(client)?;
         }
@@ -88,6 +90,20 @@ fn clients_of(alloc: Global, lines: &[Line]) -> Result<Vec<u8>, Refusal>
 }
 
 // Whether a line is a request of the client of this number.
-fn has_lines(lines: &[Line], client: u8) -> bool {
-    lines.iter().any(|line| matches!(&line.what, Action::Client(number, _) if *number == client))
+fn has_lines(lines: &[Line], client: u8) -> bool
+    ensures { IsTrue result ↔ Any (IsOfClient client) lines.now }
+{
+    for line in lines {
+        if is_of_client(line, client) {
+            return true;
+        }
+    }
+    false
+}
+
+// Whether the line is a request of the client of this number.
+fn is_of_client(line: &Line, client: u8) -> bool
+    ensures { IsTrue result ↔ IsOfClient client line.now }
+{
+    matches!(&line.what, Action::Client(number, _) if *number == client)
 }

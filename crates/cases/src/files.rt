@@ -5,7 +5,7 @@ use crate::plays::values::{bytes, not_understood, number, numbers, pair, three};
 use crate::plays::workbench::Workbench;
 use crate::runs::words;
 use command_line::{Fifos, Way, obey};
-use disk_model::{FileDisk, Unknown};
+use disk_model::{Disk, FileDisk, Unknown};
 use std::alloc::Global;
 use std::fs::{self, File};
 use std::io::{self, Seek, SeekFrom, Write};
@@ -97,6 +97,25 @@ fn write_at(rt: &impl Files<File = File>, path: &str, at: u64, added: &[u8]) -> 
     let mut file = File::options().write(true).open(rt, path)?;
     file.seek(SeekFrom::Start(at))?;
     file.write_all(added)
+}
+
+/// Writes bytes `a7` by one call of a disk that is the file, and brings them to the device: where
+/// they begin, and how many.
+pub fn write_wide(rt: &(impl Files<File = File> + AllocGlobal), line: &str) -> io::Result<()> {
+    let (path, rest) = pair(line, " ")?;
+    let (at, count) = numbers(rest)?;
+    let file = File::options().read(true).write(true).open(rt, path)?;
+    let mut disk: FileDisk<Unknown> = FileDisk::open(file)?;
+    let size = disk.size();
+    if count > size || at > size - count {
+        return Err(not_understood());
+    }
+    let added = vec![in rt.alloc(); 0xA7; count as usize]?;
+    let is_done = disk.write_at(at, added.as_slice()).is_ok() && disk.sync().is_ok();
+    if !is_done {
+        return Err(io::Error::from(io::ErrorKind::WriteZero));
+    }
+    Ok(())
 }
 
 /// Tells bytes of a file: where they begin, and how many.

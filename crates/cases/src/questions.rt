@@ -64,6 +64,7 @@ fn ask_of_files(
         "size" => files::set_size(rt, rest),
         "bytes" => files::read(rt, rest, told),
         "write_file" => files::write(rt, rest),
+        "write_wide" => files::write_wide(rt, rest),
         "is_there" => {
             told.tell(File::open(rt, rest).is_ok());
             Ok(())

@@ -32,11 +32,10 @@ use Rattle.group_commit.specs.Lines.{stepped, with_client}
 use Rattle.group_commit.specs.Orders.{SenderState}
 use Rattle.clients.specs.declared.naming.Naming.{Ghosts}
 use Rattle.clients.specs.Desks.{AreRecorded, IsDesk, frozen_ends}
-use Rattle.clients.specs.Owners.{no_owner, owners_behind, MayTake}
 use Rattle.clients.specs.Notes.{handed_count}
 use Rattle.clients.specs.Notes.{IsSent}
 use Rattle.clients.specs.Told.{told_book}
-use Rattle.clients.proofs.Owning.{owned_then}
+use Rattle.clients.proofs.Owning.{MayFollow, owned_none, owned_then, owned_alone}
 use Rattle.clients.proofs.Gathered.{Goes, gathered_takes, gathered_cut, gathered_none}
 use Rattle.clients.proofs.Recording.{recorded_none, recorded_leads, recorded_unheard}
 use Rattle.clients.proofs.Telling.{takes_told, gathered_told, gathered_back}
@@ -63,7 +62,7 @@ module _ {J : Type 0} (j : Ghosts J) where
         groups = [];
         handed = opens catalog_meaning catalog_making (λ v. v) j.origin.format j.origin.start
             j.origin.wear j.origin.next;
-        owned = tt;
+        owned = owned_none;
         recorded = λ s. recorded_none j.origin.format j.origin.start j.origin.wear;
       })
 
@@ -95,7 +94,7 @@ module _ {J : Type 0} (j : Ghosts J) where
 
     -- a step that hands nothing over
     pub desk_takes : (action : Action) (new : BookState S) (now : lines.BookState) →
-        MayTake (owners_behind no_owner seat.all) client action →
+        MayFollow seat.all client action →
         Takes meaning making old action new →
         AllByRecursion (IsRecord None) new.pending →
         Goes meaning making collections old action new → now ≡ stepped seat (step action) →
@@ -213,7 +212,7 @@ module _ {J : Type 0} (j : Ghosts J) where
             (subst (λ n. Handed (seat.all ++ record { client = None; action = Action.Cut n a } ∷ [])
             after (sender.sent ++ on.1) (is.groups ++ on.2) (frozen_ends sender.noted)) count
             on.4));
-        owned = owned_then seat.all step is.owned refl;
+        owned = owned_alone seat.all step.action is.owned refl refl;
         recorded = λ s.
             subst (λ l. AreRecorded j.origin.format j.origin.start j.origin.wear
             (records_by (seat.all ++ step ∷ []))

@@ -131,12 +131,14 @@ module _ {J : Type 0} (j : Ghosts J) where
 
   pub client_meets : (old new : ClientState) (w : WatcherState) (d e : DrawerState)
       (p q : Phase) (seen : List BookStep) → IsClient j old w d p → IsSeen j.origin seen →
-      new ≡ seeing old seen → e ≡ d → HasOwn q new → IsClient j new w e q
+      new ≡ seeing old seen → e ≡ d → HasOwn q new e → IsClient j new w e q
   client_meets old new w d e p q seen is legal new_is same own = record {
     line_is = ap (λ (c : ClientState). c.table) new_is ∙ is.line_is;
     mark_is = is.mark_is;
     numbers_is = ap (λ (x : DrawerState). x.table) same ∙ is.numbers_is;
     from = ap (λ (x : DrawerState). x.from) same ∙ is.from;
+    number = ap (λ (x : DrawerState). x.number) same ∙ is.number ∙
+        sym (ap (λ (c : ClientState). c.number) new_is);
     legal = subst (IsSeen j.origin) (sym (ap (λ (c : ClientState). c.seen) new_is)) legal;
     own = own;
   }

@@ -31,8 +31,8 @@ use Rattle.group_commit.specs.Twins.{EndState}
 use Rattle.clients.specs.declared.naming.Naming.{Ghosts}
 use Rattle.clients.specs.declared.touch.Touch.{Touch}
 use Rattle.clients.specs.Known.{Steps, step_of}
-use Rattle.clients.specs.Owners.{no_owner, owners_behind, MayTake, Owns, HasEntered}
-use Rattle.clients.proofs.Owning.{owns_here}
+use Rattle.clients.specs.Owners.{transaction_of, MayTake, HasEntered}
+use Rattle.clients.proofs.Owning.{MayFollow, named_follows}
 use Rattle.clients.specs.Notes.{IsSent, handed_count}
 use Rattle.clients.specs.Told.{told_book}
 use Rattle.clients.specs.Touches.{led, Leads, IsJournalDesk, IsKnown}
@@ -118,19 +118,15 @@ module _ {S T N J : Type 0} (j : Ghosts J) {meaning : Meaning S ℕ} {making : M
       steps_one j (told_book collections (book_state whole k is.shelves)) seat now sender near old
       new action is.desk now_is new_is begins mine
 
-  -- What a client's own steps say to be its transaction is so.
+  -- A client takes a step of a number that it has entered.
   pub owns_step : {k : JournalState N} {nears : Four (End T)} {seat : lines.BookState}
       {sender : SenderState} {near : AccordState} →
       (is : IsJournalDesk j meaning making collections whole fits k nears seat sender near) →
-      (now : lines.BookState) (old new : ClientState) (action : Action) (n : ℕ) →
-      now ≡ stepped seat (step_of old.number action) → new ≡ seeing old now.all →
-      mine_of new ≡ mine_of old ++ step_of old.number action ∷ [] → HasEntered old n →
-      Owns (owners_behind no_owner seat.all) (Some old.number) n
-  owns_step {k} {nears} {seat} {sender} {near} is now old new action n now_is new_is mine own =
-      owns_here catalog_meaning catalog_making
-      (opening j.origin.format j.origin.start j.origin.wear)
-      (standing (told_book collections (book_state whole k is.shelves))) refl seat now old new
-      action n is.desk.handed.legal is.desk.owned now_is new_is mine own
+      (me : ClientState) (n : ℕ) (action : Action) → IsPrefix me.seen seat.all →
+      HasEntered me n → MayTake (Some me.number) action → transaction_of action ≡ Some n →
+      MayFollow seat.all (Some me.number) action
+  owns_step {seat = seat} is me n action begins own may named =
+      named_follows seat.all me n action is.desk.owned begins own may named
 
   -- ---- what the ends know
 
@@ -178,7 +174,7 @@ module _ {S T N J : Type 0} (j : Ghosts J) {meaning : Meaning S ℕ} {making : M
     -- A step behind which the ends know what the shelves hold.
     pub steps_over : (l : JournalState N) (ends : Four (End T)) (f : Four (ShelfState T))
         (now : lines.BookState) (action : Action) →
-        MayTake (owners_behind no_owner seat.all) client action →
+        MayFollow seat.all client action →
         IsKnown j meaning making collections whole fits l ends f →
         Takes meaning making (book_state whole k is.shelves) action (book_state whole l f) →
         Goes meaning making collections (book_state whole k is.shelves) action
@@ -196,7 +192,7 @@ module _ {S T N J : Type 0} (j : Ghosts J) {meaning : Meaning S ℕ} {making : M
 
     -- A step beside the shelves.
     pub steps_beside : (l : JournalState N) (now : lines.BookState) (action : Action) →
-        MayTake (owners_behind no_owner seat.all) client action →
+        MayFollow seat.all client action →
         IsBook meaning making collections whole fits l is.shelves →
         Takes meaning making (book_state whole k is.shelves) action
         (book_state whole l is.shelves) →

@@ -1,18 +1,18 @@
 -- What a client knows behind a visit under the locks, for which its number was entered.
-use Rattle.std.proofs.Common.{◌≡◌, ℕ, [], Result, Ok, Err, Option, None, Some, IfErr, OnOk, IfSome}
-use Rattle.std.proofs.Common.{IsNone, cond, inr, refl, sym, ap, ◌∙◌, subst}
-use Rattle.std.proofs.lemmas.Bool.{eq-eqb}
+use Rattle.std.proofs.Common.{◌≡◌, ℕ, [], ◌∷◌, ◌++◌, Result, Ok, Err, Option, None, Some, IfErr, OnOk, IfSome}
+use Rattle.std.proofs.Common.{IsNone, inr, refl, sym, ap, ◌∙◌, subst}
+use Rattle.std.specs.Prelude.{Contains}
+use Rattle.std.proofs.lemmas.List.Elements.{Contains-append_left, Contains-push}
 use Rattle.calls.specs.declared.refusal.Refusal.{Refusal}
 use Rattle.txn.specs.declared.steps.Action.{Action}
 use Rattle.group_commit.specs.Lines.{ClientState, mine_of, steps_of}
 use Rattle.group_commit.specs.Marks.{WatcherState}
-use Rattle.group_commit.specs.Numbers.{DrawerState}
+use Rattle.group_commit.specs.Numbers.{DrawerState, with_number}
 use Rattle.clients.specs.declared.naming.Naming.{Ghosts}
 use Rattle.clients.specs.declared.phase.Phase.{Phase}
 use Rattle.clients.specs.Known.{Known, known_of, step_of, Steps}
-use Rattle.clients.specs.Owners.{Owners, no_owner, owners_then, owners_behind, HasEntered}
+use Rattle.clients.specs.Owners.{entering, HasEntered}
 use Rattle.clients.specs.Calls.{Acts, Does, Enters, IsClient, HasOwn, IsEntering}
-use Rattle.clients.proofs.Owning.{owners_next}
 use Rattle.clients.proofs.Seeing.{acts_one, client_meets, does_next, enters_phase}
 
 module _ {J : Type 0} (j : Ghosts J) (old mid : Known) (n : ℕ)
@@ -52,60 +52,55 @@ module _ {J : Type 0} (j : Ghosts J) (old mid : Known) (n : ℕ)
 
 -- ---- whose its transaction is
 
--- The step enters no transaction, and ends none.
-abbrev pub Keeps : Action → Type 0
-Keeps action = (owners : Owners) (client : Option ℕ) → owners_then owners client action ≡ owners
-
 -- A number that a client has entered is its own.
 pub own_held : (line : ClientState) (w : WatcherState) (d : DrawerState) (p : Phase) (k : Known)
-    (n : ℕ) → known_of line w d p ≡ k → k.phase ≡ Phase.Entered n → HasOwn p line →
+    (n : ℕ) → known_of line w d p ≡ k → k.phase ≡ Phase.Entered n → HasOwn p line d →
     HasEntered line n
 own_held line w d p k n view entered own =
-    subst (λ q. HasOwn q line) (ap (λ (x : Known). x.phase) view ∙ entered) own
+    subst (λ q. HasOwn q line d) (ap (λ (x : Known). x.phase) view ∙ entered) own
 
 -- also one that it entered right before
 pub entered_own : {J : Type 0} (j : Ghosts J) (old mid : Known) (n : ℕ) →
     Enters j.origin old.phase old (Ok n) mid →
     (line : ClientState) (w : WatcherState) (d : DrawerState)
-    (p : Phase) → known_of line w d p ≡ mid → HasOwn p line → HasEntered line n
+    (p : Phase) → known_of line w d p ≡ mid → HasOwn p line d → HasEntered line n
 entered_own j old mid n enters line w d p view own =
     own_held line w d p mid n view (enters_phase j old.phase old mid n refl enters) own
 
 -- what a client has seen of itself says the same where it meets another one
-pub own_meets : (p : Phase) (old new : ClientState) → new.number ≡ old.number →
-    mine_of new ≡ mine_of old → HasOwn p old → HasOwn p new
-own_meets Phase.Closed old new number mine own = tt
-own_meets (Phase.Drawn n) old new number mine own = tt
-own_meets (Phase.Entered n) old new number mine own =
-    ap (λ l. owners_behind no_owner l n) mine ∙ own ∙ ap (λ k. Some k) (sym number)
+pub own_meets : (p : Phase) (old new : ClientState) (d e : DrawerState) →
+    new.number ≡ old.number → mine_of new ≡ mine_of old → e ≡ d → HasOwn p old d → HasOwn p new e
+own_meets Phase.Closed old new d e number mine same own = tt
+own_meets (Phase.Drawn n) old new d e number mine same own =
+    subst (λ (x : DrawerState). Contains x.drawn n) (sym same) own
+own_meets (Phase.Entered n) old new d e number mine same own =
+    subst (λ k. Contains (mine_of new) (entering k n)) (sym number)
+    (subst (λ l. Contains l (entering old.number n)) (sym mine) own)
 
 module _ {J : Type 0} (j : Ghosts J) (old new : ClientState) (action : Action)
     (steps : Steps j.origin old action new) where
   same_number : new.number ≡ old.number
   same_number = ap (λ (c : ClientState). c.number) steps.0
 
-  -- whose the numbers are behind a step of the client
-  behind : owners_behind no_owner (mine_of new)
-      ≡ owners_then (owners_behind no_owner (mine_of old)) (Some old.number) action
-  behind =
-      ap (λ n. owners_behind no_owner (steps_of n new.seen)) same_number ∙
-      ap (owners_behind no_owner) steps.1.grows.mine ∙
-      owners_next (mine_of old) (step_of old.number action)
+  -- what a client has seen of itself behind a step
+  mine_then : mine_of new ≡ mine_of old ++ step_of old.number action ∷ []
+  mine_then = ap (λ n. steps_of n new.seen) same_number ∙ steps.1.grows.mine
 
-  own_on : (p : Phase) → Keeps action → HasOwn p old → HasOwn p new
-  own_on Phase.Closed keeps own = tt
-  own_on (Phase.Drawn n) keeps own = tt
-  own_on (Phase.Entered n) keeps own =
-      ap (λ (o : Owners). o n)
-      (behind ∙ keeps (owners_behind no_owner (mine_of old)) (Some old.number)) ∙ own ∙
-      ap (λ k. Some k) (sym same_number)
+  own_on : (p : Phase) (d : DrawerState) → HasOwn p old d → HasOwn p new d
+  own_on Phase.Closed d own = tt
+  own_on (Phase.Drawn n) d own = own
+  own_on (Phase.Entered n) d own =
+      subst (λ k. Contains (mine_of new) (entering k n)) (sym same_number)
+      (subst (λ l. Contains l (entering old.number n)) (sym mine_then)
+      (Contains-append_left (mine_of old) (step_of old.number action ∷ [])
+      (entering old.number n) own))
 
   own_entered : (n : ℕ) → action ≡ Action.Enter n (Ok tt) → HasEntered new n
   own_entered n is =
-      ap (λ (o : Owners). o n) behind ∙
-      ap (λ a. owners_then (owners_behind no_owner (mine_of old)) (Some old.number) a n) is ∙
-      ap (λ b. cond b (Some old.number) (owners_behind no_owner (mine_of old) n))
-      (eq-eqb n n refl) ∙ ap (λ k. Some k) (sym same_number)
+      subst (λ k. Contains (mine_of new) (entering k n)) (sym same_number)
+      (subst (λ l. Contains l (entering old.number n)) (sym mine_then)
+      (subst (λ a. Contains (mine_of old ++ step_of old.number a ∷ []) (entering old.number n))
+      (sym is) (Contains-push (mine_of old) (entering old.number n))))
 
 -- ---- it is a client of the store still
 
@@ -115,7 +110,7 @@ module _ {J : Type 0} (j : Ghosts J) (old new : ClientState) (w : WatcherState) 
   stays same = subst (λ l. IsClient j l w d p) (sym same) is
 
   -- where it is in a phase then
-  steps_into : (q : Phase) (action : Action) → Steps j.origin old action new → HasOwn q new →
+  steps_into : (q : Phase) (action : Action) → Steps j.origin old action new → HasOwn q new d →
       IsClient j new w d q
   steps_into q action steps own =
       client_meets j old new w d d p q new.seen is steps.1.grows.legal steps.0 refl own
@@ -131,24 +126,33 @@ module _ {J : Type 0} (j : Ghosts J) (old new : ClientState) (w : WatcherState) 
   enters_on n steps = steps_into (Phase.Entered n) (Action.Enter n (Ok tt)) steps
       (own_entered j old new (Action.Enter n (Ok tt)) steps n refl)
 
+  -- where it has drawn a number
+  pub draws_on : (e : DrawerState) (n : ℕ) → e ≡ with_number d n →
+      IsClient j old w e (Phase.Drawn n)
+  draws_on e n e_is = rw e_is (record {
+    line_is = is.line_is;
+    mark_is = is.mark_is;
+    numbers_is = is.numbers_is;
+    from = is.from;
+    number = is.number;
+    legal = is.legal;
+    own = Contains-push d.drawn n;
+  })
+
   -- where it goes on
-  pub steps_on : (action : Action) → Steps j.origin old action new → Keeps action →
-      IsClient j new w d p
-  steps_on action steps keeps =
-      steps_into p action steps (own_on j old new action steps p keeps is.own)
+  pub steps_on : (action : Action) → Steps j.origin old action new → IsClient j new w d p
+  steps_on action steps = steps_into p action steps (own_on j old new action steps p d is.own)
 
   -- Where something was looked for, and a refusal is a step,
   pub found_client : {X E : Type 0} (r : Result X E) (act : E → Action) →
-      OnOk r (new ≡ old) → IfErr r (λ e. Steps j.origin old (act e) new) →
-      ((e : E) → Keeps (act e)) →
-      IsClient j new w d p
-  found_client (Ok x) act same steps keeps = stays same
-  found_client (Err e) act same steps keeps = steps_on (act e) steps (keeps e)
+      OnOk r (new ≡ old) → IfErr r (λ e. Steps j.origin old (act e) new) → IsClient j new w d p
+  found_client (Ok x) act same steps = stays same
+  found_client (Err e) act same steps = steps_on (act e) steps
 
   -- and where a step was tried.
   pub tried_client : {X : Type 0} (o : Option X) (P : X → Type 0) →
-      ((x : X) → P x → (action : Action) × Steps j.origin old action new × Keeps action) →
+      ((x : X) → P x → (action : Action) × Steps j.origin old action new) →
       IfSome o P →
       (IsNone o → new ≡ old) → IsClient j new w d p
   tried_client None P step some none = stays (none refl)
-  tried_client (Some x) P step some none = let so = step x some in steps_on so.0 so.1 so.2
+  tried_client (Some x) P step some none = let so = step x some in steps_on so.0 so.1

@@ -32,20 +32,22 @@ abbrev pub IsEnded : {T : Type 0} → Result T Refusal → Phase → Type 0
 IsEnded (Ok done) phase = phase ≡ Phase.Closed
 IsEnded (Err e) phase = IsOpen phase
 
--- A transaction that it has entered is its own, by its own steps.
-abbrev pub HasOwn : Phase → ClientState → Type 0
-HasOwn (Phase.Entered n) line = HasEntered line n
-HasOwn phase line = Unit {0}
+-- Its transaction is its own: it drew the number, and by its own steps it has entered it.
+abbrev pub HasOwn : Phase → ClientState → DrawerState → Type 0
+HasOwn Phase.Closed line drawer = Unit {0}
+HasOwn (Phase.Drawn n) line drawer = Contains drawer.drawn n
+HasOwn (Phase.Entered n) line drawer = HasEntered line n
 
--- its seats are of the store, what it has seen is legal, and its transaction is its own
+-- its seats are of the store, and its own; what it has seen is legal, and its transaction is its own
 pub record IsClient {J : Type 0} (j : Ghosts J) (line : ClientState) (watcher : WatcherState)
     (drawer : DrawerState) (phase : Phase) : Type 0 where
   pub line_is : line.table ≡ j.line
   pub mark_is : watcher.table ≡ j.mark
   pub numbers_is : drawer.table ≡ j.numbers
   pub from : drawer.from ≡ j.origin.next
+  pub number : drawer.number ≡ line.number
   pub legal : IsSeen j.origin line.seen
-  pub own : HasOwn phase line
+  pub own : HasOwn phase line drawer
 
 -- ---- numbers
 

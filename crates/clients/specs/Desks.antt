@@ -1,6 +1,6 @@
 -- What lies under the journal's lock.
 use Rattle.calls.specs.declared.format.Format.{Format}
-use Rattle.std.specs.Prelude.{◌≡◌, ℕ, List, [], map, Option, Some, None}
+use Rattle.std.specs.Prelude.{◌≡◌, ℕ, List, [], map, Contains, Option, Some, None}
 use Rattle.std.specs.List.{AllByRecursion}
 use Rattle.calls.specs.Contents.{Collection}
 use Rattle.record_format.specs.declared.record.Record.{Record}
@@ -11,6 +11,7 @@ use Rattle.machine.specs.Machine.{journalled}
 use Rattle.machine.specs.Machines.{resting}
 use Rattle.repetition.specs.Steps.{State, Repeats}
 use Rattle.repetition.specs.Lagging.{Lags}
+use Rattle.txn.specs.declared.steps.BookStep.{BookStep}
 use Rattle.txn.specs.Books.{BookState}
 use Rattle.txn.specs.Freezing.{IsGatheredOf}
 use Rattle.txn.specs.Histories.{records_by}
@@ -20,9 +21,11 @@ use Rattle.checkpoint.specs.Stored.{StandIn}
 use Rattle.checkpoint.specs.Keeping.{BegunImage, IsImageFor}
 use Rattle.group_commit.specs.Accords.{AccordState}
 use Rattle.group_commit.specs.Lines as lines
+use Rattle.group_commit.specs.declared.numbers.Report.{Report}
+use Rattle.group_commit.specs.Numbers.{MakerState, IsReported}
 use Rattle.group_commit.specs.Orders.{SenderState}
 use Rattle.clients.specs.declared.naming.Naming.{Ghosts}
-use Rattle.clients.specs.Owners.{AreOwned}
+use Rattle.clients.specs.Owners.{transaction_of, AreOwned}
 
 -- how many records came before a freeze
 abbrev pub frozen_end : Option FrozenState → ℕ
@@ -56,6 +59,17 @@ module _ (format : Format) (start : List Collection) (wear : ℕ) (records : Lis
     pub leads : Repeats records (resting format start wear) trail
     pub trails : Lags trail now
     pub stand : AllByRecursion PacksImages noted
+
+-- A number of which a client took a step was reported by the client's drawer, which has the number of
+-- the client.
+abbrev pub AreReported : List Report → List BookStep → Type 0
+AreReported reports steps = (x : BookStep) → Contains steps x → (n client : ℕ) →
+    transaction_of x.action ≡ Some n → x.client ≡ Some client → IsReported reports client n
+
+-- As many drawers were made as clients, and who entered a number drew it.
+pub record IsDrawn (maker : MakerState) (seat : lines.BookState) : Type 0 where
+  pub made : maker.made ≡ seat.clients
+  pub reported : AreReported maker.reports seat.all
 
 -- The book stands where its history led, each step of which was taken by who may take it. Its first
 -- records were sent in blocks, and the others are pending. No block crosses where it was frozen.

@@ -103,6 +103,7 @@ impl<'s, J: Naming, B: Coded> Client<'s, J, B> {
         requires watcher { (watcher.table ≡ J.mark) × (watcher.counts ≡ []) × (watcher.flags ≡ []) }
         requires drawer { (drawer.table ≡ J.numbers) × (drawer.from ≡ J.origin.next) ×
             (drawer.drawn ≡ []) }
+        requires number { drawer.number ≡ line.number }
         ensures { result ≡ newcomer line.number }
     {
         Self {
@@ -752,7 +753,7 @@ impl<'s, J: Naming, B: Coded> Client<'s, J, B> {
         match self.phase {
             Phase::Entered(number) => Ok(number),
             Phase::Drawn(number) => {
-                desk.enter(self.shared, &mut self.line, number)?;
+                desk.enter(self.shared, &mut self.line, &mut self.drawer, number)?;
                 self.phase = Phase::Entered(number);
                 Ok(number)
             }

@@ -1,6 +1,6 @@
 // What lies under the journal's lock.
 ghost use Rattle.std.specs.Prelude.{◌≡◌, [], ◌∷◌, ◌++◌, Some, None, IfOk, IfErr};
-ghost use Rattle.std.specs.Prelude.{IsOkUnless, ◌⊎◌, ◌≤◌};
+ghost use Rattle.std.specs.Prelude.{IsOkUnless, ◌⊎◌, ◌≤◌, Contains};
 ghost use Rattle.calls.specs.declared.refusal.Refusal.{Refusal};
 ghost use Rattle.calls.specs.Limits.{max_body};
 ghost use Rattle.catalog.specs.declared.four.Four.{Four};
@@ -85,6 +85,7 @@ impl<J: Naming, B: Coded> Drop for Desk<J, B> {
 
 impl<J: Naming, B: Coded> Model for Desk<J, B> {
     ghost use Rattle.std.specs.Prelude.{◌≡◌};
+    ghost use Rattle.clients.specs.Desks.{IsDrawn};
     ghost use Rattle.clients.specs.Touches.{IsJournalDesk};
 
     ghost Value = { Unit {0} };
@@ -95,7 +96,7 @@ impl<J: Naming, B: Coded> Model for Desk<J, B> {
         IsJournalDesk ⟦<J as Naming>⟧ B.meaning B.making B.collections B.whole B.fits d.journal
         d.nears d.seat d.sender d.near
         × (d.maker.table ≡ J.numbers) × (d.maker.from ≡ J.origin.next) ×
-        (d.watcher.table ≡ J.mark) };
+        (d.watcher.table ≡ J.mark) × IsDrawn d.maker d.seat };
 }
 
 impl<J: Naming, B: Coded> Desk<J, B> {
@@ -120,7 +121,12 @@ impl<J: Naming, B: Coded> Desk<J, B> {
         requires seat { seat ≡ record { table = J.line; all = []; clients = 0 } }
         requires sender { sender ≡ record { table = J.handoff; sent = []; noted = [] } }
         requires near { near ≡ record { table = J.gathering; gather = nothing_gathered } }
-        requires maker { maker ≡ record { table = J.numbers; from = J.origin.next; made = 0 } }
+        requires maker { maker ≡ record {
+          table = J.numbers;
+          from = J.origin.next;
+          made = 0;
+          reports = [];
+        } }
         requires watcher { watcher.table ≡ J.mark }
     {
         Self {
@@ -137,16 +143,21 @@ impl<J: Naming, B: Coded> Desk<J, B> {
         }
     }
 
-    /// Makes a number live.
+    /// Makes a number live, which the client's drawer drew.
     pub(crate) fn enter(
         &mut self,
         shared: &Shared<J>,
         me: &mut ClientSeat,
+        drawer: &mut Drawer,
         number: u64,
     ) -> Result<(), Refusal>
-        requires { me.old.table ≡ J.line }
-        ensures { Steps J.origin me.old (Action.Enter number result) me.new }
+        requires line { me.old.table ≡ J.line }
+        requires drawer { (drawer.old.table ≡ J.numbers) × (drawer.old.number ≡ me.old.number) }
+        requires drawn { Contains drawer.old.drawn number }
+        ensures step { Steps J.origin me.old (Action.Enter number result) me.new }
+        ensures drawer { drawer.new ≡ drawer.old }
     {
+        shared.numbers.report(&mut self.maker, drawer);
         let entered = self.journal.enter(number);
         note::<Brand, _>(&shared.line, &mut self.seat, me, &(number, &entered));
         wake(&shared.signal, &self.journal, false);
@@ -208,6 +219,7 @@ impl<J: Naming, B: Coded> Desk<J, B> {
         ensures watcher { IfOk result (λ r. r.1 ≡ new_watcher J.mark) }
         ensures drawer { IfOk result (λ r. (r.2.table ≡ J.numbers) × (r.2.from ≡ J.origin.next) ×
             (r.2.drawn ≡ [])) }
+        ensures number { IfOk result (λ r. r.2.number ≡ r.0.number) }
         ensures worn { IsOkUnless result Refusal.Worn }
     {
         let drawer = shared.numbers.drawer(&mut self.maker)?;

@@ -1,6 +1,6 @@
 -- Each step keeps the rule of the numbers.
 use Rattle.std.proofs.Common.{◌≡◌, ◌≢◌, ℕ, zero, suc, ◌+◌, ◌%◌, ◌^◌, ◌<◌, ◌≤◌, cond, eqb, eq-eqb}
-use Rattle.std.proofs.Common.{ne_eqb, get_or, List, [], ◌∷◌, ◌++◌, length, set, true, false}
+use Rattle.std.proofs.Common.{ne_eqb, get_or, List, [], ◌∷◌, ◌++◌, length, map, set, true, false}
 use Rattle.std.proofs.Common.{true≢false, refl, sym, ap, ◌∙◌, subst, ⊎_elim, inl, inr, arith}
 use Rattle.std.specs.Prelude.{slice_index, slice_set, sum_by, Contains}
 use Rattle.std.proofs.lemmas.List.Elements.{Contains-push_cases}
@@ -9,13 +9,16 @@ use mathlib.Core.Option.{some, some-ne-none, some-injective}
 use lib.ListN.{get_elem?}
 use Rattle.group_commit.specs.declared.numbers.Hand.{Hand}
 use Rattle.group_commit.specs.declared.numbers.Draw.{Draw}
-use Rattle.group_commit.specs.Numbers.{AreApart}
-use Rattle.group_commit.specs.Parties.{rest, first}
+use Rattle.group_commit.specs.declared.numbers.Report.{Report}
+use Rattle.group_commit.specs.Numbers.{AreApart, AreOfOne}
+use Rattle.group_commit.specs.Parties.{Among, rest, first}
 use Rattle.group_commit.specs.Drawing.{hand, number_of, maker, holding, nobody, drawer, making}
 use Rattle.group_commit.specs.Drawing.{made_one, boarded, without_first, first_alone, Drew, Makes}
-use Rattle.group_commit.specs.Drawing.{Fits, left_of, Drawn, with_drawn, AllApart}
-use Rattle.group_commit.proofs.Seats.{Each, each_one, each_set}
+use Rattle.group_commit.specs.Drawing.{Fits, Knows, AreTrue, left_of, Drawn, with_drawn, AllApart}
+use Rattle.group_commit.specs.Drawing.{report_of, reporting}
+use Rattle.group_commit.proofs.Seats.{Each, each_one, each_set, each_push, other_view}
 use Rattle.group_commit.proofs.Sitting as sitting
+use Rattle.group_commit.proofs.Sitting.{Among-append}
 
 off : {X : Type 0} → false ≡ true → X
 off e = absurd (true≢false (sym e))
@@ -45,9 +48,37 @@ left_parts : (hands : List Hand) →
 left_parts [] = refl
 left_parts (h ∷ hands) = let a = sum_by-append (λ (h : Hand). h.left) (h ∷ []) hands in omega arith
 
+-- ---- what is reported
+no_reports : (next : ℕ) (drawer_of : ℕ → ℕ) → AreTrue next drawer_of []
+no_reports next drawer_of r among = absurd among
+
+both_reports : (next : ℕ) (drawer_of : ℕ → ℕ) (xs ys : List Report) → AreTrue next drawer_of xs →
+    AreTrue next drawer_of ys → AreTrue next drawer_of (xs ++ ys)
+both_reports next drawer_of xs ys a b r among =
+    ⊎_elim (λ h. a r h) (λ h. b r h) (Among-append r xs ys among)
+
+-- what drawers drew, they report
+own_reports : (made next : ℕ) (drawer_of : ℕ → ℕ) (hands : List Hand) →
+    ((h : Hand) → Among h hands → Drew made next drawer_of h) →
+    AreTrue next drawer_of (map report_of hands)
+own_reports made next drawer_of [] drew r among = absurd among
+own_reports made next drawer_of (h ∷ hands) drew r among =
+    ⊎_elim
+    (λ (is : r ≡ report_of h). subst (λ (x : Report). (n : ℕ) → Contains x.drawn n →
+    (n < next) × (drawer_of n ≡ x.drawer)) (sym is)
+    (λ n has. let d = (drew h (inl refl)).drew n has in (d.1, d.2)))
+    (λ t. own_reports made next drawer_of hands (λ g among. drew g (inr among)) r t)
+    among
+
+-- what is true of one number is one drawer's
+reports_of_one : (next : ℕ) (drawer_of : ℕ → ℕ) (reports : List Report) →
+    AreTrue next drawer_of reports → AreOfOne reports
+reports_of_one next drawer_of reports are_true one other n a b =
+    sym a.2 ∙ sym (are_true a.0 a.1 n a.3).1 ∙ (are_true b.0 b.1 n b.3).1 ∙ b.2
+
 -- ---- the moves
 pub begins : (from : ℕ) → from ≤ 2305843009213693952 →
-    Drawn (from ∷ []) (maker from 0 72057594037927936 ∷ [])
+    Drawn (from ∷ []) (maker from 0 72057594037927936 [] ∷ [])
 begins from few = record {
   next = from;
   making = 0;
@@ -56,8 +87,8 @@ begins from few = record {
   seat_of = λ n. 0;
   words_are = refl;
   room = omega (arith, few);
-  fits = each_one (Fits 0 0 from (λ n. 0) (λ n. 0)) (maker from 0 72057594037927936) (
-    (λ is. (refl, refl, omega arith)),
+  fits = each_one (Fits 0 0 from (λ n. 0) (λ n. 0)) (maker from 0 72057594037927936 []) (
+    ((λ is. (refl, refl, omega arith)), no_reports from (λ n. 0)),
     sitting.nobody_sits number_of (Drew 0 from (λ n. 0)) (λ n. 0) 0,
   );
 }
@@ -82,14 +113,17 @@ module _ (words : List ℕ) (views : List Draw) (k : Drawn words views) (id : �
   pub makes : v.makes ≡ true → 1099511627776 ≤ v.left → v.hands ≡ [] →
       Drawn words (set views id (making v) ++ made_one v ∷ [])
   makes is_maker room none =
-      let here = (k.fits id v at).0 is_maker in
+      let here = (k.fits id v at).0.0 is_maker in
       let made = k.made + 1 in
       let r = sitting.admits number_of (λ (u : Draw). u.hands) (Drew k.made k.next k.drawer_of)
-      (Drew made k.next k.drawer_of) (Makes k.making made k.next) k.seat_of views id v
+      (Drew made k.next k.drawer_of) (Knows k.making made k.next k.drawer_of) k.seat_of views id v
       (making v) (made_one v)
       (hand (v.made + 1) v.from [] 1099511627776) at
       (λ j u e. (k.fits j u e).1)
-      (λ j u other e is. absurd (other (((k.fits j u e).0 is).0 ∙ sym here.0)))
+      (λ j u other e. (
+        (λ is. absurd (other (((k.fits j u e).0.0 is).0 ∙ sym here.0))),
+        (k.fits j u e).0.1,
+      ))
       (λ h d same. let le = d.numbered in let m = here.1 in
       let n : h.number ≡ v.made + 1 = same in absurd (omega arith))
       (λ h d. record {
@@ -105,8 +139,8 @@ module _ (words : List ℕ) (views : List Draw) (k : Drawn words views) (id : �
         drew = λ n h. absurd (none_drawn n h);
       }
       (sym none) refl
-      (λ is. (here.0, (let m = here.1 in omega arith), here.2))
-      (λ seat is. off is) in
+      ((λ is. (here.0, (let m = here.1 in omega arith), here.2)), (k.fits id v at).0.1)
+      (λ seat. ((λ is. off is), no_reports k.next k.drawer_of)) in
       record {
         next = k.next;
         making = k.making;
@@ -129,8 +163,30 @@ module _ (words : List ℕ) (views : List Draw) (k : Drawn words views) (id : �
       (let a = left_set views id v nobody at in
       let b = sum_by_push left_of (set views id nobody) v in omega arith)
       (sitting.leaves number_of (Drew k.made k.next k.drawer_of) (λ (u : Draw). u.hands)
-      (Makes k.making k.made k.next) k.seat_of views id v nobody at k.fits refl (λ is. off is)
-      (λ seat is. off (sym plain ∙ is)))
+      (Knows k.making k.made k.next k.drawer_of) k.seat_of views id v nobody at k.fits refl
+      ((λ is. off is), no_reports k.next k.drawer_of)
+      (λ seat. ((λ is. off (sym plain ∙ is)), (k.fits id v at).0.1)))
+
+  -- what the seat's drawers drew is reported to a new one
+  pub tells : Drawn words (set views id v ++ reporting v.hands ∷ [])
+  tells =
+      let f = k.fits id v at in
+      reseat (set views id v ++ reporting v.hands ∷ [])
+      (let a = left_set views id v v at in
+      let b = sum_by_push left_of (set views id v) (reporting v.hands) in omega arith) (
+        k.seat_of,
+        each_push (Fits k.making k.made k.next k.drawer_of k.seat_of) (set views id v)
+            (reporting v.hands)
+            (each_set (Fits k.making k.made k.next k.drawer_of k.seat_of) views id v
+            (λ j u _ e. k.fits j u e) f) (
+              (
+                (λ is. off is),
+                own_reports k.made k.next k.drawer_of v.hands (λ h among. (f.1.each h among).1),
+              ),
+              sitting.nobody_sits number_of (Drew k.made k.next k.drawer_of) k.seat_of
+                  (length (set views id v)),
+            ),
+      )
 
   pub boards : (other : ℕ) (w : Draw) → other ≢ id →
       get_elem? (set views id (boarded v w)) other ≡ some w →
@@ -141,9 +197,13 @@ module _ (words : List ℕ) (views : List Draw) (k : Drawn words views) (id : �
       let c = sum_by-append (λ (h : Hand). h.left) w.hands v.hands in
       omega arith)
       (sitting.boards number_of (Drew k.made k.next k.drawer_of) (λ (u : Draw). u.hands)
-      (Makes k.making k.made k.next) k.seat_of views id other v w (boarded v w) nobody at apart
-      there k.fits refl refl
-      (k.fits id v at).0 (λ is. off is))
+      (Knows k.making k.made k.next k.drawer_of) k.seat_of views id other v w (boarded v w) nobody
+      at apart there k.fits refl refl (
+        (k.fits id v at).0.0,
+        both_reports k.next k.drawer_of w.reports v.reports
+            (k.fits other w (other_view views id other (boarded v w) w apart there)).0.1
+            (k.fits id v at).0.1,
+      ) ((λ is. off is), no_reports k.next k.drawer_of))
 
   pub alights : Drawn words (set views id (without_first v) ++ first_alone v ∷ [])
   alights = reseat (set views id (without_first v) ++ first_alone v ∷ [])
@@ -152,14 +212,15 @@ module _ (words : List ℕ) (views : List Draw) (k : Drawn words views) (id : �
       let c = left_parts v.hands in
       omega arith)
       (sitting.alights number_of (Drew k.made k.next k.drawer_of) (λ (u : Draw). u.hands)
-      (Makes k.making k.made k.next) k.seat_of views id v (without_first v) (first_alone v)
-      at k.fits refl refl
-      (k.fits id v at).0 (λ seat is. off is))
+      (Knows k.making k.made k.next k.drawer_of) k.seat_of views id v (without_first v)
+      (first_alone v) at k.fits refl refl
+      (k.fits id v at).0 (λ seat. ((λ is. off is), no_reports k.next k.drawer_of)))
 
   found : slice_index words 0 ≡ k.next
   found = ap (λ ws. slice_index ws 0) k.words_are
 
-  pub compares : Drawn (slice_set words 0 (slice_index words 0)) (set views id v) × AllApart v.hands
+  pub compares : Drawn (slice_set words 0 (slice_index words 0)) (set views id v) ×
+      AllApart v.hands × AreOfOne v.reports
   compares =
       let f = k.fits id v at in (
         record {
@@ -178,6 +239,7 @@ module _ (words : List ℕ) (views : List Draw) (k : Drawn words views) (id : �
           apart = λ h g among_h among_g ne n a b.
               ne (sym ((f.1.each h among_h).1.drew n a).2 ∙ ((f.1.each g among_g).1.drew n b).2);
         },
+        reports_of_one k.next k.drawer_of v.reports f.0.1,
       )
 
 -- the drawer of each number, once one more was drawn
@@ -217,6 +279,12 @@ drew_now made next drawer_of h d = record {
       (Contains-push_cases h.drawn next n is);
 }
 
+true_before : (next who : ℕ) (drawer_of : ℕ → ℕ) (reports : List Report) →
+    AreTrue next drawer_of reports → AreTrue (next + 1) (named drawer_of next who) reports
+true_before next who drawer_of reports are_true r among n has =
+    let was = are_true r among n has in let lt = was.0 in
+    (omega arith, named_else drawer_of next who n (λ same. omega arith) ∙ was.1)
+
 pub draws : (words : List ℕ) (views : List Draw) (k : Drawn words views) (id : ℕ) (v : Draw) →
     get_elem? views id ≡ some v → (h : Hand) → v ≡ drawer h → 0 < h.left
     → Drawn (slice_set words 0 ((slice_index words 0 + 1) % 2 ^ 64))
@@ -248,12 +316,15 @@ draws words views k id v at h is some_left =
         room = omega arith;
         fits = each_set (Fits k.making k.made (k.next + 1) drawer_of k.seat_of) views id w
             (λ j u other e. let g = k.fits j u e in (
-              (λ is. let m = g.0 is in let le = m.2 in (m.0, m.1, omega arith)),
+              (
+                (λ is. let m = g.0.0 is in let le = m.2 in (m.0, m.1, omega arith)),
+                true_before k.next h.number k.drawer_of u.reports g.0.1,
+              ),
               sitting.sits_on number_of (Drew k.made k.next k.drawer_of)
                   (Drew k.made (k.next + 1) drawer_of) k.seat_of j u.hands
                   (λ p _ _ d. drew_before k.made k.next h.number k.drawer_of p d) g.1,
             )) (
-              (λ is. off is),
+              ((λ is. off is), no_reports (k.next + 1) drawer_of),
               sitting.one_sits number_of (Drew k.made (k.next + 1) drawer_of)
                   k.seat_of id (with_drawn h n) mine.0 now,
             );

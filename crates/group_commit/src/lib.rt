@@ -8,7 +8,8 @@
 //!   mark moves.
 //! - `Line`: the one history of the book. What each client has seen is a beginning of it, with all
 //!   that the history has of the client.
-//! - `Numbers`: each number that was drawn was drawn once.
+//! - `Numbers`: each number that was drawn was drawn once. Who makes drawers is told what one drew,
+//!   and so knows whose a number is.
 //! - `Accord`: what is gathered of the book for an image, as two ends know it. Both know the same
 //!   state, and only both together change it.
 //! - `Twin`: a list of touches, as two ends know it. Both know the same list, and only both
@@ -20,12 +21,12 @@
 //! its part, and only its own steps change what it knows. So what contracts say of a seat holds
 //! whatever the other threads do: the rule of a part is kept by each step, and is proved here.
 //!
-//! There are eleven kinds of step: blocks are sent and received; the mark is brought on, its flag
+//! There are twelve kinds of step: blocks are sent and received; the mark is brought on, its flag
 //! is set, and both are loaded; a step is tallied on the line, and the line is loaded; a number is
-//! drawn; an accord is loaded; a twin is loaded, and touched. Seats are joined and cut, too: so one
+//! drawn, and the next one is loaded; an accord is loaded; a twin is loaded, and touched. Seats are joined and cut, too: so one
 //! is told what another knows, both ends of a hand-off note what was frozen, and both ends of an
 //! accord come to know another state. The journal's lock is held where blocks are sent, steps
-//! tallied and clients made, the keeper's where blocks are received and the mark is brought on and
+//! tallied, clients made and numbers told, the keeper's where blocks are received and the mark is brought on and
 //! tells, and both where what was frozen is noted. Whoever takes a step of an accord or of a twin
 //! holds the locks of both of its ends.
 //!

@@ -3,7 +3,8 @@ ghost use Rattle.std.specs.Prelude.{◌≡◌, ◌≢◌, ◌+◌, ◌<◌, ◌�
 ghost use Rattle.std.specs.Prelude.{IsOkUnless};
 ghost use Rattle.calls.specs.declared.refusal.Refusal.{Refusal};
 ghost use Rattle.calls.specs.Limits.{number_end, max_clients};
-ghost use Rattle.group_commit.specs.Numbers.{with_drawer, Draws, IsWorn, AreApart};
+ghost use Rattle.group_commit.specs.Numbers.{with_drawer, with_report, Draws, IsWorn, AreApart};
+ghost use Rattle.group_commit.specs.Numbers.{AreOfOne};
 ghost use Rattle.group_commit.specs.Drawing.{Sits, boarded, nobody, without_first, first_alone};
 ghost use Rattle.group_commit.specs.Drawing.{drawer, hand_of, DrawsOne};
 
@@ -23,14 +24,21 @@ pub(crate) struct Hand {
     left: u64,
 }
 
-// What a seat knows. The maker's knows how many drawers were made. Each may have drawers with it.
-// No value of it is made.
+// Which numbers a drawer had drawn when it reported them. No value of it is made.
+pub(crate) struct Report {
+    drawer: u64,
+    drawn: LinkedList<u64>,
+}
+
+// What a seat knows. The maker's knows how many drawers were made. Each may have drawers with it,
+// and know what drawers reported. No value of it is made.
 pub(crate) struct Draw {
     makes: bool,
     from: u64,
     made: u64,
     left: u64,
     hands: LinkedList<Hand>,
+    reports: LinkedList<Report>,
 }
 
 type NumberSeat = Seat<(), Draw>;
@@ -39,11 +47,12 @@ type NumberSeat = Seat<(), Draw>;
 pub(crate) struct Once;
 
 impl TableRule<(), Draw, u64> for Once {
+    ghost use Rattle.std.specs.Prelude.{[]};
     ghost use Rattle.group_commit.specs.Drawing.{Drawn, maker};
 
     ghost holds = { λ _ s. Drawn s.words s.views };
 
-    ghost first = { λ from. maker from 0 72057594037927936 };
+    ghost first = { λ from. maker from 0 72057594037927936 [] };
 }
 
 struct DrawOne;
@@ -54,7 +63,7 @@ impl Play<(), Draw> for DrawOne {
     ghost then = { λ _ me found after. DrawsOne me found after };
 }
 
-// What the drawers with a seat drew is compared.
+// What the drawers with a seat drew is compared, and so is what was reported to it.
 struct Compare;
 
 impl Play<(), Draw> for Compare {
@@ -72,6 +81,17 @@ impl Split<Draw> for Make {
     ghost left = { making };
 
     ghost right = { made_one };
+}
+
+// What a seat's drawers drew goes to another, as their reports.
+struct Tell;
+
+impl Split<Draw> for Tell {
+    ghost use Rattle.group_commit.specs.Drawing.{reporting};
+
+    ghost left = { λ v. v };
+
+    ghost right = { λ v. reporting v.hands };
 }
 
 // All that a seat knows goes to another.
@@ -124,7 +144,7 @@ impl Model for Numbers {
     ghost invariant = { λ n. n.table.shared.table_id.words ≡ 1 };
 }
 
-/// The one seat that makes drawers. Contracts see how many it made.
+/// The one seat that makes drawers. Contracts see how many it made, and what was reported to it.
 pub struct DrawerMaker {
     seat: NumberSeat,
     made: u64,
@@ -148,6 +168,7 @@ impl Model for DrawerMaker {
       table = m.seat.table_id;
       from = m.seat.me.0.from;
       made = m.made;
+      reports = m.seat.me.0.reports;
     } };
 
     ghost invariant = { λ m. IsMaker m.seat.me m.made };
@@ -192,7 +213,7 @@ impl Numbers {
     pub fn new(alloc: Global, from: u64) -> Result<(Numbers, DrawerMaker), Refusal>
         requires { from ≤ number_end }
         ensures maker { IfOk result
-            (λ made. made.1 ≡ record { table = made.0; from = from; made = 0 }) }
+            (λ made. made.1 ≡ record { table = made.0; from = from; made = 0; reports = [] }) }
         ensures refusal { IsOkUnless result Refusal.NoMemory }
     {
         let (table, seat) = Table::of_words(alloc, &[from], &from)?;
@@ -290,5 +311,21 @@ impl Numbers {
         self.board(&mut one.seat, &mut other.seat);
         self.table.shared.load::<Compare>(&mut one.seat, 0);
         self.alight(&mut one.seat, &mut other.seat);
+    }
+
+    /// The maker learns which numbers the drawer drew. Each number of which it has learned was drawn
+    /// by one drawer alone. It takes no memory, and waits for nobody.
+    pub fn report(&self, maker: &mut DrawerMaker, drawer: &mut Drawer)
+        requires maker { maker.old.table ≡ self.now }
+        requires drawer { drawer.old.table ≡ self.now }
+        ensures maker { maker.new ≡ with_report maker.old drawer.old }
+        ensures drawer { drawer.new ≡ drawer.old }
+        ensures of_one { AreOfOne maker.new.reports }
+    {
+        let report = self.table.shared.split_seat::<Tell>(&mut drawer.seat);
+        self.table
+            .shared
+            .join_seat::<Board>(&mut maker.seat, report);
+        self.table.shared.load::<Compare>(&mut maker.seat, 0);
     }
 }

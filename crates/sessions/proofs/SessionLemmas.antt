@@ -3,22 +3,22 @@ use Rattle.std.proofs.Common.{ℕ, List, [], ◌∷◌, ◌++◌, append_assoc, 
 use Rattle.std.proofs.Common.{Option}
 use Rattle.std.proofs.lemmas.List.{append-nil}
 use Rattle.script.specs.declared.line.Line.{Line}
-use Rattle.clients.specs.declared.naming.Naming.{Ghosts}
+use Rattle.clients.specs.Origins.{Origin}
 use Rattle.sessions.specs.declared.transcript.Answer.{Answer}
 use Rattle.sessions.specs.Sessions.{SessionState, Answers, CarriesOut, answers_of}
 
-module _ {J : Type 0} (j : Ghosts J) where
+module _ (o : Origin) where
   -- a line more
   pub carries_on : (k : ℕ) (old mid new : SessionState) (lines : List Line) (line : Line)
-      (said : List Answer) (more : Option Answer) → CarriesOut j.origin k old lines said mid →
-      Answers j.origin k mid line more new →
-      CarriesOut j.origin k old (lines ++ line ∷ []) (said ++ answers_of more) new
+      (said : List Answer) (more : Option Answer) → CarriesOut o k old lines said mid →
+      Answers o k mid line more new →
+      CarriesOut o k old (lines ++ line ∷ []) (said ++ answers_of more) new
   carries_on k old mid new [] line said more carried answered = (
     more,
     [],
     new,
     ap (λ l. l ++ answers_of more) carried.0 ∙ sym (append-nil (answers_of more)),
-    subst (λ s. Answers j.origin k s line more new) carried.1 answered,
+    subst (λ s. Answers o k s line more new) carried.1 answered,
     (refl, refl),
   )
   carries_on k old mid new (l ∷ lines) line said more carried answered =

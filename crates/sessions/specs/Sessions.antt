@@ -28,6 +28,9 @@ pub record SessionState : Type 0 where
   pub known : Known
   pub ticket : Option Ticket
 
+abbrev pub session : Known → Option Ticket → SessionState
+session known ticket = record { known = known; ticket = ticket }
+
 -- the ticket behind a commit or a making
 abbrev pub ticket_after : Option Ticket → Result Ticket Refusal → Option Ticket
 ticket_after ticket (Ok given) = Some given
@@ -59,29 +62,18 @@ answers_of None = []
 answers_of (Some answer) = answer ∷ []
 
 module _ (o : Origin) where
-  -- A collection is made. Its place is the ticket then.
-  pub record Makes (old : SessionState) (name : List ℕ) (kind : Kind) (r : Result Ticket Refusal)
-      (new : SessionState) : Type 0 where
-    pub acts : calls.Acts o old.known [] (Action.Make name kind (calls.placed r)) new.known
-    pub phase : new.known.phase ≡ old.known.phase
-    pub ticket : new.ticket ≡ ticket_after old.ticket r
+  -- A collection is made.
+  abbrev pub Makes : Known → List ℕ → Kind → Result Ticket Refusal → Known → Type 0
+  Makes old name kind r new = calls.Acts o old [] (Action.Make name kind (calls.placed r)) new ×
+      (new.phase ≡ old.phase)
 
   -- A transaction begins under a number that is drawn, unless one is open.
-  abbrev pub Begins : SessionState → Result ℕ Refusal → SessionState → Type 0
-  Begins old (Ok n) new = IsClosed old.known × (n < number_end) ×
-      calls.Draws o.next old.known n new.known ×
-      (new.known.phase ≡ Phase.Drawn n) × (new.ticket ≡ old.ticket)
+  abbrev pub Begins : Known → Result ℕ Refusal → Known → Type 0
+  Begins old (Ok n) new = IsClosed old × (n < number_end) × calls.Draws o.next old n new ×
+      (new.phase ≡ Phase.Drawn n)
   Begins old (Err e) new =
-      (calls.IsOpen old.known.phase × (e ≡ Refusal.AlreadyLive) × (new ≡ old))
-      ⊎ (IsClosed old.known × (e ≡ Refusal.Worn) × calls.IsWorn o.next old.known new.known ×
-      (new.ticket ≡ old.ticket))
-
-  -- Without an open transaction nothing is done, and NoSuchTxn is answered; in one it does this.
-  abbrev pub InOpen : {T : Type 0} → SessionState → Result T Refusal → SessionState → Type 0 →
-      Type 0
-  InOpen old r new does =
-      (IsClosed old.known × (r ≡ Err Refusal.NoSuchTxn) × (new ≡ old))
-      ⊎ (calls.IsOpen old.known.phase × does)
+      (calls.IsOpen old.phase × (e ≡ Refusal.AlreadyLive) × (new ≡ old))
+      ⊎ (IsClosed old × (e ≡ Refusal.Worn) × calls.IsWorn o.next old new)
 
   -- the transaction makes a call on the collection of a name
   abbrev pub Asks : List ℕ → Call → Known → Result Reply Refusal → Known → Type 0
@@ -110,37 +102,51 @@ module _ (o : Origin) where
   Commits old r new = calls.Does o old.phase old (λ n a. a ≡ Action.Commit n (calls.placed r))
       (λ e. r ≡ Err e) (calls.ended_by r) new
 
-  -- The client is told whether its last ticket is kept: the mark is loaded where it has one.
-  abbrev pub Looks : SessionState → Option Bool → SessionState → Type 0
-  Looks old None new = (old.ticket ≡ None) × (new ≡ old)
-  Looks old (Some kept) new = (ticket : Ticket) × (count : ℕ) × (old.ticket ≡ Some ticket) ×
-      calls.Loads old.known count new.known × (new.ticket ≡ old.ticket) ×
-      Reaches ticket.place count kept
+-- Without an open transaction nothing is done, and NoSuchTxn is answered; in one it does this.
+abbrev pub InOpen : {T : Type 0} → Known → Result T Refusal → Known → Type 0 → Type 0
+InOpen old r new does =
+    (IsClosed old × (r ≡ Err Refusal.NoSuchTxn) × (new ≡ old))
+    ⊎ (calls.IsOpen old.phase × does)
 
+-- The client is told whether its ticket is kept: the mark is loaded where it has one.
+abbrev pub Looks : Known → Option Ticket → Option Bool → Known → Type 0
+Looks old ticket None new = (ticket ≡ None) × (new ≡ old)
+Looks old ticket (Some kept) new = (given : Ticket) × (count : ℕ) × (ticket ≡ Some given) ×
+    calls.Loads old count new × Reaches given.place count kept
+
+module _ (o : Origin) where
   -- A request is carried out, and its result is said.
   abbrev pub Obeys : SessionState → Request → Result Said Refusal → SessionState → Type 0
   Obeys old (Request.Make kind name) r new =
-      (made : Result Ticket Refusal) × (r ≡ telling said_placed made) × Makes old name kind made new
+      (made : Result Ticket Refusal) × (r ≡ telling said_placed made) ×
+      (new.ticket ≡ ticket_after old.ticket made) × Makes o old.known name kind made new.known
   Obeys old Request.Begin r new =
-      (begun : Result ℕ Refusal) × (r ≡ telling Said.Begun begun) × Begins old begun new
+      (begun : Result ℕ Refusal) × (r ≡ telling Said.Begun begun) × (new.ticket ≡ old.ticket) ×
+      Begins o old.known begun new.known
   Obeys old (Request.Call name operation) r new =
       (called : Result Reply Refusal) × (r ≡ telling Said.Replied called) ×
-      InOpen old called new (AsksFor name operation old.known called new.known ×
-      (new.ticket ≡ old.ticket))
+      (new.ticket ≡ old.ticket) ×
+      InOpen old.known called new.known (AsksFor o name operation old.known called new.known)
   Obeys old (Request.Later name call) r new =
       (put_off : Result (Unit {0}) Refusal) × (r ≡ telling (λ done. Said.PutOff) put_off) ×
-      InOpen old put_off new (PutsOff name call old.known put_off new.known ×
-      (new.ticket ≡ old.ticket))
+      (new.ticket ≡ old.ticket) ×
+      InOpen old.known put_off new.known (PutsOff o name call old.known put_off new.known)
   Obeys old Request.Commit r new =
       (placed : Result Ticket Refusal) × (r ≡ telling said_placed placed) ×
-      InOpen old placed new (Commits old.known placed new.known ×
-      (new.ticket ≡ ticket_after old.ticket placed))
+      (new.ticket ≡ ticket_after old.ticket placed) ×
+      InOpen old.known placed new.known (Commits o old.known placed new.known)
   Obeys old Request.Abort r new =
       (aborted : Result (Unit {0}) Refusal) × (r ≡ telling (λ done. Said.Aborted) aborted) ×
-      InOpen old aborted new (calls.Aborts o old.known.phase old.known aborted new.known ×
-      (new.ticket ≡ old.ticket))
+      (new.ticket ≡ old.ticket) × InOpen old.known aborted new.known
+      (calls.Aborts o old.known.phase old.known aborted new.known)
   Obeys old Request.Kept r new =
-      (kept : Option Bool) × (r ≡ Ok (said_kept kept)) × Looks old kept new
+      (kept : Option Bool) × (r ≡ Ok (said_kept kept)) × (new.ticket ≡ old.ticket) ×
+      Looks old.known old.ticket kept new.known
+
+  -- what a request is answered
+  abbrev pub Says : SessionState → Request → Said → SessionState → Type 0
+  Says old request said new = (r : Result Said Refusal) × (said ≡ saying r) ×
+      Obeys old request r new
 
   -- A line that is a request of the client of this number is answered, and each other one is passed
   -- over.
@@ -148,14 +154,8 @@ module _ (o : Origin) where
   Answers k old line None new =
       ((request : Request) → line.what ≡ actions.Action.Client k request → ⊥) × (new ≡ old)
   Answers k old line (Some answer) new =
-      (request : Request) × (r : Result Said Refusal) ×
-      (line.what ≡ actions.Action.Client k request) × (answer.number ≡ line.number) ×
-      (answer.said ≡ saying r) × Obeys old request r new
-
-  -- So is the answer noted behind those before.
-  abbrev pub Notes : ℕ → SessionState → Line → List Answer → List Answer → SessionState → Type 0
-  Notes k old line before after new =
-      (more : Option Answer) × (after ≡ before ++ answers_of more) × Answers k old line more new
+      (request : Request) × (line.what ≡ actions.Action.Client k request) ×
+      (answer.number ≡ line.number) × Says old request answer.said new
 
   -- So are the lines, one after another.
   abbrev pub CarriesOut : ℕ → SessionState → List Line → List Answer → SessionState → Type 0
@@ -165,24 +165,20 @@ module _ (o : Origin) where
       (answers ≡ answers_of first ++ rest) × Answers k old line first mid ×
       CarriesOut k mid lines rest new
 
--- The client waits for its last ticket, and is told how that ended.
-abbrev pub Ends : SessionState → End → SessionState → Type 0
-Ends old End.NoTicket new = (old.ticket ≡ None) × (new ≡ old)
-Ends old End.Kept new = (ticket : Ticket) × (old.ticket ≡ Some ticket) ×
-    calls.Waits old.known ticket.place (Ok tt) new.known × (new.ticket ≡ old.ticket)
-Ends old End.Lost new = (ticket : Ticket) × (old.ticket ≡ Some ticket) ×
-    calls.Waits old.known ticket.place (Err Refusal.Lost) new.known × (new.ticket ≡ old.ticket)
+-- The client waits for its ticket, and is told how that ended.
+abbrev pub Ends : Known → Option Ticket → End → Known → Type 0
+Ends old ticket End.NoTicket new = (ticket ≡ None) × (new ≡ old)
+Ends old ticket End.Kept new = (given : Ticket) × (ticket ≡ Some given) ×
+    calls.Waits old given.place (Ok tt) new
+Ends old ticket End.Lost new = (given : Ticket) × (ticket ≡ Some given) ×
+    calls.Waits old given.place (Err Refusal.Lost) new
 
-module _ (o : Origin) where
-  -- what a request is answered
-  abbrev pub Says : SessionState → Request → Said → SessionState → Type 0
-  Says old request said new = (r : Result Said Refusal) × (said ≡ saying r) ×
-      Obeys o old request r new
-
-  -- The transcript tells what the client's lines were answered, and how its wait ended.
-  pub record IsRun (k : ℕ) (old : SessionState) (lines : List Line) (new : SessionState)
-      (t : Transcript) : Type 0 where
-    pub client : t.client ≡ k
-    pub behind : SessionState
-    pub carried : CarriesOut o k old lines t.answers.items behind
-    pub ended : Ends behind t.end new
+-- The transcript tells what the lines of the client of this number were answered, by a client of the
+-- store that had no ticket, and how its wait for the last one ended. old, new: what that client knew
+-- before, and behind it.
+pub record IsRun (o : Origin) (k : ℕ) (old : Known) (lines : List Line) (new : Known)
+    (t : Transcript) : Type 0 where
+  pub client : t.client ≡ k
+  pub behind : SessionState
+  pub carried : CarriesOut o k (session old None) lines t.answers.items behind
+  pub ended : Ends behind.known behind.ticket t.end new

@@ -2,9 +2,12 @@
 //! store that threads share, and what it is told.
 #![tactic(auto)]
 
+mod requests;
+mod scripted;
 mod session;
 mod transcript;
 
+pub use scripted::run_lines;
 pub use session::Session;
 pub use talks::{End, Speaker};
 pub use transcript::{Answer, Transcript};

@@ -62,7 +62,7 @@ use Rattle.clients.specs.Desks.{AreRecorded, IsDesk, PacksImages, frozen_end, fr
 use Rattle.clients.specs.Notes.{alone}
 use Rattle.clients.specs.Told.{told_book}
 use Rattle.clients.proofs.Telling.{kept_told}
-use Rattle.clients.proofs.Owning.{owned_then}
+use Rattle.clients.proofs.Owning.{owned_alone}
 use Rattle.store.specs.Closing.{Closes}
 use Rattle.store.specs.Gatherers.{Froze}
 use Rattle.store.specs.Vaults.{LeavesSince, IsVault, IsKeptSince}
@@ -120,7 +120,7 @@ module _ {J : Type 0} (j : Ghosts J) where
             j.origin.wear seat.all
             book c
             sender.sent is.groups (frozen_ends sender.noted) [] is.handed None r same;
-        owned = owned_then seat.all step is.owned refl;
+        owned = owned_alone seat.all step.action is.owned refl refl;
         recorded = λ s. rw (all, state) (is.recorded s);
       })
 
@@ -146,7 +146,7 @@ module _ {J : Type 0} (j : Ghosts J) where
             seat.all
             book c sender.sent is.groups (frozen_ends sender.noted) [] is.handed None m n e froze
             r;
-        owned = owned_then seat.all step is.owned refl;
+        owned = owned_alone seat.all step.action is.owned refl refl;
         recorded = λ s. rw (all, ap (λ (v : Book). v.state) same) (is.recorded s);
       })
 
@@ -374,7 +374,7 @@ module _ {J D : Type 0} (j : Ghosts J) (g : disks.Ghosts D) where
                 are_images = on.are_images;
                 between = on.between.1;
               };
-              owned = owned_then seat.all step desk.owned refl;
+              owned = owned_alone seat.all step.action desk.owned refl refl;
               recorded = λ s. rw (all_records, same_state) (desk.recorded s);
             })
 
@@ -391,7 +391,7 @@ module _ {J D : Type 0} (j : Ghosts J) (g : disks.Ghosts D) where
               j.origin.wear
               (seat.all ++ step ∷ []) c sender.sent desk.groups (p ∷ ends) [])
               (sym (end_is n froze.1)) frozen_handed;
-          owned = owned_then seat.all step desk.owned refl;
+          owned = owned_alone seat.all step.action desk.owned refl refl;
           recorded = λ s.
               let old = desk.recorded s in
               rw (all_records, same_state) (record {

@@ -9,13 +9,16 @@ ghost use Rattle.catalog.specs.Shelving.{CopyRefused};
 ghost use Rattle.shelf.specs.Shelves.{ShelfState};
 ghost use Rattle.images.specs.Gathers.{Packs};
 ghost use Rattle.gathering.specs.Gatherings.{CanGoOn};
+ghost use Rattle.txn.specs.declared.steps.Action.{Action};
 ghost use Rattle.txn.specs.Freezing.{IsGatheredOf};
 ghost use Rattle.txn.specs.Parts.{IsCopy};
 ghost use Rattle.txn.specs.Shelved.{book_state, IsBook};
 ghost use Rattle.group_commit.specs.Accords.{nothing_gathered};
+ghost use Rattle.group_commit.specs.Lines.{stepped};
 ghost use Rattle.group_commit.specs.Orders.{SenderState, noting, noting_too};
 ghost use Rattle.group_commit.specs.Twins.{EndState};
 ghost use Rattle.clients.specs.declared.touch.Touch.{Touch};
+ghost use Rattle.clients.specs.Notes.{alone};
 ghost use Rattle.clients.specs.Told.{told_book};
 ghost use Rattle.clients.specs.Touches.{IsJournalDesk};
 ghost use Rattle.store.specs.Gatherers.{IsKnown, IsGivenTo, as_next, Froze};
@@ -449,6 +452,7 @@ fn gather_part<J: Naming, B: Coded>(
         B.collections B.whole B.fits journal.old nears seat.old sender near.old gather.old part →
         IsJournalDesk ⟦<J as Naming>⟧ B.meaning B.making B.collections B.whole B.fits journal.new
         nears seat.new sender near.new }
+    ensures seat { seat.new ≡ stepped seat.old (alone (Action.Gather result)) }
     ensures far { far.new ≡ record { table = J.gathering; gather = gather.new } }
     ensures unfrozen { gather.new.frozen ≡ None }
     ensures refused { IfErr result IsCheckRefusal }

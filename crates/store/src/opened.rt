@@ -102,7 +102,12 @@ impl<B: Coded> Model for Parts<B> {
     ghost invariant = { λ p. (p.seat ≡ record { table = p.line; all = []; clients = 0 })
         × (p.kept ≡ record { table = p.mark; raised = [] })
         × (p.watcher ≡ new_watcher p.mark)
-        × (p.maker ≡ record { table = p.numbers; from = p.maker.from; made = 0 })
+        × (p.maker ≡ record {
+          table = p.numbers;
+          from = p.maker.from;
+          made = 0;
+          reports = [];
+        })
         × (p.sender ≡ record { table = p.handoff; sent = []; noted = [] })
         × (p.receiver ≡ record { table = p.handoff; received = []; noted = [] })
         × (p.gathered_near ≡ record { table = p.gathering; gather = nothing_gathered })

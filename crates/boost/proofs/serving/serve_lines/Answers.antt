@@ -1,7 +1,7 @@
-use Rattle.std.proofs.Common.{◌≡◌, ◌∙◌, sym, subst, Result, Ok, Err, OnOk, IfOk, MatchResult, List, All, IsOk, ℕ}
-use Rattle.std.specs.Prelude.{vec_len}
+use Rattle.std.proofs.Common.{◌∙◌, sym, subst, Result, Ok, Err, OnOk, IfOk, MatchResult, List}
 use Rattle.script.specs.declared.line.Line.{Line}
 use Rattle.script.specs.Scripts.{IsScriptOf}
+use Rattle.boost.specs.Serving.{HaveLines}
 use Rattle.boost.proofs.serving.serve_lines.Goals as goal
 
 -- what is asked of an outcome that was accepted
@@ -22,6 +22,8 @@ returns-in-Ok-clause-served g c =
     c.run-ended.ensures.opened (λ answers each len opened. record {
       served = c.in-Ok.script;
       is_script = subst (λ (l : List Line). IsScriptOf l script) (sym c.in-Ok.ensures.lines) is;
+      clients = subst (HaveLines c.in-Ok.script.clients) (sym c.in-Ok.ensures.lines)
+          c.in-Ok.ensures.clients;
       answers = answers.items;
       one_each = sym answers.ok.0 ∙ len ∙ c.threads.ensures;
       all = each;

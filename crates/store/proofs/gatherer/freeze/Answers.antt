@@ -11,6 +11,7 @@ use Rattle.group_commit.specs.Orders.{SenderState, ReceiverState, noting, noting
 use Rattle.clients.specs.Notes.{alone}
 use Rattle.clients.specs.Told.{told_book}
 use Rattle.clients.specs.Touches.{IsJournalDesk}
+use Rattle.clients.proofs.Owning.{drawn_beside}
 use Rattle.store.specs.Gatherers.{Froze}
 use Rattle.store.specs.Turns.{IsFreezeRefusal}
 use Rattle.store.specs.Vaults.{IsVault, Awaits}
@@ -98,6 +99,8 @@ invariant_of-desk g c = (
   c.desk.invariant.1,
   c.desk.invariant.2,
   c.desk.invariant.3,
+  drawn_beside c.desk.inside.maker c.desk.inside.seat c.note_alone.new.seat c.desk.invariant.4 _
+      refl c.note_alone.ensures.book,
 )
 
 pub invariant_of-vault : goal.invariant_of-vault
@@ -171,6 +174,8 @@ invariant_of-desk-2 g c = (
   c.desk.invariant.1,
   c.desk.invariant.2,
   c.desk.invariant.3,
+  drawn_beside c.desk.inside.maker c.desk.inside.seat c.note_alone.new.seat c.desk.invariant.4 _
+      refl c.note_alone.ensures.book,
 )
   where
     sender_is : c.note_frozen.new.sender ≡

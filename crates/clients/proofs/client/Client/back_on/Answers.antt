@@ -12,5 +12,5 @@ pub invariant_of-self : goal.invariant_of-self
 invariant_of-self g c =
     let i = c.self.inside in
     tried_client g.J.Naming i.line c.back.new.me i.watcher i.drawer i.phase c.self.invariant
-    c.back.result _ (λ r steps. (_, steps, λ owners client. refl)) c.back.ensures.some
+    c.back.result _ (λ r steps. (_, steps)) c.back.ensures.some
     c.back.ensures.none

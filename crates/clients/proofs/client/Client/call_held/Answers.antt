@@ -26,7 +26,7 @@ pub invariant_of-self : goal.invariant_of-self
 invariant_of-self g c =
     let i = c.self.inside in
     tried_client g.J.Naming i.line c.call.new.me i.watcher i.drawer i.phase c.self.invariant
-    c.call.result _ (λ r steps. (_, steps.1, λ owners client. refl)) c.call.ensures.some
+    c.call.result _ (λ r steps. (_, steps.1)) c.call.ensures.some
     c.call.ensures.none
 
 pub returns-in-Ok-clause-some : goal.returns-in-Ok-clause-some

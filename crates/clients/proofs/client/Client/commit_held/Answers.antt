@@ -23,7 +23,7 @@ invariant_of-self-in-Err-2 g c =
     steps_on g.J.Naming i.line c.commit.new.me i.watcher i.drawer i.phase c.self.invariant
     (Action.Commit n (Err c.in-Err-2.refusal))
     (subst (λ r. Steps g.J.Naming.origin i.line (Action.Commit n r) c.commit.new.me) c.in-Err-2.is
-    c.in_ok-place.ensures.some) (λ owners client. refl)
+    c.in_ok-place.ensures.some)
 
 pub returns-in-Ok-2-clause-step : goal.returns-in-Ok-2-clause-step
 returns-in-Ok-2-clause-step g c =

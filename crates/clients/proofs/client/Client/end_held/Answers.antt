@@ -18,4 +18,4 @@ invariant_of-self g c =
     (Action.Ended n (Err c.in_err-ended.field-0.0))
     (subst (λ r. Steps g.J.Naming.origin i.line (Action.Ended n r) c.ended.new.me)
     c.in_err-ended.was
-    c.ended.ensures) (λ owners client. refl)
+    c.ended.ensures)

@@ -12,9 +12,9 @@ pub invariant_of-self-in-Drawn : goal.invariant_of-self-in-Drawn
 invariant_of-self-in-Drawn g c =
     let i = c.self.inside in
     let n = c.in-Drawn.number in
-    enters_on g.J.Naming i.line c.enter.new.me i.watcher i.drawer i.phase c.self.invariant n
+    rw c.enter.ensures.drawer (enters_on g.J.Naming i.line c.enter.new.me i.watcher i.drawer i.phase c.self.invariant n
     (subst (λ r. Steps g.J.Naming.origin i.line (Action.Enter n r) c.enter.new.me)
-    c.in_ok-enter-in-Drawn.was c.enter.ensures)
+    c.in_ok-enter-in-Drawn.was c.enter.ensures.step))
 
 pub returns-in_ok-enter-in-Drawn : goal.returns-in_ok-enter-in-Drawn
 returns-in_ok-enter-in-Drawn g c =
@@ -22,15 +22,15 @@ returns-in_ok-enter-in-Drawn g c =
     let n = c.in-Drawn.number in
     let after = known_of c.enter.new.me i.watcher i.drawer (Phase.Entered n) in
     let action = Action.Enter n (Ok tt) in
-    subst (λ p. Enters g.J.Naming.origin p c.args.self.now (Ok n) after)
+    rw c.enter.ensures.drawer (subst (λ p. Enters g.J.Naming.origin p c.args.self.now (Ok n) after)
     (sym (ap (λ (k : Known). k.phase) (sym c.self.view_is) ∙ c.in-Drawn.is)) (
       refl,
       subst (λ m. Acts g.J.Naming.origin m [] action after) c.self.view_is
           (acts_one g.J.Naming i.line c.enter.new.me i.watcher i.drawer i.phase (Phase.Entered n)
           action (subst (λ r. Steps g.J.Naming.origin i.line (Action.Enter n r) c.enter.new.me)
-          c.in_ok-enter-in-Drawn.was c.enter.ensures)),
+          c.in_ok-enter-in-Drawn.was c.enter.ensures.step)),
       refl,
-    )
+    ))
 
 pub returns-in_err-enter-in-Drawn : goal.returns-in_err-enter-in-Drawn
 returns-in_err-enter-in-Drawn g c =
@@ -40,12 +40,12 @@ returns-in_err-enter-in-Drawn g c =
     let e = c.in_err-enter-in-Drawn.field-0.0 in
     let after = known_of c.enter.new.me i.watcher i.drawer i.phase in
     let action = Action.Enter n (Err e) in
-    rw (p.1, p.2)
+    rw (p.1, p.2, c.enter.ensures.drawer)
     (subst (λ q. Enters g.J.Naming.origin q c.args.self.now (Err e) after)
     (sym (ap (λ (k : Known). k.phase) (sym c.self.view_is) ∙ c.in-Drawn.is)) (
       subst (λ m. Acts g.J.Naming.origin m [] action after) c.self.view_is
           (acts_one g.J.Naming i.line c.enter.new.me i.watcher i.drawer i.phase i.phase action
           (subst (λ r. Steps g.J.Naming.origin i.line (Action.Enter n r) c.enter.new.me)
-          c.in_err-enter-in-Drawn.was c.enter.ensures)),
+          c.in_err-enter-in-Drawn.was c.enter.ensures.step)),
       c.in-Drawn.is,
     ))

@@ -16,7 +16,6 @@ invariant_of-self g c =
     let i = c.self.inside in
     found_client g.J.Naming i.line c.find_for_later.new.me i.watcher i.drawer i.phase c.self.invariant
     c.find_for_later.result _ c.find_for_later.ensures.ok c.find_for_later.ensures.err
-    (λ e owners client. refl)
 
 pub returns-clause-err : goal.returns-clause-err
 returns-clause-err g c =

@@ -13,4 +13,3 @@ invariant_of-self g c =
     let i = c.self.inside in
     found_client g.J.Naming i.line c.find_newest.new.me i.watcher i.drawer i.phase c.self.invariant
     c.find_newest.result _ c.find_newest.ensures.ok c.find_newest.ensures.err
-    (λ e owners client. refl)

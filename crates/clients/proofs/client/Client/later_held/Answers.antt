@@ -25,7 +25,7 @@ pub invariant_of-self : goal.invariant_of-self
 invariant_of-self g c =
     let i = c.self.inside in
     tried_client g.J.Naming i.line c.later.new.me i.watcher i.drawer i.phase c.self.invariant
-    c.later.result _ (λ r steps. (_, steps.1, λ owners client. refl)) c.later.ensures.some c.later.ensures.none
+    c.later.result _ (λ r steps. (_, steps.1)) c.later.ensures.some c.later.ensures.none
 
 pub returns-in-Ok-clause-some : goal.returns-in-Ok-clause-some
 returns-in-Ok-clause-some g c =

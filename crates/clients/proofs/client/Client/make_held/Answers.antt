@@ -6,4 +6,4 @@ pub invariant_of-self : goal.invariant_of-self
 invariant_of-self g c =
     let i = c.self.inside in
     steps_on g.J.Naming i.line c.make.new.me i.watcher i.drawer i.phase c.self.invariant _
-    c.make.ensures (λ owners client. refl)
+    c.make.ensures

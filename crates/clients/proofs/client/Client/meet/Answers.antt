@@ -12,7 +12,9 @@ invariant_of-self g c =
     (longer_legal g.J.Naming c.self.inside.line.seen c.other.inside.line.seen c.meet.new.one.seen
     c.meet.ensures.longer c.self.invariant.legal c.other.invariant.legal) c.meet.ensures.one
     c.compare.ensures.one (own_meets c.self.inside.phase c.self.inside.line c.meet.new.one
-    (ap (λ (l : ClientState). l.number) c.meet.ensures.one) c.meet.ensures.mine c.self.invariant.own)
+    c.self.inside.drawer c.compare.new.one
+    (ap (λ (l : ClientState). l.number) c.meet.ensures.one) c.meet.ensures.mine
+    c.compare.ensures.one c.self.invariant.own)
 
 pub invariant_of-other : goal.invariant_of-other
 invariant_of-other g c =
@@ -22,7 +24,9 @@ invariant_of-other g c =
     (longer_legal g.J.Naming c.self.inside.line.seen c.other.inside.line.seen c.meet.new.one.seen
     c.meet.ensures.longer c.self.invariant.legal c.other.invariant.legal) c.meet.ensures.other
     c.compare.ensures.other (own_meets c.other.inside.phase c.other.inside.line c.meet.new.other
+    c.other.inside.drawer c.compare.new.other
     (ap (λ (l : ClientState). l.number) c.meet.ensures.other) c.meet.ensures.mine_of_other
+    c.compare.ensures.other
     c.other.invariant.own)
 
 pub returns-clause-drawn : goal.returns-clause-drawn

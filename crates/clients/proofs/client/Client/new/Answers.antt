@@ -1,6 +1,7 @@
 use Rattle.std.proofs.Common.{sym, subst, refl}
 use Rattle.txn.specs.Rows.{opening}
 use Rattle.clients.specs.Known.{IsSeen}
+use Rattle.clients.proofs.Owning.{owned_none}
 use Rattle.clients.proofs.client.Client.new.Goals as goal
 
 pub invariant_of-result : goal.invariant_of-result
@@ -9,9 +10,10 @@ invariant_of-result g c = record {
   mark_is = c.requires.watcher.0;
   numbers_is = c.requires.drawer.0;
   from = c.requires.drawer.1;
+  number = c.requires.number;
   legal = subst (IsSeen g.J.Naming.origin) (sym c.requires.line.1) (
     opening g.J.Naming.origin.format g.J.Naming.origin.start g.J.Naming.origin.wear,
-    record { legal = refl; owned = tt },
+    record { legal = refl; owned = owned_none },
   );
   own = tt;
 }

@@ -1,5 +1,8 @@
 use Rattle.std.proofs.Common.{rules, sym, subst}
+use Rattle.group_commit.specs.Lines.{with_client}
+use Rattle.clients.specs.Desks.{IsDrawn}
 use Rattle.clients.specs.Touches.{IsJournalDesk}
+use Rattle.clients.proofs.Owning.{drawn_client}
 use Rattle.clients.proofs.ShelfSteps.{journal_admits}
 use Rattle.clients.proofs.desk.Desk.client.Goals as goal
 
@@ -13,4 +16,7 @@ invariant_of-self-2 g c =
       search rules,
       search rules,
       search rules,
+      subst (λ s. IsDrawn c.drawer.new.maker s) (sym c.client-line.ensures.book)
+          (subst (λ m. IsDrawn m (with_client i.seat)) (sym c.in_ok-drawer.ensures.maker)
+          (drawn_client i.maker i.seat c.self.invariant.4)),
     )

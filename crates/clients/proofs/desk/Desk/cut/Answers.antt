@@ -1,4 +1,6 @@
+use Rattle.std.proofs.Common.{refl}
 use Rattle.group_commit.specs.Orders.{WasFull}
+use Rattle.clients.proofs.Owning.{drawn_beside}
 use Rattle.clients.proofs.ShelfSteps.{journal_cuts}
 use Rattle.clients.proofs.desk.Desk.cut.Goals as goal
 
@@ -17,4 +19,6 @@ invariant_of-self g c =
       c.self.invariant.1,
       c.self.invariant.2,
       c.self.invariant.3,
+      drawn_beside i.maker i.seat c.note_alone.new.seat c.self.invariant.4 _ refl
+          c.note_alone.ensures.book,
     )

@@ -1,6 +1,7 @@
-use Rattle.std.proofs.Common.{Some}
+use Rattle.std.proofs.Common.{Some, refl}
 use Rattle.txn.specs.declared.steps.Action.{Action}
 use Rattle.clients.specs.Touches.{IsJournalDesk}
+use Rattle.clients.proofs.Owning.{drawn_named}
 use Rattle.clients.proofs.ShelfSteps.{steps_over, steps_journal, owns_step}
 use Rattle.clients.proofs.desk.Desk.ended.Given.{Over}
 use Rattle.clients.proofs.desk.Desk.ended.Goals as goal
@@ -24,12 +25,19 @@ keeps g c =
     steps_over g.J.Naming g.met.B.Coded.told (Some c.args.me.now.number) i.journal i.nears i.seat
     i.sender i.near is c.end_over-ended.new.journal c.end_over-ended.new.nears done.0
     c.note.new.seat (action g c)
-    (owns_step g.J.Naming is c.note.new.seat c.args.me.now c.note.new.me (action g c)
-    c.args.number c.note.ensures.book c.note.ensures.client c.note.ensures.mine c.requires.own) done.1 done.2.answer done.2.goes c.note.ensures.book
+    (owns_step g.J.Naming is c.args.me.now c.args.number (action g c) c.note.ensures.seen
+    c.requires.own refl refl) done.1 done.2.answer done.2.goes c.note.ensures.book
 
 pub invariant_of-self : goal.invariant_of-self
-invariant_of-self g c =
-    (keeps g c, c.self.invariant.1, c.self.invariant.2, c.self.invariant.3)
+invariant_of-self g c = (
+  keeps g c,
+  c.self.invariant.1,
+  c.self.invariant.2,
+  c.self.invariant.3,
+  drawn_named c.self.inside.maker c.self.inside.seat c.note.new.seat c.self.invariant.4
+      c.args.me.now c.args.number (action g c) c.note.ensures.seen c.requires.own refl
+      c.note.ensures.book,
+)
 
 pub returns : goal.returns
 returns g c = steps_journal g.J.Naming c.end_over-ended.new.journal c.end_over-ended.new.nears

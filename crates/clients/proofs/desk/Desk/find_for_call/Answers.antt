@@ -5,6 +5,7 @@ use Rattle.machine.specs.Wholes.{contents}
 use Rattle.txn.specs.declared.steps.Action.{Action}
 use Rattle.txn.specs.declared.steps.Target.{Target}
 use Rattle.clients.specs.Touches.{IsJournalDesk}
+use Rattle.clients.proofs.Owning.{drawn_named}
 use Rattle.clients.proofs.ShelfSteps.{steps_beside, steps_journal, owns_step}
 use Rattle.clients.proofs.desk.Desk.find_for_call.Given.{Over}
 use Rattle.clients.proofs.desk.Desk.find_for_call.Goals as goal
@@ -21,8 +22,8 @@ keeps g c =
     let is = c.self.invariant.0 in
     steps_beside g.J.Naming g.met.B.Coded.told (Some c.args.me.now.number) i.journal i.nears i.seat
     i.sender i.near is i.journal c.note.new.seat (action g c)
-    (owns_step g.J.Naming is c.note.new.seat c.args.me.now c.note.new.me (action g c)
-    c.args.number c.note.ensures.book c.note.ensures.client c.note.ensures.mine c.requires.own) is.known.book (
+    (owns_step g.J.Naming is c.args.me.now c.args.number (action g c) c.note.ensures.seen
+    c.requires.own refl refl) is.known.book (
       refl,
       subst (λ ns. FindRefused ns c.args.name.now c.in-Err.refusal)
           (sym (g.met.B.Parts.shelf_laws.names i.journal.names (contents is.shelves)
@@ -33,8 +34,15 @@ keeps g c =
     tt c.note.ensures.book
 
 pub invariant_of-self : goal.invariant_of-self
-invariant_of-self g c =
-    (keeps g c, c.self.invariant.1, c.self.invariant.2, c.self.invariant.3)
+invariant_of-self g c = (
+  keeps g c,
+  c.self.invariant.1,
+  c.self.invariant.2,
+  c.self.invariant.3,
+  drawn_named c.self.inside.maker c.self.inside.seat c.note.new.seat c.self.invariant.4
+      c.args.me.now c.args.number (action g c) c.note.ensures.seen c.requires.own refl
+      c.note.ensures.book,
+)
 
 pub returns-in-Err-clause-err : goal.returns-in-Err-clause-err
 returns-in-Err-clause-err g c = steps_journal g.J.Naming c.self.inside.journal c.self.inside.nears

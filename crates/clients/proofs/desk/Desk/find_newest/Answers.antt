@@ -1,7 +1,8 @@
-use Rattle.std.proofs.Common.{IfNone, Some, subst}
+use Rattle.std.proofs.Common.{IfNone, Some, subst, refl}
 use Rattle.undo_log.specs.Entries.{HasNoCall}
 use Rattle.txn.specs.declared.steps.Action.{Action}
 use Rattle.clients.specs.Touches.{IsJournalDesk}
+use Rattle.clients.proofs.Owning.{drawn_named}
 use Rattle.clients.proofs.ShelfSteps.{steps_beside, steps_journal, owns_step}
 use Rattle.clients.proofs.desk.Desk.find_newest.Given.{Over}
 use Rattle.clients.proofs.desk.Desk.find_newest.Goals as goal
@@ -20,8 +21,8 @@ keeps g c =
     let served = leads.told is.shelves is.known.book in
     steps_beside g.J.Naming g.met.B.Coded.told (Some c.args.me.now.number) i.journal i.nears i.seat
     i.sender i.near is c.back_none-undone.new.self c.note.new.seat (action g c)
-    (owns_step g.J.Naming is c.note.new.seat c.args.me.now c.note.new.me (action g c)
-    c.args.number c.note.ensures.book c.note.ensures.client c.note.ensures.mine c.requires.own)
+    (owns_step g.J.Naming is c.args.me.now c.args.number (action g c) c.note.ensures.seen
+    c.requires.own refl refl)
     (leads.kept is.shelves is.known.book) served.answer served.goes c.note.ensures.book
 
 pub back_none-undone-requires-clause-kept : goal.back_none-undone-requires-clause-kept
@@ -34,8 +35,15 @@ back_none-undone-requires-clause-none g c = subst
     c.newest.ensures.none
 
 pub invariant_of-self : goal.invariant_of-self
-invariant_of-self g c =
-    (keeps g c, c.self.invariant.1, c.self.invariant.2, c.self.invariant.3)
+invariant_of-self g c = (
+  keeps g c,
+  c.self.invariant.1,
+  c.self.invariant.2,
+  c.self.invariant.3,
+  drawn_named c.self.inside.maker c.self.inside.seat c.note.new.seat c.self.invariant.4
+      c.args.me.now c.args.number (action g c) c.note.ensures.seen c.requires.own refl
+      c.note.ensures.book,
+)
 
 pub returns-in-None-clause-err : goal.returns-in-None-clause-err
 returns-in-None-clause-err g c =

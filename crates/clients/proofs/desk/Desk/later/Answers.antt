@@ -6,6 +6,7 @@ use Rattle.txn.specs.declared.steps.Target.{Target}
 use Rattle.txn.proofs.BookParts.{of_book, book_told, book_kept}
 use Rattle.group_commit.specs.Twins.{EndState}
 use Rattle.clients.specs.Touches.{IsJournalDesk}
+use Rattle.clients.proofs.Owning.{drawn_named}
 use Rattle.clients.proofs.ShelfSteps.{twin_is, here, found_there, known_on, steps_over, steps_journal, owns_step}
 use Rattle.clients.proofs.Touching.{leads_on, shelf_touched}
 use Rattle.clients.proofs.desk.Desk.later.Given.{Over}
@@ -66,8 +67,8 @@ keeps g c =
     ap (λ (v : EndState _). v.table) c.of_mut-near.ensures.value in
     steps_over g.J.Naming g.met.B.Coded.told (Some c.args.me.now.number) i.journal i.nears i.seat
     i.sender i.near is l (put i.nears w e) (put is.shelves w t) c.note.new.seat (action g c)
-    (owns_step g.J.Naming is c.note.new.seat c.args.me.now c.note.new.me (action g c)
-    c.args.number c.note.ensures.book c.note.ensures.client c.note.ensures.mine c.requires.own)
+    (owns_step g.J.Naming is c.args.me.now c.args.number (action g c) c.note.ensures.seen
+    c.requires.own refl refl)
     (known_on g.J.Naming i.journal i.nears is.shelves is.known w l t e table
     (leads_on c.compare.new.near e _ t c.note_touch.ensures.near refl)
     (book_kept w i.journal is.shelves is.known.book s there l t c.later-put_off.ensures)) (
@@ -78,8 +79,15 @@ keeps g c =
     served.goes c.note.ensures.book
 
 pub invariant_of-self : goal.invariant_of-self
-invariant_of-self g c =
-    (keeps g c, c.self.invariant.1, c.self.invariant.2, c.self.invariant.3)
+invariant_of-self g c = (
+  keeps g c,
+  c.self.invariant.1,
+  c.self.invariant.2,
+  c.self.invariant.3,
+  drawn_named c.self.inside.maker c.self.inside.seat c.note.new.seat c.self.invariant.4
+      c.args.me.now c.args.number (action g c) c.note.ensures.seen c.requires.own refl
+      c.note.ensures.book,
+)
 
 pub invariant_of-held : goal.invariant_of-held
 invariant_of-held g c = shelf_touched g.J.Naming.shelves g.Q.Quarter.which c.later-put_off.new.shelf

@@ -1,6 +1,8 @@
 use Rattle.std.proofs.Common.{Some, refl}
 use Rattle.txn.specs.declared.steps.Action.{Action}
 use Rattle.clients.specs.Touches.{IsJournalDesk}
+use Rattle.clients.specs.Known.{step_of}
+use Rattle.clients.proofs.Owning.{nameless, drawn_beside}
 use Rattle.clients.proofs.ShelfSteps.{steps_over, steps_journal}
 use Rattle.clients.proofs.desk.Desk.make.Given.{Over}
 use Rattle.clients.proofs.desk.Desk.make.Goals as goal
@@ -24,11 +26,18 @@ keeps g c =
     let done = c.make_over-made.ensures is.shelves is.known in
     steps_over g.J.Naming g.met.B.Coded.told (Some c.args.me.now.number) i.journal i.nears i.seat
     i.sender i.near is c.make_over-made.new.journal c.make_over-made.new.nears done.0
-    c.note.new.seat (action g c) refl done.1 done.2.answer done.2.goes c.note.ensures.book
+    c.note.new.seat (action g c)
+    (nameless i.seat.all (Some c.args.me.now.number) (action g c) refl refl) done.1 done.2.answer done.2.goes c.note.ensures.book
 
 pub invariant_of-self : goal.invariant_of-self
-invariant_of-self g c =
-    (keeps g c, c.self.invariant.1, c.self.invariant.2, c.self.invariant.3)
+invariant_of-self g c = (
+  keeps g c,
+  c.self.invariant.1,
+  c.self.invariant.2,
+  c.self.invariant.3,
+  drawn_beside c.self.inside.maker c.self.inside.seat c.note.new.seat c.self.invariant.4
+      (step_of c.args.me.now.number (action g c)) refl c.note.ensures.book,
+)
 
 pub returns : goal.returns
 returns g c = steps_journal g.J.Naming c.make_over-made.new.journal c.make_over-made.new.nears

@@ -1,5 +1,7 @@
 use Rattle.std.proofs.Common.{ap}
+use Rattle.group_commit.specs.Lines.{BookState}
 use Rattle.group_commit.specs.Numbers.{MakerState}
+use Rattle.clients.proofs.Owning.{drawn_new}
 use Rattle.clients.proofs.ShelfSteps.{journal_opens}
 use Rattle.clients.proofs.desk.Desk.new.Goals as goal
 
@@ -12,4 +14,7 @@ invariant_of-result g c =
       ap (λ (m : MakerState). m.table) c.requires.maker,
       ap (λ (m : MakerState). m.from) c.requires.maker,
       c.requires.watcher,
+      drawn_new c.args.maker c.args.seat (ap (λ (m : MakerState). m.made) c.requires.maker)
+          (ap (λ (b : BookState). b.clients) c.requires.seat)
+          (ap (λ (b : BookState). b.all) c.requires.seat),
     )

@@ -46,4 +46,5 @@ invariant_of-self g c =
       is.1,
       is.2,
       is.3,
+      is.4,
     )

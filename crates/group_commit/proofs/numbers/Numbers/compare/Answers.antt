@@ -13,7 +13,7 @@ load-requires c =
       omega (arith, c.self.invariant),
       λ s k len at lt.
           let next = compares s.words s.views k c.board.new.host.id v at in
-          (v, keeps, tt, next.0, (refl, next.1, refl)),
+          (v, keeps, tt, next.0, (refl, next.1, next.2, refl)),
     )
 
 -- the two drawers stood with one seat

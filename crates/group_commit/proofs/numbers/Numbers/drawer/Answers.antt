@@ -7,7 +7,7 @@ use Rattle.group_commit.proofs.numbers.Numbers.drawer.Goals as goal
 pub split_seat-seat-requires : goal.split_seat-seat-requires
 split_seat-seat-requires c =
     let v = c.maker.inside.seat.me.0 in
-    let is : v ≡ maker v.from c.maker.inside.made v.left =
+    let is : v ≡ maker v.from c.maker.inside.made v.left v.reports =
     ap (λ (m : SeatView). m.0) c.maker.invariant.view in
     let few = c.if-maker-ge-MAX_CLIENTS.false in
     let count = c.maker.invariant.count in (

@@ -1,3 +1,5 @@
+use Rattle.std.proofs.Common.{refl}
+use Rattle.clients.proofs.Owning.{drawn_beside}
 use Rattle.store.proofs.Copied.{given_none, holds_known}
 use Rattle.store.proofs.gatherer.Gatherer.find_next.Goals as goal
 
@@ -21,6 +23,8 @@ invariant_of-desk g c =
       c.desk.invariant.1,
       c.desk.invariant.2,
       c.desk.invariant.3,
+      drawn_beside i.maker i.seat c.gather_part.new.seat c.desk.invariant.4 _ refl
+          c.gather_part.ensures.seat,
     )
 
 pub invariant_of-self : goal.invariant_of-self

@@ -1,8 +1,9 @@
-use Rattle.std.proofs.Common.{◌≡◌, ◌∙◌, Some, length, sym, ap, subst}
+use Rattle.std.proofs.Common.{◌≡◌, ◌∙◌, Some, length, refl, sym, ap, subst}
 use Rattle.catalog.specs.declared.four.Four.{Four}
 use Rattle.catalog.specs.Fours.{which_of, pick}
 use Rattle.group_commit.specs.Twins.{EndState}
 use Rattle.clients.specs.Touches.{Leads, IsJournalDesk}
+use Rattle.clients.proofs.Owning.{drawn_beside}
 use Rattle.store.specs.Gatherers.{GathererState, IsGivenTo}
 use Rattle.store.proofs.Copied.{given_copy, put_back, holds_known}
 use Rattle.store.proofs.gatherer.Gatherer.gather_copy.Goals as goal
@@ -69,6 +70,8 @@ invariant_of-desk g c =
       c.desk.invariant.1,
       c.desk.invariant.2,
       c.desk.invariant.3,
+      drawn_beside i.maker i.seat c.gather_part.new.seat c.desk.invariant.4 _ refl
+          c.gather_part.ensures.seat,
     )
 
 pub invariant_of-self : goal.invariant_of-self

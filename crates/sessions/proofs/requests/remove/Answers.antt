@@ -1,5 +1,5 @@
 use Rattle.std.proofs.Common.{inl, inr, refl, rules}
-use Rattle.sessions.proofs.session.remove.Goals as goal
+use Rattle.sessions.proofs.requests.remove.Goals as goal
 
 pub returns : goal.returns
 returns g c = (
