@@ -6,7 +6,7 @@ use Rattle.std.proofs.lemmas.List.{append-nil}
 use Rattle.std.proofs.lemmas.List.Elements.{Contains-append_left}
 use Rattle.txn.specs.declared.steps.Action.{Action}
 use Rattle.group_commit.specs.declared.mark.Raised.{Raised}
-use Rattle.clients.specs.declared.naming.Naming.{Ghosts}
+use Rattle.desks.specs.declared.naming.Naming.{Ghosts}
 use Rattle.clients.specs.Calls.{Acts, Hears}
 use Rattle.clients.specs.Known.{Known}
 use Rattle.background.specs.Works.{KnowsStill}

@@ -6,11 +6,12 @@ use Rattle.std.proofs.lemmas.List.Elements.{Contains-append_right}
 use Rattle.calls.specs.declared.refusal.Refusal.{Refusal}
 use Rattle.txn.specs.declared.steps.Action.{Action}
 use Rattle.txn.specs.declared.steps.BookStep.{BookStep}
-use Rattle.clients.specs.declared.naming.Naming.{Ghosts}
+use Rattle.desks.specs.declared.naming.Naming.{Ghosts}
 use Rattle.clients.specs.declared.phase.Phase.{Phase}
 use Rattle.clients.specs.declared.ticket.Ticket.{Ticket}
 use Rattle.clients.specs.Calls.{Acts, Does, Waits, ended_by, placed}
-use Rattle.clients.specs.Known.{Known, step_of}
+use Rattle.desks.specs.Seen.{step_of}
+use Rattle.clients.specs.Known.{Known}
 use Rattle.background.specs.Works.{HasCommitted, WasToldKept}
 
 no_refusal : (t : Ticket) (e : Refusal) → ◌≡◌ {A = Result Ticket Refusal} (Ok t) (Err e) → ⊥

@@ -10,14 +10,15 @@ use Rattle.std.proofs.lemmas.List.Elements.{Contains-append_cases}
 use Rattle.calls.specs.declared.refusal.Refusal.{Refusal}
 use Rattle.txn.specs.declared.steps.Action.{Action}
 use Rattle.group_commit.specs.declared.mark.Raised.{Raised}
-use Rattle.clients.specs.declared.naming.Naming.{Ghosts}
+use Rattle.desks.specs.declared.naming.Naming.{Ghosts}
 use Rattle.clients.specs.declared.phase.Phase.{Phase}
 use Rattle.clients.specs.declared.ticket.Ticket.{Ticket}
 use Rattle.clients.specs.Attempts.{Attempts, IsOfCalls, IsRefusedEntry, IsOpenUnder}
 use Rattle.clients.specs.Attempts.{IsBegun, number_of}
 use Rattle.clients.specs.Calls.{Acts, Does, Aborts, Hears, Draws, IsWorn, Waits, Decides}
 use Rattle.clients.specs.Calls.{IsOpen, back, backs, ended_by, placed}
-use Rattle.clients.specs.Known.{Known, IsSeen, Grows}
+use Rattle.desks.specs.Seen.{IsSeen, Grows}
+use Rattle.clients.specs.Known.{Known}
 use Rattle.boosted.proofs.Each.{each_append, weaker}
 use Rattle.clients.proofs.Seeing.{grows_none, grows_then}
 use Rattle.background.specs.Transactions.{CommitsNothing, WasLive, WasEnded, Commits, Tried, Ran}

@@ -11,7 +11,6 @@ use Rattle.std.proofs.lemmas.List.Elements.{Contains-append_left, Contains-appen
 use Rattle.calls.specs.Contents.{Collection}
 use Rattle.calls.specs.Transactions.{Transaction}
 use Rattle.calls.specs.declared.refusal.Refusal.{Refusal}
-use Rattle.catalog.specs.Meaning.{catalog_meaning, catalog_making}
 use Rattle.checkpoint.specs.Crash.{Yields}
 use Rattle.disk_model.specs.Disk.{IsAtRest}
 use Rattle.disk_model.specs.declared.disk.Disk.{Ghosts}
@@ -21,12 +20,12 @@ use Rattle.recovery.specs.Openings.{KeepsContent}
 use Rattle.repetition.specs.Journals.{StandsFor}
 use Rattle.repetition.specs.Reading.{IsSound}
 use Rattle.clients.specs.Known.{SeenState}
-use Rattle.clients.specs.Origins.{Origin}
+use Rattle.desks.specs.Origins.{Origin}
 use Rattle.clients.specs.Known.{Known}
-use Rattle.clients.specs.declared.naming.Naming as namings
+use Rattle.desks.specs.declared.naming.Naming as namings
 use Rattle.txn.specs.Books.{standing}
 use Rattle.txn.specs.declared.steps.BookStep.{BookStep}
-use Rattle.txn.specs.Histories.{IsLegal, committed_by}
+use Rattle.txn.specs.Histories.{committed_by}
 use Rattle.txn.specs.Rows.{opening}
 use Rattle.store.specs.Closing.{WasKept}
 use Rattle.background.specs.Works.{IsSaid, AreSaid, AreParts, AreTold}

@@ -4,12 +4,13 @@ use Rattle.std.specs.Prelude.{◌++◌, Result, Ok, Err, Contains}
 use Rattle.std.specs.List.{AllByRecursion}
 use Rattle.calls.specs.declared.refusal.Refusal.{Refusal}
 use Rattle.txn.specs.declared.steps.Action.{Action}
-use Rattle.clients.specs.Origins.{Origin}
+use Rattle.desks.specs.Origins.{Origin}
 use Rattle.clients.specs.declared.phase.Phase.{Phase}
 use Rattle.clients.specs.declared.ticket.Ticket.{Ticket}
 use Rattle.clients.specs.Attempts.{Attempts, IsOfCalls, number_of}
 use Rattle.clients.specs.Calls.{Does, Aborts, Hears, Draws, IsWorn, Waits, ended_by, placed}
-use Rattle.clients.specs.Known.{Known, Grows}
+use Rattle.desks.specs.Seen.{Grows}
+use Rattle.clients.specs.Known.{Known}
 use Rattle.background.specs.Works.{KnowsStill}
 
 -- ---- what was tried, as a whole

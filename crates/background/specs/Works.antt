@@ -12,10 +12,11 @@ use Rattle.group_commit.specs.Marks.{AreReached}
 use Rattle.checkpoint.specs.Keepers.{KeeperState}
 use Rattle.recovery.specs.Openings.{KeepsContent}
 use Rattle.repetition.specs.Journals.{StandsFor}
-use Rattle.clients.specs.Origins.{Origin}
-use Rattle.clients.specs.Known.{Known, SeenState, IsHistory, step_of}
+use Rattle.desks.specs.Origins.{Origin}
+use Rattle.desks.specs.Seen.{IsHistory, step_of}
+use Rattle.clients.specs.Known.{Known, SeenState}
 use Rattle.store.specs.Closing.{Closes, WasKept}
-use Rattle.clients.specs.declared.naming.Naming as namings
+use Rattle.desks.specs.declared.naming.Naming as namings
 use Rattle.txn.specs.Books.{BookState}
 use Rattle.txn.specs.declared.steps.Action.{Action}
 use Rattle.txn.specs.declared.steps.BookStep.{BookStep}

@@ -28,7 +28,8 @@ pub(crate) trait Commits {
     /// all is there; sleeps while nothing is pending. Before it cuts a block it waits for a moment
     /// where clients whose commits were just kept come back with more, so that a burst gets into
     /// one. Where the journal has filled a part of the area it asks for a checkpoint, and goes on.
-    /// Where a block does not fit, with the undoing of all that is live behind it, it waits for one.
+    /// Where a block does not fit, with the undoing of all that is live behind it, it waits for
+    /// one.
     ///
     /// It ends early where the disk fails, and where a checkpoint makes no room: then the mark's
     /// failed flag is set, so that who waits is told, and the refusal is noted.

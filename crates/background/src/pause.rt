@@ -12,8 +12,8 @@ const SHORTEST: u64 = 50;
 
 const LONGEST: u64 = 10_000;
 
-// Between two tries of what may go through later: a thread backs off first, which pays where what is
-// in the way is gone at once. Behind that it sleeps, twice as long each time.
+// Between two tries of what may go through later: a thread backs off first, which pays where what
+// is in the way is gone at once. Behind that it sleeps, twice as long each time.
 #[derive(Drop)]
 pub(crate) struct Pause {
     backoff: Backoff,

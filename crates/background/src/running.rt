@@ -26,7 +26,7 @@ use store::{Client, Naming, Opened, Seen, Store};
 pub trait Work {
     ghost use Rattle.std.specs.Prelude.{ℕ, ⊤};
     ghost use Rattle.clients.specs.Known.{Known};
-    ghost use Rattle.clients.specs.Origins.{Origin};
+    ghost use Rattle.desks.specs.Origins.{Origin};
 
     type Output: Send + Drop;
 

@@ -103,8 +103,8 @@ impl Draft {
         self.bytes.len().saturating_sub(BLOCK_HEAD)
     }
 
-    // Makes room for a record of the length. NoMemory leaves the records, and comes only where there
-    // was no room.
+    // Makes room for a record of the length. NoMemory leaves the records, and comes only where
+    // there was no room.
     pub(crate) fn reserve(&mut self, len: usize) -> Result<(), Refusal>
         requires { len ≤ max_body }
         ensures room { OnOk result (HasPlace self.new len) }

@@ -6,7 +6,7 @@ use Rattle.calls.specs.declared.refusal.Refusal.{Refusal}
 use Rattle.disk_model.specs.declared.disk.Disk.{Ghosts}
 use Rattle.background.specs.Works.{AreTold, WasOpened}
 use Rattle.clients.specs.Known.{Known, newcomer}
-use Rattle.clients.specs.Origins.{Origin}
+use Rattle.desks.specs.Origins.{Origin}
 use Rattle.script.specs.declared.action.Action.{Action}
 use Rattle.script.specs.declared.action.Request.{Request}
 use Rattle.script.specs.declared.line.Line.{Line}

@@ -32,8 +32,9 @@ type Told = Result<Option<Transcript>, Refusal>;
 ///
 /// On a disk at rest that reads true until it is open, and whose bytes are sound, a stop in the
 /// opening leaves the content, and one behind the call a beginning of what the clients committed,
-/// which has all that is kept. At status 0 each client that has lines has a thread, whose transcript
-/// tells what these lines were answered, by the client of the store that the thread was lent.
+/// which has all that is kept. At status 0 each client that has lines has a thread, whose
+/// transcript tells what these lines were answered, by the client of the store that the thread was
+/// lent.
 ///
 /// The status is 0 where all were served, lines that were refused among them; else a text goes to
 /// `err`, as `Failure` says: 3 for a script with a line that is not understood, of which no line is

@@ -121,7 +121,8 @@ impl Call {
     pub fn undone_by(&self, reply: &Reply) -> Result<Reply, Refusal>
         ensures ok { IfOk result (λ undone. undone ≡ undone_by self.now reply.now) }
         ensures refusal { IsOkUnless result Refusal.NoMemory }
-        ensures value { OnErr result ((v : List ℕ) × (undone_by self.now reply.now ≡ Reply.Value v)) }
+        ensures value { OnErr result ((v : List ℕ) ×
+            (undone_by self.now reply.now ≡ Reply.Value v)) }
     {
         match (self, reply) {
             (Call::SetAdd(_) | Call::SetRemove(_), Reply::Yes) => Ok(Reply::Yes),

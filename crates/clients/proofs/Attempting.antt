@@ -6,12 +6,13 @@ use Rattle.calls.specs.declared.refusal.Refusal.{Refusal}
 use Rattle.group_commit.specs.Lines.{steps_of}
 use Rattle.txn.specs.declared.steps.Action.{Action}
 use Rattle.txn.specs.declared.steps.BookStep.{BookStep}
-use Rattle.clients.specs.declared.naming.Naming.{Ghosts}
+use Rattle.desks.specs.declared.naming.Naming.{Ghosts}
 use Rattle.clients.specs.declared.phase.Phase.{Phase}
 use Rattle.clients.specs.Attempts.{done_since, IsOfCalls, IsRefusedEntry, IsOpenUnder, Attempts}
 use Rattle.clients.specs.Attempts.{IsAttempt, IsCalled, Adds}
 use Rattle.clients.specs.Calls.{IsOpen, Acts, Does}
-use Rattle.clients.specs.Known.{Known, Grows, step_of}
+use Rattle.desks.specs.Seen.{Grows, step_of}
+use Rattle.clients.specs.Known.{Known}
 use Rattle.boosted.proofs.Each.{each_append}
 use Rattle.clients.proofs.Seeing.{grows_then, moves_then}
 

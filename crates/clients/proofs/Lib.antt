@@ -1,13 +1,3 @@
-pub mod Ends
-pub mod Recording
-pub mod Telling
-pub mod Gathered
-pub mod Owning
-pub mod DeskSteps
-pub mod Touching
-pub mod ShelfSteps
-pub mod Settling
-pub mod Unsettled
 pub mod Seeing
 pub mod Visits
 pub mod Phases

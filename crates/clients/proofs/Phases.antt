@@ -2,7 +2,7 @@
 use Rattle.std.proofs.Common.{◌≡◌, ℕ, inl, inr, Result, Ok, Err, sym, subst}
 use Rattle.calls.specs.declared.refusal.Refusal.{Refusal}
 use Rattle.txn.specs.declared.steps.Action.{Action}
-use Rattle.clients.specs.declared.naming.Naming.{Ghosts}
+use Rattle.desks.specs.declared.naming.Naming.{Ghosts}
 use Rattle.clients.specs.declared.phase.Phase.{Phase}
 use Rattle.clients.specs.Calls.{IsOpen, Does, Enters}
 use Rattle.clients.specs.Known.{Known}

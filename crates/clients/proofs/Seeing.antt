@@ -3,65 +3,26 @@ use Rattle.std.proofs.Common.{◌≡◌, ℕ, ◌+◌, List, [], ◌∷◌, ◌+
 use Rattle.std.proofs.Common.{append_assoc, ⊎_elim, inl, inr, Bool, true}
 use Rattle.std.proofs.Common.{Result, Ok, Err}
 use Rattle.calls.specs.declared.refusal.Refusal.{Refusal}
-use mathlib.Core.List.{IsPrefix}
 use Rattle.std.proofs.lemmas.List.{append-nil, map-append, replicate-append-replicate}
 use Rattle.std.proofs.lemmas.List.Elements.{Contains-append_right}
-use Rattle.calls.specs.Contents.{Collection}
 use Rattle.txn.specs.declared.steps.Action.{Action}
 use Rattle.txn.specs.declared.steps.BookStep.{BookStep}
-use Rattle.txn.specs.Books.{BookState, standing}
-use Rattle.group_commit.specs.Lines as lines
-use Rattle.group_commit.specs.Lines.{IsLonger, ClientState, mine_of, stepped, seeing, steps_of}
-use Rattle.group_commit.specs.Accords.{AccordState}
+use Rattle.group_commit.specs.Lines.{IsLonger, ClientState, seeing, steps_of}
 use Rattle.group_commit.specs.Marks.{WatcherState}
 use Rattle.group_commit.specs.Numbers.{DrawerState}
-use Rattle.group_commit.specs.Orders.{SenderState}
 use Rattle.group_commit.specs.declared.mark.Raised.{Raised}
-use Rattle.clients.specs.declared.naming.Naming.{Ghosts}
-use Rattle.clients.specs.Desks.{IsDesk}
+use Rattle.desks.specs.declared.naming.Naming.{Ghosts}
 use Rattle.clients.specs.declared.phase.Phase.{Phase}
 use Rattle.clients.specs.Calls.{IsClient, HasOwn, Moves, Acts, Does, Enters, IsEntering, IsOpen}
 use Rattle.clients.specs.Calls.{number_in}
 use Rattle.clients.specs.Calls.{back, backs, Hears, Decides, Waits}
-use Rattle.clients.specs.Known.{Known, known_of, step_of, IsHistory, IsSeen, Grows, Took, Steps}
+use Rattle.desks.specs.Seen.{step_of, IsSeen, Grows, Took, Steps}
+use Rattle.clients.specs.Known.{Known, known_of}
 
 ok_same : (m n : ℕ) → ◌≡◌ {A = Result ℕ Refusal} (Ok m) (Ok n) → m ≡ n
 ok_same m n e = cc
 
 module _ {J : Type 0} (j : Ghosts J) where
-  -- a step that stands on the line
-  pub steps_one : (book : BookState (List Collection)) (seat now : lines.BookState)
-      (sender : SenderState) (near : AccordState) (old new : ClientState) (action : Action) →
-      IsDesk j book now sender near → now ≡ stepped seat (step_of old.number action) →
-      new ≡ seeing old now.all → IsPrefix old.seen seat.all →
-      mine_of new ≡ mine_of old ++ step_of old.number action ∷ [] → Steps j.origin old action new
-  steps_one book seat now sender near old new action is now_is new_is begins mine =
-      let step = step_of old.number action in
-      let all : new.seen ≡ seat.all ++ step ∷ [] =
-      ap (λ (c : ClientState). c.seen) new_is ∙ ap (λ (b : lines.BookState). b.all) now_is in (
-        new_is ∙ ap (seeing old) (sym (ap (λ (c : ClientState). c.seen) new_is)),
-        record {
-          grows = record {
-            begins = (
-              begins.0 ++ step ∷ [],
-              sym (append_assoc old.seen begins.0 (step ∷ [])) ∙
-                  ap (λ l. l ++ step ∷ []) begins.1 ∙ sym all,
-            );
-            mine =
-                ap (λ n. steps_of n new.seen)
-                (sym (ap (λ (c : ClientState). c.number) new_is)) ∙ mine;
-            legal = (
-              standing book,
-              subst (λ l. IsHistory j.origin l (standing book))
-                  (sym (ap (λ (c : ClientState). c.seen) new_is))
-                  (record { legal = is.handed.legal; owned = is.owned }),
-            );
-          };
-          before = seat.all;
-          ends = all;
-        },
-      )
-
   -- nothing was seen since
   pub grows_none : (n : ℕ) (seen : List BookStep) → IsSeen j.origin seen →
       Grows j.origin n seen [] seen

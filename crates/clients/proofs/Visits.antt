@@ -1,5 +1,6 @@
 -- What a client knows behind a visit under the locks, for which its number was entered.
-use Rattle.std.proofs.Common.{◌≡◌, ℕ, [], ◌∷◌, ◌++◌, Result, Ok, Err, Option, None, Some, IfErr, OnOk, IfSome}
+use Rattle.std.proofs.Common.{◌≡◌, ℕ, [], ◌∷◌, ◌++◌, Result, Ok, Err, Option, None, Some, IfErr}
+use Rattle.std.proofs.Common.{OnOk, IfSome}
 use Rattle.std.proofs.Common.{IsNone, inr, refl, sym, ap, ◌∙◌, subst}
 use Rattle.std.specs.Prelude.{Contains}
 use Rattle.std.proofs.lemmas.List.Elements.{Contains-append_left, Contains-push}
@@ -8,10 +9,11 @@ use Rattle.txn.specs.declared.steps.Action.{Action}
 use Rattle.group_commit.specs.Lines.{ClientState, mine_of, steps_of}
 use Rattle.group_commit.specs.Marks.{WatcherState}
 use Rattle.group_commit.specs.Numbers.{DrawerState, with_number}
-use Rattle.clients.specs.declared.naming.Naming.{Ghosts}
+use Rattle.desks.specs.declared.naming.Naming.{Ghosts}
 use Rattle.clients.specs.declared.phase.Phase.{Phase}
-use Rattle.clients.specs.Known.{Known, known_of, step_of, Steps}
-use Rattle.clients.specs.Owners.{entering, HasEntered}
+use Rattle.desks.specs.Seen.{step_of, Steps}
+use Rattle.clients.specs.Known.{Known, known_of}
+use Rattle.desks.specs.Owners.{entering, HasEntered}
 use Rattle.clients.specs.Calls.{Acts, Does, Enters, IsClient, HasOwn, IsEntering}
 use Rattle.clients.proofs.Seeing.{acts_one, client_meets, does_next, enters_phase}
 

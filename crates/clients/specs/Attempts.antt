@@ -5,10 +5,11 @@ use Rattle.std.specs.List.{AllByRecursion}
 use Rattle.calls.specs.declared.refusal.Refusal.{Refusal}
 use Rattle.group_commit.specs.Lines.{steps_of}
 use Rattle.txn.specs.declared.steps.Action.{Action}
-use Rattle.clients.specs.Origins.{Origin}
+use Rattle.desks.specs.Origins.{Origin}
 use Rattle.clients.specs.declared.phase.Phase.{Phase}
 use Rattle.clients.specs.Calls.{Moves}
-use Rattle.clients.specs.Known.{Known, Grows}
+use Rattle.desks.specs.Seen.{Grows}
+use Rattle.clients.specs.Known.{Known}
 
 -- ---- the calls of an attempt
 

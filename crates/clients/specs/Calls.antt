@@ -9,12 +9,13 @@ use Rattle.group_commit.specs.Lines.{ClientState}
 use Rattle.group_commit.specs.declared.mark.Raised.{Raised}
 use Rattle.group_commit.specs.Marks.{WatcherState, AreReached}
 use Rattle.group_commit.specs.Numbers.{DrawerState}
-use Rattle.clients.specs.declared.naming.Naming.{Ghosts}
+use Rattle.desks.specs.declared.naming.Naming.{Ghosts}
 use Rattle.clients.specs.declared.phase.Phase.{Phase}
 use Rattle.clients.specs.declared.ticket.Ticket.{Ticket}
-use Rattle.clients.specs.Origins.{Origin}
-use Rattle.clients.specs.Known.{Known, IsSeen, Took}
-use Rattle.clients.specs.Owners.{HasEntered}
+use Rattle.desks.specs.Origins.{Origin}
+use Rattle.desks.specs.Seen.{IsSeen, Took}
+use Rattle.clients.specs.Known.{Known}
+use Rattle.desks.specs.Owners.{HasEntered}
 
 -- the client has a transaction
 abbrev pub IsOpen : Phase → Type 0
@@ -38,7 +39,8 @@ HasOwn Phase.Closed line drawer = Unit {0}
 HasOwn (Phase.Drawn n) line drawer = Contains drawer.drawn n
 HasOwn (Phase.Entered n) line drawer = HasEntered line n
 
--- its seats are of the store, and its own; what it has seen is legal, and its transaction is its own
+-- its seats are of the store, and its own; what it has seen is legal, and its transaction is its
+-- own
 pub record IsClient {J : Type 0} (j : Ghosts J) (line : ClientState) (watcher : WatcherState)
     (drawer : DrawerState) (phase : Phase) : Type 0 where
   pub line_is : line.table ≡ j.line

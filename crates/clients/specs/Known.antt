@@ -1,23 +1,11 @@
--- What a client of a store knows, and how that grows.
-use Rattle.std.specs.Prelude.{◌≡◌, ℕ, Bool, List, [], ◌∷◌, ◌++◌, map, Option, Some, None}
-use mathlib.Core.List.{IsPrefix}
-use Rattle.calls.specs.Contents.{Collection}
-use Rattle.txn.specs.declared.steps.Action.{Action}
+-- What a client of a store knows.
+use Rattle.std.specs.Prelude.{ℕ, Bool, List, [], Option, Some, None}
 use Rattle.txn.specs.declared.steps.BookStep.{BookStep}
-use Rattle.txn.specs.Rows.{Standing, opening}
-use Rattle.txn.specs.Histories.{IsLegal}
-use Rattle.catalog.specs.Meaning.{catalog_meaning, catalog_making}
 use Rattle.group_commit.specs.declared.mark.Raised.{Raised}
-use Rattle.group_commit.specs.Lines.{ClientState, steps_of, seeing}
+use Rattle.group_commit.specs.Lines.{ClientState}
 use Rattle.group_commit.specs.Marks.{WatcherState}
 use Rattle.group_commit.specs.Numbers.{DrawerState}
-use Rattle.clients.specs.Origins.{Origin}
 use Rattle.clients.specs.declared.phase.Phase.{Phase}
-use Rattle.clients.specs.Owners.{AreOwned}
-
--- a step of the client of this number
-abbrev pub step_of : ℕ → Action → BookStep
-step_of n action = record { client = Some n; action = action }
 
 -- a client: its number; the history up to some step; the counts that it loaded of the mark, each
 -- with the moment at which the mark was brought there; the failed flag, each time that it loaded
@@ -65,33 +53,3 @@ seen_of (Some s) = s.seen
 abbrev pub counts_of : Option SeenState → List Raised
 counts_of None = []
 counts_of (Some s) = s.counts
-
-module _ (o : Origin) where
-  -- The steps lead the opened book there, each of who may take it.
-  pub record IsHistory (steps : List BookStep) (s : Standing (List Collection)) : Type 0 where
-    pub legal : IsLegal catalog_meaning catalog_making (opening o.format o.start o.wear) steps s
-    pub owned : AreOwned steps
-
-  -- The steps are a legal history of the opened book.
-  abbrev pub IsSeen : List BookStep → Type 0
-  IsSeen steps = (s : Standing (List Collection)) × IsHistory steps s
-
-  -- What the client of this number has seen goes on, and is legal. Its own steps since are these
-  -- actions, in this order.
-  pub record Grows (n : ℕ) (old : List BookStep) (actions : List Action) (new : List BookStep) :
-      Type 0 where
-    pub begins : IsPrefix old new
-    pub mine : steps_of n new ≡ steps_of n old ++ map (step_of n) actions
-    pub legal : IsSeen new
-
-  -- And it ends with the last of them.
-  pub record Took (n : ℕ) (old : List BookStep) (firsts : List Action) (last : Action)
-      (new : List BookStep) : Type 0 where
-    pub grows : Grows n old (firsts ++ last ∷ []) new
-    pub before : List BookStep
-    pub ends : new ≡ before ++ step_of n last ∷ []
-
-  -- The client took one step.
-  abbrev pub Steps : ClientState → Action → ClientState → Type 0
-  Steps old action new =
-      (new ≡ seeing old new.seen) × Took old.number old.seen [] action new.seen

@@ -1,11 +1,3 @@
 pub mod Attempts
 pub mod Calls
-pub mod Desks
 pub mod Known
-pub mod NoStore
-pub mod Notes
-pub mod Origins
-pub mod Owners
-pub mod Statuses
-pub mod Told
-pub mod Touches

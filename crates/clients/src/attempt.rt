@@ -4,9 +4,9 @@ ghost use Rattle.clients.specs.Attempts.{IsBegun, IsAttempt, number_of};
 ghost use Rattle.clients.specs.Calls.{IsOpen};
 
 use crate::client::Client;
-use crate::naming::Naming;
 use calls::{Call, Refusal, Reply};
 use core::mem::replace_with;
+use desks::Naming;
 use records::Coded;
 use std::marker::{Brand, Model, PhantomData};
 use std::sync::Wait;

@@ -1,8 +1,8 @@
 // What a client has seen, without the store.
 ghost use Rattle.std.specs.Prelude.{◌≡◌};
-ghost use Rattle.clients.specs.Known.{IsSeen};
+ghost use Rattle.desks.specs.Seen.{IsSeen};
 
-use crate::naming::Naming;
+use desks::Naming;
 use group_commit::{ClientSeat, Watcher};
 use std::marker::{Model, PhantomData};
 
@@ -17,7 +17,7 @@ pub struct Seen<J: Naming> {
 
 impl<J: Naming> Model for Seen<J> {
     ghost use Rattle.std.specs.Prelude.{◌≡◌};
-    ghost use Rattle.clients.specs.Known.{IsSeen};
+    ghost use Rattle.desks.specs.Seen.{IsSeen};
     ghost use Rattle.clients.specs.Known.{SeenState};
 
     ghost Value = { SeenState };

@@ -27,14 +27,14 @@ pub enum OpenError {
 }
 
 /// Opens the file of a store for this program alone, and makes it where it is not there. A file
-/// that is new, or that has no bytes, gets the size of a store with two areas of so many bytes, from
-/// 65,536 to 2^30, and is made an empty store. Any other file keeps its bytes and its size: `run`
-/// opens it, and answers NotAStore where it is none. The file is let go with the disk.
+/// that is new, or that has no bytes, gets the size of a store with two areas of so many bytes,
+/// from 65,536 to 2^30, and is made an empty store. Any other file keeps its bytes and its size:
+/// `run` opens it, and answers NotAStore where it is none. The file is let go with the disk.
 ///
-/// Refused BadArg for another area, with no file made or opened; System where the system makes or opens
-/// no file, does not lock it, give it its size or sync it; InUse where another program has it; Fault
-/// where an empty store cannot be written. A file that was made stays then, and one that has its size and
-/// is no store yet is none from then on: remove it. It waits for the device.
+/// Refused BadArg for another area, with no file made or opened; System where the system makes or
+/// opens no file, does not lock it, give it its size or sync it; InUse where another program has
+/// it; Fault where an empty store cannot be written. A file that was made stays then, and one that
+/// has its size and is no store yet is none from then on: remove it. It waits for the device.
 pub fn open_or_format<S: Content, R: Files<File = File>>(
     rt: &R,
     path: &str,

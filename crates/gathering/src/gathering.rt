@@ -100,9 +100,9 @@ impl Gathering {
         Ok(Some(effect_of(asked, position)?))
     }
 
-    /// The call that takes this one back, if it had changed something, as it is noted; none where no
-    /// gathering is under way. The record at the position tells of it. It costs what `Boosted::look`
-    /// does, and a copy of a value.
+    /// The call that takes this one back, if it had changed something, as it is noted; none where
+    /// no gathering is under way. The record at the position tells of it. It costs what
+    /// `Boosted::look` does, and a copy of a value.
     ///
     /// NoMemory, which comes only while a gathering is under way.
     pub fn effect_of_undoing<C: Boosted<At = u8>>(
@@ -128,8 +128,8 @@ impl Gathering {
     }
 
     /// What a commit runs of these entries, as it is noted: what they put off, and what their calls
-    /// left, in the order asked; nothing where no gathering is under way. The record at the position
-    /// tells of it.
+    /// left, in the order asked; nothing where no gathering is under way. The record at the
+    /// position tells of it.
     ///
     /// NoMemory, which comes only while a gathering is under way.
     pub fn effects_of_commit(
@@ -193,14 +193,14 @@ impl Gathering {
         self.is_under_way(gather)
     }
 
-    /// Goes on with a gathering of collections, of which there are so many, and so many records told
-    /// of them: takes the part, a copy of the next one by rising number, if one is left, and hands
-    /// over the calls that were run since it was handed some. Answers whether a collection is not
-    /// copied yet. What is new begins a gathering, which replaces one that is under way.
+    /// Goes on with a gathering of collections, of which there are so many, and so many records
+    /// told of them: takes the part, a copy of the next one by rising number, if one is left, and
+    /// hands over the calls that were run since it was handed some. Answers whether a collection is
+    /// not copied yet. What is new begins a gathering, which replaces one that is under way.
     ///
     /// Outrun where the gathering is not under way: it was given up, replaced or frozen. Worn where
-    /// 2^61 were begun, and another would be. NoMemory, also where there was none for the part. Each
-    /// leaves all as before.
+    /// 2^61 were begun, and another would be. NoMemory, also where there was none for the part.
+    /// Each leaves all as before.
     pub fn gather<B: Parts>(
         &mut self,
         count: usize,

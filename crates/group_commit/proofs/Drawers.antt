@@ -13,7 +13,7 @@ use Rattle.group_commit.specs.declared.numbers.Report.{Report}
 use Rattle.group_commit.specs.Numbers.{AreApart, AreOfOne}
 use Rattle.group_commit.specs.Parties.{Among, rest, first}
 use Rattle.group_commit.specs.Drawing.{hand, number_of, maker, holding, nobody, drawer, making}
-use Rattle.group_commit.specs.Drawing.{made_one, boarded, without_first, first_alone, Drew, Makes}
+use Rattle.group_commit.specs.Drawing.{made_one, boarded, without_first, first_alone, Drew}
 use Rattle.group_commit.specs.Drawing.{Fits, Knows, AreTrue, left_of, Drawn, with_drawn, AllApart}
 use Rattle.group_commit.specs.Drawing.{report_of, reporting}
 use Rattle.group_commit.proofs.Seats.{Each, each_one, each_set, each_push, other_view}

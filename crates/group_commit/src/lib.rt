@@ -23,12 +23,12 @@
 //!
 //! There are twelve kinds of step: blocks are sent and received; the mark is brought on, its flag
 //! is set, and both are loaded; a step is tallied on the line, and the line is loaded; a number is
-//! drawn, and the next one is loaded; an accord is loaded; a twin is loaded, and touched. Seats are joined and cut, too: so one
-//! is told what another knows, both ends of a hand-off note what was frozen, and both ends of an
-//! accord come to know another state. The journal's lock is held where blocks are sent, steps
-//! tallied, clients made and numbers told, the keeper's where blocks are received and the mark is brought on and
-//! tells, and both where what was frozen is noted. Whoever takes a step of an accord or of a twin
-//! holds the locks of both of its ends.
+//! drawn, and the next one is loaded; an accord is loaded; a twin is loaded, and touched. Seats are
+//! joined and cut, too: so one is told what another knows, both ends of a hand-off note what was
+//! frozen, and both ends of an accord come to know another state. The journal's lock is held where
+//! blocks are sent, steps tallied, clients made and numbers told, the keeper's where blocks are
+//! received and the mark is brought on and tells, and both where what was frozen is noted. Whoever
+//! takes a step of an accord or of a twin holds the locks of both of its ends.
 //!
 //! The value of a seat names its `table`, and a call asks for the seats of the part itself. What
 //! lies under a lock is known by its type alone: pick the tables by a type parameter, and let the

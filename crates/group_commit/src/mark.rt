@@ -24,9 +24,9 @@ pub struct Raised {
     pub moment: u64,
 }
 
-// What a seat knows: the keeper's all that it has brought the mark to, each other one the counts that
-// it loaded or was told, and the failed flag each time that it loaded or set it. No value of it is
-// made.
+// What a seat knows: the keeper's all that it has brought the mark to, each other one the counts
+// that it loaded or was told, and the failed flag each time that it loaded or set it. No value of
+// it is made.
 pub(crate) struct Tide {
     keeps: bool,
     raised: LinkedList<Raised>,
@@ -263,9 +263,9 @@ impl Mark {
         Watcher { seat }
     }
 
-    /// All commits up to the place are kept, from the moment on that `W` names: the count reaches it,
-    /// unless it was past it. Who sleeps until the mark moves is woken: one load where nobody does. It
-    /// takes no memory.
+    /// All commits up to the place are kept, from the moment on that `W` names: the count reaches
+    /// it, unless it was past it. Who sleeps until the mark moves is woken: one load where nobody
+    /// does. It takes no memory.
     pub fn advance<W: OneMoment>(&self, keeper: &mut KeeperSeat, place: u64)
         requires { keeper.old.table ≡ self.now }
         ensures table { keeper.new.table ≡ keeper.old.table }
@@ -339,8 +339,8 @@ impl Mark {
         self.table.shared.join_seat::<Tell>(&mut watcher.seat, told);
     }
 
-    /// Each count that the watcher knows is one to which the keeper's seat has brought the mark, at the
-    /// moment that the watcher knows, or 0. It changes nothing.
+    /// Each count that the watcher knows is one to which the keeper's seat has brought the mark, at
+    /// the moment that the watcher knows, or 0. It changes nothing.
     pub fn compare(&self, keeper: &mut KeeperSeat, watcher: &mut Watcher)
         requires keeper { keeper.old.table ≡ self.now }
         requires watcher { watcher.old.table ≡ self.now }

@@ -313,8 +313,8 @@ impl Numbers {
         self.alight(&mut one.seat, &mut other.seat);
     }
 
-    /// The maker learns which numbers the drawer drew. Each number of which it has learned was drawn
-    /// by one drawer alone. It takes no memory, and waits for nobody.
+    /// The maker learns which numbers the drawer drew. Each number of which it has learned was
+    /// drawn by one drawer alone. It takes no memory, and waits for nobody.
     pub fn report(&self, maker: &mut DrawerMaker, drawer: &mut Drawer)
         requires maker { maker.old.table ≡ self.now }
         requires drawer { drawer.old.table ≡ self.now }

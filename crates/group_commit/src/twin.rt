@@ -33,8 +33,8 @@ impl<T> TableRule<(), Sides<T>, ()> for OneList<T> {
     ghost first = { λ _. both_sides (near_side []) (far_side []) };
 }
 
-/// A touch, for both ends of a twin to know. Each call picks it, by passing `Brand`, so that no touch
-/// is stored: it exists in the proofs alone.
+/// A touch, for both ends of a twin to know. Each call picks it, by passing `Brand`, so that no
+/// touch is stored: it exists in the proofs alone.
 pub trait OneTouch<T> {
     ghost touch: { T };
 }

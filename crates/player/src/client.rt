@@ -196,10 +196,11 @@ fn undo<D: Disk>(world: &mut World<D>, number: u64) -> Result<(), Refusal>
     world.ended(number)
 }
 
-// The call that is asked for of a collection of the kind, if there is one. A removal is one of a map
-// where a client can ask for that, and else one of a set.
+// The call that is asked for of a collection of the kind, if there is one. A removal is one of a
+// map where a client can ask for that, and else one of a set.
 fn call_of(kind: Option<Kind>, operation: Operation) -> Call
-    ensures { (s : List Collection) (at : ℕ) → kind ≡ kind_at s at → AskedFor s at operation result }
+    ensures { (s : List Collection) (at : ℕ) → kind ≡ kind_at s at →
+        AskedFor s at operation result }
 {
     match operation {
         Operation::Call(call) => call,

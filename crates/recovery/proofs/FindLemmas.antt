@@ -69,6 +69,11 @@ head_find_refusal risen no_head is_damaged Refusal.Fault why = why
 head_find_refusal risen no_head is_damaged Refusal.NotAStore why = why
 head_find_refusal risen no_head is_damaged e why = absurd why
 
+-- no memory is wanted for a head
+pub not_starved : (risen no_head : Type 0) (e : Refusal) → IsHeadRefusal risen no_head e →
+    e ≡ Refusal.NoMemory → ⊥
+not_starved risen no_head e why starved = subst (IsHeadRefusal risen no_head) starved why
+
 -- why a load was refused, as why the whole is
 pub load_find_refusal : (risen rises no_head is_honest : Type 0) (bytes : List ℕ)
     (version : Format) (size base : ℕ)

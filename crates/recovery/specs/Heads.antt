@@ -22,6 +22,10 @@ pub record IsHead (version : Format) (size : ℕ) (head : List ℕ) (bytes : ℕ
 abbrev pub HasNoHeader : List ℕ → Type 0
 HasNoHeader bytes = (version : Format) (size : ℕ) → IsHeader version size bytes → ⊥
 
+-- a head of a store begins the bytes
+abbrev pub HasHeader : List ℕ → Type 0
+HasHeader bytes = (version : Format) × (size : ℕ) × IsHeader version size bytes
+
 -- Why a head could not be read: for a counted fault, or where there is none.
 abbrev pub IsHeadRefusal : Type 0 → Type 0 → Refusal → Type 0
 IsHeadRefusal is_risen no_head Refusal.Fault = is_risen

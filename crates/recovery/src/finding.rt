@@ -3,7 +3,8 @@ ghost use Rattle.std.specs.Prelude.{◌≡◌, ◌≤◌, ◌+◌, IfOk, IfErr, 
 ghost use Rattle.calls.specs.Limits.{number_end};
 ghost use Rattle.disk_model.specs.Disk.{ReadsOnly, Rises};
 ghost use Rattle.gate_block.specs.Area.{base_of, size_of, position_of};
-ghost use Rattle.recovery.specs.Heads.{HasNoHeader};
+ghost use Rattle.calls.specs.declared.refusal.Refusal.{Refusal};
+ghost use Rattle.recovery.specs.Heads.{HasHeader, HasNoHeader};
 ghost use Rattle.recovery.specs.Openings.{IsDamagedAt, IsFindRefusal};
 ghost use Rattle.recovery.specs.Loading.{HoldsImage};
 ghost use Rattle.recovery.specs.Finding.{IsFound};
@@ -90,6 +91,8 @@ pub fn find<D: Disk>(alloc: Global, disk: &mut D) -> Result<Found, Refusal>
         (Rises (D.fault_count disk.old) (D.fault_count disk.new))
         (D.is_honest disk.new → HasNoHeader (D.seen disk.old))
         (λ place. D.is_honest disk.new → IsDamagedAt (D.seen disk.old) place)) }
+    ensures starved { IfErr result (λ e. e ≡ Refusal.NoMemory → D.is_honest disk.new →
+        HasHeader (D.seen disk.old)) }
     ensures reads { ReadsOnly D.seen D.may_leave D.moment D.left_since disk.old disk.new }
     ensures honest { D.is_honest disk.new → D.is_honest disk.old }
     ensures faults { D.fault_count disk.old ≤ D.fault_count disk.new }

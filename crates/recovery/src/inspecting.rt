@@ -1,7 +1,8 @@
 // Looking at a store.
-ghost use Rattle.std.specs.Prelude.{◌≤◌, IfOk, IfErr};
+ghost use Rattle.std.specs.Prelude.{◌≡◌, ◌≤◌, IfOk, IfErr};
+ghost use Rattle.calls.specs.declared.refusal.Refusal.{Refusal};
 ghost use Rattle.disk_model.specs.Disk.{ReadsOnly, Rises};
-ghost use Rattle.recovery.specs.Heads.{HasNoHeader};
+ghost use Rattle.recovery.specs.Heads.{HasHeader, HasNoHeader};
 ghost use Rattle.recovery.specs.Openings.{IsDamagedAt, IsFindRefusal, IsReport};
 
 use crate::finding::{Found, find};
@@ -16,7 +17,8 @@ use std::alloc::Global;
 ///
 /// Refused NotAStore, where the disk read true only if it has no head of a store; Fault where the
 /// disk failed; Damaged with the position of the gate of the block in which the first damage
-/// stands, where the disk read true only if the bytes are not sound; NoMemory.
+/// stands, where the disk read true only if the bytes are not sound; NoMemory, where the disk read
+/// true only if it has a head of a store.
 pub fn inspect<D: Disk>(alloc: Global, disk: &mut D) -> Result<Report, Refusal>
     ensures report { IfOk result (λ report. D.is_honest disk.new →
         IsReport (D.seen disk.old) report) }
@@ -24,6 +26,8 @@ pub fn inspect<D: Disk>(alloc: Global, disk: &mut D) -> Result<Report, Refusal>
         (Rises (D.fault_count disk.old) (D.fault_count disk.new))
         (D.is_honest disk.new → HasNoHeader (D.seen disk.old))
         (λ place. D.is_honest disk.new → IsDamagedAt (D.seen disk.old) place)) }
+    ensures starved { IfErr result (λ e. e ≡ Refusal.NoMemory → D.is_honest disk.new →
+        HasHeader (D.seen disk.old)) }
     ensures reads { ReadsOnly D.seen D.may_leave D.moment D.left_since disk.old disk.new }
     ensures honest { D.is_honest disk.new → D.is_honest disk.old }
     ensures faults { D.fault_count disk.old ≤ D.fault_count disk.new }

@@ -10,7 +10,7 @@ ghost use Rattle.gate_block.specs.Area.{has_failed};
 ghost use Rattle.checkpoint.specs.Keepers.{IsOneOfTwo, IsFresh};
 ghost use Rattle.repetition.specs.Journals.{StandsFor};
 ghost use Rattle.txn.specs.Books.{opened};
-ghost use Rattle.recovery.specs.Heads.{HasNoHeader};
+ghost use Rattle.recovery.specs.Heads.{HasHeader, HasNoHeader};
 ghost use Rattle.undoing.specs.Undoing.{blocks_len};
 ghost use Rattle.recovery.specs.Openings.{IsOpened, IsDamagedAt, HasNoRoom, IsReadyStore};
 ghost use Rattle.recovery.specs.Openings.{IsOpenRefusal, KeepsContent, book_of};
@@ -70,6 +70,8 @@ pub(crate) fn settle<D: Disk>(alloc: Global, disk: &mut D) -> Result<Settled, Re
         (D.is_honest disk.new → HasNoHeader (D.seen disk.old))
         (λ place. D.is_honest disk.new → IsDamagedAt (D.seen disk.old) place)
         (D.is_honest disk.new → HasNoRoom (D.seen disk.old))) }
+    ensures starved { IfErr result (λ e. e ≡ Refusal.NoMemory → D.is_honest disk.new →
+        HasHeader (D.seen disk.old)) }
     ensures unchanged { IfErr result
         (λ e. (e ≡ Refusal.Fault → ⊥) →
         ReadsOnly D.seen D.may_leave D.moment D.left_since disk.old disk.new) }
@@ -122,8 +124,9 @@ fn book_of(alloc: Global, machine: Machine<Catalog>, next: u64) -> Book<Catalog>
 ///
 /// Refused NotAStore, where the disk read true only if it has no head of a store; Fault where the
 /// disk failed; Damaged with the position of the gate of the block in which the first damage
-/// stands, where the disk read true only if the bytes are not sound; NoMemory; Full, where the disk
-/// read true only if the records of the undoing do not fit. All but Fault come with nothing
+/// stands, where the disk read true only if the bytes are not sound; NoMemory, where the disk read
+/// true only if it has a head of a store; Full, where the disk read true only if the records of the
+/// undoing do not fit. All but Fault come with nothing
 /// written. A refusal hands the disk back.
 pub fn open<D: Disk>(alloc: Global, disk: D) -> Result<(Book<Catalog>, Keeper<D>), (Refusal, D)>
     // What it answers, of a disk that read true.
@@ -151,6 +154,8 @@ pub fn open<D: Disk>(alloc: Global, disk: D) -> Result<(Book<Catalog>, Keeper<D>
         (D.is_honest x.1 → HasNoHeader (D.seen disk))
         (λ place. D.is_honest x.1 → IsDamagedAt (D.seen disk) place)
         (D.is_honest x.1 → HasNoRoom (D.seen disk)) x.0) }
+    ensures starved { IfErr result (λ x. x.0 ≡ Refusal.NoMemory → D.is_honest x.1 →
+        HasHeader (D.seen disk)) }
     ensures unchanged { IfErr result
         (λ x. (x.0 ≡ Refusal.Fault → ⊥) →
         ReadsOnly D.seen D.may_leave D.moment D.left_since disk x.1) }

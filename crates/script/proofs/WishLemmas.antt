@@ -1,5 +1,5 @@
 -- Lines of several calls, and what the first letters of a line tell.
-use Rattle.std.proofs.Common.{◌≡◌, ◌≢◌, inl, inr, ℕ, ◌+◌, List, [], ◌∷◌, ◌++◌}
+use Rattle.std.proofs.Common.{◌≡◌, ◌≢◌, inl, inr, ℕ, List, [], ◌∷◌, ◌++◌}
 use Rattle.std.proofs.Common.{All}
 use Rattle.std.proofs.Common.{sym, subst, ◌∙◌, ap, codes, append_assoc}
 use Rattle.std.proofs.Common.{Option, Some, None, Result, Ok, Err}

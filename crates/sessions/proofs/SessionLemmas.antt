@@ -3,7 +3,7 @@ use Rattle.std.proofs.Common.{ℕ, List, [], ◌∷◌, ◌++◌, append_assoc, 
 use Rattle.std.proofs.Common.{Option}
 use Rattle.std.proofs.lemmas.List.{append-nil}
 use Rattle.script.specs.declared.line.Line.{Line}
-use Rattle.clients.specs.Origins.{Origin}
+use Rattle.desks.specs.Origins.{Origin}
 use Rattle.sessions.specs.declared.transcript.Answer.{Answer}
 use Rattle.sessions.specs.Sessions.{SessionState, Answers, CarriesOut, answers_of}
 

@@ -8,7 +8,7 @@ use Rattle.calls.specs.declared.refusal.Refusal.{Refusal}
 use Rattle.calls.specs.Limits.{number_end}
 use Rattle.txn.specs.declared.steps.Action.{Action}
 use Rattle.txn.specs.declared.steps.Target.{Target}
-use Rattle.clients.specs.Origins.{Origin}
+use Rattle.desks.specs.Origins.{Origin}
 use Rattle.clients.specs.declared.phase.Phase.{Phase}
 use Rattle.clients.specs.declared.ticket.Ticket.{Ticket}
 use Rattle.clients.specs.Known.{Known}

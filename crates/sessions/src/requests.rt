@@ -9,7 +9,8 @@ ghost use Rattle.player.specs.Requests.{telling};
 ghost use Rattle.player.specs.declared.texts.Said.{Said};
 
 use calls::{Call, Kind, Name, Refusal, Reply};
-use clients::{Client, Naming, Ticket};
+use clients::{Client, Ticket};
+use desks::Naming;
 use player::{Said, said_of};
 use script::{Operation, Request};
 use std::sync::Wait;

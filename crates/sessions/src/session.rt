@@ -4,7 +4,8 @@ ghost use Rattle.sessions.specs.Sessions.{session};
 
 use crate::requests::{end, say};
 use calls::Refusal;
-use clients::{Client, Naming, Ticket};
+use clients::{Client, Ticket};
+use desks::Naming;
 use player::Said;
 use script::Request;
 use std::alloc::Global;

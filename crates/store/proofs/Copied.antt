@@ -30,14 +30,14 @@ use Rattle.group_commit.specs.Lines as lines
 use Rattle.group_commit.specs.Lines.{stepped}
 use Rattle.group_commit.specs.Orders.{SenderState}
 use Rattle.group_commit.specs.Twins.{EndState}
-use Rattle.clients.specs.declared.naming.Naming.{Ghosts}
-use Rattle.clients.specs.declared.touch.Touch.{Touch}
-use Rattle.clients.specs.Desks.{IsDesk}
-use Rattle.clients.specs.Notes.{alone}
-use Rattle.clients.specs.Told.{told_book}
-use Rattle.clients.specs.Touches.{Leads, IsJournalDesk}
-use Rattle.clients.proofs.Telling.{along_told, gathered_back}
-use Rattle.clients.proofs.Touching.{known_is}
+use Rattle.desks.specs.declared.naming.Naming.{Ghosts}
+use Rattle.desks.specs.declared.touch.Touch.{Touch}
+use Rattle.desks.specs.Desks.{IsDesk}
+use Rattle.desks.specs.Notes.{alone}
+use Rattle.desks.specs.Told.{told_book}
+use Rattle.desks.specs.Touches.{Leads, IsJournalDesk}
+use Rattle.desks.proofs.Telling.{along_told, gathered_back}
+use Rattle.desks.proofs.Touching.{known_is}
 use Rattle.store.specs.Gatherers.{GathererState, IsKnown, IsGatherer, IsGivenTo}
 use Rattle.store.specs.Gatherers.{as_next, Froze}
 use Rattle.store.specs.Turns.{IsCheckRefusal, IsFreezeRefusal}

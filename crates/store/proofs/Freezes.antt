@@ -57,12 +57,12 @@ use Rattle.group_commit.specs.declared.mark.Raised.{Raised}
 use Rattle.group_commit.specs.Marks.{KeeperMark, AreReached, AreNoted, HasCome, top, unraised}
 use Rattle.group_commit.proofs.Marking.{noted_reached}
 use Rattle.group_commit.specs.Orders.{SenderState, ReceiverState, AreInTransit, noting, noting_too}
-use Rattle.clients.specs.declared.naming.Naming.{Ghosts}
-use Rattle.clients.specs.Desks.{AreRecorded, IsDesk, PacksImages, frozen_end, frozen_ends}
-use Rattle.clients.specs.Notes.{alone}
-use Rattle.clients.specs.Told.{told_book}
-use Rattle.clients.proofs.Telling.{kept_told}
-use Rattle.clients.proofs.Owning.{owned_alone}
+use Rattle.desks.specs.declared.naming.Naming.{Ghosts}
+use Rattle.desks.specs.Desks.{AreRecorded, IsDesk, PacksImages, frozen_end, frozen_ends}
+use Rattle.desks.specs.Notes.{alone}
+use Rattle.desks.specs.Told.{told_book}
+use Rattle.desks.proofs.Telling.{kept_told}
+use Rattle.desks.proofs.Owning.{owned_alone}
 use Rattle.store.specs.Closing.{Closes}
 use Rattle.store.specs.Gatherers.{Froze}
 use Rattle.store.specs.Vaults.{LeavesSince, IsVault, IsKeptSince}

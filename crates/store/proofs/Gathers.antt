@@ -12,8 +12,8 @@ use Rattle.txn.specs.Freezing.{IsGatheredOf, BookGathers}
 use Rattle.world.specs.Worlds.{IsOfBook}
 use Rattle.world.proofs.OfBook.{of_repeated, of_gathered, of_ungathered}
 use Rattle.group_commit.specs.Accords.{AccordState}
-use Rattle.clients.specs.declared.naming.Naming.{Ghosts}
-use Rattle.clients.proofs.Gathered.{gathered_none}
+use Rattle.desks.specs.declared.naming.Naming.{Ghosts}
+use Rattle.desks.proofs.Gathered.{gathered_none}
 use Rattle.store.specs.Gatherers.{IsKnown, IsGatherer}
 
 abbrev Book : Type 0

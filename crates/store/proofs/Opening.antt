@@ -3,7 +3,7 @@ use Rattle.std.proofs.Common.{◌≡◌, ◌∙◌, ℕ, List, sym, ap}
 use Rattle.calls.specs.Contents.{Collection}
 use Rattle.calls.specs.declared.format.Format.{Format}
 use Rattle.txn.specs.Books.{BookState, opened}
-use Rattle.clients.specs.Told.{told_book}
+use Rattle.desks.specs.Told.{told_book}
 
 -- A book that was just opened, in parts, is the one that the name tells.
 pub named_book : {S : Type 0} (collections : S → List Collection) (b c : BookState S) → b ≡ c →

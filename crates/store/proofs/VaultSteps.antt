@@ -46,9 +46,9 @@ use Rattle.group_commit.specs.Marks.{KeeperMark, top}
 use Rattle.group_commit.specs.Rising.{raised_to}
 use Rattle.group_commit.specs.Orders.{ReceiverState}
 use Rattle.group_commit.specs.Parties.{Among}
-use Rattle.clients.specs.declared.naming.Naming.{Ghosts}
-use Rattle.clients.specs.Desks.{AreRecorded, PacksImages, frozen_ends}
-use Rattle.clients.proofs.Recording.{opened_stands}
+use Rattle.desks.specs.declared.naming.Naming.{Ghosts}
+use Rattle.desks.specs.Desks.{AreRecorded, PacksImages, frozen_ends}
+use Rattle.desks.proofs.Recording.{opened_stands}
 use Rattle.store.specs.Openings.{OpenedState, IsNamed}
 use Rattle.store.specs.Turns.{Brings, IsTurnRefusal, IsWithin, brought_to, flipped_to}
 use Rattle.store.specs.Vaults.{LeavesSince, ReceivesAny, IsVault, IsKeptSince}

@@ -11,8 +11,8 @@ use Rattle.checkpoint.specs.Crash.{Yields}
 use Rattle.checkpoint.specs.Keepers.{KeeperState}
 use Rattle.group_commit.specs.declared.mark.Raised.{Raised}
 use Rattle.group_commit.specs.Marks.{AreReached}
-use Rattle.clients.specs.declared.naming.Naming.{Ghosts}
-use Rattle.clients.specs.Known.{IsHistory}
+use Rattle.desks.specs.declared.naming.Naming.{Ghosts}
+use Rattle.desks.specs.Seen.{IsHistory}
 use Rattle.store.specs.Vaults.{LeavesSince}
 
 -- The mark was brought to a count at a moment, not before this one. Whatever a stop at any moment

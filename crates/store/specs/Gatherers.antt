@@ -22,9 +22,9 @@ use Rattle.group_commit.specs.Accords.{AccordState, nothing_gathered}
 use Rattle.group_commit.specs.Lines as lines
 use Rattle.group_commit.specs.Orders.{SenderState}
 use Rattle.group_commit.specs.Twins.{EndState}
-use Rattle.clients.specs.declared.naming.Naming.{Ghosts}
-use Rattle.clients.specs.declared.touch.Touch.{Touch}
-use Rattle.clients.specs.Touches.{IsJournalDesk}
+use Rattle.desks.specs.declared.naming.Naming.{Ghosts}
+use Rattle.desks.specs.declared.touch.Touch.{Touch}
+use Rattle.desks.specs.Touches.{IsJournalDesk}
 
 -- what is gathered, and what the book's side and the keeper's know of it
 pub record GathererState : Type 0 where

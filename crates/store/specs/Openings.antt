@@ -7,7 +7,7 @@ use Rattle.disk_model.specs.declared.disk.Disk as disks
 use Rattle.txn.specs.Books.{BookState}
 use Rattle.checkpoint.specs.Keepers.{KeeperState}
 use Rattle.recovery.specs.Openings.{IsOpened, IsReadyStore}
-use Rattle.clients.specs.declared.naming.Naming.{Ghosts}
+use Rattle.desks.specs.declared.naming.Naming.{Ghosts}
 
 -- the tables of the parts that threads share, and from which number on they draw
 pub record Tables : Type 0 where

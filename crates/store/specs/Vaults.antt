@@ -17,8 +17,8 @@ use Rattle.group_commit.specs.Parties.{Among}
 use Rattle.group_commit.specs.Orders.{ReceiverState}
 use Rattle.group_commit.specs.declared.mark.Raised.{Raised}
 use Rattle.group_commit.specs.Marks.{KeeperMark, top}
-use Rattle.clients.specs.declared.naming.Naming.{Ghosts}
-use Rattle.clients.specs.Desks.{AreRecorded, frozen_ends}
+use Rattle.desks.specs.declared.naming.Naming.{Ghosts}
+use Rattle.desks.specs.Desks.{AreRecorded, frozen_ends}
 
 -- Whatever a stop at any moment since the opening might have left has P. Of a run that began
 -- earlier it might have left that already when the store was open.

@@ -6,7 +6,7 @@ use crate::gatherer::Gatherer;
 use crate::vault::{Vault, note_failure};
 use calls::Refusal;
 use catalog::Catalog;
-use clients::{Desk, Lock, Naming, Shared, Shelves};
+use desks::{Desk, Lock, Naming, Shared, Shelves};
 use disk_model::Disk;
 use group_commit::Watcher;
 use records::Coded;

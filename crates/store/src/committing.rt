@@ -7,7 +7,7 @@ use crate::vault::Vault;
 use calls::Refusal;
 use catalog::Catalog;
 use checkpoint::Turn;
-use clients::{Desk, Lock, Naming, Shared};
+use desks::{Desk, Lock, Naming, Shared};
 use disk_model::Disk;
 use group_commit::Watcher;
 use records::Coded;

@@ -1,6 +1,7 @@
 // What may cross threads: each function is accepted only where its argument may.
 use crate::store::Store;
-use clients::{Client, Naming, Seen};
+use clients::{Client, Seen};
+use desks::Naming;
 use disk_model::Disk;
 use records::Coded;
 

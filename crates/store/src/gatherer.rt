@@ -17,10 +17,10 @@ ghost use Rattle.group_commit.specs.Accords.{nothing_gathered};
 ghost use Rattle.group_commit.specs.Lines.{stepped};
 ghost use Rattle.group_commit.specs.Orders.{SenderState, noting, noting_too};
 ghost use Rattle.group_commit.specs.Twins.{EndState};
-ghost use Rattle.clients.specs.declared.touch.Touch.{Touch};
-ghost use Rattle.clients.specs.Notes.{alone};
-ghost use Rattle.clients.specs.Told.{told_book};
-ghost use Rattle.clients.specs.Touches.{IsJournalDesk};
+ghost use Rattle.desks.specs.declared.touch.Touch.{Touch};
+ghost use Rattle.desks.specs.Notes.{alone};
+ghost use Rattle.desks.specs.Told.{told_book};
+ghost use Rattle.desks.specs.Touches.{IsJournalDesk};
 ghost use Rattle.store.specs.Gatherers.{IsKnown, IsGivenTo, as_next, Froze};
 ghost use Rattle.store.specs.Turns.{IsPrepared, IsCheckRefusal, IsFreezeRefusal};
 
@@ -30,7 +30,7 @@ use blocks::Image;
 use calls::Refusal;
 use catalog::{Part, Shelved};
 use checkpoint::Keeper;
-use clients::{Desk, Lock, Naming, Quarter, Room, Shared, ShelfDesk, Shelves, note_alone};
+use desks::{Desk, Lock, Naming, Quarter, Room, Shared, ShelfDesk, Shelves, note_alone};
 use disk_model::Disk;
 use group_commit::{Accord, BookSeat, Far, Handoff, Near, OneGather, Receiver, Sender};
 use images::Gather;
@@ -465,8 +465,8 @@ fn gather_part<J: Naming, B: Coded>(
 }
 
 // Freezes the book, a step of no client, and holds the end of its image: the refusals of
-// `Journal::freeze`, then those of `Keeper::hold`. No block behind the freeze is kept before the end
-// is held, as the locks of both are. Both ends of the hand-off note what is frozen, and the
+// `Journal::freeze`, then those of `Keeper::hold`. No block behind the freeze is kept before the
+// end is held, as the locks of both are. Both ends of the hand-off note what is frozen, and the
 // keeper's side knows it. No device is called.
 fn freeze<D: Disk, J: Naming, B: Coded>(
     shared: &Shared<J>,

@@ -64,9 +64,8 @@ mod twins;
 mod vault;
 
 pub use checkpointing::{Checkpoint, Checkpointer};
-pub use clients::{
-    Attempt, Client, Extent, Measured, Naming, Seen, Signal, Status, Ticket, Transaction,
-};
+pub use clients::{Attempt, Client, Seen, Ticket, Transaction};
 pub use committing::Committer;
+pub use desks::{Extent, Measured, Naming, Signal, Status};
 pub use opened::Opened;
 pub use store::Store;

@@ -10,7 +10,7 @@ ghost use Rattle.checkpoint.specs.Keepers.{IsFresh};
 ghost use Rattle.recovery.specs.Heads.{HasNoHeader};
 ghost use Rattle.recovery.specs.Openings.{IsOpened, IsDamagedAt, HasNoRoom, IsReadyStore};
 ghost use Rattle.recovery.specs.Openings.{IsOpenRefusal, KeepsContent};
-ghost use Rattle.clients.specs.Told.{told_book};
+ghost use Rattle.desks.specs.Told.{told_book};
 ghost use Rattle.store.specs.Openings.{IsNamed};
 
 use crate::gatherer::Gatherer;
@@ -20,7 +20,7 @@ use crate::vault::Vault;
 use calls::Refusal;
 use catalog::Catalog;
 use checkpoint::Keeper;
-use clients::{Desk, Extent, Naming, Shared, Shelves, Signal};
+use desks::{Desk, Extent, Naming, Shared, Shelves, Signal};
 use disk_model::Disk;
 use group_commit::{
     Accord, BookSeat, DrawerMaker, Far, Handoff, KeeperSeat, Line, Mark, Near, Numbers, Receiver,
@@ -124,7 +124,7 @@ impl<D: Disk, B: Coded> Model for Opened<D, B> {
     ghost use Rattle.catalog.specs.Holdings.{catalog_code};
     ghost use Rattle.txn.specs.Books.{opened};
     ghost use Rattle.checkpoint.specs.Keepers.{IsFresh};
-    ghost use Rattle.clients.specs.Told.{told_book};
+    ghost use Rattle.desks.specs.Told.{told_book};
     ghost use Rattle.store.specs.Openings.{OpenedState};
 
     ghost Value = { OpenedState D };

@@ -5,7 +5,7 @@ ghost use Rattle.group_commit.specs.Lines.{IsLonger};
 ghost use Rattle.group_commit.specs.Marks.{new_watcher};
 ghost use Rattle.clients.specs.Known.{newcomer};
 ghost use Rattle.clients.specs.Known.{seen_of, counts_of};
-ghost use Rattle.clients.specs.Told.{told_book};
+ghost use Rattle.desks.specs.Told.{told_book};
 ghost use Rattle.store.specs.Closing.{Closes};
 
 use crate::checkpointing::Checkpointer;
@@ -16,7 +16,8 @@ use crate::vault::Vault;
 use calls::Refusal;
 use catalog::Catalog;
 use checkpoint::Keeper;
-use clients::{Client, Desk, Lock, Naming, Seen, Shared, Shelves, Signal};
+use clients::{Client, Seen};
+use desks::{Desk, Lock, Naming, Shared, Shelves, Signal};
 use disk_model::Disk;
 use records::Coded;
 use std::sync::{Mutex, Wait};

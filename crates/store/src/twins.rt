@@ -4,7 +4,7 @@ ghost use Rattle.calls.specs.declared.refusal.Refusal.{Refusal};
 
 use calls::Refusal;
 use catalog::Four;
-use clients::Touch;
+use desks::Touch;
 use group_commit::{Twin, TwinFar, TwinNear};
 use records::Coded;
 use shelf::Shelf;

@@ -9,7 +9,7 @@ ghost use Rattle.group_commit.specs.Rising.{raised_to};
 use crate::checkpointing::Checkpoint;
 use calls::Refusal;
 use checkpoint::{Keeper, Turn};
-use clients::{Extent, Naming, Room, Shared};
+use desks::{Extent, Naming, Room, Shared};
 use disk_model::Disk;
 use group_commit::{Far, Handoff, Incoming, KeeperSeat, Mark, Near, OneMoment, Receiver, Watcher};
 use std::marker::{Brand, Model, PhantomData};

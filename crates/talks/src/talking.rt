@@ -48,10 +48,10 @@ pub struct Ended {
 /// is not carried out; the lines behind it are. A client that has nothing open may be silent for
 /// ever.
 ///
-/// What was told is sent on before the talk waits, for a line, or until a commit is kept; and at its
-/// end, once what was open is taken back. A line of
-/// several calls is a transaction of its own: all of them are committed as one, or none is. The
-/// bytes behind the last line feed are passed over.
+/// What was told is sent on before the talk waits, for a line, or until a commit is kept; and at
+/// its end, once what was open is taken back. A line of several calls is a transaction of its own:
+/// all of them are committed as one, or none is. The bytes behind the last line feed are passed
+/// over.
 ///
 /// The taking back is refused where too many records wait for the disk, or memory is wanting; it is
 /// tried many times. Where it is refused for good `is_taken_back` is false, and the speaker must

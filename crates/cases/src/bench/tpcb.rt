@@ -55,8 +55,8 @@ fn teller(number: u32) -> &'static str {
     TELLERS[(number % 10) as usize]
 }
 
-/// A transaction: an amount goes to an account, to a teller and to the branch, and a line of history
-/// tells so.
+/// A transaction: an amount goes to an account, to a teller and to the branch, and a line of
+/// history tells so.
 #[derive(Clone, Copy)]
 pub struct Posting {
     alloc: Global,

@@ -30,8 +30,8 @@ const CALLS: u32 = 40;
 // How many keys, elements, priorities and tags there are: few, so that calls meet often.
 const KEYS: u32 = 12;
 
-// A collection of each kind, copies of the first of them, and the calls that were run and not handed
-// over.
+// A collection of each kind, copies of the first of them, and the calls that were run and not
+// handed over.
 #[derive(Drop)]
 struct Gathering {
     catalog: Catalog,

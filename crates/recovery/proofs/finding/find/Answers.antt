@@ -8,7 +8,7 @@ use Rattle.recovery.specs.Loading.{IsLoaded, StartsWithImage}
 use Rattle.undoing.proofs.Walks.{rises_before}
 use Rattle.recovery.proofs.LoadLemmas.{Spoils}
 use Rattle.recovery.proofs.FindLemmas.{head_find_refusal, load_find_refusal, stored_there}
-use Rattle.recovery.proofs.FindLemmas.{one_of_two}
+use Rattle.recovery.proofs.FindLemmas.{not_starved, one_of_two}
 use Rattle.disk_model.proofs.Walk.{reads_on}
 use Rattle.recovery.proofs.finding.find.Goals as goal
 
@@ -111,3 +111,29 @@ pub returns-clause-reads : goal.returns-clause-reads
 returns-clause-reads g c =
     reads_on g.D.Disk.seen g.D.Disk.may_leave g.D.Disk.moment g.D.Disk.left_since _ _ _
     c.area_in_use.ensures.reads c.load.ensures.reads
+
+pub returns-in_err-base-clause-starved : goal.returns-in_err-base-clause-starved
+returns-in_err-base-clause-starved g c =
+    let p = err_from_is_err_and c.from_residual.result c.from_residual.ensures.1 in
+    rw (p.1, p.2) (λ starved true_read. absurd
+    (not_starved _ _ c.in_err-base.field-0.0 c.in_err-base.ensures.refused starved))
+
+pub returns-in_err-repeated-clause-starved : goal.returns-in_err-repeated-clause-starved
+returns-in_err-repeated-clause-starved g c =
+    let p = err_from_is_err_and c.from_residual-in_err-repeated.result
+    c.from_residual-in_err-repeated.ensures.1 in
+    rw p.1 (λ starved true_read. (
+      c.in_ok-base.version,
+      c.in_ok-base.size,
+      (c.in_ok-base.ensures.header (c.load.ensures.honest true_read)).0,
+    ))
+
+pub returns-in_err-records-clause-starved : goal.returns-in_err-records-clause-starved
+returns-in_err-records-clause-starved g c =
+    let p = err_from_is_err_and c.from_residual-in_err-records.result
+    c.from_residual-in_err-records.ensures.1 in
+    rw p.1 (λ starved true_read. (
+      c.in_ok-base.version,
+      c.in_ok-base.size,
+      (c.in_ok-base.ensures.header (c.load.ensures.honest true_read)).0,
+    ))

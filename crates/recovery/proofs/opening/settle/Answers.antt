@@ -209,3 +209,16 @@ returns-in_err-append_all-clause-size g c =
 pub returns-clause-size : goal.returns-clause-size
 returns-clause-size g c =
     c.append_all.ensures.size ∙ ap length c.find.ensures.reads.same
+
+pub returns-in_err-machine-clause-starved : goal.returns-in_err-machine-clause-starved
+returns-in_err-machine-clause-starved g c =
+    let p = err_from_is_err_and c.from_residual.result c.from_residual.ensures.1 in
+    rw (p.1, p.2) c.in_err-machine.ensures.starved
+
+pub returns-in_err-buffer-clause-starved : goal.returns-in_err-buffer-clause-starved
+returns-in_err-buffer-clause-starved g c =
+    let p = err_from_is_err_and c.from_residual-in_err-buffer.result
+    c.from_residual-in_err-buffer.ensures.1 in
+    rw p.1 (λ starved true_read.
+    let stored = c.in_ok-machine.ensures.found.stored true_read in
+    (stored.version, size_of c.in_ok-machine.field-0.area, stored.header))

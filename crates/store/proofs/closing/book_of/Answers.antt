@@ -2,9 +2,9 @@ use Rattle.std.proofs.Common.{sym, subst, ap, ◌∙◌}
 use Rattle.catalog.specs.Fours.{pick}
 use Rattle.machine.proofs.FourShelves.{four_same}
 use Rattle.txn.specs.Shelved.{IsBook, book_state}
-use Rattle.clients.specs.Desks.{IsDesk}
-use Rattle.clients.specs.Told.{told_book}
-use Rattle.clients.proofs.Touching.{known_is}
+use Rattle.desks.specs.Desks.{IsDesk}
+use Rattle.desks.specs.Told.{told_book}
+use Rattle.desks.proofs.Touching.{known_is}
 use Rattle.store.proofs.closing.book_of.Goals as goal
 
 -- The four shelves are those that the near ends know.

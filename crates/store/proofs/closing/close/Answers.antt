@@ -1,5 +1,5 @@
 use Rattle.clients.specs.Known.{seen_of, counts_of}
-use Rattle.clients.specs.Told.{told_book}
+use Rattle.desks.specs.Told.{told_book}
 use Rattle.store.proofs.Freezes.{closes}
 use Rattle.store.proofs.closing.close.Goals as goal
 

@@ -8,10 +8,10 @@ use Rattle.checkpoint.specs.Keepers.{KeeperState}
 use Rattle.group_commit.specs.Accords.{AccordState}
 use Rattle.group_commit.specs.Lines.{stepped}
 use Rattle.group_commit.specs.Orders.{SenderState, ReceiverState, noting, noting_too}
-use Rattle.clients.specs.Notes.{alone}
-use Rattle.clients.specs.Told.{told_book}
-use Rattle.clients.specs.Touches.{IsJournalDesk}
-use Rattle.clients.proofs.Owning.{drawn_beside}
+use Rattle.desks.specs.Notes.{alone}
+use Rattle.desks.specs.Told.{told_book}
+use Rattle.desks.specs.Touches.{IsJournalDesk}
+use Rattle.desks.proofs.Owning.{drawn_beside}
 use Rattle.store.specs.Gatherers.{Froze}
 use Rattle.store.specs.Turns.{IsFreezeRefusal}
 use Rattle.store.specs.Vaults.{IsVault, Awaits}

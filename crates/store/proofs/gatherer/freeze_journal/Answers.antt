@@ -1,7 +1,7 @@
 use Rattle.std.proofs.Common.{sym, ◌∙◌, Ok}
 use Rattle.txn.specs.Shelved.{book_state}
-use Rattle.clients.specs.Told.{told_book}
-use Rattle.clients.proofs.Telling.{freeze_told}
+use Rattle.desks.specs.Told.{told_book}
+use Rattle.desks.proofs.Telling.{freeze_told}
 use Rattle.store.proofs.Freezes.{froze_and_asked}
 use Rattle.store.proofs.gatherer.freeze_journal.Goals as goal
 

@@ -1,5 +1,5 @@
 use Rattle.txn.specs.declared.steps.Action.{Action}
-use Rattle.clients.specs.Notes.{alone}
+use Rattle.desks.specs.Notes.{alone}
 use Rattle.store.proofs.gatherer.gather_part.Given as goal
 
 -- what is gathered then

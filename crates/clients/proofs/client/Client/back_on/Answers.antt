@@ -1,4 +1,3 @@
-use Rattle.std.proofs.Common.{refl}
 use Rattle.clients.proofs.Visits.{own_held, tried_client}
 use Rattle.clients.proofs.client.Client.back_on.Goals as goal
 

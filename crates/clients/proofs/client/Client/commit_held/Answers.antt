@@ -1,6 +1,6 @@
 use Rattle.std.proofs.Common.{Ok, Err, refl, subst}
 use Rattle.txn.specs.declared.steps.Action.{Action}
-use Rattle.clients.specs.Known.{Steps}
+use Rattle.desks.specs.Seen.{Steps}
 use Rattle.clients.proofs.Visits.{entered_own, stays, steps_on, took_on, took_last}
 use Rattle.clients.proofs.client.Client.commit_held.Goals as goal
 

@@ -1,6 +1,6 @@
-use Rattle.std.proofs.Common.{Err, refl, subst}
+use Rattle.std.proofs.Common.{Err, subst}
 use Rattle.txn.specs.declared.steps.Action.{Action}
-use Rattle.clients.specs.Known.{Steps}
+use Rattle.desks.specs.Seen.{Steps}
 use Rattle.clients.proofs.Visits.{own_held, steps_on}
 use Rattle.clients.proofs.client.Client.end_held.Goals as goal
 

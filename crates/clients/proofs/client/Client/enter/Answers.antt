@@ -2,7 +2,8 @@ use Rattle.std.proofs.Common.{[], Ok, Err, refl, sym, ap, ◌∙◌, subst}
 use Rattle.std.proofs.lemmas.Result.{err_from_is_err_and}
 use Rattle.txn.specs.declared.steps.Action.{Action}
 use Rattle.clients.specs.declared.phase.Phase.{Phase}
-use Rattle.clients.specs.Known.{Known, Steps, known_of}
+use Rattle.desks.specs.Seen.{Steps}
+use Rattle.clients.specs.Known.{Known, known_of}
 use Rattle.clients.specs.Calls.{Acts, Enters}
 use Rattle.clients.proofs.Seeing.{acts_one}
 use Rattle.clients.proofs.Visits.{enters_on}
@@ -12,7 +13,8 @@ pub invariant_of-self-in-Drawn : goal.invariant_of-self-in-Drawn
 invariant_of-self-in-Drawn g c =
     let i = c.self.inside in
     let n = c.in-Drawn.number in
-    rw c.enter.ensures.drawer (enters_on g.J.Naming i.line c.enter.new.me i.watcher i.drawer i.phase c.self.invariant n
+    rw c.enter.ensures.drawer (enters_on g.J.Naming i.line c.enter.new.me i.watcher i.drawer i.phase
+    c.self.invariant n
     (subst (λ r. Steps g.J.Naming.origin i.line (Action.Enter n r) c.enter.new.me)
     c.in_ok-enter-in-Drawn.was c.enter.ensures.step))
 

@@ -14,7 +14,8 @@ find_for_call-requires-clause-own g c =
 pub invariant_of-self : goal.invariant_of-self
 invariant_of-self g c =
     let i = c.self.inside in
-    found_client g.J.Naming i.line c.find_for_call.new.me i.watcher i.drawer i.phase c.self.invariant
+    found_client g.J.Naming i.line c.find_for_call.new.me i.watcher i.drawer i.phase
+    c.self.invariant
     c.find_for_call.result _ c.find_for_call.ensures.ok c.find_for_call.ensures.err
 
 pub returns-clause-err : goal.returns-clause-err
@@ -23,5 +24,6 @@ returns-clause-err g c =
     let n = c.in_ok-number.number in
     IfErr-weaker c.find_for_call.result _ _ (λ e steps. took_on g.J.Naming c.args.self.now
     c.enter.new.self n c.in_ok-number.ensures i.line i.watcher i.drawer i.phase c.self.view_is
-    c.find_for_call.new.me _ _ (Action.Call n (Target.Named c.args.name.now None) c.args.call.now (Err e))
+    c.find_for_call.new.me _ _ (Action.Call n (Target.Named c.args.name.now None) c.args.call.now
+    (Err e))
     (None, refl) steps) c.find_for_call.ensures.err

@@ -1,4 +1,3 @@
-use Rattle.std.proofs.Common.{refl}
 use Rattle.clients.proofs.Visits.{own_held, found_client}
 use Rattle.clients.proofs.client.Client.find_newest.Goals as goal
 

@@ -16,7 +16,8 @@ later-requires g c = record {
       entered_own g.J.Naming c.args.self.now c.enter.new.self c.in-Ok.number c.in-Ok.ensures i.line
       i.watcher i.drawer i.phase c.self.view_is c.self.invariant.own;
   place = c.requires.place;
-  looked = subst (λ n. IsLookedLater g.B.Shelf.Boosted.meaning c.args.held.now n c.args.at c.args.call.now c.args.looked)
+  looked = subst (λ n. IsLookedLater g.B.Shelf.Boosted.meaning c.args.held.now n c.args.at
+      c.args.call.now c.args.looked)
       (entered_number g.J.Naming c.args.self.now.phase c.args.self.now c.enter.new.self
       c.in-Ok.number c.in-Ok.ensures) c.requires.looked;
 }

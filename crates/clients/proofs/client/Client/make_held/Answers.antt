@@ -1,4 +1,3 @@
-use Rattle.std.proofs.Common.{refl}
 use Rattle.clients.proofs.Visits.{steps_on}
 use Rattle.clients.proofs.client.Client.make_held.Goals as goal
 

@@ -1,7 +1,7 @@
 use Rattle.std.proofs.Common.{sym, subst, refl}
 use Rattle.txn.specs.Rows.{opening}
-use Rattle.clients.specs.Known.{IsSeen}
-use Rattle.clients.proofs.Owning.{owned_none}
+use Rattle.desks.specs.Seen.{IsSeen}
+use Rattle.desks.proofs.Owning.{owned_none}
 use Rattle.clients.proofs.client.Client.new.Goals as goal
 
 pub invariant_of-result : goal.invariant_of-result

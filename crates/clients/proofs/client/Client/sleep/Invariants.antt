@@ -5,4 +5,5 @@ use Rattle.clients.proofs.client.Client.sleep.Given as goal
 
 -- counts and flags were loaded
 abbrev pub invariant-loop : goal.invariant-loop
-invariant-loop g l = (counts : List Raised) × (flags : List Bool) × Hears l.fn.self counts flags l.self
+invariant-loop g l = (counts : List Raised) × (flags : List Bool) ×
+    Hears l.fn.self counts flags l.self

@@ -1,5 +1,5 @@
 use Rattle.std.proofs.Common.{◌≡◌, ℕ}
-use Rattle.clients.specs.Known.{Grows}
+use Rattle.desks.specs.Seen.{Grows}
 use Rattle.clients.specs.Calls.{Moves, backs}
 use Rattle.clients.proofs.client.Client.undo.Given as goal
 

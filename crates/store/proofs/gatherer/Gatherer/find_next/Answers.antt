@@ -1,5 +1,5 @@
 use Rattle.std.proofs.Common.{refl}
-use Rattle.clients.proofs.Owning.{drawn_beside}
+use Rattle.desks.proofs.Owning.{drawn_beside}
 use Rattle.store.proofs.Copied.{given_none, holds_known}
 use Rattle.store.proofs.gatherer.Gatherer.find_next.Goals as goal
 

@@ -2,8 +2,8 @@ use Rattle.std.proofs.Common.{◌≡◌, ◌∙◌, Some, length, refl, sym, ap,
 use Rattle.catalog.specs.declared.four.Four.{Four}
 use Rattle.catalog.specs.Fours.{which_of, pick}
 use Rattle.group_commit.specs.Twins.{EndState}
-use Rattle.clients.specs.Touches.{Leads, IsJournalDesk}
-use Rattle.clients.proofs.Owning.{drawn_beside}
+use Rattle.desks.specs.Touches.{Leads, IsJournalDesk}
+use Rattle.desks.proofs.Owning.{drawn_beside}
 use Rattle.store.specs.Gatherers.{GathererState, IsGivenTo}
 use Rattle.store.proofs.Copied.{given_copy, put_back, holds_known}
 use Rattle.store.proofs.gatherer.Gatherer.gather_copy.Goals as goal

@@ -1,5 +1,5 @@
 use Rattle.std.proofs.Common.{sym, subst}
-use Rattle.clients.specs.Told.{told_book}
+use Rattle.desks.specs.Told.{told_book}
 use Rattle.store.specs.Openings.{OpenedState, IsNamed}
 use Rattle.store.proofs.Opening.{named_book}
 use Rattle.store.proofs.VaultSteps.{vault_opens}

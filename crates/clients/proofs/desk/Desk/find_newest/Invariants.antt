@@ -1,9 +1,0 @@
-use Rattle.txn.specs.declared.steps.Action.{Action}
-use Rattle.clients.specs.Known.{step_of}
-use Rattle.clients.proofs.desk.Desk.find_newest.Given as goal
-
--- the step that was taken
-abbrev pub ghosts-note : goal.ghosts-note
-ghosts-note g a = record {
-  step = step_of a.me.now.number (Action.Back a.parts.now.0 a.parts.now.1.now);
-}

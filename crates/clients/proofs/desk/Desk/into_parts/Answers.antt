@@ -1,4 +1,0 @@
-use Rattle.clients.proofs.desk.Desk.into_parts.Goals as goal
-
-pub returns : goal.returns
-returns g c = (c.self.inside.near, c.self.invariant.0)

@@ -1,8 +1,0 @@
-use Rattle.std.proofs.Common.{subst}
-use Rattle.shelf.specs.Looks.{IsLooked}
-use Rattle.clients.proofs.shelf_desk.ShelfDesk.look.Goals as goal
-
-pub returns : goal.returns
-returns g c =
-    subst (λ s. IsLooked g.B.Shelf.Boosted.meaning c.args.format s c.args.number c.args.at
-    c.args.call.now c.look.result) c.self.view_is c.look.ensures

@@ -1,0 +1,10 @@
+pub mod Ends
+pub mod Recording
+pub mod Telling
+pub mod Gathered
+pub mod Owning
+pub mod DeskSteps
+pub mod Touching
+pub mod ShelfSteps
+pub mod Settling
+pub mod Unsettled

@@ -1,0 +1,20 @@
+use Rattle.std.proofs.Common.{Some}
+use Rattle.txn.specs.declared.steps.Action.{Action}
+use Rattle.desks.specs.Seen.{step_of}
+use Rattle.desks.proofs.desk.Desk.back.Given as goal
+
+-- the touch of the step, with what it left on the shelf
+abbrev pub ghosts-note_touch : goal.ghosts-note_touch
+ghosts-note_touch g a = record {
+  touch = record {
+    step = Some (step_of a.parts.now.0.now.number
+        (Action.Back a.parts.now.1.now.0 a.parts.now.1.now.1.now));
+    left = Some a.left.now;
+  };
+}
+
+-- the step that was taken
+abbrev pub ghosts-note : goal.ghosts-note
+ghosts-note g a = record {
+  step = step_of a.me.now.number (Action.Back a.parts.now.0 a.parts.now.1.now);
+}

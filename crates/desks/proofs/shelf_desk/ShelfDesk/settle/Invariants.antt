@@ -1,0 +1,5 @@
+use Rattle.std.specs.Prelude.{None, Some}
+use Rattle.desks.proofs.shelf_desk.ShelfDesk.settle.Given as goal
+
+abbrev pub ghosts-note_touch : goal.ghosts-note_touch
+ghosts-note_touch g a = record { touch = record { step = None; left = Some a.left.now } }

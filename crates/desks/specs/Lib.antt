@@ -1,0 +1,9 @@
+pub mod Desks
+pub mod NoStore
+pub mod Notes
+pub mod Origins
+pub mod Owners
+pub mod Seen
+pub mod Statuses
+pub mod Told
+pub mod Touches

@@ -1,0 +1,374 @@
+// What lies under the journal's lock.
+ghost use Rattle.std.specs.Prelude.{◌≡◌, [], ◌∷◌, ◌++◌, Some, None, IfOk, IfErr};
+ghost use Rattle.std.specs.Prelude.{IsOkUnless, ◌⊎◌, ◌≤◌, Contains};
+ghost use Rattle.calls.specs.declared.refusal.Refusal.{Refusal};
+ghost use Rattle.calls.specs.Limits.{max_body};
+ghost use Rattle.catalog.specs.declared.four.Four.{Four};
+ghost use Rattle.catalog.specs.Fours.{Which, pick};
+ghost use Rattle.shelf.specs.Shelves.{ShelfState};
+ghost use Rattle.txn.specs.declared.steps.Action.{Action};
+ghost use Rattle.txn.specs.Books.{opened, CutAnswers};
+ghost use Rattle.txn.specs.Shelved.{book_state, IsBook, IsJournal};
+ghost use Rattle.group_commit.specs.Accords.{AccordState, nothing_gathered};
+ghost use Rattle.group_commit.specs.Lines.{mine_of, stepped, seeing};
+ghost use Rattle.group_commit.specs.Marks.{new_watcher};
+ghost use Rattle.group_commit.specs.Orders.{WasFull};
+ghost use mathlib.Core.List.{IsPrefix};
+ghost use Rattle.desks.specs.Seen.{Steps};
+ghost use Rattle.desks.specs.Notes.{IsSent};
+ghost use Rattle.desks.specs.Told.{told_book};
+ghost use Rattle.desks.specs.Touches.{Leads, IsJournalDesk};
+
+use crate::extent::Extent;
+use crate::naming::Naming;
+use crate::room::Room;
+use crate::shared::Shared;
+use crate::signal::Signal;
+use crate::touch::Touch;
+use blocks::NextBlock;
+use calls::Refusal;
+use catalog::{Four, Parts};
+use group_commit::{
+    BookSeat, ClientSeat, Drawer, DrawerMaker, Handoff, Line, Near, OneStep, Outgoing, Sender,
+    TwinNear, Watcher,
+};
+use records::Coded;
+use shelf::Shelf;
+use std::marker::{Brand, Model, PhantomData};
+use std::snapshot::Snapshot;
+use std::sync::Wait;
+use txn::Journal;
+
+/// The journal, with the near ends of the twins by which it knows what the shelves hold, and the
+/// seats of its history, of the hand-off's sending end, of what is gathered of the book for an
+/// image, and of what makes clients. What lies under a lock is known by its type: contracts see
+/// nothing else of it.
+pub struct Desk<J: Naming, B: Coded> {
+    pub journal: Journal<B>,
+    pub nears: Four<TwinNear<Touch<Shelf<B::Shelf>>>>,
+    pub seat: BookSeat,
+    pub sender: Sender,
+    pub near: Near,
+    maker: DrawerMaker,
+    watcher: Watcher,
+    // how many records the undoing takes, at most, of what was live behind the last block
+    undoing: u64,
+    // how far the area in use was filled when that was last told
+    pub(crate) extent: Extent,
+    of: PhantomData<J>,
+}
+
+// Written out, so that the crates above call it in place of proving it again.
+impl<J: Naming, B: Coded> Drop for Desk<J, B> {
+    fn drop(self) {
+        let Self {
+            journal,
+            nears,
+            seat,
+            sender,
+            near,
+            maker,
+            watcher,
+            undoing: _undoing,
+            extent: _extent,
+            of: _of,
+        } = self;
+        drop(journal);
+        drop(nears);
+        drop(seat);
+        drop(sender);
+        drop(near);
+        drop(maker);
+        drop(watcher);
+    }
+}
+
+impl<J: Naming, B: Coded> Model for Desk<J, B> {
+    ghost use Rattle.std.specs.Prelude.{◌≡◌};
+    ghost use Rattle.desks.specs.Desks.{IsDrawn};
+    ghost use Rattle.desks.specs.Touches.{IsJournalDesk};
+
+    ghost Value = { Unit {0} };
+
+    ghost view = { λ d. tt };
+
+    ghost invariant = { λ d.
+        IsJournalDesk ⟦<J as Naming>⟧ B.meaning B.making B.collections B.whole B.fits d.journal
+        d.nears d.seat d.sender d.near
+        × (d.maker.table ≡ J.numbers) × (d.maker.from ≡ J.origin.next) ×
+        (d.watcher.table ≡ J.mark) × IsDrawn d.maker d.seat };
+}
+
+impl<J: Naming, B: Coded> Desk<J, B> {
+    /// The desk of a journal that was just opened, with the near ends that know what its shelves
+    /// hold, where the area in use is filled so far.
+    pub fn new(
+        journal: Journal<B>,
+        nears: Four<TwinNear<Touch<Shelf<B::Shelf>>>>,
+        seat: BookSeat,
+        sender: Sender,
+        near: Near,
+        maker: DrawerMaker,
+        watcher: Watcher,
+        extent: Extent,
+    ) -> Self
+        requires parts { (f : Four (ShelfState B.Shelf)) ×
+            ((w : Which) → (pick nears w).table ≡ pick J.shelves w) ×
+            ((w : Which) → Leads (pick nears w) (pick f w)) ×
+            IsBook B.meaning B.making B.collections B.whole B.fits journal f ×
+            (told_book B.collections (book_state B.whole journal f) ≡
+            opened J.origin.format J.origin.start J.origin.next J.origin.wear) }
+        requires seat { seat ≡ record { table = J.line; all = []; clients = 0 } }
+        requires sender { sender ≡ record { table = J.handoff; sent = []; noted = [] } }
+        requires near { near ≡ record { table = J.gathering; gather = nothing_gathered } }
+        requires maker { maker ≡ record {
+          table = J.numbers;
+          from = J.origin.next;
+          made = 0;
+          reports = [];
+        } }
+        requires watcher { watcher.table ≡ J.mark }
+    {
+        Self {
+            journal,
+            nears,
+            seat,
+            sender,
+            near,
+            maker,
+            watcher,
+            undoing: 0,
+            extent,
+            of: PhantomData,
+        }
+    }
+
+    /// Makes a number live, which the client's drawer drew: a step of the client. The journal's side
+    /// learns what the drawer drew. It calls no device.
+    ///
+    /// The refusals of `Journal::enter`, which leave the journal as before. They are noted.
+    pub fn enter(
+        &mut self,
+        shared: &Shared<J>,
+        me: &mut ClientSeat,
+        drawer: &mut Drawer,
+        number: u64,
+    ) -> Result<(), Refusal>
+        requires line { me.old.table ≡ J.line }
+        requires drawer { (drawer.old.table ≡ J.numbers) × (drawer.old.number ≡ me.old.number) }
+        requires drawn { Contains drawer.old.drawn number }
+        ensures step { Steps J.origin me.old (Action.Enter number result) me.new }
+        ensures drawer { drawer.new ≡ drawer.old }
+    {
+        shared.numbers.report(&mut self.maker, drawer);
+        let entered = self.journal.enter(number);
+        note::<Brand, _>(&shared.line, &mut self.seat, me, &(number, &entered));
+        wake(&shared.signal, &self.journal, false);
+        entered
+    }
+
+    /// Hands a block over, a step of no client. NotNow, only where four were in transit.
+    pub fn cut<R: Wait>(&mut self, rt: &R, shared: &Shared<J>) -> Result<bool, Refusal>
+        ensures { IsOkUnless result Refusal.NotNow }
+    {
+        let before = Snapshot::of(&self.journal);
+        let records = self.journal.next_block().map_or(0, |next| next.records);
+        let cut = cut_into(rt, &shared.handoff, &mut self.journal, &mut self.sender);
+        self.undoing = self.undoing.saturating_add(records);
+        shared.signal.cut(self.journal.waiting());
+        note_alone::<Brand, _>(
+            &shared.line,
+            &mut self.seat,
+            &(&before, &self.journal, &cut),
+        );
+        cut
+    }
+
+    /// Hands a block over as `cut` does, where the area's image covers it, or where it fits into
+    /// the room, and behind it the undoing of all that is live then, in blocks of 64 records; none
+    /// where four are in transit. How many records that takes is not told too small; it is counted
+    /// anew, by a look at all that is live, where what is known of it does not fit. It takes no
+    /// memory. How far the area in use is filled is noted for `status`.
+    ///
+    /// Imaging where the block is past the image that is being written, or does not fit while one
+    /// is; Full where it does not fit. Nothing is handed over then.
+    pub fn cut_within<R: Wait>(
+        &mut self,
+        rt: &R,
+        shared: &Shared<J>,
+        room: Room,
+        extent: Extent,
+    ) -> Result<(), Refusal>
+        ensures { IfErr result (λ e. (e ≡ Refusal.Imaging) ⊎ (e ≡ Refusal.Full)) }
+    {
+        self.extent = extent;
+        let Some(next) = self.journal.next_block() else {
+            return Ok(());
+        };
+        let Some(undoing) = undoing_within(&self.journal, self.undoing, next, room) else {
+            return Err(refused_within(room));
+        };
+        if self.cut(rt, shared).is_ok() {
+            self.undoing = undoing;
+        }
+        Ok(())
+    }
+
+    /// The seats of a new client.
+    ///
+    /// Worn where 65,536 were made.
+    pub fn client(&mut self, shared: &Shared<J>) -> Result<(ClientSeat, Watcher, Drawer), Refusal>
+        ensures line { IfOk result (λ r. (r.0.table ≡ J.line) × (r.0.seen ≡ [])) }
+        ensures watcher { IfOk result (λ r. r.1 ≡ new_watcher J.mark) }
+        ensures drawer { IfOk result (λ r. (r.2.table ≡ J.numbers) × (r.2.from ≡ J.origin.next) ×
+            (r.2.drawn ≡ [])) }
+        ensures number { IfOk result (λ r. r.2.number ≡ r.0.number) }
+        ensures worn { IsOkUnless result Refusal.Worn }
+    {
+        let drawer = shared.numbers.drawer(&mut self.maker)?;
+        let line = shared.line.client(&mut self.seat);
+        let watcher = shared.mark.watcher(&mut self.watcher);
+        Ok((line, watcher, drawer))
+    }
+
+    /// How many records the undoing of all that is live takes. It takes no memory.
+    pub fn undoing(&self) -> u64 {
+        self.journal.undoing()
+    }
+
+    /// The journal with the near ends, its seat and the sending end, where no thread shares the
+    /// desk any more. It takes no memory.
+    pub fn into_parts(
+        self,
+    ) -> (
+        Journal<B>,
+        Four<TwinNear<Touch<Shelf<B::Shelf>>>>,
+        BookSeat,
+        Sender,
+    )
+        ensures { (near : AccordState) × IsJournalDesk ⟦<J as Naming>⟧ B.meaning B.making
+            B.collections B.whole B.fits result.0 result.1 result.2 result.3 near }
+    {
+        let Self {
+            journal,
+            nears,
+            seat,
+            sender,
+            near,
+            maker,
+            watcher,
+            undoing: _undoing,
+            extent: _extent,
+            of: _of,
+        } = self;
+        drop(near);
+        drop(maker);
+        drop(watcher);
+        (journal, nears, seat, sender)
+    }
+
+    /// A new watcher of the mark.
+    pub fn watcher(&mut self, shared: &Shared<J>) -> Watcher
+        ensures { result ≡ new_watcher J.mark }
+    {
+        shared.mark.watcher(&mut self.watcher)
+    }
+}
+
+/// The step that W names stands at the end of the history, a step of no client. Its parts are there
+/// for who picks W.
+pub fn note_alone<W: OneStep, T>(line: &Line, seat: &mut BookSeat, parts: &T)
+    requires book { seat.old.table ≡ line.now }
+    requires step { W.step.client ≡ None }
+    ensures book { seat.new ≡ stepped seat.old W.step }
+{
+    let _ = parts;
+    line.tally_alone::<W>(seat);
+}
+
+// How many records the undoing takes, at most, of what is live behind the next block, where that
+// can be handed over: the image of the area covers it; or both fit into the room and it is not past
+// the image that is being written. `before` so many behind the last block. A record makes one more
+// to undo at most. Where the block has all that waits, they can be counted.
+fn undoing_within<B: Coded>(
+    journal: &Journal<B>,
+    before: u64,
+    next: NextBlock,
+    room: Room,
+) -> Option<u64>
+    requires kept { IsJournal B.meaning B.making B.collections B.whole B.fits journal.now }
+    requires body { next.body ≤ max_body }
+{
+    let behind = (journal.waiting() as u64).saturating_sub(next.records);
+    let end = journal.position().saturating_sub(behind);
+    let most = before.saturating_add(next.records);
+    if room.covers(end) {
+        return Some(most);
+    }
+    if room.is_past_image(end) {
+        return None;
+    }
+    if room.fits(next.body, most) {
+        return Some(most);
+    }
+    let counted = if behind == 0 { journal.undoing() } else { most };
+    room.fits(next.body, counted).then_some(counted)
+}
+
+// Why a block is not handed over.
+fn refused_within(room: Room) -> Refusal
+    ensures { (result ≡ Refusal.Imaging) ⊎ (result ≡ Refusal.Full) }
+{
+    match room.image_end {
+        Some(_) => Refusal::Imaging,
+        None => Refusal::Full,
+    }
+}
+
+// Wakes the committer behind a step of a client: one that committed or made something, and each one
+// behind which many records wait, also where it was refused for that.
+pub(crate) fn wake<B: Coded>(signal: &Signal, journal: &Journal<B>, is_placed: bool) {
+    signal.left(journal.waiting());
+    if is_placed {
+        signal.committed();
+    }
+}
+
+// Hands a block of the journal over at the sending end.
+fn cut_into<B: Coded, R: Wait>(
+    rt: &R,
+    handoff: &Handoff,
+    journal: &mut Journal<B>,
+    sender: &mut Sender,
+) -> Result<bool, Refusal>
+    requires table { sender.old.table ≡ handoff.now }
+    requires kept { IsJournal B.meaning B.making B.collections B.whole B.fits journal.old }
+    ensures answer { (f : Four (ShelfState B.Shelf)) →
+        IsBook B.meaning B.making B.collections B.whole B.fits journal.old f →
+        CutAnswers (book_state B.whole journal.old f) (λ bs. IsSent sender.old bs sender.new)
+        (WasFull sender.old.sent) result (book_state B.whole journal.new f) }
+    ensures kept { (f : Four (ShelfState B.Shelf)) →
+        IsBook B.meaning B.making B.collections B.whole B.fits journal.old f →
+        IsBook B.meaning B.making B.collections B.whole B.fits journal.new f }
+{
+    let mut out = Outgoing {
+        rt,
+        handoff,
+        sender,
+    };
+    journal.cut(&mut out)
+}
+
+// The step that W names stands at the end of the history. Its parts are there for who picks W.
+pub(crate) fn note<W: OneStep, T>(line: &Line, seat: &mut BookSeat, me: &mut ClientSeat, parts: &T)
+    requires book { seat.old.table ≡ line.now }
+    requires client { me.old.table ≡ line.now }
+    requires step { W.step.client ≡ Some me.old.number }
+    ensures book { seat.new ≡ stepped seat.old W.step }
+    ensures client { me.new ≡ seeing me.old seat.new.all }
+    ensures seen { IsPrefix me.old.seen seat.old.all }
+    ensures mine { mine_of me.new ≡ mine_of me.old ++ W.step ∷ [] }
+{
+    let _ = parts;
+    line.tally::<W>(seat, me);
+}
