@@ -26,7 +26,6 @@ use Rattle.desks.specs.declared.naming.Naming as namings
 use Rattle.txn.specs.Books.{standing}
 use Rattle.txn.specs.declared.steps.BookStep.{BookStep}
 use Rattle.txn.specs.Histories.{committed_by}
-use Rattle.txn.specs.Rows.{opening}
 use Rattle.store.specs.Closing.{WasKept}
 use Rattle.background.specs.Works.{IsSaid, AreSaid, AreParts, AreTold}
 use Rattle.background.specs.Works.{IsClosed, WasOpened}
