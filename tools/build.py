@@ -4,6 +4,7 @@
 the program. `build.py unproved CRATE [WORD ..]` does that for the program of another crate, which is run once
 with these words, and prints where the program is kept. The status is 0, or 5 where nothing was built."""
 import errno
+import fcntl
 import glob
 import os
 import re
@@ -11,9 +12,13 @@ import signal
 import subprocess
 import sys
 import tempfile
+import threading
 import time
 
 TOP = os.path.dirname(os.path.dirname(os.path.abspath(__file__)))
+sys.path.insert(0, os.path.join(TOP, 'tools'))
+from crates import crates_up_to, dependencies
+
 CRATE = os.path.join(TOP, 'crates', 'boost_main')
 OUT = os.path.join(CRATE, 'out')
 LOG = os.path.join(OUT, 'build.log')
@@ -25,6 +30,48 @@ COUNTED = re.compile(r'logic=proved functions=(\d+)')
 def fail(why):
     print(f'boost: {why}', file=sys.stderr)
     sys.exit(5)
+
+
+class Clock:
+    """Tells each ten seconds how long something has taken: in one line of a terminal, else in a line each time."""
+
+    def __init__(self, what):
+        self.what, self.began = what, time.monotonic()
+        self.is_terminal = sys.stderr.isatty()
+        self.is_over = threading.Event()
+        self.thread = threading.Thread(target=self.run, daemon=True)
+
+    def __enter__(self):
+        self.thread.start()
+
+    def __exit__(self, *error):
+        self.is_over.set()
+        self.thread.join()
+        if self.is_terminal:
+            print('\r\x1b[K', end='', file=sys.stderr, flush=True)
+
+    def run(self):
+        while not self.is_over.wait(10):
+            line = f'boost: {self.what}, {int(time.monotonic() - self.began)} seconds'
+            print(f'\r{line}\x1b[K' if self.is_terminal else line, end='' if self.is_terminal else '\n', file=sys.stderr, flush=True)
+
+
+def take_turn():
+    """Waits until no other build runs here: its lock is held to the end of this process. Whether there was one."""
+    lock = os.open(os.path.join(OUT, 'build.lock'), os.O_WRONLY | os.O_CREAT | os.O_CLOEXEC, 0o644)
+    try:
+        fcntl.flock(lock, fcntl.LOCK_EX | fcntl.LOCK_NB)
+        return False
+    except BlockingIOError:
+        with Clock('another build runs here'):
+            fcntl.flock(lock, fcntl.LOCK_EX)
+        return True
+
+
+def is_built_since(began, name):
+    """Whether another build has left that program meanwhile."""
+    path = os.path.join(OUT, name)
+    return os.path.exists(path) and os.path.getmtime(path) >= began
 
 
 # ---- before any proof
@@ -108,22 +155,6 @@ def build_unproved_of(crate, words):
 # ---- with a proof
 
 
-def dependencies():
-    """Each crate of crates.txt with what it stands on."""
-    with open(os.path.join(TOP, 'crates.txt'), encoding='utf-8') as file:
-        rows = [line.split(':') for line in file if ':' in line and not line.startswith('#')]
-    return {crate: below.split() for crate, below in rows}
-
-
-def crates_up_to(name, needs):
-    """The crates on which one stands, and it, in the order in which the toolchain builds them."""
-    found = []
-    for below in needs[name]:
-        if below in needs:
-            found += [crate for crate in crates_up_to(below, needs) if crate not in found]
-    return [*found, name]
-
-
 class Progress:
     """How far a build is: in one line of a terminal, else in a line for each crate."""
 
@@ -178,13 +209,24 @@ def build_proved():
     return is_built
 
 
+def build(kind):
+    """Builds the program, unless a build that this one waited for has left it."""
+    began = time.time()
+    if take_turn() and is_built_since(began, 'boost_main' if kind == 'proved' else 'unproved'):
+        return True
+    if kind == 'proved':
+        return build_proved()
+    with Clock('building the program'):
+        return build_unproved()
+
+
 def main():
     os.makedirs(OUT, exist_ok=True)
     try:
         if sys.argv[1:2] == ['unproved'] and len(sys.argv) > 2:
             build_unproved_of(sys.argv[2], sys.argv[3:])
             return
-        is_built = build_proved() if sys.argv[1:] == ['proved'] else build_unproved()
+        is_built = build(sys.argv[1])
     except FileNotFoundError as error:
         if error.filename != 'rt':
             raise

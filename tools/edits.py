@@ -1,10 +1,12 @@
 #!/usr/bin/env python3
-"""edits.py CRATE [WORD..]: tries the crate's must-fail edits (those whose names contain a WORD) as the gate does, and times each.
+"""edits.py CRATE [WORD..]: tries the crate's edits (those whose names contain a WORD) as the gate does, and times each: those of
+`must-fail/`, which the gate tries too, and those of `edits/`, which it leaves out.
 
 Each is tried over a copy of what the last check kept, so check the crate first. A line tells the processor seconds, the
 seconds, the modules that took most of these, and what refused the edit. With --anew as the one WORD it times a check of the
 crate from nothing, in processor seconds: the one measure that says whether an answer made a proof cheaper.
 """
+import glob
 import importlib.machinery
 import importlib.util
 import os
@@ -53,9 +55,14 @@ def from_nothing(rt, crate, room):
     print(f"{used():.1f} processor seconds:", ran.stdout.rstrip().split("\n")[-1][:40])
 
 
+def edits_of(crate):
+    """The files of the crate's edits: those that the gate tries, and behind them the others."""
+    return [file for folder in ("must-fail", "edits") for file in sorted(glob.glob(f"{crate.folder}/{folder}/*.edit"))]
+
+
 def edits(rt, crate, words, room):
     """Tries the crate's edits, one after another."""
-    for edit in rt.edits_of(crate)[0]:
+    for edit in edits_of(crate):
         name = os.path.basename(edit)
         if words and not any(word in name for word in words):
             continue

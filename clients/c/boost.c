@@ -16,58 +16,163 @@
 #include <time.h>
 #include <unistd.h>
 
-enum { LONGEST = 4095, BUSY = 9, TOO_MANY_LIVE = 12, BACKLOG = 14 };
+enum { LONGEST = 4095, BUSY = 9, TOO_MANY_LIVE = 12, BACKLOG = 14, PIECE = 4096 };
+
+/* What each line of a server begins with that is of no client. */
+static const char NOBODY[] = "- ";
 
 struct boost {
-    int to;            /* where lines go */
-    FILE *answers;     /* where answers come from */
+    int to, from;      /* where lines go and answers come from; -1 once the client is out of step */
     const char *tag;   /* what each line begins with: "c1 " of a child, "" at a door */
     pid_t child;       /* the server, where it is a child; else 0 */
-    char *answer;      /* the last line that came, and its room */
-    size_t room;
+    pid_t owner;       /* the process that made the client */
+    int timeout;       /* seconds for an answer; 0: for ever */
+    char *bytes;       /* what was read and not used yet, behind the last answer, and the room for it */
+    size_t used, held, room;
 };
+
+static double now(void)
+{
+    struct timespec time;
+    clock_gettime(CLOCK_MONOTONIC, &time);
+    return (double)time.tv_sec + (double)time.tv_nsec / 1e9;
+}
 
 /* ---- lines */
 
-static int write_all(int file, const char *text, size_t size)
+static void close_file(int *file)
+{
+    if (*file >= 0)
+        close(*file);
+    *file = -1;
+}
+
+/* The client is out of step: nothing more is sent or read. */
+static const char *give_up(struct boost *store, int why)
+{
+    close_file(&store->to);
+    close_file(&store->from);
+    errno = why;
+    return NULL;
+}
+
+/* Waits until a file can be read or written, up to the end that is given; 0 where that has passed, -1 where it cannot be had. */
+static int wait_for(int file, short events, double end)
+{
+    struct pollfd waited = { .fd = file, .events = events };
+    for (;;) {
+        double left = end - now();
+        int milliseconds = end == 0 ? -1 : left > 0 ? (int)(left * 1000) + 1 : 0;
+        int ready = poll(&waited, 1, milliseconds);
+        if (ready >= 0 || errno != EINTR)
+            return ready;
+    }
+}
+
+/* Writes all of a text, up to the end that is given. */
+static int write_within(int file, const char *text, size_t size, double end)
 {
     while (size > 0) {
-        ssize_t written = write(file, text, size);
-        if (written < 0 && errno == EINTR)
-            continue;
-        if (written < 0)
+        int ready = wait_for(file, POLLOUT, end);
+        if (ready <= 0) {
+            errno = ready == 0 ? ETIMEDOUT : errno;
             return -1;
-        text += written;
-        size -= (size_t)written;
+        }
+        ssize_t written = write(file, text, size);
+        if (written < 0 && errno != EINTR && errno != EAGAIN)
+            return -1;
+        if (written > 0) {
+            text += written;
+            size -= (size_t)written;
+        }
     }
     return 0;
 }
 
-/* The next line without its line feed and without the tag; NULL at the end. */
-static const char *next_line(struct boost *store)
+/* Makes room for a piece more behind what is held. */
+static int make_room(struct boost *store)
 {
-    ssize_t size = getline(&store->answer, &store->room, store->answers);
-    if (size <= 0 || store->answer[size - 1] != '\n')
-        return NULL;
-    store->answer[size - 1] = '\0';
-    size_t tag = strlen(store->tag);
-    return strncmp(store->answer, store->tag, tag) == 0 ? store->answer + tag : store->answer;
+    memmove(store->bytes, store->bytes + store->used, store->held - store->used);
+    store->held -= store->used;
+    store->used = 0;
+    if (store->room - store->held >= PIECE)
+        return 0;
+    char *more = realloc(store->bytes, 2 * store->room + PIECE);
+    if (more == NULL)
+        return -1;
+    store->bytes = more;
+    store->room = 2 * store->room + PIECE;
+    return 0;
+}
+
+/* Reads a piece more, up to the end that is given. A part of a line at the end of all is none. */
+static int read_more(struct boost *store, double end)
+{
+    if (make_room(store) != 0)
+        return -1;
+    for (;;) {
+        int ready = wait_for(store->from, POLLIN, end);
+        if (ready <= 0) {
+            errno = ready == 0 ? ETIMEDOUT : errno;
+            return -1;
+        }
+        ssize_t size = read(store->from, store->bytes + store->held, store->room - store->held);
+        if (size > 0) {
+            store->held += (size_t)size;
+            return 0;
+        }
+        if (size == 0) {
+            errno = EPIPE;
+            return -1;
+        }
+        if (errno != EINTR && errno != EAGAIN)
+            return -1;
+    }
+}
+
+/* The next line without its line feed and without the tag; NULL, and the client is out of step, where it does not come. */
+static const char *next_line(struct boost *store, double end)
+{
+    size_t looked = store->used;
+    char *feed;
+    while ((feed = memchr(store->bytes + looked, '\n', store->held - looked)) == NULL) {
+        size_t seen = store->held - store->used;
+        if (read_more(store, end) != 0)
+            return give_up(store, errno);
+        looked = store->used + seen;
+    }
+    char *line = store->bytes + store->used;
+    *feed = '\0';
+    store->used = (size_t)(feed + 1 - store->bytes);
+    const char *tag = strncmp(line, NOBODY, strlen(NOBODY)) == 0 ? NOBODY : store->tag;
+    return strncmp(line, tag, strlen(tag)) == 0 ? line + strlen(tag) : line;
+}
+
+static double end_of(const struct boost *store)
+{
+    return store->timeout > 0 ? now() + store->timeout : 0;
 }
 
 static const char *ask(struct boost *store, const char *format, va_list words)
 {
-    char line[LONGEST + 8];
+    if (store->owner != getpid() || store->to < 0) {
+        errno = store->owner != getpid() ? EPERM : EPIPE;
+        return NULL;
+    }
+    char line[LONGEST + 2];
     int tag = snprintf(line, sizeof line, "%s", store->tag);
-    size_t room = sizeof line - (size_t)tag - 1;
-    int size = vsnprintf(line + tag, room, format, words);
+    int size = vsnprintf(line + tag, sizeof line - (size_t)tag, format, words);
     if (size < 0)
         return NULL;
-    if (size > LONGEST)
+    if (tag + size > LONGEST)
         return "error LineTooLong";
+    if (memchr(line, '\n', (size_t)(tag + size)) != NULL)
+        return "error NotUnderstood";
     line[tag + size] = '\n';
-    if (write_all(store->to, line, (size_t)(tag + size + 1)) != 0)
-        return NULL;
-    return next_line(store);
+    double end = end_of(store);
+    if (write_within(store->to, line, (size_t)(tag + size + 1), end) != 0)
+        return give_up(store, errno);
+    return next_line(store, end);
 }
 
 const char *boost_ask(struct boost *store, const char *format, ...)
@@ -79,9 +184,14 @@ const char *boost_ask(struct boost *store, const char *format, ...)
     return answer;
 }
 
+void boost_set_timeout(struct boost *store, int seconds)
+{
+    store->timeout = seconds > 0 ? seconds : 0;
+}
+
 int boost_refusal(const char *answer)
 {
-    if (strncmp(answer, "error ", 6) == 0)
+    if (answer == NULL || strncmp(answer, "error ", 6) == 0)
         return -1;
     return strncmp(answer, "refused ", 8) == 0 ? atoi(answer + 8) : 0;
 }
@@ -104,24 +214,28 @@ long long boost_number(const char *answer, const char *words)
     return -1;
 }
 
-static double now(void)
+/* Sleeps for a random time, from half of so many microseconds on: so that two do not meet again and again. */
+static void pause_for(unsigned microseconds)
 {
-    struct timespec time;
-    clock_gettime(CLOCK_MONOTONIC, &time);
-    return (double)time.tv_sec + (double)time.tv_nsec / 1e9;
+    unsigned chance = 0;
+    if (getrandom(&chance, sizeof chance, GRND_NONBLOCK) < 0)
+        chance = (unsigned)getpid();
+    unsigned slept = microseconds / 2 + chance % (microseconds / 2);
+    struct timespec time = { .tv_nsec = (long)slept * 1000 };
+    nanosleep(&time, NULL);
 }
 
 const char *boost_try(struct boost *store, int seconds, const char *format, ...)
 {
     double end = now() + seconds;
-    for (useconds_t pause = 200;; pause = pause < 50000 ? pause * 2 : pause) {
+    for (unsigned pause = 200;; pause = pause < 50000 ? pause * 2 : pause) {
         va_list words;
         va_start(words, format);
         const char *answer = ask(store, format, words);
         va_end(words);
         if (answer == NULL || !boost_passes(boost_refusal(answer)) || now() > end)
             return answer;
-        usleep(pause / 2 + (useconds_t)rand() % (pause / 2));     /* so that two do not meet again and again */
+        pause_for(pause);
     }
 }
 
@@ -155,47 +269,87 @@ int boost_unhex(void *value, const char *text)
 
 /* ---- coming in */
 
+/* A client over two files, which are closed where it cannot be made. */
 static struct boost *client(int to, int from, const char *tag, pid_t child)
 {
     struct boost *store = calloc(1, sizeof *store);
-    FILE *answers = store == NULL ? NULL : fdopen(from, "r");
-    if (answers == NULL) {
+    char *bytes = malloc(PIECE);
+    if (store == NULL || bytes == NULL) {
         free(store);
-        close(to);
-        close(from);
+        free(bytes);
+        close(to), close(from);
         return NULL;
     }
-    *store = (struct boost){ .to = to, .answers = answers, .tag = tag, .child = child };
-    signal(SIGPIPE, SIG_IGN);
+    fcntl(to, F_SETFL, O_NONBLOCK);
+    *store = (struct boost){
+        .to = to, .from = from, .tag = tag, .child = child, .owner = getpid(), .bytes = bytes, .room = PIECE,
+    };
     return store;
+}
+
+static int status_of(pid_t child)
+{
+    int status = 0;
+    while (waitpid(child, &status, 0) < 0 && errno == EINTR)
+        continue;
+    return WIFEXITED(status) ? WEXITSTATUS(status) : 128 + WTERMSIG(status);
+}
+
+/* A pipe whose two ends are above 2, so that a child can be given them as its standard input and output. */
+static int pipe_above(int ends[2])
+{
+    int low[2];
+    if (pipe2(low, O_CLOEXEC) != 0)
+        return -1;
+    for (int i = 0; i < 2; i++) {
+        ends[i] = fcntl(low[i], F_DUPFD_CLOEXEC, 3);
+        close(low[i]);
+    }
+    if (ends[0] >= 0 && ends[1] >= 0)
+        return 0;
+    close_file(&ends[0]);
+    close_file(&ends[1]);
+    return -1;
+}
+
+/* Becomes the server. Ctrl-C at a terminal is for the program, which ends the server by itself. */
+static void become(const char *program, const char *disk, int input, int output)
+{
+    setpgid(0, 0);
+    signal(SIGPIPE, SIG_DFL);
+    if (dup2(input, 0) == 0 && dup2(output, 1) == 1)
+        execlp(program, program, "listen", disk, (char *)NULL);
+    _exit(127);
 }
 
 struct boost *boost_start(const char *program, const char *disk)
 {
     int to[2], from[2];
-    if (pipe2(to, O_CLOEXEC) != 0)
+    signal(SIGPIPE, SIG_IGN);
+    if (pipe_above(to) != 0)
         return NULL;
-    if (pipe2(from, O_CLOEXEC) != 0) {
+    if (pipe_above(from) != 0) {
         close(to[0]), close(to[1]);
         return NULL;
     }
     pid_t child = fork();
-    if (child == 0) {
-        dup2(to[0], 0), dup2(from[1], 1);
-        execlp(program, program, "listen", disk, (char *)NULL);
-        _exit(127);
-    }
+    if (child == 0)
+        become(program, disk, to[0], from[1]);
     close(to[0]), close(from[1]);
     if (child < 0) {
         close(to[1]), close(from[0]);
         return NULL;
     }
     struct boost *store = client(to[1], from[0], "c1 ", child);
-    const char *hello = store == NULL ? NULL : next_line(store);
-    if (hello != NULL && strcmp(hello, "- hello boost 1") == 0)
+    if (store == NULL) {
+        status_of(child);
+        errno = ENOMEM;
+        return NULL;
+    }
+    const char *hello = next_line(store, 0);
+    if (hello != NULL && strcmp(hello, "hello boost 1") == 0)
         return store;
-    if (store != NULL)
-        boost_close(store);
+    boost_close(store);
     errno = ECHILD;
     return NULL;
 }
@@ -208,21 +362,22 @@ static int ask_door(const char *folder, const char *text)
     int door = open(path, O_WRONLY | O_NONBLOCK | O_CLOEXEC);
     if (door < 0)
         return -1;
-    int written = write_all(door, text, strlen(text));
+    int written = text[0] == '\0' ? 0 : write_within(door, text, strlen(text), now() + 1);
+    int why = errno;
     close(door);
+    errno = why;
     return written;
 }
 
-/* Says hello, and waits so many seconds for the answer: once a second it looks whether a server is there still. */
-static int say_hello(const char *folder, const char *word, int from, int seconds)
+/* Says hello, behind a line feed that ends what somebody may have left at the door, and waits up to an end for the answer: once a
+ * second it looks whether a server is there still. */
+static int say_hello(const char *folder, const char *word, int from, double end)
 {
     char hello[80];
-    struct pollfd answer = { .fd = from, .events = POLLIN };
-    double end = now() + seconds;
-    snprintf(hello, sizeof hello, "hello %s\n", word);
+    snprintf(hello, sizeof hello, "\nhello %s\n", word);
     for (int asked = ask_door(folder, hello); asked == 0; asked = ask_door(folder, "")) {
-        double left = end - now();
-        if (poll(&answer, 1, left > 1 ? 1000 : left > 0 ? (int)(left * 1000) : 0) > 0)
+        double second = now() + 1;
+        if (wait_for(from, POLLIN, second < end ? second : end) > 0)
             return 0;
         if (now() >= end) {
             errno = ETIMEDOUT;
@@ -234,41 +389,60 @@ static int say_hello(const char *folder, const char *word, int from, int seconds
 
 /* Comes in over two FIFOs that are there. What is opened for both ways does not wait for the other side, and holds a FIFO open
  * until its other end is. */
-static struct boost *come_in(const char *folder, const char *word, const char *to_path, const char *from_path, int seconds)
+static struct boost *come_in(const char *folder, const char *word, const char *to_path, const char *from_path, double end)
 {
     int held = open(to_path, O_RDWR | O_CLOEXEC), guard = open(from_path, O_RDWR | O_CLOEXEC);
     int to = open(to_path, O_WRONLY | O_CLOEXEC), from = open(from_path, O_RDONLY | O_CLOEXEC);
-    int here = held >= 0 && guard >= 0 && to >= 0 && from >= 0 && say_hello(folder, word, from, seconds) == 0;
+    int here = held >= 0 && guard >= 0 && to >= 0 && from >= 0 && say_hello(folder, word, from, end) == 0;
     int why = errno;
-    close(held), close(guard);
+    close_file(&held);
+    close_file(&guard);
     if (!here) {
-        close(to), close(from);
+        close_file(&to);
+        close_file(&from);
         errno = why;
         return NULL;
     }
     struct boost *store = client(to, from, "", 0);
-    const char *hello = store == NULL ? NULL : next_line(store);
+    const char *hello = store == NULL ? NULL : next_line(store, end);
     if (hello != NULL && strcmp(hello, "hello boost 1") == 0)
         return store;
+    why = errno;
     if (store != NULL)
         boost_close(store);
-    errno = EPROTO;
+    errno = hello != NULL ? EPROTO : why;
     return NULL;
+}
+
+/* Makes a FIFO in a folder: of the folder's group, which may read and write it, where that may write the folder. */
+static int make_fifo(const char *path, const struct stat *folder)
+{
+    int shared = (folder->st_mode & S_IWGRP) != 0;
+    if (mkfifo(path, 0600) != 0)
+        return -1;
+    if (!shared)
+        return 0;
+    struct stat made;
+    if (stat(path, &made) == 0 && made.st_gid != folder->st_gid && chown(path, (uid_t)-1, folder->st_gid) != 0)
+        return -1;
+    return chmod(path, 0660);
 }
 
 struct boost *boost_join_within(const char *folder, int seconds)
 {
     static unsigned count;
     unsigned chance = 0;
+    struct stat found;
     char word[64], to[4096], from[4096];
-    if (getrandom(&chance, sizeof chance, 0) < 0)
+    signal(SIGPIPE, SIG_IGN);
+    if (stat(folder, &found) != 0 || getrandom(&chance, sizeof chance, 0) < 0)
         return NULL;
     snprintf(word, sizeof word, "c-%d-%u-%08x", (int)getpid(), __atomic_fetch_add(&count, 1, __ATOMIC_RELAXED), chance);
     snprintf(to, sizeof to, "%s/%s.to", folder, word);
     snprintf(from, sizeof from, "%s/%s.from", folder, word);
     struct boost *store = NULL;
-    if (mkfifo(to, 0600) == 0 && mkfifo(from, 0600) == 0)
-        store = come_in(folder, word, to, from, seconds);
+    if (make_fifo(to, &found) == 0 && make_fifo(from, &found) == 0)
+        store = come_in(folder, word, to, from, now() + seconds);
     int why = errno;
     unlink(to), unlink(from);                 /* the server has removed them, unless it never came */
     errno = why;
@@ -282,12 +456,16 @@ struct boost *boost_join(const char *folder)
 
 int boost_close(struct boost *store)
 {
-    int status = 0;
-    close(store->to);
-    fclose(store->answers);
-    if (store->child != 0)
-        waitpid(store->child, &status, 0);
-    free(store->answer);
+    int is_parent = store->owner == getpid(), status = 0;
+    if (is_parent && store->child != 0 && store->to < 0)
+        kill(store->child, SIGKILL);                          /* out of step: it may stand still */
+    else if (is_parent && store->child != 0)
+        write_within(store->to, "\nend\n", 5, now() + 1);     /* a forked process may hold the pipe open */
+    close_file(&store->to);
+    close_file(&store->from);
+    if (is_parent && store->child != 0)
+        status = status_of(store->child);
+    free(store->bytes);
     free(store);
-    return WIFEXITED(status) ? WEXITSTATUS(status) : 128 + WTERMSIG(status);
+    return status;
 }

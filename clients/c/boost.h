@@ -4,35 +4,46 @@
  *     const char *answer = boost_ask(store, "keep hits bump %d", 1);    "done; kept 7"
  *     boost_close(store);
  *
- * One thread at a time uses a client. A program that forks opens another one in the child. A write to a server that is gone
- * fails and raises no signal: SIGPIPE is ignored from the first client on. */
+ * One thread at a time uses a client. A client that was made before a fork belongs to the parent: in the child every call of it is NULL
+ * with EPERM, and boost_close only closes what the child inherited, so close it there, and open another one. A write to a server that
+ * is gone fails and raises no signal: SIGPIPE is ignored from the first boost_start or boost_join on. A signal that is handled breaks
+ * no call off. */
 #ifndef BOOST_H
 #define BOOST_H
 
+#ifdef __cplusplus
+extern "C" {
+#endif
+
 struct boost;
 
-/* Starts `PROGRAM listen DISK` as a child of this process, and is its one client. NULL where it does not start: errno is
- * ECHILD then where it ended without a hello. */
+/* Starts `PROGRAM listen DISK` as a child of this process, in a process group of its own, and is its one client. NULL where it does
+ * not start: errno is ECHILD then where it ended without a hello, and else what the system says. */
 struct boost *boost_start(const char *program, const char *disk);
 
 /* Comes by the door of a folder: `boost listen DISK FOLDER`. Where 64 clients are served it waits until one goes, BOOST_PATIENCE
  * seconds, or the seconds that are given. NULL where it cannot: errno is ENXIO or ENOENT then where no server is there, and
  * ETIMEDOUT where the server did not come to it in time: it has 64 clients, or it could not open the FIFOs, and then its standard
- * error says why. */
+ * error says why. Where the folder may be written by its group, so may the client's FIFOs. */
 enum { BOOST_PATIENCE = 60 };
 struct boost *boost_join(const char *folder);
 struct boost *boost_join_within(const char *folder, int seconds);
 
-/* Sends a line, as printf writes it, and gives its answer without the line feed, which stays until the next call. NULL where the
- * server is gone: what was committed and not told kept may be kept or not. A line of over 4,095 bytes is answered
- * `error LineTooLong`. */
+/* From now on an answer is waited for so many seconds at most, 0 or less: for ever, as at first. */
+void boost_set_timeout(struct boost *store, int seconds);
+
+/* Sends a line, as printf writes it, and gives its answer without the line feed, which stays until the next call. A line of over
+ * 4,095 bytes, with the tag that a child's lines have, is answered `error LineTooLong`, and one with a line feed in it
+ * `error NotUnderstood`; neither is sent. NULL where the server is gone (EPIPE), where no answer came in time (ETIMEDOUT), and else
+ * what the system says: what was committed and not told kept may be kept or not. From then on each call is NULL with EPIPE, so no
+ * answer is ever taken for that of another line. */
 const char *boost_ask(struct boost *store, const char *format, ...) __attribute__((format(printf, 2, 3)));
 
 /* Asks again while another transaction is in the way, for so many seconds: for a `do` or a `keep` with calls. The last answer. */
 const char *boost_try(struct boost *store, int seconds, const char *format, ...) __attribute__((format(printf, 3, 4)));
 
-/* The number of the refusal that an answer tells; -1 where the line was not understood or too long, or is the first one behind a
- * silence in which the server took the open transaction back (`error Idle`), and was not carried out; and 0 else. */
+/* The number of the refusal that an answer tells. -1 where the line was not carried out: it was not understood, too long, of no
+ * client, or the first one behind a silence in which the server took the open transaction back (`error Idle`); also of NULL. 0 else. */
 int boost_refusal(const char *answer);
 
 /* Whether the refusal passes by itself: another transaction is in the way, too many are live, or too many records wait. */
@@ -50,7 +61,13 @@ enum { BOOST_VALUE = 1024 };
 char *boost_hex(char *text, const void *value, int size);
 int boost_unhex(void *value, const char *text);
 
-/* Lets the client go: what it had open is taken back. The status of a child, once it has ended; 0 of a server that was joined. */
+/* Lets the client go: what it had open is taken back. A child is told to end, or killed where an answer of it did not come, which loses
+ * nothing that was told kept; its status is given once it has ended, 128 and the signal's number where it was killed. 0 of a server
+ * that was joined. */
 int boost_close(struct boost *store);
+
+#ifdef __cplusplus
+}
+#endif
 
 #endif

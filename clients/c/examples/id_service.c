@@ -1,7 +1,22 @@
-/* id_service PROGRAM DISK: starts a server as a child, draws identifiers, and gives one back. */
+/* id_service PROGRAM DISK: starts a server as a child, draws identifiers, and gives one back. A draw gives the greatest identifier that is
+ * taken and one more: what is given back is drawn again only where it was the greatest. */
 #include "../boost.h"
 
 #include <stdio.h>
+#include <stdlib.h>
+
+enum { NAME_TAKEN = 5 };
+
+/* Ends the program where the store is gone, or refused what no program can do without. */
+static const char *need(const char *answer, int allowed)
+{
+    int refusal = boost_refusal(answer);
+    if (refusal != 0 && refusal != allowed) {
+        fprintf(stderr, "id_service: %s\n", answer == NULL ? "the server is gone" : answer);
+        exit(1);
+    }
+    return answer;
+}
 
 int main(int count, char **words)
 {
@@ -10,14 +25,13 @@ int main(int count, char **words)
         perror("id_service");
         return 1;
     }
-    boost_ask(store, "make pool ids");             /* refused where it is there */
+    need(boost_ask(store, "make pool ids"), NAME_TAKEN);
     for (int i = 0; i < 3; i++) {
-        const char *answer = boost_try(store, 60, "keep ids draw");
         unsigned long long id, place;
-        if (answer == NULL || sscanf(answer, "id %llu; kept %llu", &id, &place) != 2)
+        if (sscanf(need(boost_try(store, 60, "keep ids draw"), 0), "id %llu; kept %llu", &id, &place) != 2)
             return 1;
         printf("drawn %llu\n", id);
     }
-    printf("given back: %s\n", boost_try(store, 60, "keep ids release 0"));
+    printf("given back: %s\n", need(boost_try(store, 60, "keep ids release 0"), 0));
     return boost_close(store);
 }

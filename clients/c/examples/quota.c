@@ -2,7 +2,21 @@
 #include "../boost.h"
 
 #include <stdio.h>
+#include <stdlib.h>
 #include <string.h>
+
+enum { NAME_TAKEN = 5 };
+
+/* Ends the program where the store is gone, or refused what no program can do without. */
+static const char *need(const char *answer, int allowed)
+{
+    int refusal = boost_refusal(answer);
+    if (refusal != 0 && refusal != allowed) {
+        fprintf(stderr, "quota: %s\n", answer == NULL ? "the server is gone" : answer);
+        exit(1);
+    }
+    return answer;
+}
 
 int main(int count, char **words)
 {
@@ -11,14 +25,11 @@ int main(int count, char **words)
         perror("quota");
         return 1;
     }
-    boost_ask(store, "make stock alice");          /* refused where it is there */
-    boost_try(store, 60, "keep later alice fill 250");
+    need(boost_ask(store, "make stock alice"), NAME_TAKEN);
+    need(boost_try(store, 60, "keep later alice fill 250"), 0);
     int granted = 0;
-    for (int i = 0; i < 40; i++) {
-        const char *answer = boost_try(store, 60, "do alice spend %d", 10);
-        granted += answer != NULL && strncmp(answer, "yes", 3) == 0;
-    }
-    const char *left = boost_try(store, 60, "do alice level");
-    printf("%d of 40 asks granted, %s\n", granted, left == NULL ? "gone" : left);
+    for (int i = 0; i < 40; i++)
+        granted += strncmp(need(boost_try(store, 60, "do alice spend %d", 10), 0), "yes", 3) == 0;
+    printf("%d of 40 asks granted, %s\n", granted, need(boost_try(store, 60, "do alice level"), 0));
     return boost_close(store);
 }

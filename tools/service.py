@@ -1,0 +1,154 @@
+#!/usr/bin/env python3
+"""service.py [PROGRAM]: follows contrib/boost.service step by step, as systemd.service(5) says that systemd does, and tries boost-attach.
+
+The unit's commands run with /run/boost and /var/lib/boost in a folder that is gone at the end, as the user who calls; `PROGRAM` stands
+for /usr/local/bin/boost, `./boost` if none is named. Each check prints what it saw; the status is 1 where one fails.
+"""
+import os
+import re
+import signal
+import subprocess
+import sys
+import tempfile
+import time
+
+TOP = os.path.dirname(os.path.dirname(os.path.realpath(__file__)))
+PROGRAM = os.path.realpath(sys.argv[1]) if sys.argv[1:] else os.path.join(TOP, 'boost')
+ATTACH = os.path.join(TOP, 'clients', 'shell', 'boost-attach')
+
+
+def words_of(line):
+    """The words of a command of a unit: quotes are taken away, `\\\\n` is a line feed's two characters, and `$$` is a dollar."""
+    words = [quoted if quoted is not None else plain
+             for quoted, plain in ((m[1], m[2]) for m in re.finditer(r"'([^']*)'|(\S+)", line))]
+    return [word.replace('$$', '$').replace('\\\\', '\\') for word in words]
+
+
+class Unit:
+    """The unit over a folder, with what systemd does of it: start, stop, and the kill of what is left behind a stop."""
+
+    def __init__(self, room):
+        self.run, self.state = os.path.join(room, 'run'), os.path.join(room, 'state')
+        self.commands = {}
+        with open(os.path.join(TOP, 'contrib', 'boost.service'), encoding='utf-8') as file:
+            for line in file:
+                name, mark, text = line.strip().partition('=')
+                if mark and not line.startswith('#'):
+                    self.commands[name] = text.replace('/run/boost', self.run).replace('/var/lib/boost', self.state)
+        os.makedirs(self.run, mode=0o770, exist_ok=True)
+        os.chmod(self.run, int(self.commands['RuntimeDirectoryMode'], 8))
+        os.makedirs(self.state, exist_ok=True)
+        self.main = None
+
+    def environment(self):
+        """The environment of a command: the program and boost-attach are found, and the main process is named while it is known."""
+        found = {**os.environ, 'PATH': os.path.dirname(ATTACH) + ':' + os.environ['PATH']}
+        return {**found, 'MAINPID': str(self.main.pid)} if self.main and self.main.poll() is None else found
+
+    def command(self, name, seconds):
+        """Runs a control command to its end, while a main process that ends is noticed, as systemd does."""
+        running, end = subprocess.Popen(words_of(self.commands[name]), env=self.environment()), time.monotonic() + seconds
+        while running.poll() is None and time.monotonic() < end:
+            if self.main:
+                self.main.poll()
+            time.sleep(0.02)
+        running.kill()
+        return running.wait()
+
+    def start(self):
+        os.umask(int(self.commands['UMask'], 8))
+        assert self.command('ExecStartPre', 10) == 0
+        main = words_of(self.commands['ExecStart'])
+        main[0] = PROGRAM
+        self.main = subprocess.Popen(main, stdin=subprocess.DEVNULL, stderr=subprocess.PIPE, start_new_session=True)
+        return self.command('ExecStartPost', 300)
+
+    def stop(self):
+        """Stops as systemd does: ExecStop, also where the main process has ended, and then a signal for what is left."""
+        began = time.monotonic()
+        status = self.command('ExecStop', 40)
+        is_left = self.main.poll() is None
+        if is_left:
+            os.killpg(self.main.pid, signal.SIGTERM)
+        return status, is_left, self.main.wait(30), time.monotonic() - began
+
+
+def attached(unit, lines):
+    """What a client of boost-attach is answered."""
+    ran = subprocess.run([ATTACH, unit.run, '20'], input=lines, stdout=subprocess.PIPE, text=True, timeout=40, check=False)
+    return ran.returncode, ran.stdout
+
+
+def a_start_is_over_once_the_store_is_open(unit):
+    assert unit.start() == 0
+    assert attached(unit, 'make counter hits\nkeep hits bump 5\nbye\n') == (0, 'hello boost 1\nplace 1\ndone; kept 2\nbye\n')
+    return 'the first client is answered'
+
+
+def a_stop_waits_for_the_end(unit):
+    status, is_left, ended, _ = unit.stop()
+    assert (status, is_left, ended) == (0, False, 0), (status, is_left, ended)
+    return 'the server had ended, with status 0'
+
+
+def a_stop_of_a_dead_server_waits_for_nothing(unit):
+    assert unit.start() == 0
+    os.killpg(unit.main.pid, signal.SIGKILL)
+    unit.main.wait()
+    status, is_left, _, seconds = unit.stop()
+    assert status == 0 and not is_left and seconds < 2, (status, is_left, seconds)
+    return f'{seconds:.1f} s'
+
+
+def attach_ends_with_the_server(unit):
+    assert unit.start() == 0
+    client = subprocess.Popen([ATTACH, unit.run], stdin=subprocess.PIPE, stdout=subprocess.PIPE, text=True)
+    assert client.stdout.readline() == 'hello boost 1\n'
+    os.killpg(unit.main.pid, signal.SIGKILL)
+    unit.main.wait()
+    client.wait(10)
+    client.stdin.close()
+    return f'status {client.returncode}, with its input open'
+
+
+def attach_that_is_killed_keeps_no_lock(unit):
+    assert unit.start() == 0
+    client = subprocess.Popen([ATTACH, unit.run], stdin=subprocess.PIPE, stdout=subprocess.PIPE, text=True)
+    client.stdin.write('begin\ncall hits bump 1\n')
+    client.stdin.flush()
+    while client.stdout.readline() != 'done\n':
+        pass
+    assert attached(unit, 'do hits read\nbye\n')[1].startswith('hello boost 1\nrefused 9 Busy')
+    client.kill()
+    client.wait()
+    for _ in range(50):
+        answer = attached(unit, 'do hits read\nbye\n')[1]
+        if 'Busy' not in answer:
+            break
+        time.sleep(0.1)
+    client.stdin.close()
+    unit.stop()
+    assert answer.startswith('hello boost 1\ntotal 5; place '), answer
+    return 'its transaction was taken back'
+
+
+def a_plain_file_is_no_door(_):
+    with tempfile.TemporaryDirectory() as folder:
+        open(os.path.join(folder, 'door'), 'w', encoding='utf-8').close()
+        ran = subprocess.run([ATTACH, folder], stdin=subprocess.DEVNULL, stderr=subprocess.PIPE, text=True, timeout=10, check=False)
+        assert ran.returncode == 1 and 'no door' in ran.stderr, ran
+        assert os.listdir(folder) == ['door']
+    return 'told, and nothing made'
+
+
+def main():
+    with tempfile.TemporaryDirectory() as room:
+        unit = Unit(room)
+        disk = os.path.join(unit.state, 'disk')
+        subprocess.run([PROGRAM, 'format', disk, '--area', '1048576'], check=True)
+        for check in (a_start_is_over_once_the_store_is_open, a_stop_waits_for_the_end, a_stop_of_a_dead_server_waits_for_nothing,
+                      attach_ends_with_the_server, attach_that_is_killed_keeps_no_lock, a_plain_file_is_no_door):
+            print(f'{check.__name__}: {check(unit)}', flush=True)
+
+
+main()
