@@ -50,7 +50,7 @@ class Place:
         atexit.register(self.server.kill)
         while True:
             try:
-                return boost.join(self.door)._connect().close()
+                return boost.join(self.door).session().close()
             except boost.Gone:
                 assert self.server.poll() is None, 'the server ended'
                 time.sleep(0.01)
@@ -267,7 +267,7 @@ def passed_over():
     with boost.join(place.door) as store:
         store.make('counter', 'hits')
     word = 'py-%d-%d-' % (os.getpid(), next(boost.Pipes.numbers) + 1)
-    assert is_late(boost.Store(lambda: Hidden(place.door, 1), lambda: 0), 1)
+    assert is_late(boost.Store(lambda: Hidden(place.door, 1), lambda _: 0), 1)
     stores = [boost.join(place.door) for _ in range(64)]
     for store in stores:
         store.session()
@@ -326,7 +326,7 @@ def idle_over_input():
     """A client of a parent that is silent with a transaction open has it undone, and is told so at its next line."""
     place = Place()
     with boost.start(PROGRAM, place.disk, '--idle', '1') as store:
-        sessions = [boost.Session(store._connect()) for _ in range(3)]
+        sessions = [boost.Session(store._take(None)) for _ in range(3)]
         idle_ones(sessions.__getitem__)
     assert place.count() == 3
     return 'one undone'

@@ -1,4 +1,7 @@
-"""id_service.py FOLDER: programs draw identifiers side by side. No two have the same one, and one that is given back is drawn again.
+"""id_service.py FOLDER: programs draw identifiers side by side, and no two have the same one.
+
+A draw gives the number after the greatest that is taken. So one that is given back is drawn again only where none above it is
+taken, and each that is taken takes room in the store until it is given back.
 
 A server is at FOLDER: `boost listen DISK FOLDER`.
 """
@@ -23,9 +26,11 @@ def main(folder):
         programs = [multiprocessing.Process(target=draw, args=(folder, drawn)) for _ in range(4)]
         for program in programs:
             program.start()
-        ids = [drawn.get() for _ in range(100)]
+        ids = [drawn.get(timeout=60) for _ in range(100)]
         for program in programs:
             program.join()
+        if any(program.exitcode != 0 for program in programs):
+            sys.exit('a program did not end in good order')
         released = store.keep(lambda t: t.call('ids', 'release', ids[0]))
         print(f'{len(ids)} identifiers drawn, {len(set(ids))} of them different')
         print(f'one given back: {released}')

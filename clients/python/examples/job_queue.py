@@ -23,6 +23,12 @@ def result_of(job):
     return None if job % 25 == 0 else str(job * job).encode()
 
 
+def expect(is_so, otherwise):
+    """Takes the transaction back, and ends, where an answer is another one than there can be."""
+    if not is_so:
+        raise RuntimeError(otherwise)
+
+
 def do_one(t):
     """Picks a job, works while it holds it, and writes what came of it in the same transaction. None where all are done."""
     job = t.call('jobs', 'pick')
@@ -30,11 +36,12 @@ def do_one(t):
         return None
     result = result_of(job)
     if result is not None:
-        assert t.call('results', 'put', job, result) is None, 'a job is done twice'
+        expect(t.call('results', 'put', job, result) is None, 'a job is done twice')
     else:
-        failed = int(t.call('tries', 'get', job) or b'0') + 1
-        t.call('tries', 'put', job, str(failed).encode())
-        t.call('jobs' if failed < TRIES else 'failed', 'add', job)
+        before = t.call('tries', 'get', job)
+        failed = int(before or b'0') + 1
+        expect(t.call('tries', 'put', job, str(failed).encode()) == before, 'another one counts the tries of this job')
+        expect(t.call('jobs' if failed < TRIES else 'failed', 'add', job), 'a job is there twice')
     return job
 
 
@@ -49,7 +56,7 @@ def main(folder):
         for kind, name in (('set', 'jobs'), ('set', 'failed'), ('map', 'results'), ('map', 'tries')):
             store.open_or_make(kind, name)
         for job in range(JOBS):
-            store.do(('jobs', 'add', job), keep=True)
+            expect(store.do(('jobs', 'add', job), keep=True) == [True], 'the store had jobs before')
     deaths = 0
     workers = []
     for _ in range(4):
@@ -58,6 +65,7 @@ def main(folder):
     while workers:
         worker = workers.pop(0)
         worker.join()
+        expect(worker.exitcode in (0, -signal.SIGKILL), 'a worker failed')
         if worker.exitcode != 0:
             deaths += 1
             workers.append(multiprocessing.Process(target=work, args=(folder,)))

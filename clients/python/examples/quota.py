@@ -17,7 +17,7 @@ ASKED = range(0, CUSTOMERS, 100)
 def fill(t):
     """Fills the quota of each customer."""
     for customer in range(CUSTOMERS):
-        t.call('credit', 'fill', customer, 100)
+        t.call('credit', 'fill', customer, 100)    # raises where it is refused
 
 
 def spend(folder, granted):
@@ -38,6 +38,8 @@ def main(folder):
             program.start()
         for program in programs:
             program.join()
+        if any(program.exitcode != 0 for program in programs):
+            sys.exit('a program did not end in good order')
         left = [store.do(('credit', 'level', customer))[0] for customer in ASKED]
     print(f'{granted.value} of 120 asks granted, {left} left')
 

@@ -1,0 +1,540 @@
+"""Clients of a server: lines in, answers out, in their order."""
+import contextlib
+import errno
+import io
+import itertools
+import os
+import queue
+import select
+import signal
+import stat
+import subprocess
+import sys
+import threading
+import time
+import weakref
+from typing import Any, Iterator, List, Optional, Sequence, Set, Union
+
+from .errors import Closed, Error, Gone, NotServed, TimedOut
+from .lines import LONGEST, batches, bytes_of_line
+
+Path = Union[str, 'os.PathLike[str]']
+
+CLIENTS = 64
+HELLO = 'hello boost 1'
+# How many bytes one read takes at most.
+READ = 65536
+# How many seconds a call waits, where nobody says.
+TIMEOUT = 60.0
+# How many seconds pass at most until one that waits looks whether its store was closed.
+SLICE = 0.5
+
+FORKED = 'a store is of no use over a fork: join its server anew'
+CLOSED_STORE = 'the store was closed'
+
+
+# ---- forks
+
+
+# What has descriptors or locks, which are given up in a process that is forked off.
+OWNERS: 'weakref.WeakSet[Any]' = weakref.WeakSet()
+# Held while descriptors are opened, so that no fork comes between that and their owner's knowing of them.
+OPENING = threading.RLock()
+
+
+def give_up() -> None:
+    for owner in list(OWNERS):
+        owner.give_up()
+    OPENING.release()
+
+
+os.register_at_fork(before=OPENING.acquire, after_in_parent=OPENING.release, after_in_child=give_up)
+
+
+# ---- connections
+
+
+FRESH, IN_STEP, ASKING, CLOSED = 'fresh', 'in step', 'asking', 'closed'
+
+
+class Connection:
+    """One client of a server. It is fresh until it has come in; then in step, but while it asks; and once it is closed it stays
+    so. It is closed by whatever comes between a line and its whole answer: so no line gets the answer of another one. Its
+    lock is held while it asks, and who closes it meanwhile leaves that to the one who asks, within half a second."""
+
+    longest = LONGEST
+
+    def __init__(self, timeout: float) -> None:
+        self.timeout = timeout
+        self.state = FRESH
+        self.over = ''                             # why it is of no use any more
+        self.is_settled = False                    # whether all that it committed was known to be kept when it was closed
+        self.lock = threading.Lock()
+        OWNERS.add(self)
+
+    def come_in(self, seconds: float) -> None:
+        """Comes in. Raises `NotServed` where that takes longer, and `Gone`."""
+        self.check()
+        with self.lock:
+            try:
+                self.meet(seconds)
+                self.state = IN_STEP
+            finally:
+                if self.state != IN_STEP or self.over:
+                    self.shut()
+
+    def ask(self, lines: Sequence[str], timeout: Optional[float] = None) -> List[str]:
+        """Sends lines, and gives the answer of each. Raises ValueError where one is no line, before any is sent; `TimedOut` where the
+        next answer does not come in so many seconds, and `Gone`."""
+        data = [bytes_of_line(line, self.longest) for line in lines]
+        self.check()
+        with self.lock:
+            self.check()
+            self.state = ASKING
+            try:
+                self.send_lines(data, timeout)
+                answers = [self.receive(timeout) for _ in data]
+                self.state = IN_STEP
+                return answers
+            finally:
+                if self.state != IN_STEP or self.over:
+                    self.shut()
+
+    def check(self) -> None:
+        if self.over:
+            raise Closed(self.over)
+        if self.state == CLOSED:
+            raise Gone('this client was closed, as the server or an answer did not come')
+
+    def slices(self, timeout: Optional[float]) -> Iterator[float]:
+        """Yields how long to wait, again and again. Raises `TimedOut` once that has been as long as it may."""
+        seconds = self.timeout if timeout is None else timeout
+        end = time.monotonic() + seconds
+        while True:
+            left = end - time.monotonic()
+            yield max(0.0, min(SLICE, left))
+            if self.over:
+                raise Closed(self.over)
+            if left <= 0:
+                raise TimedOut('no answer within %g seconds' % seconds)
+
+    def close(self, why: str = CLOSED_STORE) -> None:
+        """Closes it; what it has open is taken back."""
+        self.over = self.over or why
+        if self.lock.acquire(blocking=False):
+            try:
+                self.shut()
+            finally:
+                self.lock.release()
+
+    def shut(self) -> None:
+        self.state = CLOSED
+        self.let_go()
+
+    def __del__(self) -> None:
+        self.shut()
+
+    def give_up(self) -> None:
+        """In a process that was forked off."""
+        self.lock = threading.Lock()
+        self.over, self.state = FORKED, CLOSED
+        self.forget()
+
+    def meet(self, seconds: float) -> None:
+        raise NotImplementedError
+
+    def send(self, text: str, timeout: Optional[float] = None) -> None:
+        """Sends whole lines, or a part of one at a door. Nothing looks at them."""
+        self.send_lines([line.encode() for line in text.splitlines(True)], timeout)
+
+    def send_lines(self, lines: Sequence[bytes], timeout: Optional[float]) -> None:
+        raise NotImplementedError
+
+    def receive(self, timeout: Optional[float] = None) -> str:
+        """The next answer, without its line feed."""
+        raise NotImplementedError
+
+    def is_alive(self) -> bool:
+        """Whether the server is there still, and no answer that nobody asked for."""
+        raise NotImplementedError
+
+    def let_go(self) -> None:
+        """Gives back what it has; nothing the second time."""
+        raise NotImplementedError
+
+    def forget(self) -> None:
+        """Gives back what it has in a process that was forked off, which tells the server nothing."""
+        self.let_go()
+
+
+class Pipes(Connection):
+    """A client with a pair of FIFOs of its own, in a folder with the FIFO `door`. It waits so many seconds to be served."""
+    numbers = itertools.count()
+
+    def __init__(self, folder: Path, patience: float = TIMEOUT, timeout: float = TIMEOUT) -> None:
+        self.open: List[io.FileIO] = []
+        super().__init__(timeout)
+        self.folder, self.patience = os.path.abspath(folder), patience
+        self.word = 'py-%d-%d-%s' % (os.getpid(), next(self.numbers), os.urandom(4).hex())
+        self.paths = [os.path.join(self.folder, self.word + end) for end in ('.to', '.from')]
+        self.to = self.answers = -1
+        self.buffer = bytearray()
+        self.scanned = 0
+
+    def meet(self, seconds: float) -> None:
+        try:
+            with OPENING:
+                held = [self.make_fifo(path) for path in self.paths]
+                self.open_both(*held)
+            self.say_hello(min(seconds, self.patience))
+            for file in self.open[:2]:
+                file.close()
+        except OSError as error:
+            why = 'nobody reads its door' if error.errno == errno.ENXIO else error
+            raise Gone('no server can be reached at %s: %s' % (self.folder, why)) from error
+        finally:
+            for path in self.paths:                # the server has removed them, unless it never came
+                with contextlib.suppress(OSError):
+                    os.unlink(path)
+
+    def make_fifo(self, path: str) -> int:
+        """Makes a FIFO, and opens it for both ways, which waits for nobody. It is for the group of the folder too where that may
+        write there. Nobody's file is opened or changed that another of the group puts in its place."""
+        os.mkfifo(path, 0o600)
+        number = self.take(path, os.O_RDWR | os.O_NOFOLLOW)
+        if not stat.S_ISFIFO(os.fstat(number).st_mode):
+            raise Gone('%s is no FIFO' % path)
+        folder = os.stat(self.folder)
+        if folder.st_mode & stat.S_IWGRP:
+            with contextlib.suppress(PermissionError):             # who is not of the group serves its own user alone
+                os.fchown(number, -1, folder.st_gid)
+                os.fchmod(number, 0o660)
+        return number
+
+    def open_both(self, to: int, answers: int) -> None:
+        """Opens each for its way. The others are held until the hello has come: a FIFO that no writer ever had reads as ended."""
+        self.to = self.take('/proc/self/fd/%d' % to, os.O_WRONLY)
+        self.answers = self.take('/proc/self/fd/%d' % answers, os.O_RDONLY)
+        self.readable = select.poll()
+        self.readable.register(self.answers, select.POLLIN)
+
+    def take(self, path: str, way: int) -> int:
+        number = os.open(path, way | os.O_CLOEXEC | os.O_NONBLOCK)
+        self.open.append(io.FileIO(number, 'rb' if way == os.O_RDONLY else 'wb'))
+        return number
+
+    def ask_door(self, text: bytes) -> None:
+        """Writes at the door. ENXIO says that it has no reader, and BlockingIOError that it is full."""
+        door = os.open(os.path.join(self.folder, 'door'), os.O_WRONLY | os.O_NONBLOCK | os.O_CLOEXEC)
+        try:
+            if not stat.S_ISFIFO(os.fstat(door).st_mode):
+                raise Gone('the door of %s is no FIFO' % self.folder)
+            os.write(door, text)
+        finally:
+            os.close(door)
+
+    def say_hello(self, patience: float) -> None:
+        """Says hello at the door, and waits for the answer. The line feed before it ends what another left there of a line."""
+        hello = b'\nhello %s\n' % self.word.encode()
+        end = time.monotonic() + patience
+        while True:
+            with contextlib.suppress(BlockingIOError):              # the door is full
+                self.ask_door(hello)                                # later nothing: has the server died?
+                hello = b''
+            left = end - time.monotonic()
+            if self.fill(max(0.0, min(0.05 if hello else SLICE, left))):
+                break
+            if self.over:
+                raise Closed(self.over)
+            if left <= 0:
+                raise NotServed('the server at %s did not serve this client within %g seconds' % (self.folder, patience))
+        if self.receive(max(1.0, left)) != HELLO:
+            raise Gone('no server of this kind at ' + self.folder)
+
+    def fill(self, seconds: float) -> bool:
+        """Reads what has come of answers. Whether anything has in so many seconds."""
+        if not self.readable.poll(seconds * 1000):
+            return False
+        data = os.read(self.answers, READ)
+        if not data:
+            raise Gone('the server went away')
+        self.buffer += data
+        return True
+
+    def send_lines(self, lines: Sequence[bytes], timeout: Optional[float]) -> None:
+        for batch in batches(lines):
+            for pause in self.slices(timeout):
+                try:
+                    batch = batch[os.write(self.to, batch):]
+                except BlockingIOError:
+                    self.wait_for_room(pause)
+                except OSError as error:
+                    raise Gone('the server went away') from error
+                if not batch:
+                    break
+
+    def wait_for_room(self, seconds: float) -> None:
+        """Reads answers meanwhile, so that the server goes on with the lines."""
+        both = select.poll()
+        both.register(self.to, select.POLLOUT)
+        both.register(self.answers, select.POLLIN)
+        if self.answers in (number for number, _ in both.poll(seconds * 1000)):
+            self.fill(0)
+
+    def receive(self, timeout: Optional[float] = None) -> str:
+        for pause in self.slices(timeout):
+            at = self.buffer.find(b'\n', self.scanned)
+            if at >= 0:
+                line = self.buffer[:at].decode(errors='replace')
+                del self.buffer[:at + 1]
+                self.scanned = 0
+                return line
+            self.scanned = len(self.buffer)
+            self.fill(pause)
+        raise AssertionError
+
+    def is_alive(self) -> bool:
+        return self.state == IN_STEP and not self.buffer and not self.readable.poll(0)
+
+    def let_go(self) -> None:
+        self.to = self.answers = -1
+        for file in self.open:
+            file.close()
+
+
+class Answers:
+    """What a child answers, which a thread of its own reads and hands out to the clients by their numbers. 0 hears the hello. A
+    number is taken from when it is given to a client until a bye is said for it, as that client is gone."""
+
+    def __init__(self) -> None:
+        self.hello: 'queue.SimpleQueue[Optional[str]]' = queue.SimpleQueue()
+        self.of: 'weakref.WeakValueDictionary[int, queue.SimpleQueue[Optional[str]]]' = weakref.WeakValueDictionary({0: self.hello})
+        self.taken: Set[int] = set()
+        self.free: 'queue.SimpleQueue[int]' = queue.SimpleQueue()
+        for number in range(1, CLIENTS + 1):
+            self.free.put(number)
+        self.is_over = False
+
+    def read(self, output: Any) -> None:
+        """Reads up to the end. What stands behind the last line feed is no answer."""
+        rest = b''
+        try:
+            with output:
+                for data in iter(lambda: output.read(READ), b''):
+                    *lines, rest = (rest + data).split(b'\n')
+                    for line in lines:
+                        self.hand_out(line.decode(errors='replace'))
+        finally:
+            self.is_over = True
+            self.tell_all()
+
+    def hand_out(self, line: str) -> None:
+        tag, _, answer = line.partition(' ')
+        number = int(tag[1:]) if tag[:1] == 'c' and tag[1:].isdigit() else 0
+        answers = self.of.get(number)
+        if answers is not None:
+            answers.put(answer)
+        elif number == 0:
+            self.tell_all()                        # one of them misses its answer, and nobody knows which
+        elif answer == 'bye':
+            self.free.put(number)
+
+    def tell_all(self) -> None:
+        """Tells all clients that what they wait for does not come."""
+        for answers in list(self.of.values()):
+            answers.put(None)
+
+
+class Child:
+    """A server that was started as a child, and where it comes back another one behind it. It ends with the store that has it,
+    also where nobody closes that. In a session of its own no Ctrl-C of a terminal ends it."""
+
+    def __init__(self, words: List[str], patience: float, comes_back: bool) -> None:
+        self.words, self.patience, self.comes_back = words, patience, comes_back
+        self.process: Optional['subprocess.Popen[bytes]'] = None
+        self.starting, self.lock = threading.Lock(), threading.RLock()
+        OWNERS.add(self)
+        self.begin()
+
+    def begin(self) -> None:
+        try:
+            with OPENING:
+                self.process = subprocess.Popen(self.words, stdin=subprocess.PIPE, stdout=subprocess.PIPE, bufsize=0,
+                                                start_new_session=True)
+        except OSError as error:
+            raise Gone('no server can be started: %s' % error) from error
+        answers = Answers()
+        self.reader = threading.Thread(target=answers.read, args=(self.process.stdout,), daemon=True)
+        try:
+            os.set_blocking(self.input.fileno(), False)
+            self.reader.start()
+            self.hear_hello(answers)
+        except BaseException:
+            self.kill()
+            raise
+        self.answers = answers
+
+    @property
+    def input(self) -> Any:
+        assert self.process
+        return self.process.stdin
+
+    def hear_hello(self, answers: Answers) -> None:
+        end = time.monotonic() + self.patience
+        hello: Optional[str] = ''
+        while not hello:
+            left = end - time.monotonic()
+            with contextlib.suppress(queue.Empty):
+                hello = answers.hello.get(timeout=max(0.0, min(SLICE, left)))
+                if hello != HELLO:
+                    raise Gone('the server did not start, with %s: its standard error says why' % self.status())
+            if left <= 0 and not hello:
+                raise TimedOut('the server did not say hello within %g seconds' % self.patience)
+        del answers.of[0]
+
+    def status(self) -> str:
+        """How it ended, where it has or is about to."""
+        assert self.process
+        try:
+            return 'status %d' % self.process.wait(1)
+        except subprocess.TimeoutExpired:
+            return 'no status'
+
+    def serving(self, seconds: float) -> Answers:
+        """What the child answers that serves within so many seconds."""
+        if not self.starting.acquire(timeout=min(seconds, threading.TIMEOUT_MAX)):
+            raise NotServed('the server did not start within %g seconds' % seconds)
+        try:
+            if self.answers.is_over:
+                if not self.comes_back:
+                    raise Gone('the server ended, with %s' % self.status())
+                self.kill()
+                self.begin()
+            return self.answers
+        finally:
+            self.starting.release()
+
+    def write(self, answers: Answers, lines: bytes, pause: float = 0.0) -> bool:
+        """Writes lines that go into a pipe at once or not at all. Where there is no room it waits for some, so many seconds."""
+        room = select.poll()
+        with self.lock:
+            if answers is not self.answers or self.input.closed:
+                raise Gone('the server ended')
+            try:
+                return os.write(self.input.fileno(), lines) > 0
+            except BlockingIOError:
+                room.register(self.input, select.POLLOUT)
+            except OSError as error:
+                raise Gone('the server ended, with %s' % self.status()) from error
+        room.poll(pause * 1000)
+        return False
+
+    def say_byes(self, answers: Answers) -> None:
+        """Lets the clients go that are gone. The number of each is free once all that it asked for is answered, and its bye is."""
+        with self.lock, contextlib.suppress(Error):
+            for number in [number for number in answers.taken if number not in answers.of]:
+                answers.taken.discard(number)
+                if not self.write(answers, b'c%d bye\n' % number):
+                    answers.taken.add(number)
+
+    def end(self, timeout: float) -> int:
+        """Says `end`, and waits for the server's end, so many seconds. Then it is killed. Gives its status."""
+        assert self.process
+        with self.lock:
+            if not self.input.closed:
+                with contextlib.suppress(OSError):
+                    os.write(self.input.fileno(), b'end\n')
+                self.input.close()
+        if self.reader is threading.current_thread():               # the last that had it was dropped there
+            return 0
+        with contextlib.suppress(subprocess.TimeoutExpired):
+            self.process.wait(None if timeout == float('inf') else timeout)
+        return self.kill()
+
+    def kill(self) -> int:
+        """Makes sure that it has ended, and that nothing of it is left."""
+        assert self.process and self.process.stdout
+        if self.process.poll() is None:
+            with contextlib.suppress(ProcessLookupError):
+                os.killpg(self.process.pid, signal.SIGKILL)
+        self.input.close()
+        if self.reader.ident:
+            self.reader.join(1)
+        else:
+            self.process.stdout.close()
+        return self.process.wait()
+
+    def __del__(self) -> None:
+        if self.process and self.process.returncode is None and not sys.is_finalizing():
+            self.end(TIMEOUT)
+
+    def give_up(self) -> None:
+        """In a process that was forked off, whose child it is not."""
+        process, self.process = self.process, None
+        if process and process.stdin and process.stdout:
+            process.stdin.close()
+            process.stdout.close()
+            process.returncode = 0
+
+
+class Shared(Connection):
+    """One of the clients that share a child's input and output."""
+
+    longest = LONGEST - len('c64 ')
+
+    def __init__(self, child: Child, timeout: float) -> None:
+        self.number = 0
+        super().__init__(timeout)
+        self.child = child
+
+    def meet(self, seconds: float) -> None:
+        self.of = self.child.serving(seconds)
+        end = time.monotonic() + seconds
+        while not self.number:
+            self.child.say_byes(self.of)
+            left = end - time.monotonic()
+            with contextlib.suppress(queue.Empty):
+                self.number = self.of.free.get(timeout=max(0.0, min(SLICE, left)))
+            if self.of.is_over:
+                raise Gone('the server ended')
+            if left <= 0 and not self.number:
+                raise NotServed('all clients are taken, and none was let go within %g seconds' % seconds)
+        self.tag = b'c%d ' % self.number
+        self.answers: 'queue.SimpleQueue[Optional[str]]' = queue.SimpleQueue()
+        self.of.of[self.number] = self.answers
+        self.of.taken.add(self.number)
+
+    def send_lines(self, lines: Sequence[bytes], timeout: Optional[float]) -> None:
+        if b'bye\n' in lines:
+            raise ValueError('a client of a child says no bye: it is closed')
+        for batch in batches([self.tag + line for line in lines]):
+            for pause in self.slices(timeout):
+                if self.child.write(self.of, batch, pause):
+                    break
+
+    def receive(self, timeout: Optional[float] = None) -> str:
+        for pause in self.slices(timeout):
+            is_over = self.of.is_over
+            with contextlib.suppress(queue.Empty):
+                answer = self.answers.get(timeout=0 if is_over else pause)
+                if answer is not None:
+                    return answer
+                raise Gone('the server ended, with %s' % self.child.status() if is_over or self.of.is_over
+                           else 'the server did not answer this client')
+            if is_over:
+                raise Gone('the server ended, with %s' % self.child.status())
+        raise AssertionError
+
+    def is_alive(self) -> bool:
+        if len(self.of.taken) > len(self.of.of):
+            self.child.say_byes(self.of)
+        return self.state == IN_STEP and not self.of.is_over and self.answers.empty()
+
+    def let_go(self) -> None:
+        number, self.number = self.number, 0
+        if number:
+            self.of.of.pop(number, None)
+            self.child.say_byes(self.of)
+
+    def forget(self) -> None:
+        self.number = 0
