@@ -7,7 +7,8 @@ shows the definitions as their file has them, and `- NAME, NAME: SENTENCE` tells
 line goes on with its entry. `~ NAME, NAME` shows definitions with the comments that stand above them, in one piece. A line `= CRATE` lists what the contracts of the crate's public items cite. A line
 `* FILE FUNCTION: CLAUSE, CLAUSE` shows these clauses of a public function as its source has them. All other lines
 are text, which is copied. `@@ FILE` names the file in each entry, in the place of a heading. A name or a clause that its file does not have fails, and so does a definition that no
-contract reaches. With --check nothing is written, and a page that differs fails too.
+contract reaches. docs/DEFINITIONS.md is not kept in the repository. With --check nothing is written, and a page that is kept and differs
+fails too.
 """
 import glob
 import os
@@ -22,6 +23,7 @@ from cited import CALL, USE, cited, contract, text_of
 ROOT = os.path.dirname(os.path.dirname(os.path.abspath(__file__)))
 WIDTH = 132
 PAGES = {'docs/definitions.list': 'docs/DEFINITIONS.md', 'docs/theorems.list': 'docs/THEOREMS.md'}
+MADE = ('docs/DEFINITIONS.md',)
 DECLARES = re.compile(r'^(\s*)(?:(?:pub|abbrev|unfoldable) )*(?:record |data )?(\S+)(?= :| \(| \{)')
 ENTRY = re.compile(r'([+-]) (\w+(?:, \w+)*): (.+)', re.S)
 PIECE = re.compile(r'~ (\w+(?:, \w+)*)')
@@ -194,13 +196,16 @@ def main():
         gone += [f'{listed}: no contract reaches {name}' for name in unreached(text, known)]
         for line in gone:
             print(line)
+        has_failed = has_failed or bool(gone)
         is_same = os.path.exists(os.path.join(ROOT, path)) and page == '\n'.join(lines_of(path))
+        if is_check and path in MADE:
+            continue
         if is_check and not is_same:
             print(f'{path} is not what tools/definitions.py writes: run it')
         elif not is_same:
             with open(os.path.join(ROOT, path), 'w', encoding='utf-8') as file:
                 file.write(page)
-        has_failed = has_failed or bool(gone) or is_check and not is_same
+        has_failed = has_failed or is_check and not is_same
     sys.exit(has_failed)
 
 

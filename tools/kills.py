@@ -1,7 +1,7 @@
 #!/usr/bin/env python3
 """kills.py [TIMES] [CLIENTS]: kills a program that serves, again and again, and looks at what it leaves.
 
-The program is `cases bench told counter`, proved and built (`rt run` in crates/cases builds it): so many clients add 1 to one
+The program is `workloads bench told counter`, proved and built (`rt run` in crates/workloads builds it): so many clients add 1 to one
 counter, each addition a transaction, and a line tells each one that is kept. It is killed (SIGKILL) after a random time. Then
 the store is opened by `boost show`: the counter must hold at least what was told, and at most one addition more for each
 client. A second `boost show` and a `boost check` must find the same, and nothing unfinished.
@@ -18,14 +18,14 @@ import tempfile
 import time
 
 TOP = os.path.dirname(os.path.dirname(os.path.realpath(__file__)))
-CASES = os.path.join(TOP, "crates/cases/out/cases")
+WORKLOADS = os.path.join(TOP, "crates/workloads/out/workloads")
 BOOST = os.path.join(TOP, "crates/boost_main/out/boost_main")
 
 
 def told_before_the_kill(folder, clients, seconds):
     """Runs the program for so long, kills it, and counts what it told."""
     with open(os.path.join(folder, "told"), "w+b") as out:
-        words = [CASES, "bench", "told", "counter", str(clients), "1000000000", "3600", folder]
+        words = [WORKLOADS, "bench", "told", "counter", str(clients), "1000000000", "3600", folder]
         program = subprocess.Popen(words, stdout=out)
         time.sleep(seconds)
         program.send_signal(signal.SIGKILL)

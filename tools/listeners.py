@@ -610,7 +610,7 @@ def keeping_fails():
     assert sum(len(server.stdout.readline()) > 0 for _ in range(5)) == 5
     resource.prlimit(server.pid, *no_writes)
     server.stdin.write(b'c1 keep hits bump 1\n')
-    assert server.stdout.readline() == b'c1 refused 23 Lost\n'
+    assert server.stdout.readline() == b'c1 refused 23 Lost: Fault\n'
     assert server.wait(20) == 1 and server.stdout.read() == b''
     assert b'too large' in server.stderr.read()
     place.serve(**how)
@@ -718,7 +718,7 @@ int main(int count, char **words)
 def a_long_value_in_c():
     """A value of 1,024 bytes comes back through the client in C as it was put, of a store in format 2."""
     place = Place()
-    run('format', place.disk, '--area', str(AREA), '--format', '2')
+    run('format', place.disk, '--area', str(AREA), '--format', '2', '--force')
     source, built = (os.path.join(place.room.name, name) for name in ('long.c', 'long'))
     with open(source, 'w', encoding='utf-8') as file:
         file.write(LONG_VALUE)

@@ -115,7 +115,7 @@ class Reopening:
 
     def make_disk(self, area):
         """A new disk with both maps."""
-        self.sure("format", self.disk, "--area", str(area))
+        self.sure("format", self.disk, "--area", str(area), "--force")
         self.write(["c1 make map held", "c1 make map done", "turn"])
         self.sure("play", self.disk, self.script)
 

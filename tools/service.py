@@ -6,6 +6,7 @@ for /usr/local/bin/boost, `./boost` if none is named. Each check prints what it 
 """
 import os
 import re
+import shutil
 import signal
 import subprocess
 import sys
@@ -141,13 +142,52 @@ def a_plain_file_is_no_door(_):
     return 'told, and nothing made'
 
 
+def as_user(user, groups, *words):
+    """A command as another user, of a group of its own number and of these groups."""
+    return ['setpriv', f'--reuid={user}', f'--regid={user}', f'--groups={groups}' if groups else '--clear-groups', *words]
+
+
+def three_users(_):
+    """Root, a member of the folder's group and a stranger, at a server of another user."""
+    if os.geteuid() != 0 or not shutil.which('setpriv'):
+        return 'not tried: it wants root and setpriv'
+    server, member, stranger = 61234, 61235, 61236
+    with tempfile.TemporaryDirectory() as room:
+        os.chmod(room, 0o755)
+        which = [PROGRAM, 'which'] if os.path.basename(PROGRAM) == 'boost' and os.path.dirname(PROGRAM) == TOP else ['echo', PROGRAM]
+        program, attach = os.path.join(room, 'boost'), os.path.join(room, 'boost-attach')
+        shutil.copy(subprocess.run(which, stdout=subprocess.PIPE, text=True, check=True).stdout.strip(), program)
+        shutil.copy(ATTACH, attach)
+        folder, state = os.path.join(room, 'run'), os.path.join(room, 'state')
+        for path, mode in ((folder, 0o2770), (state, 0o750)):
+            os.mkdir(path)
+            os.chown(path, server, server)
+            os.chmod(path, mode)
+        disk, door = os.path.join(state, 'disk'), os.path.join(folder, 'door')
+        subprocess.run(as_user(server, '', program, 'format', disk, '--area', '65536'), check=True)
+        subprocess.run(as_user(server, '', 'mkfifo', '-m', '660', door), check=True)
+        assert os.stat(disk).st_mode & 0o777 == 0o600
+        run = subprocess.Popen(as_user(server, '', program, 'listen', disk, folder), stdin=subprocess.DEVNULL)
+        told = {}
+        for name, words in (('root', [attach, folder, '20']), ('member', as_user(member, str(server), attach, folder, '20')),
+                            ('stranger', as_user(stranger, '', attach, folder, '5'))):
+            ran = subprocess.run(words, input='bye\n', stdout=subprocess.PIPE, stderr=subprocess.PIPE, text=True, timeout=60, check=False)
+            told[name] = ran.returncode, ran.stdout
+        with open(door, 'w', encoding='utf-8') as file:
+            file.write('\nend\n')
+        assert run.wait(30) == 0
+    assert told['root'] == told['member'] == (0, 'hello boost 1\nbye\n'), told
+    assert told['stranger'][0] == 1 and not told['stranger'][1], told
+    return 'root and a member are served, and a stranger is not'
+
+
 def main():
     with tempfile.TemporaryDirectory() as room:
         unit = Unit(room)
         disk = os.path.join(unit.state, 'disk')
         subprocess.run([PROGRAM, 'format', disk, '--area', '1048576'], check=True)
         for check in (a_start_is_over_once_the_store_is_open, a_stop_waits_for_the_end, a_stop_of_a_dead_server_waits_for_nothing,
-                      attach_ends_with_the_server, attach_that_is_killed_keeps_no_lock, a_plain_file_is_no_door):
+                      attach_ends_with_the_server, attach_that_is_killed_keeps_no_lock, a_plain_file_is_no_door, three_users):
             print(f'{check.__name__}: {check(unit)}', flush=True)
 
 

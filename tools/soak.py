@@ -300,7 +300,7 @@ class Soak:
         self.area = self.chance.choice(AREAS)
         self.model = stories.Content()
         self.counts["disks"] += 1
-        self.boost("format", self.disk, "--area", str(self.area))
+        self.boost("format", self.disk, "--area", str(self.area), "--force")
         self.serve([f"c1 make {kind} {name}" for kind, names in NAMES.items() for name in names])
 
     def round(self, number):

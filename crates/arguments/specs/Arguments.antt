@@ -11,6 +11,7 @@ use Rattle.clap.specs.declared.builder.ArgAction.TheVariants.{Set, SetTrue}
 use Rattle.clap.specs.declared.builder.ValueParser.TheVariants as parsers
 use Rattle.arguments.specs.declared.Invocation.{Invocation}
 use Rattle.arguments.specs.declared.Task.{Task}
+use Rattle.arguments.specs.Sizes.{IsSizeOf}
 
 -- ---- what can be written
 
@@ -24,7 +25,6 @@ area_rule = record (new_rule (codes "area")) {
   value_names = 1;
   required = true;
   action = Some Set;
-  parser = Some (parsers.Unsigned 0 (2 ^ 64 - 1));
 }
 
 -- a flag, which is written with its name
@@ -60,7 +60,9 @@ disk_app name = with_rule (new_app name) (path_rule (codes "DISK"))
 abbrev pub format_app : App
 format_app =
     let sized = with_rule (with_rule (disk_app (codes "format")) area_rule) version_rule in
-    with_rule sized (flag_rule (codes "reserve"))
+    let kept = with_rule sized (flag_rule (codes "reserve")) in
+    let shared = with_rule kept (flag_rule (codes "group")) in
+    with_rule shared (flag_rule (codes "force"))
 
 -- a command on a disk with a flag
 abbrev pub flagged_app : (name flag : Text) → App
@@ -94,7 +96,7 @@ abbrev pub copy_app : App
 copy_app =
     let files = with_rule (with_rule (new_app (codes "copy")) (path_rule (codes "OLD")))
     (path_rule (codes "NEW")) in
-    with_rule files area_rule
+    with_rule (with_rule files area_rule) (flag_rule (codes "group"))
 
 abbrev pub upgrade_app : App
 upgrade_app = disk_app (codes "upgrade")
@@ -109,15 +111,27 @@ abbrev pub bare_app : App
 bare_app = let a = new_app (codes "boost") in
     record a { top = record a.top { has_version = true; subcommand_required = true } }
 
+-- the commands that make a store and run its clients
+abbrev pub running_app : App → App
+running_app app =
+    let made = with_subcommand (with_subcommand app format_app.top) play_app.top in
+    with_subcommand (with_subcommand made serve_app.top) listen_app.top
+
+-- those that tell of a store
+abbrev pub looking_app : App → App
+looking_app app =
+    with_subcommand (with_subcommand (with_subcommand app show_app.top) check_app.top) stat_app.top
+
+-- those that bring a store elsewhere, and the one that reads a script
+abbrev pub changing_app : App → App
+changing_app app =
+    with_subcommand (with_subcommand (with_subcommand app copy_app.top) upgrade_app.top)
+    lint_app.top
+
 -- the program with its commands, in the order in which help shows them
 abbrev pub program_app : App
 program_app =
-    let first = with_subcommand (with_subcommand bare_app format_app.top) play_app.top in
-    let served = with_subcommand (with_subcommand first serve_app.top) listen_app.top in
-    let seen = with_subcommand (with_subcommand served show_app.top) check_app.top in
-    let looked = with_subcommand (with_subcommand seen stat_app.top) copy_app.top in
-    let changed = with_subcommand (with_subcommand looked upgrade_app.top) lint_app.top in
-    with_subcommand changed demo_app.top
+    with_subcommand (changing_app (looking_app (running_app bare_app))) demo_app.top
 
 -- ---- what is asked for
 
@@ -149,11 +163,14 @@ ArePaths disk script rows = IsPath (codes "DISK") disk rows × IsPath (codes "SC
 
 -- the subcommand that was found, with its arguments
 abbrev pub AsksTask : Task → Text × List Row → Type 0
-AsksTask (Task.Format disk area version reserve) found = (found.0 ≡ codes "format") ×
+AsksTask (Task.Format disk area version reserve group force) found =
+    (found.0 ≡ codes "format") ×
     IsPath (codes "DISK") (string_bytes disk) found.1 ×
-    IsSomeAnd (first_of (codes "area") found.1) (IsNumberOf area) ×
+    IsSomeAnd (first_of (codes "area") found.1) (IsSizeOf area) ×
     IsVersion version found.1 ×
-    (IsTrue reserve ↔ IsGiven (codes "reserve") found.1)
+    (IsTrue reserve ↔ IsGiven (codes "reserve") found.1) ×
+    (IsTrue group ↔ IsGiven (codes "group") found.1) ×
+    (IsTrue force ↔ IsGiven (codes "force") found.1)
 AsksTask (Task.Play disk script) found = (found.0 ≡ codes "play") ×
     ArePaths (string_bytes disk) (string_bytes script) found.1
 AsksTask (Task.Show disk read_only) found = (found.0 ≡ codes "show") ×
@@ -170,10 +187,11 @@ AsksTask Task.Demo found = found.0 ≡ codes "demo"
 
 abbrev pub Asks : Invocation → Text × List Row → Type 0
 Asks (Invocation.Run task) found = AsksTask task found
-Asks (Invocation.Copy old new area) found = (found.0 ≡ codes "copy") ×
+Asks (Invocation.Copy old new area group) found = (found.0 ≡ codes "copy") ×
     IsPath (codes "OLD") (string_bytes old) found.1 ×
     IsPath (codes "NEW") (string_bytes new) found.1 ×
-    IsSomeAnd (first_of (codes "area") found.1) (IsNumberOf area)
+    IsSomeAnd (first_of (codes "area") found.1) (IsSizeOf area) ×
+    (IsTrue group ↔ IsGiven (codes "group") found.1)
 Asks (Invocation.Lint script) found = (found.0 ≡ codes "lint") ×
     IsPath (codes "SCRIPT") (string_bytes script) found.1
 Asks (Invocation.Serve disk script why) found = (found.0 ≡ codes "serve") ×

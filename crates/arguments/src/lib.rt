@@ -12,28 +12,38 @@ ghost use Rattle.arguments.specs.Arguments.{path_rule, area_rule, flag_rule, fol
 ghost use Rattle.arguments.specs.Arguments.{idle_rule, disk_app, script_app, serve_app};
 ghost use Rattle.arguments.specs.Arguments.{listen_app, format_app, lint_app, copy_app};
 ghost use Rattle.arguments.specs.Arguments.{flagged_app, IsGiven, bare_app, program_app};
-ghost use Rattle.arguments.specs.Arguments.{ArePaths, Asks, AsksTask, IsNumberOf, IsIdle};
+ghost use Rattle.arguments.specs.Arguments.{running_app, looking_app, changing_app};
+ghost use Rattle.arguments.specs.Arguments.{ArePaths, Asks, AsksTask, IsIdle};
+ghost use Rattle.arguments.specs.Sizes.{IsSizeOf};
 ghost use Rattle.arguments.specs.Arguments.{IsVersion, version_rule};
 ghost use Rattle.arguments.specs.Arguments.{IsAskedBy};
 
+mod sizes;
+
 use clap::error::ErrorKind;
 use clap::{Arg, ArgAction, ArgMatches, Error, value_parser};
+use sizes::size;
 use std::alloc::{AllocError, Global};
 use std::num::ParseIntError;
 
 /// The version of the program, as `boost --version` prints it.
 pub const VERSION: &str = "1.0.0";
 
+// What is said of a size of areas that is none.
+const NO_SIZE: &str = "invalid value for '--area <N>': it is a number of bytes, as 65536 or 64K";
+
 /// What the program is asked to do, with the paths as they were written.
 #[derive(Drop, Debug)]
 pub enum Invocation {
     /// A task of one thread on one disk.
     Run(Task),
-    /// Copies the store in a file to another file, with two areas of so many bytes.
+    /// Copies the store in a file to another file, with two areas of so many bytes. `group` asks
+    /// that the group of the new file's folder may read and write it.
     Copy {
         old: String,
         new: String,
         area: u64,
+        group: bool,
     },
     /// Tells the lines of a script that are not understood. No disk is opened.
     Lint {
@@ -61,14 +71,17 @@ pub enum Invocation {
 /// What the program does on one thread with one disk, with the paths as they were written.
 #[derive(Drop, Debug)]
 pub enum Task {
-    /// Makes the file, or sets its size, and formats it with two areas of so many bytes, in the
-    /// format of the number `version`, which is 1 where none is written. `reserve` asks for the
-    /// file's space at once.
+    /// Makes the file an empty store with two areas of so many bytes, in the format of the number
+    /// `version`, which is 1 where none is written. `reserve` asks for the file's space at once,
+    /// `group` that the group of its folder may read and write it, and `force` that it is made also
+    /// where a file with bytes is there.
     Format {
         disk: String,
         area: u64,
         version: u8,
         reserve: bool,
+        group: bool,
+        force: bool,
     },
     /// Runs a script on the store in the file.
     Play {
@@ -119,8 +132,7 @@ fn area<'a>(alloc: Global) -> Arg<'a>
         .value_name("N")
         .required(true)
         .action(ArgAction::Set)
-        .value_parser(value_parser!(u64))
-        .help("The bytes of each of its two areas, from 65536 to 2^30, in format 2 to 2^36")
+        .help("The bytes of each of its two areas, from 64K to 1G, in format 2 to 64G")
 }
 
 // The number of a format, which may be left out.
@@ -145,6 +157,18 @@ fn flag<'a>(alloc: Global, name: &'a str, help: &'a str) -> Arg<'a>
         .long(name)
         .action(ArgAction::SetTrue)
         .help(help)
+}
+
+// The flag of a new file that a group is to have.
+fn group<'a>(alloc: Global) -> Arg<'a>
+    ensures rule { rule_of result ≡ flag_rule (codes "group") }
+    ensures alone { result.global ≡ false }
+{
+    flag(
+        alloc,
+        "group",
+        "Let the group of its folder read and write the file; without it its owner alone may",
+    )
 }
 
 // The folder of the door, which may be left out.
@@ -189,10 +213,13 @@ fn format_command<'a>(alloc: Global, about: &'a str) -> Result<clap::Command<'a>
     ensures { IfOk result (λ c. (app_of c ≡ format_app) × ((out-Command c).has_globals ≡ false)) }
 {
     let reserve = "Take the file's space at once, by writing zeros over all of it";
+    let force = "Make it also where a file with bytes is there, which are lost";
     disk_command(alloc, "format", about)?
         .arg(area(alloc))?
         .arg(version(alloc))?
-        .arg(flag(alloc, "reserve", reserve))
+        .arg(flag(alloc, "reserve", reserve))?
+        .arg(group(alloc))?
+        .arg(flag(alloc, "force", force))
 }
 
 // A command on a disk with a flag.
@@ -257,7 +284,8 @@ fn copy_command<'a>(alloc: Global, about: &'a str) -> Result<clap::Command<'a>, 
             "The file that holds the store, which is only read",
         ))?
         .arg(path(alloc, "NEW", new))?
-        .arg(area(alloc))
+        .arg(area(alloc))?
+        .arg(group(alloc))
 }
 
 // The command that reads a script alone.
@@ -290,52 +318,72 @@ fn bare_program<'a>(alloc: Global) -> clap::Command<'a>
         .subcommand_required(true)
 }
 
+// The program with the commands that make a store and run its clients.
+fn add_running<'a>(
+    alloc: Global,
+    program: clap::Command<'a>,
+) -> Result<clap::Command<'a>, AllocError>
+    ensures { IfOk result (λ c. app_of c ≡ running_app (app_of program.entry)) }
+{
+    let format = format_command(alloc, "Make an empty store in a file");
+    let program = with(program, format)?;
+    let play = script_command(alloc, "play", "Run the lines of a script one after another");
+    let program = with(program, play)?;
+    let about = "Run the clients of a script, each in a thread of its own";
+    let program = with(program, serve_command(alloc, about))?;
+    let about = "Keep the store open, and serve the clients that come";
+    with(program, listen_command(alloc, about))
+}
+
+// The program with the commands that tell of a store.
+fn add_looking<'a>(
+    alloc: Global,
+    program: clap::Command<'a>,
+) -> Result<clap::Command<'a>, AllocError>
+    ensures { IfOk result (λ c. app_of c ≡ looking_app (app_of program.entry)) }
+{
+    let (show, read_only) = (
+        "Print what the store holds",
+        "Undo in memory alone what is unfinished, and write nothing",
+    );
+    let program = with(
+        program,
+        flagged_command(alloc, "show", show, "read-only", read_only),
+    )?;
+    let program = with(
+        program,
+        disk_command(alloc, "check", "Count what the store holds"),
+    )?;
+    let (stat, json) = (
+        "Tell what room the store takes and has",
+        "Print one JSON object in place of lines",
+    );
+    with(program, flagged_command(alloc, "stat", stat, "json", json))
+}
+
+// The program with the commands that bring a store elsewhere, and the one that reads a script.
+fn add_changing<'a>(
+    alloc: Global,
+    program: clap::Command<'a>,
+) -> Result<clap::Command<'a>, AllocError>
+    ensures { IfOk result (λ c. app_of c ≡ changing_app (app_of program.entry)) }
+{
+    let about = "Copy the store to another file, as with larger areas";
+    let program = with(program, copy_command(alloc, about))?;
+    let about = "Bring the store to format 2, in place";
+    let program = with(program, disk_command(alloc, "upgrade", about))?;
+    let about = "Tell the lines of a script that are not understood";
+    with(program, lint_command(alloc, about))
+}
+
 // The command lines that are understood.
 fn program<'a>(alloc: Global) -> Result<clap::Command<'a>, AllocError>
     ensures { IfOk result (λ c. app_of c ≡ program_app) }
 {
-    let format = format_command(alloc, "Make an empty store in a file");
-    let play = script_command(alloc, "play", "Run the lines of a script one after another");
-    let serve = serve_command(
-        alloc,
-        "Run the clients of a script, each in a thread of its own",
-    );
-    let listen = listen_command(
-        alloc,
-        "Keep the store open, and serve the clients that come",
-    );
-    let show = flagged_command(
-        alloc,
-        "show",
-        "Print what the store holds",
-        "read-only",
-        "Undo in memory alone what is unfinished, and write nothing",
-    );
-    let check = disk_command(alloc, "check", "Count what the store holds");
-    let stat = flagged_command(
-        alloc,
-        "stat",
-        "Tell what room the store takes and has",
-        "json",
-        "Print one JSON object in place of lines",
-    );
-    let copy = copy_command(
-        alloc,
-        "Copy the store to another file, as with larger areas",
-    );
-    let upgrade = disk_command(alloc, "upgrade", "Bring the store to format 2, in place");
-    let lint = lint_command(alloc, "Tell the lines of a script that are not understood");
+    let program = add_running(alloc, bare_program(alloc))?;
+    let program = add_looking(alloc, program)?;
+    let program = add_changing(alloc, program)?;
     let demo = clap::Command::new(alloc, "demo").about("Run a stored script on a disk in memory");
-    let program = with(bare_program(alloc), format)?;
-    let program = with(program, play)?;
-    let program = with(program, serve)?;
-    let program = with(program, listen)?;
-    let program = with(program, show)?;
-    let program = with(program, check)?;
-    let program = with(program, stat)?;
-    let program = with(program, copy)?;
-    let program = with(program, upgrade)?;
-    let program = with(program, lint)?;
     with(program, Ok(demo))
 }
 
@@ -349,11 +397,15 @@ fn text(alloc: Global, found: &ArgMatches<'_>, id: &str) -> Result<Option<String
     }
 }
 
-fn number(found: &ArgMatches<'_>, id: &str) -> Option<u64>
-    ensures { IfSome result (λ n. IsSomeAnd (first_of id.now (rows_of (found_of found.now)))
-        (IsNumberOf n)) }
+// The size of an area.
+fn area_asked(found: &ArgMatches<'_>) -> Option<u64>
+    ensures { IfSome result (λ n. IsSomeAnd (first_of (codes "area") (rows_of (found_of found.now)))
+        (IsSizeOf n)) }
 {
-    found.get_str(id)?.parse().ok()
+    match found.get_str("area") {
+        Some(text) => size(text),
+        None => None,
+    }
 }
 
 // Whether a flag was given.
@@ -428,14 +480,20 @@ fn copy_asked(alloc: Global, found: &ArgMatches<'_>) -> Result<Option<Invocation
     ensures { IfOk result (λ asked. IfSome asked
         (λ a. Asks a (codes "copy", rows_of (found_of found.now)))) }
 {
-    let Some(area) = number(found, "area") else {
+    let Some(area) = area_asked(found) else {
         return Ok(None);
     };
     let Some(old) = text(alloc, found, "OLD")? else {
         return Ok(None);
     };
+    let group = is_given(found, "group");
     match text(alloc, found, "NEW")? {
-        Some(new) => Ok(Some(Invocation::Copy { old, new, area })),
+        Some(new) => Ok(Some(Invocation::Copy {
+            old,
+            new,
+            area,
+            group,
+        })),
         None => Ok(None),
     }
 }
@@ -479,19 +537,23 @@ fn format_asked(alloc: Global, found: &ArgMatches<'_>) -> Result<Option<Task>, A
     ensures { IfOk result (λ asked. IfSome asked
         (λ a. AsksTask a (codes "format", rows_of (found_of found.now)))) }
 {
-    let Some(area) = number(found, "area") else {
+    let Some(area) = area_asked(found) else {
         return Ok(None);
     };
     let Ok(version) = version_asked(found) else {
         return Ok(None);
     };
     let reserve = is_given(found, "reserve");
+    let group = is_given(found, "group");
+    let force = is_given(found, "force");
     match text(alloc, found, "DISK")? {
         Some(disk) => Ok(Some(Task::Format {
             disk,
             area,
             version,
             reserve,
+            group,
+            force,
         })),
         None => Ok(None),
     }
@@ -570,7 +632,7 @@ fn answer<'a>(
     let matches = program.try_get_matches_from_mut(words)?;
     match asked(alloc, matches)? {
         Some(command) => Ok(command),
-        None => Err(program.error(ErrorKind::MissingSubcommand, "no command")?),
+        None => Err(program.error(ErrorKind::ValueValidation, NO_SIZE)?),
     }
 }
 

@@ -23,7 +23,7 @@ use Rattle.boosted.proofs.Each.{each_append, weaker}
 use Rattle.clients.proofs.Seeing.{grows_none, grows_then}
 use Rattle.background.specs.Transactions.{CommitsNothing, WasLive, WasEnded, Commits, Tried, Ran}
 use Rattle.background.specs.Transactions.{IsPassing, IsWithin, TakesBack, Begins, AsksCommit, Stops}
-use Rattle.background.specs.Transactions.{IsRefused, PassesOften, GivesUp, Transacts, Keeps}
+use Rattle.background.specs.Transactions.{IsRefused, PassesOften, GivesUp, GoesThrough, IsKept}
 use Rattle.background.specs.Works.{KnowsStill}
 use Rattle.background.proofs.Knowing.{knows_same, knows_through, knows_heard, knows_acted}
 
@@ -618,7 +618,7 @@ module _ {J : Type 0} (j : Ghosts J) where
           IfErr r (λ e. (xs : List Action) × Tried j.origin now xs new) →
           IfErr r (λ e. IsRefused j.origin refuses now e new) →
           ((e : Refusal) → r ≡ Err e → IsPassing e → bound ≤ number) →
-          Transacts j.origin refuses says bound old r new
+          GoesThrough j.origin refuses says bound old r new
       transacts_last bound old now new number (Ok done) goes ran tried is ends =
           goes_through bound (says done.0) old now new number done.1.place goes ran
       transacts_last bound old now new number (Err e) goes ran tried is ends =
@@ -659,10 +659,10 @@ module _ {J : Type 0} (j : Ghosts J) where
           (r : Result (A × Ticket) Refusal) (e f : Refusal) → r ≡ Err e → e ≡ f →
           Ran j.origin refuses bound (says done.0) a done.1.place b →
           Waits b done.1.place (Err f) c →
-          Keeps j.origin refuses says bound a r c
+          IsKept j.origin refuses says bound a r c
       keeps_lost bound a b c done r e f is same ran waits =
           let lost = lost_is done.1.place waits.counts waits.flags f waits.decides in
-          subst (λ x. Keeps j.origin refuses says bound a x c) (sym is) (inr (
+          subst (λ x. IsKept j.origin refuses says bound a x c) (sym is) (inr (
             same ∙ lost,
             (
               done.0,

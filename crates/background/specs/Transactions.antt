@@ -158,13 +158,28 @@ module _ (o : Origin) where
     module _ {A : Type 0} (says : A → List Action → Type 0) (bound : ℕ) where
       -- The client ran a transaction, and its output is answered with the ticket of its commit. Or
       -- nothing was committed.
-      abbrev pub Transacts : Known → Result (A × Ticket) Refusal → Known → Type 0
-      Transacts old (Ok done) new = Ran bound (says done.0) old done.1.place new
-      Transacts old (Err e) new = GivesUp bound old e new
+      abbrev pub GoesThrough : Known → Result (A × Ticket) Refusal → Known → Type 0
+      GoesThrough old (Ok done) new = Ran bound (says done.0) old done.1.place new
+      GoesThrough old (Err e) new = GivesUp bound old e new
 
       -- And where it was refused as lost, it may have been run: then the wait for it was lost.
-      abbrev pub Keeps : Known → Result (A × Ticket) Refusal → Known → Type 0
-      Keeps old (Ok done) new = Ran bound (says done.0) old done.1.place new
-      Keeps old (Err e) new = GivesUp bound old e new
+      abbrev pub IsKept : Known → Result (A × Ticket) Refusal → Known → Type 0
+      IsKept old (Ok done) new = Ran bound (says done.0) old done.1.place new
+      IsKept old (Err e) new = GivesUp bound old e new
           ⊎ ((e ≡ Refusal.Lost) × ((output : A) × (place : ℕ) × (ran : Known) ×
           Ran bound (says output) old place ran × Waits ran place (Err Refusal.Lost) new))
+
+      -- Keeping was heard to have failed, and nothing was tried: Lost. Or it was heard not to have
+      -- failed, and then this is so.
+      abbrev pub HearsFirst : (Known → Result (A × Ticket) Refusal → Known → Type 0) → Known →
+          Result (A × Ticket) Refusal → Known → Type 0
+      HearsFirst goes old r new =
+          ((r ≡ Err Refusal.Lost) × Hears old [] (true ∷ []) new)
+          ⊎ ((heard : Known) × Hears old [] (false ∷ []) heard × goes heard r new)
+
+      -- The same once keeping was heard not to have failed; where it has, nothing is tried.
+      abbrev pub Transacts : Known → Result (A × Ticket) Refusal → Known → Type 0
+      Transacts old r new = HearsFirst GoesThrough old r new
+
+      abbrev pub Keeps : Known → Result (A × Ticket) Refusal → Known → Type 0
+      Keeps old r new = HearsFirst IsKept old r new

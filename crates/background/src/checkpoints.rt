@@ -93,9 +93,9 @@ impl Checkpoints {
         self.is_over.load(Ordering::SeqCst)
     }
 
-    // Keeping ends early, for this refusal.
-    pub(crate) fn end_by(&self, refusal: Refusal) {
-        let _noted = self.ended_by.try_set(refusal);
+    // Keeping ends early, for this refusal. Whether it is the first one.
+    pub(crate) fn end_by(&self, refusal: Refusal) -> bool {
+        self.ended_by.try_set(refusal).is_ok()
     }
 
     // What ended keeping early, if something did.

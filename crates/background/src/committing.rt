@@ -6,9 +6,11 @@ use crate::burst::Burst;
 use crate::checkpoints::Checkpoints;
 use crate::filling::Filling;
 use crate::pause::Pause;
+use crate::running::Work;
 use calls::Refusal;
 use checkpoint::Turn;
 use disk_model::Disk;
+use std::alloc::AllocGlobal;
 use std::io;
 use std::rt::Clock;
 use std::sync::Wait;
@@ -31,13 +33,25 @@ pub(crate) trait Commits {
     /// Where a block does not fit, with the undoing of all that is live behind it, it waits for
     /// one.
     ///
-    /// It ends early where the disk fails, and where a checkpoint makes no room: then the mark's
-    /// failed flag is set, so that who waits is told, and the refusal is noted.
-    fn commit_all<R: Wait + Clock>(&self, rt: &R, checkpoints: &Checkpoints);
+    /// Refused early where the disk fails, and where a checkpoint makes no room.
+    fn commit_all<R: Wait + Clock>(&self, rt: &R, checkpoints: &Checkpoints) -> Result<(), Refusal>;
 
     /// Takes the checkpoints that are asked for, until no more are. One that finds no memory is
     /// tried again later.
-    fn checkpoint_all<R: Wait + Clock>(&self, rt: &R, checkpoints: &Checkpoints);
+    ///
+    /// Fault behind one at which the disk failed, and then those that are asked for are to be
+    /// answered still: it is to be called again.
+    fn checkpoint_all<R: Wait + Clock>(
+        &self,
+        rt: &R,
+        checkpoints: &Checkpoints,
+    ) -> Result<(), Refusal>;
+
+    /// The committer takes no more turns: who waits until something is kept is told Lost.
+    fn stop<R: Wait>(&self, rt: &R);
+
+    /// No committer is at work any more.
+    fn leave(&self);
 
     /// Clients are to wait for the committer where they leave records faster than it takes them.
     fn begin(&self);
@@ -47,28 +61,39 @@ pub(crate) trait Commits {
 }
 
 impl<D: Disk, J: Naming> Commits for Store<D, J> {
-    fn commit_all<R: Wait + Clock>(&self, rt: &R, checkpoints: &Checkpoints) {
-        let mut committer = self.committer(rt);
-        if let Err(refusal) = commit_until_over(rt, &mut committer, self.signal(), checkpoints) {
-            checkpoints.end_by(refusal);
-            committer.stop();
-        }
-        self.signal().set_attended(false);
-        checkpoints.end();
+    fn commit_all<R: Wait + Clock>(
+        &self,
+        rt: &R,
+        checkpoints: &Checkpoints,
+    ) -> Result<(), Refusal> {
+        commit_until_over(rt, &mut self.committer(rt), self.signal(), checkpoints)
     }
 
-    fn checkpoint_all<R: Wait + Clock>(&self, rt: &R, checkpoints: &Checkpoints) {
+    fn checkpoint_all<R: Wait + Clock>(
+        &self,
+        rt: &R,
+        checkpoints: &Checkpoints,
+    ) -> Result<(), Refusal> {
         let mut checkpointer = self.checkpointer(rt);
         for _ in rt.forever() {
             let Some(asked) = checkpoints.next(rt) else {
-                return;
+                return Ok(());
             };
             let made = checkpoint(rt, &mut checkpointer, self.signal(), checkpoints);
-            if made == Err(Refusal::Fault) {
-                checkpoints.end_by(Refusal::Fault);
-            }
             checkpoints.answer(asked, made.is_ok());
+            if made == Err(Refusal::Fault) {
+                return Err(Refusal::Fault);
+            }
         }
+        unreachable!()
+    }
+
+    fn stop<R: Wait>(&self, rt: &R) {
+        self.committer(rt).stop();
+    }
+
+    fn leave(&self) {
+        self.signal().set_attended(false);
     }
 
     fn begin(&self) {
@@ -77,6 +102,54 @@ impl<D: Disk, J: Naming> Commits for Store<D, J> {
 
     fn end(&self) {
         self.signal().end();
+    }
+}
+
+// Commits until all work is over. Where that ends early the refusal is noted, and the work and who
+// waits are told.
+fn keep_committing<S: Commits, W: Work, R: Wait + Clock + AllocGlobal>(
+    rt: &R,
+    store: &S,
+    checkpoints: &Checkpoints,
+    work: &W,
+) {
+    if let Err(refusal) = store.commit_all(rt, checkpoints) {
+        end_keeping(rt, checkpoints, work, refusal);
+        store.stop(rt);
+    }
+    store.leave();
+    checkpoints.end();
+}
+
+// Takes checkpoints until no more are asked for. A fault of the disk is noted, and the work is told.
+fn keep_checkpointing<S: Commits, W: Work, R: Wait + Clock + AllocGlobal>(
+    rt: &R,
+    store: &S,
+    checkpoints: &Checkpoints,
+    work: &W,
+) {
+    for _ in rt.forever() {
+        match store.checkpoint_all(rt, checkpoints) {
+            Ok(()) => return,
+            Err(refusal) => end_keeping(rt, checkpoints, work, refusal),
+        }
+    }
+}
+
+// Notes what ended keeping early, and tells the work, once. What is Failed met a Fault before, in
+// the other thread perhaps.
+fn end_keeping<W: Work, R: Wait + AllocGlobal>(
+    rt: &R,
+    checkpoints: &Checkpoints,
+    work: &W,
+    refusal: Refusal,
+) {
+    let cause = match refusal {
+        Refusal::Failed => Refusal::Fault,
+        other => other,
+    };
+    if checkpoints.end_by(cause) {
+        work.keeping_ended(rt, cause);
     }
 }
 
@@ -193,19 +266,21 @@ impl Keeping {
 /// `Commits::end`, which is to be called on each way out of the scope.
 ///
 /// NoMemory where no thread can be started.
-pub(crate) fn start<'s, E, S: Commits + Sync, R: Wait + Clock + Sync>(
+pub(crate) fn start<'s, E, S: Commits + Sync, W: Work + Sync, R: Wait + Clock + AllocGlobal + Sync>(
     scope: &Scope<'s, E>,
     rt: &'s R,
     store: &'s S,
     checkpoints: &'s Checkpoints,
+    work: &'s W,
 ) -> Result<Keeping, Refusal>
     ensures { IsOkUnless result Refusal.NoMemory }
 {
-    let Ok(checkpointer) = scope.spawn(move || store.checkpoint_all(rt, checkpoints)) else {
+    let Ok(checkpointer) = scope.spawn(move || keep_checkpointing(rt, store, checkpoints, work))
+    else {
         return Err(Refusal::NoMemory);
     };
     store.begin();
-    match scope.spawn(move || store.commit_all(rt, checkpoints)) {
+    match scope.spawn(move || keep_committing(rt, store, checkpoints, work)) {
         Ok(committer) => Ok(Keeping {
             committer,
             checkpointer,

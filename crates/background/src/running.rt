@@ -44,6 +44,12 @@ pub trait Work {
     ) -> Self::Output
         requires { client.old ≡ newcomer client.old.number }
         ensures { says self.now J.origin thread result client.new };
+
+    /// Keeping has ended early, for this refusal: Full, NoMemory or Fault, as `Closed::ended_by`
+    /// tells them. It is called once, by a thread that keeps, while the threads work, so that they
+    /// can be told to end. It is to return soon: where it is Full or NoMemory, who waits until
+    /// something is kept is told Lost behind it.
+    fn keeping_ended<R: Wait + AllocGlobal>(&self, _rt: &R, _refusal: Refusal) {}
 }
 
 /// The disk of a store that was worked on and closed.
@@ -240,7 +246,7 @@ fn run_beside<
             ensures said { IfOk result (λ ended.
                 AreSaid (W.says work.entry.now J.origin) ended.items threads) }
         {
-            let keeping = start(scope, rt, store, checkpoints)?;
+            let keeping = start(scope, rt, store, checkpoints, work)?;
             let done = work_all::<J, S, W, R>(rt, store, work, threads);
             store.end();
             keeping.join(rt);

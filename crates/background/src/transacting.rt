@@ -6,6 +6,7 @@ ghost use Rattle.txn.specs.declared.steps.Action.{Action};
 ghost use Rattle.clients.specs.declared.phase.Phase.{Phase};
 ghost use Rattle.background.specs.Transactions.{Tried, TakesBack, Begins, IsNotBegun, Stops};
 ghost use Rattle.background.specs.Transactions.{IsRefused, IsPassing, Ran, Transacts, Keeps};
+ghost use Rattle.background.specs.Transactions.{GoesThrough, IsKept};
 ghost use Rattle.background.specs.Works.{HasCommitted, WasToldKept, KnowsStill};
 
 use crate::pause::Pause;
@@ -25,8 +26,8 @@ use store::{Client, Naming, Ticket, Transaction};
 /// calls are those of the attempt that went through, of which the output says what
 /// `Transaction::says` says. Each attempt before it was ended by an abort.
 ///
-/// Lost where it is to be tried again and keeping has failed: nothing that would be committed could
-/// be kept. Each other refusal of a call, of the begin or of the commit takes the transaction back
+/// Lost where keeping has failed before anything is tried, and where it is to be tried again:
+/// nothing that would be committed could be kept. Each other refusal of a call, of the begin or of the commit takes the transaction back
 /// and is answered; and so are those of `Client::abort`, which leave it open. So the refusal is
 /// that of the last attempt, and each attempt before it was refused as one that may go through
 /// later. Of a call's refusal `Transaction::refuses` says what was done. No refusal leaves anything
@@ -57,6 +58,25 @@ pub fn transact_within<T: Transaction, J: Naming, R: Wait + Clock>(
     ensures closed { OnOk result (client.new.phase ≡ Phase.Closed) }
     ensures committed { IfOk result (λ done. HasCommitted client.new done.1.place) }
     ensures transacts { Transacts J.origin (T.refuses transaction.now)
+        (T.says transaction.now) attempts client.old result client.new }
+{
+    if client.has_failed() {
+        Err(Refusal::Lost)
+    } else {
+        try_within(rt, client, transaction, attempts)
+    }
+}
+
+// Runs a transaction as `transact_within` does, whose keeping had not failed before.
+fn try_within<T: Transaction, J: Naming, R: Wait + Clock>(
+    rt: &R,
+    client: &mut Client<'_, J>,
+    transaction: &T,
+    attempts: u32,
+) -> Result<(T::Output, Ticket), Refusal>
+    ensures closed { OnOk result (client.new.phase ≡ Phase.Closed) }
+    ensures committed { IfOk result (λ done. HasCommitted client.new done.1.place) }
+    ensures goes { GoesThrough J.origin (T.refuses transaction.now)
         (T.says transaction.now) attempts client.old result client.new }
 {
     client.upheld();
@@ -107,7 +127,26 @@ pub fn keep_within<T: Transaction, J: Naming, R: Wait + Clock>(
     ensures keeps { Keeps J.origin (T.refuses transaction.now)
         (T.says transaction.now) attempts client.old result client.new }
 {
-    let (output, ticket) = transact_within(rt, client, transaction, attempts)?;
+    if client.has_failed() {
+        return Err(Refusal::Lost);
+    }
+    keep_tried(rt, client, transaction, attempts)
+}
+
+// Keeps a transaction as `keep_within` does, whose keeping had not failed before.
+fn keep_tried<T: Transaction, J: Naming, R: Wait + Clock>(
+    rt: &R,
+    client: &mut Client<'_, J>,
+    transaction: &T,
+    attempts: u32,
+) -> Result<(T::Output, Ticket), Refusal>
+    ensures closed { OnOk result (client.new.phase ≡ Phase.Closed) }
+    ensures committed { IfOk result (λ done. HasCommitted client.new done.1.place) }
+    ensures kept { IfOk result (λ done. WasToldKept client.new done.1.place) }
+    ensures keeps { IsKept J.origin (T.refuses transaction.now)
+        (T.says transaction.now) attempts client.old result client.new }
+{
+    let (output, ticket) = try_within(rt, client, transaction, attempts)?;
     client.wait(rt, &ticket)?;
     Ok((output, ticket))
 }

@@ -104,7 +104,7 @@ module _ {D : Type 0} (g : Ghosts D) (old : D) where
   -- a command that did not touch its disk
   pub untouched_leaves : ((c : List ℕ) → g.left_since old (g.moment old) c → g.may_leave old c) →
       (task : Task) (script : List ℕ) → Leaves g task script old old
-  untouched_leaves only_now (Task.Format disk area version reserve) script =
+  untouched_leaves only_now (Task.Format disk area version reserve group force) script =
       untouched_format g.seen g.may_leave g.moment g.left_since old (IsEmptyAs version) only_now
   untouched_leaves only_now (Task.Play disk name) script = λ honest.
       unplayed_leaves script old
@@ -276,6 +276,8 @@ play_undone task script same (Err (Failure.NotUnderstood line)) is why = (is, wh
 play_undone task script same (Err Failure.Unwritten) is why = tt
 play_undone task script same (Err (Failure.CannotOpen path error)) is why = absurd why
 play_undone task script same (Err (Failure.InUse path)) is why = absurd why
+play_undone task script same (Err (Failure.HoldsBytes path)) is why = absurd why
+play_undone task script same (Err (Failure.BadArgument why_not)) is why = absurd why
 
 -- a play ends with status 1 only where its script is understood, or nothing was touched
 pub refused_one : (task : Task) (script : List ℕ) (same : Type 0) (f : Failure) →
@@ -288,6 +290,8 @@ refused_one task script same (Failure.NotUnderstood line) one why is = absurd (o
 refused_one task script same (Failure.CannotOpen path error) one why is =
     absurd (omega (arith, one))
 refused_one task script same (Failure.InUse path) one why is = absurd (omega (arith, one))
+refused_one task script same (Failure.HoldsBytes path) one why is = absurd why
+refused_one task script same (Failure.BadArgument why_not) one why is = absurd why
 refused_one task script same Failure.Unwritten one why is = absurd (omega (arith, one))
 
 -- the stored run's lines were played, whatever is shown behind them

@@ -18,6 +18,8 @@ status_of (Failure.NotUnderstood line) = 3
 status_of (Failure.CannotOpen path error) = 4
 status_of (Failure.InUse path) = 4
 status_of Failure.Unwritten = 4
+status_of (Failure.HoldsBytes path) = 1
+status_of (Failure.BadArgument why) = 1
 
 -- each line of the script says something, or is passed over
 abbrev pub IsUnderstood : List ℕ → Type 0
@@ -43,6 +45,8 @@ IsWhyUnplayed script same (Failure.Refused refusal) = MayRefuse script same refu
 IsWhyUnplayed script same Failure.Unwritten = Unit {0}
 IsWhyUnplayed script same (Failure.CannotOpen path error) = ⊥
 IsWhyUnplayed script same (Failure.InUse path) = ⊥
+IsWhyUnplayed script same (Failure.HoldsBytes path) = ⊥
+IsWhyUnplayed script same (Failure.BadArgument why) = ⊥
 
 -- why a command was not done: only a play fails by its script
 abbrev pub IsWhyUndone : Task → List ℕ → Type 0 → Failure → Type 0
@@ -53,6 +57,8 @@ IsWhyUndone task script same (Failure.Refused refusal) =
 IsWhyUndone task script same Failure.Unwritten = Unit {0}
 IsWhyUndone task script same (Failure.CannotOpen path error) = ⊥
 IsWhyUndone task script same (Failure.InUse path) = ⊥
+IsWhyUndone task script same (Failure.HoldsBytes path) = ⊥
+IsWhyUndone task script same (Failure.BadArgument why) = ⊥
 
 -- The script's line of this number is the first that is not understood.
 abbrev pub IsNotUnderstoodAt : List ℕ → ℕ → Type 0

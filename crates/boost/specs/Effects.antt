@@ -172,7 +172,7 @@ pub record IsCounted {D : Type 0} (g : Ghosts D) (disk : D) : Type 0 where
 -- one, a check counted one, and a stat what room it takes; an upgrade brought one to the second
 -- format; and the stored run did what it does on a disk of its own.
 abbrev pub IsDone : {D : Type 0} (g : Ghosts D) → Type 0 → Task → List ℕ → D → D → Type 0
-IsDone g stored (Task.Format disk area version reserve) script old new =
+IsDone g stored (Task.Format disk area version reserve group force) script old new =
     IsFormatted g version area old new
 IsDone g stored (Task.Play disk name) script old new =
     IsUnderstood script × (g.is_honest new → IsPlayedOn g script old new)
@@ -188,7 +188,8 @@ IsDone g stored Task.Demo script old new = stored
 -- nothing is to be written; a check and a stat only read; an upgrade the content; and the stored
 -- run does not touch the disk.
 abbrev pub Leaves : {D : Type 0} (g : Ghosts D) → Task → (script : List ℕ) → D → D → Type 0
-Leaves g (Task.Format disk area version reserve) script old new = FormatLeaves g version old new
+Leaves g (Task.Format disk area version reserve group force) script old new =
+    FormatLeaves g version old new
 Leaves g (Task.Play disk name) script old new = g.is_honest new → IsLeftByPlay g script old new
 Leaves g (Task.Show disk read_only) script old new = ShowLeaves g read_only old new
 Leaves g (Task.Check disk) script old new =

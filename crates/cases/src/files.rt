@@ -55,6 +55,14 @@ impl Fifos for NoFifos {
     fn remove(&self, _path: &str) -> io::Result<()> {
         Err(io::Error::from(io::ErrorKind::NotFound))
     }
+
+    fn names(&self, _folder: &str) -> io::Result<Vec<String>> {
+        Err(io::Error::from(io::ErrorKind::NotFound))
+    }
+
+    fn has_standard_error(&self) -> bool {
+        false
+    }
 }
 
 // What the program answers to the words of a command line.

@@ -1,13 +1,8 @@
 //! Plays cases that are data: each is a list of scripts and questions, on disks in memory and on
 //! files, for one client and for clients in threads. What is asked and what is answered is printed,
 //! and the file `stdout` says what it must be. A line that is no question ends the run.
-//!
-//! With the word `bench` and the words of a measurement it measures the store instead.
 #![tactic(auto)]
 
-mod asking;
-mod bench;
-mod comparison;
 mod damage;
 mod files;
 mod image_bytes;
@@ -18,15 +13,12 @@ mod spellings;
 mod sweeps;
 mod system;
 mod texts;
-mod threads;
 mod watched;
 
 use plays::told::Told;
 use plays::workbench::Workbench;
-use std::alloc::{AllocError, Global};
+use std::fs;
 use std::io::{self, Write};
-use std::process::ExitCode;
-use std::{env, fs};
 use system::System;
 
 // Asks what a line asks. Behind a script that is played through the store alone, what was told so
@@ -92,24 +84,6 @@ fn play_all(rt: &(impl System + Sync), out: &mut impl Write) -> io::Result<()> {
     played
 }
 
-// The words of a command line, as references into them.
-fn as_words(alloc: Global, args: &Vec<String>) -> Result<Vec<&str>, AllocError> {
-    args.iter().map(|word| word.as_str()).collect(alloc)
-}
-
-fn main(rt: HostRuntime) -> io::Result<ExitCode> {
-    let args = env::args(&rt)?.collect(rt.alloc())?;
-    let words = as_words(rt.alloc(), &args)?;
-    let mut out = rt.stdout();
-    let [_, "bench", asked @ ..] = words.as_slice() else {
-        play_all(&rt, &mut out)?;
-        return Ok(ExitCode::SUCCESS);
-    };
-    match bench::measure(&rt, asked, &mut out) {
-        Ok(()) => Ok(ExitCode::SUCCESS),
-        Err(trouble) => {
-            let _written = eprintln!(rt; "bench: {trouble}");
-            Ok(ExitCode::FAILURE)
-        }
-    }
+fn main(rt: HostRuntime) -> io::Result<()> {
+    play_all(&rt, &mut rt.stdout())
 }

@@ -4,8 +4,7 @@ use crate::plays::workbench::Workbench;
 use crate::plays::{questions, talked};
 use crate::sweeps::{any_areas, copies, stops, sweeping, upgrades};
 use crate::system::System;
-use crate::threads::{load, looks_on_two_shelves, second_call_during_sync};
-use crate::{bench, comparison, damage, files, image_bytes, runs, spellings, texts, watched};
+use crate::{damage, files, image_bytes, runs, spellings, texts, watched};
 use std::fs::{self, File};
 use std::io;
 use std::rt::Files;
@@ -37,16 +36,6 @@ fn ask_of_threads(
         "beside" => files::run_beside(rt, bench, rest, told),
         "serve" => runs::serve(rt, bench, told),
         "serve_ends" => runs::serve_ends(rt, bench, told),
-        "second_call_during_sync" => {
-            second_call_during_sync::run(rt, told);
-            Ok(())
-        }
-        "looks_on_two_shelves" => {
-            looks_on_two_shelves::run(rt, told);
-            Ok(())
-        }
-        "load" => load::run(rt, told),
-        "bench" => bench::tell(rt, rest, told),
         _ => ask_of_files(rt, bench, word, rest, told),
     }
 }
@@ -116,7 +105,6 @@ fn ask_of_stores(
         "image" => image_bytes::open(rt.alloc(), bench, rest, told),
         "record" => spellings::read(rt.alloc(), rest, told),
         "command" => runs::understand(rt.alloc(), rest, told),
-        "compare" => comparison::compare(rt.alloc(), rest, told),
         "texts" => {
             texts::tell_all(told);
             Ok(())

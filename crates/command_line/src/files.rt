@@ -9,21 +9,14 @@ use calls::limits::MIN_AREA;
 use calls::{Format, Refusal};
 use disk_model::{Content, FileDisk};
 use gate_block::layout::AREAS_AT;
-use std::fs::{self, File, TryLockError};
-use std::io::{self, Read};
-use std::os::unix::fs::FileTypeExt;
+use std::alloc::Global;
+use std::fs::{self, File};
+use std::io::{self, Read, Write};
 use std::rt::Files;
+use store_file::{Access, FileError, LockedFile, Making, Place, open};
 
-/// What a command does with the file of a disk.
-#[derive(Clone, Copy)]
-pub enum Access {
-    /// It reads, and others may read beside it.
-    Reads,
-    /// It reads and writes, alone.
-    Writes,
-    /// It reads and writes, alone, and the file is made where it is not there.
-    Makes,
-}
+/// The disk that is the file of a store.
+pub type StoreDisk<S> = FileDisk<S, LockedFile>;
 
 /// Why a file is not opened: for want of memory, or because it cannot be.
 pub fn cannot_open<'a>(path: &'a str, error: &io::Error) -> Failure<'a> {
@@ -33,12 +26,40 @@ pub fn cannot_open<'a>(path: &'a str, error: &io::Error) -> Failure<'a> {
     }
 }
 
+// Why the file of a store is not opened.
+fn unopened<'a>(path: &'a str, error: &FileError) -> Failure<'a> {
+    match error {
+        FileError::InUse => Failure::InUse(path),
+        FileError::System(error) => cannot_open(path, error),
+    }
+}
+
 /// What was opened or read, or that the file cannot be opened.
 pub fn opened<'a, T: Drop>(path: &'a str, found: io::Result<T>) -> Result<T, Failure<'a>> {
     match found {
         Ok(value) => Ok(value),
         Err(error) => Err(cannot_open(path, &error)),
     }
+}
+
+/// The script of the path, or for `-` all that comes over `input`.
+pub fn read_script<'a, R: Files<File = File> + AllocGlobal>(
+    rt: &R,
+    path: &'a str,
+    input: impl Read + Drop,
+) -> Result<Vec<u8>, Failure<'a>> {
+    if path == "-" {
+        return opened(path, read_all(rt.alloc(), input));
+    }
+    opened(path, fs::read(rt, path))
+}
+
+// All that comes over an input.
+fn read_all(alloc: Global, input: impl Read + Drop) -> io::Result<Vec<u8>> {
+    let mut input = input;
+    let mut text = Vec::new(alloc);
+    input.read_to_end(&mut text)?;
+    Ok(text)
 }
 
 /// The format of the number. Refused BadArg where there is none.
@@ -65,104 +86,87 @@ pub fn check_area(format: Format, area: u64) -> Result<(), Refusal>
     Ok(())
 }
 
-// Takes the lock of a file that is to be read, which keeps out who writes. A file system that locks
-// no file that is open for reading alone goes without.
-fn lock_to_read<'a>(path: &'a str, file: File) -> Result<File, Failure<'a>> {
-    match file.try_lock_shared() {
-        Err(TryLockError::WouldBlock) => Err(Failure::InUse(path)),
-        _ => Ok(file),
-    }
-}
-
-// Takes a file for this run alone, unless another run has it.
-fn lock_alone<'a>(path: &'a str, file: File) -> Result<File, Failure<'a>> {
-    match file.try_lock() {
-        Ok(()) => Ok(file),
-        Err(TryLockError::WouldBlock) => Err(Failure::InUse(path)),
-        Err(TryLockError::Error(error)) => Err(cannot_open(path, &error)),
-    }
-}
-
-// Refuses what is no disk, and can be opened for reading alone: a folder, and a FIFO, of which who
-// opens it so waits for a writer.
-fn check_path<'a>(rt: &impl Files<File = File>, path: &'a str) -> Result<(), Failure<'a>> {
-    let found = opened(path, fs::metadata(rt, path))?.file_type();
-    let why = if found.is_dir() {
-        io::ErrorKind::IsADirectory
-    } else if found.is_fifo() {
-        io::ErrorKind::InvalidInput
-    } else {
-        return Ok(());
-    };
-    Err(cannot_open(path, &io::Error::from(why)))
-}
-
-// Opens a file and takes its lock.
-fn open_file<'a>(
-    rt: &impl Files<File = File>,
-    path: &'a str,
-    access: Access,
-) -> Result<File, Failure<'a>> {
-    let may_write = !matches!(access, Access::Reads);
-    if !may_write {
-        check_path(rt, path)?;
-    }
-    let file = File::options()
-        .read(true)
-        .write(may_write)
-        .create(matches!(access, Access::Makes))
-        .open(rt, path);
-    let file = opened(path, file)?;
-    if may_write {
-        lock_alone(path, file)
-    } else {
-        lock_to_read(path, file)
-    }
-}
-
-// Gives a file so many bytes, all of them zeros that are written, so that the system has taken its
-// space. Where it can't, the file is left empty.
-fn reserve(file: &File, size: u64) -> io::Result<()> {
-    file.set_len(0)?;
-    let done = fill_with_zeros(file, size);
-    if done.is_err() {
-        file.set_len(0)?;
-    }
-    done
-}
-
-// Writes so many zeros to a file, and syncs them.
-fn fill_with_zeros(file: &File, size: u64) -> io::Result<()> {
-    let mut file = file;
-    io::copy(&mut io::repeat(0).take(size), &mut file)?;
-    file.sync_all()
-}
-
-/// Makes a file, or takes the one that is there, and gives it the size of a disk with two such
-/// areas; where `is_reserved` is set, by zeros that are written over all of it.
-pub fn make_disk<'a, S: Content>(
-    rt: &impl Files<File = File>,
-    path: &'a str,
-    area: u64,
-    is_reserved: bool,
-) -> Result<FileDisk<S>, Failure<'a>>
-    requires { area ≤ max_area widest }
-{
-    let file = open_file(rt, path, Access::Makes)?;
-    let size = AREAS_AT + 2 * area;
-    if is_reserved {
-        opened(path, reserve(&file, size))?;
-    } else {
-        opened(path, file.set_len(size))?;
-    }
-    opened(path, FileDisk::open(file))
-}
-
 /// Opens the file of a disk that is there.
 pub fn open_disk<'a, S: Content>(
     rt: &impl Files<File = File>,
     path: &'a str,
     access: Access,
-) -> Result<FileDisk<S>, Failure<'a>> {
-    opened(path, FileDisk::open(open_file(rt, path, access)?))
+) -> Result<StoreDisk<S>, Failure<'a>> {
+    match open(rt, path, access) {
+        Ok(file) => opened(path, FileDisk::open(file)),
+        Err(error) => Err(unopened(path, &error)),
+    }
+}
+
+/// Looks at the place of a file that is to be made, which nobody else takes meanwhile where one is
+/// there.
+pub fn look_at<'a, R: Files<File = File> + AllocGlobal>(
+    rt: &R,
+    path: &'a str,
+) -> Result<Place, Failure<'a>> {
+    match Place::look(rt, path) {
+        Ok(place) => Ok(place),
+        Err(error) => Err(unopened(path, &error)),
+    }
+}
+
+/// Begins to make the file of a disk with two such areas; where `is_reserved` is set, with its
+/// space taken. Where that is refused, what is there stays.
+pub fn begin_disk<'a, S: Content, R: Files<File = File> + AllocGlobal>(
+    rt: &R,
+    path: &'a str,
+    place: Place,
+    area: u64,
+    is_reserved: bool,
+    for_group: bool,
+) -> Result<(Making, StoreDisk<S>), Failure<'a>>
+    requires { area ≤ max_area widest }
+{
+    let (making, file) = match place.begin(rt, for_group) {
+        Ok(begun) => begun,
+        Err(error) => return Err(unopened(path, &error)),
+    };
+    match sized_disk(file, AREAS_AT + 2 * area, is_reserved) {
+        Ok(disk) => Ok((making, disk)),
+        Err(error) => {
+            making.give_up(rt);
+            Err(cannot_open(path, &error))
+        }
+    }
+}
+
+// The disk of an empty file, with so many bytes: zeros that are written, where its space is to be
+// taken.
+fn sized_disk<S: Content>(
+    file: LockedFile,
+    size: u64,
+    is_reserved: bool,
+) -> io::Result<StoreDisk<S>> {
+    if is_reserved {
+        fill_with_zeros(file.file(), size)?;
+    } else {
+        file.file().set_len(size)?;
+    }
+    FileDisk::open(file)
+}
+
+// Writes so many zeros to a file.
+fn fill_with_zeros(file: &File, size: u64) -> io::Result<()> {
+    let mut file = file;
+    io::copy(&mut io::repeat(0).take(size), &mut file)?;
+    file.flush()
+}
+
+/// Puts a file that was made in its place, or where it was not leaves what is there.
+pub fn settle<'a>(
+    rt: &impl Files<File = File>,
+    path: &'a str,
+    making: Making,
+    is_made: bool,
+) -> Result<(), Failure<'a>> {
+    if is_made {
+        return opened(path, making.finish(rt));
+    }
+    making.give_up(rt);
+    Ok(())
 }

@@ -2,6 +2,9 @@
 //! out.
 #![tactic(auto)]
 
+ghost use Rattle.std.specs.Prelude.{◌≤◌, IsOk};
+ghost use Rattle.calls.specs.Formats.{max_area, widest};
+
 mod files;
 mod lint;
 mod listen;
@@ -9,73 +12,142 @@ mod listen;
 use boost::{Failure, Invocation, Task, command, report, run, run_copy, serve};
 use calls::{Format, Refusal};
 use clap::error::ErrorKind;
-use disk_model::{Content, Disk, FileDisk, MemDisk};
-use files::{Access, check_area, format_numbered, make_disk, open_disk, opened};
+use disk_model::{Content, MemDisk};
+use files::{
+    StoreDisk, begin_disk, check_area, format_numbered, look_at, open_disk, opened, read_script,
+    settle,
+};
 use lint::{lint, tell_first_unclear};
 use listen::{listen_at_door, listen_to_input};
 use listening::Multiplex;
 pub use listening::{Fifos, SystemFifos, Way};
 use std::alloc::Global;
-use std::fs::{self, File};
+use std::fs::File;
 use std::io::{Read, Write};
 use std::rt::{Clock, Files};
 use std::sync::Wait;
 use std::thread::Threads;
 use std::time::Duration;
+use store_file::Access;
 
+// What an argument has to be.
+const FORMATS: &str = "--format is 1 or 2";
+
+const AREAS: &str = "--area is from 65536 (64K) to 1073741824 (1G)";
+
+const WIDE_AREAS: &str = "--area is from 65536 (64K) to 68719476736 (64G)";
+
+const TWO_PATHS: &str = "OLD and NEW are two files";
+
+const NO_FOLDER: &str = "--shell has no FOLDER";
+
+// The status where the store refused.
+const REFUSED: u8 = 1;
 // The status where a line of a script is not understood.
 const NOT_UNDERSTOOD: u8 = 3;
 
-// Carries a command out on a disk that was opened, and lets it go. Answers the status.
-fn run_on<'a, D: Disk + Drop>(
-    alloc: Global,
-    task: &Task,
-    disk: Result<D, Failure<'a>>,
-    script: &[u8],
-    out: &mut impl Write,
-    err: &mut impl Write,
-) -> Result<u8, Failure<'a>> {
-    match disk {
-        Ok(disk) => Ok(run(alloc, task, disk, script, out, err).0),
-        Err(failure) => Err(failure),
+// What was found, or where it is refused what the argument has to be.
+fn given<'a, T: Drop>(found: Result<T, Refusal>, range: &'static str) -> Result<T, Failure<'a>> {
+    match found {
+        Ok(value) => Ok(value),
+        Err(_) => Err(Failure::BadArgument(range)),
     }
 }
 
-// Makes the file of a disk with two such areas, of the format of the number, and carries a command
-// out on it. Refused BadArg where there is no such format, or such an area in it, before the file
-// is touched.
-fn run_on_new<'a, S: Content, R: Files<File = File> + AllocGlobal>(
-    rt: &R,
+// Refuses an area that no disk of the format has.
+fn check_given_area<'a>(format: Format, area: u64) -> Result<(), Failure<'a>>
+    ensures { IsOk result → area ≤ max_area widest }
+{
+    let range = match format {
+        Format::One => AREAS,
+        Format::Two => WIDE_AREAS,
+    };
+    match check_area(format, area) {
+        Ok(()) => Ok(()),
+        Err(_) => Err(Failure::BadArgument(range)),
+    }
+}
+
+// Carries a command out on the disk of a file. What the system says of a call that failed is told
+// where the store refused. Answers the status.
+fn run_on<S: Content>(
+    alloc: Global,
     task: &Task,
-    path: &'a str,
-    area: u64,
-    version: u8,
-    is_reserved: bool,
+    disk: StoreDisk<S>,
+    script: &[u8],
+    out: &mut impl Write,
+    err: &mut impl Write,
+) -> u8 {
+    let (status, disk) = run(alloc, task, disk, script, out, err);
+    if status == REFUSED {
+        tell_cause(&disk, err);
+    }
+    status
+}
+
+// Makes the file of a disk with two such areas, of the format of the number, an empty store.
+// Refused BadArg where there is no such format, or such an area in it, before the file is touched;
+// and where the file holds bytes, and it is not forced.
+fn format_new<'a, S: Content, R: Files<File = File> + AllocGlobal>(
+    rt: &R,
+    task: &'a Task,
     out: &mut impl Write,
     err: &mut impl Write,
 ) -> Result<u8, Failure<'a>> {
-    check_area(format_numbered(version)?, area)?;
-    let disk = make_disk::<S>(rt, path, area, is_reserved);
-    run_on(rt.alloc(), task, disk, &[], out, err)
+    let Task::Format {
+        disk: path,
+        area,
+        version,
+        reserve,
+        group,
+        force,
+    } = task
+    else {
+        return Ok(0);
+    };
+    let path = path.as_str();
+    check_given_area(given(format_numbered(*version), FORMATS)?, *area)?;
+    let place = look_at(rt, path)?;
+    if !*force && opened(path, place.holds_bytes())? {
+        return Err(Failure::HoldsBytes(path));
+    }
+    let (making, disk) = begin_disk::<S, R>(rt, path, place, *area, *reserve, *group)?;
+    let status = run_on(rt.alloc(), task, disk, &[], out, err);
+    settle(rt, path, making, status == 0)?;
+    Ok(status)
 }
 
 // Copies the store in a file to another file, with two such areas. Refused BadArg where the two
 // paths are one, before a file is touched; the same file under two names is refused by its lock.
+// The other file is as it was until it holds the copy.
 fn copy_store<'a, S: Content, R: Files<File = File> + AllocGlobal>(
     rt: &R,
     old: &'a str,
     new: &'a str,
     area: u64,
+    group: bool,
     out: &mut impl Write,
     err: &mut impl Write,
 ) -> Result<u8, Failure<'a>> {
-    check_area(Format::Two, area)?;
+    check_given_area(Format::Two, area)?;
     if old == new {
-        return Err(Failure::Refused(Refusal::BadArg));
+        return Err(Failure::BadArgument(TWO_PATHS));
     }
     let from = open_disk::<S>(rt, old, Access::Reads)?;
-    let to = make_disk::<S>(rt, new, area, false)?;
-    Ok(run_copy(rt.alloc(), from, to, area, out, err).0)
+    let place = look_at(rt, new)?;
+    let (making, to) = begin_disk::<S, R>(rt, new, place, area, false, group)?;
+    let mut told = Vec::new(rt.alloc());
+    let (status, from, to) = run_copy(rt.alloc(), from, to, area, &mut told, err);
+    if status == REFUSED {
+        tell_cause(&from, err);
+        tell_cause(&to, err);
+    }
+    settle(rt, new, making, status != REFUSED)?;
+    drop((from, to));
+    if out.write_all(told.as_slice()).is_err() || out.flush().is_err() {
+        return Err(Failure::Unwritten);
+    }
+    Ok(status)
 }
 
 // Opens the file of a disk, and carries a command out on it.
@@ -88,8 +160,8 @@ fn run_on_old<'a, S: Content, R: Files<File = File> + AllocGlobal>(
     out: &mut impl Write,
     err: &mut impl Write,
 ) -> Result<u8, Failure<'a>> {
-    let disk = open_disk::<S>(rt, path, access);
-    run_on(rt.alloc(), task, disk, script, out, err)
+    let disk = open_disk::<S>(rt, path, access)?;
+    Ok(run_on(rt.alloc(), task, disk, script, out, err))
 }
 
 // Reads a script, opens the file of a disk, and carries a command out on it.
@@ -98,10 +170,11 @@ fn run_with_script<'a, S: Content, R: Files<File = File> + AllocGlobal>(
     task: &Task,
     path: &'a str,
     script: &'a str,
+    input: impl Read + Drop,
     out: &mut impl Write,
     err: &mut impl Write,
 ) -> Result<u8, Failure<'a>> {
-    let text = opened(script, fs::read(rt, script))?;
+    let text = read_script(rt, script, input)?;
     let status = run_on_old::<S, R>(rt, task, path, Access::Writes, text.as_slice(), out, err)?;
     if status == NOT_UNDERSTOOD {
         tell_first_unclear(rt.alloc(), text.as_slice(), err);
@@ -113,10 +186,11 @@ fn run_with_script<'a, S: Content, R: Files<File = File> + AllocGlobal>(
 fn lint_script<'a, R: Files<File = File> + AllocGlobal>(
     rt: &R,
     script: &'a str,
+    input: impl Read + Drop,
     out: &mut impl Write,
     err: &mut impl Write,
 ) -> Result<u8, Failure<'a>> {
-    let text = opened(script, fs::read(rt, script))?;
+    let text = read_script(rt, script, input)?;
     Ok(lint(rt.alloc(), text.as_slice(), out, err)?)
 }
 
@@ -131,10 +205,11 @@ fn serve_script<
     path: &'a str,
     script: &'a str,
     why: bool,
+    input: impl Read + Drop,
     out: &mut impl Write,
     err: &mut impl Write,
 ) -> Result<u8, Failure<'a>> {
-    let text = opened(script, fs::read(rt, script))?;
+    let text = read_script(rt, script, input)?;
     let disk = open_disk::<S>(rt, path, Access::Writes)?;
     let (status, closed) = serve(rt, disk, text.as_slice(), why, out, err);
     if status == NOT_UNDERSTOOD {
@@ -148,16 +223,22 @@ fn serve_script<
 
 // Writes a line with the system's words for the last call of the disk that failed, if one did.
 // Where it cannot be written, that changes nothing.
-fn tell_cause<S: Content>(disk: &FileDisk<S>, err: &mut impl Write) {
+fn tell_cause<S: Content>(disk: &StoreDisk<S>, err: &mut impl Write) {
     if let Some(error) = disk.last_error() {
         let _written = writeln!(err, "boost: {error}");
         let _flushed = err.flush();
     }
 }
 
-// A disk in memory that holds nothing.
-fn memory<'a>(alloc: Global) -> Result<MemDisk, Failure<'a>> {
-    Ok(MemDisk::new(alloc, 0)?)
+// Plays the stored script on a disk in memory.
+fn demo<'a>(
+    alloc: Global,
+    task: &Task,
+    out: &mut impl Write,
+    err: &mut impl Write,
+) -> Result<u8, Failure<'a>> {
+    let disk = MemDisk::new(alloc, 0)?;
+    Ok(run(alloc, task, disk, &[], out, err).0)
 }
 
 // Opens the files of a command and carries it out. Answers the status, unless a file is missing or
@@ -176,19 +257,22 @@ fn carry_out<
     err: &mut (impl Write + Send),
 ) -> Result<u8, Failure<'a>> {
     match asked {
-        Invocation::Run(task) => perform::<S, R>(rt, task, out, err),
-        Invocation::Copy { old, new, area } => {
-            copy_store::<S, R>(rt, old.as_str(), new.as_str(), *area, out, err)
-        }
-        Invocation::Lint { script } => lint_script(rt, script.as_str(), out, err),
+        Invocation::Run(task) => perform::<S, R>(rt, task, input, out, err),
+        Invocation::Copy {
+            old,
+            new,
+            area,
+            group,
+        } => copy_store::<S, R>(rt, old.as_str(), new.as_str(), *area, *group, out, err),
+        Invocation::Lint { script } => lint_script(rt, script.as_str(), input, out, err),
         Invocation::Serve { disk, script, why } => {
-            serve_script::<S, R>(rt, disk.as_str(), script.as_str(), *why, out, err)
+            serve_script::<S, R>(rt, disk.as_str(), script.as_str(), *why, input, out, err)
         }
         Invocation::Listen {
             folder: Some(_),
             shell: true,
             ..
-        } => Err(Failure::Refused(Refusal::BadArg)),
+        } => Err(Failure::BadArgument(NO_FOLDER)),
         Invocation::Listen {
             disk,
             folder,
@@ -211,18 +295,14 @@ fn carry_out<
 fn perform<'a, S: Content, R: Files<File = File> + AllocGlobal>(
     rt: &R,
     task: &'a Task,
+    input: impl Read + Drop,
     out: &mut impl Write,
     err: &mut impl Write,
 ) -> Result<u8, Failure<'a>> {
     match task {
-        Task::Format {
-            disk,
-            area,
-            version,
-            reserve,
-        } => run_on_new::<S, R>(rt, task, disk.as_str(), *area, *version, *reserve, out, err),
+        Task::Format { .. } => format_new::<S, R>(rt, task, out, err),
         Task::Play { disk, script } => {
-            run_with_script::<S, R>(rt, task, disk.as_str(), script.as_str(), out, err)
+            run_with_script::<S, R>(rt, task, disk.as_str(), script.as_str(), input, out, err)
         }
         Task::Show {
             disk,
@@ -234,7 +314,7 @@ fn perform<'a, S: Content, R: Files<File = File> + AllocGlobal>(
         Task::Show { disk, .. } | Task::Check { disk } | Task::Stat { disk, .. } => {
             run_on_old::<S, R>(rt, task, disk.as_str(), Access::Reads, &[], out, err)
         }
-        Task::Demo => run_on(rt.alloc(), task, memory(rt.alloc()), &[], out, err),
+        Task::Demo => demo(rt.alloc(), task, out, err),
     }
 }
 

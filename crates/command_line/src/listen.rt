@@ -1,11 +1,11 @@
 // Keeping a store open for clients that come and go.
-use crate::files::cannot_open;
+use crate::files::{StoreDisk, cannot_open};
 use crate::tell_cause;
 use background::{Closed, run};
 use boost::{Failure, report};
 use calls::Refusal;
-use disk_model::{Content, FileDisk};
-use listening::{Doorway, Fifos, Multiplex};
+use disk_model::Content;
+use listening::{Doorway, Fifos, Multiplex, Trouble};
 use std::alloc::AllocGlobal;
 use std::io::{self, Read, Write};
 use std::rt::Clock;
@@ -27,13 +27,13 @@ pub fn listen_to_input<
     O: Write + Drop + Send,
 >(
     rt: &R,
-    disk: FileDisk<S>,
+    disk: StoreDisk<S>,
     clients: &Multiplex<F, I, O>,
     err: &mut impl Write,
 ) -> Result<u8, Failure<'a>> {
     let (served, closed) = run(rt, disk, clients, clients.threads());
-    let failure = first_error(served)?.map(|error| unusable(&error));
-    Ok(status_of(closed, failure, err))
+    let trouble = first_trouble(served)?;
+    Ok(status_of(closed, trouble, None, err))
 }
 
 /// Keeps the store of a disk open, and serves the clients that come by the door of a folder. One
@@ -49,25 +49,39 @@ pub fn listen_at_door<
     F: Fifos + Drop + Sync,
 >(
     rt: &R,
-    disk: FileDisk<S>,
+    disk: StoreDisk<S>,
     fifos: F,
     folder: &'a str,
     idle: Option<Duration>,
     err: &mut (impl Write + Send),
 ) -> Result<u8, Failure<'a>> {
+    let door = format!(in rt.alloc(); "{folder}/door")?;
     let clients = Doorway::new(rt.alloc(), fifos, folder, idle, &mut *err)?;
     let (served, closed) = run(rt, disk, &clients, clients.threads());
-    drop(clients);
-    let failure = first_error(served)?.map(|error| cannot_open(folder, &error));
-    Ok(status_of(closed, failure, err))
+    let mut notes = clients.into_notes();
+    let trouble = first_trouble(served)?;
+    let door = Door {
+        folder,
+        path: door.as_str(),
+    };
+    Ok(status_of(closed, trouble, Some(door), &mut notes))
 }
 
-// The first error of the threads that serve clients, if one had any. Refused where no thread
-// served.
-fn first_error(served: Result<Vec<io::Result<()>>, Refusal>) -> Result<Option<io::Error>, Refusal> {
+// The door of a folder, and its path.
+#[derive(Clone, Copy)]
+struct Door<'a> {
+    folder: &'a str,
+    path: &'a str,
+}
+
+// The first trouble that the threads had which serve clients, if they had any. Refused where no
+// thread served.
+fn first_trouble(
+    served: Result<Vec<Result<(), Trouble>>, Refusal>,
+) -> Result<Option<Trouble>, Refusal> {
     for ended in served? {
-        if let Err(error) = ended {
-            return Ok(Some(error));
+        if let Err(trouble) = ended {
+            return Ok(Some(trouble));
         }
     }
     Ok(None)
@@ -81,10 +95,12 @@ fn unusable(error: &io::Error) -> Failure<'static> {
     }
 }
 
-// The status where a store was closed. What ended keeping early is told.
+// The status where a store was closed. What ended keeping early is told, or else what trouble there
+// was: at the door of a folder, or with input and output.
 fn status_of<S: Content>(
-    closed: Closed<FileDisk<S>>,
-    failure: Option<Failure<'_>>,
+    closed: Closed<StoreDisk<S>>,
+    trouble: Option<Trouble>,
+    door: Option<Door<'_>>,
     err: &mut impl Write,
 ) -> u8 {
     let Closed { disk, ended_by, .. } = closed;
@@ -93,8 +109,19 @@ fn status_of<S: Content>(
         tell_cause(&disk, err);
         return status;
     }
-    match failure {
-        Some(failure) => report(&failure, err),
-        None => 0,
+    match (trouble, door) {
+        (None, _) => 0,
+        (Some(Trouble::Unusable(error)), Some(door)) => {
+            report(&cannot_open(door.path, &error), err)
+        }
+        (Some(Trouble::Unusable(error)), None) => report(&unusable(&error), err),
+        (Some(Trouble::InUse), Some(door)) => {
+            let _written = writeln!(err, "boost: another run has {}", door.folder);
+            4
+        }
+        (Some(trouble), _) => {
+            let _written = writeln!(err, "boost: {trouble}");
+            1
+        }
     }
 }

@@ -38,7 +38,8 @@ pub use std::alloc::AllocGlobal;
 pub use std::rt::Clock;
 pub use std::sync::Wait;
 pub use store::{Client, Extent, Measured, Naming, Status, Ticket};
+pub use store_file::LockedFile;
 pub use values::{number_of, text_of, value_of_number, value_of_text};
 
-/// The disk of a store in a file.
-pub type StoreFile = FileDisk<Unknown>;
+/// The disk of a store in a file, which this program alone has.
+pub type StoreFile = FileDisk<Unknown, LockedFile>;

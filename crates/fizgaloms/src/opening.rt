@@ -8,9 +8,10 @@ use calls::limits::{MAX_AREA, MIN_AREA};
 use disk_model::{Content, Disk, FileDisk};
 use gate_block::layout::AREAS_AT;
 use recovery::format;
-use std::fs::{File, TryLockError};
+use std::fs::{self, File};
 use std::io;
 use std::rt::Files;
+use store_file::{Access, FileError, LockedFile, Place, open};
 
 /// Why the file of a store is not opened.
 #[derive(Debug, Drop, thiserror::Error)]
@@ -26,29 +27,52 @@ pub enum OpenError {
     Refused(#[from] Refusal),
 }
 
+impl From<FileError> for OpenError {
+    fn from(error: FileError) -> OpenError {
+        match error {
+            FileError::InUse => OpenError::InUse,
+            FileError::System(error) => OpenError::System(error),
+        }
+    }
+}
+
 /// Opens the file of a store for this program alone, and makes it where it is not there. A file
-/// that is new, or that has no bytes, gets the size of a store with two areas of so many bytes,
-/// from 65,536 to 2^30, and is made an empty store. Any other file keeps its bytes and its size:
-/// `run` opens it, and answers NotAStore where it is none. The file is let go with the disk.
+/// that is new, or that has no bytes, is made an empty store with two areas of so many bytes, from
+/// 65,536 to 2^30: under its name with `.unfinished` behind it, which it has until it is whole. So
+/// a stop leaves no file of its name that is no store. Its owner alone may read and write a new
+/// file. Any other file keeps its bytes and its size: `run` opens it, and answers NotAStore where
+/// it is none. The file is let go with the disk. It waits for the device.
+///
+/// Where this program was started without a standard stream, nothing that is printed is written
+/// into the file: the root folder has that number from then on, which can be neither read nor
+/// written.
 ///
 /// Refused BadArg for another area, with no file made or opened; System where the system makes or
-/// opens no file, does not lock it, give it its size or sync it; InUse where another program has
-/// it; Fault where an empty store cannot be written. A file that was made stays then, and one that
-/// has its size and is no store yet is none from then on: remove it. It waits for the device.
-pub fn open_or_format<S: Content, R: Files<File = File>>(
+/// opens no file, does not lock it, give it its size or name, or sync it or its folder; InUse where
+/// another program has the file, or makes it; Fault where an empty store cannot be written. What
+/// was there before stays then, but where the folder alone could not be synced.
+pub fn open_or_format<S: Content, R: Files<File = File> + AllocGlobal>(
     rt: &R,
     path: &str,
     area: u64,
-) -> Result<FileDisk<S>, OpenError>
-    ensures at_rest { IfOk result (λ disk.
-        IsAtRest ⟦<FileDisk<S> as Disk>⟧.seen ⟦<FileDisk<S> as Disk>⟧.may_leave disk) }
+) -> Result<FileDisk<S, LockedFile>, OpenError>
+    ensures at_rest { IfOk result (λ disk. IsAtRest ⟦<FileDisk<S, LockedFile> as Disk>⟧.seen
+        ⟦<FileDisk<S, LockedFile> as Disk>⟧.may_leave disk) }
 {
     check_area(area)?;
-    let file = open_alone(rt, path)?;
-    if file.metadata()?.len() == 0 {
-        return make(file, area);
+    if holds_bytes(rt, path)? {
+        return Ok(FileDisk::open(open(rt, path, Access::Writes)?)?);
     }
-    Ok(FileDisk::open(file)?)
+    make(rt, Place::look(rt, path)?, area)
+}
+
+// Whether a file is there that has bytes.
+fn holds_bytes(rt: &impl Files<File = File>, path: &str) -> io::Result<bool> {
+    match fs::metadata(rt, path) {
+        Ok(found) => Ok(found.len() > 0),
+        Err(error) if error.kind() == io::ErrorKind::NotFound => Ok(false),
+        Err(error) => Err(error),
+    }
 }
 
 // Whether a store can have areas of so many bytes.
@@ -62,27 +86,36 @@ fn check_area(area: u64) -> Result<(), Refusal>
     Ok(())
 }
 
-// Opens a file for this program alone, and makes it where it is not there.
-fn open_alone<R: Files<File = File>>(rt: &R, path: &str) -> Result<File, OpenError> {
-    let file = File::options()
-        .read(true)
-        .write(true)
-        .create(true)
-        .open(rt, path)?;
-    match file.try_lock() {
-        Ok(()) => Ok(file),
-        Err(TryLockError::WouldBlock) => Err(OpenError::InUse),
-        Err(TryLockError::Error(error)) => Err(OpenError::System(error)),
+// Makes an empty store at a place.
+fn make<S: Content, R: Files<File = File> + AllocGlobal>(
+    rt: &R,
+    place: Place,
+    area: u64,
+) -> Result<FileDisk<S, LockedFile>, OpenError>
+    requires { area ≤ MAX_AREA }
+    ensures at_rest { IfOk result (λ disk. IsAtRest ⟦<FileDisk<S, LockedFile> as Disk>⟧.seen
+        ⟦<FileDisk<S, LockedFile> as Disk>⟧.may_leave disk) }
+{
+    let (making, file) = place.begin(rt, false)?;
+    match formatted(file, area) {
+        Ok(disk) => {
+            making.finish(rt)?;
+            Ok(disk)
+        }
+        Err(error) => {
+            making.give_up(rt);
+            Err(error)
+        }
     }
 }
 
-// Makes a file an empty store.
-fn make<S: Content>(file: File, area: u64) -> Result<FileDisk<S>, OpenError>
+// Makes an empty file an empty store.
+fn formatted<S: Content>(file: LockedFile, area: u64) -> Result<FileDisk<S, LockedFile>, OpenError>
     requires { area ≤ MAX_AREA }
-    ensures at_rest { IfOk result (λ disk.
-        IsAtRest ⟦<FileDisk<S> as Disk>⟧.seen ⟦<FileDisk<S> as Disk>⟧.may_leave disk) }
+    ensures at_rest { IfOk result (λ disk. IsAtRest ⟦<FileDisk<S, LockedFile> as Disk>⟧.seen
+        ⟦<FileDisk<S, LockedFile> as Disk>⟧.may_leave disk) }
 {
-    file.set_len(AREAS_AT + 2 * area)?;
+    file.file().set_len(AREAS_AT + 2 * area)?;
     let mut disk = FileDisk::open(file)?;
     format(&mut disk, area)?;
     Ok(disk)

@@ -75,13 +75,11 @@ brings most text bs kept Piece.Whole Found.Line line whole more is ends =
     )
 brings most text bs kept Piece.Whole Found.TooLong line whole more is ends =
     let n = length-take (most + 1) (text ++ bs) in (
-      ends.0,
-      (
-        text ++ bs,
-        sym (append_assoc text bs (10 ∷ [])),
-        All-append (λ x. x ≢ 10) text bs whole more,
-        omega (arith, n, ap length is, ends.1),
-      ),
+      text ++ bs,
+      ends.0 ∙ is,
+      sym (append_assoc text bs (10 ∷ [])),
+      All-append (λ x. x ≢ 10) text bs whole more,
+      omega (arith, n, ap length is, ends.1),
     )
 brings most text bs kept Piece.Last Found.End line whole more is ends =
     let n = length-take (most + 1) (text ++ bs) in

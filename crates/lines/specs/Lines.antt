@@ -15,12 +15,13 @@ abbrev pub Begins : ℕ → List ℕ → List ℕ → Type 0
 Begins most begun kept = All (λ b. b ≢ 10) begun × (kept ≡ take (most + 1) begun)
 
 -- What was found where these bytes were taken, and which line is given. A line has at most so many
--- bytes, and no line feed. Behind a silence it is a beginning of one.
+-- bytes, and no line feed. Of one that is too long so many and one more are given. Behind a silence
+-- it is a beginning of one.
 abbrev pub Brings : ℕ → List ℕ → Found → List ℕ → Type 0
 Brings most bs Found.Line line =
     (bs ≡ line ++ 10 ∷ []) × All (λ b. b ≢ 10) line × (length line ≤ most)
-Brings most bs Found.TooLong line = (line ≡ []) ×
-    ((long : List ℕ) × (bs ≡ long ++ 10 ∷ []) × All (λ b. b ≢ 10) long × (most < length long))
+Brings most bs Found.TooLong line = (long : List ℕ) × (line ≡ take (most + 1) long) ×
+    (bs ≡ long ++ 10 ∷ []) × All (λ b. b ≢ 10) long × (most < length long)
 Brings most bs Found.Cut line = (line ≡ []) × All (λ b. b ≢ 10) bs × (0 < length bs)
 Brings most bs Found.End line = (line ≡ []) × (bs ≡ [])
 Brings most bs Found.Silence line = Begins most bs line
@@ -83,7 +84,7 @@ Takes old new bs piece = Consumes old new (bs ++ feed_of piece) × IsLast piece 
 abbrev pub Ends : ℕ → Piece → List ℕ → Found → List ℕ → Type 0
 Ends most Piece.Part kept found line = ⊥
 Ends most Piece.Whole kept Found.Line line = (line ≡ kept) × (length kept ≤ most)
-Ends most Piece.Whole kept Found.TooLong line = (line ≡ []) × (most < length kept)
+Ends most Piece.Whole kept Found.TooLong line = (line ≡ kept) × (most < length kept)
 Ends most Piece.Whole kept found line = ⊥
 Ends most Piece.Last kept Found.End line = (line ≡ []) × (kept ≡ [])
 Ends most Piece.Last kept Found.Cut line = (line ≡ []) × (0 < length kept)

@@ -17,7 +17,8 @@ pub const LONGEST: usize = 4095;
 pub enum Found {
     /// A line with the line feed behind it, which was taken and is not given.
     Line,
-    /// A line that is longer than may be: it was passed over, with its line feed.
+    /// A line that is longer than may be: it was taken, with its line feed, and its first
+    /// `LONGEST + 1` bytes are given.
     TooLong,
     /// The input ended in the middle of a line, which was passed over.
     Cut,
@@ -41,8 +42,9 @@ enum Piece {
     Silence,
 }
 
-/// Reads the next line of a reader into `line`, which holds that line alone then, and nothing where
-/// none was found. Of bytes that are known it takes the line with its line feed, and no more.
+/// Reads the next line of a reader into `line`, which holds that line alone then, the beginning of
+/// one that is too long, and nothing where none was found. Of bytes that are known it takes the line
+/// with its line feed, and no more.
 ///
 /// What `line` holds already is the beginning of the line: nothing, so the caller clears it behind
 /// a line; or what a call kept that found a silence.
@@ -64,8 +66,8 @@ pub fn read_line<B: BufRead>(reader: &mut B, line: &mut Vec<u8>) -> io::Result<F
     Err(io::Error::from(ErrorKind::Other))
 }
 
-// What was found, if this piece is the last one. Only a line stays, and the beginning of one behind
-// which nothing came.
+// What was found, if this piece is the last one. Only a line stays, the beginning of one that is too
+// long, and that of one behind which nothing came.
 fn found_behind(piece: Piece, line: &mut Vec<u8>) -> Option<Found>
     ensures some { IfSome result (λ found.
         Ends LONGEST piece line.old.items found line.new.items) }
@@ -75,7 +77,7 @@ fn found_behind(piece: Piece, line: &mut Vec<u8>) -> Option<Found>
     let found = match piece {
         Piece::Part => return None,
         Piece::Whole if length <= LONGEST => return Some(Found::Line),
-        Piece::Whole => Found::TooLong,
+        Piece::Whole => return Some(Found::TooLong),
         Piece::Silence => return Some(Found::Silence),
         Piece::Last if length == 0 => Found::End,
         Piece::Last => Found::Cut,

@@ -136,3 +136,38 @@ pub fn doubt(line: &str) -> (&str, Why) {
         _ => (word, Why::IsNo(Thing::Action)),
     }
 }
+
+// Of the calls of a transaction in one line, with a semicolon and a space between them.
+fn in_calls<'a>(word: &'a str, text: &'a str) -> (&'a str, Why) {
+    for call in text.split("; ") {
+        let (found, why) = in_part(word, call);
+        if !matches!(why, Why::EndsInSpace) || call.ends_with(' ') {
+            return (found, why);
+        }
+    }
+    (word, Why::EndsInSpace)
+}
+
+// Of one of these calls, behind a word.
+fn in_part<'a>(before: &'a str, call: &'a str) -> (&'a str, Why) {
+    match front(call) {
+        ("", _) => (before, Why::Wants(Thing::Name)),
+        ("later", rest) => match front(rest) {
+            ("", _) => ("later", Why::Wants(Thing::Name)),
+            (name, asked) => in_put_off_call(name, asked),
+        },
+        (name, asked) => in_call(name, asked),
+    }
+}
+
+/// The word at which a line of a server's client ceases to be understood, and why, where it is not
+/// understood. The line is without the client's name.
+pub fn doubt_wish(line: &str) -> (&str, Why) {
+    let (word, rest) = front(line);
+    match word {
+        "wait" | "status" | "bye" => too_much(word, rest),
+        "do" | "keep" => in_calls(word, rest),
+        "begin" | "commit" | "abort" | "kept" | "make" | "call" | "later" => in_request("", line),
+        _ => (word, Why::IsNo(Thing::Wish)),
+    }
+}

@@ -6,6 +6,7 @@ use std::fmt::{self, Display, Formatter};
 pub enum Thing {
     Action,
     Request,
+    Wish,
     Kind,
     Name,
     Call,
@@ -20,6 +21,7 @@ impl Display for Thing {
         f.write_str(match self {
             Thing::Action => "turn, checkpoint or client, c1 to c64",
             Thing::Request => "request: make, begin, call, later, commit, abort or kept",
+            Thing::Wish => "request, as make, do, keep, begin, call, commit, abort or status",
             Thing::Kind => "kind: set, map, queue, counter, pool, stock or quotas",
             Thing::Name => "name",
             Thing::Call => "call of a collection",

@@ -1,25 +1,33 @@
 // Clients that come by a door, a FIFO: each with a pair of FIFOs of its own.
+use crate::answers::Answers;
+use crate::arrivals::Arrivals;
 use crate::fifos::{Fifos, Way};
-use crate::seat::Seat;
+use crate::notes::Notes;
+use crate::outlet::Outlet;
+use crate::seat::{Call, Seat};
+use crate::trouble::Trouble;
 use crate::until::Until;
+use crate::words::{leftovers, remove_all, word_of};
 use background::Work;
+use calls::Refusal;
 use calls::limits::MAX_LIVE;
-use crossbeam_channel::{Receiver, RecvTimeoutError, Sender, bounded, unbounded};
+use crossbeam_channel::{Receiver, RecvTimeoutError, Sender, TrySendError, bounded};
 use lines::{Found, read_line};
 use sessions::Session;
 use std::alloc::{AllocError, AllocGlobal, Global};
-use std::fs::File;
-use std::io::{self, BufReader, Write};
+use std::fs::{File, TryLockError};
+use std::io::{self, BufRead, BufReader, ErrorKind, Write};
 use std::os::fd::AsRawFd;
 use std::rt::Clock;
 use std::sync::atomic::{AtomicBool, AtomicU64, Ordering};
-use std::sync::{Mutex, Wait};
+use std::sync::{Mutex, OnceLock, Wait};
+use std::thread;
 use std::time::Duration;
 use store::{Client, Naming};
-use talks::{Ended, Printer, Why, talk};
+use talks::{Ended, Printer, talk};
 
-// How many bytes a client's word has at most.
-const MAX_WORD: usize = 64;
+// How many clients that came wait at most.
+const MAX_WAITING: usize = 4096;
 
 // How many bytes one read takes at most.
 const READ_SIZE: usize = 65_536;
@@ -27,32 +35,54 @@ const READ_SIZE: usize = 65_536;
 // How many looks at the clients the time has after which one is idle.
 const LOOKS: u32 = 4;
 
+// For how many milliseconds clients are still answered once keeping has ended.
+const LAST: u64 = 300;
+
+// How many milliseconds are between two looks at who is still there once all is over.
+const PAUSE: u64 = 100;
+
+// How many of these looks who reads nothing has then.
+const LAST_LOOKS: u32 = 5;
+
 /// Clients that come by a door: the FIFO `door` of a folder. A client makes two FIFOs in the
 /// folder, `WORD.to` for its lines and `WORD.from` for its answers, opens both, and writes the line
 /// `hello WORD` into the door. It is told `hello boost 1` once it is served, and the names of its
-/// FIFOs are gone then. Up to 64 are served at once, and others wait. The line `end` at the door
-/// ends all of them.
+/// FIFOs are gone then. Up to 64 are served at once, and up to 4,096 others wait. The line `end` at
+/// the door ends all of them; and so does an early end of keeping, about which those who ask in the
+/// next 0.3 seconds are told first.
 ///
 /// A word has 1 to 64 bytes, each a small letter, a digit, `-` or `_`. Another line at the door is
-/// passed over. So is a client whose FIFOs cannot be opened: it hears nothing, and the notes have a
-/// line with its word and why. Where a client is told that keeping has failed, all of them are
-/// ended.
+/// passed over. So is a client whose FIFOs cannot be opened, and one before whom 4,096 others wait:
+/// it hears nothing, and the notes have a line with its word and why.
 ///
 /// Where a time is set, what a client has open is taken back once it has said nothing for so long,
-/// or up to half as long again.
+/// or up to half as long again. While others wait, one who was silent for twice that time has its
+/// talk ended. So has one who has read nothing of what it is told for the time; and half a second
+/// after all is over, whoever then reads nothing.
+///
+/// Before the door is opened it notes the FIFOs of clients that lie in the folder, and then removes
+/// these: nobody reads the hello of such a client any more.
 #[derive(Drop)]
 pub struct Doorway<'a, F, E> {
     fifos: F,
     folder: &'a str,
     idle: Option<Duration>,
-    notes: Mutex<E>,
+    notes: Mutex<Notes<E>>,
+    arrivals: Arrivals,
     receiver: Receiver<String>,
     sender: Mutex<Option<Sender<String>>>,
-    // What each thread reads.
+    // What the first thread reads: the door. Then what each other one reads.
+    door: Seat,
     seats: Vec<Seat>,
+    // What each other thread writes.
+    outlets: Vec<Outlet>,
     // How many looks were taken at who waits.
     looks: AtomicU64,
+    // The door is read no more.
+    is_closed: AtomicBool,
     is_over: AtomicBool,
+    // What ended keeping early.
+    ended_by: OnceLock<Refusal>,
     // Who looks waits for the end of these, which have no message.
     ended: Receiver<()>,
     going_on: Mutex<Option<Sender<()>>>,
@@ -67,22 +97,29 @@ impl<'a, F: Fifos + Drop, E: Write + Drop> Doorway<'a, F, E> {
         idle: Option<Duration>,
         notes: E,
     ) -> Result<Self, AllocError> {
-        let (sender, receiver) = unbounded(alloc)?;
+        let (sender, receiver) = bounded(alloc, MAX_WAITING)?;
         let (going_on, ended) = bounded(alloc, 1)?;
-        let mut seats = Vec::new(alloc);
+        let (mut seats, mut outlets) = (Vec::new(alloc), Vec::new(alloc));
         for _ in 0..MAX_LIVE {
             seats.push(Seat::new())?;
+            outlets.push(Outlet::new())?;
         }
+        let notes = Mutex::new(Notes::new(&fifos, notes));
         Ok(Self {
             fifos,
             folder,
             idle,
-            notes: Mutex::new(notes),
+            notes,
+            arrivals: Arrivals::new(threads(idle)),
             receiver,
             sender: Mutex::new(Some(sender)),
+            door: Seat::new(),
             seats,
+            outlets,
             looks: AtomicU64::new(0),
+            is_closed: AtomicBool::new(false),
             is_over: AtomicBool::new(false),
+            ended_by: OnceLock::new(),
             ended,
             going_on: Mutex::new(Some(going_on)),
         })
@@ -91,31 +128,83 @@ impl<'a, F: Fifos + Drop, E: Write + Drop> Doorway<'a, F, E> {
     /// How many threads serve the clients: one at the door, one for each client, and one that looks
     /// for idle ones where a time is set.
     pub fn threads(&self) -> usize {
-        MAX_LIVE + 1 + usize::from(self.idle.is_some())
+        threads(self.idle)
+    }
+
+    /// Where notes were written, for what is told at the end.
+    pub fn into_notes(self) -> E {
+        let Self { notes, .. } = self;
+        notes.into_inner().into_output()
     }
 
     // Reads the door up to `end`, and then ends all clients. They are ended also where the door
-    // cannot be read.
-    fn watch<R: Wait + AllocGlobal>(&self, rt: &R) -> io::Result<()> {
+    // cannot be read. Where keeping has ended, those who ask meanwhile are told first.
+    fn watch<R: Wait + Clock + AllocGlobal>(&self, rt: &R) -> Result<(), Trouble> {
         let watched = self.watch_door(rt);
+        if self.ended_by.get().is_some() {
+            thread::sleep(rt, Duration::from_millis(LAST));
+        }
         self.end_all(rt);
+        self.see_all_go(rt);
         watched
     }
 
-    // Reads the door, and hands on who comes, up to `end`.
-    fn watch_door<R: Wait + AllocGlobal>(&self, rt: &R) -> io::Result<()> {
-        let alloc = rt.alloc();
+    // Waits until no client is served any more. Who reads nothing is given up soon.
+    fn see_all_go<R: Wait + Clock + AllocGlobal>(&self, rt: &R) {
+        let mut looks = 0u32;
+        for _ in rt.forever() {
+            if !self.seats.iter().any(|seat| seat.is_taken(rt)) {
+                return;
+            }
+            thread::sleep(rt, Duration::from_millis(PAUSE));
+            looks = looks.saturating_add(1);
+            if looks >= LAST_LOOKS {
+                self.give_up_since(rt, u64::MAX);
+            }
+        }
+    }
+
+    // Gives the clients up to which a write has waited since that look.
+    fn give_up_since<R: Wait + AllocGlobal>(&self, rt: &R, look: u64) {
+        for outlet in &self.outlets {
+            outlet.give_up(rt, rt.alloc(), &self.fifos, look);
+        }
+    }
+
+    // Reads the door, and hands on who comes, up to `end`, or until all is over.
+    fn watch_door<R: Wait + AllocGlobal>(&self, rt: &R) -> Result<(), Trouble> {
         let Some(sender) = self.sender.lock(rt).take() else {
             return Ok(());
         };
-        let mut door = BufReader::new(alloc, self.open_door(alloc)?)?;
+        let left = leftovers(&self.fifos, self.folder);
+        let door = self.open_door(rt.alloc())?;
+        remove_all(&self.fifos, rt.alloc(), self.folder, left?)?;
+        self.door.take(rt, door.as_raw_fd());
+        let door = Until::new(rt, door, &self.door, &self.looks, &self.is_closed);
+        let mut lines = BufReader::new(rt.alloc(), door)?;
+        let read = self.read_door(rt, &mut lines, &sender);
+        self.door.leave(rt);
+        Ok(read?)
+    }
+
+    // Hands on who comes by the lines of the door, up to `end`, or to the end of the lines.
+    fn read_door<R: Wait + AllocGlobal>(
+        &self,
+        rt: &R,
+        lines: &mut impl BufRead,
+        sender: &Sender<String>,
+    ) -> io::Result<()> {
+        let alloc = rt.alloc();
         let mut line = Vec::new(alloc);
         for _ in rt.forever() {
-            match read_line(&mut door, &mut line)? {
-                Found::Line if line.as_slice() == b"end".as_slice() => break,
+            match read_line(lines, &mut line)? {
                 Found::Line => {
-                    if let Some(word) = word_of(alloc, line.as_slice())? {
-                        let _sent = sender.send(rt, word);
+                    let said = line.strip_suffix(b"\r").unwrap_or(line.as_slice());
+                    if said == b"end".as_slice() {
+                        break;
+                    }
+                    if let Some(word) = word_of(alloc, said)? {
+                        self.hand_on(rt, sender, word);
                     }
                 }
                 Found::TooLong => {}
@@ -127,29 +216,65 @@ impl<'a, F: Fifos + Drop, E: Write + Drop> Doorway<'a, F, E> {
         Ok(())
     }
 
-    // Opens the door for both ways.
-    fn open_door(&self, alloc: Global) -> io::Result<File> {
-        let path = format!(in alloc; "{}/door", self.folder)?;
-        self.fifos.open_both(path.as_str())
+    // Hands on who comes. It waits for nobody, so that `end` is heard whoever waits.
+    fn hand_on<R: Wait>(&self, rt: &R, sender: &Sender<String>, word: String) {
+        if let Err(TrySendError::Full(word)) = sender.try_send(rt, word) {
+            let why = io::Error::other("too many others wait");
+            self.notes.lock(rt).passed_over(word.as_str(), &why);
+        }
     }
 
-    // Says at the door that all is to end.
-    fn ask_to_end(&self, alloc: Global) -> io::Result<()> {
-        self.open_door(alloc)?.write_all(b"end\n")
+    // Opens the door for both ways, and takes its lock, which it has as long as it is open.
+    fn open_door(&self, alloc: Global) -> Result<File, Trouble> {
+        let path = format!(in alloc; "{}/door", self.folder)?;
+        let door = match self.fifos.open_both(path.as_str()) {
+            Err(error) if error.kind() == ErrorKind::InvalidInput => {
+                return Err(Trouble::Unusable(io::Error::new(
+                    ErrorKind::InvalidInput,
+                    "its door is no FIFO",
+                )));
+            }
+            opened => opened?,
+        };
+        match door.try_lock() {
+            Ok(()) => Ok(door),
+            Err(TryLockError::WouldBlock) => Err(Trouble::InUse),
+            Err(TryLockError::Error(error)) => Err(Trouble::Unusable(error)),
+        }
     }
 
     // Has each reader of a client's lines end, and wakes those that wait for some.
     fn end_all<R: Wait + AllocGlobal>(&self, rt: &R) {
         self.is_over.store(true, Ordering::SeqCst);
         drop(self.going_on.lock(rt).take());
-        self.wake_since(rt, u64::MAX);
+        for seat in &self.seats {
+            self.wake(rt, seat, u64::MAX, false);
+        }
     }
 
-    // Wakes each reader that has waited since that look or an earlier one.
+    // Wakes a reader that has waited since that look or an earlier one. Whether it is to leave.
+    fn wake<R: Wait + AllocGlobal>(&self, rt: &R, seat: &Seat, look: u64, may_leave: bool) -> bool {
+        seat.wake(rt, rt.alloc(), &self.fifos, look, may_leave) == Some(Call::Leave)
+    }
+
+    // Wakes the readers of clients that have been silent since that look. As many as wait at the
+    // door may have to leave.
     fn wake_since<R: Wait + AllocGlobal>(&self, rt: &R, look: u64) {
+        let mut waiting = self.count_waiting(rt);
         for seat in &self.seats {
-            seat.wake(rt, rt.alloc(), &self.fifos, look);
+            let leaves = self.wake(rt, seat, look, waiting > 0);
+            waiting = waiting.saturating_sub(usize::from(leaves));
         }
+    }
+
+    // How many wait while all seats are taken.
+    fn count_waiting<R: Wait>(&self, rt: &R) -> usize {
+        for seat in &self.seats {
+            if !seat.is_taken(rt) {
+                return 0;
+            }
+        }
+        self.receiver.len()
     }
 
     // Looks at the clients again and again, up to the end of all, and wakes the readers of those
@@ -163,6 +288,7 @@ impl<'a, F: Fifos + Drop, E: Write + Drop> Doorway<'a, F, E> {
             let before = self.looks.fetch_add(1, Ordering::SeqCst);
             if let Some(since) = before.checked_sub(u64::from(LOOKS)) {
                 self.wake_since(rt, since);
+                self.give_up_since(rt, since);
             }
         }
     }
@@ -174,17 +300,21 @@ impl<'a, F: Fifos + Drop, E: Write + Drop> Doorway<'a, F, E> {
         client: &mut Client<'_, J>,
         word: &str,
         seat: &Seat,
+        outlet: &Outlet,
     ) -> io::Result<Ended> {
         let alloc = rt.alloc();
         let (reader, mut writer) = self.meet(alloc, word)?;
         writer.write_all(b"hello boost 1\n")?;
-        let number = reader.as_raw_fd();
+        let (number, answers) = (reader.as_raw_fd(), writer.as_raw_fd());
+        let writer = Answers::new(rt, writer, outlet, &self.looks);
         let reader = Until::new(rt, reader, seat, &self.looks, &self.is_over);
         let mut lines = BufReader::with_capacity(alloc, READ_SIZE, reader)?;
         let mut session = Session::new(client);
-        let mut printer = Printer::new(alloc, writer);
+        let mut printer = Printer::new(alloc, writer).with_cause(&self.ended_by);
         seat.take(rt, number);
+        outlet.take(rt, answers);
         let ended = talk(rt, &mut session, &mut lines, &mut printer);
+        outlet.leave(rt);
         seat.leave(rt);
         Ok(ended)
     }
@@ -200,20 +330,20 @@ impl<'a, F: Fifos + Drop, E: Write + Drop> Doorway<'a, F, E> {
         Ok((reader, writer))
     }
 
-    // Serves clients as they come, one after another. One that goes away ends its own talk alone,
-    // and one that is told that keeping has failed ends all. Where what one left open could not be
-    // taken back, no other is served.
+    // Serves clients as they come, one after another, until all is over. One that goes away ends
+    // its own talk alone. Where what one left open could not be taken back, no other is served.
     fn serve_all<J: Naming, R: Wait + Clock + AllocGlobal>(
         &self,
         rt: &R,
         client: &mut Client<'_, J>,
         seat: &Seat,
+        outlet: &Outlet,
     ) {
         for word in self.receiver.iter(rt) {
-            match self.serve(rt, client, word.as_str(), seat) {
-                Ok(Ended { why: Why::Lost, .. }) => {
-                    let _asked = self.ask_to_end(rt.alloc());
-                }
+            if self.is_over.load(Ordering::SeqCst) {
+                return;
+            }
+            match self.serve(rt, client, word.as_str(), seat, outlet) {
                 Ok(
                     Ended {
                         is_taken_back: false,
@@ -221,59 +351,49 @@ impl<'a, F: Fifos + Drop, E: Write + Drop> Doorway<'a, F, E> {
                     },
                 ) => return,
                 Ok(_) => {}
-                Err(error) => self.note(rt, word.as_str(), &error),
+                Err(error) => self.notes.lock(rt).passed_over(word.as_str(), &error),
             }
         }
-    }
-
-    // Notes who is passed over. Where it cannot be written, that changes nothing.
-    fn note<R: Wait>(&self, rt: &R, word: &str, error: &io::Error) {
-        let mut notes = self.notes.lock(rt);
-        let _written = writeln!(notes, "boost: passed over {word}: {error}");
-        let _flushed = notes.flush();
     }
 }
 
 impl<F: Fifos + Drop, E: Write + Drop> Work for Doorway<'_, F, E> {
-    type Output = io::Result<()>;
+    type Output = Result<(), Trouble>;
 
     /// The first thread reads the door, and each other one serves clients. One more looks for idle
     /// ones.
     ///
-    /// Refused where the door cannot be read, and where it has no memory for who comes.
+    /// Refused where not all threads come, where the door cannot be read or another run has it, and
+    /// where it has no memory for who comes.
     fn work<J: Naming, R: Wait + Clock + AllocGlobal>(
         &self,
         rt: &R,
         client: &mut Client<'_, J>,
         thread: usize,
-    ) -> io::Result<()> {
+    ) -> Result<(), Trouble> {
+        self.arrivals.wait_for_all(rt)?;
         let Some(of) = thread.checked_sub(1) else {
             return self.watch(rt);
         };
-        match (self.seats.get(of), self.idle) {
-            (Some(seat), _) => self.serve_all(rt, client, seat),
-            (None, Some(idle)) => self.look(rt, idle),
-            (None, None) => {}
-        }
+        let (Some(seat), Some(outlet)) = (self.seats.get(of), self.outlets.get(of)) else {
+            if let Some(idle) = self.idle {
+                self.look(rt, idle);
+            }
+            return Ok(());
+        };
+        self.serve_all(rt, client, seat, outlet);
         Ok(())
     }
-}
 
-// The word of a hello.
-fn word_of(alloc: Global, line: &[u8]) -> Result<Option<String>, AllocError> {
-    let Some(word) = line.strip_prefix(b"hello ") else {
-        return Ok(None);
-    };
-    if word.is_empty() || word.len() > MAX_WORD || !word.iter().all(|byte| is_of_word(*byte)) {
-        return Ok(None);
-    }
-    match std::str::from_utf8(word) {
-        Ok(word) => Ok(Some(String::from_str(alloc, word)?)),
-        Err(_) => Ok(None),
+    /// The door is read no more, and all are ended a moment later.
+    fn keeping_ended<R: Wait + AllocGlobal>(&self, rt: &R, refusal: Refusal) {
+        let _noted = self.ended_by.try_set(refusal);
+        self.is_closed.store(true, Ordering::SeqCst);
+        self.wake(rt, &self.door, u64::MAX, false);
     }
 }
 
-// Whether a word may have the byte.
-fn is_of_word(byte: u8) -> bool {
-    byte.is_ascii_lowercase() || byte.is_ascii_digit() || byte == b'-' || byte == b'_'
+// How many threads serve the clients, where such a time is set.
+fn threads(idle: Option<Duration>) -> usize {
+    MAX_LIVE + 1 + usize::from(idle.is_some())
 }

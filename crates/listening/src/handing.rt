@@ -54,7 +54,7 @@ impl<'a, O: Write, R: Wait> Handing<'a, O, R> {
     }
 
     /// Hands out all lines of an input, up to its end or to the line `end`. Whose line is no
-    /// client's, or is too long, is told so.
+    /// client's, or is too long, is told so; the latter by the client that it begins with.
     ///
     /// Refused where the input or the output is, and for want of memory.
     pub fn hand_out_all<I: Read + Drop>(&mut self, input: I) -> io::Result<()> {
@@ -68,7 +68,7 @@ impl<'a, O: Write, R: Wait> Handing<'a, O, R> {
                 Found::Silence => continue,
                 Found::Line => self.hand_out(line.as_slice())?,
                 Found::TooLong => {
-                    self.tell(b"- error LineTooLong\n")?;
+                    self.hand_out_long(line.as_slice())?;
                     true
                 }
                 Found::Cut | Found::End => false,
@@ -81,10 +81,21 @@ impl<'a, O: Write, R: Wait> Handing<'a, O, R> {
         Ok(self.send()?)
     }
 
-    // Hands a line out. Whether more are to come: not behind `end`.
+    // Hands out the beginning of a line that is too long. With the words that name its client it is
+    // too long for that client too, who is told so in its turn.
+    fn hand_out_long(&mut self, line: &[u8]) -> io::Result<()> {
+        match (addressed(line), self.manner) {
+            (Some((client, _)), _) => self.gather(usize::from(client).saturating_sub(1), line)?,
+            (None, Manner::Shell) => self.gather(0, line)?,
+            (None, Manner::Tagged) => self.tell(b"- error LineTooLong\n")?,
+        }
+        Ok(())
+    }
+
+    // Hands a line out. Whether more are to come: not behind `end`. A carriage return at its end is
+    // left to the client that takes it off.
     fn hand_out(&mut self, line: &[u8]) -> io::Result<bool> {
-        let line = line.strip_suffix(b"\r").unwrap_or(line);
-        match line {
+        match line.strip_suffix(b"\r").unwrap_or(line) {
             b"end" => return Ok(false),
             [] | [b'#', ..] if self.manner == Manner::Tagged => {}
             [] | [b'#', ..] => self.tell(b"")?,

@@ -3,16 +3,24 @@
 //! a FIFO, are a `Doorway`: each has a pair of FIFOs of its own.
 #![tactic(auto)]
 
+mod answers;
+mod arrivals;
 mod coming;
 mod doorway;
 mod fifos;
 mod handing;
 mod multiplex;
+mod notes;
+mod outlet;
 mod seat;
 mod shell;
 mod tagged;
+mod trouble;
 mod until;
+mod words;
 
 pub use doorway::Doorway;
 pub use fifos::{Fifos, SystemFifos, Way};
 pub use multiplex::Multiplex;
+pub use notes::Notes;
+pub use trouble::Trouble;

@@ -1,12 +1,15 @@
 // Clients that share one input and one output.
+use crate::arrivals::Arrivals;
 use crate::coming::Coming;
 use crate::fifos::Fifos;
 use crate::handing::Handing;
 use crate::seat::Seat;
 use crate::shell::Manner;
 use crate::tagged::Tagged;
+use crate::trouble::Trouble;
 use crate::until::Until;
 use background::Work;
+use calls::Refusal;
 use calls::limits::MAX_LIVE;
 use crossbeam_channel::{Receiver, Sender, bounded};
 use sessions::Session;
@@ -14,7 +17,7 @@ use std::alloc::{AllocError, AllocGlobal, Global};
 use std::io::{self, BufReader, ErrorKind, Read, Write};
 use std::rt::Clock;
 use std::sync::atomic::{AtomicBool, AtomicU64, Ordering};
-use std::sync::{Mutex, Wait};
+use std::sync::{Mutex, OnceLock, Wait};
 use std::time::Duration;
 use store::{Client, Naming};
 use talks::{Ended, Printer, Why, talk};
@@ -31,8 +34,8 @@ const STANDARD_INPUT: i32 = 0;
 /// Clients that share standard input and an output. Each line of the input begins with its client,
 /// `c1 ` to `c64 `, and so does each answer. The lines of one client are carried out in their
 /// order, and those of different ones side by side. A line of no client is answered
-/// `- error NoClient`, and one that is too long `- error LineTooLong`. The end of the input, or the
-/// line `end`, ends all clients, once the lines before it are answered.
+/// `- error NoClient`, and one that is too long `error LineTooLong`, to the client that it names. The
+/// end of the input, or the line `end`, ends all clients, once the lines before it are answered.
 ///
 /// Where 64 batches of lines wait for one client, no more input is read. So the parent reads
 /// answers while it writes lines, or has few of them outstanding.
@@ -49,7 +52,10 @@ pub struct Multiplex<F, I, O> {
     seat: Seat,
     // No looks are taken at it.
     looks: AtomicU64,
+    arrivals: Arrivals,
     is_lost: AtomicBool,
+    // What ended keeping early.
+    ended_by: OnceLock<Refusal>,
     input: Mutex<Option<I>>,
     output: Mutex<O>,
     senders: Mutex<Option<Vec<Sender<Vec<u8>>>>>,
@@ -78,7 +84,9 @@ impl<F: Fifos + Drop, I: Read + Drop, O: Write + Drop> Multiplex<F, I, O> {
             manner: Manner::Tagged,
             seat: Seat::new(),
             looks: AtomicU64::new(0),
+            arrivals: Arrivals::new(MAX_LIVE + 1),
             is_lost: AtomicBool::new(false),
+            ended_by: OnceLock::new(),
             input: Mutex::new(Some(input)),
             output: Mutex::new(output),
             senders: Mutex::new(Some(senders)),
@@ -129,10 +137,6 @@ impl<F: Fifos + Drop, I: Read + Drop, O: Write + Drop> Multiplex<F, I, O> {
             return Ok(());
         };
         let served = self.talk_on(rt, client, batches, of);
-        if let Ok(Why::Lost) = served {
-            self.is_lost.store(true, Ordering::SeqCst);
-            self.seat.wake(rt, rt.alloc(), &self.fifos, u64::MAX);
-        }
         for batch in batches.iter(rt) {
             drop(batch);
         }
@@ -157,7 +161,7 @@ impl<F: Fifos + Drop, I: Read + Drop, O: Write + Drop> Multiplex<F, I, O> {
         let mut lines = BufReader::with_capacity(alloc, READ_SIZE, coming)?;
         let number = of.saturating_add(1);
         let output = Tagged::new(rt, &self.output, number, self.manner, Vec::new(alloc));
-        let mut printer = Printer::new(alloc, output);
+        let mut printer = Printer::new(alloc, output).with_cause(&self.ended_by);
         for _ in rt.forever() {
             let mut session = Session::new(client);
             match talk(rt, &mut session, &mut lines, &mut printer) {
@@ -173,20 +177,31 @@ impl<F: Fifos + Drop, I: Read + Drop, O: Write + Drop> Multiplex<F, I, O> {
 }
 
 impl<F: Fifos + Drop, I: Read + Drop, O: Write + Drop> Work for Multiplex<F, I, O> {
-    type Output = io::Result<()>;
+    type Output = Result<(), Trouble>;
 
     /// The first thread hands the lines out, and each other one talks with its client.
     ///
-    /// Refused where the input or the output is, and for want of memory.
+    /// Refused where not all threads come, where the input or the output is, and for want of
+    /// memory.
     fn work<J: Naming, R: Wait + Clock + AllocGlobal>(
         &self,
         rt: &R,
         client: &mut Client<'_, J>,
         thread: usize,
-    ) -> io::Result<()> {
+    ) -> Result<(), Trouble> {
+        self.arrivals.wait_for_all(rt)?;
         match thread.checked_sub(1) {
-            Some(of) => self.serve(rt, client, of),
-            None => self.hand_out(rt),
+            Some(of) => self.serve(rt, client, of)?,
+            None => self.hand_out(rt)?,
         }
+        Ok(())
+    }
+
+    /// The input is taken to have ended: at once where it is a FIFO, and else behind what comes
+    /// next.
+    fn keeping_ended<R: Wait + AllocGlobal>(&self, rt: &R, refusal: Refusal) {
+        let _noted = self.ended_by.try_set(refusal);
+        self.is_lost.store(true, Ordering::SeqCst);
+        let _woken = self.seat.wake(rt, rt.alloc(), &self.fifos, u64::MAX, false);
     }
 }

@@ -1,5 +1,5 @@
 // What one thread reads of its client, as the others see it.
-use crate::fifos::{Fifos, Way, path_of};
+use crate::fifos::{Fifos, Way, open_numbered};
 use std::alloc::Global;
 use std::fs::File;
 use std::io::{self, Write};
@@ -8,6 +8,15 @@ use std::sync::{Mutex, Wait};
 /// A byte that stands in no line. It wakes who waits in a read.
 pub const WAKE: u8 = 0;
 
+/// Why a read was woken.
+#[derive(Clone, Copy, PartialEq, Eq)]
+pub enum Call {
+    /// Nothing has come for too long, or all is over.
+    Silence,
+    /// Its client is to go, as others wait.
+    Leave,
+}
+
 // Whether a thread waits in a read.
 #[derive(Clone, Copy)]
 enum Waiting {
@@ -15,7 +24,7 @@ enum Waiting {
     // It does, since so many looks were taken.
     Since(u64),
     // It did until it was woken: a `WAKE` is in its FIFO, or will be.
-    Woken,
+    Woken(Call),
 }
 
 // The file of this number is read. It is open as long as it stands here.
@@ -23,6 +32,8 @@ enum Waiting {
 struct Reading {
     number: i32,
     waiting: Waiting,
+    // Whether nothing has come since a `Silence`.
+    is_silent: bool,
 }
 
 /// What a thread reads of its client, if it has one.
@@ -44,6 +55,7 @@ impl Seat {
         *self.reading.lock(rt) = Some(Reading {
             number,
             waiting: Waiting::No,
+            is_silent: false,
         });
     }
 
@@ -52,51 +64,77 @@ impl Seat {
         *self.reading.lock(rt) = None;
     }
 
-    /// A read begins, when so many looks were taken.
-    pub fn begin<R: Wait>(&self, rt: &R, look: u64) {
+    /// Whether a file is read.
+    pub fn is_taken<R: Wait>(&self, rt: &R) -> bool {
+        self.reading.lock(rt).is_some()
+    }
+
+    /// A read begins, when so many looks were taken. `is_silent` says whether nothing has come
+    /// since a `Silence`.
+    pub fn begin<R: Wait>(&self, rt: &R, look: u64, is_silent: bool) {
         if let Some(reading) = &mut *self.reading.lock(rt) {
             reading.waiting = Waiting::Since(look);
+            reading.is_silent = is_silent;
         }
     }
 
-    /// The read ends. Whether it was woken, so that a `WAKE` is in the FIFO or will be.
-    pub fn end<R: Wait>(&self, rt: &R) -> bool {
+    /// The read ends. Why it was woken, if it was, so that a `WAKE` is in the FIFO or will be.
+    pub fn end<R: Wait>(&self, rt: &R) -> Option<Call> {
         let Some(reading) = &mut *self.reading.lock(rt) else {
-            return false;
+            return None;
         };
-        let is_woken = matches!(reading.waiting, Waiting::Woken);
+        let call = match reading.waiting {
+            Waiting::Woken(call) => Some(call),
+            Waiting::No | Waiting::Since(_) => None,
+        };
         reading.waiting = Waiting::No;
-        is_woken
+        call
     }
 
-    /// Wakes who has waited in a read since that look or an earlier one.
-    pub fn wake<R: Wait>(&self, rt: &R, alloc: Global, fifos: &impl Fifos, look: u64) {
+    /// Wakes who has waited in a read since that look or an earlier one; to leave where it may, and
+    /// was silent before. Answers what it was told.
+    pub fn wake<R: Wait>(
+        &self,
+        rt: &R,
+        alloc: Global,
+        fifos: &impl Fifos,
+        look: u64,
+        may_leave: bool,
+    ) -> Option<Call> {
         // where the FIFO is gone, nobody reads it
-        if let Ok(Some(mut writer)) = self.claim(rt, alloc, fifos, look) {
-            let _woken = writer.write_all(&[WAKE]);
-        }
+        let Ok(Some((mut writer, call))) = self.claim(rt, alloc, fifos, look, may_leave) else {
+            return None;
+        };
+        let _woken = writer.write_all(&[WAKE]);
+        Some(call)
     }
 
     // The other side of the FIFO in which a thread has waited since that look, which is taken to be
-    // woken. It is opened while the number is that FIFO's for sure, and written to only then.
+    // woken, and why it is. It is opened while the number is that FIFO's for sure, and written to
+    // only then, under no lock: who is woken makes room in it.
     fn claim<R: Wait>(
         &self,
         rt: &R,
         alloc: Global,
         fifos: &impl Fifos,
         look: u64,
-    ) -> io::Result<Option<File>> {
-        let mut reading = self.reading.lock(rt);
-        let Some(Reading { number, waiting }) = &mut *reading else {
+        may_leave: bool,
+    ) -> io::Result<Option<(File, Call)>> {
+        let mut held = self.reading.lock(rt);
+        let Some(reading) = &mut *held else {
             return Ok(None);
         };
-        match waiting {
-            Waiting::Since(since) if *since <= look => {}
+        match reading.waiting {
+            Waiting::Since(since) if since <= look => {}
             _ => return Ok(None),
         }
-        let path = path_of(alloc, *number)?;
-        let writer = fifos.open(alloc, path.as_str(), Way::Write)?;
-        *waiting = Waiting::Woken;
-        Ok(Some(writer))
+        let call = if may_leave && reading.is_silent {
+            Call::Leave
+        } else {
+            Call::Silence
+        };
+        let writer = open_numbered(fifos, alloc, reading.number, Way::Write)?;
+        reading.waiting = Waiting::Woken(call);
+        Ok(Some((writer, call)))
     }
 }

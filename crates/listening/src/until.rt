@@ -1,11 +1,12 @@
 // A FIFO, up to the end of all.
-use crate::seat::{Seat, WAKE};
+use crate::seat::{Call, Seat, WAKE};
 use std::io::{self, ErrorKind, Read};
 use std::sync::Wait;
 use std::sync::atomic::{AtomicBool, AtomicU64, Ordering};
 
 /// A reader of a FIFO that ends once all is over. Another thread may wake it by its seat, at the
-/// end or where nothing came for too long; then it answers `TimedOut`, and may be read on.
+/// end or where nothing came for too long; then it answers `TimedOut`, and may be read on. Or it is
+/// woken to leave, and ends.
 ///
 /// Who wakes it says so in the seat first, and writes one `WAKE`. So as many of these bytes are
 /// taken out as were written, wherever they stand between those of the client.
@@ -18,6 +19,8 @@ pub struct Until<'a, I, R: Wait> {
     is_over: &'a AtomicBool,
     // How many bytes that woke it are still to come.
     wakes: usize,
+    // Whether nothing has come since it answered `TimedOut`.
+    is_silent: bool,
 }
 
 impl<'a, I: Read, R: Wait> Until<'a, I, R> {
@@ -37,6 +40,7 @@ impl<'a, I: Read, R: Wait> Until<'a, I, R> {
             looks,
             is_over,
             wakes: 0,
+            is_silent: false,
         }
     }
 
@@ -58,33 +62,40 @@ impl<'a, I: Read, R: Wait> Until<'a, I, R> {
         left
     }
 
-    // Waits for bytes. How many came, none at the end; and whether it was woken.
-    fn wait(&mut self, buf: &mut [u8]) -> io::Result<(usize, bool)> {
-        self.seat.begin(self.rt, self.looks.load(Ordering::SeqCst));
+    // Waits for bytes. How many came, none at the end; and why it was woken, if it was.
+    fn wait(&mut self, buf: &mut [u8]) -> io::Result<(usize, Option<Call>)> {
+        let look = self.looks.load(Ordering::SeqCst);
+        self.seat.begin(self.rt, look, self.is_silent);
         if self.is_over.load(Ordering::SeqCst) {
-            return Ok((0, false));
+            return Ok((0, None));
         }
         let read = self.reader.read(buf);
-        let is_woken = self.seat.end(self.rt);
-        self.wakes = self.wakes.saturating_add(usize::from(is_woken));
+        let call = self.seat.end(self.rt);
+        self.wakes = self.wakes.saturating_add(usize::from(call.is_some()));
         if self.is_over.load(Ordering::SeqCst) {
-            return Ok((0, false));
+            return Ok((0, None));
         }
-        Ok((read?, is_woken))
+        Ok((read?, call))
     }
 }
 
 impl<I: Read, R: Wait> Read for Until<'_, I, R> {
     fn read(&mut self, buf: &mut [u8]) -> io::Result<usize> {
         for _ in self.rt.forever() {
-            let (count, is_woken) = self.wait(buf)?;
+            let (count, call) = self.wait(buf)?;
             let came = count.min(buf.len());
             let left = self.without_wakes(&mut buf[..came]).min(came);
             if left > 0 || count == 0 {
+                self.is_silent = false;
                 return Ok(left);
             }
-            if is_woken {
-                return Err(io::Error::from(ErrorKind::TimedOut));
+            match call {
+                Some(Call::Silence) => {
+                    self.is_silent = true;
+                    return Err(io::Error::from(ErrorKind::TimedOut));
+                }
+                Some(Call::Leave) => return Ok(0),
+                None => {}
             }
         }
         Ok(0)

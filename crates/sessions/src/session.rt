@@ -42,15 +42,18 @@ impl<'c, 's, J: Naming> Session<'c, 's, J> {
 }
 
 impl<J: Naming> Speaker for Session<'_, '_, J> {
-    ghost use Rattle.std.specs.Prelude.{◌≡◌};
+    ghost use Rattle.std.specs.Prelude.{◌≡◌, [], ◌∷◌};
     ghost use Rattle.sessions.specs.Sessions.{Says, Ends, said_place, IsRefusal};
-    ghost use Rattle.clients.specs.Calls.{IsOpen};
+    ghost use Rattle.clients.specs.Calls.{Hears, IsOpen};
 
     type Said = Said;
 
     ghost says = { Says J.origin };
 
     ghost ends = { λ old end new. Ends old.known old.ticket end new.known ×
+        (new.ticket ≡ old.ticket) };
+
+    ghost hears = { λ old failed new. Hears old.known [] (failed ∷ []) new.known ×
         (new.ticket ≡ old.ticket) };
 
     ghost is_open = { λ s. IsOpen s.known.phase };
@@ -69,6 +72,11 @@ impl<J: Naming> Speaker for Session<'_, '_, J> {
     /// meanwhile, or have met a fault of the disk.
     fn end<R: Wait>(&mut self, rt: &R) -> End {
         end(rt, self.client, self.ticket)
+    }
+
+    /// Whether keeping has failed, as `Client::has_failed` tells it.
+    fn has_failed(&mut self) -> bool {
+        self.client.has_failed()
     }
 
     /// How the store stands, as `Client::status` tells it, in one line.

@@ -1,6 +1,6 @@
 -- What a talk with a client does: the lines that come, and what the client is told of each.
 use Rattle.std.specs.Prelude.{◌≡◌, ◌⊎◌, ℕ, Bool, true, false, List, [], ◌∷◌, ◌++◌}
-use Rattle.std.specs.Prelude.{Option, None, Some, length, ◌||◌}
+use Rattle.std.specs.Prelude.{Option, None, Some, IsSome, length, ◌||◌}
 use Rattle.std.specs.Io.BufRead.{strip_last}
 use Rattle.std.specs.Io.KnownBytes.{Consumes}
 use Rattle.calls.specs.declared.refusal.Refusal.{Refusal}
@@ -54,11 +54,22 @@ IsUnwished line Told.NotUnderstood = (wish : Wish) → IsWished line wish → �
 IsUnwished line (Told.Refused Refusal.NoMemory) = Unit {0}
 IsUnwished line told = ⊥
 
--- what is told of how the store stands, or that this takes more memory than there is
-abbrev pub IsStatus : {A : Type 0} → Told A → Type 0
-IsStatus (Told.Status text) = Unit {0}
-IsStatus (Told.Refused Refusal.NoMemory) = Unit {0}
-IsStatus told = ⊥
+-- what is told of how the store stands, and whether keeping has failed; or that this takes more
+-- memory than there is
+abbrev pub IsStatus : {A : Type 0} → Bool → Told A → Type 0
+IsStatus failed (Told.Status text told) = told ≡ failed
+IsStatus failed (Told.Refused Refusal.NoMemory) = Unit {0}
+IsStatus failed told = ⊥
+
+-- the wish commits or makes something, or asks whether something is kept
+abbrev pub WantsKeeping : Wish → Type 0
+WantsKeeping (Wish.Ask (Request.Make kind name)) = Unit {0}
+WantsKeeping (Wish.Ask Request.Commit) = Unit {0}
+WantsKeeping (Wish.Ask Request.Kept) = Unit {0}
+WantsKeeping Wish.Keep = Unit {0}
+WantsKeeping (Wish.Do calls) = Unit {0}
+WantsKeeping (Wish.DoAndKeep calls) = Unit {0}
+WantsKeeping wish = ⊥
 
 -- What a client is told at a line behind a silence in which its transaction was taken back: nothing
 -- at one that asks for nothing, and then the next one is to be told so still.
@@ -155,25 +166,58 @@ module _ {S A : Type 0} (s : Ghosts S A) where
   KeepsOutcome old (Outcome.Refused refused back) told next new =
       ((told, next) ≡ told_outcome (Outcome.Refused refused back)) × (new ≡ old)
 
-  -- What a wish does, what the client is told, and whether the talk ends.
-  abbrev pub Exchanges : S → Wish → Option (Told A) → Option Why → S → Type 0
-  Exchanges old Wish.Nothing told next new = (told ≡ None) × (next ≡ None) × (new ≡ old)
-  Exchanges old (Wish.Ask r) told next new =
+  -- What a wish does that is carried out, what is to be told, and whether the talk ends.
+  abbrev pub CarriesOut : S → Wish → Option (Told A) → Option Why → S → Type 0
+  CarriesOut old Wish.Nothing told next new = (told ≡ None) × (next ≡ None) × (new ≡ old)
+  CarriesOut old (Wish.Ask r) told next new =
       (said : A) × s.says old r said new × (told ≡ Some (Told.Said said)) × (next ≡ None)
-  Exchanges old Wish.Wait told next new =
+  CarriesOut old Wish.Wait told next new =
       (end : End) × s.ends old end new × ((told, next) ≡ telling (told_end end))
-  Exchanges old Wish.Keep told next new =
+  CarriesOut old Wish.Keep told next new =
       (kept : Told A) × KeepsOpen old kept new × ((told, next) ≡ telling kept)
-  Exchanges old (Wish.Do calls) told next new =
+  CarriesOut old (Wish.Do calls) told next new =
       (outcome : Outcome A) × Transacts old calls.items outcome new ×
       ((told, next) ≡ told_outcome outcome)
-  Exchanges old (Wish.DoAndKeep calls) told next new =
+  CarriesOut old (Wish.DoAndKeep calls) told next new =
       (outcome : Outcome A) × (mid : S) × Transacts old calls.items outcome mid ×
       KeepsOutcome mid outcome told next new
-  Exchanges old Wish.Status told next new =
-      (status : Told A) × IsStatus status × (told ≡ Some status) × (next ≡ None) × (new ≡ old)
-  Exchanges old Wish.Bye told next new =
+  CarriesOut old Wish.Status told next new =
+      (failed : Bool) × (status : Told A) × s.hears old failed new × IsStatus failed status ×
+      (told ≡ Some status) × (next ≡ None)
+  CarriesOut old Wish.Bye told next new =
       ((told, next) ≡ telling Told.Bye) × (new ≡ old)
+
+  -- the place of something that is perhaps not kept is told
+  abbrev pub TellsPlace : Option (Told A) → Type 0
+  TellsPlace (Some (Told.Said said)) = IsSome (s.placed said)
+  TellsPlace (Some (Told.Done saids place)) = Unit {0}
+  TellsPlace told = ⊥
+
+  -- The client is told that keeping has failed, which was heard, and the talk ends.
+  abbrev pub IsLost : S → Option (Told A) → Option Why → S → Type 0
+  IsLost old told next new = s.hears old true new × ((told, next) ≡ telling (Told.Refused Refusal.Lost))
+
+  -- What was to be told is told: a place only where keeping was heard not to have failed; else Lost.
+  abbrev pub IsUnlessFailed : S → Option (Told A) → Option Why → Option (Told A) → Option Why → S →
+      Type 0
+  IsUnlessFailed old done ends told next new =
+      ((TellsPlace done → ⊥) × (told ≡ done) × (next ≡ ends) × (new ≡ old))
+      ⊎ (TellsPlace done × s.hears old false new × (told ≡ done) × (next ≡ ends))
+      ⊎ (TellsPlace done × IsLost old told next new)
+
+  -- a wish is begun: one that wants keeping once that was heard not to have failed
+  abbrev pub IsBegun : S → Wish → S → Type 0
+  IsBegun old wish new =
+      ((WantsKeeping wish → ⊥) × (new ≡ old)) ⊎ (WantsKeeping wish × s.hears old false new)
+
+  -- What a wish does, what the client is told, and whether the talk ends. Where keeping was heard
+  -- to have failed, one that wants it is told Lost and not carried out.
+  abbrev pub Exchanges : S → Wish → Option (Told A) → Option Why → S → Type 0
+  Exchanges old wish told next new =
+      (WantsKeeping wish × IsLost old told next new)
+      ⊎ ((begun : S) × (mid : S) × (done : Option (Told A)) × (ends : Option Why) ×
+      IsBegun old wish begun × CarriesOut begun wish done ends mid ×
+      IsUnlessFailed mid done ends told next new)
 
   -- A line is answered.
   abbrev pub IsLineAnswered : S → List ℕ → Option (Told A) → Option Why → S → Type 0

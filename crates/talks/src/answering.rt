@@ -1,5 +1,5 @@
 // What is done behind a line.
-ghost use Rattle.std.specs.Prelude.{◌≡◌, [], MatchResult, IsTrue, ◌↔◌};
+ghost use Rattle.std.specs.Prelude.{◌≡◌, [], Bool, MatchResult, IsTrue, ◌↔◌};
 ghost use Rattle.std.specs.Io.BufRead.{strip_last};
 ghost use Rattle.script.specs.declared.wishes.Wish.{Wish};
 ghost use Rattle.talks.specs.declared.told.Told.{Told};
@@ -7,7 +7,8 @@ ghost use Rattle.talks.specs.declared.why.Why.{Why};
 ghost use Rattle.talks.specs.declared.speaking.End.{End};
 ghost use Rattle.talks.specs.declared.transacting.Outcome.{Outcome};
 ghost use Rattle.talks.specs.Hearing.{Hears};
-ghost use Rattle.talks.specs.Talks.{Exchanges, KeepsOpen, KeepsOutcome, IsWished, IsUnwished};
+ghost use Rattle.talks.specs.Talks.{Exchanges, CarriesOut, KeepsOpen, KeepsOutcome, IsWished};
+ghost use Rattle.talks.specs.Talks.{IsUnwished, IsUnlessFailed, TellsPlace, WantsKeeping};
 ghost use Rattle.talks.specs.Talks.{told_end, told_kept, told_outcome};
 ghost use Rattle.talks.specs.Talks.{telling, IsStatus};
 
@@ -50,6 +51,10 @@ pub fn wish_in<S>(alloc: Global, line: &[u8]) -> Result<Wish, Told<S>>
 }
 
 // Does what a line asks for. Answers what the client is told, and why the talk ends, if it does.
+//
+// Once keeping has failed, what commits or makes something, and what asks whether something is
+// kept, is told Lost and not done. Where it is found to have failed behind a commit, the client is
+// told Lost in place of its place.
 pub fn exchange<R: Wait + AllocGlobal, S: Speaker, H: Hearer<S::Said>>(
     rt: &R,
     speaker: &mut S,
@@ -57,6 +62,59 @@ pub fn exchange<R: Wait + AllocGlobal, S: Speaker, H: Hearer<S::Said>>(
     wish: &Wish,
 ) -> (Option<Told<S::Said>>, Option<Why>)
     ensures done { Exchanges ⟦<S as Speaker>⟧ speaker.old wish.now result.0 result.1 speaker.new }
+    ensures still { Hears (H.heard hearer.old) (H.heard hearer.new) [] }
+{
+    if wants_keeping(wish) && speaker.has_failed() {
+        return with_next(Told::Refused(Refusal::Lost));
+    }
+    let (told, next) = carry_out(rt, speaker, hearer, wish);
+    unless_failed(speaker, told, next)
+}
+
+// Whether a wish commits or makes something, or asks whether something is kept.
+fn wants_keeping(wish: &Wish) -> bool
+    ensures { IsTrue result ↔ WantsKeeping wish.now }
+{
+    match wish {
+        Wish::Ask(Request::Make(..) | Request::Commit | Request::Kept) => true,
+        Wish::Keep | Wish::Do(_) | Wish::DoAndKeep(_) => true,
+        _ => false,
+    }
+}
+
+// What a client is told in place of a place, where keeping has failed meanwhile.
+fn unless_failed<S: Speaker>(
+    speaker: &mut S,
+    told: Option<Told<S::Said>>,
+    next: Option<Why>,
+) -> (Option<Told<S::Said>>, Option<Why>)
+    ensures { IsUnlessFailed ⟦<S as Speaker>⟧ speaker.old told next result.0 result.1 speaker.new }
+{
+    if tells_place::<S>(&told) && speaker.has_failed() {
+        return with_next(Told::Refused(Refusal::Lost));
+    }
+    (told, next)
+}
+
+// Whether a client is told the place of something that is perhaps not kept.
+fn tells_place<S: Speaker>(told: &Option<Told<S::Said>>) -> bool
+    ensures { IsTrue result ↔ TellsPlace ⟦<S as Speaker>⟧ told.now }
+{
+    match told {
+        Some(Told::Said(said)) => S::place(said).is_some(),
+        Some(Told::Done(..)) => true,
+        _ => false,
+    }
+}
+
+// Does what a line asks for. Answers what the client is told, and why the talk ends, if it does.
+fn carry_out<R: Wait + AllocGlobal, S: Speaker, H: Hearer<S::Said>>(
+    rt: &R,
+    speaker: &mut S,
+    hearer: &mut H,
+    wish: &Wish,
+) -> (Option<Told<S::Said>>, Option<Why>)
+    ensures done { CarriesOut ⟦<S as Speaker>⟧ speaker.old wish.now result.0 result.1 speaker.new }
     ensures still { Hears (H.heard hearer.old) (H.heard hearer.new) [] }
 {
     match wish {
@@ -75,11 +133,13 @@ pub fn exchange<R: Wait + AllocGlobal, S: Speaker, H: Hearer<S::Said>>(
 }
 
 // How what the speaker speaks with stands.
-fn status<R: Wait, S: Speaker>(rt: &R, alloc: Global, speaker: &S) -> Told<S::Said>
-    ensures { IsStatus result }
+fn status<R: Wait, S: Speaker>(rt: &R, alloc: Global, speaker: &mut S) -> Told<S::Said>
+    ensures { (has_failed : Bool) × S.hears speaker.old has_failed speaker.new ×
+        IsStatus has_failed result }
 {
+    let has_failed = speaker.has_failed();
     match speaker.status(rt, alloc) {
-        Ok(text) => Told::Status(text),
+        Ok(text) => Told::Status(text, has_failed),
         Err(refusal) => Told::Refused(refusal),
     }
 }

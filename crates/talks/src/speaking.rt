@@ -27,7 +27,7 @@ impl fmt::Display for End {
 
 /// Who carries a client's requests out, one after another.
 pub trait Speaker {
-    ghost use Rattle.std.specs.Prelude.{ℕ, Option, IsTrue, IsOkUnless, ◌↔◌, ◌≡◌};
+    ghost use Rattle.std.specs.Prelude.{ℕ, Bool, Option, IsTrue, IsOkUnless, ◌↔◌, ◌≡◌};
     ghost use Rattle.calls.specs.declared.refusal.Refusal.{Refusal};
     ghost use Rattle.script.specs.declared.action.Request.{Request};
     ghost use Rattle.talks.specs.declared.speaking.End.{End};
@@ -40,6 +40,9 @@ pub trait Speaker {
 
     /// A wait for what was last committed or made ends so.
     ghost ends: { Self → End → Self → Type 0 };
+
+    /// Whether keeping has failed was asked, and was answered so.
+    ghost hears: { Self → Bool → Self → Type 0 };
 
     /// A transaction is open.
     ghost is_open: { Self → Type 0 };
@@ -57,6 +60,10 @@ pub trait Speaker {
     /// Waits until what was last committed or made is kept.
     fn end<R: Wait>(&mut self, rt: &R) -> End
         ensures { ends self.old result self.new };
+
+    /// Whether keeping has failed, so that nothing more is kept. It waits for nobody.
+    fn has_failed(&mut self) -> bool
+        ensures { hears self.old result self.new };
 
     /// How what it speaks with stands, in one line. It makes no request, and waits for nothing that
     /// is kept. The text takes memory.

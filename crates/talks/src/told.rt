@@ -8,7 +8,7 @@ use std::fmt;
 pub enum Told<S> {
     /// What its request was answered, or the call or commit at which all of a line was refused.
     Said(S),
-    /// Why all that the line asked for was refused; or Lost, where keeping failed.
+    /// Why all that the line asked for was refused; or Lost, where keeping has failed.
     Refused(Refusal),
     /// How its wait ended.
     Waited(End),
@@ -18,8 +18,8 @@ pub enum Told<S> {
     Done(Vec<S>, u64),
     /// The same, and the commit is kept.
     DoneAndKept(Vec<S>, u64),
-    /// How the store stands.
-    Status(String),
+    /// How the store stands, and whether keeping has failed.
+    Status(String, bool),
     /// The line asks for nothing that is known.
     NotUnderstood,
     /// The line is longer than may be.
@@ -46,7 +46,8 @@ impl<S: fmt::Display> fmt::Display for Told<S> {
                 write_all(f, saids.as_slice())?;
                 write!(f, "kept {place}")
             }
-            Told::Status(text) => f.write_str(text.as_str()),
+            Told::Status(text, false) => f.write_str(text.as_str()),
+            Told::Status(text, true) => write!(f, "{text}; failed"),
             Told::NotUnderstood => f.write_str("error NotUnderstood"),
             Told::TooLong => f.write_str("error LineTooLong"),
             Told::Idle => f.write_str("error Idle"),

@@ -14,6 +14,8 @@ returns c =
     let old = adds _ _ _ _ _ c.in_ok-arg.ensures named c.path.ensures.rule c.path.ensures.alone in
     let both = adds _ _ _ _ _ c.in_ok-arg-2.ensures old c.path-2.ensures.rule
     c.path-2.ensures.alone in
-    IfOk-weaker c.arg-3.result _ _
-    (λ whole h. adds _ whole _ _ _ h both c.area.ensures.rule c.area.ensures.alone)
-    c.arg-3.ensures
+    let sized = adds _ _ _ _ _ c.in_ok-arg-3.ensures both c.area.ensures.rule
+    c.area.ensures.alone in
+    IfOk-weaker c.arg-4.result _ _
+    (λ whole h. adds _ whole _ _ _ h sized c.group.ensures.rule c.group.ensures.alone)
+    c.arg-4.ensures

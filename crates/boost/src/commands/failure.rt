@@ -22,18 +22,23 @@ pub enum Failure<'a> {
     InUse(&'a str),
     /// Output could not be written.
     Unwritten,
+    /// The path of a file that is not formatted, as it holds bytes.
+    HoldsBytes(&'a str),
+    /// What an argument has to be that the command line gives otherwise. Its text has a line for
+    /// that behind the one of a BadArg.
+    BadArgument(&'static str),
 }
 
 impl Failure<'_> {
     ghost use Rattle.boost.specs.Commands.{status_of};
 
-    /// The status with which the program ends: 1 for `Refused`, 3 for `NotUnderstood`, 4 for the
-    /// others.
+    /// The status with which the program ends: 1 for `Refused`, `HoldsBytes` and `BadArgument`, 3
+    /// for `NotUnderstood`, 4 for the others.
     pub fn status(&self) -> u8
         ensures { result ≡ status_of self.now }
     {
         match self {
-            Failure::Refused(_) => 1,
+            Failure::Refused(_) | Failure::HoldsBytes(_) | Failure::BadArgument(_) => 1,
             Failure::NotUnderstood(_) => 3,
             Failure::CannotOpen(..) | Failure::InUse(_) | Failure::Unwritten => 4,
         }
@@ -55,6 +60,12 @@ impl fmt::Display for Failure<'_> {
                 )
             }
             Failure::Unwritten => Ok(()),
+            Failure::HoldsBytes(path) => {
+                write!(f, "boost: {path} holds bytes: --force empties it")
+            }
+            Failure::BadArgument(why) => {
+                write!(f, "boost: {}\nboost: {why}", Said::Refused(Refusal::BadArg))
+            }
         }
     }
 }

@@ -61,6 +61,8 @@ impl<D: Disk, J: Naming> Speaker for Crowd<'_, '_, '_, D, J> {
 
     ghost ends = { λ _ _ _. ⊤ };
 
+    ghost hears = { λ _ _ _. ⊤ };
+
     ghost is_open = { λ s. IsTrue s.is_busy };
 
     ghost placed = { said_place };
@@ -83,6 +85,10 @@ impl<D: Disk, J: Naming> Speaker for Crowd<'_, '_, '_, D, J> {
             }
         }
         self.stage.end_of_first(rt)
+    }
+
+    fn has_failed(&mut self) -> bool {
+        self.stage.has_failed()
     }
 
     fn status<R: Wait>(&self, rt: &R, alloc: Global) -> Result<String, Refusal> {

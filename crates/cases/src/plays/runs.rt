@@ -101,6 +101,8 @@ pub fn to_format(alloc: Global, area: u64, version: u8) -> Task {
         area,
         version,
         reserve: false,
+        group: false,
+        force: false,
     }
 }
 

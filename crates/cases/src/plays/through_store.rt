@@ -132,6 +132,14 @@ impl<'c, 's, D: Disk, J: Naming> Stage<'c, 's, D, J> {
         }
     }
 
+    /// Whether the first client hears that keeping has failed.
+    pub fn has_failed(&mut self) -> bool {
+        match self.sessions.first_mut() {
+            Some(session) => session.has_failed(),
+            None => false,
+        }
+    }
+
     // Turns of the checkpointer, until an image is the store.
     fn checkpoint<R: Wait>(&mut self, rt: &R) -> Result<u64, Refusal> {
         for _ in rt.forever() {

@@ -12,7 +12,8 @@ returns-in-Format-clause-any_moment g c = rw c.in-Format.is c.format_disk.ensure
 pub returns-in-Format-clause-why : goal.returns-in-Format-clause-why
 returns-in-Format-clause-why g c =
     rw c.in-Format.is (other_undone
-    (Task.Format c.in-Format.disk c.in-Format.area c.in-Format.version c.in-Format.reserve)
+    (Task.Format c.in-Format.disk c.in-Format.area c.in-Format.version c.in-Format.reserve
+    c.in-Format.group c.in-Format.force)
     c.args.script.now (c.format_disk.result.1 ≡ c.args.disk)
     c.format_disk.result.0 (λ is. is) c.format_disk.ensures.why)
 

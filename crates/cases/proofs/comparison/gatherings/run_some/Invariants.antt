@@ -1,5 +1,0 @@
-use Rattle.cases.specs.Gatherings.{IsGoing}
-use Rattle.cases.proofs.comparison.gatherings.run_some.Given as goal
-
-abbrev pub invariant-loop : goal.invariant-loop
-invariant-loop l = IsGoing l.gathering

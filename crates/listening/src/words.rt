@@ -1,0 +1,57 @@
+// The words of clients at a door, and their FIFOs.
+use crate::fifos::Fifos;
+use std::alloc::{AllocError, Global};
+use std::io;
+
+// How many bytes a client's word has at most.
+const MAX_WORD: usize = 64;
+
+/// The word of a hello. None of another line.
+pub fn word_of(alloc: Global, line: &[u8]) -> Result<Option<String>, AllocError> {
+    let Some(word) = line.strip_prefix(b"hello ") else {
+        return Ok(None);
+    };
+    match std::str::from_utf8(word) {
+        Ok(word) if is_word(word) => Ok(Some(String::from_str(alloc, word)?)),
+        _ => Ok(None),
+    }
+}
+
+/// The FIFOs of clients in a folder, as they stand there now.
+pub fn leftovers(fifos: &impl Fifos, folder: &str) -> io::Result<Vec<String>> {
+    let mut names = fifos.names(folder)?;
+    names.retain(|name| is_of_client(name.as_str()));
+    Ok(names)
+}
+
+/// Removes files of a folder. What cannot be removed is in nobody's way.
+pub fn remove_all(
+    fifos: &impl Fifos,
+    alloc: Global,
+    folder: &str,
+    names: Vec<String>,
+) -> Result<(), AllocError> {
+    for name in names {
+        let path = format!(in alloc; "{folder}/{name}")?;
+        let _removed = fifos.remove(path.as_str());
+    }
+    Ok(())
+}
+
+// Whether a file has a name of a client's FIFO.
+fn is_of_client(name: &str) -> bool {
+    match name.rsplit_once(".") {
+        Some((word, "to" | "from")) => is_word(word),
+        _ => false,
+    }
+}
+
+// Whether a text is a word.
+fn is_word(text: &str) -> bool {
+    !text.is_empty() && text.len() <= MAX_WORD && text.bytes().all(is_of_word)
+}
+
+// Whether a word may have the byte.
+fn is_of_word(byte: u8) -> bool {
+    byte.is_ascii_lowercase() || byte.is_ascii_digit() || byte == b'-' || byte == b'_'
+}
