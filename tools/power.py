@@ -26,7 +26,7 @@ import time
 TOP = os.path.dirname(os.path.dirname(os.path.realpath(__file__)))
 CONTROL = '/.power'
 CLIENTS = 8
-AREA = 65536
+AREA = 524288
 KEYS = 16
 MOST = 1000
 
