@@ -664,6 +664,12 @@ def said(*words):
     return subprocess.run(words, check=True, stdout=subprocess.PIPE, stderr=subprocess.DEVNULL, text=True).stdout
 
 
+# The programs of docs/PATTERNS.md, each of which looks by itself whether all is as it must be, and what it prints last.
+PATTERNS = (('priorities', 'then they are taken in the order 1 2 3'), ('retries', 'job 7 is brought back and done: True'),
+            ('cancelling', "results None None b'sent'"), ('leases', "finished by the first, by the second: False True result b'quick'"),
+            ('windows', 'and once both are spent 0'), ('ids', 'counted: 200 given, 200 different, 1 kept'))
+
+
 def the_examples_in_python():
     """Each example prints what it must, though some of its processes die."""
     for name, printed in (('job_queue', '57 of 60 jobs have their result, 3 lie aside\n'),
@@ -673,7 +679,11 @@ def the_examples_in_python():
         place.serve()
         assert said(sys.executable, '-B', os.path.join(TOP, f'clients/python/examples/{name}.py'), place.door) == printed
         place.end()
-    return '3 examples'
+    for name, last in PATTERNS:
+        place = Place()
+        told = said(sys.executable, '-B', os.path.join(TOP, f'clients/python/examples/{name}.py'), PROGRAM, place.disk)
+        assert told.endswith(f'{last}\n'), (name, told)
+    return f'{3 + len(PATTERNS)} examples'
 
 
 def the_examples_in_c():
