@@ -4,7 +4,7 @@ and suffer, the unit's commands, cuts of the power. With words it runs the tests
 with which the gate begins, which are the ones that hang by no time.
 
 Two run side by side. A line tells what each came to and how long it took; what one printed that failed is shown. The status is 1 then.
-What a machine has not got (cc, FUSE with python3-fusepy, another user) its test says, and passes.
+What a machine has not got (cc, dpkg-deb, FUSE with python3-fusepy, another user) its test says, and passes.
 """
 import os
 import shutil
@@ -31,13 +31,14 @@ TESTS = {
     'the client in Python': ['-m', 'unittest', 'discover', '-s', 'clients/python/tests'],
     'attacks on the client in Python': ['tools/client_attacks.py', BOOST],
     'the client in C': ['tools/c_attacks.py'],
+    'installing it': ['tools/install_test.py'],
     'the unit, and boost-attach': ['tools/service.py'],
     'cuts of the power': ['tools/power.py', '10'],
 }
 
 # The gate begins with these.
 GATE = ('definitions', 'crates that pages name', 'the walk through a disk', 'the commands of the pages', 'the examples in Python',
-        'the examples in C', 'closed streams', 'the client in Python', 'the client in C')
+        'the examples in C', 'closed streams', 'the client in Python', 'the client in C', 'installing it')
 
 
 def lacking(name):
