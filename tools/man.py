@@ -10,8 +10,9 @@ import subprocess
 import sys
 
 TOP = os.path.dirname(os.path.dirname(os.path.realpath(__file__)))
-SERVING = ('Programs come to a server by the library in C, which is called boost_client, by the package boost for Python, or by '
-           'boost-attach(1), which speaks line by line.')
+SERVING = ('The FOLDER of a server has to have a FIFO that is called door: mkdir -m 700 FOLDER && mkfifo -m 600 FOLDER/door. Who may '
+           'write into the folder may read and write the store. Programs come to a server by the library in C, which is called '
+           'boost_client, by the package boost for Python, or by boost-attach(1), which speaks line by line.')
 
 
 def helped(program, *words):
