@@ -174,8 +174,8 @@ def rates_are_of_the_numbers():
     samples = [pages.Sample(1000.0, {'next': 5}), pages.Sample(1010.0, {'next': 105}), pages.Sample(1020.0, {}),
                pages.Sample(1030.0, {'next': 300}), pages.Sample(1040.0, {'next': 7})]
     assert [rate for _, rate in pages.rates_of(samples, 'next')] == [10.0, None, None, None]
-    lines = pages.lines_of([(0.0, 1.0), (5.0, 2.0), (6.0, None), (10.0, 0.0)], 0.0, 10.0, 2.0)
-    assert lines == ['0.0,52.0 280.0,4.0', '560.0,100.0 560.0,100.0'], lines
+    lines = pages.lines_of([(0.0, 1.0), (5.0, 2.0), (5.001, 1.0), (6.0, None), (10.0, 0.0)], 0.0, 10.0, 2.0)
+    assert lines == ['0,52.0 280,4.0', '560,100.0 560,100.0'], lines
     return '4 rates'
 
 

@@ -1,13 +1,14 @@
 """python3 -m boost.page FOLDER [--port N] [--every SECONDS]: one page to look at, of the server of a folder.
 
-It serves http://127.0.0.1:7300/, or another port, to programs of this machine alone: what the store holds, how full it is, what is open and
-waits, and how that went in the last hour; and /metrics, in the text format of Prometheus. It only asks `status`, every 5 seconds, and
-changes nothing. For that it is **one of the 64 clients** of the server as long as it runs. Where the server is away, it says so, and
-looks again. It wants nothing but Python.
+It serves http://127.0.0.1:7300/, or another port, to this machine alone, but to each of its users: how full the store is, what is open and
+waits, the names of the collections and how many items they hold, and how that went in the last hour; and /metrics, in the text format
+of Prometheus. It only asks `status`, every 5 seconds, and changes nothing. For that it is **one of the 64 clients** of the server as
+long as it runs. Where the server is away, it says so, and looks again. It wants nothing but Python.
 """
 import argparse
 import html
 import http.server
+import itertools
 import re
 import threading
 import time
@@ -21,6 +22,8 @@ EVERY = 5.0
 # For how many seconds samples are kept, and from how many on a plot is as wide as they reach.
 HOUR, LEAST = 3600.0, 60.0
 CLIENTS, RECORDS = 64, 16384
+# How many columns a plot has, and how many rows.
+WIDTH, HEIGHT = 560, 100
 AWAY = 'no answer yet'
 
 Number = Union[int, float]
@@ -148,13 +151,14 @@ def shares_of(samples: Iterable[Sample], name: str, whole: str) -> Points:
 
 
 def lines_of(points: Points, begin: float, span: float, top: float) -> List[str]:
-    """The lines of a plot of 560 by 100, each as the places of its corners. A gap ends a line."""
+    """The lines of a plot, each as the places of its corners. A gap ends a line. Of the points of one column the greatest is shown."""
     lines: List[List[str]] = [[]]
-    for second, value in points:
+    for column, group in itertools.groupby(points, lambda point: int(WIDTH * (point[0] - begin) / span)):
+        value = max((value for _, value in group if value is not None), default=None)
         if value is None:
             lines.append([])
-        elif second >= begin:
-            lines[-1].append('%.1f,%.1f' % (560 * (second - begin) / span, 100 - 96 * min(value, top) / top))
+        else:
+            lines[-1].append('%d,%.1f' % (column, HEIGHT - (HEIGHT - 4) * min(value, top) / top))
     return [' '.join(line * 2 if len(line) == 1 else line) for line in lines if line]
 
 
@@ -172,10 +176,11 @@ def plot_of(title: str, points: Points, now: float, least_top: float = 1.0) -> s
     last = points[-1][1] if points else None
     minutes = (now - begin) / 60
     return ('<figure><figcaption>%s <b>%s</b></figcaption>'
-            '<svg viewBox="-2 -2 640 124" role="img" aria-label="%s"><path d="M0 0V100H560"/>%s'
-            '<text x="566" y="10">%s</text><text x="566" y="102">0</text><text x="0" y="116">%s min ago</text>'
-            '<text x="536" y="116">now</text></svg></figure>\n'
-            % (html.escape(title), 'no answer' if last is None else short(last), html.escape(title), lines, short(top), short(minutes)))
+            '<svg viewBox="-2 -2 %d %d" role="img" aria-label="%s"><path d="M0 0V%dH%d"/>%s'
+            '<text x="%d" y="10">%s</text><text x="%d" y="%d">0</text><text x="0" y="%d">%s min ago</text><text x="%d" y="%d">now</text>'
+            '</svg></figure>\n'
+            % (html.escape(title), 'no answer' if last is None else short(last), WIDTH + 80, HEIGHT + 24, html.escape(title), HEIGHT,
+               WIDTH, lines, WIDTH + 6, short(top), WIDTH + 6, HEIGHT + 2, HEIGHT + 16, short(minutes), WIDTH - 24, HEIGHT + 16))
 
 
 def plots_of(seen: Seen) -> str:
