@@ -9,6 +9,7 @@ named. `install.py stage PREFIX FOLDER` puts the same files into FOLDER, without
 import contextlib
 import gzip
 import os
+import re
 import shutil
 import subprocess
 import sys
@@ -139,8 +140,8 @@ def main(words):
     if words[:1] not in (['install'], ['uninstall'], ['stage']) or len(words) > (3 if words[0] == 'stage' else 2):
         sys.exit(__doc__)
     prefix = os.path.normpath(words[1] if words[1:] else UNIT_PREFIX)
-    if not prefix.startswith('/') or prefix == '/':
-        raise Failed(f'the prefix {prefix} is no path from the root on to a folder')
+    if not re.fullmatch(r'(/[\w.+@-]+)+', prefix):
+        raise Failed(f'the prefix {prefix} is no path from the root on, of letters, digits and . + @ _ -')
     if words[0] == 'stage':
         stage(prefix, words[2])
     else:

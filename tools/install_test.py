@@ -74,7 +74,10 @@ def what_is_installed_is_taken_away():
         assert os.stat(f'{room}/usr/local/bin/boost').st_mode & 0o777 == 0o755
         boost(room, 'uninstall')
         assert tree(room) == before, set(tree(room)) ^ set(before)
-        assert subprocess.run([BOOST, 'uninstall'], env={**os.environ, 'DESTDIR': room}, stderr=subprocess.DEVNULL, check=False).returncode == 4
+        for words in (['uninstall'], ['install', 'here'], ['install', '/a b'], ['install', '/'], ['install', '/proc/no']):
+            ran = subprocess.run([BOOST, *words], env={**os.environ, 'DESTDIR': room if len(words) == 1 else ''}, stderr=subprocess.PIPE,
+                                 text=True, check=False)
+            assert ran.returncode == 4 and ran.stderr.startswith('boost: ') and ran.stderr.count('\n') == 1, ran
     return f'{len(WANTED)} files'
 
 

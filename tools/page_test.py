@@ -206,7 +206,7 @@ def status_of(place, path, **headers):
 
 
 def it_is_for_this_machine_alone():
-    """It listens at 127.0.0.1, answers nobody who asks by another name, and knows two pages."""
+    """It listens at 127.0.0.1, answers nobody who asks by another name, and knows two pages. A second one is told that the port is taken."""
     place = Place()
     told = [status_of(place, ''), status_of(place, 'metrics'), status_of(place, 'x'), status_of(place, '', Host='evil.example'),
             status_of(place, '', Host='localhost:1')]
@@ -215,6 +215,9 @@ def it_is_for_this_machine_alone():
     with open('/proc/net/tcp', encoding='utf-8') as file:
         at = [line.split()[1] for line in file if line.split()[1].endswith(f':{port:04X}') and line.split()[3] == '0A']
     assert at == [f'0100007F:{port:04X}'], at
+    second = subprocess.run([sys.executable, '-B', '-m', 'boost.page', 'run', '--port', str(port)], stderr=subprocess.PIPE, text=True,
+                            env={**os.environ, 'PYTHONPATH': os.path.join(TOP, 'clients', 'python')}, timeout=30, check=False)
+    assert second.returncode == 1 and second.stderr.startswith(f'boost.page: port {port}: ') and second.stderr.count('\n') == 1, second
     place.close()
     return f'{len(told)} requests'
 

@@ -10,6 +10,7 @@ import html
 import http.server
 import itertools
 import re
+import sys
 import threading
 import time
 from collections import deque
@@ -338,7 +339,10 @@ def main() -> None:
     words.add_argument('--every', type=float, default=EVERY, metavar='SECONDS', help='how often the server is asked; 5 seconds without it')
     told = words.parse_args()
     watch = Watch(told.folder, max(0.1, told.every))
-    server = serving(watch, told.port)
+    try:
+        server = serving(watch, told.port)
+    except (OSError, OverflowError) as error:
+        sys.exit('boost.page: port %d: %s' % (told.port, error))
     threading.Thread(target=watch.run, daemon=True).start()
     print('http://127.0.0.1:%d/' % server.server_address[1], flush=True)
     try:
