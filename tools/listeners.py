@@ -666,7 +666,7 @@ def said(*words):
 
 # The programs of docs/PATTERNS.md, each of which looks by itself whether all is as it must be, and what it prints last.
 PATTERNS = (('priorities', 'then they are taken in the order 1 2 3'), ('retries', 'job 7 is brought back and done: True'),
-            ('cancelling', "results None None b'sent'"), ('leases', "finished by the first, by the second: False True result b'quick'"),
+            ('cancelling', "results None None b'sent'"), ('leases', "job 8 was leased 3 times, and then b'no worker came through'"),
             ('windows', 'and once both are spent 0'), ('ids', 'counted: 200 given, 200 different, 1 kept'))
 
 

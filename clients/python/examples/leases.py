@@ -1,5 +1,5 @@
 """leases.py PROGRAM DISK: workers lease jobs for 60 seconds, and have no transaction open meanwhile. A lease that ran out goes back, and who
-had it can no longer finish the job.
+had it can no longer finish the job. A job whose third lease ran out is a dead letter: it may be what kills its workers.
 
 That is for more workers than a server has clients, for jobs that take minutes, and for workers that come by a web service. The set `leases`
 has numbers made of the second in which a lease ends and the job's id. The number is the lease: while it is in the set, the lease
@@ -13,6 +13,7 @@ import boost  # noqa: E402
 
 ID = 28
 SECONDS = 60
+LEASES = 3
 
 
 def lease(t, second):
@@ -38,11 +39,12 @@ def finish(t, job, end, result):
     if not t.call('leases', 'remove', end << ID | job):
         return False
     t.call('results', 'put', job, result)
+    t.call('tries', 'remove', job)
     return True
 
 
 def take_back(t, second):
-    """Puts the job whose lease ends first back among those that wait. None where no lease has run out."""
+    """Takes back the lease that ends first, and counts it: the job waits again, or is a dead letter. None where no lease has run out."""
     number = t.call('leases', 'pick')
     if number is None:
         return None
@@ -50,13 +52,19 @@ def take_back(t, second):
         t.abort()
         return None
     job = number & (1 << ID) - 1
-    t.call('jobs', 'add', job)
+    tries = int(t.call('tries', 'get', job) or b'0') + 1
+    if tries < LEASES:
+        t.call('tries', 'put', job, b'%d' % tries)
+        t.call('jobs', 'add', job)
+    else:
+        t.call('tries', 'remove', job)
+        t.call('dead', 'put', job, b'no worker came through')
     return job
 
 
 def main(program, disk):
     with boost.start(program, disk) as store:
-        for kind, name in (('set', 'jobs'), ('set', 'leases'), ('map', 'results')):
+        for kind, name in (('set', 'jobs'), ('set', 'leases'), ('map', 'results'), ('map', 'tries'), ('map', 'dead')):
             store.open_or_make(kind, name)
         store.do(('jobs', 'add', 7), keep=True)
         first = store.keep(lambda t: lease(t, 1000))
@@ -69,6 +77,11 @@ def main(program, disk):
         print('finished by the first, by the second:', *finished, 'result', *result)
         assert (first, early, late, second) == ((7, 1060), None, 7, (7, 1160))
         assert finished == [False, True] and result == [b'quick']
+        store.do(('jobs', 'add', 8), keep=True)
+        given = [(store.keep(lambda t: lease(t, second)), store.keep(lambda t: take_back(t, second + 61))) for second in (2000, 2100, 2200)]
+        left, dead = store.keep(lambda t: lease(t, 2300)), store.do(('dead', 'get', 8))
+        print('job 8 was leased', len(given), 'times, and then', *dead)
+        assert given == [((8, 2060), 8), ((8, 2160), 8), ((8, 2260), 8)] and left is None and dead == [b'no worker came through']
 
 
 if __name__ == '__main__':
