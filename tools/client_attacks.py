@@ -2,7 +2,8 @@
 """client_attacks.py [PROGRAM] [ATTACK..]: ways in which a program may hurt itself through the Python client, and servers that do.
 
 Each attack is a function below, and says what must not be. Each is run in a process of its own, which has two minutes and is killed
-then, over a door and over the pipes of a child where both differ. The program is the script `boost`, unless another one is named;
+then, over a door, over the pipes of a child, and over the socket of a gate where there is `cc`, where these differ. The program is the
+script `boost`, unless another one is named;
 all attacks are run, unless some are named. It prints a line for each attack, with what it saw, and ends with status 1 if one fails.
 CLIENT in the environment names the folder of another client.
 """
@@ -12,6 +13,7 @@ import multiprocessing
 import os
 import random
 import resource
+import shutil
 import signal
 import subprocess
 import sys
@@ -27,7 +29,8 @@ import boost  # noqa: E402
 
 PROGRAM = os.path.abspath(sys.argv[1]) if len(sys.argv) > 1 else os.path.join(TOP, 'boost')
 SECONDS = 120
-WAYS = ('door', 'pipes')
+GATE = os.environ.get('GATE', '')
+WAYS = ('door', 'pipes', 'gate') if GATE else ('door', 'pipes')
 
 
 # ---- places
@@ -77,8 +80,23 @@ class Place:
 
 
 @contextlib.contextmanager
+def gate_of(place):
+    """The path of the socket of a gate at a place, which has to end in good order."""
+    path = os.path.join(place.room, 'socket')
+    gate = subprocess.Popen([GATE, place.folder, path, '--seats', '64'], stderr=subprocess.DEVNULL)
+    try:
+        while not os.path.exists(path):
+            time.sleep(0.02)
+        yield path
+        gate.terminate()
+        assert gate.wait(20) == 0
+    finally:
+        gate.kill()
+
+
+@contextlib.contextmanager
 def opened(way, *options, **how):
-    """A place, and a store of it by a door or by the pipes of a child."""
+    """A place, and a store of it by a door, by the socket of a gate or by the pipes of a child."""
     with tempfile.TemporaryDirectory() as room:
         place = Place(room, *options)
         if way == 'door':
@@ -89,13 +107,21 @@ def opened(way, *options, **how):
                 place.end()
             finally:
                 place.server.kill()
+        elif way == 'gate':
+            place.serve()
+            try:
+                with gate_of(place) as path, boost.join('unix:' + path, **how) as store:
+                    yield place, store
+                place.end()
+            finally:
+                place.server.kill()
         else:
             with boost.start(PROGRAM, place.disk, *options, **how) as store:
                 yield place, store
 
 
-def in_both_ways(attack):
-    """An attack that is made over a door and over pipes."""
+def in_each_way(attack):
+    """An attack that is made over a door, over pipes and over a gate."""
     def made():
         told = []
         for way in WAYS:
@@ -150,7 +176,7 @@ def descriptors():
 # ---- attacks
 
 
-@in_both_ways
+@in_each_way
 def interrupted(place, store):
     """An exception at any moment of a call gives no later call the answer of another one."""
     store.do(('n', 'read'))
@@ -197,7 +223,7 @@ def stopped_while_it_waits():
     return ', '.join(told)
 
 
-@in_both_ways
+@in_each_way
 def used_when_closed(place, store):
     """A call behind the end writes into no other file of the program."""
     session = store.session()
@@ -217,7 +243,7 @@ def used_when_closed(place, store):
     return ', '.join(sorted(told))
 
 
-@in_both_ways
+@in_each_way
 def closed_beside_calls(place, store):
     """A store that is closed while other threads call writes into no file that is opened meanwhile, and each thread is told."""
     opened_on = lambda: boost.join(place.folder) if getattr(place, 'server', None) else boost.start(PROGRAM, place.disk)  # noqa: E731
@@ -249,7 +275,7 @@ def closed_beside_calls(place, store):
     return '%d threads told %s' % (len(told), ' or '.join(sorted(set(told))))
 
 
-@in_both_ways
+@in_each_way
 def long_lines(place, store):
     """A line that is longer than the server takes is refused before it is sent, at the very byte, and what is long otherwise is done."""
     session = store.session()
@@ -271,7 +297,7 @@ def long_lines(place, store):
     return 'up to %d bytes' % most
 
 
-@in_both_ways
+@in_each_way
 def many_lines(place, store):
     """Any number of lines may be sent at once."""
     answers = store.session().lines(['do n bump 0; m get 7'] * 50 + ['call n read'] * 20_000)
@@ -294,7 +320,7 @@ def answers_for_nobody():
     return repr(error)
 
 
-@in_both_ways
+@in_each_way
 def threads_that_come_and_go(place, store):
     """A thousand threads use one store, one after another and side by side, and other programs are served too."""
     done = []
@@ -320,7 +346,7 @@ def threads_that_come_and_go(place, store):
     return '1000 threads'
 
 
-@in_both_ways
+@in_each_way
 def no_client_is_free(place, store):
     """Where all 64 clients are taken a call waits its turn, up to its time-out, and goes on once one is given back."""
     held = [store.transaction() for _ in range(64)]
@@ -342,7 +368,7 @@ def no_client_is_free(place, store):
     return '65th served once one of 64 was given back'
 
 
-@in_both_ways
+@in_each_way
 def died_in_a_transaction(place, store):
     """A thread that ends inside a transaction leaves no lock, and its client is given back."""
     def dies():
@@ -489,7 +515,7 @@ def cut_lines():
     return repr(error)
 
 
-@in_both_ways
+@in_each_way
 def words_that_are_none(place, store):
     """No argument brings a word, a call or a line of its own with it."""
     for call in (('n', 'read\ndo n bump 1000'), ('m', 'put', 1, 'aa; n bump 100'), ('n', 'bump 1'), ('n', ''), ('', 'read'),
@@ -725,13 +751,24 @@ def make(attack):
     return process.returncode == 0
 
 
+def build_gate(room):
+    """Builds the gate, whose path the attacks find in their environment."""
+    sources = os.path.join(TOP, 'clients', 'gate')
+    files = [os.path.join(sources, name) for name in sorted(os.listdir(sources)) if name.endswith('.c')]
+    os.environ['GATE'] = os.path.join(room, 'boost-gate')
+    subprocess.run(['cc', '-std=c11', '-O2', '-o', os.environ['GATE'], *files], check=True)
+
+
 def main():
     named = sys.argv[2:]
     if named[:1] == ['--alone']:
         print(next(attack for attack in ATTACKS if attack.__name__ == named[1])())
         return 0
     chosen = [attack for attack in ATTACKS if not named or attack.__name__ in named]
-    return 0 if all([make(attack) for attack in chosen]) else 1
+    with tempfile.TemporaryDirectory() as room:
+        if not GATE and shutil.which('cc'):
+            build_gate(room)
+        return 0 if all([make(attack) for attack in chosen]) else 1
 
 
 if __name__ == '__main__':

@@ -1,7 +1,9 @@
-/* Clients that make one transaction behind another for some seconds, of `boost listen` or of Redis: see round_trips.py.
+/* Clients that make one transaction behind another for some seconds, of `boost listen` or of Redis: see round_trips.py and
+ * gate_rates.py.
  *
  *     load boost FOLDER CLIENTS SECONDS DEPTH LINE LAST     they come by the door of the folder
- *     load redis SOCKET CLIENTS SECONDS DEPTH LINE LAST     they connect to a socket of this machine
+ *     load boost unix:PATH CLIENTS SECONDS DEPTH LINE LAST  they come by the socket of a gate
+ *     load redis SOCKET CLIENTS SECONDS DEPTH LINE LAST     they connect to a socket of Redis
  *
  * Each client, a thread, sends so many lines at once, LAST behind all others, and then reads as many answers. What is printed is a
  * JSON object: the answers a second of all clients, the answers in all, and within how many microseconds half and 99 of 100 of the
@@ -12,10 +14,12 @@
 #include <sys/socket.h>
 #include <sys/un.h>
 
+enum { PATIENCE = 60 };    /* seconds in which an answer has to come */
+
 struct load {
-    const char *place, *line, *last;
+    const char *way, *place, *line, *last;
     double seconds;
-    int depth, is_redis;
+    int depth;
 };
 
 /* What one client did: how long each of its batches took, in microseconds. */
@@ -46,6 +50,11 @@ static struct boost *connect_to(const char *path)
     return client(to, dup(to), "", 0);
 }
 
+static struct boost *come(const struct load *load)
+{
+    return strcmp(load->way, "redis") == 0 ? connect_to(load->place) : boost_join(load->place);
+}
+
 static void note(struct client *client, double time)
 {
     if (client->count == client->room) {
@@ -70,7 +79,7 @@ static char *batch_of(const struct load *load)
 static void read_answers(struct client *client)
 {
     for (int i = 0; i < client->load->depth; i++) {
-        const char *answer = next_line(client->store);
+        const char *answer = next_line(client->store, now() + PATIENCE);
         if (answer == NULL || boost_refusal(answer) != 0 || answer[0] == '-')
             fail(answer == NULL ? "the server is gone" : answer);
     }
@@ -86,7 +95,7 @@ static void *run(void *argument)
     pthread_barrier_wait(&start);
     double end = now() + client->load->seconds;
     for (double begun = now(); begun < end; begun = now()) {
-        if (write_all(client->store->to, batch, size) != 0)
+        if (write_within(client->store->to, batch, size, now() + PATIENCE) != 0)
             fail("the server is gone");
         read_answers(client);
         note(client, (now() - begun) * 1e6);
@@ -119,13 +128,13 @@ static double *all_times(const struct client *clients, int count, size_t *batche
 int main(int count, char **words)
 {
     if (count != 8)
-        fail("boost FOLDER or redis SOCKET, then CLIENTS SECONDS DEPTH LINE LAST");
-    struct load load = { words[2], words[6], words[7], atof(words[4]), atoi(words[5]), strcmp(words[1], "redis") == 0 };
+        fail("boost FOLDER, boost unix:PATH or redis SOCKET, then CLIENTS SECONDS DEPTH LINE LAST");
+    struct load load = { words[1], words[2], words[6], words[7], atof(words[4]), atoi(words[5]) };
     int threads = atoi(words[3]);
     struct client *clients = calloc((size_t)threads, sizeof *clients);
     pthread_barrier_init(&start, NULL, (unsigned)threads + 1);
     for (int i = 0; i < threads; i++) {
-        clients[i] = (struct client){ .load = &load, .store = load.is_redis ? connect_to(load.place) : boost_join(load.place) };
+        clients[i] = (struct client){ .load = &load, .store = come(&load) };
         if (clients[i].store == NULL)
             fail("no server");
     }

@@ -34,17 +34,19 @@ TESTS = {
     'installing it': ['tools/install_test.py'],
     'the page of a server': ['tools/page_test.py'],
     'the unit, and boost-attach': ['tools/service.py'],
+    'the gate': ['tools/gate_attacks.py', PROGRAM],
+    'the programs at the gate': ['tools/gate_programs.py', PROGRAM],
     'cuts of the power': ['tools/power.py', '10'],
 }
 
 # The gate begins with these.
 GATE = ('definitions', 'crates that pages name', 'the walk through a disk', 'the commands of the pages', 'the examples in Python',
-        'the examples in C', 'closed streams', 'the client in Python', 'the client in C')
+        'the examples in C', 'closed streams', 'the client in Python', 'the client in C', 'the programs at the gate')
 
 
 def lacking(name):
     """What the machine has not got for a test."""
-    if name in ('the client in C', 'the examples in C') and not shutil.which('cc'):
+    if name in ('the client in C', 'the examples in C', 'the gate', 'the programs at the gate') and not shutil.which('cc'):
         return 'no cc'
     if name == 'cuts of the power' and not (os.path.exists('/dev/fuse') and os.geteuid() == 0 and
                                             os.path.exists('/usr/lib/python3/dist-packages/fusepy.py')):

@@ -11,7 +11,9 @@
 #include <stdlib.h>
 #include <string.h>
 #include <sys/random.h>
+#include <sys/socket.h>
 #include <sys/stat.h>
+#include <sys/un.h>
 #include <sys/wait.h>
 #include <time.h>
 #include <unistd.h>
@@ -20,6 +22,8 @@ enum { LONGEST = 4095, BUSY = 9, TOO_MANY_LIVE = 12, BACKLOG = 14, PIECE = 4096 
 
 /* What each line of a server begins with that is of no client. */
 static const char NOBODY[] = "- ";
+/* What the name of a gate's socket begins with. */
+static const char GATE[] = "unix:";
 
 struct boost {
     int to, from;      /* where lines go and answers come from; -1 once the client is out of step */
@@ -387,6 +391,19 @@ static int say_hello(const char *folder, const char *word, int from, double end)
     return -1;
 }
 
+/* Waits for the hello of a server, if there is one; without it the client is let go. */
+static struct boost *greeted(struct boost *store, double end)
+{
+    const char *hello = store == NULL ? NULL : next_line(store, end);
+    if (hello != NULL && strcmp(hello, "hello boost 1") == 0)
+        return store;
+    int why = hello != NULL ? EPROTO : errno;
+    if (store != NULL)
+        boost_close(store);
+    errno = why;
+    return NULL;
+}
+
 /* Comes in over two FIFOs that are there. What is opened for both ways does not wait for the other side, and holds a FIFO open
  * until its other end is. */
 static struct boost *come_in(const char *folder, const char *word, const char *to_path, const char *from_path, double end)
@@ -403,15 +420,7 @@ static struct boost *come_in(const char *folder, const char *word, const char *t
         errno = why;
         return NULL;
     }
-    struct boost *store = client(to, from, "", 0);
-    const char *hello = store == NULL ? NULL : next_line(store, end);
-    if (hello != NULL && strcmp(hello, "hello boost 1") == 0)
-        return store;
-    why = errno;
-    if (store != NULL)
-        boost_close(store);
-    errno = hello != NULL ? EPROTO : why;
-    return NULL;
+    return greeted(client(to, from, "", 0), end);
 }
 
 /* Makes a FIFO in a folder: of the folder's group, which may read and write it, where that may write the folder. */
@@ -428,8 +437,47 @@ static int make_fifo(const char *path, const struct stat *folder)
     return chmod(path, 0660);
 }
 
+/* Connects to a socket; again a little later where as many wait already as a socket lets wait. */
+static int connect_within(int file, const struct sockaddr_un *address, double end)
+{
+    const struct timespec pause = { .tv_nsec = 50000000 };
+    while (connect(file, (const struct sockaddr *)address, sizeof *address) != 0) {
+        if (errno != EAGAIN && errno != EINTR)
+            return -1;
+        if (now() > end) {
+            errno = ETIMEDOUT;
+            return -1;
+        }
+        nanosleep(&pause, NULL);
+    }
+    return 0;
+}
+
+static struct boost *join_gate(const char *path, double end)
+{
+    struct sockaddr_un address = { .sun_family = AF_UNIX };
+    if (strlen(path) >= sizeof address.sun_path) {
+        errno = ENAMETOOLONG;
+        return NULL;
+    }
+    strcpy(address.sun_path, path);
+    int to = socket(AF_UNIX, SOCK_STREAM | SOCK_CLOEXEC | SOCK_NONBLOCK, 0);
+    int from = to < 0 || connect_within(to, &address, end) != 0 ? -1 : fcntl(to, F_DUPFD_CLOEXEC, 0);
+    if (from < 0) {
+        int why = errno;
+        close_file(&to);
+        errno = why;
+        return NULL;
+    }
+    return greeted(client(to, from, "", 0), end);
+}
+
 struct boost *boost_join_within(const char *folder, int seconds)
 {
+    if (strncmp(folder, GATE, strlen(GATE)) == 0) {
+        signal(SIGPIPE, SIG_IGN);
+        return join_gate(folder + strlen(GATE), now() + seconds);
+    }
     static unsigned count;
     unsigned chance = 0;
     struct stat found;

@@ -24,7 +24,10 @@ struct boost *boost_start(const char *program, const char *disk);
 /* Comes by the door of a folder: `boost listen DISK FOLDER`. Where 64 clients are served it waits until one goes, BOOST_PATIENCE
  * seconds, or the seconds that are given. NULL where it cannot: errno is ENXIO or ENOENT then where no server is there, and
  * ETIMEDOUT where the server did not come to it in time: it has 64 clients, or it could not open the FIFOs, and then its standard
- * error says why. Where the folder may be written by its group, so may the client's FIFOs. */
+ * error says why. Where the folder may be written by its group, so may the client's FIFOs.
+ *
+ * `unix:PATH` names the socket of a gate (docs/GATE.md), which serves more than 64 programs. errno is ENOENT or ECONNREFUSED then where
+ * no gate is there, EPIPE where it found no server, and ETIMEDOUT where its server did not come in time. */
 enum { BOOST_PATIENCE = 60 };
 struct boost *boost_join(const char *folder);
 struct boost *boost_join_within(const char *folder, int seconds);

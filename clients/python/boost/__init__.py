@@ -58,14 +58,14 @@ import threading
 import time
 from typing import Any, Callable, Iterator, List, Optional, Sequence, Tuple, TypeVar
 
-from .connections import CLIENTS, CLOSED, FORKED, TIMEOUT, Child, Connection, Path, Pipes, Shared
+from .connections import CLIENTS, CLOSED, FORKED, TIMEOUT, Child, Connection, Path, Pipes, Shared, Socket, path_of_gate
 from .errors import Busy, Closed, Error, Gone, Idle, Lost, Misunderstood, NotServed, Refused, TimedOut
 from .lines import Argument, Collection, Reply, Status, reply_of, words_of
 from .pool import Pool
 
 __version__ = '1.1.0'
 __all__ = ['start', 'join', 'Store', 'Session', 'Transaction', 'Status', 'Collection', 'Error', 'Refused', 'Busy', 'Lost',
-           'Misunderstood', 'Idle', 'Gone', 'TimedOut', 'NotServed', 'Closed', 'Connection', 'Pipes']
+           'Misunderstood', 'Idle', 'Gone', 'TimedOut', 'NotServed', 'Closed', 'Connection', 'Pipes', 'Socket']
 
 T = TypeVar('T')
 
@@ -333,7 +333,11 @@ def start(program: Path, disk: Path, *options: str, timeout: Optional[float] = N
 
 
 def join(folder: Path, patience: float = TIMEOUT, timeout: float = TIMEOUT) -> Store:
-    """Joins the server of a folder: `boost listen DISK FOLDER`. It is looked for at the first call, which raises `Gone` where
-    none is there, and `NotServed` where it does not serve this program within so many seconds of patience, or of the time-out
-    where that is less. Each call waits up to the time-out."""
+    """Joins the server of a folder: `boost listen DISK FOLDER`; or by `'unix:PATH'` the gate that has the socket PATH, which serves
+    more than 64 programs. It is looked for at the first call, which raises `Gone` where none is there, and `NotServed` where it does
+    not serve this program within so many seconds of patience, or of the time-out where that is less. Each call waits up to the
+    time-out."""
+    path = path_of_gate(folder)
+    if path is not None:
+        return Store(lambda: Socket(path, patience, timeout), lambda _: 0, timeout, AT_DOOR)
     return Store(lambda: Pipes(folder, patience, timeout), lambda _: 0, timeout, AT_DOOR)

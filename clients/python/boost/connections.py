@@ -7,6 +7,7 @@ import os
 import queue
 import select
 import signal
+import socket
 import stat
 import subprocess
 import sys
@@ -21,6 +22,8 @@ from .lines import LONGEST, batches, bytes_of_line
 Path = Union[str, 'os.PathLike[str]']
 
 CLIENTS = 64
+# What the name of a gate's socket begins with.
+GATE = 'unix:'
 HELLO = 'hello boost 1'
 # How many bytes one read takes at most.
 READ = 65536
@@ -167,19 +170,88 @@ class Connection:
         self.let_go()
 
 
-class Pipes(Connection):
+class Stream(Connection):
+    """A client that writes its lines into one descriptor, and reads its answers from one: which may be the same."""
+
+    def __init__(self, timeout: float) -> None:
+        self.open: List[Any] = []                  # what is closed once it is let go
+        super().__init__(timeout)
+        self.to = self.answers = -1
+        self.buffer = bytearray()
+        self.scanned = 0
+
+    def read_from(self, number: int) -> None:
+        self.answers = number
+        self.readable = select.poll()
+        self.readable.register(number, select.POLLIN)
+
+    def hear_hello(self, seconds: float, place: str) -> None:
+        if self.receive(seconds) != HELLO:
+            raise Gone('no server of this kind at ' + place)
+
+    def fill(self, seconds: float) -> bool:
+        """Reads what has come of answers. Whether anything has in so many seconds."""
+        if not self.readable.poll(seconds * 1000):
+            return False
+        try:
+            data = os.read(self.answers, READ)
+        except ConnectionResetError as error:
+            raise Gone('the server went away') from error
+        if not data:
+            raise Gone('the server went away')
+        self.buffer += data
+        return True
+
+    def send_lines(self, lines: Sequence[bytes], timeout: Optional[float]) -> None:
+        for batch in batches(lines):
+            for pause in self.slices(timeout):
+                try:
+                    batch = batch[os.write(self.to, batch):]
+                except BlockingIOError:
+                    self.wait_for_room(pause)
+                except OSError as error:
+                    raise Gone('the server went away') from error
+                if not batch:
+                    break
+
+    def wait_for_room(self, seconds: float) -> None:
+        """Reads answers meanwhile, so that the server goes on with the lines."""
+        both = select.poll()
+        both.register(self.answers, select.POLLIN)
+        both.register(self.to, select.POLLOUT | (select.POLLIN if self.to == self.answers else 0))
+        if any(number == self.answers and events != select.POLLOUT for number, events in both.poll(seconds * 1000)):
+            self.fill(0)
+
+    def receive(self, timeout: Optional[float] = None) -> str:
+        for pause in self.slices(timeout):
+            at = self.buffer.find(b'\n', self.scanned)
+            if at >= 0:
+                line = self.buffer[:at].decode(errors='replace')
+                del self.buffer[:at + 1]
+                self.scanned = 0
+                return line
+            self.scanned = len(self.buffer)
+            self.fill(pause)
+        raise AssertionError
+
+    def is_alive(self) -> bool:
+        return self.state == IN_STEP and not self.buffer and not self.readable.poll(0)
+
+    def let_go(self) -> None:
+        self.to = self.answers = -1
+        for file in self.open:
+            file.close()
+
+
+class Pipes(Stream):
     """A client with a pair of FIFOs of its own, in a folder with the FIFO `door`. It waits so many seconds to be served."""
     numbers = itertools.count()
 
     def __init__(self, folder: Path, patience: float = TIMEOUT, timeout: float = TIMEOUT) -> None:
-        self.open: List[io.FileIO] = []
         super().__init__(timeout)
         self.folder, self.patience = os.path.abspath(folder), patience
         self.word = 'py-%d-%d-%s' % (os.getpid(), next(self.numbers), os.urandom(4).hex())
         self.paths = [os.path.join(self.folder, self.word + end) for end in ('.to', '.from')]
-        self.to = self.answers = -1
-        self.buffer = bytearray()
-        self.scanned = 0
 
     def meet(self, seconds: float) -> None:
         try:
@@ -214,9 +286,7 @@ class Pipes(Connection):
     def open_both(self, to: int, answers: int) -> None:
         """Opens each for its way. The others are held until the hello has come: a FIFO that no writer ever had reads as ended."""
         self.to = self.take('/proc/self/fd/%d' % to, os.O_WRONLY)
-        self.answers = self.take('/proc/self/fd/%d' % answers, os.O_RDONLY)
-        self.readable = select.poll()
-        self.readable.register(self.answers, select.POLLIN)
+        self.read_from(self.take('/proc/self/fd/%d' % answers, os.O_RDONLY))
 
     def take(self, path: str, way: int) -> int:
         number = os.open(path, way | os.O_CLOEXEC | os.O_NONBLOCK)
@@ -248,58 +318,51 @@ class Pipes(Connection):
                 raise Closed(self.over)
             if left <= 0:
                 raise NotServed('the server at %s did not serve this client within %g seconds' % (self.folder, patience))
-        if self.receive(max(1.0, left)) != HELLO:
-            raise Gone('no server of this kind at ' + self.folder)
+        self.hear_hello(max(1.0, left), self.folder)
 
-    def fill(self, seconds: float) -> bool:
-        """Reads what has come of answers. Whether anything has in so many seconds."""
-        if not self.readable.poll(seconds * 1000):
+
+def path_of_gate(place: Path) -> Optional[str]:
+    """The path of a gate's socket, where `unix:PATH` names one."""
+    return place[len(GATE):] if isinstance(place, str) and place.startswith(GATE) else None
+
+
+class Socket(Stream):
+    """A client over the socket of a gate. It waits so many seconds to be served."""
+
+    def __init__(self, path: str, patience: float = TIMEOUT, timeout: float = TIMEOUT) -> None:
+        super().__init__(timeout)
+        self.path, self.patience = os.path.abspath(path), patience
+
+    def meet(self, seconds: float) -> None:
+        patience = min(seconds, self.patience)
+        end = time.monotonic() + patience
+        try:
+            with OPENING:
+                connected = socket.socket(socket.AF_UNIX, socket.SOCK_STREAM | socket.SOCK_CLOEXEC | socket.SOCK_NONBLOCK)
+                self.open.append(connected)
+            while not self.is_connected(connected):
+                if time.monotonic() >= end:
+                    raise NotServed('the gate at %s took nobody within %g seconds' % (self.path, patience))
+                time.sleep(0.05)
+                self.check()
+        except OSError as error:
+            raise Gone('no gate can be reached at %s: %s' % (self.path, error)) from error
+        self.to = connected.fileno()
+        self.read_from(self.to)
+        try:
+            self.hear_hello(max(0.0, end - time.monotonic()), self.path)
+        except TimedOut as error:
+            raise NotServed('the gate at %s did not serve this program within %g seconds' % (self.path, patience)) from error
+        except Gone as error:
+            raise Gone('the gate at %s let this program go: %s' % (self.path, error)) from error
+
+    def is_connected(self, connected: socket.socket) -> bool:
+        """Connects, but where as many wait already as a socket lets wait."""
+        try:
+            connected.connect(self.path)
+        except BlockingIOError:
             return False
-        data = os.read(self.answers, READ)
-        if not data:
-            raise Gone('the server went away')
-        self.buffer += data
         return True
-
-    def send_lines(self, lines: Sequence[bytes], timeout: Optional[float]) -> None:
-        for batch in batches(lines):
-            for pause in self.slices(timeout):
-                try:
-                    batch = batch[os.write(self.to, batch):]
-                except BlockingIOError:
-                    self.wait_for_room(pause)
-                except OSError as error:
-                    raise Gone('the server went away') from error
-                if not batch:
-                    break
-
-    def wait_for_room(self, seconds: float) -> None:
-        """Reads answers meanwhile, so that the server goes on with the lines."""
-        both = select.poll()
-        both.register(self.to, select.POLLOUT)
-        both.register(self.answers, select.POLLIN)
-        if self.answers in (number for number, _ in both.poll(seconds * 1000)):
-            self.fill(0)
-
-    def receive(self, timeout: Optional[float] = None) -> str:
-        for pause in self.slices(timeout):
-            at = self.buffer.find(b'\n', self.scanned)
-            if at >= 0:
-                line = self.buffer[:at].decode(errors='replace')
-                del self.buffer[:at + 1]
-                self.scanned = 0
-                return line
-            self.scanned = len(self.buffer)
-            self.fill(pause)
-        raise AssertionError
-
-    def is_alive(self) -> bool:
-        return self.state == IN_STEP and not self.buffer and not self.readable.poll(0)
-
-    def let_go(self) -> None:
-        self.to = self.answers = -1
-        for file in self.open:
-            file.close()
 
 
 class Answers:
@@ -425,6 +488,8 @@ class Child:
             except BlockingIOError:
                 room.register(self.input, select.POLLOUT)
             except OSError as error:
+                if self.reader is not threading.current_thread():
+                    self.reader.join(1)                             # then the next call knows that this one is over
                 raise Gone('the server ended, with %s' % self.status()) from error
         room.poll(pause * 1000)
         return False

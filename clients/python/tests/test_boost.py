@@ -6,6 +6,7 @@ import os
 import pickle
 import random
 import signal
+import socket
 import sys
 import tempfile
 import threading
@@ -251,6 +252,112 @@ class AtTheDoor(unittest.TestCase):
             with self.assertRaises(boost.NotServed):
                 store.do(('hits', 'read'))
         self.assertEqual(os.listdir(self.folder), ['door'])
+
+
+class AtAGate(unittest.TestCase):
+    def setUp(self):
+        room = tempfile.TemporaryDirectory()
+        self.addCleanup(room.cleanup)
+        self.path = os.path.join(room.name, 'socket')
+        self.listener = socket.socket(socket.AF_UNIX)
+        self.addCleanup(self.listener.close)
+        self.listener.bind(self.path)
+        self.listener.listen()
+
+    def serve(self, answers, hello=b'hello boost 1\n'):
+        """Serves one program: gives it these bytes after its first line, and then goes away. What it reads is given."""
+        read = []
+
+        def serves():
+            one, _ = self.listener.accept()
+            with one:
+                one.sendall(hello)
+                while hello and b'\n' not in b''.join(read) and b'' not in read:
+                    read.append(one.recv(100))
+                if answers:
+                    one.sendall(answers)
+        thread = threading.Thread(target=serves)
+        thread.start()
+        self.addCleanup(thread.join)
+        return read
+
+    def join(self, **how):
+        store = boost.join('unix:' + self.path, **how)
+        self.addCleanup(store.close)
+        return store
+
+    def test_one_answer(self):
+        read = self.serve(b'total 6; place 3\n')
+        self.assertEqual(self.join().do(('hits', 'read')), [6])
+        self.assertEqual(read, [b'do hits read\n'])
+
+    def test_a_cut_line_is_no_answer(self):
+        self.serve(b'total 6; place 3')
+        with self.assertRaises(boost.Gone):
+            self.join().do(('hits', 'read'))
+
+    def test_it_comes_back_by_itself(self):
+        store = self.join()
+        for n in range(3):
+            self.serve(b'total %d; place 1\n' % n)
+            self.assertEqual(store.do(('hits', 'read')), [n])
+            while store._pool.idle[0].is_alive():
+                time.sleep(0.01)
+
+    def test_more_lines_than_a_socket_holds(self):
+        """Answers are read while lines are written: the gate here reads none of these before its answers are read."""
+        def serves():
+            one, _ = self.listener.accept()
+            with one, one.makefile('rb') as lines:
+                one.sendall(b'hello boost 1\n')
+                for line in lines:
+                    one.sendall(line[5:])
+        thread = threading.Thread(target=serves)
+        thread.start()
+        texts = ['echo total %d' % n for n in range(50000)]
+        with self.join().session() as session:
+            self.assertEqual(session.lines(texts), [text[5:] for text in texts])
+        thread.join()
+
+    def test_a_late_answer_comes_to_nobody(self):
+        store = self.join()
+        self.serve(b'')
+        with self.assertRaises(boost.Gone):
+            store.do(('hits', 'read'), timeout=5)
+        with self.assertRaises(boost.NotServed):   # nobody says hello
+            store.do(('hits', 'read'), timeout=0.2)
+        one, _ = self.listener.accept()
+        with one, self.assertRaises(BrokenPipeError):
+            one.sendall(b'hello boost 1\n')
+        self.serve(b'total 7; place 1\n')
+        self.assertEqual(store.do(('hits', 'read')), [7])
+
+    def test_no_gate(self):
+        self.serve(b'', hello=b'')
+        with self.assertRaises(boost.Gone) as found:
+            self.join().do(('hits', 'read'))
+        self.assertIn('let this program go', str(found.exception))
+        self.serve(b'', hello=b'hello redis\n')
+        with self.assertRaises(boost.Gone):
+            self.join().do(('hits', 'read'))
+        self.listener.close()
+        for path in (self.path, self.path + '-none'):
+            with self.assertRaises(boost.Gone) as found:
+                boost.join('unix:' + path).do(('hits', 'read'))
+            self.assertNotIsInstance(found.exception, boost.TimedOut)
+            self.assertIsInstance(found.exception.__cause__, OSError)
+
+    def test_full(self):
+        """As many wait already as the socket lets wait."""
+        self.listener.listen(0)
+        waiting = [socket.socket(socket.AF_UNIX) for _ in range(3)]
+        for one in waiting:
+            one.setblocking(False)
+            one.connect_ex(self.path)
+        with self.assertRaises(boost.NotServed):
+            self.join(patience=0.2).do(('hits', 'read'))
+        for one in waiting:
+            one.close()
 
 
 class Rests(Connection):
