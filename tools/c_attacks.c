@@ -34,6 +34,9 @@ static void is_answered(struct boost *store, const char *line, const char *wante
     must(answer != NULL && strncmp(answer, wanted, strlen(wanted)) == 0, line);
 }
 
+/* How many signals are to come, at least, while answers are awaited. */
+enum { SIGNALS = 100 };
+
 static volatile sig_atomic_t signals;
 
 static void count(int number)
@@ -51,15 +54,21 @@ static void signals_come(void)
     sigaction(SIGALRM, &action, NULL);
     setitimer(ITIMER_REAL, &each, NULL);
     is_answered(store, "make counter signals", "place");
-    for (int i = 1; i <= 200; i++) {
+    int answers = 0;
+    while (answers < 200 || (signals < SIGNALS && answers < 1000000)) {
         char wanted[40];
-        snprintf(wanted, sizeof wanted, "done; total %d; kept", i);
+        snprintf(wanted, sizeof wanted, "done; total %d; kept", ++answers);
         is_answered(store, "keep signals bump 1; signals read", wanted);
     }
+    is_answered(store, "keep signals bump -1000000; signals read", "done; total");
+    char back[60];
+    snprintf(back, sizeof back, "keep signals bump %d; signals read", 1000200 - answers);
+    is_answered(store, back, "done; total 200; kept");
     int status = boost_close(store);
     setitimer(ITIMER_REAL, &none, NULL);
     must(status == 0, "the status behind signals");
-    printf("signals_come: %s\n", signals > 50 ? "200 answers in step" : "too few signals came");
+    must(signals >= SIGNALS, "signals that come while answers are awaited");
+    printf("signals_come: %d answers in step beside %d signals\n", answers, (int)signals);
 }
 
 /* A line that is too long, or has a line feed in it, is not sent, and all goes on in step. */

@@ -276,6 +276,39 @@ def closed_beside_calls(place, store):
 
 
 @in_each_way
+def waits_for_a_job(place, store):
+    """Workers that wait get each job soon and once, nothing else is left of their waiting, and each wait has its end."""
+    got, late = [], []
+
+    def works():
+        while True:
+            item = store.keep_when(lambda t: t.call('jobs', 'take'), 10)
+            if item[1] == 0:
+                return
+            got.append(item[1])
+            late.append(time.monotonic() - added[item[1]])
+    added, workers = {}, [threading.Thread(target=works) for _ in range(8)]
+    for worker in workers:
+        worker.start()
+    for job in range(1, 101):
+        added[job] = time.monotonic()
+        store.do(('jobs', 'add', 1, job), keep=True)
+        time.sleep(random.random() * 0.05)
+    for _ in workers:
+        store.do(('jobs', 'add', 2, 0))
+    for worker in workers:
+        worker.join(20)
+    assert sorted(got) == list(range(1, 101)), got
+    assert max(late) < 2, max(late)
+    began = time.monotonic()
+    assert store.keep_when(lambda t: (t.call('n', 'bump', 1), t.call('jobs', 'take'))[1], 0.5) is None
+    assert 0.5 <= time.monotonic() - began < 3 and store.do(('n', 'read')) == [5]
+    raised(boost.Refused, store.keep_when, lambda t: t.call('nothing', 'take'), 5)
+    assert store.status().live == 0
+    return '100 jobs, each soon'
+
+
+@in_each_way
 def long_lines(place, store):
     """A line that is longer than the server takes is refused before it is sent, at the very byte, and what is long otherwise is done."""
     session = store.session()
@@ -727,7 +760,7 @@ def causes():
     return '%s / %s' % (lost, not_understood)
 
 
-ATTACKS = (interrupted, stopped_while_it_waits, used_when_closed, closed_beside_calls, long_lines, many_lines, answers_for_nobody,
+ATTACKS = (interrupted, stopped_while_it_waits, used_when_closed, closed_beside_calls, waits_for_a_job, long_lines, many_lines, answers_for_nobody,
            threads_that_come_and_go, no_client_is_free, died_in_a_transaction, dropped_stores, stands_still, hello_that_never_comes,
            comes_back, comes_back_as_a_child, cut_lines, words_that_are_none, forked_from_a_parent, forked_from_a_client,
            ctrl_c_at_a_terminal, nothing_is_left, ways_of_being_away, modes_of_fifos, causes)

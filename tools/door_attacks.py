@@ -1,8 +1,8 @@
 #!/usr/bin/env python3
 """door_attacks.py [PROGRAM] [ATTACK..]: what `boost listen` is to withstand, each attack a function below.
 
-The program is crates/boost_main/out/boost_main, proved and built, or the one that is not proved, where there is no other, unless one
-is named. It prints a line for each attack, and ends with status 1 where one succeeds. It is no part of the gate.
+The program is crates/boost_main/out/boost_main, proved and built, or the one that is not proved, where there is no other, or `./boost`
+where none was built, unless one is named. It prints a line for each attack, and ends with status 1 where one succeeds. It is no part of the gate.
 """
 import os
 import resource
@@ -24,7 +24,7 @@ def program():
     if len(sys.argv) > 1:
         return os.path.abspath(sys.argv[1])
     found = [path for path in (os.path.join(OUT, name) for name in ('boost_main', 'unproved')) if os.path.exists(path)]
-    return found[0]
+    return [*found, os.path.join(TOP, 'boost')][0]
 
 
 PROGRAM = program()

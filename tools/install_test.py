@@ -77,7 +77,8 @@ def what_is_installed_is_taken_away():
         for words in (['uninstall'], ['install', 'here'], ['install', '/a b'], ['install', '/'], ['install', '/proc/no']):
             ran = subprocess.run([BOOST, *words], env={**os.environ, 'DESTDIR': room if len(words) == 1 else ''}, stderr=subprocess.PIPE,
                                  text=True, check=False)
-            assert ran.returncode == 4 and ran.stderr.startswith('boost: ') and ran.stderr.count('\n') == 1, ran
+            told = [line for line in ran.stderr.splitlines() if 'not proved' not in line]
+            assert ran.returncode == 4 and len(told) == 1 and told[0].startswith('boost: '), ran
     return f'{len(WANTED)} files'
 
 

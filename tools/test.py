@@ -26,6 +26,7 @@ TESTS = {
     'the examples in Python': ['tools/listeners.py', BOOST, '20', 'the_examples_in_python'],
     'the examples in C': ['tools/listeners.py', BOOST, '20', 'the_examples_in_c', 'a_long_value_in_c'],
     'listeners': ['tools/listeners.py', BOOST, '20'],
+    'the script boost': ['tools/script.py'],
     'closed streams': ['tools/closed_streams.py', PROGRAM],
     'the door': ['tools/door_attacks.py', PROGRAM],
     'the client in Python': ['-m', 'unittest', 'discover', '-s', 'clients/python/tests'],
@@ -36,17 +37,21 @@ TESTS = {
     'the unit, and boost-attach': ['tools/service.py'],
     'the gate': ['tools/gate_attacks.py', PROGRAM],
     'the programs at the gate': ['tools/gate_programs.py', PROGRAM],
+    'moves of a part': ['tools/move_attacks.py', PROGRAM],
+    'the standby': ['tools/standby.py', PROGRAM],
     'cuts of the power': ['tools/power.py', '10'],
+    'all attacks at once': ['tools/mixed_attacks.py', '60', PROGRAM],
 }
 
 # The gate begins with these.
 GATE = ('definitions', 'crates that pages name', 'the walk through a disk', 'the commands of the pages', 'the examples in Python',
-        'the examples in C', 'closed streams', 'the client in Python', 'the client in C', 'the programs at the gate')
+        'the examples in C', 'the script boost', 'closed streams', 'the client in Python', 'the client in C',
+        'the programs at the gate')
 
 
 def lacking(name):
     """What the machine has not got for a test."""
-    if name in ('the client in C', 'the examples in C', 'the gate', 'the programs at the gate') and not shutil.which('cc'):
+    if name in ('the client in C', 'the examples in C', 'the gate', 'the programs at the gate', 'all attacks at once') and not shutil.which('cc'):
         return 'no cc'
     if name == 'cuts of the power' and not (os.path.exists('/dev/fuse') and os.geteuid() == 0 and
                                             os.path.exists('/usr/lib/python3/dist-packages/fusepy.py')):

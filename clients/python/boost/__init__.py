@@ -71,6 +71,8 @@ T = TypeVar('T')
 
 # How many clients a store keeps at a door while it does not use them, which has places for 64 in all.
 AT_DOOR = 8
+# How many seconds pass until one that waits for something in the store asks again, at first and at last.
+ASK_AGAIN, ASK_AGAIN_AT_LAST = 0.005, 0.2
 
 
 class Session:
@@ -249,6 +251,25 @@ class Store:
     def keep(self, work: Callable[[Transaction], T], patience: float = 60, timeout: Optional[float] = None) -> T:
         """Runs work(t) in a transaction, and waits until it is kept."""
         return self.transact(work, keep=True, patience=patience, timeout=timeout)
+
+    def keep_when(self, work: Callable[[Transaction], Optional[T]], seconds: float, patience: float = 60,
+                  timeout: Optional[float] = None) -> Optional[T]:
+        """Runs work(t) as `keep` does, again and again until it gives something, for so many seconds: so a worker waits for a job. What
+        gave None is taken back, and None is the answer where nothing else came. The pauses grow to a fifth of a second."""
+        def attempt() -> Optional[T]:
+            with self.transaction(True, timeout) as t:
+                found = work(t)
+                if found is None:
+                    t.abort()
+            return found
+        end, pause = time.monotonic() + seconds, ASK_AGAIN
+        while True:
+            found = patiently(attempt, patience)
+            left = end - time.monotonic()
+            if found is not None or left <= 0:
+                return found
+            time.sleep(min(pause * random.uniform(0.5, 1), left))
+            pause = min(2 * pause, ASK_AGAIN_AT_LAST)
 
     def wait(self, timeout: Optional[float] = None) -> None:
         """Waits until what this thread last committed or made is kept. Raises `Gone` where the client that did it is gone."""

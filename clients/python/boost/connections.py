@@ -468,7 +468,7 @@ class Child:
         if not self.starting.acquire(timeout=min(seconds, threading.TIMEOUT_MAX)):
             raise NotServed('the server did not start within %g seconds' % seconds)
         try:
-            if self.answers.is_over:
+            if self.has_ended(self.answers):
                 if not self.comes_back:
                     raise Gone('the server ended, with %s' % self.status())
                 self.kill()
@@ -476,6 +476,10 @@ class Child:
             return self.answers
         finally:
             self.starting.release()
+
+    def has_ended(self, answers: Answers) -> bool:
+        """Whether the server has ended that gives these answers, also where their reader has not come to the end of them yet."""
+        return answers.is_over or answers is self.answers and self.process is not None and self.process.poll() is not None
 
     def write(self, answers: Answers, lines: bytes, pause: float = 0.0) -> bool:
         """Writes lines that go into a pipe at once or not at all. Where there is no room it waits for some, so many seconds."""
@@ -593,7 +597,7 @@ class Shared(Connection):
     def is_alive(self) -> bool:
         if len(self.of.taken) > len(self.of.of):
             self.child.say_byes(self.of)
-        return self.state == IN_STEP and not self.of.is_over and self.answers.empty()
+        return self.state == IN_STEP and not self.child.has_ended(self.of) and self.answers.empty()
 
     def let_go(self) -> None:
         number, self.number = self.number, 0

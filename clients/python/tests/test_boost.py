@@ -199,6 +199,19 @@ class OverPipes(unittest.TestCase):
                 store.session().line('die')
             self.assertEqual(store.session().line('say total %d' % n), n)
 
+    def test_it_comes_back_before_its_end_was_read(self):
+        store = self.start(ECHO, comes_back=True)
+        session = store.session()
+        self.assertEqual(session.line('say total 1'), 1)
+        child = session.connection.child
+        os.killpg(child.process.pid, signal.SIGKILL)
+        child.process.wait()
+        child.reader.join()
+        child.answers.is_over = False              # as where the thread that reads has not come to it yet
+        with self.assertRaises(boost.Gone):
+            session.line('say total 2')
+        self.assertEqual(store.session().line('say total 3'), 3)
+
 
 class AtTheDoor(unittest.TestCase):
     def setUp(self):

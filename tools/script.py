@@ -1,0 +1,65 @@
+#!/usr/bin/env python3
+"""script.py: tries the script `boost` itself: its words that the program does not know, and what it makes of a folder for `listen`."""
+import os
+import stat
+import subprocess
+import sys
+import tempfile
+import time
+
+TOP = os.path.dirname(os.path.dirname(os.path.realpath(__file__)))
+BOOST = os.path.join(TOP, 'boost')
+
+
+def ran(*words, **how):
+    """The status, the output and the errors of the script, which has ten seconds: so it builds nothing."""
+    done = subprocess.run([BOOST, *words], stdout=subprocess.PIPE, stderr=subprocess.PIPE, text=True, timeout=10, check=False,
+                          **{'stdin': subprocess.DEVNULL, **how})
+    return done.returncode, done.stdout, done.stderr
+
+
+def expect(is_so, found):
+    if not is_so:
+        raise SystemExit(f'script: {found!r}')
+
+
+def words_of_the_script():
+    for word in ('--help', '-h'):
+        found = ran('build', word)
+        expect(found[0] == 0 and '\n  build  ' in found[1] and not found[2], found)
+    expect(ran('build', 'all')[0] == 2, 'boost build all')
+    expect(ran('version') == ran('--version') and ran('version')[1].startswith('boost '), ran('version'))
+    expect('\n  build  ' in ran('help')[1], ran('help'))
+    expect(os.access(ran('which')[1].strip(), os.X_OK), ran('which'))
+    expect(ran('--quiet', 'nonsense')[0] == 2, ran('--quiet', 'nonsense'))
+
+
+def a_door(room):
+    """`listen` makes the folder and its door; a plain file in the place of the door is put aside."""
+    disk, folder = os.path.join(room, 'disk'), os.path.join(room, 'run')
+    door = os.path.join(folder, 'door')
+    expect(ran('format', disk, '--area', '64K')[0] == 0, 'format')
+    os.mkdir(folder)
+    with open(door, 'w', encoding='utf-8') as file:
+        file.write('end\n')
+    server = subprocess.Popen([BOOST, 'listen', disk, folder, '--idle', '5'], stdin=subprocess.DEVNULL, stderr=subprocess.PIPE, text=True)
+    said = server.stderr.readline()
+    expect(said.endswith('it is %s.aside now\n' % door), said)
+    while not os.path.exists(door):
+        time.sleep(0.01)
+    expect(stat.S_ISFIFO(os.stat(door).st_mode), 'a door that is no FIFO')
+    with open(door, 'w', encoding='utf-8') as file:
+        file.write('\nend\n')
+    expect(server.wait(10) == 0 and sorted(os.listdir(folder)) == ['door', 'door.aside'], os.listdir(folder))
+    server.stderr.close()
+
+
+def main():
+    words_of_the_script()
+    with tempfile.TemporaryDirectory() as room:
+        a_door(room)
+    print('the words of the script, and its door')
+
+
+if __name__ == '__main__':
+    sys.exit(main())
