@@ -85,15 +85,15 @@ def what_is_installed_is_taken_away():
 def an_older_one_is_replaced():
     """What an older install has put there, and this one has not, goes; and all goes with the uninstall."""
     with tempfile.TemporaryDirectory() as room:
-        boost(room, 'install', '/opt/it')
-        os.mkdir(f'{room}/opt/it/libexec')
-        with open(f'{room}/opt/it/libexec/old', 'w', encoding='utf-8') as file:
+        boost(room, 'install', '/srv/it')
+        os.mkdir(f'{room}/srv/it/libexec')
+        with open(f'{room}/srv/it/libexec/old', 'w', encoding='utf-8') as file:
             file.write('old')
-        with open(f'{room}/opt/it/{LIST}', 'a', encoding='utf-8') as file:
-            file.write('/opt/it/libexec/\n/opt/it/libexec/old\n')
-        boost(room, 'install', '/opt/it')
-        assert files_below(room, 'opt/it/') == WANTED | {LIST}
-        boost(room, 'uninstall', '/opt/it')
+        with open(f'{room}/srv/it/{LIST}', 'a', encoding='utf-8') as file:
+            file.write('/srv/it/libexec/\n/srv/it/libexec/old\n')
+        boost(room, 'install', '/srv/it')
+        assert files_below(room, 'srv/it/') == WANTED | {LIST}
+        boost(room, 'uninstall', '/srv/it')
         assert not os.listdir(room), tree(room)
     return 'one file was of another version'
 
