@@ -5,8 +5,8 @@ contracts.
 In a list a line `@ FILE` names the spec file of the entries behind it. An entry `+ NAME, NAME: SENTENCE`
 shows the definitions as their file has them, and `- NAME, NAME: SENTENCE` tells of them in words; an indented
 line goes on with its entry. `~ NAME, NAME` shows definitions with the comments that stand above them, in one piece. A line `= CRATE` lists what the contracts of the crate's public items cite. A line
-`* FILE FUNCTION: CLAUSE, CLAUSE` shows these clauses of a public function as its source has them. All other lines
-are text, which is copied. `@@ FILE` names the file in each entry, in the place of a heading. A name or a clause that its file does not have fails, and so does a definition that no
+`* FILE FUNCTION: CLAUSE, CLAUSE` shows these clauses of a public function as its source has them, and such lines one after another
+show them in one piece. All other lines are text, which is copied. `@@ FILE` names the file in each entry, in the place of a heading. A name or a clause that its file does not have fails, and so does a definition that no
 contract reaches. docs/DEFINITIONS.md is not kept in the repository. With --check nothing is written, and a page that is kept and differs
 fails too.
 """
@@ -30,6 +30,8 @@ PIECE = re.compile(r'~ (\w+(?:, \w+)*)')
 QUOTE = re.compile(r'\* (\S+\.rt) (\w+): (\w+(?:, \w+)*)')
 CLAUSE = re.compile(r'^ *(?:ensures|requires) (\w+) \{')
 WORD = re.compile(r'[^\W\d][\w-]*')
+# How a piece with the clauses of a function begins.
+QUOTED = '```\n-- '
 
 
 def lines_of(path):
@@ -126,7 +128,7 @@ def quoted(block, gone):
     gone += [f'{path}: {name} has no clause {word}' for word in wanted.split(', ') if word not in clauses]
     texts = (' '.join(map(str.strip, clauses.get(word, []))) for word in wanted.split(', '))
     code = '\n'.join(textwrap.fill(text, WIDTH, subsequent_indent='    ', break_long_words=False, break_on_hyphens=False) for text in texts)
-    return f'```\n{code}\n```'
+    return f'{QUOTED}{name} ({path[len("crates/") :]})\n{code}\n```'
 
 
 def reached(files):
@@ -168,11 +170,14 @@ def page_of(text, files, gone):
 
 
 def joined(parts):
-    """The parts with an empty line between two, but for bullets one after another."""
+    """The parts with an empty line between two, but for bullets one after another, and clauses of one function after another's."""
     page, before = '', ''
     for part in parts:
         is_list = part.startswith('- ') and before.startswith('- ')
-        page += part if not page else ('\n' if is_list else '\n\n') + part
+        if part.startswith(QUOTED) and before.startswith(QUOTED):
+            page = page[: -len('```')] + part[len('```\n') :]
+        else:
+            page += part if not page else ('\n' if is_list else '\n\n') + part
         before = part
     return page + '\n'
 
