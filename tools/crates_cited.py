@@ -1,8 +1,8 @@
 #!/usr/bin/env python3
 """crates_cited.py: looks whether what the pages say of crates is so. Where a page names something of a crate, the crate declares it, or
-hands it on, in src/, specs/ or proofs/, or has a file or an edit of that name: "`NAME`, `NAME` of `CRATE`", "in CRATE", "CRATE's `NAME`",
-"`CRATE::NAME`". What stands as a path of the repository is there, and so is what a link to a page or to a heading leads to. Prints each
-place where it is not so; the status is 1 then.
+hands it on, in src/, specs/ or proofs/, or has a file or an edit of that name: "`NAME`, `NAME` of `CRATE`", "in CRATE", "(crate CRATE)",
+"CRATE's `NAME`", "`CRATE::NAME`". What stands as a path of the repository is there, and so is what a link to a page or to a heading
+leads to. Prints each place where it is not so; the status is 1 then.
 """
 import glob
 import os
@@ -13,7 +13,7 @@ sys.path.insert(0, os.path.dirname(os.path.abspath(__file__)))
 from crates import TOP, dependencies
 
 NAMES = r'`[^`\n]+`(?:(?:,|,? and|,? or)\s+`[^`\n]+`)*'
-OF = re.compile(rf'({NAMES})\s+(?:of|in)\s+(?:crate\s+)?(`?)([a-z_0-9]+)\2(?![\w:/`])')
+OF = re.compile(rf'({NAMES})\s+(?:(?:of|in)\s+(?:crates?\s+)?|\(crates?\s+)(`?)([a-z_0-9]+)\2(?![\w:/`])')
 OWN = re.compile(rf"(?<![\w`])(?<!\ba )(?<!\bthe )(?<!\beach )(`?)([a-z_0-9]+)\1's\s+({NAMES})")
 PATH = re.compile(r'(?<![\w/.])(`?)((?:crates|tools|docs|contrib|clients|release)/[\w/.-]*\w)')
 INSIDE = re.compile(r'(?<![\w/.])([a-z_0-9]+)/((?:src|specs|proofs)/[\w/]+\.\w+)')
