@@ -351,7 +351,7 @@ def all_at_once():
             threading.Thread(target=program.send, args=('\n'.join(lines) + '\n',), daemon=True).start()
             for turn in range(number):
                 told = program.line()
-                wanted = 'value %04x' % turn if turn % 3 else 'error NotUnderstood'
+                wanted = 'value %04x' % turn if turn % 3 else 'error NotUnderstood: foo: '
                 assert wanted in told, (turn, told)
             return number
         told = sum(in_threads(programs, work))
@@ -418,7 +418,7 @@ class Careful:
         """One line, and what its answer begins with."""
         said = lambda value: 'nothing' if value is None else 'value %s' % value
         new = '%08x' % self.chance.randrange(1 << 32)
-        choices = [('status', 'format '), ('x' * 4096, 'error LineTooLong'), ('foo', 'error NotUnderstood'),
+        choices = [('status', 'format '), ('x' * 4096, 'error LineTooLong'), ('foo', 'error NotUnderstood: foo: '),
                    ('wait', 'kept' if self.has_committed else 'no ticket'),
                    ('kept', ('kept', 'not yet') if self.has_committed else 'no ticket')]
         if self.is_open:

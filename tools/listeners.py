@@ -164,7 +164,8 @@ def killed_in_a_line():
         program.start()
         program.join()
         with boost.join(place.door) as store:
-            assert store.session().lines(['5', 'kept']) == ['error NotUnderstood', 'no ticket']
+            told = store.session().lines(['5', 'kept'])
+            assert told[0].startswith('error NotUnderstood: 5: ') and told[1] == 'no ticket', told
     place.end()
     assert place.count() == 0
     return f'{TIMES} clients, each with another behind it'
@@ -644,7 +645,7 @@ def a_shell():
         return text[:-2]
     assert shown().startswith(b'boost 1. `help`')
     for line, answer in ((b'make counter hits', b'place 1\n'), (b'do hits bump 1; hits read', b'done; total 1; place 2\n'),
-                         (b'', b''), (b'# a remark', b''), (b'hits bump 1', b'error NotUnderstood\n'),
+                         (b'', b''), (b'# a remark', b''), (b'do hits bunp 1', b'error NotUnderstood: bunp: no call of a collection\n'),
                          (b'c2 begin', b'c2 begun 2\n'), (b'c1 kept', None), (b'bye', b'bye\n'), (b'keep', b'refused 10 NoSuchTxn\n')):
         shell.stdin.write(line + b'\n')
         told = shown()

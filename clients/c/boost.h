@@ -37,9 +37,10 @@ void boost_set_timeout(struct boost *store, int seconds);
 
 /* Sends a line, as printf writes it, and gives its answer without the line feed, which stays until the next call. A line of over
  * 4,095 bytes, with the tag that a child's lines have, is answered `error LineTooLong`, and one with a line feed in it
- * `error NotUnderstood`; neither is sent. NULL where the server is gone (EPIPE), where no answer came in time (ETIMEDOUT), and else
- * what the system says: what was committed and not told kept may be kept or not. From then on each call is NULL with EPIPE, so no
- * answer is ever taken for that of another line. */
+ * `error NotUnderstood`; neither is sent. Where the server does not understand a line, more may stand behind these two words, for a
+ * person. NULL where the server is gone (EPIPE), where no answer came in time (ETIMEDOUT), and else what the system says: what was
+ * committed and not told kept may be kept or not. From then on each call is NULL with EPIPE, so no answer is ever taken for that of
+ * another line. */
 const char *boost_ask(struct boost *store, const char *format, ...) __attribute__((format(printf, 2, 3)));
 
 /* Asks again while another transaction is in the way, for so many seconds: for a `do` or a `keep` with calls. The last answer. */

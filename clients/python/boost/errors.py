@@ -27,7 +27,8 @@ class Lost(Refused):
 
 
 class Misunderstood(Error):
-    """The server did not understand the line, or the line was too long. Nothing was done."""
+    """The server did not understand the line, or the line was too long. Nothing was done. `reason` is `LineTooLong`, or `NotUnderstood`,
+    behind which may stand, for a person, at which word and why: `NotUnderstood: bunp: no call of a collection`."""
 
     def __init__(self, reason: str, line: str = '') -> None:
         super().__init__(reason, line)

@@ -102,7 +102,7 @@ class Answers(unittest.TestCase):
     def test_errors(self):
         with self.assertRaises(boost.Idle):
             reply_of('error Idle')
-        for reason in ('NotUnderstood', 'NotUnderstood: bunp: no call', 'LineTooLong'):
+        for reason in ('NotUnderstood', 'NotUnderstood: bunp: no call of a collection', 'LineTooLong'):
             with self.assertRaises(boost.Misunderstood) as found:
                 reply_of('error ' + reason, 'do hits bunp 1')
             self.assertEqual(found.exception.reason, reason)

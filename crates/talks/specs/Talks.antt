@@ -1,6 +1,6 @@
 -- What a talk with a client does: the lines that come, and what the client is told of each.
-use Rattle.std.specs.Prelude.{◌≡◌, ◌⊎◌, ℕ, Bool, true, false, List, [], ◌∷◌, ◌++◌}
-use Rattle.std.specs.Prelude.{Option, None, Some, IsSome, length, ◌||◌}
+use Rattle.std.specs.Prelude.{◌≡◌, ◌≢◌, ◌⊎◌, ℕ, ◌≤◌, Bool, true, false, List, [], ◌∷◌, ◌++◌, All}
+use Rattle.std.specs.Prelude.{Option, None, Some, IsSome, IfSome, length, ◌||◌, string_bytes}
 use Rattle.std.specs.Io.BufRead.{strip_last}
 use Rattle.std.specs.Io.KnownBytes.{Consumes}
 use Rattle.calls.specs.declared.refusal.Refusal.{Refusal}
@@ -48,9 +48,15 @@ told_outcome (Outcome.Refused told false) = (Some told, Some Why.Broken)
 abbrev pub IsWished : List ℕ → Wish → Type 0
 IsWished line wish = IsWishOf wish (strip_last 13 line)
 
--- what is told of a line that asks for nothing, or whose wish takes more memory than there is
+-- the text stands in one line, of a thousand bytes at most
+abbrev pub IsReason : List ℕ → Type 0
+IsReason text = (length text ≤ 1000) × All (λ b. b ≢ 10) text
+
+-- What is told of a line that asks for nothing, and perhaps why it does not; or that its wish takes
+-- more memory than there is.
 abbrev pub IsUnwished : {A : Type 0} → List ℕ → Told A → Type 0
-IsUnwished line Told.NotUnderstood = (wish : Wish) → IsWished line wish → ⊥
+IsUnwished line (Told.NotUnderstood why) =
+    ((wish : Wish) → IsWished line wish → ⊥) × IfSome why (λ text. IsReason (string_bytes text))
 IsUnwished line (Told.Refused Refusal.NoMemory) = Unit {0}
 IsUnwished line told = ⊥
 

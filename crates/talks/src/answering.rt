@@ -12,6 +12,7 @@ ghost use Rattle.talks.specs.Talks.{IsUnwished, IsUnlessFailed, TellsPlace, Want
 ghost use Rattle.talks.specs.Talks.{told_end, told_kept, told_outcome};
 ghost use Rattle.talks.specs.Talks.{telling, IsStatus};
 
+use crate::doubting::reason;
 use crate::hearing::Hearer;
 use crate::speaking::{End, Speaker};
 use crate::told::Told;
@@ -43,9 +44,10 @@ pub fn is_passed_over(line: &[u8]) -> bool
 pub fn wish_in<S>(alloc: Global, line: &[u8]) -> Result<Wish, Told<S>>
     ensures { MatchResult result (IsWished line.now) (IsUnwished line.now) }
 {
-    match wish_of(alloc, without_return(line)) {
+    let line = without_return(line);
+    match wish_of(alloc, line) {
         Ok(Some(wish)) => Ok(wish),
-        Ok(None) => Err(Told::NotUnderstood),
+        Ok(None) => Err(Told::NotUnderstood(reason(alloc, line))),
         Err(_) => Err(Told::Refused(Refusal::NoMemory)),
     }
 }

@@ -5,6 +5,7 @@
 #![tactic(auto)]
 
 mod answering;
+mod doubting;
 mod hearing;
 mod printing;
 mod speaking;

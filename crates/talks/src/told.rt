@@ -20,8 +20,9 @@ pub enum Told<S> {
     DoneAndKept(Vec<S>, u64),
     /// How the store stands, and whether keeping has failed.
     Status(String, bool),
-    /// The line asks for nothing that is known.
-    NotUnderstood,
+    /// The line asks for nothing that is known. Behind it the word at which it ceases to, and why,
+    /// where that can be told.
+    NotUnderstood(Option<String>),
     /// The line is longer than may be.
     TooLong,
     /// What was open was taken back while the client said nothing, so its line is not carried out.
@@ -48,7 +49,8 @@ impl<S: fmt::Display> fmt::Display for Told<S> {
             }
             Told::Status(text, false) => f.write_str(text.as_str()),
             Told::Status(text, true) => write!(f, "{text}; failed"),
-            Told::NotUnderstood => f.write_str("error NotUnderstood"),
+            Told::NotUnderstood(None) => f.write_str("error NotUnderstood"),
+            Told::NotUnderstood(Some(reason)) => write!(f, "error NotUnderstood: {reason}"),
             Told::TooLong => f.write_str("error LineTooLong"),
             Told::Idle => f.write_str("error Idle"),
             Told::Bye => f.write_str("bye"),
