@@ -219,21 +219,20 @@ def a_failed_disk_over_pipes():
     return f'{left}'
 
 
-def full_is_told():
-    """What a client's open transaction makes too large ends keeping, and who waits is told why."""
+def a_full_store_is_told():
+    """What a client's open transaction makes too large is refused to that client, and what others do is kept."""
     with Place(area=65536) as place:
         client, other = Client(place), Client(place)
         client.ask('make map m')
         client.ask('make counter hits')
         client.ask('begin')
-        lines = ''.join(f'call m put {n} {"ab" * 256}\n' for n in range(300))
-        told = [client.ask(line) for line in lines.splitlines()[:260]]
-        assert told[0] == 'nothing' or told[0].startswith('value') or 'done' in told[0], told[0]
-        lost = other.ask('keep hits bump 1', 30)
-        expect(lost, 'refused 23 Lost: Full', 'keep')
-        expect(place.ends(), 1, 'status')
-        assert 'Full' in place.told()
-    return lost
+        lines = ''.join(f'call m put {n} {"ab" * 256}\n' for n in range(260))
+        told = [client.ask(line) for line in lines.splitlines()]
+        assert told[0] == 'nothing' and 'refused 18 Full' in told, told[-1]
+        kept = other.ask('keep hits bump 1', 30)
+        assert kept.startswith('done; kept '), kept
+        expect(client.ask('abort', 30), 'aborted', 'abort')
+    return f'{told.count("refused 18 Full")} calls'
 
 
 # ---- the door
@@ -424,7 +423,7 @@ def too_long_lines():
     return '6 lines'
 
 
-ATTACKS = [a_failed_disk_ends_the_server, a_failed_disk_is_told, a_failed_disk_over_pipes, full_is_told, a_second_server,
+ATTACKS = [a_failed_disk_ends_the_server, a_failed_disk_is_told, a_failed_disk_over_pipes, a_full_store_is_told, a_second_server,
            a_piece_of_a_line, standard_error_that_nobody_reads, too_few_threads, leftovers,
            a_door_that_is_no_fifo, the_end_of_the_deaf,
            the_lock_of_the_deaf, sixty_four_that_say_nothing, too_long_lines]

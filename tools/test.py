@@ -29,6 +29,7 @@ TESTS = {
     'the script boost': ['tools/script.py'],
     'closed streams': ['tools/closed_streams.py', PROGRAM],
     'the door': ['tools/door_attacks.py', PROGRAM],
+    'a full store': ['tools/full_store.py', PROGRAM],
     'the client in Python': ['-m', 'unittest', 'discover', '-s', 'clients/python/tests'],
     'attacks on the client in Python': ['tools/client_attacks.py', BOOST],
     'the client in C': ['tools/c_attacks.py'],
@@ -40,7 +41,7 @@ TESTS = {
     'moves of a part': ['tools/move_attacks.py', PROGRAM],
     'the standby': ['tools/standby.py', PROGRAM],
     'cuts of the power': ['tools/power.py', '10'],
-    'all attacks at once': ['tools/mixed_attacks.py', '60', PROGRAM],
+    'all attacks at once': ['tools/mixed_attacks.py', '60', PROGRAM, '--full-serves-on'],
 }
 
 # The gate begins with these.

@@ -29,7 +29,7 @@ class Collection(NamedTuple):
 
 class Status(NamedTuple):
     """How a store stands, in the words of docs/LISTEN.md; the collections in the order of making. `failed` says that keeping has
-    failed."""
+    failed, and `full` how full the store is, in hundredths."""
     format: int
     area: int
     in_use: int
@@ -40,6 +40,8 @@ class Status(NamedTuple):
     wear: int
     collections: List[Collection]
     failed: bool = False
+    checkpoint: int = 0
+    full: int = 0
 
 
 PASSING = {'Busy', 'TooManyLive'}

@@ -206,7 +206,7 @@ svg text{font-size:11px;fill:#666}figure{margin:0}figcaption{font-size:.9em}.plo
 footer{color:#666;font-size:.85em;margin-top:2em}'''
 # What a name stands for, where it is none that everybody knows.
 MEANINGS = {'next': 'number of the next transaction', 'wear': 'steps of the store\'s life', 'in_use': 'area in use', 'format': 'format'}
-SHOWN = ('used', 'area', 'live', 'waiting', 'failed')
+SHOWN = ('used', 'area', 'full', 'live', 'waiting', 'failed')
 
 
 def row(*cells: Any) -> str:
@@ -224,7 +224,8 @@ def room_of(state: State) -> str:
     rows = [row('in use of the area, bytes', numbers[name], 'of %s' % format(numbers['area'], ','), meter(numbers[name], numbers['area']))
             for name in ('used',) if name in numbers and numbers.get('area')]
     rows += [row(title, numbers[name], 'of %s' % format(limit, ','), meter(numbers[name], limit))
-             for name, title, limit in (('live', 'live transactions', CLIENTS), ('waiting', 'records that wait for the disk', RECORDS))
+             for name, title, limit in (('full', 'full: the last image of what calls may fill, hundredths', 100),
+                                        ('live', 'live transactions', CLIENTS), ('waiting', 'records that wait for the disk', RECORDS))
              if name in numbers]
     rows += [row(html.escape(MEANINGS.get(name, name)), number, '', '') for name, number in numbers.items() if name not in SHOWN]
     return ''.join(rows) + ''.join(row(html.escape(other), '', '', '') for other in state.others)
@@ -261,6 +262,8 @@ def page_of(seen: Seen, every: float = EVERY) -> str:
 METRICS = {
     'area': ('boost_area_bytes', 'gauge', 'The size of each of the two areas.'),
     'used': ('boost_used_bytes', 'gauge', 'What is in use of the area: its image and its journal.'),
+    'checkpoint': ('boost_checkpoint_bytes', 'gauge', 'What the next image takes at most, with the undoing of what is live.'),
+    'full': ('boost_full_hundredths', 'gauge', 'What the last image took, in hundredths of what calls may fill.'),
     'live': ('boost_live_transactions', 'gauge', 'Transactions that have not ended, of 64.'),
     'waiting': ('boost_waiting_records', 'gauge', 'Records that wait for the disk, of 16384.'),
     'next': ('boost_transactions_total', 'counter', 'The number of the next transaction.'),

@@ -21,6 +21,12 @@ use store::{Checkpoint, Checkpointer, Committer, Naming, Signal, Store};
 // How many microseconds the committer sleeps before it asks again whether an image is the store.
 const MOMENT: u64 = 100;
 
+// From so many hundredths on a store is nearly full, and from so many on it is all but full. Each is
+// told once.
+const NEARLY: u64 = 80;
+
+const ALL_BUT: u64 = 95;
+
 // How often a checkpoint that finds no memory is tried again once no more commits come.
 const LAST_TRIES: u32 = 100;
 
@@ -36,8 +42,10 @@ pub(crate) trait Commits {
     /// Refused early where the disk fails, and where a checkpoint makes no room.
     fn commit_all<R: Wait + Clock>(&self, rt: &R, checkpoints: &Checkpoints) -> Result<(), Refusal>;
 
-    /// Takes the checkpoints that are asked for, until no more are. One that finds no memory is
-    /// tried again later.
+    /// Takes the checkpoints that are asked for, until no more are; none then. One that finds no
+    /// memory is tried again later. Who waits for room goes on behind each. Behind one that leaves
+    /// the store so full that it is to be told, it answers how full, in hundredths, and is to be
+    /// called again.
     ///
     /// Fault behind one at which the disk failed, and then those that are asked for are to be
     /// answered still: it is to be called again.
@@ -45,7 +53,7 @@ pub(crate) trait Commits {
         &self,
         rt: &R,
         checkpoints: &Checkpoints,
-    ) -> Result<(), Refusal>;
+    ) -> Result<Option<u64>, Refusal>;
 
     /// The committer takes no more turns: who waits until something is kept is told Lost.
     fn stop<R: Wait>(&self, rt: &R);
@@ -73,16 +81,22 @@ impl<D: Disk, J: Naming> Commits for Store<D, J> {
         &self,
         rt: &R,
         checkpoints: &Checkpoints,
-    ) -> Result<(), Refusal> {
+    ) -> Result<Option<u64>, Refusal> {
         let mut checkpointer = self.checkpointer(rt);
         for _ in rt.forever() {
             let Some(asked) = checkpoints.next(rt) else {
-                return Ok(());
+                return Ok(None);
             };
+            let wishes = self.signal().wishes();
             let made = checkpoint(rt, &mut checkpointer, self.signal(), checkpoints);
             checkpoints.answer(asked, made.is_ok());
+            self.signal().grant(wishes);
             if made == Err(Refusal::Fault) {
                 return Err(Refusal::Fault);
+            }
+            let full = checkpointer.fill(rt).full;
+            if made.is_ok() && full >= NEARLY {
+                return Ok(Some(full));
             }
         }
         unreachable!()
@@ -121,16 +135,25 @@ fn keep_committing<S: Commits, W: Work, R: Wait + Clock + AllocGlobal>(
     checkpoints.end();
 }
 
-// Takes checkpoints until no more are asked for. A fault of the disk is noted, and the work is told.
+// Takes checkpoints until no more are asked for. A fault of the disk is noted, and the work is told;
+// so it is where the store is nearly full, and where it is all but full.
 fn keep_checkpointing<S: Commits, W: Work, R: Wait + Clock + AllocGlobal>(
     rt: &R,
     store: &S,
     checkpoints: &Checkpoints,
     work: &W,
 ) {
+    let mut warned = 0;
     for _ in rt.forever() {
         match store.checkpoint_all(rt, checkpoints) {
-            Ok(()) => return,
+            Ok(None) => return,
+            Ok(Some(full)) => {
+                let due = if full >= ALL_BUT { ALL_BUT } else { NEARLY };
+                if due > warned {
+                    work.nearly_full(rt, full);
+                }
+                warned = warned.max(due);
+            }
             Err(refusal) => end_keeping(rt, checkpoints, work, refusal),
         }
     }
@@ -164,15 +187,16 @@ fn commit_until_over<D: Disk, J: Naming, R: Wait + Clock>(
     let mut filling = Filling::new(committer.free(rt));
     for _ in rt.forever() {
         burst.gather(rt, signal);
+        filling.hear(signal, checkpoints);
         // Asked before the turn: what was committed before the end is cut by a turn behind it.
         let is_over = signal.is_over();
         let start = Instant::now(rt);
-        match turn(rt, committer, signal) {
+        match turn(rt, committer, signal, &filling) {
             Ok(Turn::Idle) if is_over => return Ok(()),
             Ok(Turn::Idle) => burst.rest(),
             Ok(Turn::Kept(_)) => {
                 burst.release(signal, elapsed(rt, start));
-                filling.note(committer.free(rt), checkpoints);
+                filling.note(committer.free(rt), signal, checkpoints);
             }
             Ok(Turn::Held) if checkpoints.is_asked() => {
                 thread::sleep(rt, Duration::from_micros(MOMENT));
@@ -187,11 +211,13 @@ fn commit_until_over<D: Disk, J: Naming, R: Wait + Clock>(
     unreachable!()
 }
 
-// Takes a turn. Where there is nothing to do it sleeps until something is, or no more comes.
+// Takes a turn. Where there is nothing to do it sleeps until something is, clients wait for room, or
+// no more comes.
 fn turn<D: Disk, J: Naming, R: Wait>(
     rt: &R,
     committer: &mut Committer<'_, D, J>,
     signal: &Signal,
+    filling: &Filling,
 ) -> Result<Turn, Refusal> {
     let turned = committer.turn_with_room(rt);
     if turned != Ok(Turn::Idle) {
@@ -199,7 +225,7 @@ fn turn<D: Disk, J: Naming, R: Wait>(
     }
     let events = signal.prepare_wait();
     let turned = committer.turn_with_room(rt);
-    if turned == Ok(Turn::Idle) && !signal.is_over() {
+    if turned == Ok(Turn::Idle) && !signal.is_over() && !filling.is_wished(signal) {
         events.wait(rt);
     } else {
         drop(events);

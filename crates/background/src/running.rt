@@ -50,6 +50,11 @@ pub trait Work {
     /// can be told to end. It is to return soon: where it is Full or NoMemory, who waits until
     /// something is kept is told Lost behind it.
     fn keeping_ended<R: Wait + AllocGlobal>(&self, _rt: &R, _refusal: Refusal) {}
+
+    /// The store is nearly full, or all but full: `full` hundredths, from 80 on, of what calls may
+    /// fill that add something (`Fill::full`). It is called once from 80 on and once from 95 on, by
+    /// the thread that takes checkpoints, behind one, while the threads work. It is to return soon.
+    fn nearly_full<R: Wait + AllocGlobal>(&self, _rt: &R, _full: u64) {}
 }
 
 /// The disk of a store that was worked on and closed.
@@ -92,7 +97,9 @@ type Ended<O, J> = Result<(O, Seen<J>), Refusal>;
 /// commits go on being kept; from its freeze until it is the store they are kept later. On the disk
 /// there is always room for the undoing of what is live: a block behind which there would be none
 /// waits for a checkpoint. Where that makes no room either keeping ends, and who waits is told Lost
-/// (`Closed::ended_by`).
+/// (`Closed::ended_by`). That does not come of what clients add: a call that would leave no room for
+/// the image of the next checkpoint waits for one, and is refused Full where that does not help
+/// (`Client`).
 ///
 /// On a disk at rest that reads true until it is open, and whose bytes stand for a content, a stop
 /// in the opening leaves the content, and one behind the call a beginning of what was committed,

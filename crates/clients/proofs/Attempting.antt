@@ -1,6 +1,7 @@
 -- An attempt goes on with each call.
 use Rattle.std.proofs.Common.{◌≡◌, inl, inr, ℕ, List, [], ◌∷◌, ◌++◌, map, drop, length}
-use Rattle.std.proofs.Common.{Result, Ok, Err, refl, sym, ap, ◌∙◌, subst}
+use Rattle.std.proofs.Common.{Result, Ok, Err, refl, sym, ap, ◌∙◌, subst, ⊎_elim}
+use Rattle.std.proofs.lemmas.List.{append-nil}
 use Rattle.std.specs.List.{AllByRecursion}
 use Rattle.calls.specs.declared.refusal.Refusal.{Refusal}
 use Rattle.group_commit.specs.Lines.{steps_of}
@@ -9,8 +10,8 @@ use Rattle.txn.specs.declared.steps.BookStep.{BookStep}
 use Rattle.desks.specs.declared.naming.Naming.{Ghosts}
 use Rattle.clients.specs.declared.phase.Phase.{Phase}
 use Rattle.clients.specs.Attempts.{done_since, IsOfCalls, IsRefusedEntry, IsOpenUnder, Attempts}
-use Rattle.clients.specs.Attempts.{IsAttempt, IsCalled, Adds}
-use Rattle.clients.specs.Calls.{IsOpen, Acts, Does}
+use Rattle.clients.specs.Attempts.{IsAttempt, IsCalled, IsEntered, Adds}
+use Rattle.clients.specs.Calls.{IsOpen, Acts, Does, DoesInRoom, Enters, IsEntering}
 use Rattle.desks.specs.Seen.{Grows, step_of}
 use Rattle.clients.specs.Known.{Known}
 use Rattle.boosted.proofs.Each.{each_append}
@@ -100,7 +101,11 @@ module _ {J : Type 0} (j : Ghosts J) where
               behind n old now new made [] enter is none.2 (opened.0, tt)
                   (subst (IsOpenUnder n (made ++ enter ∷ [])) (sym none.3)
                   (opened.0, each_append IsRefusedEntry made (enter ∷ []) opened.1 (tt, tt))),
-              inr (inr (none.0, none.1, ap (λ k. Action.Enter k (Err none.0) ∷ []) opened.0)),
+              inr (inr (inl (
+                none.0,
+                none.1,
+                ap (λ k. Action.Enter k (Err none.0) ∷ []) opened.0,
+              ))),
             ),
           )
     ]
@@ -117,6 +122,57 @@ module _ {J : Type 0} (j : Ghosts J) where
           subst (λ l. Attempts j.origin n old l new) (sym made) next.1.0,
           (n, next.0, next.1.1, made),
         )
+
+  -- nothing more was done
+  stays_on : (n : ℕ) (old now new : Known) (made : List Action) →
+      Attempts j.origin n old made now → new ≡ now →
+      (more : List Action) × (Attempts j.origin n old (made ++ more) new × IsEntered n more)
+  stays_on n old now new made is same = (
+    [],
+    (
+      subst (λ k. Attempts j.origin n old (made ++ []) k) (sym same)
+          (subst (λ l. Attempts j.origin n old l now) (sym (append-nil made)) is),
+      inl refl,
+    ),
+  )
+
+  -- the number was entered at most
+  enters_on : (n : ℕ) (old now new : Known) (made : List Action) (p : Phase) →
+      Attempts j.origin n old made now → IsOpenUnder n made p → IsEntering j.origin p now new →
+      (more : List Action) × (Attempts j.origin n old (made ++ more) new × IsEntered n more)
+  enters_on n old now new made Phase.Closed is opened entering = absurd opened
+  enters_on n old now new made (Phase.Entered m) is opened entering =
+      stays_on n old now new made is (⊎_elim (λ same. same)
+      (λ (entered : (k : ℕ) × Enters j.origin (Phase.Entered m) now (Ok k) new). entered.1.1)
+      entering)
+  enters_on n old now new made (Phase.Drawn m) is opened entering = elim entering [
+    | inl same ↦ stays_on n old now new made is same
+    | inr entered ↦
+        let enter = Action.Enter m (Ok tt) in (
+          enter ∷ [],
+          (
+            behind n old now new made [] enter is entered.1.1 (opened.0, tt)
+                (subst (IsOpenUnder n (made ++ enter ∷ [])) (sym entered.1.2) opened.0),
+            inr (ap (λ k. Action.Enter k (Ok tt) ∷ []) opened.0),
+          ),
+        )
+  ]
+
+  -- one call more, or none, as it is refused Full
+  pub going_in_room : {T : Type 0} (own : ℕ → Action → Type 0) (r : Result T Refusal)
+      (fits : (n : ℕ) (a : Action) → own n a → IsOfCalls n a) (n : ℕ) (old now new : Known) →
+      Attempts j.origin n old (done_since old now) now →
+      DoesInRoom j.origin now.phase now own r new →
+      Attempts j.origin n old (done_since old new) new ×
+      Adds own (λ e. r ≡ Err e) (done_since old now) (done_since old new)
+  going_in_room own r fits n old now new is does = ⊎_elim
+      (λ done. going_on own (λ e. r ≡ Err e) fits n old now new is done)
+      (λ (full : (r ≡ Err Refusal.Full) × IsEntering j.origin now.phase now new).
+      let next = enters_on n old now new (done_since old now) now.phase is is.is_open full.1 in
+      let made = done_is old new (done_since old now ++ next.0) next.1.0.grows in (
+        subst (λ l. Attempts j.origin n old l new) (sym made) next.1.0,
+        (n, next.0, inr (inr (inr (full.0, next.1.1))), made),
+      )) does
 
   -- an attempt leaves it open
   open_under : (n : ℕ) (made : List Action) (p : Phase) → IsOpenUnder n made p → IsOpen p

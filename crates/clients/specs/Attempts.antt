@@ -55,15 +55,20 @@ module _ (o : Origin) where
 
 -- ---- what a call adds
 
+-- the number is entered, where it was not
+abbrev pub IsEntered : ℕ → List Action → Type 0
+IsEntered n more = (more ≡ []) ⊎ (more ≡ Action.Enter n (Ok tt) ∷ [])
+
 -- what is done where a call is asked for in an attempt: the number is entered first, where it was
--- not, and a refusal of that stands in place of the call. own: the step of the call. refused: its
--- refusal.
+-- not, and a refusal of that stands in place of the call; where it is refused Full nothing more is
+-- done. own: the step of the call. refused: its refusal.
 abbrev pub IsCalled : (own : ℕ → Action → Type 0) → (refused : Refusal → Type 0) → ℕ → List Action →
     Type 0
 IsCalled own refused n more =
     ((action : Action) × own n action × (more ≡ action ∷ []))
     ⊎ ((action : Action) × own n action × (more ≡ Action.Enter n (Ok tt) ∷ action ∷ []))
     ⊎ ((e : Refusal) × refused e × (more ≡ Action.Enter n (Err e) ∷ []))
+    ⊎ (refused Refusal.Full × IsEntered n more)
 
 -- these actions came behind those
 abbrev pub Adds : (own : ℕ → Action → Type 0) → (refused : Refusal → Type 0) → List Action →

@@ -2,6 +2,7 @@
 use Rattle.std.specs.Prelude.{◌≡◌, ℕ, ◌<◌, ◌≤◌, ◌^◌, ◌⊎◌, Bool, true, false, List, [], ◌∷◌}
 use Rattle.std.specs.Prelude.{◌++◌}
 use Rattle.std.specs.Prelude.{length, replicate, Contains, Result, Ok, Err}
+use Rattle.calls.specs.declared.kind.Kind.{Kind}
 use Rattle.calls.specs.declared.refusal.Refusal.{Refusal}
 use Rattle.calls.specs.Limits.{number_end}
 use Rattle.txn.specs.declared.steps.Action.{Action}
@@ -105,15 +106,30 @@ module _ (o : Origin) where
   abbrev pub IsEntering : Phase → Known → Known → Type 0
   IsEntering p old new = (new ≡ old) ⊎ ((n : ℕ) × Enters p old (Ok n) new)
 
--- where a transaction is after a step that ends it where it is accepted
-abbrev pub ended_by : {T : Type 0} → Result T Refusal → ℕ → Phase
-ended_by (Ok done) n = Phase.Closed
-ended_by (Err e) n = Phase.Entered n
+  -- The client's open transaction did this and goes on; or it is refused Full, and its number is
+  -- entered at most.
+  abbrev pub DoesInRoom : {T : Type 0} → Phase → Known → (own : ℕ → Action → Type 0) →
+      Result T Refusal → Known → Type 0
+  DoesInRoom p old own r new =
+      Does p old own (λ e. r ≡ Err e) Phase.Entered new
+      ⊎ ((r ≡ Err Refusal.Full) × IsEntering p old new)
 
 -- what the book answered where a ticket is given
 abbrev pub placed : Result Ticket Refusal → Result ℕ Refusal
 placed (Ok ticket) = Ok ticket.place
 placed (Err e) = Err e
+
+module _ (o : Origin) where
+  -- The client made a collection; or it is refused Full, and nothing happened.
+  abbrev pub IsMade : Known → List ℕ → Kind → Result Ticket Refusal → Known → Type 0
+  IsMade old name kind r new =
+      Acts o old [] (Action.Make name kind (placed r)) new
+      ⊎ ((r ≡ Err Refusal.Full) × (new ≡ old))
+
+-- where a transaction is after a step that ends it where it is accepted
+abbrev pub ended_by : {T : Type 0} → Result T Refusal → ℕ → Phase
+ended_by (Ok done) n = Phase.Closed
+ended_by (Err e) n = Phase.Entered n
 
 -- ---- aborting
 

@@ -1,7 +1,7 @@
 // A client of a store.
 ghost use Rattle.std.specs.Prelude.{◌≡◌, ◌≢◌, ◌↔◌, ◌≤◌, ◌<◌, ℕ, [], ◌∷◌, ◌++◌, Ok, Err};
 ghost use Rattle.std.specs.Prelude.{◌⊎◌, List, Bool, Option, false, IsTrue, IfOk, IfErr};
-ghost use Rattle.std.specs.Prelude.{IfSome, IfNone, IsNone, IsOkUnless, OnOk};
+ghost use Rattle.std.specs.Prelude.{IfSome, IfNone, IsNone, IsOkUnless, OnErr, OnOk};
 ghost use Rattle.catalog.specs.Fours.{which_of};
 ghost use Rattle.calls.specs.declared.refusal.Refusal.{Refusal};
 ghost use Rattle.calls.specs.Limits.{number_end};
@@ -15,17 +15,21 @@ ghost use Rattle.clients.specs.declared.phase.Phase.{Phase};
 ghost use Rattle.desks.specs.Seen.{IsSeen};
 ghost use Rattle.clients.specs.Known.{Known, newcomer};
 ghost use Rattle.clients.specs.Calls.{IsOpen, IsEnded, IsWorn, Draws, Acts, Does, Enters, Undoes};
-ghost use Rattle.clients.specs.Calls.{Aborts, IsEntering, number_in};
+ghost use Rattle.clients.specs.Calls.{Aborts, DoesInRoom, IsEntering, IsMade, number_in};
 ghost use Rattle.clients.specs.Calls.{ended_by, placed, back, backs, Loads, Hears, Waits};
 
 use crate::hints::Hints;
+use crate::miss::Miss;
 use crate::phase::Phase;
 use crate::seen::Seen;
 use crate::ticket::Ticket;
 use calls::{Call, Kind, Refusal, Reply};
 use catalog::{Catalog, Four};
 use crossbeam_utils::Backoff;
-use desks::{Desk, Held, Lock, Naming, Quarter, Shared, ShelfDesk, Shelves, Status};
+use desks::{
+    Admission, Change, Desk, Footprint, Held, Lock, Naming, Quarter, Shared, ShelfDesk, Shelves,
+    Status,
+};
 use group_commit::{ClientSeat, Drawer, Watcher};
 use records::Coded;
 use shelf::Looked;
@@ -39,6 +43,13 @@ use std::sync::Wait;
 /// Where clients leave records faster than the disk takes them, and a committer's thread is at work
 /// (`Signal::set_attended`), each step but `begin` sleeps first while 8,192 records wait. So a
 /// client is refused Backlog only where no committer is at work, or keeping has failed.
+///
+/// While a committer's thread is at work a making, and a call that does not only read, are refused
+/// Full where the next image of the store, with the undoing of what is live behind it, would have
+/// no room in an area, so that what others do is kept all the same and the store can be opened
+/// again. A call that puts an item in is refused where less than an eighth of an area is left, so
+/// that what takes items out goes on. What the image may take is known by the last checkpoint, and
+/// what came since: where that does not fit, the call sleeps until a checkpoint is taken.
 pub struct Client<'s, J: Naming, B: Coded = Catalog> {
     shelves: &'s Shelves<J, B>,
     desk: &'s Lock<Desk<J, B>>,
@@ -50,6 +61,8 @@ pub struct Client<'s, J: Naming, B: Coded = Catalog> {
     // where collections were found, and on which shelves the transaction asked for something
     hints: Hints,
     touched: Four<bool>,
+    // how many freezes there were when this call last waited for a checkpoint, if it did
+    waited: Option<u64>,
 }
 
 // Written out, so that the crates above call it in place of proving it again.
@@ -65,6 +78,7 @@ impl<'s, J: Naming, B: Coded> Drop for Client<'s, J, B> {
             phase: _phase,
             hints: _hints,
             touched: _touched,
+            waited: _waited,
         } = self;
         drop(line);
         drop(watcher);
@@ -110,6 +124,7 @@ impl<'s, J: Naming, B: Coded> Client<'s, J, B> {
             phase: Phase::Closed,
             hints: Hints::new(),
             touched: each(false),
+            waited: None,
         }
     }
 
@@ -152,28 +167,68 @@ impl<'s, J: Naming, B: Coded> Client<'s, J, B> {
     /// transaction of its own, whether the client has one or not. It takes the locks of all shelves
     /// and then the journal's, each once, and calls no device.
     ///
-    /// Backlog, BadName, TooLong, NameTaken, TooManyCollections, NoMemory. Everything is as before
-    /// then.
+    /// Full; then Backlog, BadName, TooLong, NameTaken, TooManyCollections, NoMemory. Everything is
+    /// as before then.
     pub fn make<R: Wait>(&mut self, rt: &R, name: &str, kind: Kind) -> Result<Ticket, Refusal>
-        ensures step { Acts J.origin self.old []
-            (Action.Make name.now kind (placed result)) self.new }
+        ensures step { IsMade J.origin self.old name.now kind result self.new }
         ensures phase { self.new.phase ≡ self.old.phase }
     {
-        self.shared.signal.let_drain(rt);
-        let place = self.make_held(rt, name, kind)?;
-        Ok(Ticket { place })
+        self.arrive(rt);
+        for _ in rt.forever() {
+            match self.make_held(rt, name, kind) {
+                Ok(Ok(place)) => return Ok(Ticket { place }),
+                Ok(Err(refusal)) => return Err(refusal),
+                Err(Miss::NoRoom) => return Err(Refusal::Full),
+                Err(_) => self.shared.signal.await_room(rt),
+            }
+        }
+        unreachable!()
     }
 
     // Makes the collection, under all locks.
-    fn make_held<R: Wait>(&mut self, rt: &R, name: &str, kind: Kind) -> Result<u64, Refusal>
-        ensures step { Acts J.origin self.old [] (Action.Make name.now kind result)
-            self.new }
+    fn make_held<R: Wait>(
+        &mut self,
+        rt: &R,
+        name: &str,
+        kind: Kind,
+    ) -> Result<Result<u64, Refusal>, Miss>
+        ensures step { IfOk result (λ made. Acts J.origin self.old []
+            (Action.Make name.now kind made) self.new) }
+        ensures miss { OnErr result (self.new ≡ self.old) }
         ensures phase { self.new.phase ≡ self.old.phase }
     {
         let (shelves, mutex) = (self.shelves, self.desk);
         let mut held = shelves.lock_all(rt);
         let mut desk = mutex.lock(rt);
-        desk.make(shelves, self.shared, &mut self.line, &mut held, name, kind)
+        let footprint = Footprint::of_making();
+        self.check_room(&desk, footprint)?;
+        let made = desk.make(shelves, self.shared, &mut self.line, &mut held, name, kind);
+        if made.is_ok() {
+            desk.note_change(Change::of(footprint));
+        }
+        Ok(made)
+    }
+
+    // Comes to a call, as soon as fewer records wait.
+    fn arrive<R: Wait>(&mut self, rt: &R)
+        ensures { self.new ≡ self.old }
+    {
+        self.shared.signal.let_drain(rt);
+        self.waited = None;
+    }
+
+    // Whether a step may be taken, for what it adds to the next image.
+    fn check_room(&mut self, desk: &Desk<J, B>, footprint: Footprint) -> Result<(), Miss>
+        ensures { self.new ≡ self.old }
+    {
+        match desk.admit(self.shared, footprint, self.waited) {
+            Admission::Fits => Ok(()),
+            Admission::AfterCheckpoint(freezes) => {
+                self.waited = Some(freezes);
+                Err(Miss::NoRoomYet)
+            }
+            Admission::Refused => Err(Miss::NoRoom),
+        }
     }
 
     /// Makes a call of the client's transaction on the collection of the name, and gives the reply.
@@ -183,8 +238,9 @@ impl<'s, J: Naming, B: Coded> Client<'s, J, B> {
     /// does not know the collection's number, and both anew where it was mistaken in it. It calls
     /// no device.
     ///
-    /// At the first call of a transaction TooManyLive, Worn, Backlog, NoMemory, and then the book
-    /// does not know the transaction yet. After that BadName, TooLong, NoSuchCollection, Falling,
+    /// Full where what the call adds has no room (see `Client`). At the first call of a transaction
+    /// TooManyLive, Worn, Backlog, NoMemory, and then the book does not know the transaction yet.
+    /// After that BadName, TooLong, NoSuchCollection, Falling,
     /// WrongKind, BadArg, TooLong of a value, Worn, TooManyCalls, Backlog, NoMemory, AlreadyGoing,
     /// Busy, NoMemory. The collections and the transaction's locks are as before then, and the
     /// transaction goes on.
@@ -197,21 +253,25 @@ impl<'s, J: Naming, B: Coded> Client<'s, J, B> {
     /// ```
     pub fn call<R: Wait>(&mut self, rt: &R, name: &str, call: &Call) -> Result<Reply, Refusal>
         requires { IsOpen self.old.phase }
-        ensures step { Does J.origin self.old.phase self.old
+        ensures step { DoesInRoom J.origin self.old.phase self.old
             (λ n a. (found : Option ℕ) ×
             (a ≡ Action.Call n (Target.Named name.now found) call.now result))
-            (λ e. result ≡ Err e) Phase.Entered self.new }
+            result self.new }
         ensures open { IsOpen self.new.phase }
     {
-        self.shared.signal.let_drain(rt);
+        self.arrive(rt);
         let mut hint = self.hints.told(name);
         for _ in rt.forever() {
             let at = self.place_of_call(rt, name, call, hint)?;
-            if let Some(answer) = self.call_at(rt, name, at, call) {
-                self.remember(name, at);
-                return answer;
+            match self.call_at(rt, name, at, call) {
+                Ok(answer) => {
+                    self.remember(name, at);
+                    return answer;
+                }
+                Err(Miss::Elsewhere) => hint = None,
+                Err(Miss::NoRoomYet) => self.shared.signal.await_room(rt),
+                Err(Miss::NoRoom) => return Err(Refusal::Full),
             }
-            hint = None;
         }
         unreachable!()
     }
@@ -261,21 +321,20 @@ impl<'s, J: Naming, B: Coded> Client<'s, J, B> {
     }
 
     // Makes the call on the collection of the number, under the locks of its shelf and of the
-    // journal. None where that has another name.
+    // journal. Not where that has another name, or what the call adds no room.
     fn call_at<R: Wait>(
         &mut self,
         rt: &R,
         name: &str,
         at: u8,
         call: &Call,
-    ) -> Option<Result<Reply, Refusal>>
+    ) -> Result<Result<Reply, Refusal>, Miss>
         requires { IsOpen self.old.phase }
-        ensures some { IfSome result (λ r. Does J.origin self.old.phase self.old
+        ensures done { IfOk result (λ r. Does J.origin self.old.phase self.old
             (λ n a. (found : Option ℕ) ×
             (a ≡ Action.Call n (Target.Named name.now found) call.now r))
             (λ e. r ≡ Err e) Phase.Entered self.new) }
-        ensures none { IsNone result →
-            IsEntering J.origin self.old.phase self.old self.new }
+        ensures miss { OnErr result (IsEntering J.origin self.old.phase self.old self.new) }
     {
         let shelves = self.shelves;
         if at % 4 == 0 {
@@ -298,21 +357,23 @@ impl<'s, J: Naming, B: Coded> Client<'s, J, B> {
         name: &str,
         at: u8,
         call: &Call,
-    ) -> Option<Result<Reply, Refusal>>
+    ) -> Result<Result<Reply, Refusal>, Miss>
         requires going { IsOpen self.old.phase }
         requires place { which_of at ≡ Q.which }
-        ensures some { IfSome result (λ r. Does J.origin self.old.phase self.old
+        ensures done { IfOk result (λ r. Does J.origin self.old.phase self.old
             (λ n a. (found : Option ℕ) ×
             (a ≡ Action.Call n (Target.Named name.now found) call.now r))
             (λ e. r ≡ Err e) Phase.Entered self.new) }
-        ensures none { IsNone result →
-            IsEntering J.origin self.old.phase self.old self.new }
+        ensures miss { OnErr result (IsEntering J.origin self.old.phase self.old self.new) }
     {
         let mut held = lock.lock(rt);
         let looked = held.look(self.shared.format, self.number(), at, call);
         let mutex = self.desk;
         let mut desk = mutex.lock(rt);
-        self.call_held(&mut desk, &mut held, name, at, call, looked)
+        self.check_room(&desk, Footprint::of_call(call))?;
+        let answer = self.call_held(&mut desk, &mut held, name, at, call, looked);
+        note_answer(&mut desk, call, &answer);
+        answer.ok_or(Miss::Elsewhere)
     }
 
     // Makes it where both locks are held, with what the look came to under the shelf's.
@@ -364,21 +425,25 @@ impl<'s, J: Naming, B: Coded> Client<'s, J, B> {
     /// They leave what those leave.
     pub fn later<R: Wait>(&mut self, rt: &R, name: &str, call: &Call) -> Result<(), Refusal>
         requires { IsOpen self.old.phase }
-        ensures step { Does J.origin self.old.phase self.old
+        ensures step { DoesInRoom J.origin self.old.phase self.old
             (λ n a. (found : Option ℕ) ×
             (a ≡ Action.Later n (Target.Named name.now found) call.now result))
-            (λ e. result ≡ Err e) Phase.Entered self.new }
+            result self.new }
         ensures open { IsOpen self.new.phase }
     {
-        self.shared.signal.let_drain(rt);
+        self.arrive(rt);
         let mut hint = self.hints.told(name);
         for _ in rt.forever() {
             let at = self.place_of_later(rt, name, call, hint)?;
-            if let Some(answer) = self.later_at(rt, name, at, call) {
-                self.remember(name, at);
-                return answer;
+            match self.later_at(rt, name, at, call) {
+                Ok(answer) => {
+                    self.remember(name, at);
+                    return answer;
+                }
+                Err(Miss::Elsewhere) => hint = None,
+                Err(Miss::NoRoomYet) => self.shared.signal.await_room(rt),
+                Err(Miss::NoRoom) => return Err(Refusal::Full),
             }
-            hint = None;
         }
         unreachable!()
     }
@@ -428,21 +493,20 @@ impl<'s, J: Naming, B: Coded> Client<'s, J, B> {
     }
 
     // Puts the call off on the collection of the number, under the locks of its shelf and of the
-    // journal. None where that has another name.
+    // journal. Not where that has another name, or what the call adds no room.
     fn later_at<R: Wait>(
         &mut self,
         rt: &R,
         name: &str,
         at: u8,
         call: &Call,
-    ) -> Option<Result<(), Refusal>>
+    ) -> Result<Result<(), Refusal>, Miss>
         requires { IsOpen self.old.phase }
-        ensures some { IfSome result (λ r. Does J.origin self.old.phase self.old
+        ensures done { IfOk result (λ r. Does J.origin self.old.phase self.old
             (λ n a. (found : Option ℕ) ×
             (a ≡ Action.Later n (Target.Named name.now found) call.now r))
             (λ e. r ≡ Err e) Phase.Entered self.new) }
-        ensures none { IsNone result →
-            IsEntering J.origin self.old.phase self.old self.new }
+        ensures miss { OnErr result (IsEntering J.origin self.old.phase self.old self.new) }
     {
         let shelves = self.shelves;
         if at % 4 == 0 {
@@ -466,21 +530,23 @@ impl<'s, J: Naming, B: Coded> Client<'s, J, B> {
         name: &str,
         at: u8,
         call: &Call,
-    ) -> Option<Result<(), Refusal>>
+    ) -> Result<Result<(), Refusal>, Miss>
         requires going { IsOpen self.old.phase }
         requires place { which_of at ≡ Q.which }
-        ensures some { IfSome result (λ r. Does J.origin self.old.phase self.old
+        ensures done { IfOk result (λ r. Does J.origin self.old.phase self.old
             (λ n a. (found : Option ℕ) ×
             (a ≡ Action.Later n (Target.Named name.now found) call.now r))
             (λ e. r ≡ Err e) Phase.Entered self.new) }
-        ensures none { IsNone result →
-            IsEntering J.origin self.old.phase self.old self.new }
+        ensures miss { OnErr result (IsEntering J.origin self.old.phase self.old self.new) }
     {
         let mut held = lock.lock(rt);
         let looked = held.look_later(self.number(), at, call);
         let mutex = self.desk;
         let mut desk = mutex.lock(rt);
-        self.later_held(&mut desk, &mut held, name, at, call, looked)
+        self.check_room(&desk, Footprint::of_later(call))?;
+        let answer = self.later_held(&mut desk, &mut held, name, at, call, looked);
+        note_later(&mut desk, call, &answer);
+        answer.ok_or(Miss::Elsewhere)
     }
 
     // Puts it off where both locks are held, with what the look came to under the shelf's.
@@ -904,6 +970,7 @@ impl<'s, J: Naming, B: Coded> Client<'s, J, B> {
             phase: _phase,
             hints: _hints,
             touched: _touched,
+            waited: _waited,
         } = self;
         drop(drawer);
         Seen::new(line, watcher)
@@ -935,6 +1002,28 @@ fn each(is: bool) -> Four<bool> {
         second: is,
         third: is,
         fourth: is,
+    }
+}
+
+// What the call changed, where it was answered.
+fn note_answer<J: Naming, B: Coded>(
+    desk: &mut Desk<J, B>,
+    call: &Call,
+    answer: &Option<Result<Reply, Refusal>>,
+) {
+    if let Some(Ok(reply)) = answer {
+        desk.note_change(Change::of_call(call, reply));
+    }
+}
+
+// What the call changed, where it was put off.
+fn note_later<J: Naming, B: Coded>(
+    desk: &mut Desk<J, B>,
+    call: &Call,
+    answer: &Option<Result<(), Refusal>>,
+) {
+    if let Some(Ok(())) = answer {
+        desk.note_change(Change::of(Footprint::of_later(call)));
     }
 }
 

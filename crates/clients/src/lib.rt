@@ -19,6 +19,7 @@
 mod attempt;
 mod client;
 mod hints;
+mod miss;
 mod phase;
 mod seen;
 mod ticket;

@@ -284,9 +284,9 @@ fn carry_out<
             if let Some(folder) = folder {
                 return listen_at_door(rt, disk, fifos, folder.as_str(), idle, err);
             }
-            let clients = Multiplex::new(rt.alloc(), fifos, input, out, idle)?;
+            let clients = Multiplex::new(rt.alloc(), fifos, input, out, &mut *err, idle)?;
             let clients = if *shell { clients.as_shell() } else { clients };
-            listen_to_input(rt, disk, &clients, err)
+            listen_to_input(rt, disk, clients)
         }
     }
 }

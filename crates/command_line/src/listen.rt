@@ -25,15 +25,11 @@ pub fn listen_to_input<
     F: Fifos + Drop + Sync,
     I: Read + Drop + Send,
     O: Write + Drop + Send,
->(
-    rt: &R,
-    disk: StoreDisk<S>,
-    clients: &Multiplex<F, I, O>,
-    err: &mut impl Write,
-) -> Result<u8, Failure<'a>> {
-    let (served, closed) = run(rt, disk, clients, clients.threads());
-    let trouble = first_trouble(served)?;
-    Ok(status_of(closed, trouble, None, err))
+    E: Write + Drop + Send,
+>(rt: &R, disk: StoreDisk<S>, clients: Multiplex<F, I, O, E>) -> Result<u8, Failure<'a>> {
+    let (served, closed) = run(rt, disk, &clients, clients.threads());
+    let mut notes = clients.into_notes();
+    Ok(status_of(closed, first_trouble(served), None, &mut notes))
 }
 
 /// Keeps the store of a disk open, and serves the clients that come by the door of a folder. One
@@ -59,12 +55,11 @@ pub fn listen_at_door<
     let clients = Doorway::new(rt.alloc(), fifos, folder, idle, &mut *err)?;
     let (served, closed) = run(rt, disk, &clients, clients.threads());
     let mut notes = clients.into_notes();
-    let trouble = first_trouble(served)?;
     let door = Door {
         folder,
         path: door.as_str(),
     };
-    Ok(status_of(closed, trouble, Some(door), &mut notes))
+    Ok(status_of(closed, first_trouble(served), Some(door), &mut notes))
 }
 
 // The door of a folder, and its path.
@@ -95,20 +90,32 @@ fn unusable(error: &io::Error) -> Failure<'static> {
     }
 }
 
-// The status where a store was closed. What ended keeping early is told, or else what trouble there
-// was: at the door of a folder, or with input and output.
+// The status where a store was closed. Why it was not opened is told, or what ended keeping early,
+// each with the system's words; or else what trouble there was: at the door of a folder, or with
+// input and output.
 fn status_of<S: Content>(
     closed: Closed<StoreDisk<S>>,
-    trouble: Option<Trouble>,
+    trouble: Result<Option<Trouble>, Refusal>,
     door: Option<Door<'_>>,
     err: &mut impl Write,
 ) -> u8 {
     let Closed { disk, ended_by, .. } = closed;
-    if let Some(refusal) = ended_by {
-        let status = report(&Failure::Refused(refusal), err);
-        tell_cause(&disk, err);
-        return status;
+    let ended = match ended_by {
+        Some(refusal) => Err(refusal),
+        None => trouble,
+    };
+    match ended {
+        Ok(trouble) => status_of_trouble(trouble, door, err),
+        Err(refusal) => {
+            let status = report(&Failure::Refused(refusal), err);
+            tell_cause(&disk, err);
+            status
+        }
     }
+}
+
+// The status where that trouble was met, if any was.
+fn status_of_trouble(trouble: Option<Trouble>, door: Option<Door<'_>>, err: &mut impl Write) -> u8 {
     match (trouble, door) {
         (None, _) => 0,
         (Some(Trouble::Unusable(error)), Some(door)) => {

@@ -8,6 +8,7 @@ use Rattle.gate_block.specs.declared.area.Area.{Area}
 use Rattle.gate_block.specs.Area.{base_of, size_of, position_of}
 use Rattle.gate_block.specs.Layout.{areas_at}
 use Rattle.txn.specs.Books.{BookState}
+use Rattle.desks.specs.declared.budget.Fill.{Fill}
 use Rattle.desks.specs.declared.extent.Extent.{Extent}
 use Rattle.desks.specs.declared.status.Status.{Status}
 
@@ -17,11 +18,12 @@ pub record IsExtentOf (area : Area) (extent : Extent) : Type 0 where
   pub first : IsTrue extent.first ↔ base_of area ≡ areas_at
   pub used : extent.used ≡ position_of area + 1
 
--- So the book stands, whose area in use is filled so far.
-pub record IsStatusOf (book : BookState (List Collection)) (extent : Extent)
+-- So the book stands, whose area in use is filled so far, of a store so full.
+pub record IsStatusOf (book : BookState (List Collection)) (extent : Extent) (fill : Fill)
     (status : Status) : Type 0 where
   pub format : status.format ≡ book.state.format
   pub filled : status.extent ≡ extent
+  pub full : status.fill ≡ fill
   pub live : status.live ≡ maps.len book.state.live
   pub waiting : status.waiting ≡ length book.pending
   pub next : status.next ≡ book.next

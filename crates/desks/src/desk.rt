@@ -19,7 +19,9 @@ ghost use Rattle.desks.specs.Notes.{IsSent};
 ghost use Rattle.desks.specs.Told.{told_book};
 ghost use Rattle.desks.specs.Touches.{Leads, IsJournalDesk};
 
+use crate::budget::{Admission, Budget, Fill};
 use crate::extent::Extent;
+use crate::footprint::{Change, Footprint};
 use crate::naming::Naming;
 use crate::room::Room;
 use crate::shared::Shared;
@@ -55,6 +57,8 @@ pub struct Desk<J: Naming, B: Coded> {
     undoing: u64,
     // how far the area in use was filled when that was last told
     pub(crate) extent: Extent,
+    // how much the next image may take
+    pub(crate) budget: Budget,
     of: PhantomData<J>,
 }
 
@@ -71,6 +75,7 @@ impl<J: Naming, B: Coded> Drop for Desk<J, B> {
             watcher,
             undoing: _undoing,
             extent: _extent,
+            budget: _budget,
             of: _of,
         } = self;
         drop(journal);
@@ -139,6 +144,7 @@ impl<J: Naming, B: Coded> Desk<J, B> {
             watcher,
             undoing: 0,
             extent,
+            budget: Budget::new(extent.area, extent.used),
             of: PhantomData,
         }
     }
@@ -202,6 +208,7 @@ impl<J: Naming, B: Coded> Desk<J, B> {
         ensures { IfErr result (λ e. (e ≡ Refusal.Imaging) ⊎ (e ≡ Refusal.Full)) }
     {
         self.extent = extent;
+        shared.signal.set_filling(self.budget.is_filling());
         let Some(next) = self.journal.next_block() else {
             return Ok(());
         };
@@ -236,6 +243,42 @@ impl<J: Naming, B: Coded> Desk<J, B> {
         self.journal.undoing()
     }
 
+    /// Whether a step may be taken, for what it adds to the next image. `waited` is how many freezes
+    /// there were when its client last waited for a checkpoint, if it did. Each one fits where no
+    /// committer is at work, as nobody takes checkpoints then.
+    pub fn admit(
+        &self,
+        shared: &Shared<J>,
+        footprint: Footprint,
+        waited: Option<u64>,
+    ) -> Admission {
+        if !shared.signal.is_attended() {
+            return Admission::Fits;
+        }
+        self.budget.admit(footprint, waited)
+    }
+
+    /// How full the store is.
+    pub fn fill(&self) -> Fill {
+        self.budget.fill()
+    }
+
+    /// A step changed so much in the next image.
+    pub fn note_change(&mut self, change: Change) {
+        self.budget.note(change);
+    }
+
+    /// The book was frozen, and the undoing of all that is live takes so many records.
+    pub fn note_freeze(&mut self, undoing: u64) {
+        self.budget.freeze(undoing);
+    }
+
+    /// The image of the newest freeze is the store, and fills the area so far.
+    pub fn note_image(&mut self, extent: Extent) {
+        self.extent = extent;
+        self.budget.flip(extent.used);
+    }
+
     /// The journal with the near ends, its seat and the sending end, where no thread shares the
     /// desk any more. It takes no memory.
     pub fn into_parts(
@@ -259,6 +302,7 @@ impl<J: Naming, B: Coded> Desk<J, B> {
             watcher,
             undoing: _undoing,
             extent: _extent,
+            budget: _budget,
             of: _of,
         } = self;
         drop(near);

@@ -16,16 +16,19 @@
 //! (`specs/Desks`). `proofs/ShelfSteps` and `proofs/DeskSteps` keep that over each step. The
 //! history itself is a table of `group_commit`, of which each client has a seat.
 //!
-//! **To change it.** A new step is a method of `Desk`, which notes it. When a client waits for room
-//! is `Signal`; how much room a block leaves is `Room`.
+//! **To change it.** A new step is a method of `Desk`, which notes it. When a client waits is
+//! `Signal`; how much room a block leaves is `Room`; how much the next image may take is `Budget`,
+//! and what a step adds to it is `Footprint`.
 #![tactic(auto)]
 
 mod asking;
+mod budget;
 mod commits;
 mod desk;
 mod ended;
 mod ending;
 mod extent;
+mod footprint;
 mod lock;
 mod making;
 mod naming;
@@ -38,9 +41,11 @@ mod signal;
 mod status;
 mod touch;
 
+pub use budget::{Admission, Fill, full_of};
 pub use catalog::Measured;
 pub use desk::{Desk, note_alone};
 pub use extent::Extent;
+pub use footprint::{Change, Footprint};
 pub use lock::Lock;
 pub use naming::Naming;
 pub use quarter::{FirstShelf, FourthShelf, Quarter, SecondShelf, ThirdShelf};

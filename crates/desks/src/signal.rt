@@ -1,4 +1,4 @@
-// What wakes a store's committer, and has clients wait for it.
+// What wakes a store's committer, and has clients wait for it, and for room.
 use calls::limits::MAX_PENDING;
 use crossbeam_utils::sync::{EventCount, Key};
 use std::sync::Wait;
@@ -13,8 +13,9 @@ const MANY: usize = 256;
 const TOO_MANY: usize = MAX_PENDING / 2;
 
 /// Wakes a store's committer, tells it when no more commits come, and has clients wait where they
-/// leave records faster than the disk takes them. The steps of clients do so by themselves. Threads
-/// share it by `&`. No clause speaks of it.
+/// leave records faster than the disk takes them, and where a checkpoint is to make room for what
+/// they add. The steps of clients do so by themselves. Threads share it by `&`. No clause speaks of
+/// it.
 #[derive(Drop)]
 pub struct Signal {
     // how many commits and makings were accepted, and how many when the last block was kept
@@ -31,6 +32,14 @@ pub struct Signal {
     is_crowded: AtomicBool,
     // on which clients sleep until fewer wait
     drained: EventCount,
+    // whether a checkpoint is wanted before clients have to wait for one
+    is_filling: AtomicBool,
+    // how often clients asked for a checkpoint that makes room, and up to which of these it was
+    // taken, or could not be
+    wishes: AtomicU64,
+    granted: AtomicU64,
+    // on which clients sleep until one is taken
+    roomy: EventCount,
 }
 
 impl Signal {
@@ -45,6 +54,10 @@ impl Signal {
             is_attended: AtomicBool::new(false),
             is_crowded: AtomicBool::new(false),
             drained: EventCount::new(),
+            is_filling: AtomicBool::new(false),
+            wishes: AtomicU64::new(0),
+            granted: AtomicU64::new(0),
+            roomy: EventCount::new(),
         }
     }
 
@@ -83,7 +96,7 @@ impl Signal {
         }
         for _ in rt.forever() {
             let drained = self.drained.prepare_wait();
-            if !self.is_crowded() || !self.is_attended.load(Ordering::SeqCst) {
+            if !self.is_crowded() || !self.is_attended() {
                 return;
             }
             drained.wait(rt);
@@ -97,11 +110,57 @@ impl Signal {
 
     /// Whether a committer is at work from now on. While one is, a client whose store has 8,192
     /// records waiting sleeps before its next step, until fewer wait; so it is not refused Backlog.
+    /// And while one is, a call that adds something is made only where the next image has room for
+    /// it; so checkpoints are to be taken then, and `grant` to be called behind each.
     /// Say so before clients begin, and that none is as soon as it has ended: who sleeps goes on
     /// then. It takes no memory, and waits for nobody.
     pub fn set_attended(&self, is_attended: bool) {
         self.is_attended.store(is_attended, Ordering::SeqCst);
         self.drained.notify_all();
+        self.roomy.notify_all();
+    }
+
+    /// Whether a committer is at work.
+    pub fn is_attended(&self) -> bool {
+        self.is_attended.load(Ordering::SeqCst)
+    }
+
+    // Whether so much was added to the next image that a checkpoint is wanted.
+    pub(crate) fn set_filling(&self, is_filling: bool) {
+        self.is_filling.store(is_filling, Ordering::SeqCst);
+    }
+
+    /// Whether so much was added to the next image that a checkpoint is wanted before clients have
+    /// to wait for one, as of the last block.
+    pub fn is_filling(&self) -> bool {
+        self.is_filling.load(Ordering::SeqCst)
+    }
+
+    /// Asks for a checkpoint that begins from here on, and sleeps until it was taken, or could not
+    /// be, or no committer is at work. It takes no memory. Call it under no lock.
+    pub fn await_room<R: Wait>(&self, rt: &R) {
+        let wish = self.wishes.fetch_add(1, Ordering::SeqCst).wrapping_add(1);
+        self.events.notify_all();
+        for _ in rt.forever() {
+            let roomy = self.roomy.prepare_wait();
+            if self.granted.load(Ordering::SeqCst) >= wish || !self.is_attended() {
+                return;
+            }
+            roomy.wait(rt);
+        }
+    }
+
+    /// How often clients asked for a checkpoint that makes room. Who takes one asks before it, and
+    /// tells behind it by `grant`. It takes no memory, and waits for nobody.
+    pub fn wishes(&self) -> u64 {
+        self.wishes.load(Ordering::SeqCst)
+    }
+
+    /// The checkpoint was taken, or could not be, for which so many had asked: they go on. It takes
+    /// no memory, and waits for nobody.
+    pub fn grant(&self, wishes: u64) {
+        self.granted.store(wishes, Ordering::SeqCst);
+        self.roomy.notify_all();
     }
 
     /// How many commits and makings were accepted so far.

@@ -13,6 +13,7 @@ ghost use Rattle.desks.specs.Statuses.{IsStatusOf};
 ghost use Rattle.desks.specs.Told.{told_book};
 ghost use Rattle.desks.specs.Touches.{Leads};
 
+use crate::budget::Fill;
 use crate::desk::Desk;
 use crate::extent::Extent;
 use crate::naming::Naming;
@@ -30,14 +31,16 @@ use std::fmt;
 use std::sync::MutexGuard;
 use txn::Journal;
 
-/// How an open store stands: what its book holds now, and how far its area in use was filled when
-/// its committer last said so.
+/// How an open store stands: what its book holds now, how far its area in use was filled when its
+/// committer last said so, and how full it is.
 #[derive(Drop)]
 pub struct Status {
     /// The format of the store.
     pub format: Format,
     /// How far the area in use is filled.
     pub extent: Extent,
+    /// How full the store is.
+    pub fill: Fill,
     /// How many transactions have not ended, of those that have made a call.
     pub live: usize,
     /// How many records wait for a block.
@@ -53,7 +56,8 @@ pub struct Status {
 
 impl Status {
     /// How the book stands that a journal and these shelves are, where the area in use is filled so
-    /// far. It takes memory for the names of the collections, and the time of as many names.
+    /// far, and the store so full. It takes memory for the names of the collections, and the time of
+    /// as many names.
     ///
     /// NoMemory alone is refused.
     pub fn of<B: Coded>(
@@ -61,13 +65,14 @@ impl Status {
         journal: &Journal<B>,
         shelves: &Four<&Shelf<B::Shelf>>,
         extent: Extent,
+        fill: Fill,
     ) -> Result<Self, Refusal>
         requires kept { IsJournal B.meaning B.making B.collections B.whole B.fits journal.now }
         ensures told { (f : Four (ShelfState B.Shelf)) →
             IsBook B.meaning B.making B.collections B.whole B.fits journal.now f →
             ((w : Which) → (pick shelves.now w).now ≡ pick f w) →
             IfOk result (IsStatusOf (told_book B.collections (book_state B.whole journal.now f))
-            extent) }
+            extent fill) }
         ensures refusal { (f : Four (ShelfState B.Shelf)) →
             IsBook B.meaning B.making B.collections B.whole B.fits journal.now f →
             ((w : Which) → (pick shelves.now w).now ≡ pick f w) →
@@ -76,6 +81,7 @@ impl Status {
         Ok(Self {
             format: journal.format(),
             extent,
+            fill,
             live: journal.count_live(),
             waiting: journal.waiting(),
             next: journal.next(),
@@ -85,11 +91,13 @@ impl Status {
     }
 
     // The numbers that are told behind the format, with their names.
-    fn numbers(&self) -> [(&'static str, u64); 7] {
+    fn numbers(&self) -> [(&'static str, u64); 9] {
         [
             ("area", self.extent.area),
             ("in_use", u64::from(!self.extent.first)),
             ("used", self.extent.used),
+            ("checkpoint", self.fill.checkpoint),
+            ("full", self.fill.full),
             ("live", self.live as u64),
             ("waiting", self.waiting as u64),
             ("next", self.next),
@@ -131,6 +139,7 @@ impl<J: Naming, B: Coded> Desk<J, B> {
             journal,
             nears,
             extent,
+            budget,
             ..
         } = self;
         compare(&shelves.twins.first, &mut nears.first, &mut held.first);
@@ -143,7 +152,7 @@ impl<J: Naming, B: Coded> Desk<J, B> {
             third: shelf_of(&held.third),
             fourth: shelf_of(&held.fourth),
         };
-        Status::of(alloc, journal, &four, *extent)
+        Status::of(alloc, journal, &four, *extent, budget.fill())
     }
 }
 

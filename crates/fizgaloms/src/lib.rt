@@ -37,7 +37,7 @@ pub use opening::{OpenError, open_or_format};
 pub use std::alloc::AllocGlobal;
 pub use std::rt::Clock;
 pub use std::sync::Wait;
-pub use store::{Client, Extent, Measured, Naming, Status, Ticket};
+pub use store::{Client, Extent, Fill, Measured, Naming, Status, Ticket};
 pub use store_file::LockedFile;
 pub use values::{number_of, text_of, value_of_number, value_of_text};
 

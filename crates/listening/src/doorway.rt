@@ -391,6 +391,11 @@ impl<F: Fifos + Drop, E: Write + Drop> Work for Doorway<'_, F, E> {
         self.is_closed.store(true, Ordering::SeqCst);
         self.wake(rt, &self.door, u64::MAX, false);
     }
+
+    /// It is noted.
+    fn nearly_full<R: Wait + AllocGlobal>(&self, rt: &R, full: u64) {
+        self.notes.lock(rt).nearly_full(full);
+    }
 }
 
 // How many threads serve the clients, where such a time is set.

@@ -3,6 +3,7 @@ use crate::arrivals::Arrivals;
 use crate::coming::Coming;
 use crate::fifos::Fifos;
 use crate::handing::Handing;
+use crate::notes::Notes;
 use crate::seat::Seat;
 use crate::shell::Manner;
 use crate::tagged::Tagged;
@@ -31,7 +32,7 @@ const READ_SIZE: usize = 65_536;
 // The number of the file of standard input.
 const STANDARD_INPUT: i32 = 0;
 
-/// Clients that share standard input and an output. Each line of the input begins with its client,
+/// Clients that share standard input and an output, with notes on standard error. Each line of the input begins with its client,
 /// `c1 ` to `c64 `, and so does each answer. The lines of one client are carried out in their
 /// order, and those of different ones side by side. A line of no client is answered
 /// `- error NoClient`, and one that is too long `error LineTooLong`, to the client that it names. The
@@ -44,7 +45,7 @@ const STANDARD_INPUT: i32 = 0;
 /// long. Where a client was told that keeping has failed, no more input is read, which ends all
 /// clients: at once where the input is a pipe, and else behind what comes next.
 #[derive(Drop)]
-pub struct Multiplex<F, I, O> {
+pub struct Multiplex<F, I, O, E> {
     fifos: F,
     idle: Option<Duration>,
     manner: Manner,
@@ -58,17 +59,19 @@ pub struct Multiplex<F, I, O> {
     ended_by: OnceLock<Refusal>,
     input: Mutex<Option<I>>,
     output: Mutex<O>,
+    notes: Mutex<Notes<E>>,
     senders: Mutex<Option<Vec<Sender<Vec<u8>>>>>,
     receivers: Vec<Receiver<Vec<u8>>>,
 }
 
-impl<F: Fifos + Drop, I: Read + Drop, O: Write + Drop> Multiplex<F, I, O> {
+impl<F: Fifos + Drop, I: Read + Drop, O: Write + Drop, E: Write + Drop> Multiplex<F, I, O, E> {
     /// Clients that were not heard yet. Refused only for want of memory.
     pub fn new(
         alloc: Global,
         fifos: F,
         input: I,
         output: O,
+        notes: E,
         idle: Option<Duration>,
     ) -> Result<Self, AllocError> {
         let mut senders = Vec::new(alloc);
@@ -78,6 +81,7 @@ impl<F: Fifos + Drop, I: Read + Drop, O: Write + Drop> Multiplex<F, I, O> {
             senders.push(sender)?;
             receivers.push(receiver)?;
         }
+        let notes = Mutex::new(Notes::new(&fifos, notes));
         Ok(Self {
             fifos,
             idle,
@@ -89,6 +93,7 @@ impl<F: Fifos + Drop, I: Read + Drop, O: Write + Drop> Multiplex<F, I, O> {
             ended_by: OnceLock::new(),
             input: Mutex::new(Some(input)),
             output: Mutex::new(output),
+            notes,
             senders: Mutex::new(Some(senders)),
             receivers,
         })
@@ -102,6 +107,12 @@ impl<F: Fifos + Drop, I: Read + Drop, O: Write + Drop> Multiplex<F, I, O> {
             manner: Manner::Shell,
             ..self
         }
+    }
+
+    /// Where notes were written, for what is told at the end.
+    pub fn into_notes(self) -> E {
+        let Self { notes, .. } = self;
+        notes.into_inner().into_output()
     }
 
     /// How many threads serve them: one that reads, and one for each client.
@@ -176,7 +187,8 @@ impl<F: Fifos + Drop, I: Read + Drop, O: Write + Drop> Multiplex<F, I, O> {
     }
 }
 
-impl<F: Fifos + Drop, I: Read + Drop, O: Write + Drop> Work for Multiplex<F, I, O> {
+impl<F: Fifos + Drop, I: Read + Drop, O: Write + Drop, E: Write + Drop> Work
+    for Multiplex<F, I, O, E> {
     type Output = Result<(), Trouble>;
 
     /// The first thread hands the lines out, and each other one talks with its client.
@@ -203,5 +215,10 @@ impl<F: Fifos + Drop, I: Read + Drop, O: Write + Drop> Work for Multiplex<F, I, 
         let _noted = self.ended_by.try_set(refusal);
         self.is_lost.store(true, Ordering::SeqCst);
         let _woken = self.seat.wake(rt, rt.alloc(), &self.fifos, u64::MAX, false);
+    }
+
+    /// It is noted.
+    fn nearly_full<R: Wait + AllocGlobal>(&self, rt: &R, full: u64) {
+        self.notes.lock(rt).nearly_full(full);
     }
 }

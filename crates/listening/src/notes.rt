@@ -6,8 +6,8 @@ use std::io::{self, Write};
 // that nobody reads holds nobody up.
 const MOST: u64 = 200;
 
-/// Lines about who is passed over. Where standard error is a FIFO, 200 of them are written, and the
-/// others are dropped. What is no FIFO, as a file or a terminal, is told all.
+/// Lines about who is passed over, and about a store that is nearly full. Where standard error is a
+/// FIFO, 200 of them are written, and the others are dropped. What is no FIFO, as a file or a terminal, is told all.
 #[derive(Drop)]
 pub struct Notes<E> {
     output: E,
@@ -24,13 +24,34 @@ impl<E: Write> Notes<E> {
 
     /// Notes who is passed over, and why. Where it cannot be written, that changes nothing.
     pub fn passed_over(&mut self, word: &str, error: &io::Error) {
+        if self.takes_one() {
+            let _written = writeln!(self.output, "boost: passed over {word}: {error}");
+            self.end_line();
+        }
+    }
+
+    /// Notes that the store is full so far, in hundredths. Where it cannot be written, that changes
+    /// nothing.
+    pub fn nearly_full(&mut self, full: u64) {
+        if self.takes_one() {
+            let _written = writeln!(self.output, "boost: the store is {full} of 100 full");
+            self.end_line();
+        }
+    }
+
+    // Whether one more is written.
+    fn takes_one(&mut self) -> bool {
         if self.left == Some(0) {
-            return;
+            return false;
         }
         self.left = self.left.map(|left| left.saturating_sub(1));
-        let _written = writeln!(self.output, "boost: passed over {word}: {error}");
+        true
+    }
+
+    // Ends a note, and says where it was the last one.
+    fn end_line(&mut self) {
         if self.left == Some(0) {
-            let _written = writeln!(self.output, "boost: who else is passed over is not told");
+            let _written = writeln!(self.output, "boost: what else comes is not told");
         }
         let _flushed = self.output.flush();
     }

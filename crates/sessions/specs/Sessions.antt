@@ -64,8 +64,7 @@ answers_of (Some answer) = answer ∷ []
 module _ (o : Origin) where
   -- A collection is made.
   abbrev pub Makes : Known → List ℕ → Kind → Result Ticket Refusal → Known → Type 0
-  Makes old name kind r new = calls.Acts o old [] (Action.Make name kind (calls.placed r)) new ×
-      (new.phase ≡ old.phase)
+  Makes old name kind r new = calls.IsMade o old name kind r new × (new.phase ≡ old.phase)
 
   -- A transaction begins under a number that is drawn, unless one is open.
   abbrev pub Begins : Known → Result ℕ Refusal → Known → Type 0
@@ -77,9 +76,8 @@ module _ (o : Origin) where
 
   -- the transaction makes a call on the collection of a name
   abbrev pub Asks : List ℕ → Call → Known → Result Reply Refusal → Known → Type 0
-  Asks name call old r new = calls.Does o old.phase old
-      (λ n a. (found : Option ℕ) × (a ≡ Action.Call n (Target.Named name found) call r))
-      (λ e. r ≡ Err e) Phase.Entered new
+  Asks name call old r new = calls.DoesInRoom o old.phase old
+      (λ n a. (found : Option ℕ) × (a ≡ Action.Call n (Target.Named name found) call r)) r new
 
   -- It asks for an operation: a removal is tried as one of a map, and where the collection is none
   -- as one of a set.
@@ -93,9 +91,8 @@ module _ (o : Origin) where
 
   -- it puts a call off to the commit
   abbrev pub PutsOff : List ℕ → Call → Known → Result (Unit {0}) Refusal → Known → Type 0
-  PutsOff name call old r new = calls.Does o old.phase old
-      (λ n a. (found : Option ℕ) × (a ≡ Action.Later n (Target.Named name found) call r))
-      (λ e. r ≡ Err e) Phase.Entered new
+  PutsOff name call old r new = calls.DoesInRoom o old.phase old
+      (λ n a. (found : Option ℕ) × (a ≡ Action.Later n (Target.Named name found) call r)) r new
 
   -- it commits
   abbrev pub Commits : Known → Result Ticket Refusal → Known → Type 0

@@ -50,6 +50,7 @@ use Rattle.group_commit.proofs.numbers.DrawerMaker.TheSendSync as makers
 use Rattle.group_commit.proofs.twin.Twin.TheSendSync as twins
 use Rattle.group_commit.proofs.twin.TwinNear.TheSendSync as twin_nears
 use Rattle.group_commit.proofs.twin.TwinFar.TheSendSync as twin_fars
+use Rattle.desks.proofs.budget.Budget.TheSendSync as budgets
 use Rattle.desks.proofs.shelf_desk.ShelfDesk.TheSendSync as shelf_desks
 use Rattle.desks.proofs.signal.Signal.TheSendSync as signals
 use Rattle.clients.specs.contracts.client.Client as client
@@ -96,6 +97,7 @@ pub ruleset parts = (
   twins.the_sync,
   twin_nears.the_send,
   twin_fars.the_send,
+  budgets.the_send,
   shelf_desks.the_send,
   signals.the_sync,
 )
@@ -112,9 +114,12 @@ module _ (J : RattleType) (n : namings.Ghosts J.Denot) (J_send : IsSend J) (J_sy
   shelves_sync = struct_sync (shape (four_shelves.the_type J B P N T n b c p m s t))
       (search parts depth 80 fits 100000)
 
+  desk_send : IsSend (desk.the_row J B P N T n b c p m s t)
+  desk_send = search parts depth 80 fits 100000
+
   pub desk_sync : IsSync (lock.the_field (desk.the_row J B P N T n b c p m s t)).row
   desk_sync = struct_sync (shape (lock.the_type (desk.the_row J B P N T n b c p m s t)))
-      (search parts depth 80 fits 100000)
+      (search (parts, desk_send) depth 80 fits 100000)
 
   pub shared_sync : IsSync (shared.the_field J n).row
   shared_sync = struct_sync (shape (shared.the_type J n)) (search parts depth 80 fits 100000)

@@ -1,12 +1,12 @@
 // Checkpoints of a store that threads use.
-ghost use Rattle.std.specs.Prelude.{◌≡◌, IfErr};
+ghost use Rattle.std.specs.Prelude.{◌≡◌, IfErr, IfNone, IfSome};
 ghost use Rattle.store.specs.Turns.{CheckTells, IsCheckRefusal};
 
 use crate::gatherer::Gatherer;
 use crate::vault::{Vault, note_failure};
 use calls::Refusal;
 use catalog::Catalog;
-use desks::{Desk, Lock, Naming, Shared, Shelves};
+use desks::{Desk, Fill, Lock, Naming, Shared, Shelves};
 use disk_model::Disk;
 use group_commit::Watcher;
 use records::Coded;
@@ -114,16 +114,37 @@ impl<'s, D: Disk, J: Naming, B: Coded> Checkpointer<'s, D, J, B> {
         self.step(rt, true)
     }
 
+    /// How full the store is. It takes the journal's lock once.
+    pub fn fill<R: Wait>(&self, rt: &R) -> Fill {
+        let desk = self.desk;
+        desk.lock(rt).fill()
+    }
+
     // Writes a piece of the image, or makes it the store; else takes the next step towards one.
     fn step<R: Wait>(&mut self, rt: &R, leaves_room: bool) -> Result<Checkpoint, Refusal>
         ensures tells { CheckTells self.old result self.new }
         ensures refused { IfErr result IsCheckRefusal }
     {
-        let vault = self.vault;
-        if let Some(done) = vault.lock(rt).lay(self.shared, &mut self.watcher) {
+        if let Some(done) = self.lay(rt) {
             return done;
         }
         self.prepare(rt, leaves_room)
+    }
+
+    // Writes a piece of the image in progress, or makes it the store, and then the journal's side
+    // knows what the image takes. None where none is in progress.
+    fn lay<R: Wait>(&mut self, rt: &R) -> Option<Result<Checkpoint, Refusal>>
+        ensures some { IfSome result (λ r. CheckTells self.old r self.new) }
+        ensures refused { IfSome result (λ r. IfErr r IsCheckRefusal) }
+        ensures none { IfNone result (self.new ≡ self.old) }
+    {
+        let (desk, vault) = (self.desk, self.vault);
+        let mut vault = vault.lock(rt);
+        let done = vault.lay(self.shared, &mut self.watcher);
+        if let Some(Ok(Checkpoint::Flipped(_))) = &done {
+            desk.lock(rt).note_image(vault.extent());
+        }
+        done
     }
 
     // Takes the next step towards an image.

@@ -351,6 +351,7 @@ impl<J: Naming, B: Coded> Gatherer<J, B> {
         match frozen {
             Ok(()) => {
                 self.undoing = desk.undoing();
+                desk.note_freeze(self.undoing);
                 Ok(Checkpoint::Frozen)
             }
             Err(refusal) => {

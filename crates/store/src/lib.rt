@@ -66,6 +66,6 @@ mod vault;
 pub use checkpointing::{Checkpoint, Checkpointer};
 pub use clients::{Attempt, Client, Seen, Ticket, Transaction};
 pub use committing::Committer;
-pub use desks::{Extent, Measured, Naming, Signal, Status};
+pub use desks::{Extent, Fill, Measured, Naming, Signal, Status};
 pub use opened::Opened;
 pub use store::Store;

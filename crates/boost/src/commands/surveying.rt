@@ -8,6 +8,7 @@ ghost use Rattle.boost.specs.Commands.{IsOfStore};
 use crate::commands::failure::Failure;
 use calls::{Item, Kind, Name, check_name};
 use catalog::{Catalog, Shown};
+use desks::full_of;
 use record_format::{Record, encoded_len, fits_item};
 use recovery::Survey;
 use std::alloc::AllocError;
@@ -34,7 +35,7 @@ pub fn tell_survey<O: Write>(
 }
 
 // The numbers that are told, with their names.
-fn numbers_of(survey: &Survey) -> [(&'static str, u64); 12] {
+fn numbers_of(survey: &Survey) -> [(&'static str, u64); 13] {
     [
         ("format", u64::from(survey.format.number())),
         ("area", survey.area),
@@ -43,6 +44,7 @@ fn numbers_of(survey: &Survey) -> [(&'static str, u64); 12] {
         ("image", survey.image),
         ("journal", survey.journal),
         ("checkpoint", survey.checkpoint),
+        ("full", full_of(survey.checkpoint, survey.area)),
         ("undoing", survey.undoing),
         ("unfinished", survey.report.unfinished as u64),
         ("records", survey.report.records),

@@ -1,4 +1,4 @@
-use Rattle.std.proofs.Common.{Err, refl, ap}
+use Rattle.std.proofs.Common.{Err, refl, ap, inl, inr}
 use Rattle.std.proofs.lemmas.Result.{err_from_is_err_and}
 use Rattle.clients.proofs.Seeing.{does_entering, does_refused_so, entering_again}
 use Rattle.clients.proofs.client.Client.later.Goals as goal
@@ -6,22 +6,39 @@ use Rattle.clients.proofs.client.Client.later.Goals as goal
 pub returns-in_err-at-clause-step : goal.returns-in_err-at-clause-step
 returns-in_err-at-clause-step g c =
     let p = err_from_is_err_and c.from_residual.result c.from_residual.ensures.1 in
-    rw (p.1, p.2) (does_entering g.J.Naming c.args.self.now.phase c.args.self.now c.loop.self
+    rw (p.1, p.2) (inl (does_entering g.J.Naming c.args.self.now.phase c.args.self.now c.loop.self
     c.place_of_later.new.self _ _ _ refl c.loop.invariant
     (does_refused_so g.J.Naming c.loop.self.phase c.loop.self c.place_of_later.new.self _ _ _ _
-    (λ d is. ap Err is) c.in_err-at.ensures.err))
+    (λ d is. ap Err is) c.in_err-at.ensures.err)))
 
-pub returns-in-Some-later_at-clause-step : goal.returns-in-Some-later_at-clause-step
-returns-in-Some-later_at-clause-step g c = rw c.remember.ensures
-    (does_entering g.J.Naming c.args.self.now.phase c.args.self.now c.place_of_later.new.self
+pub returns-in-Ok-clause-step : goal.returns-in-Ok-clause-step
+returns-in-Ok-clause-step g c = rw c.remember.ensures
+    (inl (does_entering g.J.Naming c.args.self.now.phase c.args.self.now c.place_of_later.new.self
     c.later_at.new.self _ _ _ refl
     (entering_again g.J.Naming c.args.self.now.phase c.args.self.now c.loop.self
     c.place_of_later.new.self refl c.loop.invariant c.in_ok-at.ensures.ok)
-    c.in-Some-later_at.ensures.some)
+    c.in-Ok.ensures.done))
+
+pub returns-in-Err-NoRoom-clause-step : goal.returns-in-Err-NoRoom-clause-step
+returns-in-Err-NoRoom-clause-step g c = inr (
+  refl,
+  entering_again g.J.Naming c.args.self.now.phase c.args.self.now
+      c.place_of_later.new.self c.later_at.new.self refl
+      (entering_again g.J.Naming c.args.self.now.phase c.args.self.now c.loop.self
+      c.place_of_later.new.self refl c.loop.invariant c.in_ok-at.ensures.ok)
+      c.in-Err-NoRoom.ensures.miss,
+)
+
+pub loop-preserved-in-Err-Elsewhere : goal.loop-preserved-in-Err-Elsewhere
+loop-preserved-in-Err-Elsewhere g c = entering_again g.J.Naming c.args.self.now.phase c.args.self.now
+    c.place_of_later.new.self c.later_at.new.self refl
+    (entering_again g.J.Naming c.args.self.now.phase c.args.self.now c.loop.self
+    c.place_of_later.new.self refl c.loop.invariant c.in_ok-at.ensures.ok)
+    c.in-Err-Elsewhere.ensures.miss
 
 pub loop-preserved : goal.loop-preserved
 loop-preserved g c = entering_again g.J.Naming c.args.self.now.phase c.args.self.now
     c.place_of_later.new.self c.later_at.new.self refl
     (entering_again g.J.Naming c.args.self.now.phase c.args.self.now c.loop.self
     c.place_of_later.new.self refl c.loop.invariant c.in_ok-at.ensures.ok)
-    (c.in_default.ensures.none refl)
+    c.in-Err-NoRoomYet.ensures.miss

@@ -6,6 +6,7 @@ pub returns-clause-told : goal.returns-clause-told
 returns-clause-told g c f book same = record {
   format = c.format.ensures;
   filled = refl;
+  full = refl;
   live = c.count_live.ensures;
   waiting = c.waiting.ensures;
   next = c.next.ensures;
