@@ -640,6 +640,7 @@ import os, sys, signal, time
 sys.path.insert(0, %r)
 import boost
 os.setpgid(0, 0)
+signal.signal(signal.SIGINT, signal.default_int_handler)        # also where this tool runs in the background of a shell
 store = boost.start(%r, sys.argv[1])
 try:
     with store.transaction() as t:
@@ -710,6 +711,43 @@ def ways_of_being_away():
     return '; '.join('%s: %s' % (name, type(error.__cause__).__name__) for name, error in told.items())
 
 
+def last_words_of_a_child():
+    """Who is told that a child is gone is told what that wrote to its standard error, which this program's own has too; also where nobody
+    reads that, and where it is closed."""
+    program = '''
+import os, sys
+sys.path.insert(0, %r)
+import boost
+if sys.argv[2] == 'closed':
+    os.close(2)
+with boost.start(%r, sys.argv[1]) as store:
+    try:
+        boost.start(%r, sys.argv[1])
+    except boost.Gone as error:
+        print(error, flush=True)
+    print(store.do(('n', 'read')))
+''' % (CLIENT, PROGRAM, PROGRAM)
+    words = 'boost: another run has the file'
+    with tempfile.TemporaryDirectory() as room:
+        place = Place(room)
+        for how in ('read', 'full', 'closed'):
+            reader, writer = os.pipe()
+            if how == 'full':
+                os.set_blocking(writer, False)
+                with contextlib.suppress(BlockingIOError):
+                    while True:
+                        os.write(writer, b'x' * 4096)
+                os.set_blocking(writer, True)
+            ended = subprocess.run([sys.executable, '-c', program, place.disk, how], stdout=subprocess.PIPE, stderr=writer, text=True,
+                                   timeout=60)
+            os.close(writer)
+            told = ended.stdout.splitlines()
+            assert ended.returncode == 0 and len(told) == 2 and words in told[0] and told[1] == '[5]', (how, ended)
+            with open(reader, 'rb') as file:
+                assert (words.encode() in file.read()) == (how == 'read')
+    return told[0].replace(room, 'ROOM')
+
+
 def modes_of_fifos():
     """A client's FIFOs may be used by the group of a folder that the group may write into, and else by nobody else."""
     told = []
@@ -763,7 +801,7 @@ def causes():
 ATTACKS = (interrupted, stopped_while_it_waits, used_when_closed, closed_beside_calls, waits_for_a_job, long_lines, many_lines, answers_for_nobody,
            threads_that_come_and_go, no_client_is_free, died_in_a_transaction, dropped_stores, stands_still, hello_that_never_comes,
            comes_back, comes_back_as_a_child, cut_lines, words_that_are_none, forked_from_a_parent, forked_from_a_client,
-           ctrl_c_at_a_terminal, nothing_is_left, ways_of_being_away, modes_of_fifos, causes)
+           ctrl_c_at_a_terminal, nothing_is_left, ways_of_being_away, last_words_of_a_child, modes_of_fifos, causes)
 
 
 def make(attack):

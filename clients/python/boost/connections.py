@@ -34,6 +34,8 @@ SLICE = 0.5
 
 FORKED = 'a store is of no use over a fork: join its server anew'
 CLOSED_STORE = 'the store was closed'
+# How many bytes of a child's last words are kept.
+LAST_WORDS = 1000
 
 
 # ---- forks
@@ -378,12 +380,12 @@ class Answers:
             self.free.put(number)
         self.is_over = False
 
-    def read(self, output: Any) -> None:
+    def read(self, output: Any, errors: 'Errors') -> None:
         """Reads up to the end. What stands behind the last line feed is no answer."""
         rest = b''
         try:
-            with output:
-                for data in iter(lambda: output.read(READ), b''):
+            with output, contextlib.closing(errors):
+                for data in errors.heard_beside(output):
                     *lines, rest = (rest + data).split(b'\n')
                     for line in lines:
                         self.hand_out(line.decode(errors='replace'))
@@ -408,6 +410,71 @@ class Answers:
             answers.put(None)
 
 
+class Errors:
+    """The standard error of a child. What comes is written to that of this program, but where there is no room for it at once; and the
+    last words are kept, so that who is told that the child is gone is told why."""
+
+    def __init__(self, read: Any) -> None:
+        self.read, self.words = read, b''
+        self.own: Optional[io.FileIO] = None
+        os.set_blocking(read.fileno(), False)
+        with contextlib.suppress(OSError):                          # it is closed, or no descriptor is left
+            self.own = io.FileIO(os.dup(2), 'wb')
+
+    def heard_beside(self, output: Any) -> Iterator[bytes]:
+        """Yields what comes from an output, up to its end, and hears meanwhile."""
+        both = select.poll()
+        both.register(output, select.POLLIN)
+        both.register(self.read, select.POLLIN)
+        while True:
+            ready = {number for number, _ in both.poll()}
+            if self.read.fileno() in ready and not self.hear():
+                both.unregister(self.read)
+            if output.fileno() in ready:
+                data = output.read(READ)
+                if not data:
+                    break
+                yield data
+        self.hear()
+
+    def hear(self) -> bool:
+        """Takes what has come, as much as a pipe holds. Whether more may come."""
+        data = self.read.read(READ)
+        if data:
+            self.words = (self.words + data)[-LAST_WORDS:]
+            with contextlib.suppress(OSError):
+                self.hand_on(data)
+        return data != b''
+
+    def hand_on(self, data: bytes) -> None:
+        if self.own is not None:
+            room = select.poll()
+            room.register(self.own, select.POLLOUT)
+            while data and room.poll(0):
+                data = data[os.write(self.own.fileno(), data[:select.PIPE_BUF]):]
+
+    def last(self) -> str:
+        """The lines of the last words, in one."""
+        return ' / '.join(line.strip() for line in self.words.decode(errors='replace').splitlines() if line.strip())
+
+    def close(self) -> None:
+        self.read.close()
+        if self.own is not None:
+            self.own.close()
+
+
+def status_of(number: int) -> Optional[int]:
+    """The status with which the child of this number has ended, as `subprocess` tells it, and none while it runs. It is still to be
+    waited for. A lock, which an interrupt in the wrong moment would leave taken for ever, is not taken, as it is by `Popen.poll`."""
+    try:
+        ended = os.waitid(os.P_PID, number, os.WEXITED | os.WNOHANG | os.WNOWAIT)
+    except ChildProcessError:                                       # this program is told of no child's end
+        return 0
+    if ended is None:
+        return None
+    return ended.si_status if ended.si_code == os.CLD_EXITED else -ended.si_status
+
+
 class Child:
     """A server that was started as a child, and where it comes back another one behind it. It ends with the store that has it,
     also where nobody closes that. In a session of its own no Ctrl-C of a terminal ends it."""
@@ -415,19 +482,21 @@ class Child:
     def __init__(self, words: List[str], patience: float, comes_back: bool) -> None:
         self.words, self.patience, self.comes_back = words, patience, comes_back
         self.process: Optional['subprocess.Popen[bytes]'] = None
-        self.starting, self.lock = threading.Lock(), threading.RLock()
+        self.lock = threading.RLock()
+        self.starting = threading.Lock()                            # held by the one who starts it, who put it here
         OWNERS.add(self)
         self.begin()
 
     def begin(self) -> None:
         try:
             with OPENING:
-                self.process = subprocess.Popen(self.words, stdin=subprocess.PIPE, stdout=subprocess.PIPE, bufsize=0,
-                                                start_new_session=True)
+                self.process = subprocess.Popen(self.words, stdin=subprocess.PIPE, stdout=subprocess.PIPE, stderr=subprocess.PIPE,
+                                                bufsize=0, start_new_session=True)
+                self.errors = Errors(self.process.stderr)
         except OSError as error:
             raise Gone('no server can be started: %s' % error) from error
         answers = Answers()
-        self.reader = threading.Thread(target=answers.read, args=(self.process.stdout,), daemon=True)
+        self.reader = threading.Thread(target=answers.read, args=(self.process.stdout, self.errors), daemon=True)
         try:
             os.set_blocking(self.input.fileno(), False)
             self.reader.start()
@@ -450,36 +519,55 @@ class Child:
             with contextlib.suppress(queue.Empty):
                 hello = answers.hello.get(timeout=max(0.0, min(SLICE, left)))
                 if hello != HELLO:
-                    raise Gone('the server did not start, with %s: its standard error says why' % self.status())
+                    raise Gone('the server did not start, with %s' % self.status())
             if left <= 0 and not hello:
                 raise TimedOut('the server did not say hello within %g seconds' % self.patience)
         del answers.of[0]
 
     def status(self) -> str:
-        """How it ended, where it has or is about to."""
-        assert self.process
-        try:
-            return 'status %d' % self.process.wait(1)
-        except subprocess.TimeoutExpired:
-            return 'no status'
+        """How it ended, where it has or is about to, and its last words."""
+        ended, words = self.ended_within(1), self.errors.last()
+        return ('no status' if ended is None else 'status %d' % ended) + (words and ': ' + words)
+
+    def ended_within(self, seconds: float) -> Optional[int]:
+        """The status with which it ends within so many seconds."""
+        end, pause = time.monotonic() + seconds, 0.0005
+        while self.process is not None:
+            status = status_of(self.process.pid) if self.process.returncode is None else self.process.returncode
+            left = end - time.monotonic()
+            if status is not None or left <= 0:
+                return status
+            time.sleep(min(pause, left))
+            pause = min(2 * pause, 0.05)
+        return None
 
     def serving(self, seconds: float) -> Answers:
-        """What the child answers that serves within so many seconds."""
-        if not self.starting.acquire(timeout=min(seconds, threading.TIMEOUT_MAX)):
-            raise NotServed('the server did not start within %g seconds' % seconds)
-        try:
+        """What the child answers that serves within so many seconds. One at a time starts it: whoever holds the lock that stands in
+        `starting`, and so nobody any more whose work was broken off."""
+        turn = threading.Lock()
+        with turn:
+            end = time.monotonic() + seconds
+            while not self.takes_turn(turn):
+                if time.monotonic() >= end:
+                    raise NotServed('the server did not start within %g seconds' % seconds)
+                time.sleep(0.01)
             if self.has_ended(self.answers):
                 if not self.comes_back:
                     raise Gone('the server ended, with %s' % self.status())
                 self.kill()
                 self.begin()
             return self.answers
-        finally:
-            self.starting.release()
+
+    def takes_turn(self, turn: threading.Lock) -> bool:
+        with self.lock:
+            is_free = not self.starting.locked()
+            if is_free:
+                self.starting = turn
+        return is_free
 
     def has_ended(self, answers: Answers) -> bool:
         """Whether the server has ended that gives these answers, also where their reader has not come to the end of them yet."""
-        return answers.is_over or answers is self.answers and self.process is not None and self.process.poll() is not None
+        return answers.is_over or answers is self.answers and self.ended_within(0) is not None
 
     def write(self, answers: Answers, lines: bytes, pause: float = 0.0) -> bool:
         """Writes lines that go into a pipe at once or not at all. Where there is no room it waits for some, so many seconds."""
@@ -516,22 +604,31 @@ class Child:
                 self.input.close()
         if self.reader is threading.current_thread():               # the last that had it was dropped there
             return 0
-        with contextlib.suppress(subprocess.TimeoutExpired):
-            self.process.wait(None if timeout == float('inf') else timeout)
+        self.ended_within(timeout)
         return self.kill()
 
     def kill(self) -> int:
-        """Makes sure that it has ended, and that nothing of it is left."""
+        """Makes sure that it has ended, and that nothing of it is left; but of one that stands still in the kernel a signal is."""
         assert self.process and self.process.stdout
-        if self.process.poll() is None:
+        status = self.ended_within(0)
+        if status is None:
             with contextlib.suppress(ProcessLookupError):
                 os.killpg(self.process.pid, signal.SIGKILL)
+            status = self.ended_within(1)
         self.input.close()
         if self.reader.ident:
             self.reader.join(1)
         else:
             self.process.stdout.close()
-        return self.process.wait()
+            self.errors.close()
+        if status is None:
+            return -signal.SIGKILL
+        with self.lock:
+            if self.process.returncode is None:
+                self.process.returncode = status
+                with contextlib.suppress(ChildProcessError):
+                    os.waitpid(self.process.pid, 0)
+        return status
 
     def __del__(self) -> None:
         if self.process and self.process.returncode is None and not sys.is_finalizing():
@@ -543,6 +640,7 @@ class Child:
         if process and process.stdin and process.stdout:
             process.stdin.close()
             process.stdout.close()
+            self.errors.close()
             process.returncode = 0
 
 
