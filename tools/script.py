@@ -1,6 +1,8 @@
 #!/usr/bin/env python3
-"""script.py: tries the script `boost` itself: its words that the program does not know, and what it makes of a folder for `listen`."""
+"""script.py: tries the script `boost` itself: its words that the program does not know, what it makes of a folder for `listen`, and
+where it can unpack and build nothing."""
 import os
+import shutil
 import stat
 import subprocess
 import sys
@@ -54,11 +56,31 @@ def a_door(room):
     server.stderr.close()
 
 
+def nothing_can_be_written(room):
+    """Where the program cannot be unpacked, as the folder is another user's, that is told in a line, with the status of the script."""
+    for name in ('tools', 'release', 'crates.txt', 'HANDLES'):
+        os.symlink(os.path.join(TOP, name), os.path.join(room, name))
+    for name in os.listdir(os.path.join(TOP, 'crates')):
+        os.makedirs(os.path.join(room, 'crates', name))
+        for part in os.listdir(os.path.join(TOP, 'crates', name)):
+            if part != 'out':
+                os.symlink(os.path.join(TOP, 'crates', name, part), os.path.join(room, 'crates', name, part))
+    open(os.path.join(room, 'crates', 'boost_main', 'out'), 'w', encoding='utf-8').close()
+    script = shutil.copy(BOOST, room)
+    for name, why in (('release', 'boost: the program cannot be unpacked: '), ('nothing', 'boost: the program was not built: ')):
+        if name == 'nothing':
+            os.unlink(os.path.join(room, 'release'))
+        done = subprocess.run([script, '--quiet', '--version'], stdout=subprocess.PIPE, stderr=subprocess.PIPE, text=True, timeout=30,
+                              check=False)
+        expect(done.returncode == 5 and done.stderr.startswith(why) and done.stderr.count('\n') == 1, done)
+
+
 def main():
     words_of_the_script()
-    with tempfile.TemporaryDirectory() as room:
-        a_door(room)
-    print('the words of the script, and its door')
+    for check in (a_door, nothing_can_be_written):
+        with tempfile.TemporaryDirectory() as room:
+            check(room)
+    print('the words of the script, its door, and a folder that cannot be written')
 
 
 if __name__ == '__main__':
