@@ -97,6 +97,10 @@ static void lines_that_are_none(void)
     is_answered(store, "status\nc1 make counter none", "error NotUnderstood");
     is_answered(store, "do signals read", "total 200");
     must(boost_close(store) == 0, "the status behind lines");
+    const char *none[] = { "", " ", "stock; credit", "a;", "a b", "a\n", "a\r", "\177", "\303\244", "read; credit fill 7 1" };
+    for (size_t at = 0; at < sizeof none / sizeof *none; at++)
+        must(!boost_is_word(none[at]), "a text that is no word");
+    must(boost_is_word("a") && boost_is_word("orders_2026-11.x") && boost_is_word("18446744073709551615") && boost_is_word("-"), "a word");
     printf("lines_that_are_none: not sent\n");
 }
 

@@ -188,6 +188,14 @@ const char *boost_ask(struct boost *store, const char *format, ...)
     return answer;
 }
 
+int boost_is_word(const char *text)
+{
+    size_t size = strlen(text), at = 0;
+    while (at < size && text[at] > ' ' && text[at] < 127 && text[at] != ';')
+        at++;
+    return size > 0 && at == size;
+}
+
 void boost_set_timeout(struct boost *store, int seconds)
 {
     store->timeout = seconds > 0 ? seconds : 0;

@@ -45,6 +45,10 @@ void boost_set_timeout(struct boost *store, int seconds);
  * answer is ever taken for that of another line. */
 const char *boost_ask(struct boost *store, const char *format, ...) __attribute__((format(printf, 2, 3)));
 
+/* Whether a text is one word of a line: printing characters of ASCII, none of which is a space or a semicolon. Look at each text that
+ * comes from elsewhere before it goes into a line: one with `; ` in it would bring a call of its own. Numbers and boost_hex are words. */
+int boost_is_word(const char *text);
+
 /* Asks again while another transaction is in the way, for so many seconds: for a `do` or a `keep` with calls. The last answer. */
 const char *boost_try(struct boost *store, int seconds, const char *format, ...) __attribute__((format(printf, 3, 4)));
 
