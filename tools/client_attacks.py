@@ -198,6 +198,48 @@ def interrupted(place, store):
     return '%d interrupts' % hit
 
 
+def living_children():
+    """The children of this process that have not ended, those of `subprocess` that were given up too."""
+    words = subprocess.run(['ps', '--ppid', str(os.getpid()), '-o', 'stat=,comm='], stdout=subprocess.PIPE, text=True, check=False).stdout
+    return [line for line in words.splitlines() if not line.startswith('Z') and not line.endswith(' ps')]
+
+
+def interrupted_starts():
+    """An exception at any moment of a start and of a close leaves no server, no thread and no descriptor, and holds nobody up."""
+    random.seed(2)
+    hit = 0
+    with tempfile.TemporaryDirectory() as room:
+        place = Place(room)
+        before, began = (descriptors(), threading.active_count()), time.monotonic()
+        with boost.start(PROGRAM, place.disk) as store:
+            store.do(('n', 'read'))
+        usual = time.monotonic() - began
+        for _ in range(150):
+            began = time.monotonic()
+            try:
+                try:
+                    interrupt_in(random.uniform(0.001, 1.2 * usual))
+                    with boost.start(PROGRAM, place.disk, patience=20) as store:
+                        store.do(('n', 'read'))
+                finally:
+                    interrupt_no_more()
+            except Interrupted:
+                interrupt_no_more()
+                hit += 1
+            except boost.Gone as error:
+                assert 'another run has the file' in str(error), error           # that of one whose start was broken off
+            assert time.monotonic() - began < usual + 5
+            store = None
+            gc.collect()
+        end = time.monotonic() + 10
+        while living_children() and time.monotonic() < end:
+            time.sleep(0.1)
+        assert (living_children(), descriptors(), threading.active_count()) == ([], *before), (living_children(), descriptors(), before)
+        with boost.start(PROGRAM, place.disk) as store:
+            assert store.do(('n', 'read'), ('other', 'read')) == [5, 1000]
+    return '%d interrupts' % hit
+
+
 def stopped_while_it_waits():
     """An alarm while an answer is awaited: the client comes back by itself, and a transaction says that it is gone."""
     told = []
@@ -798,10 +840,11 @@ def causes():
     return '%s / %s' % (lost, not_understood)
 
 
-ATTACKS = (interrupted, stopped_while_it_waits, used_when_closed, closed_beside_calls, waits_for_a_job, long_lines, many_lines, answers_for_nobody,
-           threads_that_come_and_go, no_client_is_free, died_in_a_transaction, dropped_stores, stands_still, hello_that_never_comes,
-           comes_back, comes_back_as_a_child, cut_lines, words_that_are_none, forked_from_a_parent, forked_from_a_client,
-           ctrl_c_at_a_terminal, nothing_is_left, ways_of_being_away, last_words_of_a_child, modes_of_fifos, causes)
+ATTACKS = (interrupted, interrupted_starts, stopped_while_it_waits, used_when_closed, closed_beside_calls, waits_for_a_job, long_lines,
+           many_lines, answers_for_nobody, threads_that_come_and_go, no_client_is_free, died_in_a_transaction, dropped_stores,
+           stands_still, hello_that_never_comes, comes_back, comes_back_as_a_child, cut_lines, words_that_are_none,
+           forked_from_a_parent, forked_from_a_client, ctrl_c_at_a_terminal, nothing_is_left, ways_of_being_away, last_words_of_a_child,
+           modes_of_fifos, causes)
 
 
 def make(attack):

@@ -482,29 +482,30 @@ class Child:
     def __init__(self, words: List[str], patience: float, comes_back: bool) -> None:
         self.words, self.patience, self.comes_back = words, patience, comes_back
         self.process: Optional['subprocess.Popen[bytes]'] = None
+        self.reader: Optional[threading.Thread] = None
         self.lock = threading.RLock()
         self.starting = threading.Lock()                            # held by the one who starts it, who put it here
         OWNERS.add(self)
         self.begin()
 
     def begin(self) -> None:
+        self.reader, answers = None, Answers()
         try:
-            with OPENING:
-                self.process = subprocess.Popen(self.words, stdin=subprocess.PIPE, stdout=subprocess.PIPE, stderr=subprocess.PIPE,
-                                                bufsize=0, start_new_session=True)
-                self.errors = Errors(self.process.stderr)
-        except OSError as error:
-            raise Gone('no server can be started: %s' % error) from error
-        answers = Answers()
-        self.reader = threading.Thread(target=answers.read, args=(self.process.stdout, self.errors), daemon=True)
-        try:
+            try:
+                with OPENING:
+                    self.process = subprocess.Popen(self.words, stdin=subprocess.PIPE, stdout=subprocess.PIPE, stderr=subprocess.PIPE,
+                                                    bufsize=0, start_new_session=True)
+                    self.errors = Errors(self.process.stderr)
+            except OSError as error:
+                raise Gone('no server can be started: %s' % error) from error
+            self.reader = threading.Thread(target=answers.read, args=(self.process.stdout, self.errors), daemon=True)
             os.set_blocking(self.input.fileno(), False)
             self.reader.start()
             self.hear_hello(answers)
+            self.answers = answers
         except BaseException:
             self.kill()
             raise
-        self.answers = answers
 
     @property
     def input(self) -> Any:
@@ -580,7 +581,7 @@ class Child:
             except BlockingIOError:
                 room.register(self.input, select.POLLOUT)
             except OSError as error:
-                if self.reader is not threading.current_thread():
+                if self.reader and self.reader is not threading.current_thread():
                     self.reader.join(1)                             # then the next call knows that this one is over
                 raise Gone('the server ended, with %s' % self.status()) from error
         room.poll(pause * 1000)
@@ -609,25 +610,32 @@ class Child:
 
     def kill(self) -> int:
         """Makes sure that it has ended, and that nothing of it is left; but of one that stands still in the kernel a signal is."""
-        assert self.process and self.process.stdout
+        if self.process is None:
+            return 0
+        assert self.process.stdout and self.process.stderr
         status = self.ended_within(0)
         if status is None:
             with contextlib.suppress(ProcessLookupError):
                 os.killpg(self.process.pid, signal.SIGKILL)
             status = self.ended_within(1)
         self.input.close()
-        if self.reader.ident:
+        for _ in range(20):                                         # where its start was broken off it may come yet
+            if self.reader and not self.reader.ident:
+                time.sleep(0.005)
+        if self.reader and self.reader.ident:
             self.reader.join(1)
         else:
             self.process.stdout.close()
-            self.errors.close()
+            self.process.stderr.close()
         if status is None:
             return -signal.SIGKILL
         with self.lock:
             if self.process.returncode is None:
                 self.process.returncode = status
-                with contextlib.suppress(ChildProcessError):
+                try:
                     os.waitpid(self.process.pid, 0)
+                except ChildProcessError:
+                    pass
         return status
 
     def __del__(self) -> None:
