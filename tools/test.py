@@ -28,6 +28,7 @@ TESTS = {
     'listeners': ['tools/listeners.py', BOOST, '20'],
     'the script boost': ['tools/script.py'],
     'closed streams': ['tools/closed_streams.py', PROGRAM],
+    'paths and scripts that mean harm': ['tools/attacks.py', PROGRAM],
     'the door': ['tools/door_attacks.py', PROGRAM],
     'the client in Python': ['-m', 'unittest', 'discover', '-s', 'clients/python/tests'],
     'attacks on the client in Python': ['tools/client_attacks.py', BOOST],
