@@ -176,10 +176,20 @@ def descriptors():
 # ---- attacks
 
 
+def with_all_held(store):
+    """How many descriptors there are while all 64 clients of a store have a transaction."""
+    gc.collect()
+    with contextlib.ExitStack() as held:
+        for _ in range(64):
+            held.enter_context(store.transaction(timeout=20))
+        return descriptors()
+
+
 @in_each_way
 def interrupted(place, store):
-    """An exception at any moment of a call gives no later call the answer of another one."""
+    """An exception at any moment of a call gives no later call the answer of another one, and costs no client and no descriptor."""
     store.do(('n', 'read'))
+    before = with_all_held(store)
     random.seed(1)
     hit = 0
     for turn in range(300):
@@ -195,6 +205,7 @@ def interrupted(place, store):
         assert store.do(('other', 'read')) == [1000] and store.do(('n', 'read')) == [5], turn
         assert store.keep(lambda t: (t.call('n', 'bump', 0), t.call('other', 'read'))) == (None, 1000)
     assert store.status().live == 0
+    assert with_all_held(store) == before
     return '%d interrupts' % hit
 
 

@@ -14,7 +14,8 @@ import sys
 import threading
 import time
 import weakref
-from typing import Any, Iterator, List, Optional, Sequence, Set, Union
+from _thread import start_new_thread
+from typing import Any, Callable, Iterator, List, Optional, Sequence, Set, Union
 
 from .errors import Closed, Error, Gone, NotServed, TimedOut
 from .lines import LONGEST, batches, bytes_of_line
@@ -54,6 +55,40 @@ def give_up() -> None:
 
 
 os.register_at_fork(before=OPENING.acquire, after_in_parent=OPENING.release, after_in_child=give_up)
+
+
+# ---- signals
+
+
+def apart(work: Callable[[], Any]) -> None:
+    """Does what opens descriptors or makes a process where no handler of a signal breaks it off between that and its owner's knowing of
+    them: handlers run in the main thread alone, which waits meanwhile. The work is short. What it raises is raised here."""
+    failed: List[BaseException] = []
+    ended: 'queue.SimpleQueue[None]' = queue.SimpleQueue()
+    is_over: List[None] = []
+
+    def do() -> None:
+        try:
+            work()
+        except BaseException as error:
+            failed.append(error)
+        is_over.append(None)
+        ended.put(None)
+
+    if threading.current_thread() is not threading.main_thread():
+        return work()
+    try:
+        start_new_thread(do, ())
+        ended.get()
+    except RuntimeError:                                            # no thread can be had
+        return work()
+    finally:
+        for _ in range(1000):                                       # where the waiting was broken off
+            if is_over or failed:
+                break
+            time.sleep(0.001)
+    if failed:
+        raise failed[0]
 
 
 # ---- connections
@@ -175,8 +210,10 @@ class Connection:
 class Stream(Connection):
     """A client that writes its lines into one descriptor, and reads its answers from one: which may be the same."""
 
+    open: List[Any] = []
+
     def __init__(self, timeout: float) -> None:
-        self.open: List[Any] = []                  # what is closed once it is let go
+        self.open = []                             # what is closed once it is let go
         super().__init__(timeout)
         self.to = self.answers = -1
         self.buffer = bytearray()
@@ -257,9 +294,7 @@ class Pipes(Stream):
 
     def meet(self, seconds: float) -> None:
         try:
-            with OPENING:
-                held = [self.make_fifo(path) for path in self.paths]
-                self.open_both(*held)
+            apart(self.open_fifos)
             self.say_hello(min(seconds, self.patience))
             for file in self.open[:2]:
                 file.close()
@@ -270,6 +305,11 @@ class Pipes(Stream):
             for path in self.paths:                # the server has removed them, unless it never came
                 with contextlib.suppress(OSError):
                     os.unlink(path)
+
+    def open_fifos(self) -> None:
+        with OPENING:
+            held = [self.make_fifo(path) for path in self.paths]
+            self.open_both(*held)
 
     def make_fifo(self, path: str) -> int:
         """Makes a FIFO, and opens it for both ways, which waits for nobody. It is for the group of the folder too where that may
@@ -311,7 +351,7 @@ class Pipes(Stream):
         end = time.monotonic() + patience
         while True:
             with contextlib.suppress(BlockingIOError):              # the door is full
-                self.ask_door(hello)                                # later nothing: has the server died?
+                apart(lambda: self.ask_door(hello))                 # later nothing: has the server died?
                 hello = b''
             left = end - time.monotonic()
             if self.fill(max(0.0, min(0.05 if hello else SLICE, left))):
@@ -339,9 +379,8 @@ class Socket(Stream):
         patience = min(seconds, self.patience)
         end = time.monotonic() + patience
         try:
-            with OPENING:
-                connected = socket.socket(socket.AF_UNIX, socket.SOCK_STREAM | socket.SOCK_CLOEXEC | socket.SOCK_NONBLOCK)
-                self.open.append(connected)
+            apart(self.open_socket)
+            connected = self.open[0]
             while not self.is_connected(connected):
                 if time.monotonic() >= end:
                     raise NotServed('the gate at %s took nobody within %g seconds' % (self.path, patience))
@@ -358,6 +397,10 @@ class Socket(Stream):
         except Gone as error:
             raise Gone('the gate at %s let this program go: %s' % (self.path, error)) from error
 
+    def open_socket(self) -> None:
+        with OPENING:
+            self.open.append(socket.socket(socket.AF_UNIX, socket.SOCK_STREAM | socket.SOCK_CLOEXEC | socket.SOCK_NONBLOCK))
+
     def is_connected(self, connected: socket.socket) -> bool:
         """Connects, but where as many wait already as a socket lets wait."""
         try:
@@ -369,29 +412,94 @@ class Socket(Stream):
 
 class Answers:
     """What a child answers, which a thread of its own reads and hands out to the clients by their numbers. 0 hears the hello. A
-    number is taken from when it is given to a client until a bye is said for it, as that client is gone."""
+    client has its number as long as the queue lives into which its answers go. Then the thread says a bye for the number, which is free
+    once that is answered: so no client gets an answer to what another one asked. The thread alone does that, as no signal breaks it off;
+    it is rung up where it has to look."""
 
-    def __init__(self) -> None:
+    def __init__(self, lock: Any) -> None:
+        self.lock = lock                           # that of the child's input, and of the bell
         self.hello: 'queue.SimpleQueue[Optional[str]]' = queue.SimpleQueue()
         self.of: 'weakref.WeakValueDictionary[int, queue.SimpleQueue[Optional[str]]]' = weakref.WeakValueDictionary({0: self.hello})
-        self.taken: Set[int] = set()
-        self.free: 'queue.SimpleQueue[int]' = queue.SimpleQueue()
-        for number in range(1, CLIENTS + 1):
-            self.free.put(number)
+        self.free, self.leaving = set(range(1, CLIENTS + 1)), set()    # type: Set[int], Set[int]
+        self.bell: List[io.FileIO] = []
         self.is_over = False
 
-    def read(self, output: Any, errors: 'Errors') -> None:
+    def take(self, answers: 'queue.SimpleQueue[Optional[str]]') -> int:
+        """A number for the client of these answers, and 0 where none is free. It is never neither free nor theirs."""
+        with self.lock:
+            number = min(self.free, default=0)
+            if number:
+                self.of[number] = answers
+                self.free.discard(number)
+        return number
+
+    def has_gone(self) -> bool:
+        """Whether a client seems to be gone for whose number no bye was said."""
+        return len(self.free) + len(self.leaving) + len(self.of) < CLIENTS
+
+    def hang_bell(self) -> None:
+        for number, mode in zip(os.pipe2(os.O_CLOEXEC | os.O_NONBLOCK), ('rb', 'wb')):
+            self.bell.append(io.FileIO(number, mode))
+
+    def ring(self) -> None:
+        with self.lock, contextlib.suppress(BlockingIOError):
+            if self.bell and not self.bell[1].closed:
+                os.write(self.bell[1].fileno(), b'.')
+
+    def close(self) -> None:
+        with self.lock:
+            for file in self.bell:
+                file.close()
+
+    def read(self, child_input: Any, output: Any, errors: 'Errors') -> None:
         """Reads up to the end. What stands behind the last line feed is no answer."""
         rest = b''
         try:
-            with output, contextlib.closing(errors):
-                for data in errors.heard_beside(output):
+            with output, contextlib.closing(errors), contextlib.closing(self):
+                for data in self.coming(child_input, output, errors):
                     *lines, rest = (rest + data).split(b'\n')
                     for line in lines:
                         self.hand_out(line.decode(errors='replace'))
         finally:
             self.is_over = True
             self.tell_all()
+
+    def coming(self, child_input: Any, output: Any, errors: 'Errors') -> Iterator[bytes]:
+        """Yields what comes from the output, up to its end. Meanwhile it hears errors, and says byes."""
+        bell, wait = self.bell[0], None
+        watched = select.poll()
+        for file in (output, errors.read, bell):
+            watched.register(file, select.POLLIN)
+        while True:
+            ready = {number for number, _ in watched.poll(wait)}
+            if errors.read.fileno() in ready and not errors.hear():
+                watched.unregister(errors.read)
+            if output.fileno() in ready:
+                data = output.read(READ)
+                if not data:
+                    break
+                yield data
+            if bell.fileno() in ready:
+                bell.read(READ)
+            if wait or bell.fileno() in ready or self.has_gone():
+                wait = None if self.say_byes(child_input) else 50
+        errors.hear()
+
+    def say_byes(self, child_input: Any) -> bool:
+        """Lets the clients go that are gone. Whether there was room to say so."""
+        for number in range(1, CLIENTS + 1):
+            if number in self.free or number in self.leaving or number in self.of:
+                continue
+            with self.lock:
+                try:
+                    if not child_input.closed:
+                        os.write(child_input.fileno(), b'c%d bye\n' % number)
+                except BlockingIOError:
+                    return False
+                except OSError:                                     # it ends
+                    pass
+                self.leaving.add(number)
+        return True
 
     def hand_out(self, line: str) -> None:
         tag, _, answer = line.partition(' ')
@@ -401,8 +509,10 @@ class Answers:
             answers.put(answer)
         elif number == 0:
             self.tell_all()                        # one of them misses its answer, and nobody knows which
-        elif answer == 'bye':
-            self.free.put(number)
+        elif answer == 'bye' and number in self.leaving:
+            with self.lock:
+                self.leaving.discard(number)
+                self.free.add(number)
 
     def tell_all(self) -> None:
         """Tells all clients that what they wait for does not come."""
@@ -420,22 +530,6 @@ class Errors:
         os.set_blocking(read.fileno(), False)
         with contextlib.suppress(OSError):                          # it is closed, or no descriptor is left
             self.own = io.FileIO(os.dup(2), 'wb')
-
-    def heard_beside(self, output: Any) -> Iterator[bytes]:
-        """Yields what comes from an output, up to its end, and hears meanwhile."""
-        both = select.poll()
-        both.register(output, select.POLLIN)
-        both.register(self.read, select.POLLIN)
-        while True:
-            ready = {number for number, _ in both.poll()}
-            if self.read.fileno() in ready and not self.hear():
-                both.unregister(self.read)
-            if output.fileno() in ready:
-                data = output.read(READ)
-                if not data:
-                    break
-                yield data
-        self.hear()
 
     def hear(self) -> bool:
         """Takes what has come, as much as a pipe holds. Whether more may come."""
@@ -479,26 +573,26 @@ class Child:
     """A server that was started as a child, and where it comes back another one behind it. It ends with the store that has it,
     also where nobody closes that. In a session of its own no Ctrl-C of a terminal ends it."""
 
+    process: Optional['subprocess.Popen[bytes]'] = None
+    reader: Optional[threading.Thread] = None
+
     def __init__(self, words: List[str], patience: float, comes_back: bool) -> None:
         self.words, self.patience, self.comes_back = words, patience, comes_back
-        self.process: Optional['subprocess.Popen[bytes]'] = None
-        self.reader: Optional[threading.Thread] = None
         self.lock = threading.RLock()
         self.starting = threading.Lock()                            # held by the one who starts it, who put it here
         OWNERS.add(self)
         self.begin()
 
     def begin(self) -> None:
-        self.reader, answers = None, Answers()
+        self.reader, self.latest = None, Answers(self.lock)
+        answers = self.latest
         try:
             try:
-                with OPENING:
-                    self.process = subprocess.Popen(self.words, stdin=subprocess.PIPE, stdout=subprocess.PIPE, stderr=subprocess.PIPE,
-                                                    bufsize=0, start_new_session=True)
-                    self.errors = Errors(self.process.stderr)
+                apart(self.launch)
             except OSError as error:
                 raise Gone('no server can be started: %s' % error) from error
-            self.reader = threading.Thread(target=answers.read, args=(self.process.stdout, self.errors), daemon=True)
+            assert self.process
+            self.reader = threading.Thread(target=answers.read, args=(self.process.stdin, self.process.stdout, self.errors), daemon=True)
             os.set_blocking(self.input.fileno(), False)
             self.reader.start()
             self.hear_hello(answers)
@@ -506,6 +600,13 @@ class Child:
         except BaseException:
             self.kill()
             raise
+
+    def launch(self) -> None:
+        with OPENING:
+            self.process = subprocess.Popen(self.words, stdin=subprocess.PIPE, stdout=subprocess.PIPE, stderr=subprocess.PIPE,
+                                            bufsize=0, start_new_session=True)
+            self.errors = Errors(self.process.stderr)
+            self.latest.hang_bell()
 
     @property
     def input(self) -> Any:
@@ -587,14 +688,6 @@ class Child:
         room.poll(pause * 1000)
         return False
 
-    def say_byes(self, answers: Answers) -> None:
-        """Lets the clients go that are gone. The number of each is free once all that it asked for is answered, and its bye is."""
-        with self.lock, contextlib.suppress(Error):
-            for number in [number for number in answers.taken if number not in answers.of]:
-                answers.taken.discard(number)
-                if not self.write(answers, b'c%d bye\n' % number):
-                    answers.taken.add(number)
-
     def end(self, timeout: float) -> int:
         """Says `end`, and waits for the server's end, so many seconds. Then it is killed. Gives its status."""
         assert self.process
@@ -627,6 +720,7 @@ class Child:
         else:
             self.process.stdout.close()
             self.process.stderr.close()
+            self.latest.close()
         if status is None:
             return -signal.SIGKILL
         with self.lock:
@@ -649,37 +743,45 @@ class Child:
             process.stdin.close()
             process.stdout.close()
             self.errors.close()
+            for file in self.latest.bell:
+                file.close()
             process.returncode = 0
+
+
+# The answers of no client.
+NOBODYS: 'queue.SimpleQueue[Optional[str]]' = queue.SimpleQueue()
 
 
 class Shared(Connection):
     """One of the clients that share a child's input and output."""
 
     longest = LONGEST - len('c64 ')
+    of: Optional[Answers] = None
+    answers = NOBODYS
 
     def __init__(self, child: Child, timeout: float) -> None:
-        self.number = 0
         super().__init__(timeout)
         self.child = child
 
     def meet(self, seconds: float) -> None:
         self.of = self.child.serving(seconds)
-        end = time.monotonic() + seconds
-        while not self.number:
-            self.child.say_byes(self.of)
-            left = end - time.monotonic()
-            with contextlib.suppress(queue.Empty):
-                self.number = self.of.free.get(timeout=max(0.0, min(SLICE, left)))
+        self.answers = queue.SimpleQueue()
+        end, pause = time.monotonic() + seconds, 0.001
+        while True:
+            number = self.of.take(self.answers)
+            if number:
+                break
             if self.of.is_over:
                 raise Gone('the server ended')
-            if left <= 0 and not self.number:
+            if time.monotonic() >= end:
                 raise NotServed('all clients are taken, and none was let go within %g seconds' % seconds)
-        self.tag = b'c%d ' % self.number
-        self.answers: 'queue.SimpleQueue[Optional[str]]' = queue.SimpleQueue()
-        self.of.of[self.number] = self.answers
-        self.of.taken.add(self.number)
+            self.of.ring()
+            time.sleep(min(pause, max(0.0, end - time.monotonic())))
+            pause = min(2 * pause, 0.05)
+        self.tag = b'c%d ' % number
 
     def send_lines(self, lines: Sequence[bytes], timeout: Optional[float]) -> None:
+        assert self.of
         if b'bye\n' in lines:
             raise ValueError('a client of a child says no bye: it is closed')
         for batch in batches([self.tag + line for line in lines]):
@@ -688,6 +790,7 @@ class Shared(Connection):
                     break
 
     def receive(self, timeout: Optional[float] = None) -> str:
+        assert self.of
         for pause in self.slices(timeout):
             is_over = self.of.is_over
             with contextlib.suppress(queue.Empty):
@@ -701,15 +804,15 @@ class Shared(Connection):
         raise AssertionError
 
     def is_alive(self) -> bool:
-        if len(self.of.taken) > len(self.of.of):
-            self.child.say_byes(self.of)
+        assert self.of
+        if self.of.has_gone():
+            self.of.ring()
         return self.state == IN_STEP and not self.child.has_ended(self.of) and self.answers.empty()
 
     def let_go(self) -> None:
-        number, self.number = self.number, 0
-        if number:
-            self.of.of.pop(number, None)
-            self.child.say_byes(self.of)
+        self.answers = NOBODYS                     # so the queue is gone that had the number
+        if self.of:
+            self.of.ring()
 
     def forget(self) -> None:
-        self.number = 0
+        self.answers, self.of = NOBODYS, None
