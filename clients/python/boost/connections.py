@@ -15,7 +15,7 @@ import threading
 import time
 import weakref
 from _thread import start_new_thread
-from typing import Any, Callable, Iterator, List, Optional, Sequence, Set, Union
+from typing import Any, Callable, Dict, Iterator, List, Optional, Sequence, Set, Union
 
 from .errors import Closed, Error, Gone, NotServed, TimedOut
 from .lines import LONGEST, batches, bytes_of_line
@@ -420,17 +420,18 @@ class Answers:
         self.lock = lock                           # that of the child's input, and of the bell
         self.hello: 'queue.SimpleQueue[Optional[str]]' = queue.SimpleQueue()
         self.of: 'weakref.WeakValueDictionary[int, queue.SimpleQueue[Optional[str]]]' = weakref.WeakValueDictionary({0: self.hello})
-        self.free, self.leaving = set(range(1, CLIENTS + 1)), set()    # type: Set[int], Set[int]
+        self.free: Dict[int, None] = dict.fromkeys(range(1, CLIENTS + 1))    # who was freed first is given first
+        self.leaving: Set[int] = set()
         self.bell: List[io.FileIO] = []
         self.is_over = False
 
     def take(self, answers: 'queue.SimpleQueue[Optional[str]]') -> int:
         """A number for the client of these answers, and 0 where none is free. It is never neither free nor theirs."""
         with self.lock:
-            number = min(self.free, default=0)
+            number = next(iter(self.free), 0)
             if number:
                 self.of[number] = answers
-                self.free.discard(number)
+                self.free.pop(number)
         return number
 
     def has_gone(self) -> bool:
@@ -512,7 +513,7 @@ class Answers:
         elif answer == 'bye' and number in self.leaving:
             with self.lock:
                 self.leaving.discard(number)
-                self.free.add(number)
+                self.free[number] = None
 
     def tell_all(self) -> None:
         """Tells all clients that what they wait for does not come."""
