@@ -1,6 +1,7 @@
 """Clients of a server: lines in, answers out, in their order."""
 import contextlib
 import errno
+import functools
 import io
 import itertools
 import os
@@ -410,14 +411,30 @@ class Socket(Stream):
         return True
 
 
+def write_at_once(lock: Any, file: Any, line: bytes) -> bool:
+    """Writes a line into a child's input, whose lock this is. Whether that could be done without waiting; what is closed takes all."""
+    if not lock.acquire(blocking=False):
+        return False
+    try:
+        if not file.closed:
+            os.write(file.fileno(), line)
+        return True
+    except BlockingIOError:
+        return False
+    except OSError:                                                 # it ends
+        return True
+    finally:
+        lock.release()
+
+
 class Answers:
     """What a child answers, which a thread of its own reads and hands out to the clients by their numbers. 0 hears the hello. A
     client has its number as long as the queue lives into which its answers go. Then the thread says a bye for the number, which is free
     once that is answered: so no client gets an answer to what another one asked. The thread alone does that, as no signal breaks it off;
     it is rung up where it has to look."""
 
-    def __init__(self, lock: Any) -> None:
-        self.lock = lock                           # that of the child's input, and of the bell
+    def __init__(self) -> None:
+        self.lock = threading.RLock()
         self.hello: 'queue.SimpleQueue[Optional[str]]' = queue.SimpleQueue()
         self.of: 'weakref.WeakValueDictionary[int, queue.SimpleQueue[Optional[str]]]' = weakref.WeakValueDictionary({0: self.hello})
         self.free: Dict[int, None] = dict.fromkeys(range(1, CLIENTS + 1))    # who was freed first is given first
@@ -452,12 +469,12 @@ class Answers:
             for file in self.bell:
                 file.close()
 
-    def read(self, child_input: Any, output: Any, errors: 'Errors') -> None:
-        """Reads up to the end. What stands behind the last line feed is no answer."""
+    def read(self, output: Any, errors: 'Errors', say: Callable[[bytes], bool]) -> None:
+        """Reads up to the end. What stands behind the last line feed is no answer. Byes are said so, where there is room at once."""
         rest = b''
         try:
             with output, contextlib.closing(errors), contextlib.closing(self):
-                for data in self.coming(child_input, output, errors):
+                for data in self.coming(output, errors, say):
                     *lines, rest = (rest + data).split(b'\n')
                     for line in lines:
                         self.hand_out(line.decode(errors='replace'))
@@ -465,7 +482,7 @@ class Answers:
             self.is_over = True
             self.tell_all()
 
-    def coming(self, child_input: Any, output: Any, errors: 'Errors') -> Iterator[bytes]:
+    def coming(self, output: Any, errors: 'Errors', say: Callable[[bytes], bool]) -> Iterator[bytes]:
         """Yields what comes from the output, up to its end. Meanwhile it hears errors, and says byes."""
         bell, wait = self.bell[0], None
         watched = select.poll()
@@ -483,22 +500,15 @@ class Answers:
             if bell.fileno() in ready:
                 bell.read(READ)
             if wait or bell.fileno() in ready or self.has_gone():
-                wait = None if self.say_byes(child_input) else 50
+                wait = None if self.say_byes(say) else 10
         errors.hear()
 
-    def say_byes(self, child_input: Any) -> bool:
+    def say_byes(self, say: Callable[[bytes], bool]) -> bool:
         """Lets the clients go that are gone. Whether there was room to say so."""
         for number in range(1, CLIENTS + 1):
-            if number in self.free or number in self.leaving or number in self.of:
-                continue
-            with self.lock:
-                try:
-                    if not child_input.closed:
-                        os.write(child_input.fileno(), b'c%d bye\n' % number)
-                except BlockingIOError:
+            if number not in self.free and number not in self.leaving and number not in self.of:
+                if not say(b'c%d bye\n' % number):
                     return False
-                except OSError:                                     # it ends
-                    pass
                 self.leaving.add(number)
         return True
 
@@ -585,7 +595,7 @@ class Child:
         self.begin()
 
     def begin(self) -> None:
-        self.reader, self.latest = None, Answers(self.lock)
+        self.reader, self.latest = None, Answers()
         answers = self.latest
         try:
             try:
@@ -593,7 +603,8 @@ class Child:
             except OSError as error:
                 raise Gone('no server can be started: %s' % error) from error
             assert self.process
-            self.reader = threading.Thread(target=answers.read, args=(self.process.stdin, self.process.stdout, self.errors), daemon=True)
+            say = functools.partial(write_at_once, self.lock, self.process.stdin)
+            self.reader = threading.Thread(target=answers.read, args=(self.process.stdout, self.errors, say), daemon=True)
             os.set_blocking(self.input.fileno(), False)
             self.reader.start()
             self.hear_hello(answers)
