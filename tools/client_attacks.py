@@ -193,8 +193,8 @@ def interrupted(place, store):
     random.seed(1)
     hit = 0
     for turn in range(300):
-        interrupt_in(random.uniform(0.00002, 0.003))
         try:
+            interrupt_in(random.uniform(0.00002, 0.003))
             while True:
                 with store.transaction(keep=False) as t:
                     assert t.call('n', 'read') == 5

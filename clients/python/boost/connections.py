@@ -111,6 +111,7 @@ class Connection:
         self.over = ''                             # why it is of no use any more
         self.is_settled = False                    # whether all that it committed was known to be kept when it was closed
         self.lock = threading.Lock()
+        self.asker = 0                             # the thread that has asked last
         OWNERS.add(self)
 
     def come_in(self, seconds: float) -> None:
@@ -130,6 +131,7 @@ class Connection:
         data = [bytes_of_line(line, self.longest) for line in lines]
         self.check()
         with self.lock:
+            self.asker = threading.get_ident()
             self.check()
             self.state = ASKING
             try:
@@ -158,6 +160,12 @@ class Connection:
                 raise Closed(self.over)
             if left <= 0:
                 raise TimedOut('no answer within %g seconds' % seconds)
+
+    def is_of_use(self) -> bool:
+        """Whether it may be asked by this thread, which does not ask it now. If this thread holds its lock all the same, it does so for
+        ever: an exception has left a `with` without its end, as that of a signal handler may in Python 3.8 and 3.9."""
+        is_stuck = self.lock.locked() and self.asker == threading.get_ident()
+        return self.state == IN_STEP and not self.over and not is_stuck
 
     def close(self, why: str = CLOSED_STORE) -> None:
         """Closes it; what it has open is taken back."""
@@ -275,7 +283,7 @@ class Stream(Connection):
         raise AssertionError
 
     def is_alive(self) -> bool:
-        return self.state == IN_STEP and not self.buffer and not self.readable.poll(0)
+        return self.is_of_use() and not self.buffer and not self.readable.poll(0)
 
     def let_go(self) -> None:
         self.to = self.answers = -1
@@ -596,19 +604,13 @@ class Child:
 
     def begin(self) -> None:
         self.reader, self.latest = None, Answers()
-        answers = self.latest
         try:
             try:
                 apart(self.launch)
             except OSError as error:
                 raise Gone('no server can be started: %s' % error) from error
-            assert self.process
-            say = functools.partial(write_at_once, self.lock, self.process.stdin)
-            self.reader = threading.Thread(target=answers.read, args=(self.process.stdout, self.errors, say), daemon=True)
-            os.set_blocking(self.input.fileno(), False)
-            self.reader.start()
-            self.hear_hello(answers)
-            self.answers = answers
+            self.hear_hello(self.latest)
+            self.answers = self.latest
         except BaseException:
             self.kill()
             raise
@@ -619,6 +621,10 @@ class Child:
                                             bufsize=0, start_new_session=True)
             self.errors = Errors(self.process.stderr)
             self.latest.hang_bell()
+        os.set_blocking(self.input.fileno(), False)
+        say = functools.partial(write_at_once, self.lock, self.input)
+        self.reader = threading.Thread(target=self.latest.read, args=(self.process.stdout, self.errors, say), daemon=True)
+        self.reader.start()
 
     @property
     def input(self) -> Any:
@@ -724,9 +730,6 @@ class Child:
                 os.killpg(self.process.pid, signal.SIGKILL)
             status = self.ended_within(1)
         self.input.close()
-        for _ in range(20):                                         # where its start was broken off it may come yet
-            if self.reader and not self.reader.ident:
-                time.sleep(0.005)
         if self.reader and self.reader.ident:
             self.reader.join(1)
         else:
@@ -819,7 +822,7 @@ class Shared(Connection):
         assert self.of
         if self.of.has_gone():
             self.of.ring()
-        return self.state == IN_STEP and not self.child.has_ended(self.of) and self.answers.empty()
+        return self.is_of_use() and not self.child.has_ended(self.of) and self.answers.empty()
 
     def let_go(self) -> None:
         self.answers = NOBODYS                     # so the queue is gone that had the number
