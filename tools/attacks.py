@@ -195,7 +195,8 @@ def attack_lines(at):
 def attack_areas(at):
     """The area is no number, or out of its range: no file is made or touched."""
     before = at.read("disk")
-    for area in ("", " ", "-1", "+65536", "065536", "64k", "64KB", "64T", "65536 ", "0x10000", "1e5", "65536.0", "18446744073709551616", "\u0666", "a" * 100000):
+    for area in ("", " ", "-1", "+65536", "065536", "64k", "64KB", "64T", "65536 ",
+                 "0x10000", "1e5", "65536.0", "18446744073709551616", "\u0666", "a" * 100000):
         at.expect(2, "error: *", "format", "disk", "--area", area, out="")
         at.expect(2, "error: *", "format", "unmade", "--area", area, out="")
     for area in ("0", "1", "65535", "1073741825", "18446744073709551615"):
@@ -232,7 +233,8 @@ def attack_making(at):
     stopped, that one stays, and no other name is left. It is its owner's alone, or has the mode of the one before."""
     at.write("notes", "precious")
     at.write("no_store", b"x" * 135168)
-    at.write("puts", "c1 make map m\nc1 begin\n" + "".join(f"c1 call m put {key} {'ab' * 256}\n" for key in range(300)) + "c1 commit\n" + "turn\n" * 9)
+    puts = "".join(f"c1 call m put {key} {'ab' * 256}\n" for key in range(300))
+    at.write("puts", f"c1 make map m\nc1 begin\n{puts}c1 commit\n" + "turn\n" * 9)
     at.expect(0, "", "format", "source", "--area", "131072")
     at.expect(0, "", "play", "source", "puts")
     at.expect(0, "", "format", "target", "--area", AREA)

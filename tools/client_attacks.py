@@ -766,13 +766,15 @@ def ways_of_being_away():
 
 def last_words_of_a_child():
     """Who is told that a child is gone is told what that wrote to its standard error, which this program's own has too; also where nobody
-    reads that, and where it is closed."""
+    reads that, where its reader is gone, and where it is closed."""
     program = '''
-import os, sys
+import os, signal, sys
 sys.path.insert(0, %r)
 import boost
 if sys.argv[2] == 'closed':
     os.close(2)
+if sys.argv[2] == 'gone':
+    signal.signal(signal.SIGPIPE, signal.SIG_DFL)
 with boost.start(%r, sys.argv[1]) as store:
     try:
         boost.start(%r, sys.argv[1])
@@ -783,8 +785,11 @@ with boost.start(%r, sys.argv[1]) as store:
     words = 'boost: another run has the file'
     with tempfile.TemporaryDirectory() as room:
         place = Place(room)
-        for how in ('read', 'full', 'closed'):
+        for how in ('read', 'full', 'closed', 'gone'):
             reader, writer = os.pipe()
+            if how == 'gone':
+                os.close(reader)
+                reader = os.open('/dev/null', os.O_RDONLY)
             if how == 'full':
                 os.set_blocking(writer, False)
                 with contextlib.suppress(BlockingIOError):

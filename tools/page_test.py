@@ -183,7 +183,8 @@ def a_device_that_stands_still():
     """Where records wait and none is kept the page says since when; and not where one is kept, or none waits."""
     now = time.time()
     told = []
-    for rows in ([(0, 50), (3, 80), (4, 80), (9, 80)], [(3, 80), (0, 80), (4, 80)], [(3, 80), (4, 90)], [(3, 80), (0, 90)], [(3, 80), None]):
+    for rows in ([(0, 50), (3, 80), (4, 80), (9, 80)], [(3, 80), (0, 80), (4, 80)], [(3, 80), (4, 90)], [(3, 80), (0, 90)],
+                 [(3, 80), None]):
         watch = pages.Watch('/x', 5)
         watch.state, watch.why = pages.state_of('format 1; area 100; used 80; waiting 3'), ''
         watch.samples.extend(pages.Sample(now - 20 + 6 * at, {'waiting': row[0], 'used': row[1], 'in_use': 0} if row else {})

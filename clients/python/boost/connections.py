@@ -561,10 +561,10 @@ class Errors:
 
     def hand_on(self, data: bytes) -> None:
         if self.own is not None:
-            room = select.poll()
-            room.register(self.own, select.POLLOUT)
-            while data and room.poll(0):
-                data = data[os.write(self.own.fileno(), data[:select.PIPE_BUF]):]
+            room, number = select.poll(), self.own.fileno()
+            room.register(number, select.POLLOUT)
+            while data and room.poll(0) == [(number, select.POLLOUT)]:         # and not where its reader is gone, which is a signal
+                data = data[os.write(number, data[:select.PIPE_BUF]):]
 
     def last(self) -> str:
         """The lines of the last words, in one."""
