@@ -737,6 +737,7 @@ class Child:
             self.process.stderr.close()
             self.latest.close()
         if status is None:
+            self.process.returncode = -signal.SIGKILL
             return -signal.SIGKILL
         with self.lock:
             if self.process.returncode is None:
