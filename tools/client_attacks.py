@@ -571,6 +571,27 @@ def comes_back():
     return '%d told, %d there, %d times gone' % (len(told), there, len(gone))
 
 
+def joins_as_a_server_starts():
+    """Who comes in the very moment in which a server starts is served by it, and is not passed over."""
+    longest = 0.0
+    with tempfile.TemporaryDirectory() as room:
+        place = Place(room)
+        for _ in range(40):
+            with boost.join(place.folder, patience=10) as store:
+                place.server = subprocess.Popen([PROGRAM, 'listen', place.disk, place.folder], stderr=subprocess.DEVNULL)
+                while True:
+                    began = time.monotonic()
+                    with contextlib.suppress(boost.Gone):
+                        assert store.do(('n', 'read')) == [5]
+                        break
+                    longest = max(longest, time.monotonic() - began)
+                    if longest > 5:
+                        place.server.kill()
+                    assert longest <= 5, longest
+            place.end()
+    return '40 starts'
+
+
 def comes_back_as_a_child():
     """A child that was killed is started again where that was asked for, and not where it was not."""
     with tempfile.TemporaryDirectory() as room:
@@ -858,7 +879,7 @@ def causes():
 
 ATTACKS = (interrupted, interrupted_starts, stopped_while_it_waits, used_when_closed, closed_beside_calls, waits_for_a_job, long_lines,
            many_lines, answers_for_nobody, threads_that_come_and_go, no_client_is_free, died_in_a_transaction, dropped_stores,
-           stands_still, hello_that_never_comes, comes_back, comes_back_as_a_child, cut_lines, words_that_are_none,
+           stands_still, hello_that_never_comes, comes_back, joins_as_a_server_starts, comes_back_as_a_child, cut_lines, words_that_are_none,
            forked_from_a_parent, forked_from_a_client, ctrl_c_at_a_terminal, nothing_is_left, ways_of_being_away, last_words_of_a_child,
            modes_of_fifos, causes)
 

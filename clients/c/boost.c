@@ -515,6 +515,8 @@ struct boost *boost_join_within(const char *folder, int seconds)
     snprintf(word, sizeof word, "c-%d-%u-%08x", (int)getpid(), __atomic_fetch_add(&count, 1, __ATOMIC_RELAXED), chance);
     snprintf(to, sizeof to, "%s/%s.to", folder, word);
     snprintf(from, sizeof from, "%s/%s.from", folder, word);
+    if (ask_door(folder, "") != 0)            /* a server removes FIFOs that lie there before it opens its door */
+        return NULL;
     struct boost *store = NULL;
     int held = make_fifo(to, &found), guard = held < 0 ? -1 : make_fifo(from, &found);
     if (guard >= 0)

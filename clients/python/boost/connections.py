@@ -316,6 +316,8 @@ class Pipes(Stream):
                     os.unlink(path)
 
     def open_fifos(self) -> None:
+        """Makes and opens the FIFOs. A server removes those that lie there before it opens its door: so that is looked for first."""
+        self.ask_door(b'')
         with OPENING:
             held = [self.make_fifo(path) for path in self.paths]
             self.open_both(*held)
