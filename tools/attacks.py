@@ -2,16 +2,21 @@
 """attacks.py [PROGRAM]: runs the program on paths and scripts that mean harm, and compares what it answers with what is written here.
 
 Paths that are folders, pipes, links, devices, read-only or in use by another run; scripts that are none, endless or much too
-long; areas that are no numbers; output that cannot be written. Each run has a status and a first line on standard error (none
-where it says nothing), and must leave the bytes of the disk where that is asked. The program is the proved one of
+long; areas that are no numbers; output that cannot be written; files that are made in the place of others, without room, and
+stopped. Each run has a status and a first line on standard error (none where it says nothing), and must leave the bytes of the
+disk where that is asked. The program is the proved one of
 crates/boost_main, or the one that is named. It runs as nobody where this script runs as root. The last line tells how many
 runs there were.
 """
 import os
+import random
 import resource
+import signal
+import stat
 import subprocess
 import sys
 import tempfile
+import time
 
 TOP = os.path.dirname(os.path.dirname(os.path.realpath(__file__)))
 BOOST = os.path.join(TOP, "crates/boost_main/out/boost_main")
@@ -50,15 +55,18 @@ class Folder:
         with open(os.path.join(self.path, name), "rb") as file:
             return file.read()
 
-    def how(self, memory=None):
+    def how(self, memory=None, size=None):
         def before():
             if memory:
                 resource.setrlimit(resource.RLIMIT_AS, (memory, memory))
+            if size is not None:
+                resource.setrlimit(resource.RLIMIT_FSIZE, (size, size))
             if os.getuid() == 0:
                 os.setgid(NOBODY)
                 os.setuid(NOBODY)
 
-        return {"cwd": self.path, "preexec_fn": before}
+        # (the signal for a file that gets too large is ignored, as Python does, so that the write is refused)
+        return {"cwd": self.path, "preexec_fn": before, "restore_signals": size is None}
 
     def start(self, *words):
         """A run whose output nobody reads but for the first byte: it has the disk then."""
@@ -66,14 +74,14 @@ class Folder:
         run.stdout.read(1)
         return run
 
-    def expect(self, status, said, *words, out=None, stdout=subprocess.PIPE, memory=None):
-        """A run must end so: with this status, this first line of errors and, where it is told, this output."""
+    def expect(self, status, said, *words, out=None, stdout=subprocess.PIPE, memory=None, size=None, why=None):
+        """A run must end so: with this status, this first line of errors and, where they are told, this second one and output."""
         done = subprocess.run([self.program, *words], stdin=subprocess.DEVNULL, stdout=stdout, stderr=subprocess.PIPE, timeout=300,
-                              **self.how(memory))
+                              **self.how(memory, size))
         self.runs += 1
-        first = done.stderr.decode(errors="replace").split("\n")[0]
+        first, second = (done.stderr.decode(errors="replace").split("\n") + [""])[:2]
         printed = (done.stdout or b"").decode(errors="replace")
-        is_said = first.startswith(said[:-1]) if said.endswith("*") else first == said
+        is_said = (first.startswith(said[:-1]) if said.endswith("*") else first == said) and why in (None, second)
         if done.returncode != status or not is_said or (out is not None and printed != out):
             shown = [word if len(word) < 60 else word[:60] + ".." for word in words]
             self.wrong.append(f"{shown}: status {done.returncode}, said {first!r}, printed {printed[:200]!r}")
@@ -187,7 +195,8 @@ def attack_lines(at):
 def attack_areas(at):
     """The area is no number, or out of its range: no file is made or touched."""
     before = at.read("disk")
-    for area in ("", " ", "-1", "65536 ", "0x10000", "1e5", "65536.0", "18446744073709551616", "\u0666", "a" * 100000):
+    for area in ("", " ", "-1", "+65536", "065536", "64k", "64KB", "64T", "65536 ",
+                 "0x10000", "1e5", "65536.0", "18446744073709551616", "\u0666", "a" * 100000):
         at.expect(2, "error: *", "format", "disk", "--area", area, out="")
         at.expect(2, "error: *", "format", "unmade", "--area", area, out="")
     for area in ("0", "1", "65535", "1073741825", "18446744073709551615"):
@@ -219,10 +228,60 @@ def attack_sizes(at):
             at.wrong.append(f"a refused run changed {name}")
 
 
+def attack_making(at):
+    """A file that is made takes the place of another one once it is whole, and not before: where it is refused, finds no room or is
+    stopped, that one stays, and no other name is left. It is its owner's alone, or has the mode of the one before."""
+    at.write("notes", "precious")
+    at.write("no_store", b"x" * 135168)
+    puts = "".join(f"c1 call m put {key} {'ab' * 256}\n" for key in range(300))
+    at.write("puts", f"c1 make map m\nc1 begin\n{puts}c1 commit\n" + "turn\n" * 9)
+    at.expect(0, "", "format", "source", "--area", "131072")
+    at.expect(0, "", "play", "source", "puts")
+    at.expect(0, "", "format", "target", "--area", AREA)
+    at.expect(0, "", "play", "target", "hits", out=ANSWERS)
+    mode = lambda name: stat.S_IMODE(os.stat(os.path.join(at.path, name)).st_mode)  # noqa: E731
+    if mode("target") != 0o600:
+        at.wrong.append(f"a new file has the mode {mode('target'):o}")
+    os.chmod(os.path.join(at.path, "target"), 0o640)
+    before = {name: at.read(name) for name in ("notes", "target", "source")}
+    for name in ("notes", "target"):
+        at.expect(1, f"boost: {name} holds bytes: --force empties it", "format", name, "--area", AREA, out="")
+    at.expect(1, "boost: refused 21 NotAStore", "copy", "no_store", "target", "--area", "131072", out="")
+    at.expect(1, "boost: refused 18 Full", "copy", "source", "target", "--area", AREA, out="")
+    at.expect(1, "boost: refused 2 BadArg", "copy", "target", "target", "--area", AREA, out="", why="boost: OLD and NEW are two files")
+    at.expect(4, cannot("missing"), "copy", "missing", "target", "--area", AREA, out="")
+    too_large = "boost: File too large (os error 27)"
+    at.expect(4, cannot("target"), "copy", "source", "target", "--area", "131072", out="", size=100000, why=too_large)
+    at.expect(4, cannot("more"), "format", "more", "--area", "131072", "--reserve", out="", size=100000, why=too_large)
+    at.expect(1, "boost: refused 19 Fault", "upgrade", "target", out="", size=4096, why=too_large)
+    for name, bytes_of in before.items():
+        if at.read(name) != bytes_of:
+            at.wrong.append(f"a refused run changed {name}")
+    at.expect(0, "", "show", "source")
+    shown = [subprocess.run([at.program, "show", "--read-only", name], cwd=at.path, stdout=subprocess.PIPE, check=True).stdout
+             for name in ("target", "source")]
+    for _ in range(30):
+        copying = subprocess.Popen([at.program, "copy", "source", "target", "--area", "262144"], stdout=subprocess.DEVNULL, **at.how())
+        time.sleep(random.uniform(0, 0.03))
+        copying.send_signal(signal.SIGKILL)
+        copying.wait()
+        at.runs += 1
+        found = subprocess.run([at.program, "show", "--read-only", "target"], cwd=at.path, stdout=subprocess.PIPE, check=False).stdout
+        if found not in shown:
+            at.wrong.append(f"a copy that was stopped left {found[:60]!r}")
+    at.expect(0, "", "copy", "source", "target", "--area", "262144", out="copied\n")
+    if mode("target") != 0o640:
+        at.wrong.append(f"a file in the place of another one has the mode {mode('target'):o}")
+    at.expect(0, "", "format", "target", "--area", AREA, "--force", out="")
+    left = [name for name in os.listdir(at.path) if name.endswith(".unfinished")]
+    if left or os.path.exists(os.path.join(at.path, "more")):
+        at.wrong.append(f"left {left}")
+
+
 def main():
     program = os.path.realpath(sys.argv[1]) if len(sys.argv) > 1 else BOOST
     attacks = (attack_paths, attack_rights, attack_links, attack_twice, attack_scripts, attack_lines, attack_areas, attack_output,
-               attack_sizes)
+               attack_sizes, attack_making)
     with tempfile.TemporaryDirectory() as path:
         at = Folder(path, program)
         for attack in attacks:

@@ -221,16 +221,16 @@ def build(kind):
 
 
 def main():
-    os.makedirs(OUT, exist_ok=True)
     try:
+        os.makedirs(OUT, exist_ok=True)
         if sys.argv[1:2] == ['unproved'] and len(sys.argv) > 2:
             build_unproved_of(sys.argv[2], sys.argv[3:])
             return
         is_built = build(sys.argv[1])
-    except FileNotFoundError as error:
-        if error.filename != 'rt':
-            raise
-        fail('no toolchain: the command rt is not there')
+    except OSError as error:
+        if isinstance(error, FileNotFoundError) and error.filename == 'rt':
+            fail('no toolchain: the command rt is not there')
+        fail(f'the program was not built: {error}')
     except KeyboardInterrupt:
         fail('broken off')
     if not is_built:

@@ -7,11 +7,22 @@
 #include <stdio.h>
 #include <stdlib.h>
 #include <string.h>
+#include <sys/stat.h>
 #include <sys/time.h>
 #include <sys/wait.h>
+#include <time.h>
 #include <unistd.h>
 
 static const char *program, *disk;
+
+/* What another user puts in the place of each FIFO that is made, if anything: a link to this file. */
+static const char *swapped;
+
+/* In the place of that of the library. */
+int mkfifo(const char *path, mode_t mode)
+{
+    return swapped != NULL ? symlink(swapped, path) : mknod(path, S_IFIFO | mode, 0);
+}
 
 static void must(int holds, const char *what)
 {
@@ -86,6 +97,10 @@ static void lines_that_are_none(void)
     is_answered(store, "status\nc1 make counter none", "error NotUnderstood");
     is_answered(store, "do signals read", "total 200");
     must(boost_close(store) == 0, "the status behind lines");
+    const char *none[] = { "", " ", "stock; credit", "a;", "a b", "a\n", "a\r", "\177", "\303\244", "read; credit fill 7 1" };
+    for (size_t at = 0; at < sizeof none / sizeof *none; at++)
+        must(!boost_is_word(none[at]), "a text that is no word");
+    must(boost_is_word("a") && boost_is_word("orders_2026-11.x") && boost_is_word("18446744073709551615") && boost_is_word("-"), "a word");
     printf("lines_that_are_none: not sent\n");
 }
 
@@ -101,6 +116,59 @@ static void a_server_that_stands_still(void)
     must(boost_ask(store, "do signals read") == NULL && errno == EPIPE, "an answer behind one that did not come");
     must(boost_close(store) == 128 + SIGKILL, "the status of a server that is out of step");
     printf("a_server_that_stands_still: told in time, and out of step from then on\n");
+}
+
+static double seconds_of_now(void)
+{
+    struct timespec time;
+    clock_gettime(CLOCK_MONOTONIC, &time);
+    return (double)time.tv_sec + (double)time.tv_nsec / 1e9;
+}
+
+/* Neither the end of a server that stands still, nor the hello of one that says none, is waited for longer than the time that is set. */
+static void ends_and_starts_that_never_come(void)
+{
+    struct boost *store = started();
+    boost_set_timeout(store, 1);
+    is_answered(store, "do signals read", "total 200");
+    system("pkill -STOP -f 'listen '\"$C_ATTACKS_DISK\"");
+    usleep(200000);
+    double began = seconds_of_now();
+    must(boost_close(store) == 128 + SIGKILL, "the status of a server that stands still at its end");
+    must(seconds_of_now() - began < 5, "the time of an end");
+    char path[4096];
+    snprintf(path, sizeof path, "%s.sleeps", disk);
+    FILE *file = fopen(path, "w");
+    fputs("#!/bin/sh\nexec sleep 1000\n", file);
+    fclose(file);
+    chmod(path, 0755);
+    began = seconds_of_now();
+    must(boost_start_within(path, disk, 1) == NULL && errno == ETIMEDOUT, "a server that says no hello");
+    must(seconds_of_now() - began < 5, "the time of a start");
+    must(waitpid(-1, NULL, 0) < 0 && errno == ECHILD, "a child that is left");
+    printf("ends_and_starts_that_never_come: killed in time\n");
+}
+
+/* A file that another user of the folder's group puts in the place of a FIFO is neither written nor given to that group. */
+static void a_file_in_the_place_of_a_fifo(void)
+{
+    char folder[4096], door[8192], precious[8192];
+    snprintf(folder, sizeof folder, "%s.run", disk);
+    snprintf(door, sizeof door, "%s/door", folder);
+    snprintf(precious, sizeof precious, "%s.precious", disk);
+    FILE *file = fopen(precious, "w");
+    fputs("precious", file);
+    fclose(file);
+    chmod(precious, 0600);
+    must(mkdir(folder, 0700) == 0 && chmod(folder, 0770) == 0 && mkfifo(door, 0660) == 0, "a folder with a door");
+    int reader = open(door, O_RDWR);
+    swapped = precious;
+    must(boost_join_within(folder, 1) == NULL, "a client whose FIFOs are links");
+    swapped = NULL;
+    struct stat found;
+    must(stat(precious, &found) == 0 && (found.st_mode & 0777) == 0600 && found.st_size == 8, "the file in the place of a FIFO");
+    close(reader);
+    printf("a_file_in_the_place_of_a_fifo: untouched\n");
 }
 
 /* In a forked process the client is no one's, and the parent's goes on; the server ends though the child holds its input. */
@@ -163,6 +231,8 @@ int main(int count, char **words)
     signals_come();
     lines_that_are_none();
     a_server_that_stands_still();
+    ends_and_starts_that_never_come();
+    a_file_in_the_place_of_a_fifo();
     forked();
     closed_streams();
     files_are_given_back();

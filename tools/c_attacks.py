@@ -1,6 +1,6 @@
 #!/usr/bin/env python3
 """c_attacks.py [PROGRAM]: tries what may happen to a program with the client in C: signals, lines that are none, a server that stands
-still, a fork, closed streams, descriptors that are left. PROGRAM is the store's, `./boost` if none is named. It wants cc."""
+still, links in the place of FIFOs, a fork, closed streams, descriptors that are left. PROGRAM is the store's, `./boost` if none is named. It wants cc."""
 import os
 import subprocess
 import sys

@@ -176,15 +176,25 @@ def descriptors():
 # ---- attacks
 
 
+def with_all_held(store):
+    """How many descriptors there are while all 64 clients of a store have a transaction."""
+    gc.collect()
+    with contextlib.ExitStack() as held:
+        for _ in range(64):
+            held.enter_context(store.transaction(timeout=20))
+        return descriptors()
+
+
 @in_each_way
 def interrupted(place, store):
-    """An exception at any moment of a call gives no later call the answer of another one."""
+    """An exception at any moment of a call gives no later call the answer of another one, and costs no client and no descriptor."""
     store.do(('n', 'read'))
+    before = with_all_held(store)
     random.seed(1)
     hit = 0
     for turn in range(300):
-        interrupt_in(random.uniform(0.00002, 0.003))
         try:
+            interrupt_in(random.uniform(0.00002, 0.003))
             while True:
                 with store.transaction(keep=False) as t:
                     assert t.call('n', 'read') == 5
@@ -195,6 +205,49 @@ def interrupted(place, store):
         assert store.do(('other', 'read')) == [1000] and store.do(('n', 'read')) == [5], turn
         assert store.keep(lambda t: (t.call('n', 'bump', 0), t.call('other', 'read'))) == (None, 1000)
     assert store.status().live == 0
+    assert with_all_held(store) == before
+    return '%d interrupts' % hit
+
+
+def living_children():
+    """The children of this process that have not ended, those of `subprocess` that were given up too."""
+    words = subprocess.run(['ps', '--ppid', str(os.getpid()), '-o', 'stat=,comm='], stdout=subprocess.PIPE, text=True, check=False).stdout
+    return [line for line in words.splitlines() if not line.startswith('Z') and not line.endswith(' ps')]
+
+
+def interrupted_starts():
+    """An exception at any moment of a start and of a close leaves no server, no thread and no descriptor, and holds nobody up."""
+    random.seed(2)
+    hit = 0
+    with tempfile.TemporaryDirectory() as room:
+        place = Place(room)
+        before, began = (descriptors(), threading.active_count()), time.monotonic()
+        with boost.start(PROGRAM, place.disk) as store:
+            store.do(('n', 'read'))
+        usual = time.monotonic() - began
+        for _ in range(150):
+            began = time.monotonic()
+            try:
+                try:
+                    interrupt_in(random.uniform(0.001, 1.2 * usual))
+                    with boost.start(PROGRAM, place.disk, patience=20) as store:
+                        store.do(('n', 'read'))
+                finally:
+                    interrupt_no_more()
+            except Interrupted:
+                interrupt_no_more()
+                hit += 1
+            except boost.Gone as error:
+                assert 'another run has the file' in str(error), error           # that of one whose start was broken off
+            assert time.monotonic() - began < usual + 5
+            store = None
+            gc.collect()
+        end = time.monotonic() + 10
+        while living_children() and time.monotonic() < end:
+            time.sleep(0.1)
+        assert (living_children(), descriptors(), threading.active_count()) == ([], *before), (living_children(), descriptors(), before)
+        with boost.start(PROGRAM, place.disk) as store:
+            assert store.do(('n', 'read'), ('other', 'read')) == [5, 1000]
     return '%d interrupts' % hit
 
 
@@ -518,6 +571,27 @@ def comes_back():
     return '%d told, %d there, %d times gone' % (len(told), there, len(gone))
 
 
+def joins_as_a_server_starts():
+    """Who comes in the very moment in which a server starts is served by it, and is not passed over."""
+    longest = 0.0
+    with tempfile.TemporaryDirectory() as room:
+        place = Place(room)
+        for _ in range(40):
+            with boost.join(place.folder, patience=10) as store:
+                place.server = subprocess.Popen([PROGRAM, 'listen', place.disk, place.folder], stderr=subprocess.DEVNULL)
+                while True:
+                    began = time.monotonic()
+                    with contextlib.suppress(boost.Gone):
+                        assert store.do(('n', 'read')) == [5]
+                        break
+                    longest = max(longest, time.monotonic() - began)
+                    if longest > 5:
+                        place.server.kill()
+                    assert longest <= 5, longest
+            place.end()
+    return '40 starts'
+
+
 def comes_back_as_a_child():
     """A child that was killed is started again where that was asked for, and not where it was not."""
     with tempfile.TemporaryDirectory() as room:
@@ -640,6 +714,7 @@ import os, sys, signal, time
 sys.path.insert(0, %r)
 import boost
 os.setpgid(0, 0)
+signal.signal(signal.SIGINT, signal.default_int_handler)        # also where this tool runs in the background of a shell
 store = boost.start(%r, sys.argv[1])
 try:
     with store.transaction() as t:
@@ -710,6 +785,48 @@ def ways_of_being_away():
     return '; '.join('%s: %s' % (name, type(error.__cause__).__name__) for name, error in told.items())
 
 
+def last_words_of_a_child():
+    """Who is told that a child is gone is told what that wrote to its standard error, which this program's own has too; also where nobody
+    reads that, where its reader is gone, and where it is closed."""
+    program = '''
+import os, signal, sys
+sys.path.insert(0, %r)
+import boost
+if sys.argv[2] == 'closed':
+    os.close(2)
+if sys.argv[2] == 'gone':
+    signal.signal(signal.SIGPIPE, signal.SIG_DFL)
+with boost.start(%r, sys.argv[1]) as store:
+    try:
+        boost.start(%r, sys.argv[1])
+    except boost.Gone as error:
+        print(error, flush=True)
+    print(store.do(('n', 'read')))
+''' % (CLIENT, PROGRAM, PROGRAM)
+    words = 'boost: another run has the file'
+    with tempfile.TemporaryDirectory() as room:
+        place = Place(room)
+        for how in ('read', 'full', 'closed', 'gone'):
+            reader, writer = os.pipe()
+            if how == 'gone':
+                os.close(reader)
+                reader = os.open('/dev/null', os.O_RDONLY)
+            if how == 'full':
+                os.set_blocking(writer, False)
+                with contextlib.suppress(BlockingIOError):
+                    while True:
+                        os.write(writer, b'x' * 4096)
+                os.set_blocking(writer, True)
+            ended = subprocess.run([sys.executable, '-c', program, place.disk, how], stdout=subprocess.PIPE, stderr=writer, text=True,
+                                   timeout=60)
+            os.close(writer)
+            told = ended.stdout.splitlines()
+            assert ended.returncode == 0 and len(told) == 2 and words in told[0] and told[1] == '[5]', (how, ended)
+            with open(reader, 'rb') as file:
+                assert (words.encode() in file.read()) == (how == 'read')
+    return told[0].replace(room, 'ROOM')
+
+
 def modes_of_fifos():
     """A client's FIFOs may be used by the group of a folder that the group may write into, and else by nobody else."""
     told = []
@@ -760,10 +877,11 @@ def causes():
     return '%s / %s' % (lost, not_understood)
 
 
-ATTACKS = (interrupted, stopped_while_it_waits, used_when_closed, closed_beside_calls, waits_for_a_job, long_lines, many_lines, answers_for_nobody,
-           threads_that_come_and_go, no_client_is_free, died_in_a_transaction, dropped_stores, stands_still, hello_that_never_comes,
-           comes_back, comes_back_as_a_child, cut_lines, words_that_are_none, forked_from_a_parent, forked_from_a_client,
-           ctrl_c_at_a_terminal, nothing_is_left, ways_of_being_away, modes_of_fifos, causes)
+ATTACKS = (interrupted, interrupted_starts, stopped_while_it_waits, used_when_closed, closed_beside_calls, waits_for_a_job, long_lines,
+           many_lines, answers_for_nobody, threads_that_come_and_go, no_client_is_free, died_in_a_transaction, dropped_stores,
+           stands_still, hello_that_never_comes, comes_back, joins_as_a_server_starts, comes_back_as_a_child, cut_lines, words_that_are_none,
+           forked_from_a_parent, forked_from_a_client, ctrl_c_at_a_terminal, nothing_is_left, ways_of_being_away, last_words_of_a_child,
+           modes_of_fifos, causes)
 
 
 def make(attack):

@@ -179,6 +179,23 @@ def rates_are_of_the_numbers():
     return '4 rates'
 
 
+def a_device_that_stands_still():
+    """Where records wait and none is kept the page says since when; and not where one is kept, or none waits."""
+    now = time.time()
+    told = []
+    for rows in ([(0, 50), (3, 80), (4, 80), (9, 80)], [(3, 80), (0, 80), (4, 80)], [(3, 80), (4, 90)], [(3, 80), (0, 90)],
+                 [(3, 80), None]):
+        watch = pages.Watch('/x', 5)
+        watch.state, watch.why = pages.state_of('format 1; area 100; used 80; waiting 3'), ''
+        watch.samples.extend(pages.Sample(now - 20 + 6 * at, {'waiting': row[0], 'used': row[1], 'in_use': 0} if row else {})
+                             for at, row in enumerate(rows))
+        seen = watch.seen()
+        still = metrics_of(pages.metrics_of(seen))['boost_still_seconds']
+        told.append((round(still), 'stands still' in pages.page_of(seen)))
+    assert told == [(12, True), (0, False), (0, False), (0, False), (0, False)], told
+    return '5 stores'
+
+
 def parts_that_nobody_knows():
     """An answer of a server to come is shown as it stands, and one with harm in it does none."""
     answer = ('format 3; area 100; used 90; fsyncs 17; lag 0.5; clients 3 of 64; live 2; place 12; '
@@ -281,7 +298,8 @@ def take_picture(path):
 def main():
     if sys.argv[1:2] == ['--picture']:
         return take_picture(sys.argv[2])
-    for check in (the_page_tells_what_status_tells, the_server_goes_and_comes, rates_are_of_the_numbers, parts_that_nobody_knows,
+    for check in (the_page_tells_what_status_tells, the_server_goes_and_comes, rates_are_of_the_numbers, a_device_that_stands_still,
+                  parts_that_nobody_knows,
                   it_is_for_this_machine_alone, chromium_shows_it):
         print(f'{check.__name__}: {check()}', flush=True)
 

@@ -3,7 +3,7 @@
 
     release.py make        packs crates/boost_main/out/boost_main into release/, for who has just seen `rt ci` pass
     release.py unpack      leaves the released program as crates/boost_main/out/released, with status 0, where the sources have that
-                           sum; else status 1
+                           sum; else status 1, and 5 where it cannot be written there
     release.py check [PROGRAM]   compares the program that the gate built with the released one, byte for byte, where the sums agree
 
 The sum is over the files of src/, specs/ and proofs/ of each crate that the program stands on, their lines of crates.txt, and HANDLES.
@@ -70,12 +70,16 @@ def make():
 def unpack():
     if not is_of_these_sources():
         return 1
-    os.makedirs(OUT, exist_ok=True)
-    whole = os.path.join(OUT, f'released.{os.getpid()}')
-    with open(whole, 'wb') as file:
-        file.write(released())
-    os.chmod(whole, 0o755)
-    os.replace(whole, os.path.join(OUT, 'released'))
+    try:
+        os.makedirs(OUT, exist_ok=True)
+        whole = os.path.join(OUT, f'released.{os.getpid()}')
+        with open(whole, 'wb') as file:
+            file.write(released())
+        os.chmod(whole, 0o755)
+        os.replace(whole, os.path.join(OUT, 'released'))
+    except OSError as error:
+        print(f'boost: the program cannot be unpacked: {error}: run ./boost once as who may write there', file=sys.stderr)
+        return 5
     return 0
 
 

@@ -1,6 +1,8 @@
 #!/usr/bin/env python3
-"""script.py: tries the script `boost` itself: its words that the program does not know, and what it makes of a folder for `listen`."""
+"""script.py: tries the script `boost` itself: its words that the program does not know, what it makes of a folder for `listen`, and
+where it can unpack and build nothing."""
 import os
+import shutil
 import stat
 import subprocess
 import sys
@@ -54,11 +56,54 @@ def a_door(room):
     server.stderr.close()
 
 
+def make_tree(room):
+    """A tree as this one, of links, in which nothing was built. Its script."""
+    for name in ('tools', 'release', 'crates.txt', 'HANDLES'):
+        os.symlink(os.path.join(TOP, name), os.path.join(room, name))
+    for name in os.listdir(os.path.join(TOP, 'crates')):
+        os.makedirs(os.path.join(room, 'crates', name))
+        for part in os.listdir(os.path.join(TOP, 'crates', name)):
+            if part != 'out':
+                os.symlink(os.path.join(TOP, 'crates', name, part), os.path.join(room, 'crates', name, part))
+    return shutil.copy(BOOST, room)
+
+
+def a_crate_of_ones_own(room):
+    """One that stands beside, with its line in crates.txt, has nothing built again."""
+    script, out = make_tree(room), os.path.join(room, 'crates', 'boost_main', 'out')
+    os.makedirs(out)
+    shutil.copy(ran('which')[1].strip(), os.path.join(out, 'released'))
+    with open(os.path.join(TOP, 'crates.txt'), encoding='utf-8') as file:
+        lines = file.read()
+    os.unlink(os.path.join(room, 'crates.txt'))
+    with open(os.path.join(room, 'crates.txt'), 'w', encoding='utf-8') as file:
+        file.write(lines + 'mine: anyhow fizgaloms\n')
+    os.makedirs(os.path.join(room, 'crates', 'mine', 'src'))
+    with open(os.path.join(room, 'crates', 'mine', 'src', 'main.rt'), 'w', encoding='utf-8') as file:
+        file.write('fn main() {}\n')
+    done = subprocess.run([script, 'which'], stdout=subprocess.PIPE, stderr=subprocess.PIPE, text=True, timeout=30, check=False)
+    expect((done.returncode, done.stdout, done.stderr) == (0, os.path.join(out, 'released') + '\n', ''), done)
+
+
+def nothing_can_be_written(room):
+    """Where the program cannot be unpacked, as the folder is another user's, that is told in a line, with the status of the script."""
+    script = make_tree(room)
+    open(os.path.join(room, 'crates', 'boost_main', 'out'), 'w', encoding='utf-8').close()
+    unpacked, built = 'boost: the program cannot be unpacked: ', 'boost: the program was not built: '
+    for whys in ((unpacked, built), (built,)):     # (the release may be of other sources)
+        done = subprocess.run([script, '--quiet', '--version'], stdout=subprocess.PIPE, stderr=subprocess.PIPE, text=True, timeout=30,
+                              check=False)
+        expect(done.returncode == 5 and done.stderr.startswith(whys) and done.stderr.count('\n') == 1, done)
+        if os.path.exists(os.path.join(room, 'release')):
+            os.unlink(os.path.join(room, 'release'))
+
+
 def main():
     words_of_the_script()
-    with tempfile.TemporaryDirectory() as room:
-        a_door(room)
-    print('the words of the script, and its door')
+    for check in (a_door, a_crate_of_ones_own, nothing_can_be_written):
+        with tempfile.TemporaryDirectory() as room:
+            check(room)
+    print('the words of the script, its door, a crate beside, and a folder that cannot be written')
 
 
 if __name__ == '__main__':

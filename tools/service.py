@@ -142,6 +142,32 @@ def a_plain_file_is_no_door(_):
     return 'told, and nothing made'
 
 
+def attach_writes_into_no_other_file(_):
+    """Somebody of the folder's group puts links to a file in the place of the FIFOs as these are made."""
+    with tempfile.TemporaryDirectory() as room:
+        folder, precious, mkfifo = (os.path.join(room, name) for name in ('run', 'precious', 'mkfifo'))
+        for path, text in ((precious, 'precious'), (mkfifo, f'#!/bin/sh\nln -s {precious} "$3"\nln -s {precious} "$4"\n')):
+            with open(path, 'w', encoding='utf-8') as file:
+                file.write(text)
+        os.chmod(precious, 0o600)
+        os.chmod(mkfifo, 0o755)
+        os.mkdir(folder)
+        os.chmod(folder, 0o2770)
+        os.mkfifo(os.path.join(folder, 'door'))
+        if os.geteuid() == 0:
+            os.chown(folder, 0, 61234)
+        before = os.stat(precious)
+        door = os.open(os.path.join(folder, 'door'), os.O_RDWR)
+        ran = subprocess.run([ATTACH, folder, '1'], input='do hits read\n', stdout=subprocess.PIPE, stderr=subprocess.PIPE, text=True,
+                             env={**os.environ, 'PATH': room + ':' + os.environ['PATH']}, timeout=20, check=False)
+        os.close(door)
+        after = os.stat(precious)
+        same = ('st_size', 'st_mode', 'st_gid', 'st_mtime_ns')
+        assert all(getattr(before, name) == getattr(after, name) for name in same), (before, after)
+        assert ran.returncode == 1 and 'no FIFO' in ran.stderr and os.listdir(folder) == ['door'], (ran, os.listdir(folder))
+    return 'told, and the file is as it was'
+
+
 def as_user(user, groups, *words):
     """A command as another user, of a group of its own number and of these groups."""
     return ['setpriv', f'--reuid={user}', f'--regid={user}', f'--groups={groups}' if groups else '--clear-groups', *words]
@@ -187,7 +213,8 @@ def main():
         disk = os.path.join(unit.state, 'disk')
         subprocess.run([PROGRAM, 'format', disk, '--area', '1048576'], check=True)
         for check in (a_start_is_over_once_the_store_is_open, a_stop_waits_for_the_end, a_stop_of_a_dead_server_waits_for_nothing,
-                      attach_ends_with_the_server, attach_that_is_killed_keeps_no_lock, a_plain_file_is_no_door, three_users):
+                      attach_ends_with_the_server, attach_that_is_killed_keeps_no_lock, a_plain_file_is_no_door,
+                      attach_writes_into_no_other_file, three_users):
             print(f'{check.__name__}: {check(unit)}', flush=True)
 
 

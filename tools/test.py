@@ -4,7 +4,7 @@ and suffer, the unit's commands, cuts of the power. With words it runs the tests
 with which the gate begins, which are the ones that hang by no time.
 
 Two run side by side. A line tells what each came to and how long it took; what one printed that failed is shown. The status is 1 then.
-What a machine has not got (cc, dpkg-deb, FUSE with python3-fusepy, another user) its test says, and passes.
+What a machine has not got (cc, dpkg-deb, FUSE with python3-fusepy, a loop device, another user) its test says, and passes.
 """
 import os
 import shutil
@@ -28,6 +28,7 @@ TESTS = {
     'listeners': ['tools/listeners.py', BOOST, '20'],
     'the script boost': ['tools/script.py'],
     'closed streams': ['tools/closed_streams.py', PROGRAM],
+    'paths and scripts that mean harm': ['tools/attacks.py', PROGRAM],
     'the door': ['tools/door_attacks.py', PROGRAM],
     'a full store': ['tools/full_store.py', PROGRAM],
     'the client in Python': ['-m', 'unittest', 'discover', '-s', 'clients/python/tests'],
@@ -41,6 +42,7 @@ TESTS = {
     'moves of a part': ['tools/move_attacks.py', PROGRAM],
     'the standby': ['tools/standby.py', PROGRAM],
     'cuts of the power': ['tools/power.py', '10'],
+    'snapshots of the file system': ['tools/snapshots.py'],
     'all attacks at once': ['tools/mixed_attacks.py', '60', PROGRAM, '--full-serves-on'],
 }
 

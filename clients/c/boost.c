@@ -188,6 +188,14 @@ const char *boost_ask(struct boost *store, const char *format, ...)
     return answer;
 }
 
+int boost_is_word(const char *text)
+{
+    size_t size = strlen(text), at = 0;
+    while (at < size && text[at] > ' ' && text[at] < 127 && text[at] != ';')
+        at++;
+    return size > 0 && at == size;
+}
+
 void boost_set_timeout(struct boost *store, int seconds)
 {
     store->timeout = seconds > 0 ? seconds : 0;
@@ -328,6 +336,11 @@ static void become(const char *program, const char *disk, int input, int output)
 
 struct boost *boost_start(const char *program, const char *disk)
 {
+    return boost_start_within(program, disk, 0);
+}
+
+struct boost *boost_start_within(const char *program, const char *disk, int seconds)
+{
     int to[2], from[2];
     signal(SIGPIPE, SIG_IGN);
     if (pipe_above(to) != 0)
@@ -350,11 +363,12 @@ struct boost *boost_start(const char *program, const char *disk)
         errno = ENOMEM;
         return NULL;
     }
-    const char *hello = next_line(store, 0);
+    const char *hello = next_line(store, seconds > 0 ? now() + seconds : 0);
     if (hello != NULL && strcmp(hello, "hello boost 1") == 0)
         return store;
+    int why = hello == NULL && errno == ETIMEDOUT ? ETIMEDOUT : ECHILD;
     boost_close(store);
-    errno = ECHILD;
+    errno = why;
     return NULL;
 }
 
@@ -404,13 +418,19 @@ static struct boost *greeted(struct boost *store, double end)
     return NULL;
 }
 
-/* Comes in over two FIFOs that are there. What is opened for both ways does not wait for the other side, and holds a FIFO open
- * until its other end is. */
-static struct boost *come_in(const char *folder, const char *word, const char *to_path, const char *from_path, double end)
+/* Opens again, for one way, what is open for both. */
+static int open_again(int file, int way)
 {
-    int held = open(to_path, O_RDWR | O_CLOEXEC), guard = open(from_path, O_RDWR | O_CLOEXEC);
-    int to = open(to_path, O_WRONLY | O_CLOEXEC), from = open(from_path, O_RDONLY | O_CLOEXEC);
-    int here = held >= 0 && guard >= 0 && to >= 0 && from >= 0 && say_hello(folder, word, from, end) == 0;
+    char path[sizeof "/proc/self/fd/" + 3 * sizeof file];
+    snprintf(path, sizeof path, "/proc/self/fd/%d", file);
+    return file < 0 ? -1 : open(path, way | O_CLOEXEC);
+}
+
+/* Comes in over two FIFOs that are open for both ways, which holds them open until their other ends are, and closes these. */
+static struct boost *come_in(const char *folder, const char *word, int held, int guard, double end)
+{
+    int to = open_again(held, O_WRONLY), from = open_again(guard, O_RDONLY);
+    int here = to >= 0 && from >= 0 && say_hello(folder, word, from, end) == 0;
     int why = errno;
     close_file(&held);
     close_file(&guard);
@@ -423,18 +443,25 @@ static struct boost *come_in(const char *folder, const char *word, const char *t
     return greeted(client(to, from, "", 0), end);
 }
 
-/* Makes a FIFO in a folder: of the folder's group, which may read and write it, where that may write the folder. */
+/* Makes a FIFO in a folder and opens it for both ways, which waits for nobody. It is of the folder's group too, which may read and
+ * write it, where that may write the folder. Nobody's file is opened or changed that another of the group puts in its place. */
 static int make_fifo(const char *path, const struct stat *folder)
 {
-    int shared = (folder->st_mode & S_IWGRP) != 0;
+    struct stat made;
     if (mkfifo(path, 0600) != 0)
         return -1;
-    if (!shared)
-        return 0;
-    struct stat made;
-    if (stat(path, &made) == 0 && made.st_gid != folder->st_gid && chown(path, (uid_t)-1, folder->st_gid) != 0)
+    int file = open(path, O_RDWR | O_NOFOLLOW | O_NONBLOCK | O_CLOEXEC);
+    if (file < 0)
         return -1;
-    return chmod(path, 0660);
+    if (fstat(file, &made) != 0 || !S_ISFIFO(made.st_mode)) {
+        close(file);
+        errno = ENXIO;
+        return -1;
+    }
+    int is_shared = (folder->st_mode & S_IWGRP) != 0;
+    if (is_shared && (made.st_gid == folder->st_gid || fchown(file, (uid_t)-1, folder->st_gid) == 0))
+        fchmod(file, 0660);                   /* who is not of the group serves its own user alone */
+    return file;
 }
 
 /* Connects to a socket; again a little later where as many wait already as a socket lets wait. */
@@ -488,9 +515,14 @@ struct boost *boost_join_within(const char *folder, int seconds)
     snprintf(word, sizeof word, "c-%d-%u-%08x", (int)getpid(), __atomic_fetch_add(&count, 1, __ATOMIC_RELAXED), chance);
     snprintf(to, sizeof to, "%s/%s.to", folder, word);
     snprintf(from, sizeof from, "%s/%s.from", folder, word);
+    if (ask_door(folder, "") != 0)            /* a server removes FIFOs that lie there before it opens its door */
+        return NULL;
     struct boost *store = NULL;
-    if (make_fifo(to, &found) == 0 && make_fifo(from, &found) == 0)
-        store = come_in(folder, word, to, from, now() + seconds);
+    int held = make_fifo(to, &found), guard = held < 0 ? -1 : make_fifo(from, &found);
+    if (guard >= 0)
+        store = come_in(folder, word, held, guard, now() + seconds);
+    else
+        close_file(&held);
     int why = errno;
     unlink(to), unlink(from);                 /* the server has removed them, unless it never came */
     errno = why;
@@ -502,16 +534,28 @@ struct boost *boost_join(const char *folder)
     return boost_join_within(folder, BOOST_PATIENCE);
 }
 
+/* Tells a child to end, and waits for that up to the time-out: its answers end then. Whether it did. */
+static int has_child_ended(struct boost *store)
+{
+    double end = end_of(store);
+    if (store->to < 0)                                        /* out of step: it may stand still */
+        return 0;
+    write_within(store->to, "\nend\n", 5, now() + 1);         /* a forked process may hold the pipe open */
+    close_file(&store->to);
+    do
+        store->held = store->used = 0;
+    while (read_more(store, end) == 0);
+    return errno != ETIMEDOUT;
+}
+
 int boost_close(struct boost *store)
 {
-    int is_parent = store->owner == getpid(), status = 0;
-    if (is_parent && store->child != 0 && store->to < 0)
-        kill(store->child, SIGKILL);                          /* out of step: it may stand still */
-    else if (is_parent && store->child != 0)
-        write_within(store->to, "\nend\n", 5, now() + 1);     /* a forked process may hold the pipe open */
+    int is_of_parent = store->owner == getpid() && store->child != 0, status = 0;
+    if (is_of_parent && !has_child_ended(store))
+        kill(store->child, SIGKILL);
     close_file(&store->to);
     close_file(&store->from);
-    if (is_parent && store->child != 0)
+    if (is_of_parent)
         status = status_of(store->child);
     free(store->bytes);
     free(store);

@@ -18,8 +18,11 @@ extern "C" {
 struct boost;
 
 /* Starts `PROGRAM listen DISK` as a child of this process, in a process group of its own, and is its one client. NULL where it does
- * not start: errno is ECHILD then where it ended without a hello, and else what the system says. */
+ * not start: errno is ECHILD then where it ended without a hello, ETIMEDOUT where none came in the seconds that are given, and else
+ * what the system says. A store that is large, or whose server was killed, may take long to open: without seconds, or with 0, it is
+ * waited for without an end. */
 struct boost *boost_start(const char *program, const char *disk);
+struct boost *boost_start_within(const char *program, const char *disk, int seconds);
 
 /* Comes by the door of a folder: `boost listen DISK FOLDER`. Where 64 clients are served it waits until one goes, BOOST_PATIENCE
  * seconds, or the seconds that are given. NULL where it cannot: errno is ENXIO or ENOENT then where no server is there, and
@@ -32,7 +35,7 @@ enum { BOOST_PATIENCE = 60 };
 struct boost *boost_join(const char *folder);
 struct boost *boost_join_within(const char *folder, int seconds);
 
-/* From now on an answer is waited for so many seconds at most, 0 or less: for ever, as at first. */
+/* From now on an answer, and the end of a child, is waited for so many seconds at most, 0 or less: for ever, as at first. */
 void boost_set_timeout(struct boost *store, int seconds);
 
 /* Sends a line, as printf writes it, and gives its answer without the line feed, which stays until the next call. A line of over
@@ -42,6 +45,10 @@ void boost_set_timeout(struct boost *store, int seconds);
  * committed and not told kept may be kept or not. From then on each call is NULL with EPIPE, so no answer is ever taken for that of
  * another line. */
 const char *boost_ask(struct boost *store, const char *format, ...) __attribute__((format(printf, 2, 3)));
+
+/* Whether a text is one word of a line: printing characters of ASCII, none of which is a space or a semicolon. Look at each text that
+ * comes from elsewhere before it goes into a line: one with `; ` in it would bring a call of its own. Numbers and boost_hex are words. */
+int boost_is_word(const char *text);
 
 /* Asks again while another transaction is in the way, for so many seconds: for a `do` or a `keep` with calls. The last answer. */
 const char *boost_try(struct boost *store, int seconds, const char *format, ...) __attribute__((format(printf, 3, 4)));
@@ -65,9 +72,9 @@ enum { BOOST_VALUE = 1024 };
 char *boost_hex(char *text, const void *value, int size);
 int boost_unhex(void *value, const char *text);
 
-/* Lets the client go: what it had open is taken back. A child is told to end, or killed where an answer of it did not come, which loses
- * nothing that was told kept; its status is given once it has ended, 128 and the signal's number where it was killed. 0 of a server
- * that was joined. */
+/* Lets the client go: what it had open is taken back. A child is told to end, or killed where an answer of it did not come, or its end
+ * does not in time, which loses nothing that was told kept; its status is given once it has ended, 128 and the signal's number where it
+ * was killed. 0 of a server that was joined. */
 int boost_close(struct boost *store);
 
 #ifdef __cplusplus

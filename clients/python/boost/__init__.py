@@ -343,7 +343,8 @@ def start(program: Path, disk: Path, *options: str, timeout: Optional[float] = N
           comes_back: bool = False) -> Store:
     """Starts a server as a child, which keeps the store in the file `disk` open until `Store.close`. The options are words of
     its command line, as `'--idle', '30'`. It is waited for so many seconds of patience until the store is open: as many as the
-    time-out where that alone is named, and else 600. Then `TimedOut` is raised, and `Gone` where it does not start.
+    time-out where that alone is named, and else 600. Then `TimedOut` is raised, and `Gone` where it does not start. What it writes to
+    standard error comes to this program's own, and its last words stand in each `Gone`.
 
     Each call waits up to the time-out, 60 seconds where none is named. Where the server ended, one that comes back is started again
     by the next call."""

@@ -1,6 +1,7 @@
 """Clients of a server: lines in, answers out, in their order."""
 import contextlib
 import errno
+import functools
 import io
 import itertools
 import os
@@ -14,7 +15,8 @@ import sys
 import threading
 import time
 import weakref
-from typing import Any, Iterator, List, Optional, Sequence, Set, Union
+from _thread import start_new_thread
+from typing import Any, Callable, Dict, Iterator, List, Optional, Sequence, Set, Union
 
 from .errors import Closed, Error, Gone, NotServed, TimedOut
 from .lines import LONGEST, batches, bytes_of_line
@@ -34,6 +36,8 @@ SLICE = 0.5
 
 FORKED = 'a store is of no use over a fork: join its server anew'
 CLOSED_STORE = 'the store was closed'
+# How many bytes of a child's last words are kept.
+LAST_WORDS = 1000
 
 
 # ---- forks
@@ -52,6 +56,40 @@ def give_up() -> None:
 
 
 os.register_at_fork(before=OPENING.acquire, after_in_parent=OPENING.release, after_in_child=give_up)
+
+
+# ---- signals
+
+
+def apart(work: Callable[[], Any]) -> None:
+    """Does what opens descriptors or makes a process where no handler of a signal breaks it off between that and its owner's knowing of
+    them: handlers run in the main thread alone, which waits meanwhile. The work is short. What it raises is raised here."""
+    failed: List[BaseException] = []
+    ended: 'queue.SimpleQueue[None]' = queue.SimpleQueue()
+    is_over: List[None] = []
+
+    def do() -> None:
+        try:
+            work()
+        except BaseException as error:
+            failed.append(error)
+        is_over.append(None)
+        ended.put(None)
+
+    if threading.current_thread() is not threading.main_thread():
+        return work()
+    try:
+        start_new_thread(do, ())
+        ended.get()
+    except RuntimeError:                                            # no thread can be had
+        return work()
+    finally:
+        for _ in range(1000):                                       # where the waiting was broken off
+            if is_over or failed:
+                break
+            time.sleep(0.001)
+    if failed:
+        raise failed[0]
 
 
 # ---- connections
@@ -73,6 +111,7 @@ class Connection:
         self.over = ''                             # why it is of no use any more
         self.is_settled = False                    # whether all that it committed was known to be kept when it was closed
         self.lock = threading.Lock()
+        self.asker = 0                             # the thread that has asked last
         OWNERS.add(self)
 
     def come_in(self, seconds: float) -> None:
@@ -92,6 +131,7 @@ class Connection:
         data = [bytes_of_line(line, self.longest) for line in lines]
         self.check()
         with self.lock:
+            self.asker = threading.get_ident()
             self.check()
             self.state = ASKING
             try:
@@ -120,6 +160,12 @@ class Connection:
                 raise Closed(self.over)
             if left <= 0:
                 raise TimedOut('no answer within %g seconds' % seconds)
+
+    def is_of_use(self) -> bool:
+        """Whether it may be asked by this thread, which does not ask it now. If this thread holds its lock all the same, it does so for
+        ever: an exception has left a `with` without its end, as that of a signal handler may in Python 3.8 and 3.9."""
+        is_stuck = self.lock.locked() and self.asker == threading.get_ident()
+        return self.state == IN_STEP and not self.over and not is_stuck
 
     def close(self, why: str = CLOSED_STORE) -> None:
         """Closes it; what it has open is taken back."""
@@ -173,8 +219,10 @@ class Connection:
 class Stream(Connection):
     """A client that writes its lines into one descriptor, and reads its answers from one: which may be the same."""
 
+    open: List[Any] = []
+
     def __init__(self, timeout: float) -> None:
-        self.open: List[Any] = []                  # what is closed once it is let go
+        self.open = []                             # what is closed once it is let go
         super().__init__(timeout)
         self.to = self.answers = -1
         self.buffer = bytearray()
@@ -235,7 +283,7 @@ class Stream(Connection):
         raise AssertionError
 
     def is_alive(self) -> bool:
-        return self.state == IN_STEP and not self.buffer and not self.readable.poll(0)
+        return self.is_of_use() and not self.buffer and not self.readable.poll(0)
 
     def let_go(self) -> None:
         self.to = self.answers = -1
@@ -255,9 +303,7 @@ class Pipes(Stream):
 
     def meet(self, seconds: float) -> None:
         try:
-            with OPENING:
-                held = [self.make_fifo(path) for path in self.paths]
-                self.open_both(*held)
+            apart(self.open_fifos)
             self.say_hello(min(seconds, self.patience))
             for file in self.open[:2]:
                 file.close()
@@ -268,6 +314,13 @@ class Pipes(Stream):
             for path in self.paths:                # the server has removed them, unless it never came
                 with contextlib.suppress(OSError):
                     os.unlink(path)
+
+    def open_fifos(self) -> None:
+        """Makes and opens the FIFOs. A server removes those that lie there before it opens its door: so that is looked for first."""
+        self.ask_door(b'')
+        with OPENING:
+            held = [self.make_fifo(path) for path in self.paths]
+            self.open_both(*held)
 
     def make_fifo(self, path: str) -> int:
         """Makes a FIFO, and opens it for both ways, which waits for nobody. It is for the group of the folder too where that may
@@ -309,7 +362,7 @@ class Pipes(Stream):
         end = time.monotonic() + patience
         while True:
             with contextlib.suppress(BlockingIOError):              # the door is full
-                self.ask_door(hello)                                # later nothing: has the server died?
+                apart(lambda: self.ask_door(hello))                 # later nothing: has the server died?
                 hello = b''
             left = end - time.monotonic()
             if self.fill(max(0.0, min(0.05 if hello else SLICE, left))):
@@ -337,9 +390,8 @@ class Socket(Stream):
         patience = min(seconds, self.patience)
         end = time.monotonic() + patience
         try:
-            with OPENING:
-                connected = socket.socket(socket.AF_UNIX, socket.SOCK_STREAM | socket.SOCK_CLOEXEC | socket.SOCK_NONBLOCK)
-                self.open.append(connected)
+            apart(self.open_socket)
+            connected = self.open[0]
             while not self.is_connected(connected):
                 if time.monotonic() >= end:
                     raise NotServed('the gate at %s took nobody within %g seconds' % (self.path, patience))
@@ -356,6 +408,10 @@ class Socket(Stream):
         except Gone as error:
             raise Gone('the gate at %s let this program go: %s' % (self.path, error)) from error
 
+    def open_socket(self) -> None:
+        with OPENING:
+            self.open.append(socket.socket(socket.AF_UNIX, socket.SOCK_STREAM | socket.SOCK_CLOEXEC | socket.SOCK_NONBLOCK))
+
     def is_connected(self, connected: socket.socket) -> bool:
         """Connects, but where as many wait already as a socket lets wait."""
         try:
@@ -365,31 +421,106 @@ class Socket(Stream):
         return True
 
 
+def write_at_once(lock: Any, file: Any, line: bytes) -> bool:
+    """Writes a line into a child's input, whose lock this is. Whether that could be done without waiting; what is closed takes all."""
+    if not lock.acquire(blocking=False):
+        return False
+    try:
+        if not file.closed:
+            os.write(file.fileno(), line)
+        return True
+    except BlockingIOError:
+        return False
+    except OSError:                                                 # it ends
+        return True
+    finally:
+        lock.release()
+
+
 class Answers:
     """What a child answers, which a thread of its own reads and hands out to the clients by their numbers. 0 hears the hello. A
-    number is taken from when it is given to a client until a bye is said for it, as that client is gone."""
+    client has its number as long as the queue lives into which its answers go. Then the thread says a bye for the number, which is free
+    once that is answered: so no client gets an answer to what another one asked. The thread alone does that, as no signal breaks it off;
+    it is rung up where it has to look."""
 
     def __init__(self) -> None:
+        self.lock = threading.RLock()
         self.hello: 'queue.SimpleQueue[Optional[str]]' = queue.SimpleQueue()
         self.of: 'weakref.WeakValueDictionary[int, queue.SimpleQueue[Optional[str]]]' = weakref.WeakValueDictionary({0: self.hello})
-        self.taken: Set[int] = set()
-        self.free: 'queue.SimpleQueue[int]' = queue.SimpleQueue()
-        for number in range(1, CLIENTS + 1):
-            self.free.put(number)
+        self.free: Dict[int, None] = dict.fromkeys(range(1, CLIENTS + 1))    # who was freed first is given first
+        self.leaving: Set[int] = set()
+        self.bell: List[io.FileIO] = []
         self.is_over = False
 
-    def read(self, output: Any) -> None:
-        """Reads up to the end. What stands behind the last line feed is no answer."""
+    def take(self, answers: 'queue.SimpleQueue[Optional[str]]') -> int:
+        """A number for the client of these answers, and 0 where none is free. It is never neither free nor theirs."""
+        with self.lock:
+            number = next(iter(self.free), 0)
+            if number:
+                self.of[number] = answers
+                self.free.pop(number)
+        return number
+
+    def has_gone(self) -> bool:
+        """Whether a client seems to be gone for whose number no bye was said."""
+        return len(self.free) + len(self.leaving) + len(self.of) < CLIENTS
+
+    def hang_bell(self) -> None:
+        for number, mode in zip(os.pipe2(os.O_CLOEXEC | os.O_NONBLOCK), ('rb', 'wb')):
+            self.bell.append(io.FileIO(number, mode))
+
+    def ring(self) -> None:
+        with self.lock, contextlib.suppress(BlockingIOError):
+            if self.bell and not self.bell[1].closed:
+                os.write(self.bell[1].fileno(), b'.')
+
+    def close(self) -> None:
+        with self.lock:
+            for file in self.bell:
+                file.close()
+
+    def read(self, output: Any, errors: 'Errors', say: Callable[[bytes], bool]) -> None:
+        """Reads up to the end. What stands behind the last line feed is no answer. Byes are said so, where there is room at once."""
         rest = b''
         try:
-            with output:
-                for data in iter(lambda: output.read(READ), b''):
+            with output, contextlib.closing(errors), contextlib.closing(self):
+                for data in self.coming(output, errors, say):
                     *lines, rest = (rest + data).split(b'\n')
                     for line in lines:
                         self.hand_out(line.decode(errors='replace'))
         finally:
             self.is_over = True
             self.tell_all()
+
+    def coming(self, output: Any, errors: 'Errors', say: Callable[[bytes], bool]) -> Iterator[bytes]:
+        """Yields what comes from the output, up to its end. Meanwhile it hears errors, and says byes."""
+        bell, wait = self.bell[0], None
+        watched = select.poll()
+        for file in (output, errors.read, bell):
+            watched.register(file, select.POLLIN)
+        while True:
+            ready = {number for number, _ in watched.poll(wait)}
+            if errors.read.fileno() in ready and not errors.hear():
+                watched.unregister(errors.read)
+            if output.fileno() in ready:
+                data = output.read(READ)
+                if not data:
+                    break
+                yield data
+            if bell.fileno() in ready:
+                bell.read(READ)
+            if wait or bell.fileno() in ready or self.has_gone():
+                wait = None if self.say_byes(say) else 10
+        errors.hear()
+
+    def say_byes(self, say: Callable[[bytes], bool]) -> bool:
+        """Lets the clients go that are gone. Whether there was room to say so."""
+        for number in range(1, CLIENTS + 1):
+            if number not in self.free and number not in self.leaving and number not in self.of:
+                if not say(b'c%d bye\n' % number):
+                    return False
+                self.leaving.add(number)
+        return True
 
     def hand_out(self, line: str) -> None:
         tag, _, answer = line.partition(' ')
@@ -399,8 +530,10 @@ class Answers:
             answers.put(answer)
         elif number == 0:
             self.tell_all()                        # one of them misses its answer, and nobody knows which
-        elif answer == 'bye':
-            self.free.put(number)
+        elif answer == 'bye' and number in self.leaving:
+            with self.lock:
+                self.leaving.discard(number)
+                self.free[number] = None
 
     def tell_all(self) -> None:
         """Tells all clients that what they wait for does not come."""
@@ -408,34 +541,92 @@ class Answers:
             answers.put(None)
 
 
+class Errors:
+    """The standard error of a child. What comes is written to that of this program, but where there is no room for it at once; and the
+    last words are kept, so that who is told that the child is gone is told why."""
+
+    def __init__(self, read: Any) -> None:
+        self.read, self.words = read, b''
+        self.own: Optional[io.FileIO] = None
+        os.set_blocking(read.fileno(), False)
+        with contextlib.suppress(OSError):                          # it is closed, or no descriptor is left
+            self.own = io.FileIO(os.dup(2), 'wb')
+
+    def hear(self) -> bool:
+        """Takes what has come, as much as a pipe holds. Whether more may come."""
+        data = self.read.read(READ)
+        if data:
+            self.words = (self.words + data)[-LAST_WORDS:]
+            with contextlib.suppress(OSError):
+                self.hand_on(data)
+        return data != b''
+
+    def hand_on(self, data: bytes) -> None:
+        if self.own is not None:
+            room, number = select.poll(), self.own.fileno()
+            room.register(number, select.POLLOUT)
+            while data and room.poll(0) == [(number, select.POLLOUT)]:         # and not where its reader is gone, which is a signal
+                data = data[os.write(number, data[:select.PIPE_BUF]):]
+
+    def last(self) -> str:
+        """The lines of the last words, in one."""
+        return ' / '.join(line.strip() for line in self.words.decode(errors='replace').splitlines() if line.strip())
+
+    def close(self) -> None:
+        self.read.close()
+        if self.own is not None:
+            self.own.close()
+
+
+def status_of(number: int) -> Optional[int]:
+    """The status with which the child of this number has ended, as `subprocess` tells it, and none while it runs. It is still to be
+    waited for. A lock, which an interrupt in the wrong moment would leave taken for ever, is not taken, as it is by `Popen.poll`."""
+    try:
+        ended = os.waitid(os.P_PID, number, os.WEXITED | os.WNOHANG | os.WNOWAIT)
+    except ChildProcessError:                                       # this program is told of no child's end
+        return 0
+    if ended is None:
+        return None
+    return ended.si_status if ended.si_code == os.CLD_EXITED else -ended.si_status
+
+
 class Child:
     """A server that was started as a child, and where it comes back another one behind it. It ends with the store that has it,
     also where nobody closes that. In a session of its own no Ctrl-C of a terminal ends it."""
 
+    process: Optional['subprocess.Popen[bytes]'] = None
+    reader: Optional[threading.Thread] = None
+
     def __init__(self, words: List[str], patience: float, comes_back: bool) -> None:
         self.words, self.patience, self.comes_back = words, patience, comes_back
-        self.process: Optional['subprocess.Popen[bytes]'] = None
-        self.starting, self.lock = threading.Lock(), threading.RLock()
+        self.lock = threading.RLock()
+        self.starting = threading.Lock()                            # held by the one who starts it, who put it here
         OWNERS.add(self)
         self.begin()
 
     def begin(self) -> None:
+        self.reader, self.latest = None, Answers()
         try:
-            with OPENING:
-                self.process = subprocess.Popen(self.words, stdin=subprocess.PIPE, stdout=subprocess.PIPE, bufsize=0,
-                                                start_new_session=True)
-        except OSError as error:
-            raise Gone('no server can be started: %s' % error) from error
-        answers = Answers()
-        self.reader = threading.Thread(target=answers.read, args=(self.process.stdout,), daemon=True)
-        try:
-            os.set_blocking(self.input.fileno(), False)
-            self.reader.start()
-            self.hear_hello(answers)
+            try:
+                apart(self.launch)
+            except OSError as error:
+                raise Gone('no server can be started: %s' % error) from error
+            self.hear_hello(self.latest)
+            self.answers = self.latest
         except BaseException:
             self.kill()
             raise
-        self.answers = answers
+
+    def launch(self) -> None:
+        with OPENING:
+            self.process = subprocess.Popen(self.words, stdin=subprocess.PIPE, stdout=subprocess.PIPE, stderr=subprocess.PIPE,
+                                            bufsize=0, start_new_session=True)
+            self.errors = Errors(self.process.stderr)
+            self.latest.hang_bell()
+        os.set_blocking(self.input.fileno(), False)
+        say = functools.partial(write_at_once, self.lock, self.input)
+        self.reader = threading.Thread(target=self.latest.read, args=(self.process.stdout, self.errors, say), daemon=True)
+        self.reader.start()
 
     @property
     def input(self) -> Any:
@@ -450,36 +641,55 @@ class Child:
             with contextlib.suppress(queue.Empty):
                 hello = answers.hello.get(timeout=max(0.0, min(SLICE, left)))
                 if hello != HELLO:
-                    raise Gone('the server did not start, with %s: its standard error says why' % self.status())
+                    raise Gone('the server did not start, with %s' % self.status())
             if left <= 0 and not hello:
                 raise TimedOut('the server did not say hello within %g seconds' % self.patience)
         del answers.of[0]
 
     def status(self) -> str:
-        """How it ended, where it has or is about to."""
-        assert self.process
-        try:
-            return 'status %d' % self.process.wait(1)
-        except subprocess.TimeoutExpired:
-            return 'no status'
+        """How it ended, where it has or is about to, and its last words."""
+        ended, words = self.ended_within(1), self.errors.last()
+        return ('no status' if ended is None else 'status %d' % ended) + (words and ': ' + words)
+
+    def ended_within(self, seconds: float) -> Optional[int]:
+        """The status with which it ends within so many seconds."""
+        end, pause = time.monotonic() + seconds, 0.0005
+        while self.process is not None:
+            status = status_of(self.process.pid) if self.process.returncode is None else self.process.returncode
+            left = end - time.monotonic()
+            if status is not None or left <= 0:
+                return status
+            time.sleep(min(pause, left))
+            pause = min(2 * pause, 0.05)
+        return None
 
     def serving(self, seconds: float) -> Answers:
-        """What the child answers that serves within so many seconds."""
-        if not self.starting.acquire(timeout=min(seconds, threading.TIMEOUT_MAX)):
-            raise NotServed('the server did not start within %g seconds' % seconds)
-        try:
+        """What the child answers that serves within so many seconds. One at a time starts it: whoever holds the lock that stands in
+        `starting`, and so nobody any more whose work was broken off."""
+        turn = threading.Lock()
+        with turn:
+            end = time.monotonic() + seconds
+            while not self.takes_turn(turn):
+                if time.monotonic() >= end:
+                    raise NotServed('the server did not start within %g seconds' % seconds)
+                time.sleep(0.01)
             if self.has_ended(self.answers):
                 if not self.comes_back:
                     raise Gone('the server ended, with %s' % self.status())
                 self.kill()
                 self.begin()
             return self.answers
-        finally:
-            self.starting.release()
+
+    def takes_turn(self, turn: threading.Lock) -> bool:
+        with self.lock:
+            is_free = not self.starting.locked()
+            if is_free:
+                self.starting = turn
+        return is_free
 
     def has_ended(self, answers: Answers) -> bool:
         """Whether the server has ended that gives these answers, also where their reader has not come to the end of them yet."""
-        return answers.is_over or answers is self.answers and self.process is not None and self.process.poll() is not None
+        return answers.is_over or answers is self.answers and self.ended_within(0) is not None
 
     def write(self, answers: Answers, lines: bytes, pause: float = 0.0) -> bool:
         """Writes lines that go into a pipe at once or not at all. Where there is no room it waits for some, so many seconds."""
@@ -492,19 +702,11 @@ class Child:
             except BlockingIOError:
                 room.register(self.input, select.POLLOUT)
             except OSError as error:
-                if self.reader is not threading.current_thread():
+                if self.reader and self.reader is not threading.current_thread():
                     self.reader.join(1)                             # then the next call knows that this one is over
                 raise Gone('the server ended, with %s' % self.status()) from error
         room.poll(pause * 1000)
         return False
-
-    def say_byes(self, answers: Answers) -> None:
-        """Lets the clients go that are gone. The number of each is free once all that it asked for is answered, and its bye is."""
-        with self.lock, contextlib.suppress(Error):
-            for number in [number for number in answers.taken if number not in answers.of]:
-                answers.taken.discard(number)
-                if not self.write(answers, b'c%d bye\n' % number):
-                    answers.taken.add(number)
 
     def end(self, timeout: float) -> int:
         """Says `end`, and waits for the server's end, so many seconds. Then it is killed. Gives its status."""
@@ -516,22 +718,37 @@ class Child:
                 self.input.close()
         if self.reader is threading.current_thread():               # the last that had it was dropped there
             return 0
-        with contextlib.suppress(subprocess.TimeoutExpired):
-            self.process.wait(None if timeout == float('inf') else timeout)
+        self.ended_within(timeout)
         return self.kill()
 
     def kill(self) -> int:
-        """Makes sure that it has ended, and that nothing of it is left."""
-        assert self.process and self.process.stdout
-        if self.process.poll() is None:
+        """Makes sure that it has ended, and that nothing of it is left; but of one that stands still in the kernel a signal is."""
+        if self.process is None:
+            return 0
+        assert self.process.stdout and self.process.stderr
+        status = self.ended_within(0)
+        if status is None:
             with contextlib.suppress(ProcessLookupError):
                 os.killpg(self.process.pid, signal.SIGKILL)
+            status = self.ended_within(1)
         self.input.close()
-        if self.reader.ident:
+        if self.reader and self.reader.ident:
             self.reader.join(1)
         else:
             self.process.stdout.close()
-        return self.process.wait()
+            self.process.stderr.close()
+            self.latest.close()
+        if status is None:
+            self.process.returncode = -signal.SIGKILL
+            return -signal.SIGKILL
+        with self.lock:
+            if self.process.returncode is None:
+                self.process.returncode = status
+                try:
+                    os.waitpid(self.process.pid, 0)
+                except ChildProcessError:
+                    pass
+        return status
 
     def __del__(self) -> None:
         if self.process and self.process.returncode is None and not sys.is_finalizing():
@@ -543,37 +760,46 @@ class Child:
         if process and process.stdin and process.stdout:
             process.stdin.close()
             process.stdout.close()
+            self.errors.close()
+            for file in self.latest.bell:
+                file.close()
             process.returncode = 0
+
+
+# The answers of no client.
+NOBODYS: 'queue.SimpleQueue[Optional[str]]' = queue.SimpleQueue()
 
 
 class Shared(Connection):
     """One of the clients that share a child's input and output."""
 
     longest = LONGEST - len('c64 ')
+    of: Optional[Answers] = None
+    answers = NOBODYS
 
     def __init__(self, child: Child, timeout: float) -> None:
-        self.number = 0
         super().__init__(timeout)
         self.child = child
 
     def meet(self, seconds: float) -> None:
         self.of = self.child.serving(seconds)
-        end = time.monotonic() + seconds
-        while not self.number:
-            self.child.say_byes(self.of)
-            left = end - time.monotonic()
-            with contextlib.suppress(queue.Empty):
-                self.number = self.of.free.get(timeout=max(0.0, min(SLICE, left)))
+        self.answers = queue.SimpleQueue()
+        end, pause = time.monotonic() + seconds, 0.001
+        while True:
+            number = self.of.take(self.answers)
+            if number:
+                break
             if self.of.is_over:
                 raise Gone('the server ended')
-            if left <= 0 and not self.number:
+            if time.monotonic() >= end:
                 raise NotServed('all clients are taken, and none was let go within %g seconds' % seconds)
-        self.tag = b'c%d ' % self.number
-        self.answers: 'queue.SimpleQueue[Optional[str]]' = queue.SimpleQueue()
-        self.of.of[self.number] = self.answers
-        self.of.taken.add(self.number)
+            self.of.ring()
+            time.sleep(min(pause, max(0.0, end - time.monotonic())))
+            pause = min(2 * pause, 0.05)
+        self.tag = b'c%d ' % number
 
     def send_lines(self, lines: Sequence[bytes], timeout: Optional[float]) -> None:
+        assert self.of
         if b'bye\n' in lines:
             raise ValueError('a client of a child says no bye: it is closed')
         for batch in batches([self.tag + line for line in lines]):
@@ -582,6 +808,7 @@ class Shared(Connection):
                     break
 
     def receive(self, timeout: Optional[float] = None) -> str:
+        assert self.of
         for pause in self.slices(timeout):
             is_over = self.of.is_over
             with contextlib.suppress(queue.Empty):
@@ -595,15 +822,15 @@ class Shared(Connection):
         raise AssertionError
 
     def is_alive(self) -> bool:
-        if len(self.of.taken) > len(self.of.of):
-            self.child.say_byes(self.of)
-        return self.state == IN_STEP and not self.child.has_ended(self.of) and self.answers.empty()
+        assert self.of
+        if self.of.has_gone():
+            self.of.ring()
+        return self.is_of_use() and not self.child.has_ended(self.of) and self.answers.empty()
 
     def let_go(self) -> None:
-        number, self.number = self.number, 0
-        if number:
-            self.of.of.pop(number, None)
-            self.child.say_byes(self.of)
+        self.answers = NOBODYS                     # so the queue is gone that had the number
+        if self.of:
+            self.of.ring()
 
     def forget(self) -> None:
-        self.number = 0
+        self.answers, self.of = NOBODYS, None

@@ -22,6 +22,8 @@ PORT = 7300
 EVERY = 5.0
 # For how many seconds samples are kept, and from how many on a plot is as wide as they reach.
 HOUR, LEAST = 3600.0, 60.0
+# After how many seconds in which records wait and none is kept the device is said to stand still.
+STILL = 10.0
 CLIENTS, RECORDS = 64, 16384
 # How many columns a plot has, and how many rows.
 WIDTH, HEIGHT = 560, 100
@@ -125,6 +127,18 @@ class Seen(NamedTuple):
     since: float
     state: Optional[State]
     samples: List[Sample]
+
+
+def still_since(samples: Sequence[Sample]) -> Optional[float]:
+    """The second since which records have waited for the disk and none was kept, as far as the samples tell: the device stands still, or
+    no checkpoint makes room. None where that is not so."""
+    since: Optional[float] = None
+    for sample in reversed(samples):
+        told = sample.numbers
+        if not told.get('waiting') or any(told.get(name) != samples[-1].numbers.get(name) for name in ('used', 'in_use')):
+            break
+        since = sample.second
+    return since
 
 
 # ---- plots
@@ -245,6 +259,11 @@ def page_of(seen: Seen, every: float = EVERY) -> str:
         told = '<p class="away">No server answers at %s, since %s: %s</p>\n' % (folder, since, html.escape(seen.why))
     elif seen.state and seen.state.numbers.get('failed'):
         told = '<p class="away">Keeping has failed: the server ends, and its standard error says why.</p>\n'
+    else:
+        still = still_since(seen.samples)
+        if still is not None and seen.samples[-1].second - still >= STILL:
+            told = ('<p class="away">Records wait, and nothing was kept since %s: the device stands still.</p>\n'
+                    % time.strftime('%H:%M:%S', time.localtime(still)))
     body = ''
     if seen.state:
         body = ('<div%s><h2>Room</h2>\n<table>%s</table>\n<h2>Collections</h2>\n%s</div>\n'
@@ -289,6 +308,9 @@ def metrics_of(seen: Seen) -> str:
         name = 'boost_' + re.sub(r'\W', '_', part)
         name, kind, meaning = METRICS.get(part, (name, 'gauge', 'The part %s of status.' % part))
         told += metric(name, kind, meaning, ['%s %s' % (name, number)])
+    still = still_since(seen.samples)
+    told += metric('boost_still_seconds', 'gauge', 'For how long records have waited and none was kept.',
+                   ['boost_still_seconds %.1f' % (0 if still is None else seen.samples[-1].second - still)])
     if 'failed' not in seen.state.numbers:
         told += metric('boost_failed', 'gauge', 'The part failed of status.', ['boost_failed 0'])
     items = ['boost_collection_items{kind=%s,name=%s} %s' % (label(kind), label(name), count)

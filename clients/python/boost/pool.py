@@ -100,7 +100,9 @@ class Pool:
         with self.lock:
             if self.over:
                 connection.close()
-            elif connection.state == IN_STEP:
+            elif not connection.is_of_use():
+                connection.shut()
+            else:
                 self.idle.append(connection)
                 if len(self.idle) > self.at_rest and not self.line:
                     surplus = self.idle.popleft()
