@@ -244,9 +244,10 @@ class Stage(door_attacks.Place):
             raise Wrong(f'the server does not start: status {self.server.returncode}, {self.what_it_said()}')
 
     def what_it_said(self):
-        """What stands on standard error, but for what is passed over."""
+        """What stands on standard error, but for what is passed over, and that the store is nearly full."""
         with open(self.errors, encoding='utf-8') as file:
-            lines = [line for line in file.read().splitlines() if not line.startswith('boost: passed over ')]
+            lines = [line for line in file.read().splitlines()
+                     if not line.startswith('boost: passed over ') and not line.endswith(' of 100 full')]
         return '; '.join(lines)
 
     def kill_server(self):

@@ -215,7 +215,7 @@ fn serve_script<
     if status == NOT_UNDERSTOOD {
         tell_first_unclear(rt.alloc(), text.as_slice(), err);
     }
-    if why {
+    if why || status == REFUSED {
         tell_cause(&closed.disk, err);
     }
     Ok(status)
