@@ -555,10 +555,12 @@ def how_the_store_stands():
         assert (kept.live, kept.waiting, [each.items for each in kept.collections]) == (0, 0, [1, 1, 0]), kept
         assert kept.used > begun.used
     place.end()
-    assert kept == stat(place.disk), (kept, stat(place.disk))
+    # (what the next image takes is told too large while a server runs, and to the byte by `stat`)
+    kept = kept._replace(checkpoint=0)
+    assert kept == stat(place.disk)._replace(checkpoint=0), (kept, stat(place.disk))
     place.serve()
     with boost.join(place.door) as store:
-        assert store.status() == kept, (store.status(), kept)
+        assert store.status()._replace(checkpoint=0) == kept, (store.status(), kept)
     place.end()
     return '7 answers'
 

@@ -48,7 +48,7 @@ TESTS = {
 
 # The gate begins with these.
 GATE = ('definitions', 'crates that pages name', 'the walk through a disk', 'the commands of the pages', 'the examples in Python',
-        'the examples in C', 'the script boost', 'closed streams', 'the client in Python', 'the client in C',
+        'the examples in C', 'the script boost', 'closed streams', 'a full store', 'the client in Python', 'the client in C',
         'the programs at the gate')
 
 
