@@ -5,11 +5,14 @@ Whoever would leave no room for the next image is refused 18 Full. The server se
 removes go on, others' commits are kept, a kill leaves a store that opens, and has what was kept. The program is the one that
 `./boost` runs, unless one is named. It prints a line for each attack, and ends with status 1 where one succeeds.
 """
+import contextlib
 import os
+import resource
 import subprocess
 import sys
 import tempfile
 import threading
+import time
 
 TOP = os.path.dirname(os.path.dirname(os.path.realpath(__file__)))
 
@@ -37,7 +40,7 @@ class Server:
     def start(self):
         with open(self.errors, 'ab') as errors:
             self.process = subprocess.Popen([PROGRAM, 'listen', self.disk], stdin=subprocess.PIPE, stdout=subprocess.PIPE,
-                                            stderr=errors)
+                                            stderr=errors, restore_signals=False)
         self.waiting, self.lock = {}, threading.Lock()
         self.reader = threading.Thread(target=self.read, args=(self.process,), daemon=True)
         self.reader.start()
@@ -95,6 +98,18 @@ class Client:
             stdin.write(f'{self.tag} {line}\n'.encode())
             stdin.flush()
         assert self.answers.came.acquire(timeout=seconds), f'no answer to {line[:40]!r} in {seconds} seconds: {self.server.said()}'
+        return self.answers.pop(0)
+
+    def ask_or_end(self, line, seconds):
+        """The answer, or none where the server ends."""
+        end = time.monotonic() + seconds
+        with contextlib.suppress(BrokenPipeError):
+            self.server.process.stdin.write(f'{self.tag} {line}\n'.encode())
+            self.server.process.stdin.flush()
+        while not self.answers.came.acquire(timeout=0.05):
+            if self.server.process.poll() is not None:
+                return None
+            assert time.monotonic() < end, f'no answer to {line[:40]!r} in {seconds} seconds, and no end'
         return self.answers.pop(0)
 
     def need(self, line, wanted=None):
@@ -294,6 +309,27 @@ def asked_again_and_again(folder):
     for key in range(count // 16):
         two.need(f'do m {put(key + 20_000)}')
     server.end()
+
+
+@attack
+def the_disk_fails_meanwhile(folder):
+    """The disk fails under the checkpoint for which a call waits. It is answered, and the server ends: no file takes its words then."""
+    server = Server(folder)
+    one = server.client(1)
+    one.need('make map m')
+    count = fill(one)
+    for key in range(count // 8):
+        one.need(f'do m remove {key}')
+    one.need('wait')
+    resource.prlimit(server.process.pid, resource.RLIMIT_FSIZE, (0, 0))
+    told = one.need('begin')
+    key = 30_000
+    while told is not None and not told.startswith('refused'):
+        told, key = one.ask_or_end(f'call m {put(key)}', 10), key + 1
+    assert told is None or told.startswith(('refused 18 Full', 'refused 23 Lost')), told
+    status = server.process.wait(10)
+    assert status == 1, status
+    assert server.opens().count(VALUE.hex()) == count - count // 8
 
 
 def written(server):
