@@ -322,8 +322,7 @@ def the_disk_fails_meanwhile(folder):
         one.need(f'do m remove {key}')
     one.need('wait')
     resource.prlimit(server.process.pid, resource.RLIMIT_FSIZE, (0, 0))
-    told = one.need('begin')
-    key = 30_000
+    told, key = one.ask_or_end('begin', 10), 30_000
     while told is not None and not told.startswith('refused'):
         told, key = one.ask_or_end(f'call m {put(key)}', 10), key + 1
     assert told is None or told.startswith(('refused 18 Full', 'refused 23 Lost')), told
