@@ -512,6 +512,15 @@ SWEPT = {
                 "c1 begin", "c1 call p draw", "c1 call p release 0", "turn", "c1 kept"],
     "room": ["c1 make map m", "c1 begin", f"repeat 0 100 c1 call m put # {ZEROS}", "c1 commit", "turn", "c1 begin", f"repeat 0 40 c1 call m put # {ZEROS}", "c1 commit", "turn",
              "c1 begin", f"repeat 0 10 c1 call m put # {ZEROS}", "c1 commit", "turn", "c1 kept", "checkpoint", "c1 kept", "turn", "turn"],
+    # The last block fits, but not the undoing of the open transaction behind it; the image fits with that.
+    "full": ["c1 make counter n", "c1 make map m", "c1 begin", "repeat 0 300 c1 call n bump 1", "turn",
+             "c2 begin", f"repeat 0 140 c2 call m put # {ZEROS}", "c2 commit", "turn",
+             "c2 begin", f"repeat 140 194 c2 call m put # {ZEROS}", "c2 commit", "turn", "c2 kept", "checkpoint", "c2 kept", "turn", "c2 kept"],
+    # The image fits, but not with that undoing, and then it does, as the transaction is aborted.
+    "no_image": ["c1 make counter n", "c1 make map m", "c1 begin", "repeat 0 300 c1 call n bump 1", "turn",
+                 "c2 begin", f"repeat 0 140 c2 call m put # {ZEROS}", "c2 commit", "turn",
+                 "c2 begin", f"repeat 140 204 c2 call m put # {ZEROS}", "c2 commit", "turn", "checkpoint", "c2 kept",
+                 "c1 abort", "checkpoint", "c2 kept", "turn", "c2 kept"],
 }
 
 

@@ -219,12 +219,12 @@ fn turn<D: Disk, J: Naming, R: Wait>(
     signal: &Signal,
     filling: &Filling,
 ) -> Result<Turn, Refusal> {
-    let turned = committer.turn_with_room(rt);
+    let turned = committer.turn(rt);
     if turned != Ok(Turn::Idle) {
         return turned;
     }
     let events = signal.prepare_wait();
-    let turned = committer.turn_with_room(rt);
+    let turned = committer.turn(rt);
     if turned == Ok(Turn::Idle) && !signal.is_over() && !filling.is_wished(signal) {
         events.wait(rt);
     } else {
@@ -252,7 +252,7 @@ fn checkpoint<D: Disk, J: Naming, R: Wait + Clock>(
     let mut pause = Pause::new();
     let mut tries = 0;
     for _ in rt.forever() {
-        match checkpointer.turn_with_room(rt) {
+        match checkpointer.turn(rt) {
             Ok(Checkpoint::Flipped(place)) => return Ok(place),
             Ok(_) | Err(Refusal::Outrun) => {}
             Err(Refusal::NoMemory) if tries < LAST_TRIES => {

@@ -1,5 +1,5 @@
 -- How long the blocks of an image are, and what is left of one behind its next block.
-use Rattle.std.proofs.Common.{◌≡◌, ℕ, ◌+◌, ◌<◌, ◌≤◌, List, [], ◌∷◌, ◌++◌, length, Bool, false}
+use Rattle.std.proofs.Common.{◌≡◌, ℕ, ◌+◌, ◌-◌, ◌<◌, ◌≤◌, List, [], ◌∷◌, ◌++◌, length, Bool, false}
 use Rattle.std.proofs.Common.{true≢false, drop, get_or, Vec, IsTrue}
 use Rattle.std.proofs.Common.{◌↔◌, Result, Ok, Err, IfOk, IfErr, OnErr, refl, sym, ◌∙◌, ap, subst}
 use Rattle.std.proofs.Common.{arith, append_assoc, length-append}
@@ -34,8 +34,8 @@ length-whole b rest whole =
     )
 
 -- the room that is left behind the first blocks
-abbrev pub Fitting : List (Vec ℕ Global) → ℕ → ℕ → ℕ → Type 0
-Fitting blocks size room i = room + bytes_in blocks ≡ size + bytes_in (drop i blocks)
+abbrev pub Leaves : List (Vec ℕ Global) → ℕ → ℕ → ℕ → Type 0
+Leaves blocks size room i = room ≡ size + bytes_in (drop i blocks) - bytes_in blocks
 
 -- the next block, where there is one
 pub next_is : (xs ys : List (Vec ℕ Global)) (b : Vec ℕ Global) → 1 ≤ length xs → b ≡ get_or xs 0 b →
@@ -130,3 +130,8 @@ pub not_too_long : (r : Bool) (size asked : ℕ) (blocks : List (Vec ℕ Global)
     IsTrue r ↔ IsTooLong asked blocks → r ≡ false → IsTooLong size blocks → ⊥
 not_too_long r size asked blocks is says told long =
     true≢false (sym (says.1 (subst (λ (n : ℕ). IsTooLong n blocks) (sym is) long)) ∙ told)
+
+-- what is left of an area, where so many bytes behind an image stay free
+pub shorter : (left size asked behind : ℕ) → left ≡ asked - behind → asked ≡ size →
+    left ≡ size - behind
+shorter left size asked behind is same = is ∙ ap (λ n. n - behind) same

@@ -28,7 +28,6 @@ use Rattle.checkpoint.specs.declared.stage.Ending.{Ending}
 use Rattle.checkpoint.specs.declared.stage.Stage.{Stage}
 use Rattle.checkpoint.specs.Imaging.{IsOther, IsBeingLaid, IsRooted, LeavesRoot, PicksWhole}
 use Rattle.checkpoint.specs.Imaging.{IsSameImage, IsAwaited, EndsThere, left_of, bodies_of}
-use Rattle.checkpoint.specs.Imaging.{given_up}
 use Rattle.checkpoint.specs.ImageAnswers.{IsStarted, HoldAnswers, BeginAnswers, PieceAnswers}
 use Rattle.checkpoint.specs.ImageAnswers.{FlipAnswers}
 use Rattle.checkpoint.specs.Keepers.{KeeperState, IsKeeper, IsOneOfTwo}
@@ -609,9 +608,9 @@ module _ {D : Type 0} (g : Ghosts D) (k l : KeeperState D)
       held_or (Err e) a = absurd a
 
   -- the image that is awaited begins, or is refused
-  pub begin_keeps : (image : Image) → image.blocks.items ≢ [] → (r : Result (Unit {0}) Refusal) →
-      BeginAnswers k image l r → BeginKeeps g image r k l
-  begin_keeps image some r a format start wear records now freezes images received begun is_for
+  pub begin_keeps : (image : Image) (behind : ℕ) → image.blocks.items ≢ [] →
+      (r : Result (Unit {0}) Refusal) → BeginAnswers k image behind l r → BeginKeeps g image r k l
+  begin_keeps image behind some r a format start wear records now freezes images received begun is_for
       stands
       had =
       begun_or r a
@@ -626,7 +625,7 @@ module _ {D : Type 0} (g : Ghosts D) (k l : KeeperState D)
           had
           g.moment g.left_since only_now
 
-      begun_or : (r : Result (Unit {0}) Refusal) → BeginAnswers k image l r →
+      begun_or : (r : Result (Unit {0}) Refusal) → BeginAnswers k image behind l r →
           Both (begun_with begun images r) l
       begun_or (Ok done) a =
           let awaited = awaiting k.stage image a.1 in
@@ -883,16 +882,3 @@ image_still g k only_now format start wear records now freezes images received h
       g.left_since
       only_now,
 )
-
--- an image that is awaited is given up, if one is
-pub give_up_keeps : {D : Type 0} (g : Ghosts D) (k : KeeperState D) →
-    ((c : List ℕ) → g.left_since k.disk (g.moment k.disk) c → g.may_leave k.disk c) →
-    (stage : Stage) → stage ≡ given_up k.stage → ImageKeeps g k (record k { stage = stage })
-give_up_keeps g k only_now stage is =
-    subst (λ s. ImageKeeps g k (record k { stage = s })) (sym is) (given k.stage refl)
-  where
-    given : (s : Stage) → k.stage ≡ s → ImageKeeps g k (record k { stage = given_up s })
-    given (Stage.Laid w) laid = subst (λ s. ImageKeeps g k (record k { stage = s })) laid
-        (image_still g k only_now)
-    given (Stage.Awaited e) awaited = stopped_keeps g k only_now
-    given Stage.Idle idle = stopped_keeps g k only_now

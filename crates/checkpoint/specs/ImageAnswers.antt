@@ -1,5 +1,5 @@
 -- When each answer of a call on images comes, and what it leaves of a keeper.
-use Rattle.std.specs.Prelude.{◌≡◌, ◌≢◌, ◌↔◌, ℕ, ◌≤◌, max, Bool, true, false, IsTrue, [], ◌∷◌}
+use Rattle.std.specs.Prelude.{◌≡◌, ◌≢◌, ◌↔◌, ℕ, ◌-◌, ◌≤◌, max, Bool, true, false, IsTrue, [], ◌∷◌}
 use Rattle.std.specs.Prelude.{length}
 use Rattle.std.specs.Prelude.{Vec, Result, Ok, Err}
 use Rattle.std.specs.declared.alloc.Global.{Global}
@@ -38,23 +38,23 @@ AskAnswers stage image (Err Refusal.Imaging) = IsHere stage
 AskAnswers stage image (Err Refusal.BadArg) = IsAwaitedElse stage image
 AskAnswers stage image (Err e) = ⊥
 
--- the image is laid into the other area from here on
-abbrev pub Begins : {D : Type 0} → KeeperState D → Image → KeeperState D → Type 0
-Begins k image l = ¬ IsTooLong (size_of k.area) image.blocks.items
+-- the image is laid into the other area from here on, where so many bytes behind it stay free
+abbrev pub Begins : {D : Type 0} → KeeperState D → Image → ℕ → KeeperState D → Type 0
+Begins k image behind l = ¬ IsTooLong (size_of k.area - behind) image.blocks.items
     × ((other : Area) × IsStarted k.area other ×
     (l ≡ record k { stage = Stage.Laid (record { area = other; image = image }) }))
 
--- the image that is awaited begins; or it is too long, and its end no longer held; or nothing
--- changes
-abbrev pub BeginAnswers : {D : Type 0} → KeeperState D → Image → KeeperState D →
+-- the image that is awaited begins; or it is too long, with so many bytes behind it, and its end no
+-- longer held; or nothing changes
+abbrev pub BeginAnswers : {D : Type 0} → KeeperState D → Image → ℕ → KeeperState D →
     Result (Unit {0}) Refusal → Type 0
-BeginAnswers k image l (Ok done) =
-    (k.failed ≡ false) × IsAwaited k.stage image × Begins k image l
-BeginAnswers k image l (Err Refusal.Failed) = (k.failed ≡ true) × (l ≡ k)
-BeginAnswers k image l (Err Refusal.Full) =
-    (k.failed ≡ false) × IsAwaited k.stage image × IsTooLong (size_of k.area) image.blocks.items
-    × (l ≡ record k { stage = Stage.Idle })
-BeginAnswers k image l (Err e) =
+BeginAnswers k image behind l (Ok done) =
+    (k.failed ≡ false) × IsAwaited k.stage image × Begins k image behind l
+BeginAnswers k image behind l (Err Refusal.Failed) = (k.failed ≡ true) × (l ≡ k)
+BeginAnswers k image behind l (Err Refusal.Full) =
+    (k.failed ≡ false) × IsAwaited k.stage image ×
+    IsTooLong (size_of k.area - behind) image.blocks.items × (l ≡ record k { stage = Stage.Idle })
+BeginAnswers k image behind l (Err e) =
     (k.failed ≡ false) × AskAnswers k.stage image (Err e) × (l ≡ k)
 
 -- the next block of an image was written; more tells whether another one is left

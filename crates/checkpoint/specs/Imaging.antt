@@ -85,11 +85,6 @@ end_of Stage.Idle = None
 end_of (Stage.Awaited e) = Some e.end
 end_of (Stage.Laid w) = Some w.image.end
 
--- where an image was awaited, none is any more
-abbrev pub given_up : Stage → Stage
-given_up (Stage.Awaited e) = Stage.Idle
-given_up stage = stage
-
 -- an image is here, and a piece of it is left
 abbrev pub HasPiece : Stage → Type 0
 HasPiece stage = IsSomeAnd (pieces_left stage) (λ n. 1 ≤ n)

@@ -11,7 +11,7 @@ ghost use Rattle.checkpoint.specs.declared.stage.Stage.{Stage};
 ghost use Rattle.checkpoint.specs.Imaging.{IsLaidBeside, HasPiece, IsBeingLaid};
 ghost use Rattle.checkpoint.specs.Imaging.{HasPlainRoot, IsRooted, LeavesRoot, PicksWhole};
 ghost use Rattle.checkpoint.specs.Imaging.{bodies_of, left_of};
-ghost use Rattle.checkpoint.specs.Imaging.{pieces_left, end_of, given_up};
+ghost use Rattle.checkpoint.specs.Imaging.{pieces_left, end_of};
 ghost use Rattle.gate_block.specs.Layout.{base_in_use};
 ghost use Rattle.gate_block.specs.Layout.{root_at};
 ghost use Rattle.checkpoint.specs.Keepers.{KeeperState, IsOneOfTwo, IsPast, OnKept, IsBrought};
@@ -142,6 +142,14 @@ impl<D: Disk> Keeper<D> {
         ensures { result.now ≡ self.now.area }
     {
         &self.area
+    }
+
+    /// The position up to which the image of the area in use covers the records: 0 before the first
+    /// flip.
+    pub fn covered(&self) -> u64
+        ensures { result ≡ self.now.covered }
+    {
+        self.covered
     }
 
     /// The end of the image that is being written: the one that is held, or the image's. None where
@@ -330,31 +338,21 @@ impl<D: Disk> Keeper<D> {
         Ok(())
     }
 
-    /// Gives up an image that is awaited and is not here yet: its end is no longer held, and no
-    /// image is being written. Where none is awaited, nothing changes. No device is called.
-    ///
-    /// A block that was held as it ends past the image stays held, and the next turn brings it.
-    pub fn give_up(&mut self)
-        ensures answer { self.new ≡ record self.old { stage = given_up self.old.stage } }
-        // What was received stays received, and a stop leaves what it left before.
-        ensures crash { ImageKeeps ⟦<D as Disk>⟧ self.old self.new }
-    {
-        self.stage.give_up();
-    }
-
     /// Begins to write the image that is awaited, which has a block, into the area that is not in
-    /// use. No device is called, no memory is taken and no block copied.
+    /// use, where so many bytes behind it stay free. No device is called, no memory is taken and no
+    /// block copied.
     ///
     /// An image that stands for a beginning of the book's records may be begun where its end is
     /// held: a stop leaves what it left before, and later calls go on from there.
     ///
     /// Refusals, in this order, each but the last with everything as before: Failed after a Fault;
     /// Unfinished where no end is held; Imaging where an image is here already; BadArg where the
-    /// image has another end or place than the one held; Full where the blocks, with a closed gate
-    /// behind the last, need more bytes than an area has, and then no image is being written.
-    pub fn begin_image(&mut self, image: Image) -> Result<(), Refusal>
+    /// image has another end or place than the one held; Full where the blocks, with those bytes
+    /// and a closed gate behind the last, need more than an area has, and then no image is being
+    /// written.
+    pub fn begin_image(&mut self, image: Image, behind: u64) -> Result<(), Refusal>
         requires some { image.blocks.items ≢ [] }
-        ensures answer { BeginAnswers self.old image self.new result }
+        ensures answer { BeginAnswers self.old image behind self.new result }
         // What was received stays received, and the image is one of those that were begun, where it
         // stands for a beginning of the book's records.
         ensures crash { BeginKeeps ⟦<D as Disk>⟧ image result self.old self.new }
@@ -366,7 +364,7 @@ impl<D: Disk> Keeper<D> {
             return Err(Refusal::Failed);
         }
         self.stage.ask_for(&image)?;
-        if is_too_long(&image, self.area.size()) {
+        if is_too_long(&image, self.area.size().saturating_sub(behind)) {
             self.stage = Stage::Idle;
             return Err(Refusal::Full);
         }

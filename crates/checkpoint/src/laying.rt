@@ -1,5 +1,5 @@
 // An image on its way into the area that is not in use.
-ghost use Rattle.std.specs.Prelude.{◌≡◌, ◌↔◌, ◌<◌, ◌≤◌, ◌+◌, ℕ, List, length, false};
+ghost use Rattle.std.specs.Prelude.{◌≡◌, ◌↔◌, ◌<◌, ◌≤◌, ◌+◌, ◌-◌, ℕ, List, length, false};
 ghost use Rattle.std.specs.Prelude.{IsTrue, OnOk, OnErr, IfOk, IfErr};
 ghost use Rattle.disk_model.specs.Disk.{LeavesOnly, Rises};
 ghost use Rattle.gate_block.specs.Row.{row, SameOutside};
@@ -78,13 +78,17 @@ pub fn other_area(area: &Area, whole: u64) -> Area
 pub fn is_too_long(image: &Image, size: u64) -> bool
     ensures { IsTrue result ↔ IsTooLong size image.now.blocks.items }
 {
+    room_behind(image, size) == 0
+}
+
+/// How many bytes an area of so many has behind the image's blocks, with the next gate: 0 where
+/// they need more.
+pub fn room_behind(image: &Image, size: u64) -> u64
+    ensures { result ≡ size - length (row (bodies_of image.now.blocks.items)) }
+{
     let mut room = size;
     for i in 0..image.blocks.len() {
-        let block = image.blocks[i].len() as u64 - 1;
-        if block > room {
-            return true;
-        }
-        room -= block;
+        room = room.saturating_sub(image.blocks[i].len() as u64 - 1);
     }
-    room == 0
+    room
 }

@@ -25,5 +25,5 @@ mod turn;
 
 pub use inbox::Inbox;
 pub use keeper::Keeper;
-pub use laying::{Laying, is_too_long};
+pub use laying::{Laying, is_too_long, room_behind};
 pub use turn::Turn;

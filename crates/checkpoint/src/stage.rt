@@ -1,6 +1,6 @@
 // How far the keeper is with an image.
 ghost use Rattle.std.specs.Prelude.{◌≡◌, ◌↔◌, [], IsTrue, IfSome, IfNone};
-ghost use Rattle.checkpoint.specs.Imaging.{EndsThere, IsWritten, left_of, end_of, given_up};
+ghost use Rattle.checkpoint.specs.Imaging.{EndsThere, IsWritten, left_of, end_of};
 ghost use Rattle.checkpoint.specs.Keepers.{IsPast};
 ghost use Rattle.checkpoint.specs.ImageAnswers.{AskAnswers};
 
@@ -79,15 +79,6 @@ impl Stage {
             Stage::Laid(_) => Err(Refusal::Imaging),
             Stage::Awaited(ending) if ending.is_of(image) => Ok(()),
             Stage::Awaited(_) => Err(Refusal::BadArg),
-        }
-    }
-
-    /// Gives up an image that is awaited, so that none is being written. Else nothing changes.
-    pub fn give_up(&mut self)
-        ensures { self.new ≡ given_up self.old }
-    {
-        if let Stage::Awaited(_) = self {
-            *self = Stage::Idle;
         }
     }
 

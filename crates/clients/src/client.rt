@@ -982,7 +982,7 @@ impl<'s, J: Naming, B: Coded> Client<'s, J, B> {
     ///
     /// `used` and `first` are as the committer last told them, and so behind the disk by a block at
     /// most while it is at work; as the store was opened, where none has told (`Committer::turn`
-    /// tells nothing, `Committer::turn_with_room` does).
+    /// tells nothing, `Committer::turn` does).
     ///
     /// NoMemory alone is refused. The client is as before in each case.
     pub fn status<R: Wait>(&self, rt: &R, alloc: Global) -> Result<Status, Refusal>

@@ -2,7 +2,6 @@
 ghost use Rattle.std.specs.Prelude.{◌≡◌, [], ◌∷◌, ◌++◌, Some, None, IfOk, IfErr};
 ghost use Rattle.std.specs.Prelude.{IsOkUnless, ◌⊎◌, ◌≤◌, Contains};
 ghost use Rattle.calls.specs.declared.refusal.Refusal.{Refusal};
-ghost use Rattle.calls.specs.Limits.{max_body};
 ghost use Rattle.catalog.specs.declared.four.Four.{Four};
 ghost use Rattle.catalog.specs.Fours.{Which, pick};
 ghost use Rattle.shelf.specs.Shelves.{ShelfState};
@@ -17,19 +16,19 @@ ghost use mathlib.Core.List.{IsPrefix};
 ghost use Rattle.desks.specs.Seen.{Steps};
 ghost use Rattle.desks.specs.Notes.{IsSent};
 ghost use Rattle.desks.specs.Told.{told_book};
+ghost use Rattle.engine.specs.Rooms.{IsWhyNone};
 ghost use Rattle.desks.specs.Touches.{Leads, IsJournalDesk};
 
 use crate::budget::{Admission, Budget, Fill};
 use crate::extent::Extent;
 use crate::footprint::{Change, Footprint};
 use crate::naming::Naming;
-use crate::room::Room;
 use crate::shared::Shared;
 use crate::signal::Signal;
 use crate::touch::Touch;
-use blocks::NextBlock;
 use calls::Refusal;
 use catalog::{Four, Parts};
+use engine::{Room, undoing_behind};
 use group_commit::{
     BookSeat, ClientSeat, Drawer, DrawerMaker, Handoff, Line, Near, OneStep, Outgoing, Sender,
     TwinNear, Watcher,
@@ -173,14 +172,40 @@ impl<J: Naming, B: Coded> Desk<J, B> {
         entered
     }
 
-    /// Hands a block over, a step of no client. NotNow, only where four were in transit.
-    pub fn cut<R: Wait>(&mut self, rt: &R, shared: &Shared<J>) -> Result<bool, Refusal>
+    /// Hands a block over, a step of no client, where the area's image covers it, or where it fits
+    /// into the room, and behind it the undoing of all that is live then (`undoing_behind`); none
+    /// where four are in transit. It takes no memory. How far the area in use is filled is noted
+    /// for `status`.
+    ///
+    /// Where the block may not go Imaging while an image is being written, as that may cover it,
+    /// and else Full. Nothing is handed over then.
+    pub fn cut<R: Wait>(
+        &mut self,
+        rt: &R,
+        shared: &Shared<J>,
+        room: Room,
+        extent: Extent,
+    ) -> Result<(), Refusal>
+        ensures { IfErr result (IsWhyNone room) }
+    {
+        self.extent = extent;
+        shared.signal.set_filling(self.budget.is_filling());
+        if self.journal.waiting() == 0 {
+            return Ok(());
+        }
+        let undoing = undoing_behind(&self.journal, self.undoing, room)?;
+        if self.hand_over(rt, shared).is_ok() {
+            self.undoing = undoing;
+        }
+        Ok(())
+    }
+
+    // Hands a block over, a step of no client. NotNow, only where four were in transit.
+    fn hand_over<R: Wait>(&mut self, rt: &R, shared: &Shared<J>) -> Result<bool, Refusal>
         ensures { IsOkUnless result Refusal.NotNow }
     {
         let before = Snapshot::of(&self.journal);
-        let records = self.journal.next_block().map_or(0, |next| next.records);
         let cut = cut_into(rt, &shared.handoff, &mut self.journal, &mut self.sender);
-        self.undoing = self.undoing.saturating_add(records);
         shared.signal.cut(self.journal.waiting());
         note_alone::<Brand, _>(
             &shared.line,
@@ -188,37 +213,6 @@ impl<J: Naming, B: Coded> Desk<J, B> {
             &(&before, &self.journal, &cut),
         );
         cut
-    }
-
-    /// Hands a block over as `cut` does, where the area's image covers it, or where it fits into
-    /// the room, and behind it the undoing of all that is live then, in blocks of 64 records; none
-    /// where four are in transit. How many records that takes is not told too small; it is counted
-    /// anew, by a look at all that is live, where what is known of it does not fit. It takes no
-    /// memory. How far the area in use is filled is noted for `status`.
-    ///
-    /// Imaging where the block is past the image that is being written, or does not fit while one
-    /// is; Full where it does not fit. Nothing is handed over then.
-    pub fn cut_within<R: Wait>(
-        &mut self,
-        rt: &R,
-        shared: &Shared<J>,
-        room: Room,
-        extent: Extent,
-    ) -> Result<(), Refusal>
-        ensures { IfErr result (λ e. (e ≡ Refusal.Imaging) ⊎ (e ≡ Refusal.Full)) }
-    {
-        self.extent = extent;
-        shared.signal.set_filling(self.budget.is_filling());
-        let Some(next) = self.journal.next_block() else {
-            return Ok(());
-        };
-        let Some(undoing) = undoing_within(&self.journal, self.undoing, next, room) else {
-            return Err(refused_within(room));
-        };
-        if self.cut(rt, shared).is_ok() {
-            self.undoing = undoing;
-        }
-        Ok(())
     }
 
     /// The seats of a new client.
@@ -328,45 +322,6 @@ pub fn note_alone<W: OneStep, T>(line: &Line, seat: &mut BookSeat, parts: &T)
 {
     let _ = parts;
     line.tally_alone::<W>(seat);
-}
-
-// How many records the undoing takes, at most, of what is live behind the next block, where that
-// can be handed over: the image of the area covers it; or both fit into the room and it is not past
-// the image that is being written. `before` so many behind the last block. A record makes one more
-// to undo at most. Where the block has all that waits, they can be counted.
-fn undoing_within<B: Coded>(
-    journal: &Journal<B>,
-    before: u64,
-    next: NextBlock,
-    room: Room,
-) -> Option<u64>
-    requires kept { IsJournal B.meaning B.making B.collections B.whole B.fits journal.now }
-    requires body { next.body ≤ max_body }
-{
-    let behind = (journal.waiting() as u64).saturating_sub(next.records);
-    let end = journal.position().saturating_sub(behind);
-    let most = before.saturating_add(next.records);
-    if room.covers(end) {
-        return Some(most);
-    }
-    if room.is_past_image(end) {
-        return None;
-    }
-    if room.fits(next.body, most) {
-        return Some(most);
-    }
-    let counted = if behind == 0 { journal.undoing() } else { most };
-    room.fits(next.body, counted).then_some(counted)
-}
-
-// Why a block is not handed over.
-fn refused_within(room: Room) -> Refusal
-    ensures { (result ≡ Refusal.Imaging) ⊎ (result ≡ Refusal.Full) }
-{
-    match room.image_end {
-        Some(_) => Refusal::Imaging,
-        None => Refusal::Full,
-    }
 }
 
 // Wakes the committer behind a step of a client: one that committed or made something, and each one

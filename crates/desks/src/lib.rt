@@ -17,7 +17,7 @@
 //! history itself is a table of `group_commit`, of which each client has a seat.
 //!
 //! **To change it.** A new step is a method of `Desk`, which notes it. When a client waits is
-//! `Signal`; how much room a block leaves is `Room`; how much the next image may take is `Budget`,
+//! `Signal`; how much room a block leaves is `Room` of `engine`; how much the next image may take is `Budget`,
 //! and what a step adds to it is `Footprint`.
 #![tactic(auto)]
 
@@ -33,7 +33,6 @@ mod lock;
 mod making;
 mod naming;
 mod quarter;
-mod room;
 mod shared;
 mod shelf_desk;
 mod shelves;
@@ -49,7 +48,6 @@ pub use footprint::{Change, Footprint};
 pub use lock::Lock;
 pub use naming::Naming;
 pub use quarter::{FirstShelf, FourthShelf, Quarter, SecondShelf, ThirdShelf};
-pub use room::Room;
 pub use shared::Shared;
 pub use shelf_desk::ShelfDesk;
 pub use shelves::{Held, HeldAll, Shelves};

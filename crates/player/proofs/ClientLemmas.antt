@@ -3,11 +3,13 @@ use Rattle.std.proofs.Common.{◌≡◌, ℕ, suc, zero, ◌<◌, inl, inr, Bool
 use Rattle.std.proofs.Common.{◌++◌, Option, None, Some, Result, Ok, Err, refl, sym, ap, subst}
 use Rattle.std.proofs.Common.{true≢false}
 use Rattle.std.specs.Option.{is_some}
+use Rattle.std.specs.Result.{result_err}
 use Rattle.std.proofs.lemmas.List.{append-nil}
 use Rattle.calls.specs.declared.refusal.Refusal.{Refusal}
 use Rattle.calls.specs.Names.{IsName}
 use Rattle.catalog.specs.Making.{names_of, IsPlaceOf, FindRefused}
 use Rattle.checkpoint.specs.declared.turn.Turn.{Turn}
+use Rattle.engine.specs.Rooms.{told}
 use Rattle.world.specs.declared.steps.Step.{Step}
 use Rattle.world.specs.declared.steps.Answer.{Answer}
 use Rattle.disk_model.specs.declared.disk.Disk.{Ghosts}
@@ -15,7 +17,7 @@ use Rattle.world.specs.Moves.{Whole}
 use Rattle.world.specs.Pasts.{Past, alone, outcome}
 use Rattle.world.specs.OneStep.{TakesStep}
 use Rattle.player.specs.Plays.{Plays, Runs, Tries}
-use Rattle.player.specs.Turns.{passing, TurnsAs, Turns}
+use Rattle.player.specs.Turns.{Turns}
 use Rattle.player.specs.Clients.{closing, EntersAs, EntersOpen, Enters, Asking, Calls, committed}
 use Rattle.player.specs.Clients.{Commits, undone, UndoesAll, Ends, AbortsAs, AbortsOpen, Aborts}
 use Rattle.player.specs.declared.client.Client.{Client}
@@ -207,32 +209,12 @@ module _ {D : Type 0} (g : Ghosts D) where
     abbrev first : Runs g old (Tries Step.Cut Answer.Cut cut) mid
     first = asked g old mid Step.Cut Answer.Cut cut handed
 
-    pub turn_not_cut : (e : Refusal) → passing cut ≡ Err e → Runs g old (Turns (Err e)) mid
-    turn_not_cut e refused = (
-      first.0,
-      (
-        cut,
-        first.0,
-        [],
-        first.1,
-        subst (λ p. TurnsAs p (Err e) []) (sym refused) (refl, refl),
-        sym (append-nil first.0),
-      ),
-      first.2,
-    )
-
-    pub turn_brings : (r : Result Turn Refusal) (new : Whole D) → passing cut ≡ Ok tt →
-        TakesStep g mid (Step.Turn, outcome Answer.Turned r) new → Runs g old (Turns r) new
-    turn_brings r new passed taken =
-        let ran = asked g mid new Step.Turn Answer.Turned r taken in (
+    pub turn_brings : (turned r : Result Turn Refusal) (new : Whole D) →
+        TakesStep g mid (Step.Turn, outcome Answer.Turned turned) new →
+        r ≡ told (result_err cut) turned → Runs g old (Turns r) new
+    turn_brings turned r new taken is =
+        let ran = asked g mid new Step.Turn Answer.Turned turned taken in (
           first.0 ++ ran.0,
-          (
-            cut,
-            first.0,
-            ran.0,
-            first.1,
-            subst (λ p. TurnsAs p r ran.0) (sym passed) ran.1,
-            refl,
-          ),
+          (cut, turned, first.0, ran.0, first.1, ran.1, is, refl),
           plays_append g old mid new first.0 ran.0 first.2 ran.2,
         )

@@ -184,7 +184,7 @@ fn take_image<D: Disk>(keeper: &mut Keeper<D>, image: Image) -> Result<(), Refus
     ensures size { length (D.seen keeper.new.disk) ≡ length (D.seen keeper.old.disk) }
 {
     keeper.hold(0, 0)?;
-    keeper.begin_image(image)?;
+    keeper.begin_image(image, 0)?;
     write_out(keeper)
 }
 

@@ -89,16 +89,16 @@ no_other (Stage.Awaited e) image other awaited = other awaited
 no_other (Stage.Laid w) image other awaited = absurd other
 
 -- the image that is awaited is begun, or refused
-pub begins_refused : {D : Type 0} (k l : KeeperState D) (image : Image)
-    (r : Result (Unit {0}) Refusal) → IsAwaited k.stage image → BeginAnswers k image l r →
+pub begins_refused : {D : Type 0} (k l : KeeperState D) (image : Image) (behind : ℕ)
+    (r : Result (Unit {0}) Refusal) → IsAwaited k.stage image → BeginAnswers k image behind l r →
     IfErr r IsCheckRefusal
-begins_refused k l image (Ok done) awaited answers = tt
-begins_refused k l image (Err Refusal.Failed) awaited answers = tt
-begins_refused k l image (Err Refusal.Full) awaited answers = tt
-begins_refused k l image (Err Refusal.Unfinished) awaited answers =
+begins_refused k l image behind (Ok done) awaited answers = tt
+begins_refused k l image behind (Err Refusal.Failed) awaited answers = tt
+begins_refused k l image behind (Err Refusal.Full) awaited answers = tt
+begins_refused k l image behind (Err Refusal.Unfinished) awaited answers =
     absurd (idle_awaits_none k.stage image answers.1 awaited)
-begins_refused k l image (Err Refusal.Imaging) awaited answers =
+begins_refused k l image behind (Err Refusal.Imaging) awaited answers =
     absurd (here_awaits_none k.stage image answers.1 awaited)
-begins_refused k l image (Err Refusal.BadArg) awaited answers =
+begins_refused k l image behind (Err Refusal.BadArg) awaited answers =
     absurd (no_other k.stage image answers.1 awaited)
-begins_refused k l image (Err e) awaited answers = absurd answers.1
+begins_refused k l image behind (Err e) awaited answers = absurd answers.1

@@ -336,14 +336,14 @@ module _ {D : Type 0} (g : disks.Ghosts D) where
 
     -- an image that was packed of what is known to be frozen is begun, or refused
     pub vault_begins : (k : KeeperState D) (receiver : ReceiverState) (seat : KeeperMark)
-        (near : AccordState) → IsVault j g k receiver seat near → (image : Image)
+        (near : AccordState) → IsVault j g k receiver seat near → (image : Image) (behind : ℕ)
         (l : KeeperState D) (r : Result (Unit {0}) Refusal) → Packs near.gather image →
-        BeginAnswers k image l r → BeginKeeps g image r k l → IsVault j g l receiver seat near
-    vault_begins k receiver seat near is image l r packs answers keeps = record {
+        BeginAnswers k image behind l r → BeginKeeps g image r k l → IsVault j g l receiver seat near
+    vault_begins k receiver seat near is image behind l r packs answers keeps = record {
       handoff = is.handoff;
       mark = is.mark;
       awaited = is.awaited;
-      marked = omega (arith, is.marked, (begun_same k image l r answers).1);
+      marked = omega (arith, is.marked, (begun_same k image behind l r answers).1);
       noted = is.noted;
       received = λ s records state groups recorded carried begin apart.
           let had = is.received s records state groups recorded carried begin apart in
@@ -356,7 +356,7 @@ module _ {D : Type 0} (g : disks.Ghosts D) where
           (frozen_ends receiver.noted)
           had.0.0
           receiver.received of.begun of.is_for of.stands had.0.1 in
-          let same = (begun_same k image l r answers).1 in (
+          let same = (begun_same k image behind l r answers).1 in (
             (begun_with of.begun had.0.0 r, kept.0),
             leaves_on records k l had.1 kept.1,
             kept_on records k l seat.raised had.2 kept.1 (omega (arith, same)),

@@ -89,46 +89,30 @@ impl<'s, D: Disk, J: Naming, B: Coded> Checkpointer<'s, D, J, B> {
     /// for, with no device called. Then it packs the image under no lock, and begins it under the
     /// keeper's. Take turns until `Flipped`.
     ///
-    /// Towards an image it is refused: Outrun where more calls were run between two copies than are
-    /// noted; NoMemory; Worn where 2^61 gatherings were begun; Full where the image does not fit
-    /// into an area; Failed after a Fault. NoMemory leaves what was gathered, and the next turn
-    /// goes on with it; with each other refusal it is given up, and the next turn begins anew. What
-    /// clients see is as before. Of a piece Failed and Fault, of a flip too. After Failed and Fault
-    /// each client that waits is told Lost, and the disk is to be opened again.
-    pub fn turn<R: Wait>(&mut self, rt: &R) -> Result<Checkpoint, Refusal>
-        ensures tells { CheckTells self.old result self.new }
-        ensures refused { IfErr result IsCheckRefusal }
-    {
-        self.step(rt, false)
-    }
-
-    /// Takes the next step as `turn` does, but begins an image only where it leaves room in its
-    /// area: the undoing of all that was live at the freeze fits behind it, so that the disk can be
-    /// opened again once the image is the store.
+    /// An image is begun only where it leaves room in its area: the undoing of all that was live at
+    /// the freeze fits behind it, so that the disk can be opened again once the image is the store.
     ///
-    /// The refusals of `turn`. Full also where the image, with that undoing, does not fit.
-    pub fn turn_with_room<R: Wait>(&mut self, rt: &R) -> Result<Checkpoint, Refusal>
-        ensures tells { CheckTells self.old result self.new }
-        ensures refused { IfErr result IsCheckRefusal }
-    {
-        self.step(rt, true)
-    }
-
-    /// How full the store is. It takes the journal's lock once.
-    pub fn fill<R: Wait>(&self, rt: &R) -> Fill {
-        let desk = self.desk;
-        desk.lock(rt).fill()
-    }
-
-    // Writes a piece of the image, or makes it the store; else takes the next step towards one.
-    fn step<R: Wait>(&mut self, rt: &R, leaves_room: bool) -> Result<Checkpoint, Refusal>
+    /// Towards an image it is refused: Outrun where more calls were run between two copies than are
+    /// noted; NoMemory; Worn where 2^61 gatherings were begun; Full where the image, with that
+    /// undoing, does not fit into an area; Failed after a Fault. NoMemory leaves what was gathered,
+    /// and the next turn goes on with it; with each other refusal it is given up, and the next turn
+    /// begins anew. What clients see is as before. Of a piece Failed and Fault, of a flip too.
+    /// After Failed and Fault each client that waits is told Lost, and the disk is to be opened
+    /// again.
+    pub fn turn<R: Wait>(&mut self, rt: &R) -> Result<Checkpoint, Refusal>
         ensures tells { CheckTells self.old result self.new }
         ensures refused { IfErr result IsCheckRefusal }
     {
         if let Some(done) = self.lay(rt) {
             return done;
         }
-        self.prepare(rt, leaves_room)
+        self.prepare(rt)
+    }
+
+    /// How full the store is. It takes the journal's lock once.
+    pub fn fill<R: Wait>(&self, rt: &R) -> Fill {
+        let desk = self.desk;
+        desk.lock(rt).fill()
     }
 
     // Writes a piece of the image in progress, or makes it the store, and then the journal's side
@@ -148,19 +132,14 @@ impl<'s, D: Disk, J: Naming, B: Coded> Checkpointer<'s, D, J, B> {
     }
 
     // Takes the next step towards an image.
-    fn prepare<R: Wait>(&mut self, rt: &R, leaves_room: bool) -> Result<Checkpoint, Refusal>
+    fn prepare<R: Wait>(&mut self, rt: &R) -> Result<Checkpoint, Refusal>
         ensures tells { CheckTells self.old result self.new }
         ensures refused { IfErr result IsCheckRefusal }
     {
         let gatherer = self.gatherer;
-        let prepared = gatherer.lock(rt).turn(
-            rt,
-            self.shared,
-            self.shelves,
-            self.desk,
-            self.vault,
-            leaves_room,
-        );
+        let prepared = gatherer
+            .lock(rt)
+            .turn(rt, self.shared, self.shelves, self.desk, self.vault);
         if let Err(refusal) = &prepared {
             note_failure(&self.shared.mark, &mut self.watcher, *refusal);
         }

@@ -9,6 +9,7 @@ use catalog::Catalog;
 use checkpoint::Turn;
 use desks::{Desk, Lock, Naming, Shared};
 use disk_model::Disk;
+use engine::told;
 use group_commit::Watcher;
 use records::Coded;
 use std::marker::Model;
@@ -55,33 +56,21 @@ impl<'s, D: Disk, J: Naming, B: Coded> Committer<'s, D, J, B> {
 
     /// Takes one turn: cuts a block of at most 65,535 bytes from what waits, and writes the next
     /// block to the disk, with two writes and two syncs. `Turn::Kept` gives a place: all commits
-    /// and makings up to it are kept. `Turn::Idle` says that nothing was there to do, and
-    /// `Turn::Held` that the block waits for the image in progress. The block is cut under the
-    /// journal's lock and written under the keeper's alone. It takes no memory. How far the area in
-    /// use is filled is not told for `Client::status`.
+    /// and makings up to it are kept. `Turn::Idle` says that nothing was there to do.
     ///
-    /// Failed after a Fault; Full where the block does not fit into the area: it is held, and goes
-    /// to the disk once a checkpoint has made room; Fault where the disk failed. After Fault and
-    /// Failed each client that waits is told Lost, and the disk is to be opened again.
+    /// A block is cut only where it leaves room in the area: the undoing of all that is live behind
+    /// the block fits behind it, so that the disk can be opened again. While an image is written no
+    /// block past it is cut, and none that does not fit, as the image may cover it: `Turn::Held`.
+    ///
+    /// The block is cut under the journal's lock and written under the keeper's alone, which is
+    /// held where it is cut. It takes no memory. How far the area in use is filled then is told for
+    /// `Client::status`.
+    ///
+    /// Failed after a Fault; Fault where the disk failed; Full where the block, with that undoing,
+    /// does not fit into the area: it is not cut, and goes to the disk once a checkpoint has made
+    /// room. After Fault and Failed each client that waits is told Lost, and the disk is to be
+    /// opened again.
     pub fn turn<R: Wait>(&mut self, rt: &R) -> Result<Turn, Refusal>
-        ensures tells { TurnTells self.old result self.new }
-        ensures refused { IfErr result IsTurnRefusal }
-    {
-        let desk = self.desk;
-        let vault = self.vault;
-        let _cut = desk.lock(rt).cut(rt, self.shared);
-        vault.lock(rt).turn(rt, self.shared, &mut self.watcher)
-    }
-
-    /// Takes one turn as `turn` does, but cuts a block only where it leaves room in the area: the
-    /// undoing of all that is live behind the block fits behind it, so that the disk can be opened
-    /// again. While an image is written no block past it is cut, and none that does not fit, as the
-    /// image may cover it: `Turn::Held`. The keeper's lock is held where the block is cut under the
-    /// journal's. How far the area in use is filled then is told for `Client::status`.
-    ///
-    /// The refusals of `turn`. Full where the block, with that undoing, does not fit: it is not
-    /// cut, and is handed over once a checkpoint has made room.
-    pub fn turn_with_room<R: Wait>(&mut self, rt: &R) -> Result<Turn, Refusal>
         ensures tells { TurnTells self.old result self.new }
         ensures refused { IfErr result IsTurnRefusal }
     {
@@ -90,12 +79,9 @@ impl<'s, D: Disk, J: Naming, B: Coded> Committer<'s, D, J, B> {
         let mut vault = vault.lock(rt);
         let cut = desk
             .lock(rt)
-            .cut_within(rt, self.shared, vault.room(), vault.extent());
-        match cut {
-            Ok(()) => vault.turn(rt, self.shared, &mut self.watcher),
-            Err(Refusal::Full) => Err(Refusal::Full),
-            Err(_) => Ok(Turn::Held),
-        }
+            .cut(rt, self.shared, vault.room(), vault.extent());
+        let turned = vault.turn(rt, self.shared, &mut self.watcher);
+        told(cut.err(), turned)
     }
 
     /// How many bytes the area in use has behind its blocks. It takes the keeper's lock.

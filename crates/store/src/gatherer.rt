@@ -30,7 +30,7 @@ use blocks::Image;
 use calls::Refusal;
 use catalog::{Part, Shelved};
 use checkpoint::Keeper;
-use desks::{Desk, Lock, Naming, Quarter, Room, Shared, ShelfDesk, Shelves, note_alone};
+use desks::{Desk, Lock, Naming, Quarter, Shared, ShelfDesk, Shelves, note_alone};
 use disk_model::Disk;
 use group_commit::{Accord, BookSeat, Far, Handoff, Near, OneGather, Receiver, Sender};
 use images::Gather;
@@ -41,6 +41,7 @@ use std::mem;
 use std::snapshot::Snapshot;
 use std::sync::{Mutex, Wait};
 use txn::Journal;
+use undoing::blocks_len;
 
 /// What is gathered of the book, with the far ends of what the journal's side and the keeper's know
 /// of it. It belongs to the store, so whichever checkpointer takes the next turn goes on with it.
@@ -110,10 +111,9 @@ impl<J: Naming, B: Coded> Gatherer<J, B> {
     /// first collection is copied again.
     ///
     /// Of a copy Outrun, Worn, NoMemory; of a freeze Outrun, NoMemory, Failed; of what is packed
-    /// NoMemory, Failed, Full; where it is to leave room, Full also where the undoing of what was
-    /// live at the freeze does not fit behind the image. NoMemory leaves what is gathered, and the
-    /// step can be taken again. With each other refusal it is given up, and the next step begins
-    /// anew.
+    /// NoMemory, Failed, Full where the image and the undoing of what was live at the freeze do not
+    /// fit into an area. NoMemory leaves what is gathered, and the step can be taken again. With
+    /// each other refusal it is given up, and the next step begins anew.
     pub(crate) fn turn<D: Disk, R: Wait>(
         &mut self,
         rt: &R,
@@ -121,14 +121,12 @@ impl<J: Naming, B: Coded> Gatherer<J, B> {
         shelves: &Shelves<J, B>,
         desk: &Lock<Desk<J, B>>,
         vault: &Mutex<Vault<D, J>>,
-        leaves_room: bool,
     ) -> Result<Checkpoint, Refusal>
         ensures prepared { IfOk result IsPrepared }
         ensures refused { IfErr result IsCheckRefusal }
     {
         if self.gather.marks().is_some() {
-            let undoing = leaves_room.then_some(self.undoing);
-            return self.pack(rt, shared, vault, undoing);
+            return self.pack(rt, shared, vault);
         }
         if mem::replace(&mut self.is_whole, false) {
             match self.freeze(rt, shared, shelves, desk, vault) {
@@ -361,14 +359,13 @@ impl<J: Naming, B: Coded> Gatherer<J, B> {
         }
     }
 
-    // Packs what is frozen under no lock, and begins the image under the keeper's, where so many
-    // records of an undoing, if that is asked for, fit behind it.
+    // Packs what is frozen under no lock, and begins the image under the keeper's, where the undoing
+    // of what was live at the freeze fits behind it.
     fn pack<D: Disk, R: Wait>(
         &mut self,
         rt: &R,
         shared: &Shared<J>,
         vault: &Mutex<Vault<D, J>>,
-        undoing: Option<u64>,
     ) -> Result<Checkpoint, Refusal>
         requires { IsSome self.old.gather.frozen }
         ensures prepared { IfOk result IsPrepared }
@@ -376,12 +373,12 @@ impl<J: Naming, B: Coded> Gatherer<J, B> {
     {
         match mem::replace(&mut self.gather, Gather::new(self.alloc)).pack() {
             Ok(image) => {
-                begin_with_room(
+                begin(
                     shared,
                     &mut vault.lock(rt),
                     &mut self.of_keeper,
                     image,
-                    undoing,
+                    blocks_len(self.undoing),
                 )?;
                 Ok(Checkpoint::Packed)
             }
@@ -532,51 +529,14 @@ fn freeze_journal<D: Disk, B: Coded>(
     keeper.hold(marks.end, marks.place)
 }
 
-// Begins the image that was packed, where so many records of an undoing, if that is asked for, fit
-// behind it: the refusals of `Keeper::begin_image`. Full also where they do not, and then no end is
-// held any more.
-fn begin_with_room<D: Disk, J: Naming>(
-    shared: &Shared<J>,
-    vault: &mut Vault<D, J>,
-    far: &mut Far,
-    image: Image,
-    undoing: Option<u64>,
-) -> Result<(), Refusal>
-    requires table { far.old.table ≡ J.awaited }
-    requires packs { Packs far.old.gather image }
-    ensures far { far.new ≡ record { table = J.awaited; gather = nothing_gathered } }
-    ensures refused { IfErr result IsCheckRefusal }
-{
-    let size = vault.size();
-    if undoing.is_some_and(|records| !room_behind(&image, size).fits_undoing(records)) {
-        drop(image);
-        vault.give_up(shared, far);
-        return Err(Refusal::Full);
-    }
-    begin(shared, vault, far, image)
-}
-
-// What an area of so many bytes has behind an image.
-fn room_behind(image: &Image, size: u64) -> Room {
-    let mut free = size;
-    for block in image.blocks.iter() {
-        // The closed gate of a block is the next one's.
-        free = free.saturating_sub(block.len() as u64 - 1);
-    }
-    Room {
-        free,
-        covered: 0,
-        image_end: None,
-    }
-}
-
-// Begins the image that was packed: Failed or Full, as it is the one that the keeper awaits. Its
-// side knows then that nothing is frozen.
+// Begins the image that was packed, where so many bytes behind it stay free: Failed or Full, as it
+// is the one that the keeper awaits. Its side knows then that nothing is frozen.
 fn begin<D: Disk, J: Naming>(
     shared: &Shared<J>,
     vault: &mut Vault<D, J>,
     far: &mut Far,
     image: Image,
+    behind: u64,
 ) -> Result<(), Refusal>
     requires table { far.old.table ≡ J.awaited }
     requires packs { Packs far.old.gather image }
@@ -584,7 +544,7 @@ fn begin<D: Disk, J: Naming>(
     ensures refused { IfErr result IsCheckRefusal }
 {
     shared.awaited.compare(&mut vault.near, far);
-    let begun = vault.keeper.begin_image(image);
+    let begun = vault.keeper.begin_image(image, behind);
     shared.awaited.agree::<Brand>(&mut vault.near, far);
     begun
 }

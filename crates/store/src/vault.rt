@@ -9,9 +9,10 @@ ghost use Rattle.group_commit.specs.Rising.{raised_to};
 use crate::checkpointing::Checkpoint;
 use calls::Refusal;
 use checkpoint::{Keeper, Turn};
-use desks::{Extent, Naming, Room, Shared};
+use desks::{Extent, Naming, Shared};
 use disk_model::Disk;
-use group_commit::{Far, Handoff, Incoming, KeeperSeat, Mark, Near, OneMoment, Receiver, Watcher};
+use engine::Room;
+use group_commit::{Handoff, Incoming, KeeperSeat, Mark, Near, OneMoment, Receiver, Watcher};
 use std::marker::{Brand, Model, PhantomData};
 use std::sync::Wait;
 
@@ -24,8 +25,6 @@ pub(crate) struct Vault<D: Disk, J: Naming> {
     pub(crate) receiver: Receiver,
     pub(crate) mark: KeeperSeat,
     pub(crate) near: Near,
-    // up to which record the image of the area in use reaches
-    covered: u64,
     of: PhantomData<J>,
 }
 
@@ -54,14 +53,8 @@ impl<D: Disk, J: Naming> Vault<D, J> {
             receiver,
             mark,
             near,
-            covered: 0,
             of: PhantomData,
         }
-    }
-
-    /// How many bytes the area in use has; the other one has as many.
-    pub(crate) fn size(&self) -> u64 {
-        self.keeper.area().size()
     }
 
     /// How far the area in use is filled.
@@ -71,11 +64,7 @@ impl<D: Disk, J: Naming> Vault<D, J> {
 
     /// Where the next block would go.
     pub(crate) fn room(&self) -> Room {
-        Room {
-            free: self.keeper.area().room(),
-            covered: self.covered,
-            image_end: self.keeper.image_end(),
-        }
+        Room::of(&self.keeper)
     }
 
     /// Brings a block to the disk: the answer of `Keeper::turn`. The mark is brought on, and the
@@ -96,16 +85,6 @@ impl<D: Disk, J: Naming> Vault<D, J> {
         turned
     }
 
-    /// Gives up the image whose end is held, where it is not here yet. The keeper's side, whose far
-    /// end this is, knows then that nothing is frozen.
-    pub(crate) fn give_up(&mut self, shared: &Shared<J>, far: &mut Far)
-        requires { far.old.table ≡ J.awaited }
-        ensures { far.new ≡ record { table = J.awaited; gather = nothing_gathered } }
-    {
-        self.keeper.give_up();
-        shared.awaited.agree::<Brand>(&mut self.near, far);
-    }
-
     /// Goes on with the image in progress, by a piece or, where none is left, by the flip; the mark
     /// and the watcher as in a turn. None where no image is in progress.
     pub(crate) fn lay(
@@ -123,7 +102,6 @@ impl<D: Disk, J: Naming> Vault<D, J> {
             let laid = self.keeper.image_piece();
             return Some(piece_told(&shared.mark, watcher, &laid));
         }
-        self.covered = self.keeper.image_end().unwrap_or(self.covered);
         let flipped = self.keeper.flip();
         Some(flip_told::<Brand, _>(
             &shared.mark,

@@ -10,7 +10,8 @@ ghost use Rattle.undo_log.specs.Entries.{stamped_entry};
 ghost use Rattle.calls.specs.Limits.{max_collections, number_end, max_wear};
 ghost use Rattle.catalog.specs.Making.{IsPlaceOf, FindRefused};
 ghost use Rattle.catalog.specs.Fours.{Which, rank, pick};
-ghost use Rattle.shelf.specs.Shelves.{CanRun, Settles, on_quarter};
+ghost use Rattle.catalog.specs.declared.four.Four.{Four};
+ghost use Rattle.shelf.specs.Shelves.{CanRun, Settles, ShelfState, on_quarter};
 ghost use Rattle.record_format.specs.Short.{AreShort};
 ghost use Rattle.machine.specs.Machine.{IsSettled};
 ghost use Rattle.machine.specs.Transactions.{RunsWhole};
@@ -90,6 +91,15 @@ impl<B: Parts + Coded> Book<B> {
         ensures { result ≡ book_state B.whole journal shelves }
     {
         Self { shelves, journal }
+    }
+
+    /// The journal, which is the book beside its four shelves. This is no step.
+    pub fn journal(&self) -> &Journal<B>
+        ensures { (f : Four (ShelfState B.Shelf)) ×
+            IsBook B.meaning B.making B.collections B.whole B.fits result.now f ×
+            (self.now ≡ book_state B.whole result.now f) }
+    {
+        &self.journal
     }
 
     /// The kind of the collection of the number, if there is one. One index; this is no step.

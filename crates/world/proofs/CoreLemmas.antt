@@ -12,11 +12,14 @@ use Rattle.blocks.specs.declared.block.Block.{Block}
 use Rattle.txn.specs.declared.steps.Action.{Action}
 use Rattle.txn.specs.declared.steps.Target.{Target}
 use Rattle.txn.specs.Books as books
+use Rattle.txn.specs.Undoings.{undo_count}
+use Rattle.engine.specs.declared.room.Room.{Room}
+use Rattle.engine.specs.Rooms.{MayHandOver}
 use Rattle.world.specs.declared.steps.Step.{Step}
 use Rattle.world.specs.declared.steps.Answer.{Answer}
 use Rattle.world.specs.Pasts.{BookState, BookTakes, CoreStep, IsAnswerOf, IsDraw, Draws, alone}
 use Rattle.world.specs.Pasts.{action_of, outcome}
-use Rattle.world.specs.Moves.{Whole, Moves}
+use Rattle.world.specs.Moves.{Whole, IsRoomPast, Moves, known_behind}
 use Rattle.world.specs.OneStep.{parts, TakesStep}
 use Rattle.world.proofs.AnswerLemmas.{core_answered}
 use Rattle.world.proofs.StepLemmas.{AreGoodBehind, core_past, quiet}
@@ -74,7 +77,16 @@ cut_row : (s : BookState) (waiting : List Block) (mark : ℕ) (r : Result Bool R
     books.CutAnswers s (λ bs. waits ≡ waiting ++ bs) (4 ≤ length waiting) r t →
     CoreStep s waiting mark (Step.Cut, outcome Answer.Cut r) t waits
 cut_row s waiting mark (Ok handed) t waits row = row
-cut_row s waiting mark (Err e) t waits row = row
+cut_row s waiting mark (Err Refusal.NotNow) t waits row = row
+cut_row s waiting mark (Err e) t waits row = absurd row.0
+
+-- where the next block may not go, nothing changes
+barred_row : (s : BookState) (waiting : List Block) (mark : ℕ) (before counted : ℕ) (room : Room)
+    (e : Refusal) → MayHandOver s.pending s.freezes s.end before counted room (Err e) →
+    CoreStep s waiting mark (Step.Cut, Answer.Refused e) s waiting
+barred_row s waiting mark before counted room Refusal.Imaging may = (refl, refl)
+barred_row s waiting mark before counted room Refusal.Full may = (refl, refl)
+barred_row s waiting mark before counted room e may = absurd may.0
 
 draw_row : (s : BookState) (r : Result ℕ Refusal) →
     IsAnswerOf Step.Draw (outcome Answer.Drawn r)
@@ -87,11 +99,12 @@ module _ {D : Type 0} (g : Ghosts D) (w : Whole D)
     (only_now : (c : List ℕ) → g.left_since w.keeper.disk (g.moment w.keeper.disk) c →
     g.may_leave w.keeper.disk c) where
   -- a step that leaves the keeper and the mark
-  core_taken : (x : Step × Answer) (t : BookState) (waits : List Block) (next : ℕ) →
+  core_taken : (x : Step × Answer) (t : BookState) (waits : List Block) (next undoing : ℕ) →
       AreGoodBehind x.0 t → CoreStep w.book w.transit w.mark x t waits → Draws w.next x next →
-      Moves g.fault_count w x (record w { book = t; transit = waits; next = next }) →
-      TakesStep g w x (record w { book = t; transit = waits; next = next })
-  core_taken x t waits next good core drawn moves = record {
+      Moves g.fault_count w x
+      (record w { book = t; transit = waits; next = next; undoing = undoing }) →
+      TakesStep g w x (record w { book = t; transit = waits; next = next; undoing = undoing })
+  core_taken x t waits next undoing good core drawn moves = record {
     past = λ start past had.
         core_past g.seen g.may_leave start past (parts w) had x t waits good core;
     any_moment = λ start past had. quiet g.seen g.may_leave start past (parts w) had g.moment
@@ -107,20 +120,54 @@ module _ {D : Type 0} (g : Ghosts D) (w : Whole D)
       TakesStep g w (Step.Draw, outcome Answer.Drawn r) (record w { next = next })
   draw_taken r next drawn =
       let own = draw_row w.book r in
-      core_taken (Step.Draw, outcome Answer.Drawn r) w.book w.transit next tt (own, refl, refl)
-      drawn ((own, refl, refl), drawn, refl, refl, refl)
+      core_taken (Step.Draw, outcome Answer.Drawn r) w.book w.transit next w.undoing tt
+      (own, refl, refl) drawn ((own, refl, refl), drawn, refl, refl, refl, (refl, refl))
 
   pub look_taken : TakesStep g w (Step.Look, Answer.Marked w.mark) w
-  look_taken = core_taken (Step.Look, Answer.Marked w.mark) w.book w.transit w.next tt
-      (refl, refl, refl) refl ((refl, refl, refl), refl, refl, refl, refl)
+  look_taken = core_taken (Step.Look, Answer.Marked w.mark) w.book w.transit w.next w.undoing tt
+      (refl, refl, refl) refl ((refl, refl, refl), refl, refl, refl, refl, (refl, refl))
 
-  pub cut_taken : (r : Result Bool Refusal) (t : BookState) (waits : List Block) →
+  -- a block is handed over, or none, or the book refuses
+  pub cut_taken : (room : Room) → IsRoomPast w room → (behind : ℕ) →
+      MayHandOver w.book.pending w.book.freezes w.book.end w.undoing (undo_count w.book.state) room
+      (Ok behind) → (r : Result Bool Refusal) (t : BookState) (waits : List Block) →
       books.CutAnswers w.book (λ bs. waits ≡ w.transit ++ bs) (4 ≤ length w.transit) r t →
-      TakesStep g w (Step.Cut, outcome Answer.Cut r) (record w { book = t; transit = waits })
-  cut_taken r t waits row =
-      let core = cut_row w.book w.transit w.mark r t waits row in
-      core_taken (Step.Cut, outcome Answer.Cut r) t waits w.next tt core refl
-      (core, refl, refl, refl, refl)
+      TakesStep g w (Step.Cut, outcome Answer.Cut r)
+      (record w { book = t; transit = waits; undoing = known_behind r behind w.undoing })
+  cut_taken room is behind may r t waits row =
+      core_taken (Step.Cut, outcome Answer.Cut r) t waits w.next (known_behind r behind w.undoing) tt
+      (cut_row w.book w.transit w.mark r t waits row) refl (record {
+        room = room;
+        is_room = is;
+        behind = Ok behind;
+        may = may;
+        hands = (r, refl, row, refl);
+        gather = refl;
+        keeper = refl;
+        mark = refl;
+        next = refl;
+        frozen = refl;
+      })
+
+  -- or the block may not go
+  pub cut_barred : (room : Room) → IsRoomPast w room → (e : Refusal) →
+      MayHandOver w.book.pending w.book.freezes w.book.end w.undoing (undo_count w.book.state) room
+      (Err e) → TakesStep g w (Step.Cut, Answer.Refused e) w
+  cut_barred room is e may =
+      core_taken (Step.Cut, Answer.Refused e) w.book w.transit w.next w.undoing tt
+      (barred_row w.book w.transit w.mark w.undoing (undo_count w.book.state) room e may) refl
+      (record {
+        room = room;
+        is_room = is;
+        behind = Err e;
+        may = may;
+        hands = (refl, refl, refl, refl);
+        gather = refl;
+        keeper = refl;
+        mark = refl;
+        next = refl;
+        frozen = refl;
+      })
 
   module _ (t : BookState) (good : AllByRecursion (IsRecord None) t.pending) where
     pub make_taken : (name : List ℕ) (kind : Kind) (r : Result ℕ Refusal) →
@@ -128,23 +175,23 @@ module _ {D : Type 0} (g : Ghosts D) (w : Whole D)
         TakesStep g w (Step.Make name kind, outcome Answer.Placed r) (record w { book = t })
     make_taken name kind r made =
         let row = make_row w.book t name kind r made in
-        core_taken (Step.Make name kind, outcome Answer.Placed r) t w.transit w.next good
-        (row.0, row.1, refl) refl ((row.0, row.1, refl), refl, refl, refl, refl)
+        core_taken (Step.Make name kind, outcome Answer.Placed r) t w.transit w.next w.undoing good
+        (row.0, row.1, refl) refl ((row.0, row.1, refl), refl, refl, refl, refl, (refl, refl))
 
     pub enter_taken : (n : ℕ) (r : Result (Unit {0}) Refusal) → Takes w.book (Action.Enter n r) t →
         TakesStep g w (Step.Enter n, outcome (alone Answer.Entered) r) (record w { book = t })
     enter_taken n r entered =
         let row = enter_row w.book t n r entered in
-        core_taken (Step.Enter n, outcome (alone Answer.Entered) r) t w.transit w.next good
-        (row.0, row.1, refl) refl ((row.0, row.1, refl), refl, refl, refl, refl)
+        core_taken (Step.Enter n, outcome (alone Answer.Entered) r) t w.transit w.next w.undoing good
+        (row.0, row.1, refl) refl ((row.0, row.1, refl), refl, refl, refl, refl, (refl, refl))
 
     pub call_taken : (n at : ℕ) (call : Call) (r : Result Reply Refusal) →
         Takes w.book (Action.Call n (Target.Number at) call r) t →
         TakesStep g w (Step.Call n at call, outcome Answer.Replied r) (record w { book = t })
     call_taken n at call r called =
         let row = call_row w.book t n at call r called in
-        core_taken (Step.Call n at call, outcome Answer.Replied r) t w.transit w.next good
-        (row.0, row.1, refl) refl ((row.0, row.1, refl), refl, refl, refl, refl)
+        core_taken (Step.Call n at call, outcome Answer.Replied r) t w.transit w.next w.undoing good
+        (row.0, row.1, refl) refl ((row.0, row.1, refl), refl, refl, refl, refl, (refl, refl))
 
     pub later_taken : (n at : ℕ) (call : Call) (r : Result (Unit {0}) Refusal) →
         Takes w.book (Action.Later n (Target.Number at) call r) t →
@@ -152,30 +199,30 @@ module _ {D : Type 0} (g : Ghosts D) (w : Whole D)
         (record w { book = t })
     later_taken n at call r put_off =
         let row = later_row w.book t n at call r put_off in
-        core_taken (Step.Later n at call, outcome (alone Answer.PutOff) r) t w.transit w.next good
-        (row.0, row.1, refl) refl ((row.0, row.1, refl), refl, refl, refl, refl)
+        core_taken (Step.Later n at call, outcome (alone Answer.PutOff) r) t w.transit w.next w.undoing good
+        (row.0, row.1, refl) refl ((row.0, row.1, refl), refl, refl, refl, refl, (refl, refl))
 
     pub commit_taken : (n : ℕ) (r : Result ℕ Refusal) →
         Takes w.book (Action.Commit n r) t →
         TakesStep g w (Step.Commit n, outcome Answer.Placed r) (record w { book = t })
     commit_taken n r committed =
         let row = commit_row w.book t n r committed in
-        core_taken (Step.Commit n, outcome Answer.Placed r) t w.transit w.next good
+        core_taken (Step.Commit n, outcome Answer.Placed r) t w.transit w.next w.undoing good
         (row.0, row.1, refl) refl
-        ((row.0, row.1, refl), refl, refl, refl, refl)
+        ((row.0, row.1, refl), refl, refl, refl, refl, (refl, refl))
 
     pub back_taken : (n : ℕ) (r : Result Bool Refusal) →
         Takes w.book (Action.Back n r) t →
         TakesStep g w (Step.Back n, outcome Answer.Backed r) (record w { book = t })
     back_taken n r undone =
         let row = back_row w.book t n r undone in
-        core_taken (Step.Back n, outcome Answer.Backed r) t w.transit w.next good
+        core_taken (Step.Back n, outcome Answer.Backed r) t w.transit w.next w.undoing good
         (row.0, row.1, refl) refl
-        ((row.0, row.1, refl), refl, refl, refl, refl)
+        ((row.0, row.1, refl), refl, refl, refl, refl, (refl, refl))
 
     pub ended_taken : (n : ℕ) (r : Result (Unit {0}) Refusal) → Takes w.book (Action.Ended n r) t →
         TakesStep g w (Step.Ended n, outcome (alone Answer.Ended) r) (record w { book = t })
     ended_taken n r ended =
         let row = ended_row w.book t n r ended in
-        core_taken (Step.Ended n, outcome (alone Answer.Ended) r) t w.transit w.next good
-        (row.0, row.1, refl) refl ((row.0, row.1, refl), refl, refl, refl, refl)
+        core_taken (Step.Ended n, outcome (alone Answer.Ended) r) t w.transit w.next w.undoing good
+        (row.0, row.1, refl) refl ((row.0, row.1, refl), refl, refl, refl, refl, (refl, refl))

@@ -382,16 +382,16 @@ held_same {D = D} k e l (Err Refusal.Imaging) held =
 held_same {D = D} k e l (Err r) held = absurd held
 
 -- and so where an image is begun, or refused
-pub begun_same : {D : Type 0} (k : KeeperState D) (image : Image) (l : KeeperState D)
-    (r : Result (Unit {0}) Refusal) → BeginAnswers k image l r →
+pub begun_same : {D : Type 0} (k : KeeperState D) (image : Image) (behind : ℕ)
+    (l : KeeperState D) (r : Result (Unit {0}) Refusal) → BeginAnswers k image behind l r →
     (l.disk ≡ k.disk) × (k.mark ≡ l.mark)
-begun_same {D = D} k image l (Ok done) begun = (
+begun_same {D = D} k image behind l (Ok done) begun = (
   ap (λ (x : KeeperState D). x.disk) begun.2.1.2,
   sym (ap (λ (x : KeeperState D). x.mark) begun.2.1.2),
 )
-begun_same {D = D} k image l (Err Refusal.Failed) begun =
+begun_same {D = D} k image behind l (Err Refusal.Failed) begun =
     (ap (λ (x : KeeperState D). x.disk) begun.1, sym (ap (λ (x : KeeperState D). x.mark) begun.1))
-begun_same {D = D} k image l (Err Refusal.Full) begun =
+begun_same {D = D} k image behind l (Err Refusal.Full) begun =
     (ap (λ (x : KeeperState D). x.disk) begun.3, sym (ap (λ (x : KeeperState D). x.mark) begun.3))
-begun_same {D = D} k image l (Err e) begun =
+begun_same {D = D} k image behind l (Err e) begun =
     (ap (λ (x : KeeperState D). x.disk) begun.2, sym (ap (λ (x : KeeperState D). x.mark) begun.2))

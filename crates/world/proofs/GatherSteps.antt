@@ -20,7 +20,8 @@ use Rattle.world.specs.declared.steps.Step.{Step}
 use Rattle.world.specs.declared.steps.Answer.{Answer}
 use Rattle.world.specs.Pasts.{BookState, outcome, alone}
 use Rattle.world.specs.Worlds.{IsOfBook, none_gathered}
-use Rattle.world.specs.Moves.{Whole, if_held, unless_outrun}
+use Rattle.txn.specs.Undoings.{undo_count}
+use Rattle.world.specs.Moves.{Whole, if_held, unless_outrun, undoing_len, frozen_behind}
 use Rattle.world.specs.OneStep.{parts, TakesStep}
 use Rattle.world.proofs.AnswerLemmas.{gather_answered, freeze_answered, pack_answered}
 use Rattle.world.proofs.Begins.{none_packed}
@@ -88,6 +89,7 @@ module _ {D : Type 0} (g : Ghosts D) (w : Whole D)
       transit = refl;
       mark = refl;
       next = refl;
+      alike = (refl, refl);
     };
     honest = λ h. h;
   }
@@ -113,6 +115,7 @@ module _ {D : Type 0} (g : Ghosts D) (w : Whole D)
       transit = refl;
       mark = refl;
       next = refl;
+      alike = (refl, refl);
     };
     honest = λ h. h;
   }
@@ -139,6 +142,8 @@ module _ {D : Type 0} (g : Ghosts D) (w : Whole D)
       transit = refl;
       mark = refl;
       next = refl;
+      undoing = refl;
+      counted = refl;
     };
     honest = λ h. h;
   }
@@ -161,7 +166,12 @@ module _ {D : Type 0} (g : Ghosts D) (w : Whole D)
         HoldAnswers w.keeper (record { end = marks.end; place = marks.place }) l r →
         HoldKeeps g marks.end r w.keeper l →
         TakesStep g w (Step.Freeze, outcome (alone Answer.Frozen) r)
-        (record w { book = t; gather = if_held r m; keeper = l })
+        (record w {
+          book = t;
+          gather = if_held r m;
+          keeper = l;
+          frozen = frozen_behind (outcome (alone Answer.Frozen) r) (undo_count t.state) w.frozen;
+        })
     freeze_taken l r held keeps =
         let same = held_same w.keeper (record { end = marks.end; place = marks.place }) l r held in
         let there : HoldKeeps g (position w.book) r w.keeper l =
@@ -192,6 +202,8 @@ module _ {D : Type 0} (g : Ghosts D) (w : Whole D)
             transit = refl;
             mark = refl;
             next = refl;
+            undoing = refl;
+            counted = refl;
           };
           honest = λ h. subst g.is_honest same.0 h;
         }
@@ -214,6 +226,7 @@ module _ {D : Type 0} (g : Ghosts D) (w : Whole D)
       transit = refl;
       mark = refl;
       next = refl;
+      alike = (refl, refl);
     };
     honest = λ h. h;
   }
@@ -236,17 +249,19 @@ module _ {D : Type 0} (g : Ghosts D) (w : Whole D)
       transit = refl;
       mark = refl;
       next = refl;
+      alike = (refl, refl);
     };
     honest = λ h. h;
   }
 
   -- and begun, or refused
   pub pack_taken : (image : Image) (l : KeeperState D) (r : Result (Unit {0}) Refusal) →
-      Packs w.gather image → BeginAnswers w.keeper image l r → BeginKeeps g image r w.keeper l →
+      Packs w.gather image → BeginAnswers w.keeper image (undoing_len w.frozen) l r →
+      BeginKeeps g image r w.keeper l →
       TakesStep g w (Step.Pack, outcome (alone Answer.Packed) r)
       (record w { gather = none_gathered; keeper = l })
   pack_taken image l r packs begun keeps =
-      let same = begun_same w.keeper image l r begun in
+      let same = begun_same w.keeper image (undoing_len w.frozen) l r begun in
       record {
         past = λ start past had.
             (pack_past g start past (parts w) had image packs l r keeps same.1).0;
@@ -261,6 +276,7 @@ module _ {D : Type 0} (g : Ghosts D) (w : Whole D)
           transit = refl;
           mark = refl;
           next = refl;
+          alike = (refl, refl);
         };
         honest = λ h. subst g.is_honest same.0 h;
       }

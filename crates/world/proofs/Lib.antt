@@ -1,6 +1,7 @@
 pub mod PastLemmas
 pub mod Readings
 pub mod StepLemmas
+pub mod TransitLemmas
 pub mod KeeperSteps
 pub mod CoreLemmas
 pub mod PlayLemmas

@@ -137,11 +137,6 @@ uncut b (Action.Ended n a) t took = refl
 uncut b (Action.Gather a) t took = absurd took
 uncut b (Action.Freeze a) t took = absurd took
 
-cut_action : (a : Result Bool Refusal) →
-    action_of Step.Cut (outcome Answer.Cut a) ≡ Some (Action.Cut 0 a)
-cut_action (Ok handed) = refl
-cut_action (Err e) = refl
-
 module _ {D : Type 0} (seen : D → List ℕ) (may_leave : D → List ℕ → Type 0)
     (start : List Collection) (past : Past) (w : Parts D)
     (had : HasPast seen may_leave start past w) where
@@ -325,10 +320,11 @@ module _ {D : Type 0} (seen : D → List ℕ) (may_leave : D → List ℕ → Ty
 
   -- a block is handed over, or none
   pub cuts : (a : Result Bool Refusal) (t : BookState) (waits : List Block) →
+      action_of Step.Cut (outcome Answer.Cut a) ≡ Some (Action.Cut 0 a) →
       books.CutAnswers w.book (λ bs. waits ≡ w.transit ++ bs) (4 ≤ length w.transit) a t →
       HasPast seen may_leave start (past ++ (Step.Cut, outcome Answer.Cut a) ∷ [])
       (record w { book = t; transit = waits })
-  cuts a t waits cut =
+  cuts a t waits acts cut =
       let on = cuts_on catalog_meaning catalog_making (λ v. v) had.format start had.wear had.steps
       w.book t
       (had.received ++ w.transit) had.groups had.freezes had.images had.handed None
@@ -343,7 +339,7 @@ module _ {D : Type 0} (seen : D → List ℕ) (may_leave : D → List ℕ → Ty
         wear = had.wear;
         steps = had.steps ++ step ∷ [];
         are = are_push past (Step.Cut, outcome Answer.Cut a) had.steps (step ∷ []) had.are
-            (ap of_no_client (sym (cut_action a)));
+            (ap of_no_client (sym acts));
         received = had.received;
         groups = had.groups ++ on.2;
         freezes = had.freezes;
@@ -405,8 +401,13 @@ module _ {D : Type 0} (seen : D → List ℕ) (may_leave : D → List ℕ → Ty
   core_past (Step.Ended n, a) t waits good step =
       book_takes (Step.Ended n, a) (action_of (Step.Ended n) a) t waits refl (omega arith) step.1
       good step.2
-  core_past (Step.Cut, Answer.Cut handed) t waits good step = cuts (Ok handed) t waits step
-  core_past (Step.Cut, Answer.Refused e) t waits good step = cuts (Err e) t waits step
+  core_past (Step.Cut, Answer.Cut handed) t waits good step = cuts (Ok handed) t waits refl step
+  core_past (Step.Cut, Answer.Refused Refusal.NotNow) t waits good step =
+      cuts (Err Refusal.NotNow) t waits refl step
+  core_past (Step.Cut, Answer.Refused Refusal.Imaging) t waits good step =
+      rw (step.0, step.1) (passes (Step.Cut, Answer.Refused Refusal.Imaging) refl (omega arith))
+  core_past (Step.Cut, Answer.Refused Refusal.Full) t waits good step =
+      rw (step.0, step.1) (passes (Step.Cut, Answer.Refused Refusal.Full) refl (omega arith))
   core_past (Step.Cut, a) t waits good step = absurd step
   core_past (Step.Look, Answer.Marked m) t waits good step =
       rw (step.0, step.2) (passes (Step.Look, Answer.Marked m) refl (omega (arith, step.1)))

@@ -22,8 +22,8 @@ use Rattle.catalog.specs.Meaning.{catalog_meaning, catalog_making}
 abbrev pub Past : Type 0
 Past = List (Step × Answer)
 
--- What a step with its answer is to the book, where the book takes part. A past does not tell how
--- many records a cut handed over.
+-- What a step with its answer is to the book, where the book takes part: none in a cut that is
+-- refused as there is no room. A past does not tell how many records a cut handed over.
 abbrev pub action_of : Step → Answer → Option Action
 action_of (Step.Make name kind) (Answer.Placed place) = Some (Action.Make name kind (Ok place))
 action_of (Step.Make name kind) (Answer.Refused e) = Some (Action.Make name kind (Err e))
@@ -44,7 +44,7 @@ action_of (Step.Back n) (Answer.Refused e) = Some (Action.Back n (Err e))
 action_of (Step.Ended n) Answer.Ended = Some (Action.Ended n (Ok tt))
 action_of (Step.Ended n) (Answer.Refused e) = Some (Action.Ended n (Err e))
 action_of Step.Cut (Answer.Cut handed) = Some (Action.Cut 0 (Ok handed))
-action_of Step.Cut (Answer.Refused e) = Some (Action.Cut 0 (Err e))
+action_of Step.Cut (Answer.Refused Refusal.NotNow) = Some (Action.Cut 0 (Err Refusal.NotNow))
 action_of Step.Gather (Answer.Gathered more) = Some (Action.Gather (Ok more))
 action_of Step.Gather (Answer.Refused e) = Some (Action.Gather (Err e))
 action_of Step.Freeze Answer.Frozen = Some (Action.Freeze (Ok tt))
@@ -129,12 +129,17 @@ BookTakes s None t = t ≡ s
 BookTakes s (Some action) t = books.Takes catalog_meaning catalog_making s action t
 
 -- A step that calls no keeper and gathers nothing, with its answer, leads a book and the blocks in
--- transit on; the mark is the one that a look answers. No block is handed over where four wait.
+-- transit on; the mark is the one that a look answers. No block is handed over where four wait, and
+-- none where there is no room for it.
 abbrev pub CoreStep : BookState → List Block → ℕ → Step × Answer → BookState → List Block → Type 0
 CoreStep s waiting mark (Step.Cut, Answer.Cut handed) t waits =
     books.CutAnswers s (λ bs. waits ≡ waiting ++ bs) (4 ≤ length waiting) (Ok handed) t
-CoreStep s waiting mark (Step.Cut, Answer.Refused e) t waits =
-    books.CutAnswers s (λ bs. waits ≡ waiting ++ bs) (4 ≤ length waiting) (Err e) t
+CoreStep s waiting mark (Step.Cut, Answer.Refused Refusal.NotNow) t waits =
+    books.CutAnswers s (λ bs. waits ≡ waiting ++ bs) (4 ≤ length waiting) (Err Refusal.NotNow) t
+CoreStep s waiting mark (Step.Cut, Answer.Refused Refusal.Imaging) t waits =
+    (t ≡ s) × (waits ≡ waiting)
+CoreStep s waiting mark (Step.Cut, Answer.Refused Refusal.Full) t waits =
+    (t ≡ s) × (waits ≡ waiting)
 CoreStep s waiting mark (Step.Cut, a) t waits = ⊥
 CoreStep s waiting mark (Step.Look, Answer.Marked m) t waits =
     (t ≡ s) × (m ≡ mark) × (waits ≡ waiting)

@@ -1,8 +1,9 @@
 // Blocks between the book and the keeper.
-ghost use Rattle.std.specs.Prelude.{◌≡◌, ◌≤◌, ◌++◌, length, IfOk, []};
+ghost use Rattle.std.specs.Prelude.{◌≡◌, ◌-◌, ◌≤◌, ◌++◌, length, IfOk, []};
 ghost use Rattle.std.proofs.Common.{refl, sym, ◌∙◌};
 ghost use Rattle.std.proofs.lemmas.List.{append-nil, append_cancel_right};
 ghost use Rattle.std.specs.VecDeque.{deque_capacity};
+ghost use Rattle.world.specs.Moves.{transit_len};
 
 use calls::limits::MAX_TRANSIT;
 use checkpoint::Inbox;
@@ -25,6 +26,18 @@ impl Transit {
         Ok(Self {
             blocks: VecDeque::with_capacity(alloc, MAX_TRANSIT)?,
         })
+    }
+
+    /// How many of so many free bytes are left behind these blocks, with the next gate: 0 where
+    /// they need more.
+    pub fn room_behind(&self, free: u64) -> u64
+        ensures { result ≡ free - transit_len self.now.blocks.items }
+    {
+        let mut room = free;
+        for i in 0..self.blocks.len() {
+            room = room.saturating_sub(self.blocks[i].bytes.len() as u64 - 1);
+        }
+        room
     }
 }
 

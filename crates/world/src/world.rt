@@ -15,7 +15,7 @@ ghost use Rattle.world.specs.Pasts.{Past, acknowledged, mark_behind, mark_flippe
 ghost use Rattle.world.specs.Pasts.{Draws, alone, outcome, committed_in, IsOneHistory};
 ghost use Rattle.checkpoint.specs.Crash.{Yields};
 ghost use Rattle.world.specs.Worlds.{HasPast, none_gathered};
-ghost use Rattle.world.specs.Moves.{Moves, unless_outrun};
+ghost use Rattle.world.specs.Moves.{IsRoomPast, Moves, unless_outrun};
 ghost use Rattle.world.specs.OneStep.{parts, TakesStep};
 
 use crate::steps::{Answer, Step};
@@ -25,14 +25,19 @@ use calls::{Call, Kind, Name, Refusal, Reply};
 use catalog::{Catalog, NamedHolding};
 use checkpoint::{Keeper, Turn};
 use disk_model::Disk;
+use engine::{Room, undoing_behind};
 use images::Gather;
 use std::alloc::Global;
 use std::marker::Model;
 use std::mem;
 use txn::Book;
+use undoing::blocks_len;
 
-/// A book, what is gathered of it for an image, a keeper, the blocks in transit, the mark and the
-/// next number. Contracts see all of it.
+/// A book, what is gathered of it for an image, a keeper, the blocks in transit, the mark, the next
+/// number, and what is known of the undoing that a crash would ask for. Contracts see all of it.
+///
+/// It leaves room for that undoing: a block is handed over, and an image begun, only where the
+/// undoing of what was live fits behind it, so that the disk can be opened again.
 ///
 /// Each step has a method of its own. Whatever it answers, also a refusal, is one step of the core
 /// (`TakesStep`): each past of the world goes on with it, and whatever a stop at any moment of it
@@ -46,6 +51,10 @@ pub struct World<D: Disk> {
     transit: Transit,
     mark: u64,
     next: u64,
+    // how many records the undoing takes, at most, of what was live behind the last block that was
+    // handed over, and of what was live at the newest freeze
+    undoing: u64,
+    frozen: u64,
 }
 
 impl<D: Disk> Model for World<D> {
@@ -73,6 +82,8 @@ impl<D: Disk> Model for World<D> {
       transit = w.transit.blocks.items;
       mark = w.mark;
       next = w.next;
+      undoing = w.undoing;
+      frozen = w.frozen;
     } };
 
     ghost invariant = { λ w. (w.mark ≡ w.keeper.mark) × IsOfBook w.book w.gather };
@@ -88,7 +99,7 @@ impl<D: Disk> World<D> {
         requires { IsFresh keeper }
         ensures parts { IfOk result (λ w. (w.book ≡ book) ×
             (w.gather ≡ none_gathered) × (w.keeper ≡ keeper) × (w.transit ≡ []) ×
-            (w.next ≡ book.next)) }
+            (w.next ≡ book.next) × (w.undoing ≡ 0) × (w.frozen ≡ 0)) }
         ensures past { IfOk result (λ w. (bytes : List ℕ) →
             IsOpened bytes book keeper.area (D.seen keeper.disk) →
             IsReadyStore D.seen D.may_leave bytes book keeper.area keeper.disk →
@@ -105,6 +116,8 @@ impl<D: Disk> World<D> {
                 transit,
                 mark: 0,
                 next,
+                undoing: 0,
+                frozen: 0,
             }),
             Err(_) => Err((Refusal::NoMemory, keeper.into_disk())),
         }
@@ -228,11 +241,30 @@ impl<D: Disk> World<D> {
         ended
     }
 
-    /// Hands a block over, and answers whether there was one: the refusals of `Book::cut`.
+    /// Hands a block over, and answers whether there was one. The block leaves room in the area:
+    /// the undoing of all that is live behind it fits behind it and the blocks in transit.
+    ///
+    /// Where the block may not go Imaging while an image is being written, as that may cover it,
+    /// and else Full; then the refusals of `Book::cut`.
     pub fn cut(&mut self) -> Result<bool, Refusal>
         ensures { TakesStep ⟦<D as Disk>⟧ self.old (Step.Cut, outcome Answer.Cut result) self.new }
     {
-        self.book.cut(&mut self.transit)
+        let undoing = undoing_behind(self.book.journal(), self.undoing, self.room())?;
+        let cut = self.book.cut(&mut self.transit)?;
+        self.undoing = undoing;
+        Ok(cut)
+    }
+
+    // Where the next block goes, behind those in transit.
+    fn room(&self) -> Room
+        ensures { IsRoomPast self.now result }
+    {
+        let room = Room::of(&self.keeper);
+        Room {
+            free: self.transit.room_behind(room.free),
+            covered: room.covered,
+            image_end: room.image_end,
+        }
     }
 
     /// Brings a block to the disk: the refusals of `Keeper::turn`. What it tells to be kept is the
@@ -289,10 +321,12 @@ impl<D: Disk> World<D> {
             self.gather = Gather::new(self.alloc);
             return Err(refusal);
         }
+        self.frozen = self.book.undoing();
         Ok(())
     }
 
-    /// Packs the image of what was frozen, and begins to write it. Nothing is gathered then.
+    /// Packs the image of what was frozen, and begins to write it. Nothing is gathered then. The
+    /// undoing of what was live at the freeze has room behind the image.
     ///
     /// Unfinished where nothing is frozen; NoMemory, which leaves what is gathered, to be packed
     /// again; then the refusals of `Keeper::begin_image`, with which what was gathered is given up.
@@ -304,7 +338,7 @@ impl<D: Disk> World<D> {
             return Err(Refusal::Unfinished);
         }
         match mem::replace(&mut self.gather, Gather::new(self.alloc)).pack() {
-            Ok(image) => self.keeper.begin_image(image),
+            Ok(image) => self.keeper.begin_image(image, blocks_len(self.frozen)),
             Err((refusal, gather)) => {
                 self.gather = gather;
                 Err(refusal)

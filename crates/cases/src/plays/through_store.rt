@@ -6,6 +6,7 @@ ghost use Rattle.store.specs.Openings.{IsNamed};
 use crate::plays::runs::Ran;
 use boost::{Action, End, Failure, Line, Request, Said, Session, Speaker, parse, report};
 use calls::Refusal;
+use checkpoint::Turn;
 use disk_model::Disk;
 use std::alloc::{AllocError, Global};
 use std::io::{self, Write};
@@ -26,6 +27,8 @@ pub struct Stage<'c, 's, D: Disk, J: Naming> {
     pub committer: &'c mut Committer<'s, D, J>,
     checkpointer: Checkpointer<'s, D, J>,
     has_failed: bool,
+    // whether a block waits for a checkpoint
+    waits: bool,
 }
 
 /// The clients of a script.
@@ -64,6 +67,7 @@ impl<'c, 's, D: Disk, J: Naming> Stage<'c, 's, D, J> {
             committer,
             checkpointer: store.checkpointer(rt),
             has_failed: false,
+            waits: false,
         })
     }
 
@@ -93,7 +97,7 @@ impl<'c, 's, D: Disk, J: Naming> Stage<'c, 's, D, J> {
     // Does what a line asks for.
     fn act<R: Wait>(&mut self, rt: &R, action: &Action) -> Result<Said, Refusal> {
         match action {
-            Action::Turn => Ok(Said::Turned(self.committer.turn(rt)?)),
+            Action::Turn => Ok(Said::Turned(self.turn(rt)?)),
             Action::Checkpoint => Ok(Said::Flipped(self.checkpoint(rt)?)),
             Action::Client(number, request) => self.ask(rt, usize::from(*number), request),
         }
@@ -140,11 +144,22 @@ impl<'c, 's, D: Disk, J: Naming> Stage<'c, 's, D, J> {
         }
     }
 
-    // Turns of the checkpointer, until an image is the store.
+    // A turn of the committer. Whether its block waits for a checkpoint is noted.
+    fn turn<R: Wait>(&mut self, rt: &R) -> Result<Turn, Refusal> {
+        let turned = self.committer.turn(rt);
+        self.waits = matches!(turned, Ok(Turn::Held) | Err(Refusal::Full));
+        turned
+    }
+
+    // Turns of the checkpointer, until an image is the store. Where a block waits for it, the
+    // committer asks behind each of them whether the block may go, as in a server.
     fn checkpoint<R: Wait>(&mut self, rt: &R) -> Result<u64, Refusal> {
         for _ in rt.forever() {
             if let Checkpoint::Flipped(place) = self.checkpointer.turn(rt)? {
                 return Ok(place);
+            }
+            if self.waits {
+                let _turned = self.turn(rt);
             }
         }
         unreachable!()

@@ -18,7 +18,7 @@ invariant_of-vault g c =
       vault_forgets g.D.Disk g.J.Naming c.begin_image-begun.new.self c.vault.inside.receiver
           c.vault.inside.mark c.vault.inside.near c.agree.new.near (vault_begins g.D.Disk g.J.Naming
           c.vault.inside.keeper c.vault.inside.receiver c.vault.inside.mark c.vault.inside.near
-          c.vault.invariant.0 c.args.image c.begin_image-begun.new.self
+          c.vault.invariant.0 c.args.image c.args.behind c.begin_image-begun.new.self
           c.begin_image-begun.result (packs g c) c.begin_image-begun.ensures.answer
           c.begin_image-begun.ensures.crash) near,
       awaits_none c.begin_image-begun.new.self.stage c.agree.new.near
@@ -27,7 +27,7 @@ invariant_of-vault g c =
 
 pub returns-clause-refused : goal.returns-clause-refused
 returns-clause-refused g c =
-    begins_refused c.vault.inside.keeper c.begin_image-begun.new.self c.args.image
+    begins_refused c.vault.inside.keeper c.begin_image-begun.new.self c.args.image c.args.behind
     c.begin_image-begun.result
     (awaits_image c.vault.inside.keeper.stage c.vault.inside.near.gather c.args.image
     c.vault.invariant.1 (packs g c)) c.begin_image-begun.ensures.answer

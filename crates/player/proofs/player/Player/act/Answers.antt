@@ -1,6 +1,13 @@
-use Rattle.std.proofs.Common.{ap, subst, get_or, slice_set, ◌%◌}
+use Rattle.std.proofs.Common.{Err, refl, ap, subst, get_or, slice_set, ◌%◌}
+use Rattle.std.proofs.lemmas.Result.{err_from_is_err_and}
 use Rattle.player.specs.Requests.{Obeys, nobody}
 use Rattle.player.proofs.player.Player.act.Goals as goal
+
+pub returns-in_err-turn-in-Turn : goal.returns-in_err-turn-in-Turn
+returns-in_err-turn-in-Turn g c =
+    let p = err_from_is_err_and c.from_residual.result c.from_residual.ensures.1 in
+    rw (c.in-Turn.is, p.1, p.2)
+    (Err c.in_err-turn-in-Turn.field-0.0, refl, refl, c.in_err-turn-in-Turn.ensures)
 
 pub returns-in-Client : goal.returns-in-Client
 returns-in-Client g c =

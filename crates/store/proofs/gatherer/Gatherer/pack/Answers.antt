@@ -7,8 +7,8 @@ use Rattle.store.proofs.Gathers.{holds_frozen, repeats_both, some_is}
 use Rattle.store.proofs.VaultSteps.{some_frozen}
 use Rattle.store.proofs.gatherer.Gatherer.pack.Goals as goal
 
-pub begin_with_room-requires-clause-packs : goal.begin_with_room-requires-clause-packs
-begin_with_room-requires-clause-packs g c =
+pub begin-requires-clause-packs : goal.begin_with_room-requires-clause-packs
+begin-requires-clause-packs g c =
     let m = c.self.inside.gather in
     let packs = subst (λ v. Packs v c.in-Ok.image) c.replace.ensures.value c.in-Ok.ensures.ok in
     packed_before c.self.inside.of_keeper.gather m c.in-Ok.image

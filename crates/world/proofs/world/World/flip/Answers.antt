@@ -51,6 +51,7 @@ returns g c =
         transit = refl;
         mark = told;
         next = refl;
+        alike = (refl, refl);
       };
       honest = c.flip-flipped.ensures.honest;
     })

@@ -22,7 +22,7 @@ returns-in-Err-hold g c =
 
 pub returns : goal.returns
 returns g c =
-    rw (← c.self.view_is)
+    rw (← c.self.view_is, c.undoing-self-inside.ensures)
     (freeze_taken g.D.Disk _ (g.met.D.Disk.only_now c.self.inside.keeper.disk) c.freeze.new.self
     c.freeze.new.gather c.in_default.ensures.answer c.upheld.ensures c.in-Some.marks
     (sym c.in-Some.is ∙ c.marks.ensures) c.hold.new.self (Ok tt) c.in_default-hold.ensures.answer

@@ -18,6 +18,8 @@ returns g c =
       transit = w.transit.blocks.items;
       mark = w.mark;
       next = w.next;
+      undoing = w.undoing;
+      frozen = w.frozen;
     })
     (g.met.D.Disk.only_now w.keeper.disk)
     c.make-made.new.self c.upheld.ensures.records c.args.name.now c.args.kind c.make-made.result

@@ -1,5 +1,6 @@
 use Rattle.std.proofs.Common.{sym, ◌∙◌, subst}
 use Rattle.images.specs.Gathers.{Packs, Repeats}
+use Rattle.checkpoint.specs.ImageAnswers.{BeginAnswers}
 use Rattle.world.proofs.GatherSteps.{none_frozen, some_frozen, pack_unfrozen, pack_taken}
 use Rattle.world.proofs.GatherSteps.{pack_refused}
 use Rattle.world.proofs.world.World.pack.Goals as goal
@@ -16,7 +17,9 @@ returns-in-Ok g c =
     (pack_taken g.D.Disk _ (g.met.D.Disk.only_now c.self.inside.keeper.disk) c.in-Ok.image
     c.begin_image.new.self c.begin_image.result
     (subst (λ v. Packs v c.in-Ok.image) c.replace.ensures.value c.in-Ok.ensures.ok)
-    c.begin_image.ensures.answer c.begin_image.ensures.crash)
+    (subst (λ n. BeginAnswers c.self.inside.keeper c.in-Ok.image n c.begin_image.new.self
+    c.begin_image.result) c.blocks_len.ensures c.begin_image.ensures.answer)
+    c.begin_image.ensures.crash)
 
 pub returns-in-Err : goal.returns-in-Err
 returns-in-Err g c =

@@ -40,6 +40,7 @@ returns-then-is_some_left g c =
         transit = refl;
         mark = refl;
         next = refl;
+        alike = (refl, refl);
       };
       honest = c.image_piece.ensures.honest;
     })
@@ -67,6 +68,7 @@ returns g c = rw (← c.self.view_is) (record {
     transit = refl;
     mark = refl;
     next = refl;
+    alike = (refl, refl);
   };
   honest = λ h. h;
 })

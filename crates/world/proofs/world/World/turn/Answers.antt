@@ -73,6 +73,7 @@ returns g c =
         gather = refl;
         mark = told;
         next = refl;
+        alike = (refl, refl);
       };
       honest = c.turn-turned.ensures.honest;
     })

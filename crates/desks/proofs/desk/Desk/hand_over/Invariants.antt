@@ -1,6 +1,6 @@
 use Rattle.txn.specs.declared.steps.Action.{Action}
 use Rattle.desks.specs.Notes.{alone, handed_count}
-use Rattle.desks.proofs.desk.Desk.cut.Given as goal
+use Rattle.desks.proofs.desk.Desk.hand_over.Given as goal
 
 -- the step that was taken
 abbrev pub ghosts-note_alone : goal.ghosts-note_alone

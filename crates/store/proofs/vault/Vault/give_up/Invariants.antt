@@ -1,6 +1,0 @@
-use Rattle.group_commit.specs.Accords.{nothing_gathered}
-use Rattle.store.proofs.vault.Vault.give_up.Given as goal
-
--- nothing is frozen then
-abbrev pub ghosts-agree : goal.ghosts-agree
-ghosts-agree g a = record { gather = nothing_gathered }
