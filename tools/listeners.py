@@ -603,8 +603,8 @@ def deaf_parent():
 
 
 def keeping_fails():
-    """Where the disk takes no more writes, who waits is told Lost, and the server ends at once with status 1 and the cause, over a
-    pipe while no more input comes, and at the door."""
+    """Where the disk takes no more writes, who waits is told Lost with the system's words, and the server ends at once with status 1
+    and the cause, over a pipe while no more input comes, and at the door."""
     place = Place()
     no_writes = (resource.RLIMIT_FSIZE, (0, 0))
     how = {'stderr': subprocess.PIPE, 'restore_signals': False}      # SIGXFSZ stays ignored, so that a write fails
@@ -613,7 +613,7 @@ def keeping_fails():
     assert sum(len(server.stdout.readline()) > 0 for _ in range(5)) == 5
     resource.prlimit(server.pid, *no_writes)
     server.stdin.write(b'c1 keep hits bump 1\n')
-    assert server.stdout.readline() == b'c1 refused 23 Lost: Fault\n'
+    assert server.stdout.readline() == b'c1 refused 23 Lost: Fault, File too large (os error 27)\n'
     assert server.wait(20) == 1 and server.stdout.read() == b''
     assert b'too large' in server.stderr.read()
     place.serve(**how)
@@ -623,8 +623,8 @@ def keeping_fails():
         try:
             store.keep(lambda t: t.call('hits', 'bump', 1))
             raise AssertionError('a commit is told kept')
-        except boost.Lost:
-            pass
+        except boost.Lost as lost:
+            assert lost.cause == 'Fault, File too large (os error 27)', lost
         assert place.server.wait(20) == 1
     assert b'too large' in place.server.stderr.read()
     for pipe in (server.stdin, server.stdout, server.stderr, place.server.stderr):
