@@ -61,7 +61,8 @@ const LAST_LOOKS: u32 = 5;
 /// after all is over, whoever then reads nothing.
 ///
 /// Before the door is opened it notes the FIFOs of clients that lie in the folder, and then removes
-/// these: nobody reads the hello of such a client any more.
+/// these, but for those whose lock a client has: it may say hello yet. Nobody reads the hello of
+/// another one any more.
 #[derive(Drop)]
 pub struct Doorway<'a, F, E> {
     fifos: F,
