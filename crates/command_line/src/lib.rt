@@ -120,10 +120,10 @@ fn format_new<'a, S: Content, W: Watch, R: Files<File = File> + AllocGlobal>(
     Ok(status)
 }
 
-// Copies the store in a file to another file, with two such areas, or where none are asked for with
-// two as large as its own. Refused BadArg where the two paths are one, before a file is touched; the
-// same file under two names is refused by its lock. The other file is as it was until it holds the
-// copy.
+// Copies the store in a file to another file, with two such areas, or with two as large as its own
+// where none are asked for. Refused BadArg where the two paths are one, before a file is touched;
+// the same file under two names is refused by its lock. The other file is as it was until it holds
+// the copy.
 fn copy_store<'a, S: Content, W: Watch, R: Files<File = File> + AllocGlobal>(
     rt: &R,
     old: &'a str,

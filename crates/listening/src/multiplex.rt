@@ -71,8 +71,8 @@ impl<'a, F: Fifos + Drop, I: Read + Drop, O: Write + Drop, E: Write + Drop> Mult
     O,
     E,
 > {
-    /// Clients that were not heard yet. `cause` is told behind a Lost, and nothing has ended keeping
-    /// yet. Refused only for want of memory.
+    /// Clients that were not heard yet. `cause`, in which nothing is noted yet, is told behind a
+    /// Lost. Refused only for want of memory.
     pub fn new(
         alloc: Global,
         fifos: F,
