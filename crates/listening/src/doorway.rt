@@ -90,8 +90,8 @@ pub struct Doorway<'a, F, E> {
 }
 
 impl<'a, F: Fifos + Drop, E: Write + Drop> Doorway<'a, F, E> {
-    /// The door of a folder, which is not opened yet. `cause` is told behind a Lost: nothing is noted
-    /// in it yet. Refused only for want of memory.
+    /// The door of a folder, which is not opened yet. `cause`, which is none yet, is told behind a
+    /// Lost. Refused only for want of memory.
     pub fn new(
         alloc: Global,
         fifos: F,
