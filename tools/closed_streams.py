@@ -98,7 +98,7 @@ def try_commands(room, closed):
         (('play', 'disk', 'bump'), printed, one_more), (('serve', 'disk', 'bump'), printed, one_more),
         (('serve', '--why', 'disk', 'bump'), printed, one_more), (('show', 'disk'), printed, same),
         (('show', '--read-only', 'disk'), printed, same), (('check', 'disk'), printed, same), (('stat', 'disk'), printed, same),
-        (('stat', '--json', 'disk'), printed, same), (('copy', 'disk', 'new', '--area', AREA), printed, {**same, 'new': [content(4)]}),
+        (('stat', '--json', 'disk'), printed, same), (('copy', 'disk', 'new'), printed, {**same, 'new': [content(4)]}),
         (('upgrade', 'disk'), printed, same), (('lint', 'bump'), printed, same), (('demo',), printed, same),
         (('play', 'disk', 'good'), {3}, same), (('show', 'bump'), {1}, same), (('show', 'missing'), {4}, same),
     ):

@@ -16,6 +16,8 @@ import time
 TOP = os.path.dirname(os.path.dirname(os.path.realpath(__file__)))
 OUT = os.path.join(TOP, 'crates/boost_main/out')
 AREA = 1 << 18
+# What is told where the disk takes no more writes.
+LOST = 'refused 23 Lost: Fault, File too large (os error 27)'
 # A server ends within so many seconds once it is told to, also where it has run-time checks.
 SOON = 8
 
@@ -189,10 +191,10 @@ def a_failed_disk_is_told():
         for client, line in zip(clients, lines):
             os.write(client.to, line.encode() + b'\n')
             if line == 'keep':
-                expect(client.line(20), 'refused 23 Lost: Fault', line)
+                expect(client.line(20), LOST, line)
                 began = time.monotonic()
         told = [client.line(5) for client in clients[1:]]
-        expect(told[:-1], ['refused 23 Lost: Fault'] * 5, 'those behind it')
+        expect(told[:-1], [LOST] * 5, 'those behind it')
         assert told[-1].endswith('; failed'), told
         expect(place.ends(), 1, 'status')
         took = time.monotonic() - began

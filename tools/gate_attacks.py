@@ -845,7 +845,7 @@ def a_failed_disk_is_told():
         assert other.ask('begin').startswith('begun') and other.ask('call other bump 1') == 'done'
         resource.prlimit(place.server.pid, resource.RLIMIT_FSIZE, (0, 0))
         told = program.ask('keep n bump 1')
-        assert told.startswith('refused 23 Lost: Fault'), told
+        assert told.startswith('refused 23 Lost: Fault, File too large'), told
         assert program.is_ended(5) and other.is_ended(5)
         expect(place.server.wait(10), 1, 'status of the server')
     return told

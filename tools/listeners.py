@@ -5,8 +5,10 @@ Each check is a function below, and says what it is for. The program is crates/b
 another one is named; all checks are run, unless some are named. It is no part of the gate. It prints a line for each check, and
 ends with status 1 at the first that fails.
 """
+import array
 import atexit
 import doctest
+import fcntl
 import multiprocessing
 import os
 import random
@@ -15,6 +17,7 @@ import signal
 import subprocess
 import sys
 import tempfile
+import termios
 import threading
 import time
 
@@ -290,6 +293,48 @@ def passed_over():
     assert subprocess.run(attach, stdin=subprocess.DEVNULL, stderr=subprocess.DEVNULL, check=False).returncode == 1
     assert os.listdir(place.door) == ['door']
     return '5 clients'
+
+
+EARLY_IN_C = '''
+#include "boost.h"
+int main(int count, char **words)
+{
+    struct boost *store = boost_join_within(words[count - 1], 20);
+    return store == 0 || boost_close(store) != 0;
+}
+'''
+EARLY_IN_PYTHON = 'import boost, sys; boost.join(sys.argv[1], 20).session().close()'
+
+
+def met_as_the_door_opens():
+    """Clients in Python, C and shell whose FIFOs lie there as a server opens its door are served. The FIFOs of nobody are removed."""
+    place = Place()
+    early = os.path.join(place.room.name, 'early')
+    subprocess.run(['cc', '-x', 'c', '-o', early, '-I', os.path.join(TOP, 'clients/c'), '-', os.path.join(TOP, 'clients/c/boost.c')],
+                   input=EARLY_IN_C, text=True, check=True)
+    door = os.open(os.path.join(place.door, 'door'), os.O_RDWR)      # they find one who reads it
+    os.mkfifo(os.path.join(place.door, 'nobody.to'), 0o600)
+    how = {'stdin': subprocess.DEVNULL, 'stdout': subprocess.DEVNULL,
+           'env': {**os.environ, 'PYTHONPATH': os.path.join(TOP, 'clients/python')}}
+    clients = [subprocess.Popen([*words, place.door], **how)
+               for words in ([early], [ATTACH], [sys.executable, '-c', EARLY_IN_PYTHON])]
+    end = time.monotonic() + 20
+    while True:                                                      # until the three have said hello
+        words = [name[:-3] for name in os.listdir(place.door) if name.endswith('.to') and name != 'nobody.to']
+        said = array.array('i', [0])
+        fcntl.ioctl(door, termios.FIONREAD, said)
+        if len(words) == 3 and said[0] == sum(len(f'\nhello {word}\n') for word in words):
+            break
+        assert time.monotonic() < end, (words, said)
+        time.sleep(0.01)
+    server = subprocess.Popen([PROGRAM, 'listen', place.disk, place.door])
+    atexit.register(server.kill)
+    assert [client.wait(30) for client in clients] == [0, 0, 0]
+    assert os.listdir(place.door) == ['door']
+    place.say(b'\nend\n')
+    assert server.wait(20) == 0
+    os.close(door)
+    return '3 clients'
 
 
 def idle_ones(of):
@@ -603,8 +648,8 @@ def deaf_parent():
 
 
 def keeping_fails():
-    """Where the disk takes no more writes, who waits is told Lost, and the server ends at once with status 1 and the cause, over a
-    pipe while no more input comes, and at the door."""
+    """Where the disk takes no more writes, who waits is told Lost with the system's words, and the server ends at once with status 1
+    and the cause, over a pipe while no more input comes, and at the door."""
     place = Place()
     no_writes = (resource.RLIMIT_FSIZE, (0, 0))
     how = {'stderr': subprocess.PIPE, 'restore_signals': False}      # SIGXFSZ stays ignored, so that a write fails
@@ -613,7 +658,7 @@ def keeping_fails():
     assert sum(len(server.stdout.readline()) > 0 for _ in range(5)) == 5
     resource.prlimit(server.pid, *no_writes)
     server.stdin.write(b'c1 keep hits bump 1\n')
-    assert server.stdout.readline() == b'c1 refused 23 Lost: Fault\n'
+    assert server.stdout.readline() == b'c1 refused 23 Lost: Fault, File too large (os error 27)\n'
     assert server.wait(20) == 1 and server.stdout.read() == b''
     assert b'too large' in server.stderr.read()
     place.serve(**how)
@@ -623,8 +668,8 @@ def keeping_fails():
         try:
             store.keep(lambda t: t.call('hits', 'bump', 1))
             raise AssertionError('a commit is told kept')
-        except boost.Lost:
-            pass
+        except boost.Lost as lost:
+            assert lost.cause == 'Fault, File too large (os error 27)', lost
         assert place.server.wait(20) == 1
     assert b'too large' in place.server.stderr.read()
     for pipe in (server.stdin, server.stdout, server.stderr, place.server.stderr):
@@ -743,7 +788,8 @@ def a_long_value_in_c():
 
 def main():
     for check in (the_docs_of_the_client, threads_of_one_program, programs_that_come_and_go, killed_in_a_transaction,
-                  killed_in_a_line, goodbye_behind_lines, hostile_at_the_door, deaf_at_the_door, passed_over, idle_over_input,
+                  killed_in_a_line, goodbye_behind_lines, hostile_at_the_door, deaf_at_the_door, passed_over,
+                  met_as_the_door_opens, idle_over_input,
                   idle_at_the_door, slow_lines, woken_as_lines_come, a_crowd, ended_with_clients, killed_servers,
                   how_the_store_stands, deaf_parent, keeping_fails, a_shell, the_examples_in_python, the_examples_in_c,
                   a_long_value_in_c):

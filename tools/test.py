@@ -31,6 +31,7 @@ TESTS = {
     'paths and scripts that mean harm': ['tools/attacks.py', PROGRAM],
     'the door': ['tools/door_attacks.py', PROGRAM],
     'a full store': ['tools/full_store.py', PROGRAM],
+    'what takes long': ['tools/progress.py', PROGRAM],
     'the client in Python': ['-m', 'unittest', 'discover', '-s', 'clients/python/tests'],
     'attacks on the client in Python': ['tools/client_attacks.py', BOOST],
     'the client in C': ['tools/c_attacks.py'],
@@ -51,10 +52,13 @@ GATE = ('definitions', 'crates that pages name', 'the walk through a disk', 'the
         'the examples in C', 'the script boost', 'closed streams', 'a full store', 'the client in Python', 'the client in C',
         'the programs at the gate')
 
+# These compile something.
+WITH_CC = ('the client in C', 'the examples in C', 'what takes long', 'the gate', 'the programs at the gate', 'all attacks at once')
+
 
 def lacking(name):
     """What the machine has not got for a test."""
-    if name in ('the client in C', 'the examples in C', 'the gate', 'the programs at the gate', 'all attacks at once') and not shutil.which('cc'):
+    if name in WITH_CC and not shutil.which('cc'):
         return 'no cc'
     if name == 'cuts of the power' and not (os.path.exists('/dev/fuse') and os.geteuid() == 0 and
                                             os.path.exists('/usr/lib/python3/dist-packages/fusepy.py')):

@@ -10,6 +10,7 @@
 #include <stdio.h>
 #include <stdlib.h>
 #include <string.h>
+#include <sys/file.h>
 #include <sys/random.h>
 #include <sys/socket.h>
 #include <sys/stat.h>
@@ -458,6 +459,7 @@ static int make_fifo(const char *path, const struct stat *folder)
         errno = ENXIO;
         return -1;
     }
+    flock(file, LOCK_EX | LOCK_NB);           /* a server that comes now removes no FIFO that has a lock */
     int is_shared = (folder->st_mode & S_IWGRP) != 0;
     if (is_shared && (made.st_gid == folder->st_gid || fchown(file, (uid_t)-1, folder->st_gid) == 0))
         fchmod(file, 0660);                   /* who is not of the group serves its own user alone */
@@ -515,7 +517,7 @@ struct boost *boost_join_within(const char *folder, int seconds)
     snprintf(word, sizeof word, "c-%d-%u-%08x", (int)getpid(), __atomic_fetch_add(&count, 1, __ATOMIC_RELAXED), chance);
     snprintf(to, sizeof to, "%s/%s.to", folder, word);
     snprintf(from, sizeof from, "%s/%s.from", folder, word);
-    if (ask_door(folder, "") != 0)            /* a server removes FIFOs that lie there before it opens its door */
+    if (ask_door(folder, "") != 0)            /* a server removes those without a lock that lie there before */
         return NULL;
     struct boost *store = NULL;
     int held = make_fifo(to, &found), guard = held < 0 ? -1 : make_fifo(from, &found);

@@ -1,6 +1,7 @@
 """Clients of a server: lines in, answers out, in their order."""
 import contextlib
 import errno
+import fcntl
 import functools
 import io
 import itertools
@@ -316,7 +317,8 @@ class Pipes(Stream):
                     os.unlink(path)
 
     def open_fifos(self) -> None:
-        """Makes and opens the FIFOs. A server removes those that lie there before it opens its door: so that is looked for first."""
+        """Makes and opens the FIFOs. A server removes those without a lock that lie there before it opens its door: so that is looked
+        for first."""
         self.ask_door(b'')
         with OPENING:
             held = [self.make_fifo(path) for path in self.paths]
@@ -329,6 +331,8 @@ class Pipes(Stream):
         number = self.take(path, os.O_RDWR | os.O_NOFOLLOW)
         if not stat.S_ISFIFO(os.fstat(number).st_mode):
             raise Gone('%s is no FIFO' % path)
+        with contextlib.suppress(OSError):         # on a file system without locks a server that comes now removes it
+            fcntl.flock(number, fcntl.LOCK_EX | fcntl.LOCK_NB)
         folder = os.stat(self.folder)
         if folder.st_mode & stat.S_IWGRP:
             with contextlib.suppress(PermissionError):             # who is not of the group serves its own user alone

@@ -27,6 +27,14 @@ area_rule = record (new_rule (codes "area")) {
   action = Some Set;
 }
 
+-- the same of a copy, where it may be left out
+abbrev pub copy_area_rule : Rule
+copy_area_rule = record (new_rule (codes "area")) {
+  long = Some (codes "area");
+  value_names = 1;
+  action = Some Set;
+}
+
 -- a flag, which is written with its name
 abbrev pub flag_rule : Text → Rule
 flag_rule name = record (new_rule name) { long = Some name; action = Some SetTrue }
@@ -96,7 +104,7 @@ abbrev pub copy_app : App
 copy_app =
     let files = with_rule (with_rule (new_app (codes "copy")) (path_rule (codes "OLD")))
     (path_rule (codes "NEW")) in
-    with_rule (with_rule files area_rule) (flag_rule (codes "group"))
+    with_rule (with_rule files copy_area_rule) (flag_rule (codes "group"))
 
 abbrev pub upgrade_app : App
 upgrade_app = disk_app (codes "upgrade")
@@ -148,6 +156,11 @@ abbrev pub IsIdle : Option ℕ → List Row → Type 0
 IsIdle (Some n) rows = IsSomeAnd (first_of (codes "idle") rows) (IsNumberOf n)
 IsIdle None rows = first_of (codes "idle") rows ≡ None
 
+-- the size stands there, or none does and none is asked for
+abbrev pub IsArea : Option ℕ → List Row → Type 0
+IsArea (Some n) rows = IsSomeAnd (first_of (codes "area") rows) (IsSizeOf n)
+IsArea None rows = first_of (codes "area") rows ≡ None
+
 -- the number of a format stands there, or none does and the first one is asked for
 abbrev pub IsVersion : ℕ → List Row → Type 0
 IsVersion version rows = MatchOption (first_of (codes "format") rows) (version ≡ 1)
@@ -190,7 +203,7 @@ Asks (Invocation.Run task) found = AsksTask task found
 Asks (Invocation.Copy old new area group) found = (found.0 ≡ codes "copy") ×
     IsPath (codes "OLD") (string_bytes old) found.1 ×
     IsPath (codes "NEW") (string_bytes new) found.1 ×
-    IsSomeAnd (first_of (codes "area") found.1) (IsSizeOf area) ×
+    IsArea area found.1 ×
     (IsTrue group ↔ IsGiven (codes "group") found.1)
 Asks (Invocation.Lint script) found = (found.0 ≡ codes "lint") ×
     IsPath (codes "SCRIPT") (string_bytes script) found.1

@@ -15,7 +15,7 @@ ghost use Rattle.arguments.specs.Arguments.{flagged_app, IsGiven, bare_app, prog
 ghost use Rattle.arguments.specs.Arguments.{running_app, looking_app, changing_app};
 ghost use Rattle.arguments.specs.Arguments.{ArePaths, Asks, AsksTask, IsIdle};
 ghost use Rattle.arguments.specs.Sizes.{IsSizeOf};
-ghost use Rattle.arguments.specs.Arguments.{IsVersion, version_rule};
+ghost use Rattle.arguments.specs.Arguments.{IsVersion, version_rule, IsArea, copy_area_rule};
 ghost use Rattle.arguments.specs.Arguments.{IsAskedBy};
 
 mod sizes;
@@ -37,12 +37,13 @@ const NO_SIZE: &str = "invalid value for '--area <N>': it is a number of bytes, 
 pub enum Invocation {
     /// A task of one thread on one disk.
     Run(Task),
-    /// Copies the store in a file to another file, with two areas of so many bytes. `group` asks
-    /// that the group of the new file's folder may read and write it.
+    /// Copies the store in a file to another file, with two areas of so many bytes, or where no
+    /// number is given with two as large as those of the old file. `group` asks that the group of
+    /// the new file's folder may read and write it.
     Copy {
         old: String,
         new: String,
-        area: u64,
+        area: Option<u64>,
         group: bool,
     },
     /// Tells the lines of a script that are not understood. No disk is opened.
@@ -133,6 +134,18 @@ fn area<'a>(alloc: Global) -> Arg<'a>
         .required(true)
         .action(ArgAction::Set)
         .help("The bytes of each of its two areas, from 64K to 1G, in format 2 to 64G")
+}
+
+// The size of an area of a copy, which may be left out.
+fn area_of_copy<'a>(alloc: Global) -> Arg<'a>
+    ensures rule { rule_of result ≡ copy_area_rule }
+    ensures alone { result.global ≡ false }
+{
+    Arg::new(alloc, "area")
+        .long("area")
+        .value_name("N")
+        .action(ArgAction::Set)
+        .help("The bytes of each of its two areas, from 64K to 64G; as many as OLD has without it")
 }
 
 // The number of a format, which may be left out.
@@ -284,7 +297,7 @@ fn copy_command<'a>(alloc: Global, about: &'a str) -> Result<clap::Command<'a>, 
             "The file that holds the store, which is only read",
         ))?
         .arg(path(alloc, "NEW", new))?
-        .arg(area(alloc))?
+        .arg(area_of_copy(alloc))?
         .arg(group(alloc))
 }
 
@@ -408,6 +421,16 @@ fn area_asked(found: &ArgMatches<'_>) -> Option<u64>
     }
 }
 
+// The size of an area of a copy, if that is given.
+fn copy_area_asked(found: &ArgMatches<'_>) -> Option<Option<u64>>
+    ensures { IfSome result (λ area. IsArea area (rows_of (found_of found.now))) }
+{
+    match found.get_str("area") {
+        Some(text) => Some(Some(size(text)?)),
+        None => Some(None),
+    }
+}
+
 // Whether a flag was given.
 fn is_given(found: &ArgMatches<'_>, id: &str) -> bool
     ensures { IsTrue result ↔ IsGiven id.now (rows_of (found_of found.now)) }
@@ -480,7 +503,7 @@ fn copy_asked(alloc: Global, found: &ArgMatches<'_>) -> Result<Option<Invocation
     ensures { IfOk result (λ asked. IfSome asked
         (λ a. Asks a (codes "copy", rows_of (found_of found.now)))) }
 {
-    let Some(area) = area_asked(found) else {
+    let Some(area) = copy_area_asked(found) else {
         return Ok(None);
     };
     let Some(old) = text(alloc, found, "OLD")? else {

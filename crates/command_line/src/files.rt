@@ -1,5 +1,6 @@
 // Opening the files that a command names.
-ghost use Rattle.std.specs.Prelude.{◌≡◌, ◌≤◌, ◌↔◌, IsOk, IsOkUnless, IfOk, IfErr};
+ghost use Rattle.std.specs.Prelude.{◌≡◌, ◌≤◌, ◌+◌, ◌*◌, ◌↔◌, IsOk, IsOkUnless, IfOk, IfErr, IfSome};
+ghost use Rattle.std.specs.Prelude.{None};
 ghost use Rattle.calls.specs.declared.format.Format.{Format};
 ghost use Rattle.calls.specs.declared.refusal.Refusal.{Refusal};
 ghost use Rattle.calls.specs.Formats.{max_area, number_of, widest};
@@ -13,10 +14,10 @@ use std::alloc::Global;
 use std::fs::{self, File};
 use std::io::{self, Read, Write};
 use std::rt::Files;
-use store_file::{Access, FileError, LockedFile, Making, Place, open};
+use store_file::{Access, FileError, LockedFile, Making, Place, Watch, Watched, open};
 
-/// The disk that is the file of a store.
-pub type StoreDisk<S> = FileDisk<S, LockedFile>;
+/// The disk that is the file of a store, whose calls are watched.
+pub type StoreDisk<'w, S, W> = FileDisk<S, Watched<'w, LockedFile, W>>;
 
 /// Why a file is not opened: for want of memory, or because it cannot be.
 pub fn cannot_open<'a>(path: &'a str, error: &io::Error) -> Failure<'a> {
@@ -86,14 +87,30 @@ pub fn check_area(format: Format, area: u64) -> Result<(), Refusal>
     Ok(())
 }
 
+/// How large the areas of a copy are: as it is asked, or where nothing is, as those of a file of so
+/// many bytes. Refused BadArg where no disk has such areas, and NotAStore where the file has none.
+pub fn area_of_copy(asked: Option<u64>, size: u64) -> Result<u64, Refusal>
+    ensures ok { IfOk result (λ area. area ≤ max_area widest) }
+    ensures asked { IfSome asked (λ area. IfOk result (λ found. found ≡ area)) }
+    ensures own { asked ≡ None → IfOk result (λ area. AREAS_AT + 2 * area ≤ size) }
+{
+    let area = asked.unwrap_or(size.saturating_sub(AREAS_AT) / 2);
+    match (check_area(Format::Two, area), asked) {
+        (Ok(()), _) => Ok(area),
+        (Err(refusal), Some(_)) => Err(refusal),
+        (Err(_), None) => Err(Refusal::NotAStore),
+    }
+}
+
 /// Opens the file of a disk that is there.
-pub fn open_disk<'a, S: Content>(
+pub fn open_disk<'a, 'w, S: Content, W: Watch>(
     rt: &impl Files<File = File>,
     path: &'a str,
     access: Access,
-) -> Result<StoreDisk<S>, Failure<'a>> {
+    watch: &'w W,
+) -> Result<StoreDisk<'w, S, W>, Failure<'a>> {
     match open(rt, path, access) {
-        Ok(file) => opened(path, FileDisk::open(file)),
+        Ok(file) => opened(path, FileDisk::open(Watched::new(file, watch))),
         Err(error) => Err(unopened(path, &error)),
     }
 }
@@ -112,21 +129,22 @@ pub fn look_at<'a, R: Files<File = File> + AllocGlobal>(
 
 /// Begins to make the file of a disk with two such areas; where `is_reserved` is set, with its
 /// space taken. Where that is refused, what is there stays.
-pub fn begin_disk<'a, S: Content, R: Files<File = File> + AllocGlobal>(
+pub fn begin_disk<'a, 'w, S: Content, W: Watch, R: Files<File = File> + AllocGlobal>(
     rt: &R,
     path: &'a str,
     place: Place,
     area: u64,
     is_reserved: bool,
     for_group: bool,
-) -> Result<(Making, StoreDisk<S>), Failure<'a>>
+    watch: &'w W,
+) -> Result<(Making, StoreDisk<'w, S, W>), Failure<'a>>
     requires { area ≤ max_area widest }
 {
     let (making, file) = match place.begin(rt, for_group) {
         Ok(begun) => begun,
         Err(error) => return Err(unopened(path, &error)),
     };
-    match sized_disk(file, AREAS_AT + 2 * area, is_reserved) {
+    match sized_disk(file, AREAS_AT + 2 * area, is_reserved, watch) {
         Ok(disk) => Ok((making, disk)),
         Err(error) => {
             making.give_up(rt);
@@ -137,17 +155,18 @@ pub fn begin_disk<'a, S: Content, R: Files<File = File> + AllocGlobal>(
 
 // The disk of an empty file, with so many bytes: zeros that are written, where its space is to be
 // taken.
-fn sized_disk<S: Content>(
+fn sized_disk<'w, S: Content, W: Watch>(
     file: LockedFile,
     size: u64,
     is_reserved: bool,
-) -> io::Result<StoreDisk<S>> {
+    watch: &'w W,
+) -> io::Result<StoreDisk<'w, S, W>> {
     if is_reserved {
         fill_with_zeros(file.file(), size)?;
     } else {
         file.file().set_len(size)?;
     }
-    FileDisk::open(file)
+    FileDisk::open(Watched::new(file, watch))
 }
 
 // Writes so many zeros to a file.

@@ -8,27 +8,29 @@ ghost use Rattle.calls.specs.Formats.{max_area, widest};
 mod files;
 mod lint;
 mod listen;
+mod watching;
 
 use boost::{Failure, Invocation, Task, command, report, run, run_copy, serve};
 use calls::{Format, Refusal};
 use clap::error::ErrorKind;
-use disk_model::{Content, MemDisk};
+use disk_model::{Content, Disk, MemDisk};
 use files::{
-    StoreDisk, begin_disk, check_area, format_numbered, look_at, open_disk, opened, read_script,
-    settle,
+    StoreDisk, area_of_copy, begin_disk, check_area, format_numbered, look_at, open_disk, opened,
+    read_script, settle,
 };
 use lint::{lint, tell_first_unclear};
 use listen::{listen_at_door, listen_to_input};
-use listening::Multiplex;
+use listening::{Cause, Multiplex};
 pub use listening::{Fifos, SystemFifos, Way};
 use std::alloc::Global;
 use std::fs::File;
 use std::io::{Read, Write};
 use std::rt::{Clock, Files};
-use std::sync::Wait;
+use std::sync::{Mutex, Wait};
 use std::thread::Threads;
 use std::time::Duration;
-use store_file::Access;
+use store_file::{Access, Watch};
+use watching::{Doing, Shared, Watching};
 
 // What an argument has to be.
 const FORMATS: &str = "--format is 1 or 2";
@@ -70,10 +72,10 @@ fn check_given_area<'a>(format: Format, area: u64) -> Result<(), Failure<'a>>
 
 // Carries a command out on the disk of a file. What the system says of a call that failed is told
 // where the store refused. Answers the status.
-fn run_on<S: Content>(
+fn run_on<S: Content, W: Watch>(
     alloc: Global,
     task: &Task,
-    disk: StoreDisk<S>,
+    disk: StoreDisk<'_, S, W>,
     script: &[u8],
     out: &mut impl Write,
     err: &mut impl Write,
@@ -88,9 +90,10 @@ fn run_on<S: Content>(
 // Makes the file of a disk with two such areas, of the format of the number, an empty store.
 // Refused BadArg where there is no such format, or such an area in it, before the file is touched;
 // and where the file holds bytes, and it is not forced.
-fn format_new<'a, S: Content, R: Files<File = File> + AllocGlobal>(
+fn format_new<'a, S: Content, W: Watch, R: Files<File = File> + AllocGlobal>(
     rt: &R,
     task: &'a Task,
+    watch: &W,
     out: &mut impl Write,
     err: &mut impl Write,
 ) -> Result<u8, Failure<'a>> {
@@ -111,31 +114,36 @@ fn format_new<'a, S: Content, R: Files<File = File> + AllocGlobal>(
     if !*force && opened(path, place.holds_bytes())? {
         return Err(Failure::HoldsBytes(path));
     }
-    let (making, disk) = begin_disk::<S, R>(rt, path, place, *area, *reserve, *group)?;
+    let (making, disk) = begin_disk::<S, W, R>(rt, path, place, *area, *reserve, *group, watch)?;
     let status = run_on(rt.alloc(), task, disk, &[], out, err);
     settle(rt, path, making, status == 0)?;
     Ok(status)
 }
 
-// Copies the store in a file to another file, with two such areas. Refused BadArg where the two
-// paths are one, before a file is touched; the same file under two names is refused by its lock.
-// The other file is as it was until it holds the copy.
-fn copy_store<'a, S: Content, R: Files<File = File> + AllocGlobal>(
+// Copies the store in a file to another file, with two such areas, or with two as large as its own
+// where none are asked for. Refused BadArg where the two paths are one, before a file is touched;
+// the same file under two names is refused by its lock. The other file is as it was until it holds
+// the copy.
+fn copy_store<'a, S: Content, W: Watch, R: Files<File = File> + AllocGlobal>(
     rt: &R,
     old: &'a str,
     new: &'a str,
-    area: u64,
+    area: Option<u64>,
     group: bool,
+    watch: &W,
     out: &mut impl Write,
     err: &mut impl Write,
 ) -> Result<u8, Failure<'a>> {
-    check_given_area(Format::Two, area)?;
+    if let Some(area) = area {
+        check_given_area(Format::Two, area)?;
+    }
     if old == new {
         return Err(Failure::BadArgument(TWO_PATHS));
     }
-    let from = open_disk::<S>(rt, old, Access::Reads)?;
+    let from = open_disk::<S, W>(rt, old, Access::Reads, watch)?;
+    let area = area_of_copy(area, from.size())?;
     let place = look_at(rt, new)?;
-    let (making, to) = begin_disk::<S, R>(rt, new, place, area, false, group)?;
+    let (making, to) = begin_disk::<S, W, R>(rt, new, place, area, false, group, watch)?;
     let mut told = Vec::new(rt.alloc());
     let (status, from, to) = run_copy(rt.alloc(), from, to, area, &mut told, err);
     if status == REFUSED {
@@ -151,31 +159,34 @@ fn copy_store<'a, S: Content, R: Files<File = File> + AllocGlobal>(
 }
 
 // Opens the file of a disk, and carries a command out on it.
-fn run_on_old<'a, S: Content, R: Files<File = File> + AllocGlobal>(
+fn run_on_old<'a, S: Content, W: Watch, R: Files<File = File> + AllocGlobal>(
     rt: &R,
     task: &Task,
     path: &'a str,
     access: Access,
     script: &[u8],
+    watch: &W,
     out: &mut impl Write,
     err: &mut impl Write,
 ) -> Result<u8, Failure<'a>> {
-    let disk = open_disk::<S>(rt, path, access)?;
+    let disk = open_disk::<S, W>(rt, path, access, watch)?;
     Ok(run_on(rt.alloc(), task, disk, script, out, err))
 }
 
 // Reads a script, opens the file of a disk, and carries a command out on it.
-fn run_with_script<'a, S: Content, R: Files<File = File> + AllocGlobal>(
+fn run_with_script<'a, S: Content, W: Watch, R: Files<File = File> + AllocGlobal>(
     rt: &R,
     task: &Task,
     path: &'a str,
     script: &'a str,
+    watch: &W,
     input: impl Read + Drop,
     out: &mut impl Write,
     err: &mut impl Write,
 ) -> Result<u8, Failure<'a>> {
     let text = read_script(rt, script, input)?;
-    let status = run_on_old::<S, R>(rt, task, path, Access::Writes, text.as_slice(), out, err)?;
+    let lines = text.as_slice();
+    let status = run_on_old::<S, W, R>(rt, task, path, Access::Writes, lines, watch, out, err)?;
     if status == NOT_UNDERSTOOD {
         tell_first_unclear(rt.alloc(), text.as_slice(), err);
     }
@@ -199,18 +210,20 @@ fn lint_script<'a, R: Files<File = File> + AllocGlobal>(
 fn serve_script<
     'a,
     S: Content + Send,
+    W: Watch + Sync,
     R: Files<File = File> + Threads + Wait + Clock + AllocGlobal + Sync,
 >(
     rt: &R,
     path: &'a str,
     script: &'a str,
     why: bool,
+    watch: &W,
     input: impl Read + Drop,
     out: &mut impl Write,
     err: &mut impl Write,
 ) -> Result<u8, Failure<'a>> {
     let text = read_script(rt, script, input)?;
-    let disk = open_disk::<S>(rt, path, Access::Writes)?;
+    let disk = open_disk::<S, W>(rt, path, Access::Writes, watch)?;
     let (status, closed) = serve(rt, disk, text.as_slice(), why, out, err);
     if status == NOT_UNDERSTOOD {
         tell_first_unclear(rt.alloc(), text.as_slice(), err);
@@ -223,7 +236,7 @@ fn serve_script<
 
 // Writes a line with the system's words for the last call of the disk that failed, if one did.
 // Where it cannot be written, that changes nothing.
-fn tell_cause<S: Content>(disk: &StoreDisk<S>, err: &mut impl Write) {
+fn tell_cause<S: Content, W: Watch>(disk: &StoreDisk<'_, S, W>, err: &mut impl Write) {
     if let Some(error) = disk.last_error() {
         let _written = writeln!(err, "boost: {error}");
         let _flushed = err.flush();
@@ -248,25 +261,39 @@ fn carry_out<
     S: Content + Send,
     R: Files<File = File> + Threads + Wait + Clock + AllocGlobal + Sync,
     F: Fifos + Drop + Sync,
+    E: Write + Send,
 >(
     rt: &R,
     asked: &'a Invocation,
     input: impl Read + Drop + Send,
     fifos: F,
+    watch: &Watching<'_, E, R>,
     out: &mut (impl Write + Send),
     err: &mut (impl Write + Send),
 ) -> Result<u8, Failure<'a>> {
     match asked {
-        Invocation::Run(task) => perform::<S, R>(rt, task, input, out, err),
+        Invocation::Run(task) => perform::<S, _, R>(rt, task, input, watch, out, err),
         Invocation::Copy {
             old,
             new,
             area,
             group,
-        } => copy_store::<S, R>(rt, old.as_str(), new.as_str(), *area, *group, out, err),
+        } => {
+            copy_store::<S, _, R>(
+                rt,
+                old.as_str(),
+                new.as_str(),
+                *area,
+                *group,
+                watch,
+                out,
+                err,
+            )
+        }
         Invocation::Lint { script } => lint_script(rt, script.as_str(), input, out, err),
         Invocation::Serve { disk, script, why } => {
-            serve_script::<S, R>(rt, disk.as_str(), script.as_str(), *why, input, out, err)
+            let (disk, script) = (disk.as_str(), script.as_str());
+            serve_script::<S, _, R>(rt, disk, script, *why, watch, input, out, err)
         }
         Invocation::Listen {
             folder: Some(_),
@@ -279,12 +306,13 @@ fn carry_out<
             idle,
             shell,
         } => {
-            let disk = open_disk::<S>(rt, disk.as_str(), Access::Writes)?;
+            let disk = open_disk::<S, _>(rt, disk.as_str(), Access::Writes, watch)?;
             let idle = idle.map(Duration::from_secs);
+            let cause = Cause::new(watch.fault());
             if let Some(folder) = folder {
-                return listen_at_door(rt, disk, fifos, folder.as_str(), idle, err);
+                return listen_at_door(rt, disk, fifos, folder.as_str(), idle, cause, err);
             }
-            let clients = Multiplex::new(rt.alloc(), fifos, input, out, &mut *err, idle)?;
+            let clients = Multiplex::new(rt.alloc(), fifos, input, out, &mut *err, idle, cause)?;
             let clients = if *shell { clients.as_shell() } else { clients };
             listen_to_input(rt, disk, clients)
         }
@@ -292,27 +320,38 @@ fn carry_out<
 }
 
 // Opens the files of a task and carries it out.
-fn perform<'a, S: Content, R: Files<File = File> + AllocGlobal>(
+fn perform<'a, S: Content, W: Watch, R: Files<File = File> + AllocGlobal>(
     rt: &R,
     task: &'a Task,
     input: impl Read + Drop,
+    watch: &W,
     out: &mut impl Write,
     err: &mut impl Write,
 ) -> Result<u8, Failure<'a>> {
     match task {
-        Task::Format { .. } => format_new::<S, R>(rt, task, out, err),
+        Task::Format { .. } => format_new::<S, W, R>(rt, task, watch, out, err),
         Task::Play { disk, script } => {
-            run_with_script::<S, R>(rt, task, disk.as_str(), script.as_str(), input, out, err)
+            let (disk, script) = (disk.as_str(), script.as_str());
+            run_with_script::<S, W, R>(rt, task, disk, script, watch, input, out, err)
         }
         Task::Show {
             disk,
             read_only: false,
         }
         | Task::Upgrade { disk } => {
-            run_on_old::<S, R>(rt, task, disk.as_str(), Access::Writes, &[], out, err)
+            run_on_old::<S, W, R>(
+                rt,
+                task,
+                disk.as_str(),
+                Access::Writes,
+                &[],
+                watch,
+                out,
+                err,
+            )
         }
         Task::Show { disk, .. } | Task::Check { disk } | Task::Stat { disk, .. } => {
-            run_on_old::<S, R>(rt, task, disk.as_str(), Access::Reads, &[], out, err)
+            run_on_old::<S, W, R>(rt, task, disk.as_str(), Access::Reads, &[], watch, out, err)
         }
         Task::Demo => demo(rt.alloc(), task, out, err),
     }
@@ -331,9 +370,12 @@ fn answer<
     out: &mut (impl Write + Send),
     err: &mut (impl Write + Send),
 ) -> u8 {
-    match carry_out::<S, R, F>(rt, asked, input, fifos, out, err) {
+    let shared = Mutex::new(err);
+    let watching = Watching::new(rt, &shared, Doing::of(asked));
+    let mut err = Shared::new(rt, &shared);
+    match carry_out::<S, R, F, _>(rt, asked, input, fifos, &watching, out, &mut err) {
         Ok(status) => status,
-        Err(failure) => report(&failure, err),
+        Err(failure) => report(&failure, &mut err),
     }
 }
 

@@ -5,13 +5,14 @@ use background::{Closed, run};
 use boost::{Failure, report};
 use calls::Refusal;
 use disk_model::Content;
-use listening::{Doorway, Fifos, Multiplex, Trouble};
+use listening::{Cause, Doorway, Fifos, Multiplex, Trouble};
 use std::alloc::AllocGlobal;
 use std::io::{self, Read, Write};
 use std::rt::Clock;
 use std::sync::Wait;
 use std::thread::Threads;
 use std::time::Duration;
+use store_file::Watch;
 
 /// Keeps the store of a disk open, and serves the clients that share an input and an output.
 /// Answers the status: 0 at the end of the input, once all that was committed is kept.
@@ -26,7 +27,12 @@ pub fn listen_to_input<
     I: Read + Drop + Send,
     O: Write + Drop + Send,
     E: Write + Drop + Send,
->(rt: &R, disk: StoreDisk<S>, clients: Multiplex<F, I, O, E>) -> Result<u8, Failure<'a>> {
+    W: Watch + Sync,
+>(
+    rt: &R,
+    disk: StoreDisk<'_, S, W>,
+    clients: Multiplex<'_, F, I, O, E>,
+) -> Result<u8, Failure<'a>> {
     let (served, closed) = run(rt, disk, &clients, clients.threads());
     let mut notes = clients.into_notes();
     Ok(status_of(closed, first_trouble(served), None, &mut notes))
@@ -43,16 +49,18 @@ pub fn listen_at_door<
     S: Content + Send,
     R: Threads + Wait + Clock + AllocGlobal + Sync,
     F: Fifos + Drop + Sync,
+    W: Watch + Sync,
 >(
     rt: &R,
-    disk: StoreDisk<S>,
+    disk: StoreDisk<'_, S, W>,
     fifos: F,
     folder: &'a str,
     idle: Option<Duration>,
+    cause: Cause<'_>,
     err: &mut (impl Write + Send),
 ) -> Result<u8, Failure<'a>> {
     let door = format!(in rt.alloc(); "{folder}/door")?;
-    let clients = Doorway::new(rt.alloc(), fifos, folder, idle, &mut *err)?;
+    let clients = Doorway::new(rt.alloc(), fifos, folder, idle, cause, &mut *err)?;
     let (served, closed) = run(rt, disk, &clients, clients.threads());
     let mut notes = clients.into_notes();
     let door = Door {
@@ -93,8 +101,8 @@ fn unusable(error: &io::Error) -> Failure<'static> {
 // The status where a store was closed. Why it was not opened is told, or what ended keeping early,
 // each with the system's words; or else what trouble there was: at the door of a folder, or with
 // input and output.
-fn status_of<S: Content>(
-    closed: Closed<StoreDisk<S>>,
+fn status_of<S: Content, W: Watch>(
+    closed: Closed<StoreDisk<'_, S, W>>,
     trouble: Result<Option<Trouble>, Refusal>,
     door: Option<Door<'_>>,
     err: &mut impl Write,

@@ -20,11 +20,11 @@ use std::io::{self, BufRead, BufReader, ErrorKind, Write};
 use std::os::fd::AsRawFd;
 use std::rt::Clock;
 use std::sync::atomic::{AtomicBool, AtomicU64, Ordering};
-use std::sync::{Mutex, OnceLock, Wait};
+use std::sync::{Mutex, Wait};
 use std::thread;
 use std::time::Duration;
 use store::{Client, Naming};
-use talks::{Ended, Printer, talk};
+use talks::{Cause, Ended, Printer, talk};
 
 // How many clients that came wait at most.
 const MAX_WAITING: usize = 4096;
@@ -61,7 +61,8 @@ const LAST_LOOKS: u32 = 5;
 /// after all is over, whoever then reads nothing.
 ///
 /// Before the door is opened it notes the FIFOs of clients that lie in the folder, and then removes
-/// these: nobody reads the hello of such a client any more.
+/// these, but for those whose lock a client has: it may say hello yet. Nobody reads the hello of
+/// another one any more.
 #[derive(Drop)]
 pub struct Doorway<'a, F, E> {
     fifos: F,
@@ -82,19 +83,21 @@ pub struct Doorway<'a, F, E> {
     is_closed: AtomicBool,
     is_over: AtomicBool,
     // What ended keeping early.
-    ended_by: OnceLock<Refusal>,
+    cause: Cause<'a>,
     // Who looks waits for the end of these, which have no message.
     ended: Receiver<()>,
     going_on: Mutex<Option<Sender<()>>>,
 }
 
 impl<'a, F: Fifos + Drop, E: Write + Drop> Doorway<'a, F, E> {
-    /// The door of a folder, which is not opened yet. Refused only for want of memory.
+    /// The door of a folder, which is not opened yet. `cause`, which is none yet, is told behind a
+    /// Lost. Refused only for want of memory.
     pub fn new(
         alloc: Global,
         fifos: F,
         folder: &'a str,
         idle: Option<Duration>,
+        cause: Cause<'a>,
         notes: E,
     ) -> Result<Self, AllocError> {
         let (sender, receiver) = bounded(alloc, MAX_WAITING)?;
@@ -119,7 +122,7 @@ impl<'a, F: Fifos + Drop, E: Write + Drop> Doorway<'a, F, E> {
             looks: AtomicU64::new(0),
             is_closed: AtomicBool::new(false),
             is_over: AtomicBool::new(false),
-            ended_by: OnceLock::new(),
+            cause,
             ended,
             going_on: Mutex::new(Some(going_on)),
         })
@@ -141,7 +144,7 @@ impl<'a, F: Fifos + Drop, E: Write + Drop> Doorway<'a, F, E> {
     // cannot be read. Where keeping has ended, those who ask meanwhile are told first.
     fn watch<R: Wait + Clock + AllocGlobal>(&self, rt: &R) -> Result<(), Trouble> {
         let watched = self.watch_door(rt);
-        if self.ended_by.get().is_some() {
+        if self.cause.is_noted() {
             thread::sleep(rt, Duration::from_millis(LAST));
         }
         self.end_all(rt);
@@ -310,7 +313,7 @@ impl<'a, F: Fifos + Drop, E: Write + Drop> Doorway<'a, F, E> {
         let reader = Until::new(rt, reader, seat, &self.looks, &self.is_over);
         let mut lines = BufReader::with_capacity(alloc, READ_SIZE, reader)?;
         let mut session = Session::new(client);
-        let mut printer = Printer::new(alloc, writer).with_cause(&self.ended_by);
+        let mut printer = Printer::new(alloc, writer).with_cause(&self.cause);
         seat.take(rt, number);
         outlet.take(rt, answers);
         let ended = talk(rt, &mut session, &mut lines, &mut printer);
@@ -387,7 +390,7 @@ impl<F: Fifos + Drop, E: Write + Drop> Work for Doorway<'_, F, E> {
 
     /// The door is read no more, and all are ended a moment later.
     fn keeping_ended<R: Wait + AllocGlobal>(&self, rt: &R, refusal: Refusal) {
-        let _noted = self.ended_by.try_set(refusal);
+        self.cause.note(refusal);
         self.is_closed.store(true, Ordering::SeqCst);
         self.wake(rt, &self.door, u64::MAX, false);
     }

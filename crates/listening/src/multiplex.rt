@@ -18,10 +18,10 @@ use std::alloc::{AllocError, AllocGlobal, Global};
 use std::io::{self, BufReader, ErrorKind, Read, Write};
 use std::rt::Clock;
 use std::sync::atomic::{AtomicBool, AtomicU64, Ordering};
-use std::sync::{Mutex, OnceLock, Wait};
+use std::sync::{Mutex, Wait};
 use std::time::Duration;
 use store::{Client, Naming};
-use talks::{Ended, Printer, Why, talk};
+use talks::{Cause, Ended, Printer, Why, talk};
 
 // How many batches of lines wait for a client at most; then no more input is read.
 const MAX_BATCHES: usize = 64;
@@ -45,7 +45,7 @@ const STANDARD_INPUT: i32 = 0;
 /// long. Where a client was told that keeping has failed, no more input is read, which ends all
 /// clients: at once where the input is a pipe, and else behind what comes next.
 #[derive(Drop)]
-pub struct Multiplex<F, I, O, E> {
+pub struct Multiplex<'a, F, I, O, E> {
     fifos: F,
     idle: Option<Duration>,
     manner: Manner,
@@ -56,7 +56,7 @@ pub struct Multiplex<F, I, O, E> {
     arrivals: Arrivals,
     is_lost: AtomicBool,
     // What ended keeping early.
-    ended_by: OnceLock<Refusal>,
+    cause: Cause<'a>,
     input: Mutex<Option<I>>,
     output: Mutex<O>,
     notes: Mutex<Notes<E>>,
@@ -64,8 +64,15 @@ pub struct Multiplex<F, I, O, E> {
     receivers: Vec<Receiver<Vec<u8>>>,
 }
 
-impl<F: Fifos + Drop, I: Read + Drop, O: Write + Drop, E: Write + Drop> Multiplex<F, I, O, E> {
-    /// Clients that were not heard yet. Refused only for want of memory.
+impl<'a, F: Fifos + Drop, I: Read + Drop, O: Write + Drop, E: Write + Drop> Multiplex<
+    'a,
+    F,
+    I,
+    O,
+    E,
+> {
+    /// Clients that were not heard yet. `cause`, in which nothing is noted yet, is told behind a
+    /// Lost. Refused only for want of memory.
     pub fn new(
         alloc: Global,
         fifos: F,
@@ -73,6 +80,7 @@ impl<F: Fifos + Drop, I: Read + Drop, O: Write + Drop, E: Write + Drop> Multiple
         output: O,
         notes: E,
         idle: Option<Duration>,
+        cause: Cause<'a>,
     ) -> Result<Self, AllocError> {
         let mut senders = Vec::new(alloc);
         let mut receivers = Vec::new(alloc);
@@ -90,7 +98,7 @@ impl<F: Fifos + Drop, I: Read + Drop, O: Write + Drop, E: Write + Drop> Multiple
             looks: AtomicU64::new(0),
             arrivals: Arrivals::new(MAX_LIVE + 1),
             is_lost: AtomicBool::new(false),
-            ended_by: OnceLock::new(),
+            cause,
             input: Mutex::new(Some(input)),
             output: Mutex::new(output),
             notes,
@@ -172,7 +180,7 @@ impl<F: Fifos + Drop, I: Read + Drop, O: Write + Drop, E: Write + Drop> Multiple
         let mut lines = BufReader::with_capacity(alloc, READ_SIZE, coming)?;
         let number = of.saturating_add(1);
         let output = Tagged::new(rt, &self.output, number, self.manner, Vec::new(alloc));
-        let mut printer = Printer::new(alloc, output).with_cause(&self.ended_by);
+        let mut printer = Printer::new(alloc, output).with_cause(&self.cause);
         for _ in rt.forever() {
             let mut session = Session::new(client);
             match talk(rt, &mut session, &mut lines, &mut printer) {
@@ -188,7 +196,7 @@ impl<F: Fifos + Drop, I: Read + Drop, O: Write + Drop, E: Write + Drop> Multiple
 }
 
 impl<F: Fifos + Drop, I: Read + Drop, O: Write + Drop, E: Write + Drop> Work
-    for Multiplex<F, I, O, E> {
+    for Multiplex<'_, F, I, O, E> {
     type Output = Result<(), Trouble>;
 
     /// The first thread hands the lines out, and each other one talks with its client.
@@ -212,7 +220,7 @@ impl<F: Fifos + Drop, I: Read + Drop, O: Write + Drop, E: Write + Drop> Work
     /// The input is taken to have ended: at once where it is a FIFO, and else behind what comes
     /// next.
     fn keeping_ended<R: Wait + AllocGlobal>(&self, rt: &R, refusal: Refusal) {
-        let _noted = self.ended_by.try_set(refusal);
+        self.cause.note(refusal);
         self.is_lost.store(true, Ordering::SeqCst);
         let _woken = self.seat.wake(rt, rt.alloc(), &self.fifos, u64::MAX, false);
     }

@@ -1,6 +1,7 @@
 // The words of clients at a door, and their FIFOs.
 use crate::fifos::Fifos;
 use std::alloc::{AllocError, Global};
+use std::fs::{File, TryLockError};
 use std::io;
 
 // How many bytes a client's word has at most.
@@ -24,7 +25,8 @@ pub fn leftovers(fifos: &impl Fifos, folder: &str) -> io::Result<Vec<String>> {
     Ok(names)
 }
 
-/// Removes files of a folder. What cannot be removed is in nobody's way.
+/// Removes FIFOs of a folder, but for those whose lock somebody has. What cannot be removed is in
+/// nobody's way.
 pub fn remove_all(
     fifos: &impl Fifos,
     alloc: Global,
@@ -33,9 +35,27 @@ pub fn remove_all(
 ) -> Result<(), AllocError> {
     for name in names {
         let path = format!(in alloc; "{folder}/{name}")?;
-        let _removed = fifos.remove(path.as_str());
+        remove(fifos, path.as_str());
     }
     Ok(())
+}
+
+// Removes a FIFO, unless somebody has its lock. One that cannot be opened or locked is removed too.
+fn remove(fifos: &impl Fifos, path: &str) {
+    let found = fifos.open_both(path);
+    if !is_locked(&found) {
+        let _removed = fifos.remove(path);
+    }
+    // who made it just now does not get its lock before its name is gone
+    drop(found);
+}
+
+// Whether somebody has the lock of a file. Where nobody has, it is taken, up to the file's end.
+fn is_locked(found: &io::Result<File>) -> bool {
+    match found {
+        Ok(file) => matches!(file.try_lock(), Err(TryLockError::WouldBlock)),
+        Err(_) => false,
+    }
 }
 
 // Whether a file has a name of a client's FIFO.

@@ -11,7 +11,9 @@ mod locked;
 mod making;
 mod opening;
 mod streams;
+mod watched;
 
 pub use locked::LockedFile;
 pub use making::{Making, Place};
 pub use opening::{Access, FileError, open};
+pub use watched::{Watch, Watched};

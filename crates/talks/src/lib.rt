@@ -5,6 +5,7 @@
 #![tactic(auto)]
 
 mod answering;
+mod cause;
 mod doubting;
 mod hearing;
 mod printing;
@@ -14,6 +15,7 @@ mod told;
 mod transacting;
 mod why;
 
+pub use cause::Cause;
 pub use hearing::Hearer;
 pub use printing::Printer;
 pub use speaking::{End, Speaker};

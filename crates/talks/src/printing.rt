@@ -2,13 +2,13 @@
 ghost use Rattle.std.specs.Prelude.{[], ◌∷◌, None, OnOk};
 ghost use Rattle.talks.specs.Hearing.{Hears};
 
+use crate::cause::Cause;
 use crate::hearing::Hearer;
 use crate::told::Told;
 use calls::Refusal;
 use std::alloc::Global;
 use std::fmt::Display;
 use std::io::{self, Write};
-use std::sync::OnceLock;
 
 // How many bytes are kept back at most.
 const MOST_BACK: usize = 65_536;
@@ -19,7 +19,7 @@ const MOST_BACK: usize = 65_536;
 pub struct Printer<'a, O> {
     text: Vec<u8>,
     output: O,
-    ended_by: Option<&'a OnceLock<Refusal>>,
+    cause: Option<&'a Cause<'a>>,
 }
 
 impl<'a, O: Write + Drop> Printer<'a, O> {
@@ -28,25 +28,22 @@ impl<'a, O: Write + Drop> Printer<'a, O> {
         Self {
             text: Vec::new(alloc),
             output,
-            ended_by: None,
+            cause: None,
         }
     }
 
-    /// The same, behind whose Lost stands what ended keeping. That is noted before who waits is
-    /// told, but for a Fault of the disk: so it is one where nothing is noted.
-    pub fn with_cause(self, ended_by: &'a OnceLock<Refusal>) -> Self {
+    /// The same, behind whose Lost stands what ended keeping.
+    pub fn with_cause(self, cause: &'a Cause<'a>) -> Self {
         Self {
-            ended_by: Some(ended_by),
+            cause: Some(cause),
             ..self
         }
     }
 
     // What stands behind what is told.
-    fn cause_of<S>(&self, told: &Told<S>) -> Option<Refusal> {
-        match (told, self.ended_by) {
-            (Told::Refused(Refusal::Lost), Some(ended_by)) => {
-                Some(ended_by.get().copied().unwrap_or(Refusal::Fault))
-            }
+    fn cause_of<S>(&self, told: &Told<S>) -> Option<&'a Cause<'a>> {
+        match told {
+            Told::Refused(Refusal::Lost) => self.cause,
             _ => None,
         }
     }

@@ -14,8 +14,8 @@ returns c =
     let old = adds _ _ _ _ _ c.in_ok-arg.ensures named c.path.ensures.rule c.path.ensures.alone in
     let both = adds _ _ _ _ _ c.in_ok-arg-2.ensures old c.path-2.ensures.rule
     c.path-2.ensures.alone in
-    let sized = adds _ _ _ _ _ c.in_ok-arg-3.ensures both c.area.ensures.rule
-    c.area.ensures.alone in
+    let sized = adds _ _ _ _ _ c.in_ok-arg-3.ensures both c.area_of_copy.ensures.rule
+    c.area_of_copy.ensures.alone in
     IfOk-weaker c.arg-4.result _ _
     (λ whole h. adds _ whole _ _ _ h sized c.group.ensures.rule c.group.ensures.alone)
     c.arg-4.ensures
