@@ -1,8 +1,10 @@
 #!/usr/bin/env python3
-"""progress.py [PROGRAM]: a command that takes long says on standard error how far it is, and one that does not says nothing.
+"""progress.py [PROGRAM]: a command that takes long says on standard error how far it is, and one that does not says nothing; and the
+`status` of a server says since when its device stands still.
 
-Each read of a block of the store is made to take half a second, by a small library of C that is loaded before the program. The program
-is crates/boost_main/out/boost_main, proved and built, unless another one is named. The last line tells what was said.
+Each read of a block of the store is made to take half a second, and each sync of a server two, by a small library of C that is loaded
+before the program. The program is crates/boost_main/out/boost_main, proved and built, unless another one is named. The last line tells
+what was said.
 """
 import os
 import re
@@ -20,6 +22,7 @@ VALUES = 2400
 SLOW = r"""
 #define _GNU_SOURCE
 #include <dlfcn.h>
+#include <stdlib.h>
 #include <unistd.h>
 
 ssize_t pread(int file, void *bytes, size_t count, off_t at)
@@ -29,6 +32,17 @@ ssize_t pread(int file, void *bytes, size_t count, off_t at)
         usleep(500000);
     return real(file, bytes, count, at);
 }
+
+static int slow_sync(const char *name, int file)
+{
+    int (*real)(int) = (int (*)(int))dlsym(RTLD_NEXT, name);
+    if (getenv("SLOW_SYNCS"))
+        sleep(2);
+    return real(file);
+}
+
+int fsync(int file) { return slow_sync("fsync", file); }
+int fdatasync(int file) { return slow_sync("fdatasync", file); }
 """
 OPENING = re.compile(r'boost: opening, (\d+) MB read')
 COPYING = re.compile(r'boost: copying, (\d+) MB read, (\d+) MB written')
@@ -56,10 +70,30 @@ def check_said(words, form, said):
     assert read == sorted(read) and read[-1] > 0, (words, said)
 
 
+def check_stands_still(slow, disk):
+    """A server whose device stands still says since when, and no more once it goes on."""
+    subprocess.run([PROGRAM, 'format', disk, '--area', AREA], check=True)
+    with subprocess.Popen([PROGRAM, 'listen', disk], stdin=subprocess.PIPE, stdout=subprocess.PIPE, text=True, bufsize=1,
+                          env={**os.environ, 'LD_PRELOAD': slow, 'SLOW_SYNCS': '1'}) as server:
+        def ask(line):
+            server.stdin.write(f'c1 {line}\n')
+            return server.stdout.readline()
+        assert ask('make counter n').startswith('c1 place'), 'make'
+        time.sleep(1.5)
+        seen = re.search(r'; writing_since (\d+)$', ask('status'))
+        assert seen and 0 <= time.time() - int(seen[1]) < 4, seen
+        assert ask('wait') == 'c1 kept\n', 'wait'
+        time.sleep(0.5)
+        assert 'writing_since' not in ask('status')
+        server.stdin.close()
+    assert server.returncode == 0, server.returncode
+
+
 def main():
     with tempfile.TemporaryDirectory() as room:
         slow, disk = os.path.join(room, 'slow.so'), os.path.join(room, 'disk')
         subprocess.run(['cc', '-shared', '-fPIC', '-o', slow, '-x', 'c', '-', '-ldl'], input=SLOW, text=True, check=True)
+        check_stands_still(slow, f'{disk}.still')
         make_store(disk)
         began = time.monotonic()
         quick = subprocess.run([PROGRAM, 'check', disk], stdout=subprocess.DEVNULL, stderr=subprocess.PIPE, text=True, check=True)
@@ -81,7 +115,7 @@ def main():
             assert run.returncode == 0, (words, run.returncode, said)
             check_said(words, commands[words], said)
             told += said.count('\n')
-        print(f'{len(commands)} commands said {told} lines')
+        print(f'{len(commands)} commands said {told} lines, and a status since when the device stands still')
 
 
 main()

@@ -29,7 +29,8 @@ class Collection(NamedTuple):
 
 class Status(NamedTuple):
     """How a store stands, in the words of docs/LISTEN.md; the collections in the order of making. `failed` says that keeping has
-    failed, and `full` how full the store is, in hundredths."""
+    failed, `full` how full the store is, in hundredths, and `writing_since` the second since 1970 at which the write or sync of the
+    disk began that goes on, 0 where none does."""
     format: int
     area: int
     in_use: int
@@ -42,6 +43,7 @@ class Status(NamedTuple):
     failed: bool = False
     checkpoint: int = 0
     full: int = 0
+    writing_since: int = 0
 
 
 PASSING = {'Busy', 'TooManyLive'}

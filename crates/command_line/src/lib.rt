@@ -20,7 +20,7 @@ use files::{
 };
 use lint::{lint, tell_first_unclear};
 use listen::{listen_at_door, listen_to_input};
-use listening::{Cause, Multiplex};
+use listening::{KeepingState, Multiplex};
 pub use listening::{Fifos, SystemFifos, Way};
 use std::alloc::Global;
 use std::fs::File;
@@ -308,11 +308,11 @@ fn carry_out<
         } => {
             let disk = open_disk::<S, _>(rt, disk.as_str(), Access::Writes, watch)?;
             let idle = idle.map(Duration::from_secs);
-            let cause = Cause::new(watch.fault());
+            let state = KeepingState::new(watch.fault(), watch.writing_since());
             if let Some(folder) = folder {
-                return listen_at_door(rt, disk, fifos, folder.as_str(), idle, cause, err);
+                return listen_at_door(rt, disk, fifos, folder.as_str(), idle, state, err);
             }
-            let clients = Multiplex::new(rt.alloc(), fifos, input, out, &mut *err, idle, cause)?;
+            let clients = Multiplex::new(rt.alloc(), fifos, input, out, &mut *err, idle, state)?;
             let clients = if *shell { clients.as_shell() } else { clients };
             listen_to_input(rt, disk, clients)
         }

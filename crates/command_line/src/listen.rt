@@ -5,7 +5,7 @@ use background::{Closed, run};
 use boost::{Failure, report};
 use calls::Refusal;
 use disk_model::Content;
-use listening::{Cause, Doorway, Fifos, Multiplex, Trouble};
+use listening::{Doorway, Fifos, KeepingState, Multiplex, Trouble};
 use std::alloc::AllocGlobal;
 use std::io::{self, Read, Write};
 use std::rt::Clock;
@@ -56,11 +56,11 @@ pub fn listen_at_door<
     fifos: F,
     folder: &'a str,
     idle: Option<Duration>,
-    cause: Cause<'_>,
+    state: KeepingState<'_>,
     err: &mut (impl Write + Send),
 ) -> Result<u8, Failure<'a>> {
     let door = format!(in rt.alloc(); "{folder}/door")?;
-    let clients = Doorway::new(rt.alloc(), fifos, folder, idle, cause, &mut *err)?;
+    let clients = Doorway::new(rt.alloc(), fifos, folder, idle, state, &mut *err)?;
     let (served, closed) = run(rt, disk, &clients, clients.threads());
     let mut notes = clients.into_notes();
     let door = Door {

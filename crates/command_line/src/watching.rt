@@ -59,13 +59,16 @@ impl<O: Write, R: Wait> Write for Shared<'_, O, R> {
 }
 
 /// Watches the disks of a command. It keeps the system's words for the first write or sync that
-/// failed, and writes a line about how far the command is each ten seconds while it goes on.
+/// failed, knows since when one goes on, and writes a line about how far the command is each ten
+/// seconds while it goes on.
 #[derive(Drop)]
 pub struct Watching<'a, O, R: Wait> {
     rt: &'a R,
     output: &'a Mutex<O>,
     doing: Doing,
     fault: OnceLock<io::Error>,
+    // The second since 1970 at which the write or sync began that goes on; 0 where none does.
+    writing_since: AtomicU64,
     read: AtomicU64,
     written: AtomicU64,
     // At which second of the clock the last line was written, or it began.
@@ -82,6 +85,7 @@ impl<'a, O: Write, R: Wait + Clock> Watching<'a, O, R> {
             output,
             doing,
             fault: OnceLock::new(),
+            writing_since: AtomicU64::new(0),
             read: AtomicU64::new(0),
             written: AtomicU64::new(0),
             told_at: AtomicU64::new(seconds(rt).unwrap_or(0)),
@@ -92,6 +96,11 @@ impl<'a, O: Write, R: Wait + Clock> Watching<'a, O, R> {
     /// Why the first write or sync that failed did, once one has.
     pub fn fault(&self) -> &OnceLock<io::Error> {
         &self.fault
+    }
+
+    /// The second since 1970 at which the write or sync began that goes on; 0 where none does.
+    pub fn writing_since(&self) -> &AtomicU64 {
+        &self.writing_since
     }
 
     // Writes a line, where it is time for one.
@@ -130,6 +139,14 @@ impl<'a, O: Write, R: Wait + Clock> Watching<'a, O, R> {
     }
 }
 
+// The second since 1970, where the clock tells it.
+fn second_since_1970(clock: &impl Clock) -> Option<u64> {
+    match clock.since_1970() {
+        Ok(since) => Some(since.as_secs()),
+        Err(_) => None,
+    }
+}
+
 // The second of the clock, where it tells one.
 fn seconds(clock: &impl Clock) -> Option<u64> {
     match clock.monotonic() {
@@ -139,6 +156,15 @@ fn seconds(clock: &impl Clock) -> Option<u64> {
 }
 
 impl<O: Write, R: Wait + Clock> Watch for Watching<'_, O, R> {
+    fn begins(&self) {
+        let now = second_since_1970(self.rt).unwrap_or(0);
+        self.writing_since.store(now, Ordering::SeqCst);
+    }
+
+    fn ends(&self) {
+        self.writing_since.store(0, Ordering::SeqCst);
+    }
+
     fn failed(&self, error: io::Error) {
         let _noted = self.fault.try_set(error);
     }

@@ -24,7 +24,7 @@ use std::sync::{Mutex, Wait};
 use std::thread;
 use std::time::Duration;
 use store::{Client, Naming};
-use talks::{Cause, Ended, Printer, talk};
+use talks::{Ended, KeepingState, Printer, talk};
 
 // How many clients that came wait at most.
 const MAX_WAITING: usize = 4096;
@@ -82,22 +82,22 @@ pub struct Doorway<'a, F, E> {
     // The door is read no more.
     is_closed: AtomicBool,
     is_over: AtomicBool,
-    // What ended keeping early.
-    cause: Cause<'a>,
+    // How keeping goes.
+    state: KeepingState<'a>,
     // Who looks waits for the end of these, which have no message.
     ended: Receiver<()>,
     going_on: Mutex<Option<Sender<()>>>,
 }
 
 impl<'a, F: Fifos + Drop, E: Write + Drop> Doorway<'a, F, E> {
-    /// The door of a folder, which is not opened yet. `cause`, which is none yet, is told behind a
-    /// Lost. Refused only for want of memory.
+    /// The door of a folder, which is not opened yet. `state`, in which nothing is noted yet, is told
+    /// behind a Lost and a status. Refused only for want of memory.
     pub fn new(
         alloc: Global,
         fifos: F,
         folder: &'a str,
         idle: Option<Duration>,
-        cause: Cause<'a>,
+        state: KeepingState<'a>,
         notes: E,
     ) -> Result<Self, AllocError> {
         let (sender, receiver) = bounded(alloc, MAX_WAITING)?;
@@ -122,7 +122,7 @@ impl<'a, F: Fifos + Drop, E: Write + Drop> Doorway<'a, F, E> {
             looks: AtomicU64::new(0),
             is_closed: AtomicBool::new(false),
             is_over: AtomicBool::new(false),
-            cause,
+            state,
             ended,
             going_on: Mutex::new(Some(going_on)),
         })
@@ -144,7 +144,7 @@ impl<'a, F: Fifos + Drop, E: Write + Drop> Doorway<'a, F, E> {
     // cannot be read. Where keeping has ended, those who ask meanwhile are told first.
     fn watch<R: Wait + Clock + AllocGlobal>(&self, rt: &R) -> Result<(), Trouble> {
         let watched = self.watch_door(rt);
-        if self.cause.is_noted() {
+        if self.state.is_noted() {
             thread::sleep(rt, Duration::from_millis(LAST));
         }
         self.end_all(rt);
@@ -313,7 +313,7 @@ impl<'a, F: Fifos + Drop, E: Write + Drop> Doorway<'a, F, E> {
         let reader = Until::new(rt, reader, seat, &self.looks, &self.is_over);
         let mut lines = BufReader::with_capacity(alloc, READ_SIZE, reader)?;
         let mut session = Session::new(client);
-        let mut printer = Printer::new(alloc, writer).with_cause(&self.cause);
+        let mut printer = Printer::new(alloc, writer).with_state(&self.state);
         seat.take(rt, number);
         outlet.take(rt, answers);
         let ended = talk(rt, &mut session, &mut lines, &mut printer);
@@ -390,7 +390,7 @@ impl<F: Fifos + Drop, E: Write + Drop> Work for Doorway<'_, F, E> {
 
     /// The door is read no more, and all are ended a moment later.
     fn keeping_ended<R: Wait + AllocGlobal>(&self, rt: &R, refusal: Refusal) {
-        self.cause.note(refusal);
+        self.state.note(refusal);
         self.is_closed.store(true, Ordering::SeqCst);
         self.wake(rt, &self.door, u64::MAX, false);
     }

@@ -23,5 +23,5 @@ pub use doorway::Doorway;
 pub use fifos::{Fifos, SystemFifos, Way};
 pub use multiplex::Multiplex;
 pub use notes::Notes;
-pub use talks::Cause;
+pub use talks::KeepingState;
 pub use trouble::Trouble;

@@ -21,7 +21,7 @@ use std::sync::atomic::{AtomicBool, AtomicU64, Ordering};
 use std::sync::{Mutex, Wait};
 use std::time::Duration;
 use store::{Client, Naming};
-use talks::{Cause, Ended, Printer, Why, talk};
+use talks::{Ended, KeepingState, Printer, Why, talk};
 
 // How many batches of lines wait for a client at most; then no more input is read.
 const MAX_BATCHES: usize = 64;
@@ -55,8 +55,8 @@ pub struct Multiplex<'a, F, I, O, E> {
     looks: AtomicU64,
     arrivals: Arrivals,
     is_lost: AtomicBool,
-    // What ended keeping early.
-    cause: Cause<'a>,
+    // How keeping goes.
+    state: KeepingState<'a>,
     input: Mutex<Option<I>>,
     output: Mutex<O>,
     notes: Mutex<Notes<E>>,
@@ -71,8 +71,8 @@ impl<'a, F: Fifos + Drop, I: Read + Drop, O: Write + Drop, E: Write + Drop> Mult
     O,
     E,
 > {
-    /// Clients that were not heard yet. `cause`, in which nothing is noted yet, is told behind a
-    /// Lost. Refused only for want of memory.
+    /// Clients that were not heard yet. `state`, in which nothing is noted yet, is told behind a Lost
+    /// and a status. Refused only for want of memory.
     pub fn new(
         alloc: Global,
         fifos: F,
@@ -80,7 +80,7 @@ impl<'a, F: Fifos + Drop, I: Read + Drop, O: Write + Drop, E: Write + Drop> Mult
         output: O,
         notes: E,
         idle: Option<Duration>,
-        cause: Cause<'a>,
+        state: KeepingState<'a>,
     ) -> Result<Self, AllocError> {
         let mut senders = Vec::new(alloc);
         let mut receivers = Vec::new(alloc);
@@ -98,7 +98,7 @@ impl<'a, F: Fifos + Drop, I: Read + Drop, O: Write + Drop, E: Write + Drop> Mult
             looks: AtomicU64::new(0),
             arrivals: Arrivals::new(MAX_LIVE + 1),
             is_lost: AtomicBool::new(false),
-            cause,
+            state,
             input: Mutex::new(Some(input)),
             output: Mutex::new(output),
             notes,
@@ -180,7 +180,7 @@ impl<'a, F: Fifos + Drop, I: Read + Drop, O: Write + Drop, E: Write + Drop> Mult
         let mut lines = BufReader::with_capacity(alloc, READ_SIZE, coming)?;
         let number = of.saturating_add(1);
         let output = Tagged::new(rt, &self.output, number, self.manner, Vec::new(alloc));
-        let mut printer = Printer::new(alloc, output).with_cause(&self.cause);
+        let mut printer = Printer::new(alloc, output).with_state(&self.state);
         for _ in rt.forever() {
             let mut session = Session::new(client);
             match talk(rt, &mut session, &mut lines, &mut printer) {
@@ -220,7 +220,7 @@ impl<F: Fifos + Drop, I: Read + Drop, O: Write + Drop, E: Write + Drop> Work
     /// The input is taken to have ended: at once where it is a FIFO, and else behind what comes
     /// next.
     fn keeping_ended<R: Wait + AllocGlobal>(&self, rt: &R, refusal: Refusal) {
-        self.cause.note(refusal);
+        self.state.note(refusal);
         self.is_lost.store(true, Ordering::SeqCst);
         let _woken = self.seat.wake(rt, rt.alloc(), &self.fifos, u64::MAX, false);
     }

@@ -4,6 +4,12 @@ use std::io;
 
 /// Who watches the calls of a file. The thread that makes a call tells of it, before it goes on.
 pub trait Watch {
+    /// A write or a sync begins.
+    fn begins(&self);
+
+    /// The write or sync that began has come back.
+    fn ends(&self);
+
     /// A write or a sync failed, for this reason.
     fn failed(&self, error: io::Error);
 
@@ -27,8 +33,9 @@ impl<'a, F, W: Watch> Watched<'a, F, W> {
         Self { file, watch }
     }
 
-    // Tells of a write or a sync that failed.
+    // Tells of a write or a sync that has come back, and where it failed why.
     fn told(&self, done: io::Result<()>) -> io::Result<()> {
+        self.watch.ends();
         if let Err(error) = done {
             self.watch.failed(error);
         }
@@ -48,6 +55,7 @@ impl<F: DeviceFile, W: Watch> DeviceFile for Watched<'_, F, W> {
     }
 
     fn write_at(&mut self, at: u64, bytes: &[u8]) -> io::Result<()> {
+        self.watch.begins();
         let done = self.file.write_at(at, bytes);
         self.told(done)?;
         self.watch.has_written(bytes.len());
@@ -55,11 +63,13 @@ impl<F: DeviceFile, W: Watch> DeviceFile for Watched<'_, F, W> {
     }
 
     fn sync(&mut self) -> io::Result<()> {
+        self.watch.begins();
         let done = self.file.sync();
         self.told(done)
     }
 
     fn sync_all(&mut self) -> io::Result<()> {
+        self.watch.begins();
         let done = self.file.sync_all();
         self.told(done)
     }

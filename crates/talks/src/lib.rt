@@ -5,9 +5,9 @@
 #![tactic(auto)]
 
 mod answering;
-mod cause;
 mod doubting;
 mod hearing;
+mod keeping_state;
 mod printing;
 mod speaking;
 mod talking;
@@ -15,8 +15,8 @@ mod told;
 mod transacting;
 mod why;
 
-pub use cause::Cause;
 pub use hearing::Hearer;
+pub use keeping_state::KeepingState;
 pub use printing::Printer;
 pub use speaking::{End, Speaker};
 pub use talking::{Ended, Lines, talk};

@@ -2,8 +2,8 @@
 ghost use Rattle.std.specs.Prelude.{[], ◌∷◌, None, OnOk};
 ghost use Rattle.talks.specs.Hearing.{Hears};
 
-use crate::cause::Cause;
 use crate::hearing::Hearer;
+use crate::keeping_state::KeepingState;
 use crate::told::Told;
 use calls::Refusal;
 use std::alloc::Global;
@@ -19,7 +19,7 @@ const MOST_BACK: usize = 65_536;
 pub struct Printer<'a, O> {
     text: Vec<u8>,
     output: O,
-    cause: Option<&'a Cause<'a>>,
+    state: Option<&'a KeepingState<'a>>,
 }
 
 impl<'a, O: Write + Drop> Printer<'a, O> {
@@ -28,23 +28,37 @@ impl<'a, O: Write + Drop> Printer<'a, O> {
         Self {
             text: Vec::new(alloc),
             output,
-            cause: None,
+            state: None,
         }
     }
 
-    /// The same, behind whose Lost stands what ended keeping.
-    pub fn with_cause(self, cause: &'a Cause<'a>) -> Self {
+    /// The same, behind whose Lost stands what ended keeping, and behind a status since when a write
+    /// or sync of the disk goes on, while one does.
+    pub fn with_state(self, state: &'a KeepingState<'a>) -> Self {
         Self {
-            cause: Some(cause),
+            state: Some(state),
             ..self
         }
     }
 
-    // What stands behind what is told.
-    fn cause_of<S>(&self, told: &Told<S>) -> Option<&'a Cause<'a>> {
-        match told {
-            Told::Refused(Refusal::Lost) => self.cause,
-            _ => None,
+    // Writes what is told, with what stands behind it.
+    fn write_told<S: Display>(&mut self, told: &Told<S>) -> io::Result<()> {
+        match (told, self.state) {
+            (Told::Refused(Refusal::Lost), Some(state)) => writeln!(self.text, "{told}: {state}"),
+            (Told::Status(_, _), Some(state)) => self.write_status(told, state),
+            _ => writeln!(self.text, "{told}"),
+        }
+    }
+
+    // Writes how the store stands.
+    fn write_status<S: Display>(
+        &mut self,
+        told: &Told<S>,
+        state: &KeepingState<'_>,
+    ) -> io::Result<()> {
+        match state.writing_since() {
+            Some(since) => writeln!(self.text, "{told}; writing_since {since}"),
+            None => writeln!(self.text, "{told}"),
         }
     }
 
@@ -63,10 +77,7 @@ impl<S: Display + Drop, O: Write + Drop> Hearer<S> for Printer<'_, O> {
     fn hear(&mut self, told: Told<S>) -> io::Result<()>
         ensures { OnOk result (Hears {S = S} None None (told ∷ [])) }
     {
-        match self.cause_of(&told) {
-            Some(cause) => writeln!(self.text, "{told}: {cause}")?,
-            None => writeln!(self.text, "{told}")?,
-        }
+        self.write_told(&told)?;
         if self.text.len() > MOST_BACK {
             self.write_out()?;
         }
