@@ -25,7 +25,6 @@ use Rattle.repetition.specs.Journals.{records_in}
 use Rattle.repetition.specs.Steps.{State}
 use Rattle.txn.specs.Books.{BookState}
 use Rattle.checkpoint.specs.ImageAnswers.{BeginAnswers}
-use Rattle.checkpoint.specs.Imaging.{given_up}
 use Rattle.checkpoint.specs.Keepers.{KeeperState, IsFresh, IsPast, TurnAnswers}
 use Rattle.checkpoint.specs.Keeping.{Uncrossed, HasReceived, TurnKeeps, ImageKeeps, BeginKeeps}
 use Rattle.checkpoint.specs.Keeping.{begun_with, LeavesKept}
@@ -68,11 +67,6 @@ each_among P x (y ∷ ys) all (inr among) = each_among P x ys all.1 among
 pub some_frozen : (g : GatherState) (image : Image) → Packs g image → g.frozen ≢ None
 some_frozen g image packs none =
     let both : Some packs.frozen ≡ None = sym packs.is_frozen ∙ none in absurd cc
-
--- an image that is given up leaves the mark
-pub given_up_mark : {D : Type 0} (k l : KeeperState D) →
-    l ≡ record k { stage = given_up k.stage } → l.mark ≡ k.mark
-given_up_mark k l is = ap (λ (s : KeeperState _). s.mark) is
 
 -- fewer of the transactions are known
 yields_less : (start : List Collection) (records : List Record) (count less : ℕ)

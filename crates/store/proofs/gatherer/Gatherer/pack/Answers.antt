@@ -7,7 +7,7 @@ use Rattle.store.proofs.Gathers.{holds_frozen, repeats_both, some_is}
 use Rattle.store.proofs.VaultSteps.{some_frozen}
 use Rattle.store.proofs.gatherer.Gatherer.pack.Goals as goal
 
-pub begin-requires-clause-packs : goal.begin_with_room-requires-clause-packs
+pub begin-requires-clause-packs : goal.begin-requires-clause-packs
 begin-requires-clause-packs g c =
     let m = c.self.inside.gather in
     let packs = subst (λ v. Packs v c.in-Ok.image) c.replace.ensures.value c.in-Ok.ensures.ok in
