@@ -17,7 +17,7 @@ All scripts are played, or those that are named. Seven are of this tool: one for
 Behind each of its lines such a script reads each collection back, in the same session. So a call that was refused and
 has changed something all the same shows there, also where the call that is run once more answers as ever and nothing
 of it is on the disk. It is run on an empty store, and then the store that it left is opened and read. The others are those
-that are failed and stopped at each call of the disk (`sweep`, tools/sweeps.py): seven by name, and six generated
+that are failed and stopped at each call of the disk (`sweep`, tools/sweeps.py): eleven by name, and eight generated
 stories, two of which have images of two blocks, and one of which has a stock. What a run with ample memory answers is compared with the model of
 tools/stories.py.
 
@@ -76,7 +76,9 @@ DONE = {
                               "call s remove 1", "call q take", "abort"]),
 }
 # What a full area answers, of which the model knows nothing, by the numbers of lines.
-FULL = {"room": {160: "refused 18 Full", 161: "not yet", 164: "kept 4"}}
+FULL = {"room": {160: "refused 18 Full", 161: "not yet", 164: "kept 4"},
+        "full": {504: "refused 18 Full", 505: "not yet", 508: "kept 4"},
+        "no_image": {514: "refused 18 Full", 515: "refused 18 Full", 516: "not yet", 520: "kept 4"}}
 
 # The stories of the generator, by their seeds.
 STORIES = {f"story_{seed}": (stories.EMPTY, stories.story(seed, 40)) for seed in (5, 6, 8)}
@@ -299,8 +301,8 @@ class Rest:
         self.may_fall = False
 
     def is_left_out(self, line, answer):
-        """Whether a line was refused for want of memory, or since an abort was before it, or a turn in a full area."""
-        if line == "turn" and answer == "refused 18 Full":
+        """Whether a line was refused for want of memory, or since an abort was before it, or for want of room."""
+        if line in ("turn", "checkpoint") and answer == "refused 18 Full":
             return True
         if answer == "refused 4 NoMemory":
             self.may_fall |= line.endswith(" abort")
