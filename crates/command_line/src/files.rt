@@ -109,9 +109,13 @@ pub fn open_disk<'a, 'w, S: Content, W: Watch>(
     access: Access,
     watch: &'w W,
 ) -> Result<StoreDisk<'w, S, W>, Failure<'a>> {
-    match open(rt, path, access) {
-        Ok(file) => opened(path, FileDisk::open(Watched::new(file, watch))),
-        Err(error) => Err(unopened(path, &error)),
+    let file = match open(rt, path, access) {
+        Ok(file) => file,
+        Err(error) => return Err(unopened(path, &error)),
+    };
+    match FileDisk::open(Watched::new(file, watch)) {
+        Ok(disk) => Ok(disk),
+        Err(error) => Err(cannot_open(path, &error)),
     }
 }
 

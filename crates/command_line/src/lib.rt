@@ -30,7 +30,7 @@ use std::sync::{Mutex, Wait};
 use std::thread::Threads;
 use std::time::Duration;
 use store_file::{Access, Watch};
-use watching::{Doing, Shared, Watching};
+use watching::{Doing, Shared, Watches, Watching};
 
 // What an argument has to be.
 const FORMATS: &str = "--format is 1 or 2";
@@ -261,13 +261,13 @@ fn carry_out<
     S: Content + Send,
     R: Files<File = File> + Threads + Wait + Clock + AllocGlobal + Sync,
     F: Fifos + Drop + Sync,
-    E: Write + Send,
+    W: Watches + Sync,
 >(
     rt: &R,
     asked: &'a Invocation,
     input: impl Read + Drop + Send,
     fifos: F,
-    watch: &Watching<'_, E, R>,
+    watch: &W,
     out: &mut (impl Write + Send),
     err: &mut (impl Write + Send),
 ) -> Result<u8, Failure<'a>> {
@@ -357,8 +357,30 @@ fn perform<'a, S: Content, W: Watch, R: Files<File = File> + AllocGlobal>(
     }
 }
 
-// Carries a command out, and says why it was not. Answers the status.
+// Carries a command out whose disks are watched, and says why it was not. Answers the status.
 fn answer<
+    S: Content + Send,
+    R: Files<File = File> + Threads + Wait + Clock + AllocGlobal + Sync,
+    F: Fifos + Drop + Sync,
+    W: Watches + Sync,
+>(
+    rt: &R,
+    asked: &Invocation,
+    input: impl Read + Drop + Send,
+    fifos: F,
+    watch: &W,
+    out: &mut (impl Write + Send),
+    err: &mut (impl Write + Send),
+) -> u8 {
+    match carry_out::<S, R, F, W>(rt, asked, input, fifos, watch, out, err) {
+        Ok(status) => status,
+        Err(failure) => report(&failure, err),
+    }
+}
+
+// Carries a command out, and says why it was not, and how far it is while it takes long. Answers the
+// status.
+fn answer_watched<
     S: Content + Send,
     R: Files<File = File> + Threads + Wait + Clock + AllocGlobal + Sync,
     F: Fifos + Drop + Sync,
@@ -373,10 +395,7 @@ fn answer<
     let shared = Mutex::new(err);
     let watching = Watching::new(rt, &shared, Doing::of(asked));
     let mut err = Shared::new(rt, &shared);
-    match carry_out::<S, R, F, _>(rt, asked, input, fifos, &watching, out, &mut err) {
-        Ok(status) => status,
-        Err(failure) => report(&failure, &mut err),
-    }
+    answer::<S, R, F, _>(rt, asked, input, fifos, &watching, out, &mut err)
 }
 
 // Says why a command line is not understood, or what it asks to be told, and answers the status.
@@ -414,7 +433,7 @@ pub fn obey<
     err: &mut (impl Write + Send),
 ) -> u8 {
     match command(rt.alloc(), words) {
-        Ok(asked) => answer::<S, R, F>(rt, &asked, input, fifos, out, err),
+        Ok(asked) => answer_watched::<S, R, F>(rt, &asked, input, fifos, out, err),
         Err(error) => explain(&error, out, err),
     }
 }

@@ -34,6 +34,15 @@ impl Doing {
     }
 }
 
+/// Who watches the disks of a command, and tells what is seen.
+pub trait Watches: Watch {
+    /// Why the first write or sync that failed did, once one has.
+    fn fault(&self) -> &OnceLock<io::Error>;
+
+    /// The second since 1970 at which the write or sync began that goes on; 0 where none does.
+    fn writing_since(&self) -> &AtomicU64;
+}
+
 /// An output that is shared, as one of its writers.
 #[derive(Drop)]
 pub struct Shared<'a, O, R: Wait> {
@@ -93,16 +102,6 @@ impl<'a, O: Write, R: Wait + Clock> Watching<'a, O, R> {
         }
     }
 
-    /// Why the first write or sync that failed did, once one has.
-    pub fn fault(&self) -> &OnceLock<io::Error> {
-        &self.fault
-    }
-
-    /// The second since 1970 at which the write or sync began that goes on; 0 where none does.
-    pub fn writing_since(&self) -> &AtomicU64 {
-        &self.writing_since
-    }
-
     // Writes a line, where it is time for one.
     fn look(&self) {
         let Some(now) = seconds(self.rt) else {
@@ -152,6 +151,16 @@ fn seconds(clock: &impl Clock) -> Option<u64> {
     match clock.monotonic() {
         Ok(since) => Some(since.as_secs()),
         Err(_) => None,
+    }
+}
+
+impl<O: Write, R: Wait + Clock> Watches for Watching<'_, O, R> {
+    fn fault(&self) -> &OnceLock<io::Error> {
+        &self.fault
+    }
+
+    fn writing_since(&self) -> &AtomicU64 {
+        &self.writing_since
     }
 }
 
