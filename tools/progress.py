@@ -78,6 +78,7 @@ def check_stands_still(slow, disk):
         def ask(line):
             server.stdin.write(f'c1 {line}\n')
             return server.stdout.readline()
+        assert server.stdout.readline() == '- hello boost 1\n', 'hello'
         assert ask('make counter n').startswith('c1 place'), 'make'
         time.sleep(1.5)
         seen = re.search(r'; writing_since (\d+)$', ask('status'))
