@@ -310,10 +310,11 @@ class Rest:
         return answer == "refused 11 Falling" and self.may_fall
 
     def keep(self, answer):
-        """A turn or a checkpoint tells how much is kept, at least what was, or that it did nothing."""
+        """A turn or a checkpoint tells how much is kept, at least what was, or that it did nothing: a turn is held behind a checkpoint
+        that was refused memory half-way, whose image its block waits for."""
         told = re.fullmatch(r"(?:kept|flipped) (\d+)", answer)
         if told is None:
-            return answer == "idle"
+            return answer in ("idle", "held")
         is_true = self.store.mark <= int(told[1]) <= self.store.places
         self.store.mark = int(told[1])
         return is_true
