@@ -19,7 +19,7 @@ use Rattle.world.specs.declared.steps.Step.{Step}
 use Rattle.world.specs.declared.steps.Answer.{Answer}
 use Rattle.world.specs.Pasts.{BookState, BookTakes, CoreStep, IsAnswerOf, IsDraw, Draws, alone}
 use Rattle.world.specs.Pasts.{action_of, outcome}
-use Rattle.world.specs.Moves.{Whole, IsRoomPast, Moves, known_behind}
+use Rattle.world.specs.Moves.{Whole, IsRoomPast, HandsOver, Moves, known_behind}
 use Rattle.world.specs.OneStep.{parts, TakesStep}
 use Rattle.world.proofs.AnswerLemmas.{core_answered}
 use Rattle.world.proofs.StepLemmas.{AreGoodBehind, core_past, quiet}
@@ -127,6 +127,27 @@ module _ {D : Type 0} (g : Ghosts D) (w : Whole D)
   look_taken = core_taken (Step.Look, Answer.Marked w.mark) w.book w.transit w.next w.undoing tt
       (refl, refl, refl) refl ((refl, refl, refl), refl, refl, refl, refl, (refl, refl))
 
+  -- a cut, where the next block may go or may not
+  cut_done : (room : Room) → IsRoomPast w room → (behind : Result ℕ Refusal) →
+      MayHandOver w.book.pending w.book.freezes w.book.end w.undoing (undo_count w.book.state) room
+      behind → (a : Answer) (t : BookState) (waits : List Block) (undoing : ℕ) →
+      CoreStep w.book w.transit w.mark (Step.Cut, a) t waits →
+      HandsOver behind w a (record w { book = t; transit = waits; undoing = undoing }) →
+      TakesStep g w (Step.Cut, a) (record w { book = t; transit = waits; undoing = undoing })
+  cut_done room is behind may a t waits undoing core hands =
+      core_taken (Step.Cut, a) t waits w.next undoing tt core refl (record {
+        room = room;
+        is_room = is;
+        behind = behind;
+        may = may;
+        hands = hands;
+        gather = refl;
+        keeper = refl;
+        mark = refl;
+        next = refl;
+        frozen = refl;
+      })
+
   -- a block is handed over, or none, or the book refuses
   pub cut_taken : (room : Room) → IsRoomPast w room → (behind : ℕ) →
       MayHandOver w.book.pending w.book.freezes w.book.end w.undoing (undo_count w.book.state) room
@@ -135,39 +156,18 @@ module _ {D : Type 0} (g : Ghosts D) (w : Whole D)
       TakesStep g w (Step.Cut, outcome Answer.Cut r)
       (record w { book = t; transit = waits; undoing = known_behind r behind w.undoing })
   cut_taken room is behind may r t waits row =
-      core_taken (Step.Cut, outcome Answer.Cut r) t waits w.next (known_behind r behind w.undoing) tt
-      (cut_row w.book w.transit w.mark r t waits row) refl (record {
-        room = room;
-        is_room = is;
-        behind = Ok behind;
-        may = may;
-        hands = (r, refl, row, refl);
-        gather = refl;
-        keeper = refl;
-        mark = refl;
-        next = refl;
-        frozen = refl;
-      })
+      cut_done room is (Ok behind) may (outcome Answer.Cut r) t waits
+      (known_behind r behind w.undoing) (cut_row w.book w.transit w.mark r t waits row)
+      (r, refl, row, refl)
 
   -- or the block may not go
   pub cut_barred : (room : Room) → IsRoomPast w room → (e : Refusal) →
       MayHandOver w.book.pending w.book.freezes w.book.end w.undoing (undo_count w.book.state) room
       (Err e) → TakesStep g w (Step.Cut, Answer.Refused e) w
   cut_barred room is e may =
-      core_taken (Step.Cut, Answer.Refused e) w.book w.transit w.next w.undoing tt
-      (barred_row w.book w.transit w.mark w.undoing (undo_count w.book.state) room e may) refl
-      (record {
-        room = room;
-        is_room = is;
-        behind = Err e;
-        may = may;
-        hands = (refl, refl, refl, refl);
-        gather = refl;
-        keeper = refl;
-        mark = refl;
-        next = refl;
-        frozen = refl;
-      })
+      cut_done room is (Err e) may (Answer.Refused e) w.book w.transit w.undoing
+      (barred_row w.book w.transit w.mark w.undoing (undo_count w.book.state) room e may)
+      (refl, refl, refl, refl)
 
   module _ (t : BookState) (good : AllByRecursion (IsRecord None) t.pending) where
     pub make_taken : (name : List ℕ) (kind : Kind) (r : Result ℕ Refusal) →
