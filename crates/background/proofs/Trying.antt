@@ -282,8 +282,7 @@ module _ {J : Type 0} (j : Ghosts J) where
   calls_commit_nothing : (n : ℕ) (action : Action) → IsOfCalls n action → CommitsNothing action
   calls_commit_nothing n (Action.Make name kind r) is = absurd is
   calls_commit_nothing n (Action.Enter m r) is = tt
-  calls_commit_nothing n (Action.Call m target call r) is = tt
-  calls_commit_nothing n (Action.Later m target call r) is = tt
+  calls_commit_nothing n (Action.Ask m target call when r) is = tt
   calls_commit_nothing n (Action.Commit m r) is = absurd is
   calls_commit_nothing n (Action.Back m r) is = absurd is
   calls_commit_nothing n (Action.Ended m r) is = absurd is

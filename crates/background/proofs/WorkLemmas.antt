@@ -12,7 +12,7 @@ use Rattle.calls.specs.Contents.{Collection}
 use Rattle.calls.specs.Transactions.{Transaction}
 use Rattle.calls.specs.declared.refusal.Refusal.{Refusal}
 use Rattle.checkpoint.specs.Crash.{Yields}
-use Rattle.disk_model.specs.Disk.{IsAtRest}
+use Rattle.disk_model.specs.Disk.{IsAtRest, Elapses}
 use Rattle.disk_model.specs.declared.disk.Disk.{Ghosts}
 use Rattle.group_commit.specs.declared.mark.Raised.{Raised}
 use Rattle.group_commit.specs.Marks.{AreReached}
@@ -28,13 +28,18 @@ use Rattle.txn.specs.declared.steps.BookStep.{BookStep}
 use Rattle.txn.specs.Histories.{committed_by}
 use Rattle.store.specs.Closing.{WasKept}
 use Rattle.background.specs.Works.{IsSaid, AreSaid, AreParts, AreTold}
-use Rattle.background.specs.Works.{IsClosed, WasOpened}
+use Rattle.background.specs.Works.{IsClosed, WasOpened, GoesToRest}
 
 -- what holds of an answer, and what follows from it
 pub ok_then : {X E : Type 0} (r : Result X E) (P Q : X → Type 0) → IfOk r P →
     ((x : X) → P x → Q x) → IfOk r Q
 ok_then (Ok x) P Q p then = then x p
 ok_then (Err e) P Q p then = tt
+
+-- what holds of every answer
+pub ok_always : {X E P : Type 0} (r : Result X E) → P → IfOk r (λ x. P)
+ok_always (Ok x) p = p
+ok_always (Err e) p = tt
 
 -- ---- beginnings of a list
 
@@ -151,6 +156,34 @@ yields_none content all bytes kept = record {
 }
 
 module _ {D : Type 0} (g : Ghosts D) where
+  -- A disk that was left as it was, or that was synced.
+  pub goes_nowhere : (disk : D) → g.may_leave disk (g.seen disk) → GoesToRest g disk disk
+  goes_nowhere disk stays = record {
+    seen = refl;
+    stays = stays;
+    stop = λ bytes left. left;
+    later = omega arith;
+    since = λ from bytes before left. left;
+  }
+
+  pub goes_synced : (old new : D) →
+      ((t : ℕ) (bytes : List ℕ) → t ≤ g.moment old → g.may_leave old bytes →
+      g.left_since old t bytes) → g.may_leave new (g.seen new) →
+      g.seen new ≡ g.seen old →
+      ((bytes : List ℕ) → g.may_leave new bytes → g.may_leave old bytes) →
+      Elapses (g.moment old) (g.moment new) (g.left_since old) (g.left_since new)
+      (g.may_leave new) → GoesToRest g old new
+  goes_synced old new counts stays same stop time = record {
+    seen = same;
+    stays = stays;
+    stop = stop;
+    later = time.later;
+    since = λ from bytes before left. elim (time.nothing_else from bytes before left) [
+      | inl past ↦ past
+      | inr now ↦ counts from bytes before (stop bytes now)
+    ];
+  }
+
   -- A store that was opened under a name was worked on.
   pub was_opened : {J : Type 0} (j : namings.Ghosts J)
       (parts : List BookStep → List Raised → Type 0)
@@ -167,7 +200,17 @@ module _ {D : Type 0} (g : Ghosts D) where
       ((t : ℕ) (bytes : List ℕ) → j.left_since t bytes → g.left_since opened t bytes) →
       WasOpened g told old new kept
   was_opened j parts told old opened new kept closed told_of keeps sound whole start at was =
-      let steps = closed.closes.steps in record {
+      let steps = closed.closes.steps in
+      let stop : g.is_honest opened → (content : List Collection) →
+      IsAtRest g.seen g.may_leave old → StandsFor (g.seen old) content → (bytes : List ℕ) →
+      g.may_leave new bytes →
+      Yields content (committed_by steps) (take kept (committed_by steps)) bytes =
+      λ honest content rest stands bytes left.
+      subst (λ s. Yields s (committed_by steps) (take kept (committed_by steps)) bytes)
+      (start content stands honest)
+      (subst (λ n. Yields j.origin.start (committed_by steps) (take n (committed_by steps)) bytes)
+      (sym closed.mark)
+      (closed.closes.stop (sound honest rest) bytes (closed.disk.stop bytes left))) in record {
         opened = opened;
         keeps = keeps;
         worked = λ honest content rest stands. record {
@@ -181,29 +224,25 @@ module _ {D : Type 0} (g : Ghosts D) where
               let opening = keeps honest content rest (whole honest) stands in
               let since = closed.closes.since_told (sound honest rest) x there told in record {
                 later = omega (arith, since.later, at, opening.later);
-                past = subst (λ d. x.moment ≤ g.moment d) (sym closed.disk) since.past;
+                past = omega (arith, since.past, closed.disk.later);
                 each = λ bytes left.
                     subst (λ s. Yields s (committed_by steps)
                     (take x.count (committed_by steps)) bytes) (start content stands honest)
                     (since.each bytes
-                    (subst (λ d. g.left_since d x.moment bytes) closed.disk left));
+                    (closed.disk.since x.moment bytes since.past left));
               });
           any_moment = λ bytes left.
               let opening = keeps honest content rest (whole honest) stands in
               let since = closed.closes.any_moment (sound honest rest) in
               elim (since.before (g.moment old) bytes (omega (arith, at, opening.later))
-              (subst (λ d. g.left_since d (g.moment old) bytes) closed.disk left)) [
+              (closed.disk.since (g.moment old) bytes
+              (omega (arith, at, opening.later, since.later)) left)) [
                 | inl before ↦ yields_none content (committed_by steps) bytes
                     (opening.each bytes (was (g.moment old) bytes before))
                 | inr now ↦ subst (λ s. Yields s (committed_by steps) [] bytes)
                     (start content stands honest) now
               ];
-          stop = λ bytes left.
-              subst (λ s. Yields s (committed_by steps) (take kept (committed_by steps)) bytes)
-              (start content stands honest)
-              (subst (λ n. Yields j.origin.start (committed_by steps) (take n (committed_by steps))
-              bytes)
-              (sym closed.mark) (closed.closes.stop (sound honest rest) bytes
-              (subst (λ d. g.may_leave d bytes) closed.disk left)));
+          stop = stop honest content rest stands;
+          stands = stop honest content rest stands (g.seen new) closed.disk.stays;
         };
       }

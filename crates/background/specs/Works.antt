@@ -91,8 +91,8 @@ module _ {A : Type 0} (says : ℕ → A → Known → Type 0) where
 -- committer and the checkpointer those of no client. Whatever a stop at any moment since this one
 -- might have left of the disk is sound, and stands for a content that some beginning of the
 -- transactions gives that the history commits, each run whole, one after another, with the replies
--- that its client got; and of what a stop leaves now that beginning holds the first so many of
--- them. told: what is known of what the store was opened with, of the history, and of the counts
+-- that its client got; and of what a stop leaves now, and of what a read gives, that beginning holds
+-- the first so many of them. told: what is known of what the store was opened with, of the history, and of the counts
 -- that were kept from a moment on.
 pub record IsWorkedOn {D : Type 0} (g : Ghosts D)
     (told : Origin → List BookStep → (Raised → Type 0) → Type 0)
@@ -107,6 +107,7 @@ pub record IsWorkedOn {D : Type 0} (g : Ghosts D)
       Yields content (committed_by steps) [] bytes
   pub stop : (bytes : List ℕ) → g.may_leave new bytes →
       Yields content (committed_by steps) (take kept (committed_by steps)) bytes
+  pub stands : Yields content (committed_by steps) (take kept (committed_by steps)) (g.seen new)
 
 -- A store was opened, and worked on. Where the disk read true until it was open, a stop in the
 -- opening leaves the content; and where it was at rest and its bytes stood for a content, the work
@@ -128,6 +129,16 @@ IsLeftByWork g old new kept =
     (g.is_honest new → KeepsContent g.seen g.may_leave g.moment g.left_since old new)
     ⊎ WasOpened g (λ origin steps was_kept. Unit {0}) old new kept
 
+-- The disk may have been synced: a read gives the same, and a stop leaves nothing else, now or since
+-- a moment before.
+pub record GoesToRest {D : Type 0} (g : Ghosts D) (old new : D) : Type 0 where
+  pub seen : g.seen new ≡ g.seen old
+  pub stays : g.may_leave new (g.seen new)
+  pub stop : (bytes : List ℕ) → g.may_leave new bytes → g.may_leave old bytes
+  pub later : g.moment old ≤ g.moment new
+  pub since : (from : ℕ) (bytes : List ℕ) → from ≤ g.moment old → g.left_since new from bytes →
+      g.left_since old from bytes
+
 -- A store was closed, and this is its disk, and its keeper's mark. parts: of what the clients had
 -- seen and loaded that was compared.
 pub record IsClosed {J D : Type 0} (j : namings.Ghosts J) (g : Ghosts D)
@@ -137,6 +148,6 @@ pub record IsClosed {J D : Type 0} (j : namings.Ghosts J) (g : Ghosts D)
   pub book : BookState (List Collection)
   pub keeper : KeeperState D
   pub closes : Closes j g seen counts book keeper
-  pub disk : new ≡ keeper.disk
+  pub disk : GoesToRest g keeper.disk new
   pub mark : kept ≡ keeper.mark
   pub parts_of : parts seen counts

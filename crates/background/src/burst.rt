@@ -58,7 +58,7 @@ impl Burst {
     }
 
     // Waits for the commits of the next block, as long as they come.
-    pub(crate) fn gather(&mut self, clock: &impl Clock, signal: &Signal) {
+    pub(crate) fn group(&mut self, clock: &impl Clock, signal: &Signal) {
         let commits = if self.longest.is_zero() {
             spin_for(signal, self.wanted)
         } else {

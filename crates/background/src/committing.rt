@@ -186,7 +186,7 @@ fn commit_until_over<D: Disk, J: Naming, R: Wait + Clock>(
     let mut burst = Burst::new();
     let mut filling = Filling::new(committer.free(rt));
     for _ in rt.forever() {
-        burst.gather(rt, signal);
+        burst.group(rt, signal);
         filling.hear(signal, checkpoints);
         // Asked before the turn: what was committed before the end is cut by a turn behind it.
         let is_over = signal.is_over();

@@ -1,5 +1,5 @@
 // A program's work on the store of a disk.
-ghost use Rattle.std.specs.Prelude.{◌≡◌, ◌++◌, All, Contains, Err, IfOk, IsOk, IsOkUnless};
+ghost use Rattle.std.specs.Prelude.{◌≡◌, ◌++◌, All, Contains, Err, None, IfOk, IsOk, IsOkUnless};
 ghost use Rattle.std.specs.Prelude.{MatchResult, vec_len};
 ghost use Rattle.std.specs.Thread.{IsSend, IsSync};
 ghost use mathlib.Core.List.{IsPrefix};
@@ -8,7 +8,8 @@ ghost use Rattle.clients.specs.Known.{seen_of, counts_of};
 ghost use Rattle.clients.specs.Known.{newcomer};
 ghost use Rattle.store.specs.Openings.{IsNamed};
 ghost use Rattle.background.specs.Works.{IsLeftByWork, WasOpened, IsClosed, AreTold, IsSaid};
-ghost use Rattle.background.specs.Works.{AreSaid, AreParts};
+ghost use Rattle.background.specs.Works.{AreSaid, AreParts, GoesToRest};
+ghost use Rattle.disk_model.specs.Disk.{IsAtRest};
 
 use crate::checkpoints::Checkpoints;
 use crate::committing::{Commits, start};
@@ -66,7 +67,7 @@ pub struct Closed<D> {
     pub kept: u64,
     /// What ended keeping early, if something did: who waited from then on was told Lost. Full
     /// where no checkpoint made room, NoMemory where none found memory, Fault where the disk
-    /// failed.
+    /// failed, also at the last sync. Where nothing did, the disk was synced behind its last write.
     pub ended_by: Option<Refusal>,
 }
 
@@ -109,6 +110,9 @@ type Ended<O, J> = Result<(O, Seen<J>), Refusal>;
 /// kept commits that it was told is past `kept`: so a commit that a thread was told is kept is
 /// there, from then on. Each answer says of its client what `Work::says` says.
 ///
+/// Where nothing ended keeping early (`Closed::ended_by`) the disk is at rest, as its last call is a
+/// sync, and so it may be opened and worked on again: what a read gives stands for what was kept.
+///
 /// The refusals of `Opened::open`, and NoMemory where the committer's thread or the checkpointer's
 /// cannot be started: no work is begun then. NoMemory also where the answers take more than there
 /// is, and Worn where a thread above the 65,536th wants a client: then some of the work may be
@@ -124,6 +128,8 @@ pub fn run<D: Disk + Drop + Send, W: Work + Sync, R: Threads + Wait + Clock + Al
         (λ o. AreTold (W.says work.now o) answers.items result.1.kept) disk result.1.disk
         result.1.kept) }
     ensures left { IsLeftByWork ⟦<D as Disk>⟧ disk result.1.disk result.1.kept }
+    ensures rest { IfOk result.0 (λ answers. result.1.ended_by ≡ None →
+        IsAtRest D.seen D.may_leave result.1.disk) }
 {
     match Opened::open(rt.alloc(), disk) {
         Ok(opened) => run_opened::<Brand, D, W, R>(rt, opened, work, threads),
@@ -155,13 +161,14 @@ fn run_opened<
     ensures closed { IsClosed ⟦<J as Naming>⟧ ⟦<D as Disk>⟧ (λ seen counts. IfOk result.0
         (λ answers. AreParts (W.says work.now J.origin) answers.items seen counts)) result.1.disk
         result.1.kept }
+    ensures rest { result.1.ended_by ≡ None → IsAtRest D.seen D.may_leave result.1.disk }
 {
     let store = opened.named::<J>();
     let checkpoints = Checkpoints::new();
     let ended = run_beside::<J, Store<D, J>, W, R>(rt, &store, &checkpoints, work, threads);
     let ended_by = checkpoints.ended_by();
     match ended {
-        Ok(ended) => match gather::<J, D, W>(rt.alloc(), &store, work, ended) {
+        Ok(ended) => match join::<J, D, W>(rt.alloc(), &store, work, ended) {
             Ok((answers, last)) => (Ok(answers), close(store, last, ended_by)),
             Err(refusal) => (Err(refusal), close(store, None, ended_by)),
         },
@@ -169,28 +176,47 @@ fn run_opened<
     }
 }
 
-// Closes a store whose clients had seen so much, and whose keeping this has ended early.
+// Closes a store whose clients had seen so much, and whose keeping this has ended early. Where
+// nothing has, the disk is synced at last.
 fn close<J: Naming, D: Disk + Drop>(
     store: Store<D, J>,
     last: Option<Seen<J>>,
     ended_by: Option<Refusal>,
 ) -> Closed<D>
-    ensures { IsClosed ⟦<J as Naming>⟧ ⟦<D as Disk>⟧
+    ensures closed { IsClosed ⟦<J as Naming>⟧ ⟦<D as Disk>⟧
         (λ seen counts. (seen ≡ seen_of last) × (counts ≡ counts_of last)) result.disk
         result.kept }
+    ensures rest { result.ended_by ≡ None → IsAtRest D.seen D.may_leave result.disk }
 {
     let (_, keeper) = store.close(last);
     let kept = keeper.mark();
+    let (disk, ended_by) = rest(keeper.into_disk(), ended_by);
     Closed {
-        disk: keeper.into_disk(),
+        disk,
         kept,
         ended_by,
     }
 }
 
+// Brings a disk to rest, where nothing has ended keeping early. What has: Fault where the disk
+// cannot be synced.
+fn rest<D: Disk>(disk: D, ended_by: Option<Refusal>) -> (D, Option<Refusal>)
+    ensures goes { GoesToRest ⟦<D as Disk>⟧ disk result.0 }
+    ensures rest { result.1 ≡ None → IsAtRest D.seen D.may_leave result.0 }
+{
+    if ended_by.is_some() {
+        return (disk, ended_by);
+    }
+    let mut disk = disk;
+    match disk.sync() {
+        Ok(_) => (disk, None),
+        Err(_) => (disk, Some(Refusal::Fault)),
+    }
+}
+
 // Takes what the threads answered, in their order, from what their clients had seen, which is put
 // together.
-fn gather<J: Naming, D: Disk, W: Work>(
+fn join<J: Naming, D: Disk, W: Work>(
     alloc: Global,
     store: &Store<D, J>,
     work: &W,

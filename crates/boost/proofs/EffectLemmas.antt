@@ -22,8 +22,8 @@ use Rattle.checkpoint.specs.Crash.{Yields}
 use Rattle.world.specs.Pasts.{committed_in}
 use Rattle.world.proofs.PastLemmas.{yields_on}
 use Rattle.world.proofs.PlayLemmas.{moments_of, answered_of}
-use Rattle.player.specs.Plays as plays
-use Rattle.player.specs.Requests.{nobody, CarriesOut, PlaysLines}
+use Rattle.talks.specs.Plays as plays
+use Rattle.talks.specs.Requests.{nobody, CarriesOut, PlaysLines}
 use Rattle.script.specs.Scripts.{IsScriptOf, IsWhy}
 use Rattle.script.specs.declared.line.ScriptError.{ScriptError}
 use Rattle.boost.specs.declared.commands.failure.Failure.{Failure}
@@ -32,7 +32,7 @@ use Rattle.boost.specs.Commands.{IsUnderstood, IsPlay, IsOfStore, IsWhyUnplayed,
 use Rattle.boost.specs.Commands.{status_of}
 use Rattle.boost.specs.Effects.{KeepsPlaying, StartsFrom, ArePlayedOn, IsPlayedOn, IsPlayedAnew}
 use Rattle.boost.specs.Effects.{Leaves, IsLeftByPlay, IsFormatted, IsEmptyAs, FormatLeaves}
-use Rattle.player.specs.declared.client.Client.{Client}
+use Rattle.talks.specs.declared.client.Client.{Client}
 use Rattle.script.specs.declared.line.Line.{Line}
 
 -- what holds anyway holds where the output was written

@@ -31,9 +31,9 @@ use Rattle.checkpoint.specs.Crash.{Yields}
 use Rattle.world.specs.Worlds.{HasPast}
 use Rattle.world.specs.Moves.{Whole}
 use Rattle.world.specs.OneStep.{parts}
-use Rattle.player.specs.Requests.{nobody, CarriesOut}
+use Rattle.talks.specs.Requests.{nobody, CarriesOut}
 use Rattle.script.specs.Scripts.{IsScriptOf}
-use Rattle.player.specs.declared.client.Client.{Client}
+use Rattle.talks.specs.declared.client.Client.{Client}
 use Rattle.script.specs.declared.line.Line.{Line}
 
 -- Steps were taken from the content. Whatever a stop at any moment since old might have left is

@@ -12,8 +12,8 @@ use Rattle.script.specs.declared.action.Request.{Request}
 use Rattle.script.specs.declared.line.Line.{Line}
 use Rattle.script.specs.Scripts.{IsScriptOf}
 use Rattle.script.specs.ScriptTexts.{IsClient}
-use Rattle.sessions.specs.Sessions.{IsRun}
-use Rattle.sessions.specs.declared.transcript.Transcript.{Transcript}
+use Rattle.talks.specs.Sessions.{IsRun}
+use Rattle.talks.specs.declared.transcript.Transcript.{Transcript}
 
 -- a script's lines, and the numbers of the clients that have some
 pub record ScriptState : Type 0 where

@@ -3,7 +3,7 @@ ghost use Rattle.std.specs.Prelude.{◌≡◌, ◌⊎◌, ℕ, List, Ok, Err, On
 ghost use Rattle.std.specs.Prelude.{MatchResult, replicate};
 ghost use Rattle.disk_model.specs.Disk.{ReadsOnly};
 ghost use Rattle.recovery.specs.Openings.{KeepsContent};
-ghost use Rattle.player.specs.Requests.{nobody};
+ghost use Rattle.talks.specs.Requests.{nobody};
 ghost use Rattle.boost.specs.Effects.{ArePlayedOn, IsPlayedOn, IsPlayedAnew, IsLeftByPlay};
 ghost use Rattle.boost.specs.Effects.{StartsFrom, IsFormatted, IsShown, IsCounted, IsDone, Leaves};
 ghost use Rattle.boost.specs.Effects.{IsShownAs, ShowLeaves, IsSeen, IsSurveyed, FormatLeaves};
@@ -24,7 +24,6 @@ use calls::Refusal;
 pub use copying::run_copy;
 use disk_model::{Disk, MemDisk};
 pub use failure::Failure;
-use player::Player;
 use recovery::{find, format_as, inspect, open};
 use script::{Line, parse};
 use showing::{show_collections, show_counts};
@@ -33,6 +32,7 @@ use std::io::{self, BufWriter, Write};
 pub use stored_run::STORED_RUN;
 use stored_run::demo;
 use surveying::tell_survey;
+use talks::Player;
 use upgrading::upgrade_store;
 use world::World;
 

@@ -5,9 +5,9 @@
 //! and what a command leaves on the disk, done or not, at any moment of it, another (`Leaves`; both
 //! of `specs/Effects`). Texts have no clause: the cases show them.
 //!
-//! **Where its argument stands.** A play is carried out by `player` over a `World`, whose theorem
-//! is the crash theorem on one thread; `serve` is a `Work` of `background`, whose clients are
-//! `sessions`.
+//! **Where its argument stands.** A play is carried out by the `Player` of `talks`, over a `World`,
+//! whose theorem is the crash theorem on one thread; `serve` is a `Work` of `background`, whose
+//! clients are each a `Session` of `talks`.
 //!
 //! **To change it.** A new command is a `Task` of `arguments`, a case of `IsDone` and `Leaves`, a
 //! function in `commands.rt`, and what opens its files in `command_line`. A status or a text of a
@@ -20,7 +20,6 @@ mod serving;
 
 pub use arguments::{Invocation, Task, command};
 pub use commands::{Failure, STORED_RUN, report, run, run_copy};
-pub use player::Said;
 pub use script::{Action, Line, Request, parse};
 pub use serving::serve;
-pub use sessions::{End, Session, Speaker};
+pub use talks::{End, Said, Session, Speaker};

@@ -6,12 +6,12 @@ ghost use Rattle.boost.specs.Serving.{HaveLines, IsOfClient};
 use background::Work;
 use calls::Refusal;
 use script::{Action, Line};
-use sessions::{Transcript, run_lines};
 use std::alloc::{AllocGlobal, Global};
 use std::marker::Model;
 use std::rt::Clock;
 use std::sync::Wait;
 use store::{Client, Naming};
+use talks::{Transcript, run_lines};
 
 // Clients are numbered from 1 to so many.
 const CLIENTS: u8 = 64;

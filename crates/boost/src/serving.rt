@@ -12,14 +12,13 @@ use crate::script_work::Script;
 use background::{Closed, all_ended, run};
 use calls::Refusal;
 use disk_model::Disk;
-use player::Said;
 use script::{Line, parse};
-use sessions::Transcript;
 use std::alloc::{AllocGlobal, Global};
 use std::io::{BufWriter, Write};
 use std::rt::Clock;
 use std::sync::Wait;
 use std::thread::Threads;
+use talks::{Said, Transcript};
 
 // What a thread answers of the client that it ran.
 type Told = Result<Option<Transcript>, Refusal>;

@@ -15,6 +15,7 @@ mod need;
 mod refusal;
 mod reply;
 mod rules;
+mod when;
 
 pub use bytes::Bytes;
 pub use call::Call;
@@ -28,3 +29,4 @@ pub use need::{Mode, Need};
 pub use refusal::Refusal;
 pub use reply::Reply;
 pub use rules::check_call;
+pub use when::When;

@@ -2,3 +2,4 @@ pub mod Seeing
 pub mod Visits
 pub mod Phases
 pub mod Attempting
+pub mod Deferring

@@ -18,11 +18,10 @@ abbrev pub done_since : Known → Known → List Action
 done_since old new = map (λ x. x.action)
     (drop (length (steps_of old.number old.seen)) (steps_of old.number new.seen))
 
--- the action enters the number, makes a call of its transaction or puts one off
+-- the action enters the number, or asks for a call of its transaction
 abbrev pub IsOfCalls : ℕ → Action → Type 0
 IsOfCalls n (Action.Enter m r) = m ≡ n
-IsOfCalls n (Action.Call m target call r) = m ≡ n
-IsOfCalls n (Action.Later m target call r) = m ≡ n
+IsOfCalls n (Action.Ask m target call when r) = m ≡ n
 IsOfCalls n action = ⊥
 
 -- the entering of a number is refused

@@ -1,11 +1,15 @@
 -- What each call of a client does to what the client knows.
 use Rattle.std.specs.Prelude.{◌≡◌, ℕ, ◌<◌, ◌≤◌, ◌^◌, ◌⊎◌, Bool, true, false, List, [], ◌∷◌}
 use Rattle.std.specs.Prelude.{◌++◌}
-use Rattle.std.specs.Prelude.{length, replicate, Contains, Result, Ok, Err}
+use Rattle.std.specs.Prelude.{length, replicate, Contains, Option, Result, Ok, Err}
+use Rattle.calls.specs.declared.call.Call.{Call}
 use Rattle.calls.specs.declared.kind.Kind.{Kind}
+use Rattle.calls.specs.declared.reply.Reply.{Reply}
+use Rattle.calls.specs.declared.when.When.{When}
 use Rattle.calls.specs.declared.refusal.Refusal.{Refusal}
 use Rattle.calls.specs.Limits.{number_end}
 use Rattle.txn.specs.declared.steps.Action.{Action}
+use Rattle.txn.specs.declared.steps.Target.{Target}
 use Rattle.group_commit.specs.Lines.{ClientState}
 use Rattle.group_commit.specs.declared.mark.Raised.{Raised}
 use Rattle.group_commit.specs.Marks.{WatcherState, AreReached}
@@ -113,6 +117,17 @@ module _ (o : Origin) where
   DoesInRoom p old own r new =
       Does p old own (λ e. r ≡ Err e) Phase.Entered new
       ⊎ ((r ≡ Err Refusal.Full) × IsEntering p old new)
+
+-- The action of the transaction of this number asks the collection of the name for the call, and
+-- gets the reply, or is refused so.
+abbrev pub AsksFor : (name : List ℕ) → Call → When → Result Reply Refusal → ℕ → Action → Type 0
+AsksFor name call when r n action = (found : Option ℕ) ×
+    (action ≡ Action.Ask n (Target.Named name found) call when r)
+
+-- what the book answered where no more is told than that a deferred call is accepted
+abbrev pub replied : Result (Unit {0}) Refusal → Result Reply Refusal
+replied (Ok done) = Ok Reply.Done
+replied (Err e) = Err e
 
 -- what the book answered where a ticket is given
 abbrev pub placed : Result Ticket Refusal → Result ℕ Refusal

@@ -14,11 +14,11 @@ use std::sync::Wait;
 /// An attempt at a transaction: the calls of an open transaction are made in it, and no more. Its
 /// end is not its own: who made the attempt commits it, or takes it back.
 pub trait Attempt {
-    ghost use Rattle.std.specs.Prelude.{◌≡◌, Option, ℕ, List, Err};
-    ghost use Rattle.calls.specs.declared.refusal.Refusal.{Refusal};
+    ghost use Rattle.std.specs.Prelude.{◌≡◌, List, Err};
+    ghost use Rattle.calls.specs.declared.when.When.{When};
     ghost use Rattle.txn.specs.declared.steps.Action.{Action};
-    ghost use Rattle.txn.specs.declared.steps.Target.{Target};
     ghost use Rattle.clients.specs.Attempts.{Adds};
+    ghost use Rattle.clients.specs.Calls.{AsksFor, replied};
 
     /// What was done in it so far.
     ghost made: { Self → List Action };
@@ -26,14 +26,12 @@ pub trait Attempt {
     /// Makes a call on the collection of the name, and gives the reply: `Client::call`, with its
     /// refusals.
     fn call(&mut self, name: &str, call: &Call) -> Result<Reply, Refusal>
-        ensures { Adds (λ n a. (found : Option ℕ) ×
-            (a ≡ Action.Call n (Target.Named name.now found) call.now result))
-            (λ e. result ≡ Err e) (made self.old) (made self.new) };
+        ensures { Adds (AsksFor name.now call.now When.Now result) (λ e. result ≡ Err e)
+            (made self.old) (made self.new) };
 
-    /// Puts a call off to the commit: `Client::later`, with its refusals.
+    /// Defers a call to the commit: `Client::later`, with its refusals.
     fn later(&mut self, name: &str, call: &Call) -> Result<(), Refusal>
-        ensures { Adds (λ n a. (found : Option ℕ) ×
-            (a ≡ Action.Later n (Target.Named name.now found) call.now result))
+        ensures { Adds (AsksFor name.now call.now When.AtCommit (replied result))
             (λ e. result ≡ Err e) (made self.old) (made self.new) };
 }
 

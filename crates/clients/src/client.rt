@@ -1,13 +1,14 @@
 // A client of a store.
 ghost use Rattle.std.specs.Prelude.{◌≡◌, ◌≢◌, ◌↔◌, ◌≤◌, ◌<◌, ℕ, [], ◌∷◌, ◌++◌, Ok, Err};
-ghost use Rattle.std.specs.Prelude.{◌⊎◌, List, Bool, Option, false, IsTrue, IfOk, IfErr};
+ghost use Rattle.std.specs.Prelude.{◌⊎◌, List, Bool, false, IsTrue, IfOk, IfErr};
 ghost use Rattle.std.specs.Prelude.{IfSome, IfNone, IsNone, IsOkUnless, OnErr, OnOk};
 ghost use Rattle.catalog.specs.Fours.{which_of};
 ghost use Rattle.calls.specs.declared.refusal.Refusal.{Refusal};
 ghost use Rattle.calls.specs.Limits.{number_end};
-ghost use Rattle.shelf.specs.Looks.{IsLooked, IsLookedLater};
+ghost use Rattle.calls.specs.declared.reply.Reply.{Reply};
+ghost use Rattle.calls.specs.declared.when.When.{When};
+ghost use Rattle.shelf.specs.Looks.{IsLooked};
 ghost use Rattle.txn.specs.declared.steps.Action.{Action};
-ghost use Rattle.txn.specs.declared.steps.Target.{Target};
 ghost use Rattle.group_commit.specs.Lines.{IsLonger, steps_of};
 ghost use Rattle.group_commit.specs.Numbers.{AreApart};
 ghost use Rattle.group_commit.specs.declared.mark.Raised.{Raised};
@@ -16,14 +17,16 @@ ghost use Rattle.desks.specs.Seen.{IsSeen};
 ghost use Rattle.clients.specs.Known.{Known, newcomer};
 ghost use Rattle.clients.specs.Calls.{IsOpen, IsEnded, IsWorn, Draws, Acts, Does, Enters, Undoes};
 ghost use Rattle.clients.specs.Calls.{Aborts, DoesInRoom, IsEntering, IsMade, number_in};
-ghost use Rattle.clients.specs.Calls.{ended_by, placed, back, backs, Loads, Hears, Waits};
+ghost use Rattle.clients.specs.Calls.{ended_by, placed, replied, back, backs, Loads, Hears, Waits};
+ghost use Rattle.clients.specs.Calls.{AsksFor};
 
 use crate::hints::Hints;
 use crate::miss::Miss;
 use crate::phase::Phase;
+use crate::request::Request;
 use crate::seen::Seen;
 use crate::ticket::Ticket;
-use calls::{Call, Kind, Refusal, Reply};
+use calls::{Call, Kind, Refusal, Reply, When};
 use catalog::{Catalog, Four};
 use crossbeam_utils::Backoff;
 use desks::{
@@ -231,19 +234,10 @@ impl<'s, J: Naming, B: Coded> Client<'s, J, B> {
         }
     }
 
-    /// Makes a call of the client's transaction on the collection of the name, and gives the reply.
-    /// From then on calls of other transactions that conflict with it are answered Busy, until this
-    /// one ends. Call it only of a client with a transaction. It takes the lock of the shelf of the
-    /// collection and then the journal's, each once; the journal's once before where the client
-    /// does not know the collection's number, and both anew where it was mistaken in it. It calls
-    /// no device.
+    /// Makes a call of the client's transaction on the collection of the name at once, and gives
+    /// the reply. Call it only of a client with a transaction.
     ///
-    /// Full where what the call adds has no room (see `Client`). At the first call of a transaction
-    /// TooManyLive, Worn, Backlog, NoMemory, and then the book does not know the transaction yet.
-    /// After that BadName, TooLong, NoSuchCollection, Falling,
-    /// WrongKind, BadArg, TooLong of a value, Worn, TooManyCalls, Backlog, NoMemory, AlreadyGoing,
-    /// Busy, NoMemory. The collections and the transaction's locks are as before then, and the
-    /// transaction goes on.
+    /// The refusals of `ask`, which leave what those leave.
     ///
     /// ```text
     /// match client.call(rt, "jobs", &Call::Take)? {
@@ -254,16 +248,59 @@ impl<'s, J: Naming, B: Coded> Client<'s, J, B> {
     pub fn call<R: Wait>(&mut self, rt: &R, name: &str, call: &Call) -> Result<Reply, Refusal>
         requires { IsOpen self.old.phase }
         ensures step { DoesInRoom J.origin self.old.phase self.old
-            (λ n a. (found : Option ℕ) ×
-            (a ≡ Action.Call n (Target.Named name.now found) call.now result))
-            result self.new }
+            (AsksFor name.now call.now When.Now result) result self.new }
+        ensures open { IsOpen self.new.phase }
+    {
+        self.ask(rt, name, call, When::Now)
+    }
+
+    /// Defers a bump or a fill to the commit of the client's transaction. Call it only of a client
+    /// with a transaction.
+    ///
+    /// The refusals of `ask`, which leave what those leave.
+    pub fn later<R: Wait>(&mut self, rt: &R, name: &str, call: &Call) -> Result<(), Refusal>
+        requires { IsOpen self.old.phase }
+        ensures step { DoesInRoom J.origin self.old.phase self.old
+            (AsksFor name.now call.now When.AtCommit (replied result)) result self.new }
+        ensures open { IsOpen self.new.phase }
+    {
+        self.ask(rt, name, call, When::AtCommit)?;
+        Ok(())
+    }
+
+    /// Asks the collection of the name for a call of the client's transaction, and gives the reply.
+    /// The call is made at once, or deferred to the commit: then its reply is Done, it shows in no
+    /// reply until the commit, and an abort drops it. As soon as it is accepted, calls of other
+    /// transactions that conflict with it are answered Busy, until this one ends. Call it only of a
+    /// client with a transaction. It takes the lock of the shelf of the collection and then the
+    /// journal's, each once; the journal's once before where the client does not know the
+    /// collection's number, and both anew where it was mistaken in it. It calls no device.
+    ///
+    /// Full where what the call adds has no room (see `Client`). At the first call of a transaction
+    /// TooManyLive, Worn, Backlog, NoMemory, and then the book does not know the transaction yet.
+    /// After that BadName, TooLong, NoSuchCollection, Falling, WrongKind, BadArg, TooLong of a
+    /// value, Worn, TooManyCalls, Backlog, NoMemory, AlreadyGoing, Busy, NoMemory. BadArg is also
+    /// what a deferred call is refused that `Call::is_deferrable` does not take. The collections
+    /// and the transaction's locks are as before then, and the transaction goes on.
+    pub fn ask<R: Wait>(
+        &mut self,
+        rt: &R,
+        name: &str,
+        call: &Call,
+        when: When,
+    ) -> Result<Reply, Refusal>
+        requires { IsOpen self.old.phase }
+        ensures step { DoesInRoom J.origin self.old.phase self.old
+            (AsksFor name.now call.now when result) result self.new }
+        ensures deferred { IfOk result (λ reply. when ≡ When.AtCommit → reply ≡ Reply.Done) }
         ensures open { IsOpen self.new.phase }
     {
         self.arrive(rt);
+        let request = Request { name, call, when };
         let mut hint = self.hints.told(name);
         for _ in rt.forever() {
-            let at = self.place_of_call(rt, name, call, hint)?;
-            match self.call_at(rt, name, at, call) {
+            let at = self.place_of(rt, &request, hint)?;
+            match self.ask_at(rt, &request, at) {
                 Ok(answer) => {
                     self.remember(name, at);
                     return answer;
@@ -278,19 +315,16 @@ impl<'s, J: Naming, B: Coded> Client<'s, J, B> {
 
     // The number of the collection of the name: the one that is told, or the one that the journal
     // finds, for which the transaction is entered first.
-    fn place_of_call<R: Wait>(
+    fn place_of<R: Wait>(
         &mut self,
         rt: &R,
-        name: &str,
-        call: &Call,
+        request: &Request<'_>,
         hint: Option<u8>,
     ) -> Result<u8, Refusal>
         requires { IsOpen self.old.phase }
-        ensures ok { OnOk result
-            (IsEntering J.origin self.old.phase self.old self.new) }
+        ensures ok { OnOk result (IsEntering J.origin self.old.phase self.old self.new) }
         ensures err { IfErr result (λ e. Does J.origin self.old.phase self.old
-            (λ n a. (found : Option ℕ) ×
-            (a ≡ Action.Call n (Target.Named name.now found) call.now (Err e)))
+            (AsksFor request.now.name.now request.now.call.now request.now.when (Err e))
             (λ d. e ≡ d) Phase.Entered self.new) }
     {
         if let Some(at) = hint {
@@ -298,116 +332,122 @@ impl<'s, J: Naming, B: Coded> Client<'s, J, B> {
         }
         let mutex = self.desk;
         let mut desk = mutex.lock(rt);
-        self.find_for_call(&mut desk, name, call)
+        self.find(&mut desk, request)
     }
 
     // The number that the journal finds.
-    fn find_for_call(
-        &mut self,
-        desk: &mut Desk<J, B>,
-        name: &str,
-        call: &Call,
-    ) -> Result<u8, Refusal>
+    fn find(&mut self, desk: &mut Desk<J, B>, request: &Request<'_>) -> Result<u8, Refusal>
         requires { IsOpen self.old.phase }
-        ensures ok { OnOk result
-            (IsEntering J.origin self.old.phase self.old self.new) }
+        ensures ok { OnOk result (IsEntering J.origin self.old.phase self.old self.new) }
         ensures err { IfErr result (λ e. Does J.origin self.old.phase self.old
-            (λ n a. (found : Option ℕ) ×
-            (a ≡ Action.Call n (Target.Named name.now found) call.now (Err e)))
+            (AsksFor request.now.name.now request.now.call.now request.now.when (Err e))
             (λ d. e ≡ d) Phase.Entered self.new) }
     {
         let number = self.enter(desk)?;
-        desk.find_for_call(self.shared, &mut self.line, number, name, call)
+        desk.find_for_ask(
+            self.shared,
+            &mut self.line,
+            number,
+            request.name,
+            request.call,
+            request.when,
+        )
     }
 
-    // Makes the call on the collection of the number, under the locks of its shelf and of the
-    // journal. Not where that has another name, or what the call adds no room.
-    fn call_at<R: Wait>(
+    // Asks the collection of the number, under the locks of its shelf and of the journal. Not where
+    // that has another name, or what the call adds no room.
+    fn ask_at<R: Wait>(
         &mut self,
         rt: &R,
-        name: &str,
+        request: &Request<'_>,
         at: u8,
-        call: &Call,
     ) -> Result<Result<Reply, Refusal>, Miss>
         requires { IsOpen self.old.phase }
         ensures done { IfOk result (λ r. Does J.origin self.old.phase self.old
-            (λ n a. (found : Option ℕ) ×
-            (a ≡ Action.Call n (Target.Named name.now found) call.now r))
+            (AsksFor request.now.name.now request.now.call.now request.now.when r)
             (λ e. r ≡ Err e) Phase.Entered self.new) }
+        ensures deferred { IfOk result (λ r.
+            IfOk r (λ reply. request.now.when ≡ When.AtCommit → reply ≡ Reply.Done)) }
         ensures miss { OnErr result (IsEntering J.origin self.old.phase self.old self.new) }
     {
         let shelves = self.shelves;
         if at % 4 == 0 {
-            return self.call_on(rt, &shelves.first, name, at, call);
+            return self.ask_on(rt, &shelves.first, request, at);
         }
         if at % 4 == 1 {
-            return self.call_on(rt, &shelves.second, name, at, call);
+            return self.ask_on(rt, &shelves.second, request, at);
         }
         if at % 4 == 2 {
-            return self.call_on(rt, &shelves.third, name, at, call);
+            return self.ask_on(rt, &shelves.third, request, at);
         }
-        self.call_on(rt, &shelves.fourth, name, at, call)
+        self.ask_on(rt, &shelves.fourth, request, at)
     }
 
-    // Makes it under the lock of this shelf, which is that of the number, and then the journal's.
-    fn call_on<Q: Quarter, R: Wait>(
+    // Asks it under the lock of this shelf, which is that of the number, and then the journal's.
+    fn ask_on<Q: Quarter, R: Wait>(
         &mut self,
         rt: &R,
         lock: &Lock<ShelfDesk<J, B, Q>>,
-        name: &str,
+        request: &Request<'_>,
         at: u8,
-        call: &Call,
     ) -> Result<Result<Reply, Refusal>, Miss>
         requires going { IsOpen self.old.phase }
         requires place { which_of at ≡ Q.which }
         ensures done { IfOk result (λ r. Does J.origin self.old.phase self.old
-            (λ n a. (found : Option ℕ) ×
-            (a ≡ Action.Call n (Target.Named name.now found) call.now r))
+            (AsksFor request.now.name.now request.now.call.now request.now.when r)
             (λ e. r ≡ Err e) Phase.Entered self.new) }
+        ensures deferred { IfOk result (λ r.
+            IfOk r (λ reply. request.now.when ≡ When.AtCommit → reply ≡ Reply.Done)) }
         ensures miss { OnErr result (IsEntering J.origin self.old.phase self.old self.new) }
     {
         let mut held = lock.lock(rt);
-        let looked = held.look(self.shared.format, self.number(), at, call);
+        let looked = held.look(
+            self.shared.format,
+            self.number(),
+            at,
+            request.call,
+            request.when,
+        );
         let mutex = self.desk;
         let mut desk = mutex.lock(rt);
-        self.check_room(&desk, Footprint::of_call(call))?;
-        let answer = self.call_held(&mut desk, &mut held, name, at, call, looked);
-        note_answer(&mut desk, call, &answer);
+        self.check_room(&desk, Footprint::of_ask(request.call, request.when))?;
+        let answer = self.ask_held(&mut desk, &mut held, request, at, looked);
+        note_answer(&mut desk, request, &answer);
         answer.ok_or(Miss::Elsewhere)
     }
 
-    // Makes it where both locks are held, with what the look came to under the shelf's.
-    fn call_held<Q: Quarter>(
+    // Asks it where both locks are held, with what the look came to under the shelf's.
+    fn ask_held<Q: Quarter>(
         &mut self,
         desk: &mut Desk<J, B>,
         held: &mut ShelfDesk<J, B, Q>,
-        name: &str,
+        request: &Request<'_>,
         at: u8,
-        call: &Call,
         looked: Looked,
     ) -> Option<Result<Reply, Refusal>>
         requires going { IsOpen self.old.phase }
         requires place { which_of at ≡ Q.which }
-        requires looked { IsLooked B.Shelf.meaning J.origin.format held.old
-            (number_in self.old.phase) at
-            call.now looked }
+        requires looked { IsLooked B.Shelf.meaning request.now.when J.origin.format held.old
+            (number_in self.old.phase) at request.now.call.now looked }
         ensures some { IfSome result (λ r. Does J.origin self.old.phase self.old
-            (λ n a. (found : Option ℕ) ×
-            (a ≡ Action.Call n (Target.Named name.now found) call.now r))
+            (AsksFor request.now.name.now request.now.call.now request.now.when r)
             (λ e. r ≡ Err e) Phase.Entered self.new) }
+        ensures deferred { IfSome result (λ r.
+            IfOk r (λ reply. request.now.when ≡ When.AtCommit → reply ≡ Reply.Done)) }
         ensures none { IsNone result →
             IsEntering J.origin self.old.phase self.old self.new }
     {
         match self.enter(desk) {
-            Ok(number) => desk.call(
+            Ok(number) => desk.ask(
                 self.shelves,
                 self.shared,
                 &mut self.line,
                 held,
                 number,
-                name,
+                request.name,
                 at,
-                call,
+                request.call,
+                request.when,
                 looked,
             ),
             Err(refusal) => {
@@ -417,179 +457,7 @@ impl<'s, J: Naming, B: Coded> Client<'s, J, B> {
         }
     }
 
-    /// Puts a bump or a fill off to the commit of the client's transaction. Until then it shows in
-    /// no reply, and an abort drops it. Call it only of a client with a transaction. It takes the
-    /// locks that `call` takes, and calls no device.
-    ///
-    /// The refusals of `call`, with BadArg for every call that `Call::is_deferrable` does not take.
-    /// They leave what those leave.
-    pub fn later<R: Wait>(&mut self, rt: &R, name: &str, call: &Call) -> Result<(), Refusal>
-        requires { IsOpen self.old.phase }
-        ensures step { DoesInRoom J.origin self.old.phase self.old
-            (λ n a. (found : Option ℕ) ×
-            (a ≡ Action.Later n (Target.Named name.now found) call.now result))
-            result self.new }
-        ensures open { IsOpen self.new.phase }
-    {
-        self.arrive(rt);
-        let mut hint = self.hints.told(name);
-        for _ in rt.forever() {
-            let at = self.place_of_later(rt, name, call, hint)?;
-            match self.later_at(rt, name, at, call) {
-                Ok(answer) => {
-                    self.remember(name, at);
-                    return answer;
-                }
-                Err(Miss::Elsewhere) => hint = None,
-                Err(Miss::NoRoomYet) => self.shared.signal.await_room(rt),
-                Err(Miss::NoRoom) => return Err(Refusal::Full),
-            }
-        }
-        unreachable!()
-    }
-
-    // The number of the collection of the name: the one that is told, or the one that the journal
-    // finds, for which the transaction is entered first.
-    fn place_of_later<R: Wait>(
-        &mut self,
-        rt: &R,
-        name: &str,
-        call: &Call,
-        hint: Option<u8>,
-    ) -> Result<u8, Refusal>
-        requires { IsOpen self.old.phase }
-        ensures ok { OnOk result
-            (IsEntering J.origin self.old.phase self.old self.new) }
-        ensures err { IfErr result (λ e. Does J.origin self.old.phase self.old
-            (λ n a. (found : Option ℕ) ×
-            (a ≡ Action.Later n (Target.Named name.now found) call.now (Err e)))
-            (λ d. e ≡ d) Phase.Entered self.new) }
-    {
-        if let Some(at) = hint {
-            return Ok(at);
-        }
-        let mutex = self.desk;
-        let mut desk = mutex.lock(rt);
-        self.find_for_later(&mut desk, name, call)
-    }
-
-    // The number that the journal finds.
-    fn find_for_later(
-        &mut self,
-        desk: &mut Desk<J, B>,
-        name: &str,
-        call: &Call,
-    ) -> Result<u8, Refusal>
-        requires { IsOpen self.old.phase }
-        ensures ok { OnOk result
-            (IsEntering J.origin self.old.phase self.old self.new) }
-        ensures err { IfErr result (λ e. Does J.origin self.old.phase self.old
-            (λ n a. (found : Option ℕ) ×
-            (a ≡ Action.Later n (Target.Named name.now found) call.now (Err e)))
-            (λ d. e ≡ d) Phase.Entered self.new) }
-    {
-        let number = self.enter(desk)?;
-        desk.find_for_later(self.shared, &mut self.line, number, name, call)
-    }
-
-    // Puts the call off on the collection of the number, under the locks of its shelf and of the
-    // journal. Not where that has another name, or what the call adds no room.
-    fn later_at<R: Wait>(
-        &mut self,
-        rt: &R,
-        name: &str,
-        at: u8,
-        call: &Call,
-    ) -> Result<Result<(), Refusal>, Miss>
-        requires { IsOpen self.old.phase }
-        ensures done { IfOk result (λ r. Does J.origin self.old.phase self.old
-            (λ n a. (found : Option ℕ) ×
-            (a ≡ Action.Later n (Target.Named name.now found) call.now r))
-            (λ e. r ≡ Err e) Phase.Entered self.new) }
-        ensures miss { OnErr result (IsEntering J.origin self.old.phase self.old self.new) }
-    {
-        let shelves = self.shelves;
-        if at % 4 == 0 {
-            return self.later_on(rt, &shelves.first, name, at, call);
-        }
-        if at % 4 == 1 {
-            return self.later_on(rt, &shelves.second, name, at, call);
-        }
-        if at % 4 == 2 {
-            return self.later_on(rt, &shelves.third, name, at, call);
-        }
-        self.later_on(rt, &shelves.fourth, name, at, call)
-    }
-
-    // Puts it off under the lock of this shelf, which is that of the number, and then the
-    // journal's.
-    fn later_on<Q: Quarter, R: Wait>(
-        &mut self,
-        rt: &R,
-        lock: &Lock<ShelfDesk<J, B, Q>>,
-        name: &str,
-        at: u8,
-        call: &Call,
-    ) -> Result<Result<(), Refusal>, Miss>
-        requires going { IsOpen self.old.phase }
-        requires place { which_of at ≡ Q.which }
-        ensures done { IfOk result (λ r. Does J.origin self.old.phase self.old
-            (λ n a. (found : Option ℕ) ×
-            (a ≡ Action.Later n (Target.Named name.now found) call.now r))
-            (λ e. r ≡ Err e) Phase.Entered self.new) }
-        ensures miss { OnErr result (IsEntering J.origin self.old.phase self.old self.new) }
-    {
-        let mut held = lock.lock(rt);
-        let looked = held.look_later(self.number(), at, call);
-        let mutex = self.desk;
-        let mut desk = mutex.lock(rt);
-        self.check_room(&desk, Footprint::of_later(call))?;
-        let answer = self.later_held(&mut desk, &mut held, name, at, call, looked);
-        note_later(&mut desk, call, &answer);
-        answer.ok_or(Miss::Elsewhere)
-    }
-
-    // Puts it off where both locks are held, with what the look came to under the shelf's.
-    fn later_held<Q: Quarter>(
-        &mut self,
-        desk: &mut Desk<J, B>,
-        held: &mut ShelfDesk<J, B, Q>,
-        name: &str,
-        at: u8,
-        call: &Call,
-        looked: Looked,
-    ) -> Option<Result<(), Refusal>>
-        requires going { IsOpen self.old.phase }
-        requires place { which_of at ≡ Q.which }
-        requires looked { IsLookedLater B.Shelf.meaning held.old (number_in self.old.phase) at
-            call.now looked }
-        ensures some { IfSome result (λ r. Does J.origin self.old.phase self.old
-            (λ n a. (found : Option ℕ) ×
-            (a ≡ Action.Later n (Target.Named name.now found) call.now r))
-            (λ e. r ≡ Err e) Phase.Entered self.new) }
-        ensures none { IsNone result →
-            IsEntering J.origin self.old.phase self.old self.new }
-    {
-        match self.enter(desk) {
-            Ok(number) => desk.later(
-                self.shelves,
-                self.shared,
-                &mut self.line,
-                held,
-                number,
-                name,
-                at,
-                call,
-                looked,
-            ),
-            Err(refusal) => {
-                drop(looked);
-                Some(Err(refusal))
-            }
-        }
-    }
-
-    /// Commits the client's transaction, and gives its ticket. What was put off runs now, and the
+    /// Commits the client's transaction, and gives its ticket. What was deferred runs now, and the
     /// locks go. It is in effect for all at once, and kept through a stop a moment later: `kept`
     /// and `wait` tell. It wakes the store's committer. Call it only of a client with a
     /// transaction. It takes the locks of the shelves on which the transaction asked for something
@@ -1005,25 +873,14 @@ fn each(is: bool) -> Four<bool> {
     }
 }
 
-// What the call changed, where it was answered.
+// What the call changed, where it was accepted.
 fn note_answer<J: Naming, B: Coded>(
     desk: &mut Desk<J, B>,
-    call: &Call,
+    request: &Request<'_>,
     answer: &Option<Result<Reply, Refusal>>,
 ) {
     if let Some(Ok(reply)) = answer {
-        desk.note_change(Change::of_call(call, reply));
-    }
-}
-
-// What the call changed, where it was put off.
-fn note_later<J: Naming, B: Coded>(
-    desk: &mut Desk<J, B>,
-    call: &Call,
-    answer: &Option<Result<(), Refusal>>,
-) {
-    if let Some(Ok(())) = answer {
-        desk.note_change(Change::of(Footprint::of_later(call)));
+        desk.note_change(Change::of_ask(request.call, request.when, reply));
     }
 }
 

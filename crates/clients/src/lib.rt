@@ -21,6 +21,7 @@ mod client;
 mod hints;
 mod miss;
 mod phase;
+mod request;
 mod seen;
 mod ticket;
 

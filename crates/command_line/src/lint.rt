@@ -1,6 +1,6 @@
 // Telling what is wrong with a script.
 use boost::{Failure, report};
-use linting::{Finding, Findings, Why, review};
+use script::{Finding, Findings, Why, review};
 use std::alloc::{AllocError, Global};
 use std::io::{self, Write};
 

@@ -78,8 +78,7 @@ module _ {S : Type 0} (meaning : Meaning S ℕ) (making : Making S)
   abbrev pub Goes : BookState S → Action → BookState S → Type 0
   Goes b (Action.Make name kind r) c = On b r c
   Goes b (Action.Enter n r) c = On b r c
-  Goes b (Action.Call n target call r) c = On b r c
-  Goes b (Action.Later n target call r) c = On b r c
+  Goes b (Action.Ask n target call when r) c = On b r c
   Goes b (Action.Commit n r) c = On b r c
   Goes b (Action.Back n r) c = On b r c
   Goes b (Action.Ended n r) c = On b r c
@@ -94,21 +93,13 @@ module _ {S : Type 0} (meaning : Meaning S ℕ) (making : Making S)
   gathered_takes b c g (Action.Enter n (Ok done)) took goes =
       gathered_kept collections b c g goes.keeps
   gathered_takes b c g (Action.Enter n (Err e)) took goes = stays collections b c g took.0
-  gathered_takes b c g (Action.Call n target call (Ok reply)) took goes =
+  gathered_takes b c g (Action.Ask n target call when (Ok reply)) took goes =
       gathered_kept collections b c g goes.keeps
-  gathered_takes b c g (Action.Call n (Target.Number p) call (Err e)) took goes =
+  gathered_takes b c g (Action.Ask n (Target.Number p) call when (Err e)) took goes =
       stays collections b c g took.0
-  gathered_takes b c g (Action.Call n (Target.Named name (Some p)) call (Err e)) took goes =
+  gathered_takes b c g (Action.Ask n (Target.Named name (Some p)) call when (Err e)) took goes =
       stays collections b c g took.1.0
-  gathered_takes b c g (Action.Call n (Target.Named name None) call (Err e)) took goes =
-      stays collections b c g took.0
-  gathered_takes b c g (Action.Later n target call (Ok done)) took goes =
-      gathered_kept collections b c g goes.keeps
-  gathered_takes b c g (Action.Later n (Target.Number p) call (Err e)) took goes =
-      stays collections b c g took.0
-  gathered_takes b c g (Action.Later n (Target.Named name (Some p)) call (Err e)) took goes =
-      stays collections b c g took.1.0
-  gathered_takes b c g (Action.Later n (Target.Named name None) call (Err e)) took goes =
+  gathered_takes b c g (Action.Ask n (Target.Named name None) call when (Err e)) took goes =
       stays collections b c g took.0
   gathered_takes b c g (Action.Commit n (Ok place)) took goes =
       gathered_kept collections b c g goes.keeps

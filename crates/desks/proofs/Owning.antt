@@ -106,8 +106,7 @@ taken_by : (client : Option ℕ) (action : Action) (n : ℕ) → transaction_of 
     MayTake client action → IsSome client
 taken_by client (Action.Make name kind a) n is may = may
 taken_by client (Action.Enter m a) n is may = may
-taken_by client (Action.Call m target call a) n is may = may
-taken_by client (Action.Later m target call a) n is may = may
+taken_by client (Action.Ask m target call when a) n is may = may
 taken_by client (Action.Commit m a) n is may = may
 taken_by client (Action.Back m a) n is may = may
 taken_by client (Action.Ended m a) n is may = may

@@ -9,6 +9,7 @@ use Rattle.calls.specs.declared.kind.Kind.{Kind}
 use Rattle.calls.specs.declared.call.Call.{Call}
 use Rattle.calls.specs.declared.reply.Reply.{Reply}
 use Rattle.calls.specs.declared.refusal.Refusal.{Refusal}
+use Rattle.calls.specs.declared.when.When.{When}
 use Rattle.calls.specs.declared.format.Format.{Format}
 use Rattle.calls.specs.Contents.{Collection}
 use Rattle.calls.specs.Limits.{max_collections}
@@ -20,6 +21,7 @@ use Rattle.boosted.specs.Meaning.{Meaning, CanAsk, CanDefer, AskRefusal, DeferRe
 use Rattle.catalog.specs.Making as naming
 use Rattle.catalog.specs.Making.{Making, IsPlaceOf, FindRefused, names_of}
 use Rattle.catalog.specs.Meaning.{catalog_meaning, catalog_making}
+use Rattle.shelf.specs.Looks.{CanTake, TakeRefused}
 use Rattle.record_format.specs.declared.record.Record.{Record}
 use Rattle.record_format.specs.Short.{AreShort}
 use Rattle.records.specs.Told.{Tells}
@@ -34,9 +36,9 @@ use Rattle.txn.specs.declared.steps.Target.{Target}
 use Rattle.txn.specs.Books.{BookState, standing, position, Appends, Moves, Takes, IsKept}
 use Rattle.txn.specs.Freezing.{IsGatheredOf, FreezeAnswers}
 use Rattle.txn.specs.Rows.{Standing, MakeRefused, EnterRefused, IsOpen, OpenRefused}
-use Rattle.txn.specs.Rows.{IsUnhindered, AskedInVain, CallRefused, PutOffInVain, LaterRefused}
+use Rattle.txn.specs.Rows.{IsUnhindered, AskedInVain, DeferredInVain, IsDenied, RefusesAsk}
 use Rattle.txn.specs.Rows.{AppendRefused, CommitRefused, BackRefused, EndedRefused}
-use Rattle.txn.specs.Rows.{IsMade, IsUndone, CallAnswers, LaterAnswers, NotFound, IsFound}
+use Rattle.txn.specs.Rows.{IsMade, IsUndone, IsDeferred, IsGranted, AskAnswers, NotFound, IsFound}
 use Rattle.desks.specs.Told.{told_state, told_book}
 
 -- ---- refusals
@@ -102,6 +104,19 @@ module _ {S : Type 0} {meaning : Meaning S ℕ} {making : Making S}
   defers : (s : S) (at : ℕ) (c : Call) → CanDefer meaning s at c →
       CanDefer catalog_meaning (collections s) at c
   defers s at c can = ((told.belongs s at c).0 can.0, can.1)
+
+  takes : (when : When) (format : Format) (s : S) (at : ℕ) (c : Call) →
+      CanTake meaning when format s at c → CanTake catalog_meaning when format (collections s) at c
+  takes When.Now format s at c can = asks format s at c can
+  takes When.AtCommit format s at c can = defers s at c can
+
+  take_refused : (when : When) (format : Format) (s : S) (at : ℕ) (c : Call) (e : Refusal) →
+      TakeRefused meaning when format s at c e →
+      TakeRefused catalog_meaning when format (collections s) at c e
+  take_refused When.Now format s at c e r = ask_refusal format _ _ _ _ c
+      (told.belongs s at c).0 (λ e. (told.misplaced s at c e).0) e r
+  take_refused When.AtCommit format s at c e r = defer_refusal _ _ _ _ c
+      (told.belongs s at c).0 (λ e. (told.misplaced s at c e).0) e r
 
   calls : (s : State S) (n : ℕ) (e : Event) → CanCall meaning s n e →
       CanCall catalog_meaning (f s) n e
@@ -269,37 +284,28 @@ module _ {S : Type 0} {meaning : Meaning S ℕ} {making : Making S}
     asked_in_vain n at c Refusal.NoMemory (inr free) = inr (unhindered n at c free)
     asked_in_vain n at c e r = absurd r
 
-    call_refused : (n at : ℕ) (c : Call) (e : Refusal) → CallRefused meaning b n at c e →
-        CallRefused catalog_meaning (g b) n at c e
-    call_refused n at c e (inl r) =
-        inl (open_refused _ _ (asks b.state.format b.state.now at c) n e r)
-    call_refused n at c e (inr (inl r)) = inr (inl (
-      runs b.state n r.0,
-      ask_refusal b.state.format _ _ _ _ c (told.belongs b.state.now at c).0
-          (λ e. (told.misplaced b.state.now at c e).0) e r.1,
-    ))
-    call_refused n at c e (inr (inr r)) = inr (inr (
-      opens _ _ (asks b.state.format b.state.now at c) n r.0,
-      asked_in_vain n at c e r.1,
-    ))
+    deferred_in_vain : (n at : ℕ) (c : Call) (e : Refusal) → DeferredInVain meaning b n at c e →
+        DeferredInVain catalog_meaning (g b) n at c e
+    deferred_in_vain n at c (Refusal.Busy m) r = r
+    deferred_in_vain n at c Refusal.NoMemory r = r
+    deferred_in_vain n at c e r = absurd r
 
-    put_off_in_vain : (n at : ℕ) (c : Call) (e : Refusal) → PutOffInVain meaning b n at c e →
-        PutOffInVain catalog_meaning (g b) n at c e
-    put_off_in_vain n at c (Refusal.Busy m) r = r
-    put_off_in_vain n at c Refusal.NoMemory r = r
-    put_off_in_vain n at c e r = absurd r
+    denied : (when : When) (n at : ℕ) (c : Call) (e : Refusal) → IsDenied meaning when b n at c e →
+        IsDenied catalog_meaning when (g b) n at c e
+    denied When.Now n at c e r = asked_in_vain n at c e r
+    denied When.AtCommit n at c e r = deferred_in_vain n at c e r
 
-    later_refused : (n at : ℕ) (c : Call) (e : Refusal) → LaterRefused meaning b n at c e →
-        LaterRefused catalog_meaning (g b) n at c e
-    later_refused n at c e (inl r) = inl (open_refused _ _ (defers b.state.now at c) n e r)
-    later_refused n at c e (inr (inl r)) = inr (inl (
+    refuses_ask : (when : When) (n at : ℕ) (c : Call) (e : Refusal) →
+        RefusesAsk meaning when b n at c e → RefusesAsk catalog_meaning when (g b) n at c e
+    refuses_ask when n at c e (inl r) =
+        inl (open_refused _ _ (takes when b.state.format b.state.now at c) n e r)
+    refuses_ask when n at c e (inr (inl r)) = inr (inl (
       runs b.state n r.0,
-      defer_refusal _ _ _ _ c (told.belongs b.state.now at c).0
-          (λ e. (told.misplaced b.state.now at c e).0) e r.1,
+      take_refused when b.state.format b.state.now at c e r.1,
     ))
-    later_refused n at c e (inr (inr r)) = inr (inr (
-      opens _ _ (defers b.state.now at c) n r.0,
-      put_off_in_vain n at c e r.1,
+    refuses_ask when n at c e (inr (inr r)) = inr (inr (
+      opens _ _ (takes when b.state.format b.state.now at c) n r.0,
+      denied when n at c e r.1,
     ))
 
     append_refused : (e : Refusal) → AppendRefused b e → AppendRefused (g b) e
@@ -338,24 +344,28 @@ module _ {S : Type 0} {meaning : Meaning S ℕ} {making : Making S}
     undone n (inl is) = inl (back_row b.state c.state n is.0, appends _ is.1)
     undone n (inr is) = inr (unread_row b.state c.state n is.0, is.1, ap h is.2)
 
-    called : (n p : ℕ) (call : Call) (a : Result Reply Refusal) →
-        CallAnswers meaning making standing Appends Moves b n p call a c →
-        CallAnswers catalog_meaning catalog_making standing Appends Moves (h b) n p call a (h c)
-    called n p call (Ok reply) is =
-        (made (reads call reply) n (record { at = p; call = call; reply = reply }) is.0, is.1)
-    called n p call (Err e) is = (ap h is.0, call_refused (standing b) n p call e is.1)
+    deferred : (n : ℕ) (e : Event) →
+        IsDeferred meaning making standing Appends Moves b n e c →
+        IsDeferred catalog_meaning catalog_making standing Appends Moves (h b) n e (h c)
+    deferred n e is = (later_row b.state c.state n e.at e.call is.0, appends _ is.1, is.2)
 
-    put_off : (n p : ℕ) (call : Call) (a : Result (Unit {0}) Refusal) →
-        LaterAnswers meaning making standing Appends Moves b n p call a c →
-        LaterAnswers catalog_meaning catalog_making standing Appends Moves (h b) n p call a (h c)
-    put_off n p call (Ok done) is =
-        (later_row b.state c.state n p call is.0, is.1, appends _ is.2)
-    put_off n p call (Err e) is = (ap h is.0, later_refused (standing b) n p call e is.1)
+    granted : (when : When) (n : ℕ) (e : Event) →
+        IsGranted meaning making standing Appends Moves when b n e c →
+        IsGranted catalog_meaning catalog_making standing Appends Moves when (h b) n e (h c)
+    granted When.Now n e is = made (reads e.call e.reply) n e is
+    granted When.AtCommit n e is = deferred n e is
 
-    not_found : {T : Type 0} (name : List ℕ) (a : Result T Refusal) →
+    asked : (n p : ℕ) (call : Call) (when : When) (a : Result Reply Refusal) →
+        AskAnswers meaning making standing Appends Moves b n p call when a c →
+        AskAnswers catalog_meaning catalog_making standing Appends Moves (h b) n p call when a (h c)
+    asked n p call when (Ok reply) is =
+        (granted when n (record { at = p; call = call; reply = reply }) is.0, is.1)
+    asked n p call when (Err e) is = (ap h is.0, refuses_ask (standing b) when n p call e is.1)
+
+    not_found : (name : List ℕ) (a : Result Reply Refusal) →
         NotFound meaning making standing Appends Moves b name a c →
         NotFound catalog_meaning catalog_making standing Appends Moves (h b) name a (h c)
-    not_found name (Ok done) is = absurd is
+    not_found name (Ok reply) is = absurd is
     not_found name (Err e) is = (ap h is.0, find_refused (standing b) name e is.1)
 
     found : (name : List ℕ) (p : ℕ) → IsFound meaning making standing Appends Moves b name p →
@@ -371,14 +381,10 @@ module _ {S : Type 0} {meaning : Meaning S ℕ} {making : Making S}
     takes_told (Action.Enter n (Ok done)) is =
         (begin_row b.state c.state n is.0, is.1, appends _ is.2)
     takes_told (Action.Enter n (Err e)) is = (ap h is.0, enter_refused (standing b) n e is.1)
-    takes_told (Action.Call n (Target.Number p) call a) is = called n p call a is
-    takes_told (Action.Call n (Target.Named name (Some p)) call a) is =
-        (found name p is.0, called n p call a is.1)
-    takes_told (Action.Call n (Target.Named name None) call a) is = not_found name a is
-    takes_told (Action.Later n (Target.Number p) call a) is = put_off n p call a is
-    takes_told (Action.Later n (Target.Named name (Some p)) call a) is =
-        (found name p is.0, put_off n p call a is.1)
-    takes_told (Action.Later n (Target.Named name None) call a) is = not_found name a is
+    takes_told (Action.Ask n (Target.Number p) call when a) is = asked n p call when a is
+    takes_told (Action.Ask n (Target.Named name (Some p)) call when a) is =
+        (found name p is.0, asked n p call when a is.1)
+    takes_told (Action.Ask n (Target.Named name None) call when a) is = not_found name a is
     takes_told (Action.Commit n (Ok place)) is =
         (commit_row b.state c.state n is.0, appends _ is.1, is.2)
     takes_told (Action.Commit n (Err e)) is = (ap h is.0, commit_refused (standing b) n e is.1)

@@ -7,8 +7,7 @@ use Rattle.group_commit.specs.Lines.{ClientState, mine_of}
 -- the number of the transaction that a step is of
 abbrev pub transaction_of : Action → Option ℕ
 transaction_of (Action.Enter n a) = Some n
-transaction_of (Action.Call n target call a) = Some n
-transaction_of (Action.Later n target call a) = Some n
+transaction_of (Action.Ask n target call when a) = Some n
 transaction_of (Action.Commit n a) = Some n
 transaction_of (Action.Back n a) = Some n
 transaction_of (Action.Ended n a) = Some n

@@ -95,7 +95,7 @@ fn commit_over<J: Naming, B: Coded>(
     Ok(place)
 }
 
-// Runs on each shelf what these entries of the transaction put off or left there, and gives its
+// Runs on each shelf what these entries of the transaction deferred or left there, and gives its
 // needs up. A shelf that is not held stays, as there is nothing to settle on it. How many calls
 // ran.
 fn settle_all<J: Naming, B: Coded>(

@@ -1,12 +1,12 @@
 // What a step adds to the next image of a store.
-use calls::{Call, Reply, check_call};
+use calls::{Call, Reply, When, check_call};
 use records::{call_len, fits_call, fits_reply};
 
 // The most bytes of a call's record beside those of values.
 const RECORD: u64 = 64;
 
-// The most bytes of the record of a call that is put off.
-const LATER: u64 = 27;
+// The most bytes of the record of a call that is deferred.
+const DEFERRED: u64 = 27;
 
 // The bytes of the records of items: of an element or an identifier, of an entry beside its value,
 // of a pair, and of an amount.
@@ -38,8 +38,24 @@ pub struct Footprint {
 }
 
 impl Footprint {
-    /// Of a call: nothing of one that only reads whatever it is answered.
-    pub fn of_call(call: &Call) -> Self {
+    /// Of a call that is asked for.
+    pub fn of_ask(call: &Call, when: When) -> Self {
+        match when {
+            When::Now => Self::of_call(call),
+            When::AtCommit => Self::of(DEFERRED, call),
+        }
+    }
+
+    /// Of the making of a collection.
+    pub fn of_making() -> Self {
+        Self {
+            most: NAME,
+            grows: true,
+        }
+    }
+
+    // Of a call that is made at once: nothing of one that only reads whatever it is answered.
+    fn of_call(call: &Call) -> Self {
         match call {
             Call::Contains(_)
             | Call::Get(_)
@@ -53,19 +69,6 @@ impl Footprint {
             },
             Call::Put(_, _) | Call::MapRemove(_) => Self::of(LONGEST, call),
             _ => Self::of(RECORD, call),
-        }
-    }
-
-    /// Of a call that is put off.
-    pub fn of_later(call: &Call) -> Self {
-        Self::of(LATER, call)
-    }
-
-    /// Of the making of a collection.
-    pub fn of_making() -> Self {
-        Self {
-            most: NAME,
-            grows: true,
         }
     }
 
@@ -89,14 +92,11 @@ pub struct Change {
 }
 
 impl Change {
-    /// Of a call that was answered so.
-    pub fn of_call(call: &Call, reply: &Reply) -> Self {
-        if call.reads(reply) {
-            return Self { added: 0, freed: 0 };
-        }
-        Self {
-            added: sum(record_len(call, reply), item_len(call)),
-            freed: freed_by(call, reply),
+    /// Of a call that was asked for, and answered so.
+    pub fn of_ask(call: &Call, when: When, reply: &Reply) -> Self {
+        match when {
+            When::Now => Self::of_call(call, reply),
+            When::AtCommit => Self::of(Footprint::of_ask(call, when)),
         }
     }
 
@@ -105,6 +105,17 @@ impl Change {
         Self {
             added: footprint.most,
             freed: 0,
+        }
+    }
+
+    // Of a call that was made at once, and answered so.
+    fn of_call(call: &Call, reply: &Reply) -> Self {
+        if call.reads(reply) {
+            return Self { added: 0, freed: 0 };
+        }
+        Self {
+            added: sum(record_len(call, reply), item_len(call)),
+            freed: freed_by(call, reply),
         }
     }
 }

@@ -7,14 +7,14 @@ ghost use Rattle.undo_log.specs.Entries.{stamped_entry};
 ghost use Rattle.catalog.specs.Fours.{rank, pick};
 ghost use Rattle.catalog.specs.Shelving.{CopyRefused};
 ghost use Rattle.shelf.specs.Shelves.{ShelfState, CanRun, Settles, on_quarter};
-ghost use Rattle.shelf.specs.Looks.{IsLooked, IsLookedLater};
+ghost use Rattle.shelf.specs.Looks.{IsLooked};
 ghost use Rattle.txn.specs.Shelved.{IsIdle};
 ghost use Rattle.desks.specs.Touches.{Leads, IsShelf};
 
 use crate::naming::Naming;
 use crate::quarter::Quarter;
 use crate::touch::{Touch, note_touch};
-use calls::{Call, Format, Refusal};
+use calls::{Call, Format, Refusal, When};
 use catalog::{Parts, Shelved};
 use group_commit::{Twin, TwinFar, TwinNear};
 use records::Coded;
@@ -88,19 +88,12 @@ impl<J: Naming, B: Coded, Q: Quarter> ShelfDesk<J, B, Q> {
         &self.shelf
     }
 
-    /// What the call of the transaction comes to here: `Shelf::look`. It changes nothing.
-    pub fn look(&self, format: Format, number: u64, at: u8, call: &Call) -> Looked
-        ensures { IsLooked B.Shelf.meaning format self.now number at call.now result }
-    {
-        self.shelf.look(format, number, at, call)
-    }
-
-    /// What it comes to here that the transaction puts the call off: `Shelf::look_later`. It changes
+    /// What it comes to here that the transaction asks for the call: `Shelf::look`. It changes
     /// nothing.
-    pub fn look_later(&self, number: u64, at: u8, call: &Call) -> Looked
-        ensures { IsLookedLater B.Shelf.meaning self.now number at call.now result }
+    pub fn look(&self, format: Format, number: u64, at: u8, call: &Call, when: When) -> Looked
+        ensures { IsLooked B.Shelf.meaning when format self.now number at call.now result }
     {
-        self.shelf.look_later(number, at, call)
+        self.shelf.look(format, number, at, call, when)
     }
 
     /// A copy of the collection of the number, under the name: `Shelved::copy`.
@@ -132,7 +125,7 @@ impl<J: Naming, B: Coded, Q: Quarter> ShelfDesk<J, B, Q> {
         twin.compare(near, &mut self.far);
     }
 
-    /// Runs what these entries of the transaction put off or left on this shelf, and gives its
+    /// Runs what these entries of the transaction deferred or left on this shelf, and gives its
     /// needs up, as `Shelf::settle_quarter` does. Both ends know it. How many calls ran. It takes
     /// no memory.
     pub(crate) fn settle(

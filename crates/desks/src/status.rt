@@ -47,7 +47,7 @@ pub struct Status {
     pub waiting: usize,
     /// A number above every number that was entered.
     pub next: u64,
-    /// How often anything was entered, called, put off, run in a commit or undone over the store's
+    /// How often anything was entered, called, deferred, run in a commit or undone over the store's
     /// life, up to 2^61.
     pub wear: u64,
     /// How large each collection is, in the order of making.

@@ -30,7 +30,7 @@ pub use background::{
     transact_within,
 };
 pub use calls::limits::{MAX_AREA, MIN_AREA};
-pub use calls::{Bytes, Call, Kind, Refusal, Reply};
+pub use calls::{Bytes, Call, Kind, Refusal, Reply, When};
 pub use disk_model::{FileDisk, Unknown};
 pub use making::open_or_make;
 pub use opening::{OpenError, open_or_format};

@@ -4,9 +4,9 @@
 ghost use Rattle.std.specs.Prelude.{◌≡◌, ◌↔◌, ◌+◌, ◌<◌, ◌≤◌, ◌^◌, [], ◌∷◌, ◌++◌, false, length};
 ghost use Rattle.std.specs.Prelude.{IsTrue, IsOk, IfSome, IfNone, OnOk, OnErr, IsOkUnless};
 ghost use Rattle.std.specs.FinMap as maps;
-ghost use Rattle.calls.specs.Transactions.{Asked, PutOff, own, others};
+ghost use Rattle.calls.specs.Transactions.{own, others};
 ghost use Rattle.calls.specs.Limits.{max_calls, max_wear};
-ghost use Rattle.undo_log.specs.Entries.{event_of, HasNoCall, IsNewestCall};
+ghost use Rattle.undo_log.specs.Entries.{entry_of, event_of, HasNoCall, IsNewestCall};
 ghost use Rattle.undo_log.specs.Logs.{Lives, HasRoom, fallen};
 ghost use Rattle.ledger.specs.Ledgers.{log_of};
 ghost use Rattle.ledger.specs.LeftCalls.{GoesTwice};
@@ -18,7 +18,7 @@ use calls::{Call, Refusal, Reply};
 use left_calls::is_going;
 use std::alloc::Global;
 use std::marker::Model;
-use undo_log::{Later, Live, Logged};
+use undo_log::{Entry, Live, Logged};
 
 /// The live transactions, with what they asked for and did not undo, and the wear.
 ///
@@ -118,29 +118,15 @@ impl Ledger {
         self.live.reserve(number)
     }
 
-    /// Notes a call of the transaction as the newest entry. Room is reserved. It takes no memory.
-    pub fn note_call(&mut self, number: u64, asked: Logged)
+    /// Notes what the transaction asks for as the newest entry. Room is reserved. It takes no memory.
+    pub fn note(&mut self, number: u64, entry: Entry)
         requires live { Lives self.old.live number }
         requires room { HasRoom (log_of self.old) number }
-        ensures entries { self.new.entries ≡ self.old.entries ++ (number, Asked (event_of asked)) ∷
-            [] }
+        ensures entries { self.new.entries ≡ self.old.entries ++ (number, entry_of entry) ∷ [] }
         ensures live { self.new.live ≡ self.old.live }
         ensures wear { self.new.wear ≡ self.old.wear }
     {
-        self.live.push_call(number, asked);
-    }
-
-    /// Notes a call that the transaction puts off as the newest entry. Room is reserved. It takes
-    /// no memory.
-    pub fn note_later(&mut self, number: u64, put: Later)
-        requires live { Lives self.old.live number }
-        requires room { HasRoom (log_of self.old) number }
-        ensures entries { self.new.entries ≡ self.old.entries ++ (number, PutOff put.at put.call) ∷
-            [] }
-        ensures live { self.new.live ≡ self.old.live }
-        ensures wear { self.new.wear ≡ self.old.wear }
-    {
-        self.live.push_later(number, put);
+        self.live.push(number, entry);
     }
 
     /// Takes the newest call of the transaction out; the other entries stay, in their order.

@@ -12,8 +12,6 @@ use background::Work;
 use calls::Refusal;
 use calls::limits::MAX_LIVE;
 use crossbeam_channel::{Receiver, RecvTimeoutError, Sender, TrySendError, bounded};
-use lines::{Found, read_line};
-use sessions::Session;
 use std::alloc::{AllocError, AllocGlobal, Global};
 use std::fs::{File, TryLockError};
 use std::io::{self, BufRead, BufReader, ErrorKind, Write};
@@ -24,7 +22,7 @@ use std::sync::{Mutex, Wait};
 use std::thread;
 use std::time::Duration;
 use store::{Client, Naming};
-use talks::{Ended, KeepingState, Printer, talk};
+use talks::{Ended, Found, KeepingState, Printer, Session, read_line, talk};
 
 // How many clients that came wait at most.
 const MAX_WAITING: usize = 4096;

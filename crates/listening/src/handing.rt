@@ -1,12 +1,12 @@
 // Lines of many clients, which are handed out to each.
 use crate::shell::{HELP, Manner, PROMPT, WELCOME};
 use crossbeam_channel::Sender;
-use lines::{Found, read_line};
 use script::addressed;
 use std::alloc::{AllocError, Global};
 use std::io::{self, BufReader, Read, Write};
 use std::mem;
 use std::sync::{Mutex, Wait};
+use talks::{Found, read_line};
 
 // How many bytes one read takes at most.
 const READ_SIZE: usize = 65_536;
@@ -20,7 +20,7 @@ pub struct Handing<'a, O, R: Wait> {
     output: &'a Mutex<O>,
     manner: Manner,
     senders: Vec<Sender<Vec<u8>>>,
-    // The client of the lines that are gathered, from 0 on, and the lines.
+    // The client of the lines that are collected, from 0 on, and the lines.
     of: usize,
     batch: Vec<u8>,
 }
@@ -85,8 +85,8 @@ impl<'a, O: Write, R: Wait> Handing<'a, O, R> {
     // too long for that client too, who is told so in its turn.
     fn hand_out_long(&mut self, line: &[u8]) -> io::Result<()> {
         match (addressed(line), self.manner) {
-            (Some((client, _)), _) => self.gather(usize::from(client).saturating_sub(1), line)?,
-            (None, Manner::Shell) => self.gather(0, line)?,
+            (Some((client, _)), _) => self.add_line(usize::from(client).saturating_sub(1), line)?,
+            (None, Manner::Shell) => self.add_line(0, line)?,
             (None, Manner::Tagged) => self.tell(b"- error LineTooLong\n")?,
         }
         Ok(())
@@ -102,9 +102,9 @@ impl<'a, O: Write, R: Wait> Handing<'a, O, R> {
             b"help" if self.manner == Manner::Shell => self.tell(HELP)?,
             _ => match (addressed(line), self.manner) {
                 (Some((client, rest)), _) => {
-                    self.gather(usize::from(client).saturating_sub(1), rest)?;
+                    self.add_line(usize::from(client).saturating_sub(1), rest)?;
                 }
-                (None, Manner::Shell) => self.gather(0, line)?,
+                (None, Manner::Shell) => self.add_line(0, line)?,
                 (None, Manner::Tagged) => self.tell(b"- error NoClient\n")?,
             },
         }
@@ -121,9 +121,9 @@ impl<'a, O: Write, R: Wait> Handing<'a, O, R> {
         output.flush()
     }
 
-    // Puts a line behind those that are gathered, which are sent first where they are another
+    // Puts a line behind those that are collected, which are sent first where they are another
     // client's.
-    fn gather(&mut self, client: usize, line: &[u8]) -> Result<(), AllocError> {
+    fn add_line(&mut self, client: usize, line: &[u8]) -> Result<(), AllocError> {
         if client != self.of {
             self.send()?;
             self.of = client;
@@ -133,7 +133,7 @@ impl<'a, O: Write, R: Wait> Handing<'a, O, R> {
         Ok(())
     }
 
-    // Sends the lines that are gathered to their client.
+    // Sends the lines that are collected to their client.
     fn send(&mut self) -> Result<(), AllocError> {
         if self.batch.is_empty() {
             return Ok(());

@@ -13,7 +13,6 @@ use background::Work;
 use calls::Refusal;
 use calls::limits::MAX_LIVE;
 use crossbeam_channel::{Receiver, Sender, bounded};
-use sessions::Session;
 use std::alloc::{AllocError, AllocGlobal, Global};
 use std::io::{self, BufReader, ErrorKind, Read, Write};
 use std::rt::Clock;
@@ -21,7 +20,7 @@ use std::sync::atomic::{AtomicBool, AtomicU64, Ordering};
 use std::sync::{Mutex, Wait};
 use std::time::Duration;
 use store::{Client, Naming};
-use talks::{Ended, KeepingState, Printer, Why, talk};
+use talks::{Ended, KeepingState, Printer, Session, Why, talk};
 
 // How many batches of lines wait for a client at most; then no more input is read.
 const MAX_BATCHES: usize = 64;

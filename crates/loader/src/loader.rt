@@ -32,7 +32,7 @@ use records::{CallRecord, Coded, LaterRecord, Record, is_reached, is_short_reply
 use shelf::Shelf;
 use std::alloc::Global;
 use std::marker::Model;
-use undo_log::{Later, Logged};
+use undo_log::{Entry, Later, Logged};
 
 /// An image that is read, one record after another, and becomes a machine. Each record is tested.
 ///
@@ -245,7 +245,7 @@ impl<B: Parts + Coded> Loader<B> {
         self.ledger.reserve(number)?;
         let need = asked.call.need(&asked.reply);
         self.shelf.hold(number, asked.at, need)?;
-        self.ledger.note_call(number, asked);
+        self.ledger.note(number, Entry::Asked(asked));
         Ok(())
     }
 
@@ -259,7 +259,7 @@ impl<B: Parts + Coded> Loader<B> {
         self.ledger.reserve(number)?;
         let need = put.call.need(&Reply::Done);
         self.shelf.hold(number, put.at, need)?;
-        self.ledger.note_later(number, put);
+        self.ledger.note(number, Entry::PutOff(put));
         Ok(())
     }
 

@@ -25,7 +25,7 @@ use ledger::Ledger;
 use shelf::Shelf;
 use std::alloc::Global;
 use std::marker::Model;
-use undo_log::{Later, Live, Logged};
+use undo_log::{Entry, Later, Live, Logged};
 
 /// What a machine keeps beside its collections and the needs on them: the live transactions with
 /// what they asked for, the wear, and the format of the store.
@@ -168,7 +168,7 @@ impl Accounts {
     {
         self.ledger.reserve(number)?;
         shelf.take(number, asked.at, &asked.call, &asked.reply, need)?;
-        self.ledger.note_call(number, asked);
+        self.ledger.note(number, Entry::Asked(asked));
         self.ledger.add_wear(1);
         Ok(())
     }
@@ -195,7 +195,7 @@ impl Accounts {
     {
         self.ledger.reserve(number)?;
         shelf.hold(number, asked.at, need)?;
-        self.ledger.note_call(number, asked);
+        self.ledger.note(number, Entry::Asked(asked));
         Ok(())
     }
 
@@ -219,7 +219,7 @@ impl Accounts {
     {
         self.ledger.reserve(number)?;
         shelf.hold(number, put.at, need)?;
-        self.ledger.note_later(number, put);
+        self.ledger.note(number, Entry::PutOff(put));
         self.ledger.add_wear(1);
         Ok(())
     }

@@ -4,3 +4,4 @@ pub mod ScriptPhrases
 pub mod ScriptWords
 pub mod ScriptOperations
 pub mod WishLemmas
+pub mod ReviewLemmas

@@ -2,3 +2,4 @@ pub mod Addresses
 pub mod ScriptTexts
 pub mod Scripts
 pub mod Wishes
+pub mod Reviews

@@ -2,14 +2,15 @@
 //! what concerns contents and needs; what was asked for, and the wear, are kept elsewhere.
 #![tactic(auto)]
 
-ghost use Rattle.std.specs.Prelude.{◌≡◌, [], map, length, IfErr, OnOk, OnErr, IsOk, IsOkUnless};
+ghost use Rattle.std.specs.Prelude.{◌≡◌, [], map, length, IfOk, IfErr, OnOk, OnErr, IsOk};
+ghost use Rattle.std.specs.Prelude.{IsOkUnless};
 ghost use Rattle.std.specs.Borrow.{Lends, sem};
 ghost use Rattle.calls.specs.Rules.{Askable, need_of, IsUndoneInPlace};
 ghost use Rattle.calls.specs.Transactions.{Leads, laters_of};
 ghost use Rattle.abstract_locks.specs.Holds.{hold, IsClear, IsBusyRefusal, IsAdded, IsGivenUp};
 ghost use Rattle.undo_log.specs.Entries.{stamped_entry};
 ghost use Rattle.boosted.specs.Meaning.{CanAsk, AskRefused, Undoes, HasRoom};
-ghost use Rattle.shelf.specs.Looks.{IsLooked, IsLookedLater};
+ghost use Rattle.shelf.specs.Looks.{IsLooked, IsTold, CanTake, TakeRefused};
 ghost use Rattle.shelf.specs.Shelves.{Does, CanRun, on_quarter};
 ghost use Rattle.shelf.specs.contracts.Shelf.{the_row};
 
@@ -18,7 +19,7 @@ mod looked;
 
 use abstract_locks::NeedTable;
 use boosted::Boosted;
-use calls::{Call, Format, Need, Refusal, Reply};
+use calls::{Call, Format, Need, Refusal, Reply, When};
 use laters::run_laters;
 pub use looked::Looked;
 use std::alloc::Global;
@@ -97,43 +98,25 @@ impl<C: Boosted<At = u8>> Shelf<C> {
         self.needs.test(number, at, need)
     }
 
-    /// What the call of the transaction comes to here, in a store of the format. It changes
-    /// nothing, and costs what `Boosted::askable`, `Boosted::look` and `NeedTable::test` do.
+    /// What it comes to here that the transaction asks for the call, in a store of the format: at
+    /// once, or deferred to its commit, where it is Done. It changes nothing, and costs what
+    /// `Boosted::askable`, `Boosted::look` and `NeedTable::test` do. Of a deferred call it takes no
+    /// memory.
     ///
     /// Refused as `Boosted::askable` says, and then with TooLong for a value that the format does
-    /// not have. Starved where there is no memory for the reply.
-    pub fn look(&self, format: Format, number: u64, at: u8, call: &Call) -> Looked
-        ensures { IsLooked C.meaning format self.now number at call.now result }
+    /// not have; of a deferred call as `Boosted::deferrable` says. Starved where there is no memory
+    /// for the reply.
+    pub fn look(&self, format: Format, number: u64, at: u8, call: &Call, when: When) -> Looked
+        ensures { IsLooked C.meaning when format self.now number at call.now result }
     {
-        if let Err(refusal) = self.check(format, at, call) {
-            return Looked::Refused(refusal);
-        }
-        let Ok(reply) = self.collections.look(at, call) else {
-            return Looked::Starved;
+        let reply = match self.reply(format, at, call, when) {
+            Ok(Some(reply)) => reply,
+            Ok(None) => return Looked::Starved,
+            Err(refusal) => return Looked::Refused(refusal),
         };
         let need = call.need(&reply);
         let clear = self.test(number, at, &need);
         Looked::Answered { reply, need, clear }
-    }
-
-    /// What it comes to here that the transaction puts the call off: it is Done at the commit. It
-    /// changes nothing, takes no memory, and costs what `Boosted::deferrable` and
-    /// `NeedTable::test` do.
-    ///
-    /// Refused as `Boosted::deferrable` says.
-    pub fn look_later(&self, number: u64, at: u8, call: &Call) -> Looked
-        ensures { IsLookedLater C.meaning self.now number at call.now result }
-    {
-        if let Err(refusal) = self.collections.deferrable(at, call) {
-            return Looked::Refused(refusal);
-        }
-        let need = call.need(&Reply::Done);
-        let clear = self.test(number, at, &need);
-        Looked::Answered {
-            reply: Reply::Done,
-            need,
-            clear,
-        }
     }
 
     /// Makes the call, answered so, and lets the transaction hold the need that it has. That is
@@ -245,6 +228,29 @@ impl<C: Boosted<At = u8>> Shelf<C> {
         ensures now { self.new.now ≡ self.old.now }
     {
         self.needs.give_up(number);
+    }
+
+    // The reply to the call, if a client can ask for it so. None where there is no memory for it.
+    fn reply(
+        &self,
+        format: Format,
+        at: u8,
+        call: &Call,
+        when: When,
+    ) -> Result<Option<Reply>, Refusal>
+        ensures ok { IfOk result (IsTold C.meaning when format self.now.now at call.now) }
+        ensures err { IfErr result (TakeRefused C.meaning when format self.now.now at call.now) }
+    {
+        match when {
+            When::Now => {
+                self.check(format, at, call)?;
+                Ok(self.collections.look(at, call).ok())
+            }
+            When::AtCommit => {
+                self.collections.deferrable(at, call)?;
+                Ok(Some(Reply::Done))
+            }
+        }
     }
 
     // Whether a client can ask for the call, in a store of the format.

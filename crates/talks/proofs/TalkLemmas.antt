@@ -11,8 +11,8 @@ use Rattle.talks.specs.declared.why.Why.{Why}
 use Rattle.std.specs.Io.KnownBytes.{Consumes}
 use Rattle.std.specs.Prelude.{IsSomeAnd, ◌≢◌, IsTrue, ◌↔◌, not}
 use Rattle.std.proofs.lemmas.List.Elements.{All-nil}
-use Rattle.lines.specs.declared.Found.{Found}
-use Rattle.lines.specs.Lines.{Begins, Finds}
+use Rattle.talks.specs.declared.lines.Found.{Found}
+use Rattle.talks.specs.Lines.{Begins, Finds}
 use Rattle.std.proofs.KnownBytes.{Consumes-trans}
 use Rattle.talks.specs.Hearing.{Hears, IsHeard, IsBreak, tolds_of}
 use Rattle.talks.specs.Talks.{AreTried, RunsCalls, IsRound, AreRounds, IsLast, TalksOn, bytes_of}

@@ -1,2 +1,9 @@
 pub mod Hearing
 pub mod Talks
+pub mod Lines
+pub mod Sessions
+pub mod Plays
+pub mod Clients
+pub mod Turns
+pub mod Checkpoints
+pub mod Requests

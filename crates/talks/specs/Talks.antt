@@ -4,8 +4,8 @@ use Rattle.std.specs.Prelude.{Option, None, Some, IsSome, IfSome, length, â—Œ||â
 use Rattle.std.specs.Io.BufRead.{strip_last}
 use Rattle.std.specs.Io.KnownBytes.{Consumes}
 use Rattle.calls.specs.declared.refusal.Refusal.{Refusal}
-use Rattle.lines.specs.declared.Found.{Found}
-use Rattle.lines.specs.Lines.{Begins, Brings}
+use Rattle.talks.specs.declared.lines.Found.{Found}
+use Rattle.talks.specs.Lines.{Begins, Brings}
 use Rattle.script.specs.declared.action.Request.{Request}
 use Rattle.script.specs.declared.wishes.Wish.{Wish}
 use Rattle.script.specs.Wishes.{IsWishOf}

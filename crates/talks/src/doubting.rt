@@ -2,7 +2,7 @@
 ghost use Rattle.std.specs.Prelude.{IfSome, IsTrue, string_bytes};
 ghost use Rattle.talks.specs.Talks.{IsReason};
 
-use linting::{Why, doubt_wish};
+use script::{Why, doubt_wish};
 use std::alloc::{AllocError, Global};
 use std::fmt::Write;
 

@@ -1,6 +1,6 @@
 // A talk with one client.
 ghost use Rattle.std.specs.Prelude.{◌≡◌, Option, None, true, List, ℕ};
-ghost use Rattle.lines.specs.Lines.{Begins};
+ghost use Rattle.talks.specs.Lines.{Begins};
 ghost use Rattle.talks.specs.declared.told.Told.{Told};
 ghost use Rattle.talks.specs.declared.why.Why.{Why};
 ghost use Rattle.talks.specs.Hearing.{IsHeard};
@@ -13,7 +13,7 @@ use crate::speaking::Speaker;
 use crate::told::Told;
 use crate::transacting::{take_back, undo};
 use crate::why::Why;
-use lines::{Found, read_line};
+use crate::{Found, read_line};
 use std::alloc::AllocGlobal;
 use std::io::{BufRead, BufReader, Read};
 use std::sync::Wait;

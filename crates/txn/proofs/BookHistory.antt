@@ -8,6 +8,7 @@ use Rattle.calls.specs.declared.kind.Kind.{Kind}
 use Rattle.calls.specs.declared.call.Call.{Call}
 use Rattle.calls.specs.declared.reply.Reply.{Reply}
 use Rattle.calls.specs.declared.refusal.Refusal.{Refusal}
+use Rattle.calls.specs.declared.when.When.{When}
 use Rattle.calls.specs.Contents.{Collection, AnswersAt, after_at}
 use Rattle.calls.specs.Reads.{reads}
 use Rattle.calls.specs.Transactions.{Event, Entry, Asked, Act, Asks, Makes, own, committed_after}
@@ -25,8 +26,7 @@ use Rattle.machine.proofs.RecordRuns.{gathered, committed_append, Tells}
 use Rattle.txn.specs.declared.steps.Action.{Action}
 use Rattle.txn.specs.declared.steps.BookStep.{BookStep}
 use Rattle.txn.specs.declared.steps.Target.{Target}
-use Rattle.txn.specs.Rows.{Standing, IsMade, IsUndone, CallAnswers, LaterAnswers, record_of}
-use Rattle.txn.specs.Rows.{later_record}
+use Rattle.txn.specs.Rows.{Standing, IsMade, IsUndone, AskAnswers, record_of, later_record}
 use Rattle.txn.specs.Histories.{acts_of_action, Adds, Shifts, Row, IsLegal, ComesTo}
 use Rattle.boosted.specs.Meaning.{Meaning}
 use Rattle.catalog.specs.Making.{Making}
@@ -95,21 +95,15 @@ module _ {S : Type 0} (meaning : Meaning S ℕ) (making : Making S)
           acts.0) (ap (λ v. v.places) acts.2)
 
       -- a call on a collection
-      called : (n p : ℕ) (call : Call) (a : Result Reply Refusal) (c : Standing S) →
-          CallAnswers meaning making (λ v. v) Adds Shifts b n p call a c →
+      asked : (n p : ℕ) (call : Call) (when : When) (a : Result Reply Refusal) (c : Standing S) →
+          AskAnswers meaning making (λ v. v) Adds Shifts b n p call when a c →
           IsBookPlayed es
-          (acts_of_action (Action.Call n (Target.Number p) call a)) b d c
-      called n p call (Ok reply) c acts =
+          (acts_of_action (Action.Ask n (Target.Number p) call when a)) b d c
+      asked n p call When.Now (Ok reply) c acts =
           made (reads call reply) n (record { at = p; call = call; reply = reply }) c acts.0
-      called n p call (Err e) c acts = refused c acts.0
-
-      put_off : (n p : ℕ) (call : Call) (a : Result (Unit {0}) Refusal) (c : Standing S) →
-          LaterAnswers meaning making (λ v. v) Adds Shifts b n p call a c →
-          IsBookPlayed es
-          (acts_of_action (Action.Later n (Target.Number p) call a)) b d c
-      put_off n p call (Ok done) c acts =
-          recorded (later_record n p call) c acts.0 (ap (λ v. v.places) acts.2.is)
-      put_off n p call (Err e) c acts = refused c acts.0
+      asked n p call When.AtCommit (Ok reply) c acts =
+          recorded (later_record n p call) c acts.0.0 (ap (λ v. v.places) acts.0.1.is)
+      asked n p call when (Err e) c acts = refused c acts.0
 
       one : (action : Action) (c : Standing S) → Row meaning making b action c →
           IsBookPlayed es (acts_of_action action) b d c
@@ -119,18 +113,12 @@ module _ {S : Type 0} (meaning : Meaning S ℕ) (making : Making S)
       one (Action.Enter n (Ok done)) c acts =
           recorded (Record.Begin n) c acts.0 (ap (λ v. v.places) acts.2.is)
       one (Action.Enter n (Err e)) c acts = refused c acts.0
-      one (Action.Call n (Target.Number p) call a) c acts = called n p call a c acts
-      one (Action.Call n (Target.Named name (Some p)) call (Ok reply)) c acts =
-          called n p call (Ok reply) c acts.1
-      one (Action.Call n (Target.Named name (Some p)) call (Err e)) c acts = refused c acts.1.0
-      one (Action.Call n (Target.Named name None) call (Ok reply)) c acts = absurd acts
-      one (Action.Call n (Target.Named name None) call (Err e)) c acts = refused c acts.0
-      one (Action.Later n (Target.Number p) call a) c acts = put_off n p call a c acts
-      one (Action.Later n (Target.Named name (Some p)) call (Ok done)) c acts =
-          put_off n p call (Ok done) c acts.1
-      one (Action.Later n (Target.Named name (Some p)) call (Err e)) c acts = refused c acts.1.0
-      one (Action.Later n (Target.Named name None) call (Ok done)) c acts = absurd acts
-      one (Action.Later n (Target.Named name None) call (Err e)) c acts = refused c acts.0
+      one (Action.Ask n (Target.Number p) call when a) c acts = asked n p call when a c acts
+      one (Action.Ask n (Target.Named name (Some p)) call when (Ok reply)) c acts =
+          asked n p call when (Ok reply) c acts.1
+      one (Action.Ask n (Target.Named name (Some p)) call when (Err e)) c acts = refused c acts.1.0
+      one (Action.Ask n (Target.Named name None) call when (Ok reply)) c acts = absurd acts
+      one (Action.Ask n (Target.Named name None) call when (Err e)) c acts = refused c acts.0
       one (Action.Commit n (Ok place)) c acts =
           recorded (Record.Commit n) c acts.0 (ap (λ v. v.places) acts.1.is)
       one (Action.Commit n (Err e)) c acts = refused c acts.0

@@ -4,14 +4,15 @@ use Rattle.std.proofs.Common.{Result, Ok, Err, Bool, true, false, refl, sym, ◌
 use Rattle.calls.specs.declared.call.Call.{Call}
 use Rattle.calls.specs.declared.reply.Reply.{Reply}
 use Rattle.calls.specs.declared.refusal.Refusal.{Refusal}
+use Rattle.calls.specs.declared.when.When.{When}
 use Rattle.calls.specs.Contents.{Content, Collection}
 use Rattle.calls.specs.Reads.{reads}
-use Rattle.calls.specs.Rules.{need_of, AsksForValue}
+use Rattle.calls.specs.Rules.{need_of}
 use Rattle.calls.specs.Transactions.{Event}
 use Rattle.abstract_locks.specs.Holds.{IsClear, IsBusyRefusal}
 use Rattle.ledger.specs.LeftCalls.{GoesTwice}
 use Rattle.std.specs.Prelude.{OnOk, OnErr, IsOkUnless}
-use Rattle.boosted.specs.Meaning.{Meaning, HasRoom, CanAsk, AskRefused, CanDefer, DeferRefused}
+use Rattle.boosted.specs.Meaning.{Meaning, HasRoom}
 use Rattle.boosted.specs.Laws.{BoostedLaws}
 use Rattle.catalog.specs.declared.four.Four.{Four}
 use Rattle.catalog.specs.Fours.{Which, which_of, put}
@@ -19,6 +20,7 @@ use Rattle.catalog.specs.Making.{Making, MakingLaws}
 use Rattle.catalog.specs.Shelving.{ShelfLaws}
 use Rattle.catalog.specs.Woven.{Label}
 use Rattle.shelf.specs.Shelves.{ShelfState}
+use Rattle.shelf.specs.Looks.{CanTake, TakeRefused, CanTell, MayStarve}
 use Rattle.record_format.specs.declared.record.Record.{Record}
 use Rattle.record_format.specs.Records.{FitsCall, FitsReply}
 use Rattle.record_format.specs.Short.{AreShort}
@@ -26,7 +28,7 @@ use Rattle.records.specs.Told.{Tells}
 use Rattle.records.proofs.Items.{widest_call}
 use Rattle.blocks.specs.Cuts.{CutsOff}
 use Rattle.blocks.specs.declared.block.Block.{Block}
-use Rattle.machine.specs.Machine.{State, IsRunning, IsSettled, CanCall, BeginRow, CallRow, ReadRow}
+use Rattle.machine.specs.Machine.{State, IsRunning, IsSettled, BeginRow, CallRow, ReadRow}
 use Rattle.machine.specs.Machine.{LaterRow}
 use Rattle.machine.specs.Machines.{HasRoomFor}
 use Rattle.machine.specs.Sound.{IsSound}
@@ -42,7 +44,7 @@ use Rattle.gathering.specs.Gatherings.{noted, effect_at}
 use Rattle.gathering.proofs.Running.{are_run}
 use Rattle.txn.specs.declared.steps.Action.{Action}
 use Rattle.txn.specs.declared.steps.Target.{Target}
-use Rattle.txn.specs.Rows.{IsOpen, RunRefused, OpenRefused}
+use Rattle.txn.specs.Rows.{IsOpen, RunRefused, OpenRefused, IsDenied, CanGet}
 use Rattle.txn.specs.Rows.{IsMade, record_of, later_record}
 use Rattle.txn.specs.Books.{BookState, standing, IsKept, Takes, CutAnswers, Appends, Moves}
 use Rattle.txn.specs.Books.{position}
@@ -253,130 +255,177 @@ module _ {S T N : Type 0} {meaning : Meaning S ℕ} {making : Making S}
   -- ---- calls
 
   module _ (j : JournalState N) (s : ShelfState T) (n at : ℕ) (call : Call) where
-    abbrev Refuses : Refusal → Type 0
-    Refuses e = On (Served (Action.Call n (Target.Number at) call) (Err e)) (which_of at) j s j s
+    abbrev Asked : When → Result Reply Refusal → JournalState N → ShelfState T → Type 0
+    Asked when result k t =
+        On (Served (Action.Ask n (Target.Number at) call when) result) (which_of at) j s k t
+
+    abbrev Refuses : When → Refusal → Type 0
+    Refuses when e = Asked when (Err e) j s
 
     abbrev Opens : Type 0
     Opens = IsOpen (Unit {0}) (standing_of j) n
 
-    abbrev can_ask : (rest : Four (ShelfState T)) → Book j (put rest (which_of at) s) →
-        CanAsk shelf j.accounts.format s.now at call →
-        CanAsk meaning j.accounts.format (whole j.names (contents (put rest (which_of at) s))) at
-        call
-    can_ask rest is asks = joining.asked_join shelves laws j.names j.accounts rest at s is.joined
-        j.accounts.format call asks
+    abbrev CanTakeHere : When → Type 0
+    CanTakeHere when = CanTake shelf when j.accounts.format s.now at call
+
+    can_take : (when : When) (rest : Four (ShelfState T)) → Book j (put rest (which_of at) s) →
+        CanTakeHere when → CanTake meaning when j.accounts.format
+        (whole j.names (contents (put rest (which_of at) s))) at call
+    can_take When.Now rest is asks = joining.asked_join shelves laws j.names j.accounts rest at s
+        is.joined j.accounts.format call asks
+    can_take When.AtCommit rest is defers = joining.deferred_join shelves laws j.names j.accounts
+        rest at s is.joined call defers
+
+    take_refused : (when : When) (rest : Four (ShelfState T)) →
+        Book j (put rest (which_of at) s) → (e : Refusal) →
+        TakeRefused shelf when j.accounts.format s.now at call e →
+        TakeRefused meaning when j.accounts.format
+        (whole j.names (contents (put rest (which_of at) s))) at call e
+    take_refused When.Now rest is e why = joining.refused_join shelves laws j.names j.accounts rest
+        at s is.joined j.accounts.format call e why
+    take_refused When.AtCommit rest is e why = joining.defer_refused_join shelves laws j.names
+        j.accounts rest at s is.joined call e why
 
     -- It is refused as its shelf shows,
-    pub call_misplaced : (e : Refusal) → IsRunning (alone j.accounts) n →
-        AskRefused shelf j.accounts.format s.now at call e → Refuses e
-    call_misplaced e running why = refused_on (which_of at) j s
+    pub misplaced : (when : When) (e : Refusal) → IsRunning (alone j.accounts) n →
+        TakeRefused shelf when j.accounts.format s.now at call e → Refuses when e
+    misplaced when e running why = refused_on (which_of at) j s
         (λ rest is. (
           refl,
           inr (inl (
             runs_whole whole j (put rest (which_of at) s) n running,
-            joining.refused_join shelves laws j.names j.accounts rest at s is.joined
-                j.accounts.format call e why,
+            take_refused when rest is e why,
           )),
         ))
 
     -- as the journal has no room,
-    pub call_unopened : (e : Refusal) → OpenRefused (Unit {0}) (standing_of j) n e →
-        CanAsk shelf j.accounts.format s.now at call → Refuses e
-    call_unopened e why asks = refused_on (which_of at) j s
+    pub unopened : (when : When) (e : Refusal) → OpenRefused (Unit {0}) (standing_of j) n e →
+        CanTakeHere when → Refuses when e
+    unopened when e why takes = refused_on (which_of at) j s
         (λ rest is. (
           refl,
           inl (open_refused whole j (put rest (which_of at) s) n _ e why
-              (can_ask rest is asks)),
+              (can_take when rest is takes)),
         ))
 
-    -- for want of memory for the reply,
-    pub call_starved : Opens → CanAsk shelf j.accounts.format s.now at call → AsksForValue call →
-        Refuses Refusal.NoMemory
-    call_starved opened asks value = refused_on (which_of at) j s
+    -- for a reason that stands behind these,
+    in_vain : (when : When) (e : Refusal) → Opens → CanTakeHere when →
+        ((rest : Four (ShelfState T)) → Book j (put rest (which_of at) s) → IsDenied meaning when
+        (standing (book_state whole j (put rest (which_of at) s))) n at call e) →
+        Refuses when e
+    in_vain when e opened takes why = refused_on (which_of at) j s
         (λ rest is. (
           refl,
           inr (inr (
             opens_whole whole j (put rest (which_of at) s) n _ opened
-                (can_ask rest is asks),
-            inl value,
+                (can_take when rest is takes),
+            why rest is,
           )),
         ))
 
-    module _ (reply : Reply) (opened : Opens) (asks : CanAsk shelf j.accounts.format s.now at call)
-        (answers : shelf.answers s.now at call reply) where
+    -- for want of memory for the reply,
+    pub starved : (when : When) → Opens → CanTakeHere when → MayStarve shelf when call →
+        Refuses when Refusal.NoMemory
+    starved When.Now opened takes value =
+        in_vain When.Now Refusal.NoMemory opened takes (λ rest is. inl value)
+    starved When.AtCommit opened takes value = absurd value
+
+    module _ (reply : Reply) where
       abbrev event : Event
       event = record { at = at; call = call; reply = reply }
 
-      answered : (rest : Four (ShelfState T)) → Book j (put rest (which_of at) s) →
+      -- The call leaves nothing that is going already.
+      abbrev IsOnce : When → Type 0
+      IsOnce when = when ≡ When.Now → GoesTwice j.accounts.entries n event → ⊥
+
+      answered : shelf.answers s.now at call reply → (rest : Four (ShelfState T)) →
+          Book j (put rest (which_of at) s) →
           meaning.answers (whole j.names (contents (put rest (which_of at) s))) at call reply
-      answered rest is = joining.answered_join shelves laws j.names j.accounts rest at s is.joined
-          call reply answers
+      answered answers rest is = joining.answered_join shelves laws j.names j.accounts rest at s
+          is.joined call reply answers
+
+      busy_here : (rest : Four (ShelfState T)) → Book j (put rest (which_of at) s) → (r : Reply)
+          (e : Refusal) → IsBusyRefusal s.holds n at (need_of call r) e → IsBusyRefusal
+          (whole_state whole j.names j.accounts (put rest (which_of at) s)).holds n at
+          (need_of call r) e
+      busy_here rest is r e busy = joining.busy_join shelves laws j.names j.accounts rest at s
+          is.joined n (need_of call r) e busy
+
+      clear_here : (rest : Four (ShelfState T)) → Book j (put rest (which_of at) s) → (r : Reply) →
+          IsClear s.holds n at (need_of call r) → IsClear
+          (whole_state whole j.names j.accounts (put rest (which_of at) s)).holds n at
+          (need_of call r)
+      clear_here rest is r clear = joining.clear_join shelves laws j.names j.accounts rest at s
+          is.joined n (need_of call r) clear
 
       -- as it would leave what is going already,
-      pub call_twice : GoesTwice j.accounts.entries n event → Refuses Refusal.AlreadyGoing
-      call_twice twice = refused_on (which_of at) j s
+      pub twice : Opens → CanTakeHere When.Now → shelf.answers s.now at call reply →
+          GoesTwice j.accounts.entries n event → Refuses When.Now Refusal.AlreadyGoing
+      twice opened takes answers goes = in_vain When.Now Refusal.AlreadyGoing opened takes
+          (λ rest is. (reply, answered answers rest is, goes))
+
+      -- as a need is in its way,
+      pub busy : (when : When) → Opens → CanTakeHere when →
+          CanTell shelf when s.now at call reply → IsOnce when → (e : Refusal) →
+          IsBusyRefusal s.holds n at (need_of call reply) e → Refuses when e
+      busy When.Now opened takes answers once (Refusal.Busy m) way =
+          in_vain When.Now (Refusal.Busy m) opened takes
           (λ rest is. (
-            refl,
-            inr (inr (
-              opens_whole whole j (put rest (which_of at) s) n _ opened
-                  (can_ask rest is asks),
-              (reply, answered rest is, twice),
-            )),
+            reply,
+            answered answers rest is,
+            once refl,
+            busy_here rest is reply
+                (Refusal.Busy m) way,
           ))
+      busy When.AtCommit opened takes tells once (Refusal.Busy m) way =
+          in_vain When.AtCommit (Refusal.Busy m) opened takes
+          (λ rest is. busy_here rest is Reply.Done (Refusal.Busy m)
+          (subst (λ r. IsBusyRefusal s.holds n at (need_of call r) (Refusal.Busy m)) tells.0 way))
+      busy when opened takes tells once e way = absurd way
 
-      module _ (once : GoesTwice j.accounts.entries n event → ⊥) where
-        -- as a need is in its way,
-        pub call_busy : (e : Refusal) → IsBusyRefusal s.holds n at (need_of call reply) e →
-            Refuses e
-        call_busy (Refusal.Busy m) busy = refused_on (which_of at) j s
-            (λ rest is. (
-              refl,
-              inr (inr (
-                opens_whole whole j (put rest (which_of at) s) n _ opened
-                    (can_ask rest is asks),
-                (
-                  reply,
-                  answered rest is,
-                  once,
-                  joining.busy_join shelves laws
-                      j.names j.accounts rest at s is.joined n (need_of call reply) (Refusal.Busy m) busy,
-                ),
-              )),
-            ))
-        call_busy e busy = absurd busy
+      -- or for want of memory to note it.
+      pub hungry : (when : When) → Opens → CanTakeHere when →
+          CanTell shelf when s.now at call reply → IsOnce when →
+          IsClear s.holds n at (need_of call reply) → Refuses when Refusal.NoMemory
+      hungry When.Now opened takes answers once clear =
+          in_vain When.Now Refusal.NoMemory opened takes
+          (λ rest is. inr (
+            reply,
+            answered answers rest is,
+            once refl,
+            clear_here rest is reply clear,
+          ))
+      hungry When.AtCommit opened takes tells once clear =
+          in_vain When.AtCommit Refusal.NoMemory opened takes
+          (λ rest is. clear_here rest is Reply.Done
+          (subst (λ r. IsClear s.holds n at (need_of call r)) tells.0 clear))
 
-        module _ (clear : IsClear s.holds n at (need_of call reply)) where
-          -- or for want of memory to note it.
-          pub call_hungry : Refuses Refusal.NoMemory
-          call_hungry = refused_on (which_of at) j s
-              (λ rest is. (
-                refl,
-                inr (inr (
-                  opens_whole whole j (put rest (which_of at) s) n _ opened
-                      (can_ask rest is asks),
-                  inr (
-                    reply,
-                    answered rest is,
-                    once,
-                    joining.clear_join shelves
-                        laws j.names j.accounts rest at s is.joined n (need_of call reply) clear,
-                  ),
-                )),
-              ))
-
-          -- Else it can be made.
-          pub can_call : (rest : Four (ShelfState T)) → Book j (put rest (which_of at) s) →
-              CanCall shelf (state_on j.accounts s) n event
-          can_call rest is = record {
-            running = record { live = opened.running.live; standing = opened.running.standing };
-            asked = asks;
-            told = joining.told_join shelves laws j.names j.accounts rest at s is.joined call reply
-                answers;
-            few = opened.few;
-            answered = answers;
-            once = once;
-            clear = clear;
-          }
+      -- Else it can be taken.
+      pub can_get : (when : When) → Opens → CanTakeHere when →
+          CanTell shelf when s.now at call reply → IsOnce when →
+          IsClear s.holds n at (need_of call reply) →
+          (rest : Four (ShelfState T)) → Book j (put rest (which_of at) s) →
+          CanGet shelf when (state_on j.accounts s) n event
+      can_get When.Now opened takes answers once clear rest is = record {
+        running = record { live = opened.running.live; standing = opened.running.standing };
+        asked = takes;
+        told = joining.told_join shelves laws j.names j.accounts rest at s is.joined call reply
+            answers;
+        few = opened.few;
+        answered = answers;
+        once = once refl;
+        clear = clear;
+      }
+      can_get When.AtCommit opened takes tells once clear rest is = (
+        record {
+          running = record { live = opened.running.live; standing = opened.running.standing };
+          put_off = takes;
+          few = opened.few;
+          ready = tells.1;
+          clear = subst (λ r. IsClear s.holds n at (need_of call r)) tells.0 clear;
+        },
+        tells.0,
+      )
 
     -- There is room for one call more.
     pub room_on : Opens → (rest : Four (ShelfState T)) → Book j (put rest (which_of at) s) →
@@ -397,7 +446,7 @@ module _ {S T N : Type 0} {meaning : Meaning S ℕ} {making : Making S}
         CallRow shelf (state_on j.accounts s) n e (state_on k.accounts t) →
         Writes j (record_of n e) k → k.names ≡ j.names →
         k.gathering ≡ noted j.gathering (effect_at (journal_position j + 1) e ∷ []) →
-        On (Served (Action.Call n (Target.Number at) call) (Ok reply)) (which_of at) j s k t
+        Asked When.Now (Ok reply) k t
     call_on reply k t opened written fit fits_reply few row writes same notes =
         let e : Event = record { at = at; call = call; reply = reply } in
         leads_on same (joining.call_joins shelves laws j.names j.accounts k.accounts s t n e row)
@@ -436,7 +485,7 @@ module _ {S T N : Type 0} {meaning : Meaning S ℕ} {making : Making S}
         let e : Event = record { at = at; call = call; reply = reply } in
         Opens → reads call reply ≡ true →
         ReadRow shelf (state_on j.accounts s) n e (state_on k.accounts t) → Charges j k →
-        On (Served (Action.Call n (Target.Number at) call) (Ok reply)) (which_of at) j s k t
+        Asked When.Now (Ok reply) k t
     read_on reply k t opened only_reads row charges =
         let e : Event = record { at = at; call = call; reply = reply } in
         leads_on (ap (λ (v : JournalState N). v.names) charges)
@@ -464,75 +513,11 @@ module _ {S T N : Type 0} {meaning : Meaning S ℕ} {making : Making S}
           },
         ))
 
-    -- ---- calls that are put off
-
-    abbrev Declines : Refusal → Type 0
-    Declines e = On (Served (Action.Later n (Target.Number at) call) (Err e)) (which_of at) j s j s
-
-    abbrev can_defer : (rest : Four (ShelfState T)) → Book j (put rest (which_of at) s) →
-        CanDefer shelf s.now at call →
-        CanDefer meaning (whole j.names (contents (put rest (which_of at) s))) at call
-    can_defer rest is defers = joining.deferred_join shelves laws j.names j.accounts rest at s
-        is.joined call defers
-
-    -- It is refused as its shelf shows,
-    pub later_misplaced : (e : Refusal) → IsRunning (alone j.accounts) n →
-        DeferRefused shelf s.now at call e → Declines e
-    later_misplaced e running why = refused_on (which_of at) j s
-        (λ rest is. (
-          refl,
-          inr (inl (
-            runs_whole whole j (put rest (which_of at) s) n running,
-            joining.defer_refused_join shelves laws j.names j.accounts rest at s is.joined call e
-                why,
-          )),
-        ))
-
-    -- as the journal has no room,
-    pub later_unopened : (e : Refusal) → OpenRefused (Unit {0}) (standing_of j) n e →
-        CanDefer shelf s.now at call → Declines e
-    later_unopened e why defers = refused_on (which_of at) j s
-        (λ rest is. (
-          refl,
-          inl (open_refused whole j (put rest (which_of at) s) n _ e why
-              (can_defer rest is defers)),
-        ))
-
-    module _ (opened : Opens) (defers : CanDefer shelf s.now at call) where
-      -- as a need is in its way,
-      pub later_busy : (e : Refusal) → IsBusyRefusal s.holds n at (need_of call Reply.Done) e →
-          Declines e
-      later_busy (Refusal.Busy m) busy = refused_on (which_of at) j s
-          (λ rest is. (
-            refl,
-            inr (inr (
-              opens_whole whole j (put rest (which_of at) s) n _ opened
-                  (can_defer rest is defers),
-              joining.busy_join shelves laws j.names j.accounts rest at s
-                  is.joined n (need_of call Reply.Done) (Refusal.Busy m) busy,
-            )),
-          ))
-      later_busy e busy = absurd busy
-
-      module _ (clear : IsClear s.holds n at (need_of call Reply.Done)) where
-        -- or for want of memory to note it.
-        pub later_hungry : Declines Refusal.NoMemory
-        later_hungry = refused_on (which_of at) j s
-            (λ rest is. (
-              refl,
-              inr (inr (
-                opens_whole whole j (put rest (which_of at) s) n _ opened
-                    (can_defer rest is defers),
-                joining.clear_join shelves laws j.names j.accounts rest at s
-                    is.joined n (need_of call Reply.Done) clear,
-              )),
-            ))
-
-    -- It is put off.
+    -- A call is deferred.
     pub later_on : (k : JournalState N) (t : ShelfState T) → Opens → at < 256 →
         LaterRow shelf (state_on j.accounts s) n at call (state_on k.accounts t) →
         Writes j (later_record n at call) k → k.names ≡ j.names → k.gathering ≡ j.gathering →
-        On (Served (Action.Later n (Target.Number at) call) (Ok tt)) (which_of at) j s k t
+        Asked When.AtCommit (Ok Reply.Done) k t
     later_on k t opened few row writes same still =
         leads_on same (joining.later_joins shelves laws j.names j.accounts k.accounts s t n at call
         row)
@@ -544,7 +529,7 @@ module _ {S T N : Type 0} {meaning : Meaning S ℕ} {making : Making S}
           later_keeps meaning making (λ form s. AreShort form (collections s)) laws b kept n at
               call c row to few,
           record {
-            answer = (row, opened.unworn, to);
+            answer = ((row, to, refl), opened.unworn);
             settles = λ d v. later_settles meaning making laws.rules b.state kept.upheld.holds n
                 at call c.state d row v;
             goes = goes_still calls told b c (ap (λ (v : State S). v.now) row.is) still

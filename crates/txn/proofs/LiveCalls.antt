@@ -10,6 +10,7 @@ use Rattle.std.proofs.lemmas.List.{append-nil, reverse-append}
 use Rattle.calls.specs.declared.call.Call.{Call}
 use Rattle.calls.specs.declared.reply.Reply.{Reply}
 use Rattle.calls.specs.declared.refusal.Refusal.{Refusal}
+use Rattle.calls.specs.declared.when.When.{When}
 use Rattle.calls.specs.Reads.{reads}
 use Rattle.calls.specs.Transactions.{Event, Entry, Asked, PutOff, own, others, calls_of}
 use Rattle.boosted.specs.Meaning.{Meaning}
@@ -22,7 +23,7 @@ use Rattle.machine.proofs.Theory.Lists.{not_same}
 use Rattle.txn.specs.declared.steps.Action.{Action}
 use Rattle.txn.specs.declared.steps.BookStep.{BookStep}
 use Rattle.txn.specs.declared.steps.Target.{Target}
-use Rattle.txn.specs.Rows.{Standing, IsMade, IsUndone, CallAnswers, LaterAnswers, opening}
+use Rattle.txn.specs.Rows.{Standing, IsMade, IsUndone, IsDeferred, AskAnswers, NotFound, opening}
 use Rattle.txn.specs.Histories.{LiveCalls, with_calls, shows, shown_by, no_calls, Adds, Shifts, Row}
 use Rattle.txn.specs.Histories.{IsLegal}
 
@@ -164,19 +165,27 @@ module _ {S : Type 0} (meaning : Meaning S ℕ) (making : Making S) (live : Live
   left n is = subst (AreShown (with_calls live n [])) (sym is)
       (left_shown live b.state.entries shown n)
 
-  put_off : (n p : ℕ) (call : Call) (a : Result (Unit {0}) Refusal) →
-      LaterAnswers meaning making (λ v. v) Adds Shifts b n p call a c → Shown live
-  put_off n p call (Ok done) row = subst (AreShown live)
-      (sym (ap (λ (v : State S). v.entries) row.0.is))
-      (put_off_shown live b.state.entries shown n p call)
-  put_off n p call (Err e) row = stays row.0
+  deferred : (n : ℕ) (e : Event) → IsDeferred meaning making (λ v. v) Adds Shifts b n e c →
+      Shown live
+  deferred n e row = subst (AreShown live) (sym (ap (λ (v : State S). v.entries) row.0.is))
+      (put_off_shown live b.state.entries shown n e.at e.call)
 
-  call_shown : (n p : ℕ) (call : Call) (a : Result Reply Refusal) →
-      CallAnswers meaning making (λ v. v) Adds Shifts b n p call a c →
-      Shown (shows live (Action.Call n (Target.Number p) call a))
-  call_shown n p call (Ok reply) row =
+  asked : (n p : ℕ) (call : Call) (when : When) (a : Result Reply Refusal) →
+      AskAnswers meaning making (λ v. v) Adds Shifts b n p call when a c →
+      Shown (shows live (Action.Ask n (Target.Number p) call when a))
+  asked n p call When.Now (Ok reply) row =
       made (reads call reply) n (record { at = p; call = call; reply = reply }) row.0
-  call_shown n p call (Err e) row = stays row.0
+  asked n p call When.AtCommit (Ok reply) row =
+      deferred n (record { at = p; call = call; reply = reply }) row.0
+  asked n p call When.Now (Err e) row = stays row.0
+  asked n p call When.AtCommit (Err e) row = stays row.0
+
+  not_found : (n : ℕ) (name : List ℕ) (call : Call) (when : When) (a : Result Reply Refusal) →
+      NotFound meaning making (λ v. v) Adds Shifts b name a c →
+      Shown (shows live (Action.Ask n (Target.Named name None) call when a))
+  not_found n name call when (Ok reply) row = absurd row
+  not_found n name call When.Now (Err e) row = stays row.0
+  not_found n name call When.AtCommit (Err e) row = stays row.0
 
   one_shown : (action : Action) → Row meaning making b action c → Shown (shows live action)
   one_shown (Action.Make name kind (Ok place)) row =
@@ -184,18 +193,16 @@ module _ {S : Type 0} (meaning : Meaning S ℕ) (making : Making S) (live : Live
   one_shown (Action.Make name kind (Err e)) row = stays row.0
   one_shown (Action.Enter n (Ok done)) row = unchanged (ap (λ (v : State S). v.entries) row.0.is)
   one_shown (Action.Enter n (Err e)) row = stays row.0
-  one_shown (Action.Call n (Target.Number p) call a) row = call_shown n p call a row
-  one_shown (Action.Call n (Target.Named name (Some p)) call (Ok reply)) row =
-      call_shown n p call (Ok reply) row.1
-  one_shown (Action.Call n (Target.Named name (Some p)) call (Err e)) row = stays row.1.0
-  one_shown (Action.Call n (Target.Named name None) call (Ok reply)) row = absurd row
-  one_shown (Action.Call n (Target.Named name None) call (Err e)) row = stays row.0
-  one_shown (Action.Later n (Target.Number p) call a) row = put_off n p call a row
-  one_shown (Action.Later n (Target.Named name (Some p)) call (Ok done)) row =
-      put_off n p call (Ok done) row.1
-  one_shown (Action.Later n (Target.Named name (Some p)) call (Err e)) row = stays row.1.0
-  one_shown (Action.Later n (Target.Named name None) call (Ok done)) row = absurd row
-  one_shown (Action.Later n (Target.Named name None) call (Err e)) row = stays row.0
+  one_shown (Action.Ask n (Target.Number p) call when a) row = asked n p call when a row
+  one_shown (Action.Ask n (Target.Named name (Some p)) call When.Now (Ok reply)) row =
+      asked n p call When.Now (Ok reply) row.1
+  one_shown (Action.Ask n (Target.Named name (Some p)) call When.Now (Err e)) row = stays row.1.0
+  one_shown (Action.Ask n (Target.Named name (Some p)) call When.AtCommit (Ok reply)) row =
+      asked n p call When.AtCommit (Ok reply) row.1
+  one_shown (Action.Ask n (Target.Named name (Some p)) call When.AtCommit (Err e)) row =
+      stays row.1.0
+  one_shown (Action.Ask n (Target.Named name None) call when a) row =
+      not_found n name call when a row
   one_shown (Action.Commit n (Ok place)) row =
       left n (ap (λ (v : State S). v.entries) row.0.left.is)
   one_shown (Action.Commit n (Err e)) row = stays row.0

@@ -4,6 +4,7 @@ use Rattle.std.proofs.Common.{◌∷◌, ◌++◌, map, refl, sym, ◌∙◌, ap
 use Rattle.std.specs.List.{filter, flat_map}
 use Rattle.std.proofs.lemmas.Grind.{flat_map-append}
 use Rattle.std.proofs.lemmas.List.Elements.{filter-append}
+use Rattle.calls.specs.declared.when.When.{When}
 use Rattle.calls.specs.Reads.{reads, is_journalled, without_reads}
 use Rattle.calls.specs.Transactions.{Event, Entry, Asked, Whole, Made, Act}
 use Rattle.calls.specs.Transactions.{Begins, Asks, Commits, Creates, committed_after, committed}
@@ -15,8 +16,9 @@ use Rattle.txn.specs.declared.steps.Action.{Action}
 use Rattle.txn.specs.declared.steps.BookStep.{BookStep}
 use Rattle.txn.specs.declared.steps.Target.{Target}
 use Rattle.txn.specs.Rows.{record_of}
-use Rattle.txn.specs.Histories.{acts_of_action, committed_by, LiveCalls, shows, no_calls}
-use Rattle.txn.specs.Histories.{back_records, records_of_action, records_after, records_by}
+use Rattle.txn.specs.Histories.{entry_of, acts_of_action, committed_by, LiveCalls, shows, no_calls}
+use Rattle.txn.specs.Histories.{asked_records, back_records, records_of_action, records_after}
+use Rattle.txn.specs.Histories.{records_by}
 
 -- ---- what steps say, and what their records say
 
@@ -31,6 +33,11 @@ call_acts : (b : Bool) (n : ℕ) (e : Event) → reads e.call e.reply ≡ b →
 call_acts true n e is = ap (λ b. cond (not b) (Asks n (Asked e) ∷ []) []) (sym is)
 call_acts false n e is = ap (λ b. cond (not b) (Asks n (Asked e) ∷ []) []) (sym is)
 
+asked_acts : (when : When) (n : ℕ) (e : Event) →
+    acts_of (asked_records when n e) ≡ filter is_told (Asks n (entry_of when e) ∷ [])
+asked_acts When.Now n e = call_acts (reads e.call e.reply) n e refl
+asked_acts When.AtCommit n e = refl
+
 back_acts : (n : ℕ) (es : List Event) → acts_of (back_records n es) ≡ []
 back_acts n [] = refl
 back_acts n (e ∷ es) = by (reads e.call e.reply)
@@ -44,14 +51,11 @@ action_acts : (live : LiveCalls) (a : Action) →
     acts_of (records_of_action live a) ≡ filter is_told (acts_of_action a)
 action_acts live (Action.Make name kind (Ok place)) = refl
 action_acts live (Action.Enter n (Ok done)) = refl
-action_acts live (Action.Call n (Target.Number p) call (Ok reply)) =
-    call_acts (reads call reply) n (record { at = p; call = call; reply = reply }) refl
-action_acts live (Action.Call n (Target.Named name (Some p)) call (Ok reply)) =
-    call_acts (reads call reply) n (record { at = p; call = call; reply = reply }) refl
-action_acts live (Action.Call n (Target.Named name None) call (Ok reply)) = refl
-action_acts live (Action.Later n (Target.Number p) call (Ok done)) = refl
-action_acts live (Action.Later n (Target.Named name (Some p)) call (Ok done)) = refl
-action_acts live (Action.Later n (Target.Named name None) call (Ok done)) = refl
+action_acts live (Action.Ask n (Target.Number p) call when (Ok reply)) =
+    asked_acts when n (record { at = p; call = call; reply = reply })
+action_acts live (Action.Ask n (Target.Named name (Some p)) call when (Ok reply)) =
+    asked_acts when n (record { at = p; call = call; reply = reply })
+action_acts live (Action.Ask n (Target.Named name None) call when (Ok reply)) = refl
 action_acts live (Action.Commit n (Ok place)) = refl
 action_acts live (Action.Back n (Ok true)) = back_acts n (live n)
 action_acts live (Action.Ended n (Ok done)) = refl

@@ -6,6 +6,7 @@ use Rattle.std.proofs.lemmas.List.{append-nil}
 use Rattle.calls.specs.declared.call.Call.{Call}
 use Rattle.calls.specs.declared.reply.Reply.{Reply}
 use Rattle.calls.specs.declared.refusal.Refusal.{Refusal}
+use Rattle.calls.specs.declared.when.When.{When}
 use Rattle.calls.specs.Reads.{reads}
 use Rattle.calls.specs.Transactions.{Leads, Event, Entry}
 use Rattle.undo_log.specs.Entries.{IsNewestCall}
@@ -21,8 +22,7 @@ use Rattle.machine.proofs.Sizes.{append_length, pushed_length}
 use Rattle.blocks.specs.declared.block.Block.{Block}
 use Rattle.txn.specs.declared.steps.Action.{Action}
 use Rattle.txn.specs.declared.steps.Target.{Target}
-use Rattle.txn.specs.Rows.{IsMade, IsUndone, CallAnswers, LaterAnswers, NotFound}
-use Rattle.txn.specs.Rows.{record_of, later_record}
+use Rattle.txn.specs.Rows.{IsMade, IsUndone, AskAnswers, NotFound, record_of, later_record}
 use Rattle.txn.specs.Books.{BookState, standing, Appends, Moves, Takes, CutAnswers}
 use Rattle.txn.specs.Histories.{Adds, Shifts, CutRow, Row, LiveCalls, unless_read, back_records}
 use Rattle.txn.specs.Histories.{records_of_action}
@@ -50,20 +50,16 @@ module _ {S : Type 0} (meaning : Meaning S ℕ) (making : Making S) (b c : BookS
   undone n (inl written) = inl (written.0, adds _ written.1)
   undone n (inr unread) = inr (unread.0, unread.1, ap standing unread.2)
 
-  called : (n p : ℕ) (call : Call) (a : Result Reply Refusal) →
-      CallAnswers meaning making standing Appends Moves b n p call a c →
-      CallAnswers meaning making (λ v. v) Adds Shifts (standing b) n p call a (standing c)
-  called n p call (Ok reply) takes =
+  asked : (n p : ℕ) (call : Call) (when : When) (a : Result Reply Refusal) →
+      AskAnswers meaning making standing Appends Moves b n p call when a c →
+      AskAnswers meaning making (λ v. v) Adds Shifts (standing b) n p call when a (standing c)
+  asked n p call When.Now (Ok reply) takes =
       (made (reads call reply) n (record { at = p; call = call; reply = reply }) takes.0, takes.1)
-  called n p call (Err e) takes = (ap standing takes.0, takes.1)
+  asked n p call When.AtCommit (Ok reply) takes =
+      ((takes.0.0, adds _ takes.0.1, takes.0.2), takes.1)
+  asked n p call when (Err e) takes = (ap standing takes.0, takes.1)
 
-  put_off : (n p : ℕ) (call : Call) (a : Result (Unit {0}) Refusal) →
-      LaterAnswers meaning making standing Appends Moves b n p call a c →
-      LaterAnswers meaning making (λ v. v) Adds Shifts (standing b) n p call a (standing c)
-  put_off n p call (Ok done) takes = (takes.0, takes.1, adds _ takes.2)
-  put_off n p call (Err e) takes = (ap standing takes.0, takes.1)
-
-  not_found : {T : Type 0} (name : List ℕ) (a : Result T Refusal) →
+  not_found : (name : List ℕ) (a : Result Reply Refusal) →
       NotFound meaning making standing Appends Moves b name a c →
       NotFound meaning making (λ v. v) Adds Shifts (standing b) name a (standing c)
   not_found name (Ok done) takes = takes
@@ -76,14 +72,10 @@ module _ {S : Type 0} (meaning : Meaning S ℕ) (making : Making S) (b c : BookS
   taken (Action.Make name kind (Err e)) takes = (ap standing takes.0, takes.1)
   taken (Action.Enter n (Ok done)) takes = (takes.0, takes.1, adds _ takes.2)
   taken (Action.Enter n (Err e)) takes = (ap standing takes.0, takes.1)
-  taken (Action.Call n (Target.Number p) call a) takes = called n p call a takes
-  taken (Action.Call n (Target.Named name (Some p)) call a) takes =
-      (takes.0, called n p call a takes.1)
-  taken (Action.Call n (Target.Named name None) call a) takes = not_found name a takes
-  taken (Action.Later n (Target.Number p) call a) takes = put_off n p call a takes
-  taken (Action.Later n (Target.Named name (Some p)) call a) takes =
-      (takes.0, put_off n p call a takes.1)
-  taken (Action.Later n (Target.Named name None) call a) takes = not_found name a takes
+  taken (Action.Ask n (Target.Number p) call when a) takes = asked n p call when a takes
+  taken (Action.Ask n (Target.Named name (Some p)) call when a) takes =
+      (takes.0, asked n p call when a takes.1)
+  taken (Action.Ask n (Target.Named name None) call when a) takes = not_found name a takes
   taken (Action.Commit n (Ok place)) takes = (takes.0, adds _ takes.1, takes.2)
   taken (Action.Commit n (Err e)) takes = (ap standing takes.0, takes.1)
   taken (Action.Back n (Ok true)) takes = undone n takes
@@ -200,19 +192,16 @@ module _ {S : Type 0} (meaning : Meaning S ℕ) (making : Making S) (b c : BookS
         (read_or true row.call (Record.Back n) row.only_reads
         (none_more moves (unread_unheard b.state c.state n row)))
 
-  call_leaves : (live : LiveCalls) (n p : ℕ) (call : Call) (a : Result Reply Refusal) →
-      CallAnswers meaning making standing Appends Moves b n p call a c →
-      IsTaken meaning making b (records_of_action live (Action.Call n (Target.Number p) call a)) c
-  call_leaves live n p call (Ok reply) takes =
+  asked_leaves : (live : LiveCalls) (n p : ℕ) (call : Call) (when : When)
+      (a : Result Reply Refusal) →
+      AskAnswers meaning making standing Appends Moves b n p call when a c →
+      IsTaken meaning making b (records_of_action live (Action.Ask n (Target.Number p) call when a))
+      c
+  asked_leaves live n p call When.Now (Ok reply) takes =
       call_by (reads call reply) n (record { at = p; call = call; reply = reply }) refl takes.0
-  call_leaves live n p call (Err e) takes = same takes.0
-
-  later_leaves : (live : LiveCalls) (n p : ℕ) (call : Call) (a : Result (Unit {0}) Refusal) →
-      LaterAnswers meaning making standing Appends Moves b n p call a c →
-      IsTaken meaning making b (records_of_action live (Action.Later n (Target.Number p) call a)) c
-  later_leaves live n p call (Ok done) takes = one_more (later_record n p call)
-      (later_told meaning making b.state c.state n p call takes.0) takes.2
-  later_leaves live n p call (Err e) takes = same takes.0
+  asked_leaves live n p call When.AtCommit (Ok reply) takes = one_more (later_record n p call)
+      (later_told meaning making b.state c.state n p call takes.0.0) takes.0.1
+  asked_leaves live n p call when (Err e) takes = same takes.0
 
   pub leaves : (live : LiveCalls) → AreShown live b.state.entries → (action : Action) →
       Takes meaning making b action c →
@@ -223,21 +212,15 @@ module _ {S : Type 0} (meaning : Meaning S ℕ) (making : Making S) (b c : BookS
   leaves live shown (Action.Enter n (Ok done)) takes = one_more (Record.Begin n)
       (begin_told meaning making b.state c.state n takes.0) takes.2
   leaves live shown (Action.Enter n (Err e)) takes = same takes.0
-  leaves live shown (Action.Call n (Target.Number p) call a) takes =
-      call_leaves live n p call a takes
-  leaves live shown (Action.Call n (Target.Named name (Some p)) call (Ok reply)) takes =
-      call_leaves live n p call (Ok reply) takes.1
-  leaves live shown (Action.Call n (Target.Named name (Some p)) call (Err e)) takes = same takes.1.0
-  leaves live shown (Action.Call n (Target.Named name None) call (Ok reply)) takes = absurd takes
-  leaves live shown (Action.Call n (Target.Named name None) call (Err e)) takes = same takes.0
-  leaves live shown (Action.Later n (Target.Number p) call a) takes =
-      later_leaves live n p call a takes
-  leaves live shown (Action.Later n (Target.Named name (Some p)) call (Ok done)) takes =
-      later_leaves live n p call (Ok done) takes.1
-  leaves live shown (Action.Later n (Target.Named name (Some p)) call (Err e)) takes =
+  leaves live shown (Action.Ask n (Target.Number p) call when a) takes =
+      asked_leaves live n p call when a takes
+  leaves live shown (Action.Ask n (Target.Named name (Some p)) call when (Ok reply)) takes =
+      asked_leaves live n p call when (Ok reply) takes.1
+  leaves live shown (Action.Ask n (Target.Named name (Some p)) call when (Err e)) takes =
       same takes.1.0
-  leaves live shown (Action.Later n (Target.Named name None) call (Ok done)) takes = absurd takes
-  leaves live shown (Action.Later n (Target.Named name None) call (Err e)) takes = same takes.0
+  leaves live shown (Action.Ask n (Target.Named name None) call when (Ok reply)) takes =
+      absurd takes
+  leaves live shown (Action.Ask n (Target.Named name None) call when (Err e)) takes = same takes.0
   leaves live shown (Action.Commit n (Ok place)) takes = one_more (Record.Commit n)
       (commit_told meaning making b.state c.state n takes.0) takes.1
   leaves live shown (Action.Commit n (Err e)) takes = same takes.0

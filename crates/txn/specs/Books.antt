@@ -24,6 +24,7 @@ use Rattle.blocks.specs.declared.block.Block.{Block}
 use Rattle.images.specs.declared.effect.Effect.{Effect}
 use Rattle.gathering.specs.Gatherings.{GatheringState, none_begun, noted, AreRun, KeepsGoing}
 use Rattle.gathering.specs.Gatherings.{effect_at, IsInverse}
+use Rattle.calls.specs.declared.when.When.{When}
 use Rattle.txn.specs.declared.steps.Action.{Action}
 use Rattle.txn.specs.declared.steps.Target.{Target}
 use Rattle.txn.specs.Rows.{Standing, Answers}
@@ -112,7 +113,7 @@ NotesRuns meaning making b c =
 -- reads; of an undoing the one that takes the newest call back, if that did not only read and one is
 -- needed; what a commit ran, in its order; of all others none.
 abbrev pub Notes : {S : Type 0} → Meaning S ℕ → BookState S → Action → BookState S → Type 0
-Notes meaning b (Action.Call n (Target.Number at) call (Ok reply)) c =
+Notes meaning b (Action.Ask n (Target.Number at) call When.Now (Ok reply)) c =
     c.gathering ≡ cond (reads call reply) b.gathering (noted b.gathering
     (effect_at (position b + 1) (record { at = at; call = call; reply = reply }) ∷ []))
 Notes meaning b (Action.Commit n (Ok place)) c =

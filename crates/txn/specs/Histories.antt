@@ -4,11 +4,11 @@ use Rattle.std.specs.Prelude.{cond, Bool, true, false}
 use Rattle.std.specs.Prelude.{Some, None, Result, Ok, Err}
 use Rattle.std.specs.List.{flat_map}
 use Rattle.calls.specs.declared.refusal.Refusal.{Refusal}
+use Rattle.calls.specs.declared.when.When.{When}
 use Rattle.calls.specs.Contents.{Collection}
 use Rattle.calls.specs.Reads.{reads}
-use Rattle.calls.specs.Transactions.{Leads, Event, Asked, PutOff, Transaction, Act, Begins, Asks}
-use Rattle.calls.specs.Transactions.{Commits}
-use Rattle.calls.specs.Transactions.{Creates, committed, Serial}
+use Rattle.calls.specs.Transactions.{Leads, Event, Entry, Asked, PutOff, Transaction, Act}
+use Rattle.calls.specs.Transactions.{Begins, Asks, Commits, Creates, committed, Serial}
 use Rattle.calls.specs.Limits.{max_pending}
 use Rattle.record_format.specs.declared.record.Record.{Record}
 use Rattle.record_format.specs.Acts.{places}
@@ -28,14 +28,17 @@ of_target (Target.Number at) f = f at
 of_target (Target.Named name (Some at)) f = f at
 of_target (Target.Named name None) f = []
 
+-- What a call that is asked for enters in the log of its transaction.
+abbrev pub entry_of : When → Event → Entry
+entry_of When.Now e = Asked e
+entry_of When.AtCommit e = PutOff e.at e.call
+
 -- What a step says of transactions. A refused one says nothing.
 abbrev pub acts_of_action : Action → List Act
 acts_of_action (Action.Make name kind (Ok place)) = Creates name kind ∷ []
 acts_of_action (Action.Enter n (Ok done)) = Begins n ∷ []
-acts_of_action (Action.Call n target call (Ok reply)) = of_target target
-    (λ at. Asks n (Asked (record { at = at; call = call; reply = reply })) ∷ [])
-acts_of_action (Action.Later n target call (Ok done)) =
-    of_target target (λ at. Asks n (PutOff at call) ∷ [])
+acts_of_action (Action.Ask n target call when (Ok reply)) = of_target target
+    (λ at. Asks n (entry_of when (record { at = at; call = call; reply = reply })) ∷ [])
 acts_of_action (Action.Commit n (Ok place)) = Commits n ∷ []
 acts_of_action action = []
 
@@ -54,7 +57,7 @@ with_calls live n es = λ m. cond (m == n) es (live m)
 
 -- What steps show of them, with one step more.
 abbrev pub shows : LiveCalls → Action → LiveCalls
-shows live (Action.Call n target call (Ok reply)) = with_calls live n
+shows live (Action.Ask n target call When.Now (Ok reply)) = with_calls live n
     (of_target target (λ at. record { at = at; call = call; reply = reply } ∷ []) ++ live n)
 shows live (Action.Back n (Ok true)) = with_calls live n (drop 1 (live n))
 shows live (Action.Commit n (Ok place)) = with_calls live n []
@@ -75,16 +78,18 @@ abbrev pub back_records : ℕ → List Event → List Record
 back_records n [] = Record.Back n ∷ []
 back_records n (e ∷ es) = unless_read e (Record.Back n)
 
+-- The records of a call that is asked for.
+abbrev pub asked_records : When → ℕ → Event → List Record
+asked_records When.Now n e = unless_read e (record_of n e)
+asked_records When.AtCommit n e = later_record n e.at e.call ∷ []
+
 -- What a step adds to the journal, where these calls are live. A refused one adds nothing, and one
 -- that only reads, or undoes what only read, adds nothing either.
 abbrev pub records_of_action : LiveCalls → Action → List Record
 records_of_action live (Action.Make name kind (Ok place)) = Record.Make kind name ∷ []
 records_of_action live (Action.Enter n (Ok done)) = Record.Begin n ∷ []
-records_of_action live (Action.Call n target call (Ok reply)) = of_target target
-    (λ at. let e : Event = record { at = at; call = call; reply = reply } in
-    unless_read e (record_of n e))
-records_of_action live (Action.Later n target call (Ok done)) =
-    of_target target (λ at. later_record n at call ∷ [])
+records_of_action live (Action.Ask n target call when (Ok reply)) = of_target target
+    (λ at. asked_records when n (record { at = at; call = call; reply = reply }))
 records_of_action live (Action.Commit n (Ok place)) = Record.Commit n ∷ []
 records_of_action live (Action.Back n (Ok true)) = back_records n (live n)
 records_of_action live (Action.Ended n (Ok done)) = Record.Ended n ∷ []

@@ -5,6 +5,7 @@ use Rattle.std.specs.Prelude.{length, Some, None, Result, Ok, Err}
 use Rattle.std.specs.FinMap as maps
 use Rattle.calls.specs.declared.call.Call.{Call}
 use Rattle.calls.specs.declared.reply.Reply.{Reply}
+use Rattle.calls.specs.declared.when.When.{When}
 use Rattle.calls.specs.declared.refusal.Refusal.{Refusal}
 use Rattle.calls.specs.Rules.{need_of, AsksForValue}
 use Rattle.calls.specs.Reads.{reads}
@@ -13,14 +14,16 @@ use Rattle.abstract_locks.specs.Holds.{IsBusy, IsClear}
 use Rattle.undo_log.specs.Entries.{HasNoCall}
 use Rattle.undo_log.specs.Logs.{Lives, Falls}
 use Rattle.ledger.specs.LeftCalls.{GoesTwice}
-use Rattle.boosted.specs.Meaning.{CanAsk, CanDefer, AskRefused, DeferRefused, Meaning}
+use Rattle.boosted.specs.Meaning.{Meaning}
+use Rattle.shelf.specs.Looks.{CanTake, TakeRefused}
 use Rattle.catalog.specs.Making as naming
 use Rattle.catalog.specs.Making.{Making, IsPlaceOf, FindRefused}
 use Rattle.calls.specs.Names.{IsName}
 use Rattle.calls.specs.Limits.{max_live, max_calls, max_pending, number_end}
 use Rattle.record_format.specs.declared.record.Record.{Record}
 use Rattle.record_format.specs.Records.{record_of_call, IsNumber}
-use Rattle.machine.specs.Machine.{State, IsRunning, CanBegin, BeginRow, CommitRow}
+use Rattle.machine.specs.Machine.{State, IsRunning, CanBegin, CanCall, CanPutOff, BeginRow}
+use Rattle.machine.specs.Machine.{CommitRow}
 use Rattle.machine.specs.Machine.{EndedRow, FallRow, MakeRow, CallRow, LaterRow, ReadRow, UnreadRow}
 use Rattle.machine.specs.Machine.{WrittenBackRow}
 use Rattle.machine.specs.Machines.{resting}
@@ -113,28 +116,36 @@ module _ {S : Type 0} (meaning : Meaning S ℕ) where
   AskedInVain b n at call Refusal.NoMemory = AsksForValue call ⊎ IsUnhindered b n at call
   AskedInVain b n at call e = ⊥
 
+  -- A call that could be deferred is refused so, where the transaction has room for it: another one
+  -- holds a need in its way, or none does and memory is wanted.
+  abbrev pub DeferredInVain : Standing S → (n at : ℕ) → Call → Refusal → Type 0
+  DeferredInVain b n at call (Refusal.Busy m) =
+      IsBusy b.state.holds n at (need_of call Reply.Done) m
+  DeferredInVain b n at call Refusal.NoMemory =
+      IsClear b.state.holds n at (need_of call Reply.Done)
+  DeferredInVain b n at call e = ⊥
+
+  -- What the transaction has room for is refused so.
+  abbrev pub IsDenied : When → Standing S → (n at : ℕ) → Call → Refusal → Type 0
+  IsDenied When.Now b n at call e = AskedInVain b n at call e
+  IsDenied When.AtCommit b n at call e = DeferredInVain b n at call e
+
+  -- A client can ask for the call of what the book holds.
+  abbrev pub CanWant : When → Standing S → (at : ℕ) → Call → Type 0
+  CanWant when b at call = CanTake meaning when b.state.format b.state.now at call
+
   -- The book refuses the call so: for a transaction that is running as the collections do, and for
   -- one that has room as above.
-  abbrev pub CallRefused : Standing S → (n at : ℕ) → Call → Refusal → Type 0
-  CallRefused b n at call e =
-      OpenRefused (CanAsk meaning b.state.format b.state.now at call) b n e ⊎
-      ((IsRunning b.state n × AskRefused meaning b.state.format b.state.now at call e) ⊎
-      (IsOpen (CanAsk meaning b.state.format b.state.now at call) b n × AskedInVain b n at call e))
+  abbrev pub RefusesAsk : When → Standing S → (n at : ℕ) → Call → Refusal → Type 0
+  RefusesAsk when b n at call e =
+      OpenRefused (CanWant when b at call) b n e ⊎
+      ((IsRunning b.state n × TakeRefused meaning when b.state.format b.state.now at call e) ⊎
+      (IsOpen (CanWant when b at call) b n × IsDenied when b n at call e))
 
-  -- A call that could be put off is refused so, where the transaction has room for it: another one
-  -- holds a need in its way, or none does and memory is wanted.
-  abbrev pub PutOffInVain : Standing S → (n at : ℕ) → Call → Refusal → Type 0
-  PutOffInVain b n at call (Refusal.Busy m) = IsBusy b.state.holds n at (need_of call Reply.Done) m
-  PutOffInVain b n at call Refusal.NoMemory = IsClear b.state.holds n at (need_of call Reply.Done)
-  PutOffInVain b n at call e = ⊥
-
-  -- The book refuses to put the call off so: for a transaction that is running as the collections
-  -- do, and for one that has room as above.
-  abbrev pub LaterRefused : Standing S → (n at : ℕ) → Call → Refusal → Type 0
-  LaterRefused b n at call e =
-      OpenRefused (CanDefer meaning b.state.now at call) b n e ⊎
-      ((IsRunning b.state n × DeferRefused meaning b.state.now at call e) ⊎
-      (IsOpen (CanDefer meaning b.state.now at call) b n × PutOffInVain b n at call e))
+  -- A running transaction can have the call, answered so: at once, or deferred.
+  abbrev pub CanGet : When → State S → ℕ → Event → Type 0
+  CanGet When.Now s n e = CanCall meaning s n e
+  CanGet When.AtCommit s n e = CanPutOff meaning s n e.at e.call × (e.reply ≡ Reply.Done)
 
 -- The record cannot be appended: the records pending are too many, or memory is wanted.
 abbrev pub AppendRefused : {S : Type 0} → Standing S → Refusal → Type 0
@@ -184,22 +195,27 @@ module _ {S X : Type 0} (meaning : Meaning S ℕ) (making : Making S) (at : X �
       (WrittenBackRow meaning (at x).state n (at y).state × Appends x (Record.Back n) y) ⊎
       (UnreadRow (at x).state n (at y).state × ((at x).pending < max_pending) × Moves x y)
 
-  -- A call on the collection of a number.
-  abbrev pub CallAnswers : X → (n p : ℕ) → Call → Result Reply Refusal → X → Type 0
-  CallAnswers x n p call (Ok reply) y =
-      IsMade (reads call reply) x n (record { at = p; call = call; reply = reply }) y ×
-      ((at x).state.wear < number_end)
-  CallAnswers x n p call (Err e) y = (y ≡ x) × CallRefused meaning (at x) n p call e
+  -- A call is deferred. It is answered Done.
+  abbrev pub IsDeferred : X → ℕ → Event → X → Type 0
+  IsDeferred x n e y =
+      LaterRow meaning (at x).state n e.at e.call (at y).state ×
+      Appends x (later_record n e.at e.call) y × (e.reply ≡ Reply.Done)
 
-  abbrev pub LaterAnswers : X → (n p : ℕ) → Call → Result (Unit {0}) Refusal → X → Type 0
-  LaterAnswers x n p call (Ok done) y =
-      LaterRow meaning (at x).state n p call (at y).state × ((at x).state.wear < number_end) ×
-      Appends x (later_record n p call) y
-  LaterAnswers x n p call (Err e) y = (y ≡ x) × LaterRefused meaning (at x) n p call e
+  -- A call is taken, which gets the reply: made at once, or deferred.
+  abbrev pub IsGranted : When → X → ℕ → Event → X → Type 0
+  IsGranted When.Now x n e y = IsMade (reads e.call e.reply) x n e y
+  IsGranted When.AtCommit x n e y = IsDeferred x n e y
+
+  -- A call on the collection of a number.
+  abbrev pub AskAnswers : X → (n p : ℕ) → Call → When → Result Reply Refusal → X → Type 0
+  AskAnswers x n p call when (Ok reply) y =
+      IsGranted when x n (record { at = p; call = call; reply = reply }) y ×
+      ((at x).state.wear < number_end)
+  AskAnswers x n p call when (Err e) y = (y ≡ x) × RefusesAsk meaning when (at x) n p call e
 
   -- No collection has the name: that is refused, and nothing changes.
-  abbrev pub NotFound : {T : Type 0} → X → List ℕ → Result T Refusal → X → Type 0
-  NotFound x name (Ok done) y = ⊥
+  abbrev pub NotFound : X → List ℕ → Result Reply Refusal → X → Type 0
+  NotFound x name (Ok reply) y = ⊥
   NotFound x name (Err e) y = (y ≡ x) × FindRefused (making.names (at x).state.now) name e
 
   -- The collection of the name has this number.
@@ -218,14 +234,10 @@ module _ {S X : Type 0} (meaning : Meaning S ℕ) (making : Making S) (at : X �
       BeginRow (at x).state n (at y).state × ((at x).state.wear < number_end) ×
       Appends x (Record.Begin n) y
   Answers x (Action.Enter n (Err e)) y = (y ≡ x) × EnterRefused (at x) n e
-  Answers x (Action.Call n (Target.Number p) call a) y = CallAnswers x n p call a y
-  Answers x (Action.Call n (Target.Named name (Some p)) call a) y =
-      IsFound x name p × CallAnswers x n p call a y
-  Answers x (Action.Call n (Target.Named name None) call a) y = NotFound x name a y
-  Answers x (Action.Later n (Target.Number p) call a) y = LaterAnswers x n p call a y
-  Answers x (Action.Later n (Target.Named name (Some p)) call a) y =
-      IsFound x name p × LaterAnswers x n p call a y
-  Answers x (Action.Later n (Target.Named name None) call a) y = NotFound x name a y
+  Answers x (Action.Ask n (Target.Number p) call when a) y = AskAnswers x n p call when a y
+  Answers x (Action.Ask n (Target.Named name (Some p)) call when a) y =
+      IsFound x name p × AskAnswers x n p call when a y
+  Answers x (Action.Ask n (Target.Named name None) call when a) y = NotFound x name a y
   Answers x (Action.Commit n (Ok place)) y =
       CommitRow meaning (at x).state n (at y).state × Appends x (Record.Commit n) y ×
       (place ≡ (at y).places)

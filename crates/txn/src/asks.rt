@@ -1,52 +1,59 @@
-// Calls of transactions on one shelf, at once and put off.
-ghost use Rattle.std.specs.Prelude.{◌≡◌, true, false, Ok, OnOk, OnErr, IfOk, IfErr, IsOkUnless};
+// What transactions ask of one shelf, at once and deferred.
+ghost use Rattle.std.specs.Prelude.{◌≡◌, ◌↔◌, true, false, Ok, OnOk, OnErr, IfOk, IfErr};
+ghost use Rattle.std.specs.Prelude.{IsOkUnless, IsTrue};
 ghost use Rattle.calls.specs.Reads.{reads};
 ghost use Rattle.calls.specs.Rules.{need_of};
 ghost use Rattle.calls.specs.declared.reply.Reply.{Reply};
+ghost use Rattle.calls.specs.declared.when.When.{When};
 ghost use Rattle.undo_log.specs.Entries.{event_of};
 ghost use Rattle.catalog.specs.Fours.{which_of};
-ghost use Rattle.shelf.specs.Looks.{IsLooked, IsLookedLater};
+ghost use Rattle.ledger.specs.LeftCalls.{GoesTwice};
+ghost use Rattle.shelf.specs.Looks.{IsLooked};
 ghost use Rattle.machine.specs.Machine.{IsRunning, CanCall, CanPutOff};
 ghost use Rattle.machine.specs.Wholes.{state_on};
 ghost use Rattle.txn.specs.declared.steps.Action.{Action};
 ghost use Rattle.txn.specs.declared.steps.Target.{Target};
-ghost use Rattle.txn.specs.Rows.{later_record, IsOpen, OpenRefused};
+ghost use Rattle.txn.specs.Rows.{later_record, CanGet, IsOpen, OpenRefused};
 ghost use Rattle.txn.specs.Shelved.{standing_of, IsOfBook, LeadsOn, Serves};
 
 use crate::Journal;
 use calls::limits::{MAX_CALLS, NUMBER_END};
-use calls::{Call, Need, Refusal, Reply};
+use calls::{Call, Need, Refusal, Reply, When};
 use catalog::Parts;
 use records::{Coded, LaterRecord, Record, call_len, encoded_len, fits_call, fits_reply};
 use shelf::{Looked, Shelf};
 use undo_log::{Later, Logged};
 
 impl<B: Parts + Coded> Journal<B> {
-    /// The transaction's call on the collection of a number, made at once under the need that it
-    /// has with its reply. It is what `Shelf::look` came to on the shelf of the number, which has
-    /// not changed since. A call that only reads is not journalled: no record waits for it, and it
-    /// does not wear. Its need is held to the end as that of another.
+    /// What the transaction asks of the collection of a number, under the need that the call has
+    /// with its reply: at once, or deferred to its commit, where it is Done. It is what
+    /// `Shelf::look` came to on the shelf of the number, which has not changed since. A call that
+    /// only reads is not journalled: no record waits for it, and it does not wear. Its need is held
+    /// to the end as that of another. Until the commit a deferred call shows in no reply, not even
+    /// to its own transaction.
     ///
-    /// NoSuchTxn, Falling, what the look was refused with, Worn, TooManyCalls at 1,024 calls and
-    /// laters, Backlog, NoMemory where the look starved, AlreadyGoing where the transaction left to
-    /// its commit already what this call would leave, Busy as the look says, NoMemory. Each leaves
-    /// journal and shelf as before.
-    pub fn call(
+    /// NoSuchTxn, Falling, what the look was refused with, Worn, TooManyCalls where the transaction
+    /// asked for 1,024, Backlog, NoMemory where the look starved, AlreadyGoing where the transaction
+    /// left to its commit already what this call would leave, Busy as the look says, NoMemory. Each
+    /// leaves journal and shelf as before.
+    pub fn ask(
         &mut self,
         shelf: &mut Shelf<B::Shelf>,
         number: u64,
         at: u8,
         call: &Call,
+        when: When,
         looked: Looked,
     ) -> Result<Reply, Refusal>
         requires kept { IsOfBook B.meaning B.making B.collections B.whole B.fits (which_of at)
             self.old shelf.old }
-        requires looked { IsLooked B.Shelf.meaning self.old.accounts.format shelf.old number at
+        requires looked { IsLooked B.Shelf.meaning when self.old.accounts.format shelf.old number at
             call.now looked }
-        ensures { LeadsOn B.meaning B.making B.collections B.whole B.fits
+        ensures step { LeadsOn B.meaning B.making B.collections B.whole B.fits
             (Serves B.meaning B.making B.collections
-            (Action.Call number (Target.Number at) call.now) result) (which_of at) self.old
+            (Action.Ask number (Target.Number at) call.now when) result) (which_of at) self.old
             shelf.old self.new shelf.new }
+        ensures deferred { IfOk result (λ reply. when ≡ When.AtCommit → reply ≡ Reply.Done) }
     {
         self.check_running(number)?;
         match looked {
@@ -57,81 +64,61 @@ impl<B: Parts + Coded> Journal<B> {
             }
             Looked::Answered { reply, need, clear } => {
                 self.check_room(number)?;
-                if self.accounts.goes_twice(number, at, call, &reply) {
+                if self.goes_twice(number, at, call, when, &reply) {
                     return Err(Refusal::AlreadyGoing);
                 }
                 clear?;
-                self.make_call(shelf, number, at, call, &reply, need)?;
+                self.take(shelf, number, at, call, when, &reply, need)?;
                 Ok(reply)
             }
         }
     }
 
-    /// Puts the call off to the transaction's commit, under the need that it has with the reply
-    /// Done. It is what `Shelf::look_later` came to on the shelf of the number, which has not
-    /// changed since. Until the commit it shows in no reply, not even to its own transaction.
-    ///
-    /// NoSuchTxn, Falling, what the look was refused with, Worn, TooManyCalls at 1,024 calls and
-    /// laters, Backlog, Busy as the look says, NoMemory. Each leaves journal and shelf as before.
-    pub fn later(
-        &mut self,
-        shelf: &mut Shelf<B::Shelf>,
-        number: u64,
-        at: u8,
-        call: &Call,
-        looked: Looked,
-    ) -> Result<(), Refusal>
-        requires kept { IsOfBook B.meaning B.making B.collections B.whole B.fits (which_of at)
-            self.old shelf.old }
-        requires looked { IsLookedLater B.Shelf.meaning shelf.old number at call.now looked }
-        ensures { LeadsOn B.meaning B.making B.collections B.whole B.fits
-            (Serves B.meaning B.making B.collections
-            (Action.Later number (Target.Number at) call.now) result) (which_of at) self.old
-            shelf.old self.new shelf.new }
+    // Whether the call, answered so, would leave to the commit what is going already.
+    fn goes_twice(&self, number: u64, at: u8, call: &Call, when: When, reply: &Reply) -> bool
+        ensures { IsTrue result ↔ (when ≡ When.Now) × GoesTwice self.now.accounts.entries number
+            (record { at = at; call = call.now; reply = reply.now }) }
     {
-        self.check_running(number)?;
-        match looked {
-            Looked::Refused(refusal) => Err(refusal),
-            Looked::Starved => unreachable!(),
-            Looked::Answered {
-                reply: _reply,
-                need,
-                clear,
-            } => {
-                self.check_room(number)?;
-                clear?;
-                self.put_off(shelf, number, at, call, need)
-            }
+        match when {
+            When::Now => self.accounts.goes_twice(number, at, call, reply),
+            When::AtCommit => false,
         }
     }
 
-    // Makes the call that gets the reply, under its record unless it only reads.
-    fn make_call(
+    // Takes the call that can get the reply: makes it, or defers it, under its record unless it only
+    // reads.
+    fn take(
         &mut self,
         shelf: &mut Shelf<B::Shelf>,
         number: u64,
         at: u8,
         call: &Call,
+        when: When,
         reply: &Reply,
         need: Need,
     ) -> Result<(), Refusal>
         requires kept { IsOfBook B.meaning B.making B.collections B.whole B.fits (which_of at)
             self.old shelf.old }
         requires open { IsOpen (Unit {0}) (standing_of self.old) number }
-        requires can { CanCall B.Shelf.meaning (state_on self.old.accounts shelf.old) number
+        requires can { CanGet B.Shelf.meaning when (state_on self.old.accounts shelf.old) number
             (record { at = at; call = call.now; reply = reply.now }) }
         requires needed { need ≡ need_of call.now reply.now }
         ensures ok { OnOk result (LeadsOn B.meaning B.making B.collections B.whole B.fits
             (Serves B.meaning B.making B.collections
-            (Action.Call number (Target.Number at) call.now) (Ok reply.now)) (which_of at) self.old
-            shelf.old self.new shelf.new) }
+            (Action.Ask number (Target.Number at) call.now when) (Ok reply.now)) (which_of at)
+            self.old shelf.old self.new shelf.new) }
         ensures same { OnErr result ((self.new ≡ self.old) × (shelf.new ≡ shelf.old)) }
         ensures refusal { IsOkUnless result Refusal.NoMemory }
     {
-        if call.reads(reply) {
-            self.note_read(shelf, number, at, call, reply, need)
-        } else {
-            self.note_call(shelf, number, at, call, reply, need)
+        match when {
+            When::Now => {
+                if call.reads(reply) {
+                    self.note_read(shelf, number, at, call, reply, need)
+                } else {
+                    self.note_call(shelf, number, at, call, reply, need)
+                }
+            }
+            When::AtCommit => self.defer(shelf, number, at, call, need),
         }
     }
 
@@ -154,8 +141,8 @@ impl<B: Parts + Coded> Journal<B> {
         requires only_reads { reads call.now reply.now ≡ true }
         ensures ok { OnOk result (LeadsOn B.meaning B.making B.collections B.whole B.fits
             (Serves B.meaning B.making B.collections
-            (Action.Call number (Target.Number at) call.now) (Ok reply.now)) (which_of at) self.old
-            shelf.old self.new shelf.new) }
+            (Action.Ask number (Target.Number at) call.now When.Now) (Ok reply.now)) (which_of at)
+            self.old shelf.old self.new shelf.new) }
         ensures same { OnErr result ((self.new ≡ self.old) × (shelf.new ≡ shelf.old)) }
         ensures refusal { IsOkUnless result Refusal.NoMemory }
     {
@@ -182,8 +169,8 @@ impl<B: Parts + Coded> Journal<B> {
         requires written { reads call.now reply.now ≡ false }
         ensures ok { OnOk result (LeadsOn B.meaning B.making B.collections B.whole B.fits
             (Serves B.meaning B.making B.collections
-            (Action.Call number (Target.Number at) call.now) (Ok reply.now)) (which_of at) self.old
-            shelf.old self.new shelf.new) }
+            (Action.Ask number (Target.Number at) call.now When.Now) (Ok reply.now)) (which_of at)
+            self.old shelf.old self.new shelf.new) }
         ensures same { OnErr result ((self.new ≡ self.old) × (shelf.new ≡ shelf.old)) }
         ensures refusal { IsOkUnless result Refusal.NoMemory }
     {
@@ -199,8 +186,8 @@ impl<B: Parts + Coded> Journal<B> {
         Ok(())
     }
 
-    // Puts the call off, under its record.
-    fn put_off(
+    // Defers the call, under its record.
+    fn defer(
         &mut self,
         shelf: &mut Shelf<B::Shelf>,
         number: u64,
@@ -216,8 +203,8 @@ impl<B: Parts + Coded> Journal<B> {
         requires needed { need ≡ need_of call.now Reply.Done }
         ensures ok { OnOk result (LeadsOn B.meaning B.making B.collections B.whole B.fits
             (Serves B.meaning B.making B.collections
-            (Action.Later number (Target.Number at) call.now) result) (which_of at) self.old
-            shelf.old self.new shelf.new) }
+            (Action.Ask number (Target.Number at) call.now When.AtCommit) (Ok Reply.Done))
+            (which_of at) self.old shelf.old self.new shelf.new) }
         ensures same { OnErr result ((self.new ≡ self.old) × (shelf.new ≡ shelf.old)) }
         ensures refusal { IsOkUnless result Refusal.NoMemory }
     {
@@ -261,7 +248,7 @@ fn logged(at: u8, call: &Call, reply: &Reply) -> Result<Logged, Refusal>
     })
 }
 
-// The record of a call that is put off.
+// The record of a deferred call.
 fn later_record(number: u64, at: u8, call: &Call) -> Result<Record, Refusal>
     ensures ok { IfOk result (λ entry. entry ≡ later_record number at call.now) }
     ensures refusal { IsOkUnless result Refusal.NoMemory }

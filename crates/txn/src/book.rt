@@ -5,6 +5,8 @@ ghost use Rattle.std.specs.FinMap as maps;
 ghost use Rattle.std.specs.Option.{option_map};
 ghost use Rattle.calls.specs.Contents.{kind_of_content};
 ghost use Rattle.calls.specs.Names.{IsName};
+ghost use Rattle.calls.specs.declared.reply.Reply.{Reply};
+ghost use Rattle.calls.specs.declared.when.When.{When};
 ghost use Rattle.calls.specs.Transactions.{Whole, own, laters_of};
 ghost use Rattle.undo_log.specs.Entries.{stamped_entry};
 ghost use Rattle.calls.specs.Limits.{max_collections, number_end, max_wear};
@@ -28,7 +30,7 @@ ghost use Rattle.txn.specs.Undoings.{undo_count};
 use crate::Journal;
 use blocks::{NextBlock, Outbox};
 use boosted::Boosted;
-use calls::{Call, Format, Kind, Refusal, Reply};
+use calls::{Call, Format, Kind, Refusal, Reply, When};
 use catalog::{Four, Parts};
 use images::Gather;
 use records::Coded;
@@ -206,48 +208,31 @@ impl<B: Parts + Coded> Book<B> {
         self.journal.enter(number)
     }
 
-    /// The transaction's call on a collection, made at once under the need that it has with its
-    /// reply. A call that only reads is not journalled: no record waits for it, and it does not
-    /// wear. Its need is held to the end as that of another.
+    /// What the transaction asks of a collection, under the need that the call has with its reply:
+    /// at once, or deferred to its commit, where it is Done. A call that only reads is not
+    /// journalled: no record waits for it, and it does not wear. Its need is held to the end as that
+    /// of another. Until the commit a deferred call shows in no reply, not even to its own
+    /// transaction.
     ///
-    /// NoSuchTxn, Falling, NoSuchCollection, WrongKind, BadArg for a call that no client can ask,
-    /// TooLong, Worn, TooManyCalls at 1,024 calls and laters, Backlog, NoMemory in the look-up for
-    /// a value, AlreadyGoing where the transaction left to its commit already what this call would
-    /// leave, Busy with the least other transaction that holds a need in the way, NoMemory.
-    pub fn call(&mut self, number: u64, col: u8, call: &Call) -> Result<Reply, Refusal>
+    /// NoSuchTxn, Falling, NoSuchCollection, WrongKind, BadArg for a call that no client can ask so,
+    /// TooLong, Worn, TooManyCalls where the transaction asked for 1,024, Backlog, NoMemory in the
+    /// look-up for a value, AlreadyGoing where the transaction left to its commit already what this
+    /// call would leave, Busy with the least other transaction that holds a need in the way,
+    /// NoMemory.
+    pub fn ask(&mut self, number: u64, at: u8, call: &Call, when: When) -> Result<Reply, Refusal>
         ensures answer { Takes B.meaning B.making self.old
-            (Action.Call number (Target.Number col) call.now result) self.new }
+            (Action.Ask number (Target.Number at) call.now when result) self.new }
         ensures settled { (c : B) → IsSettled B.meaning self.old.state c →
             IsSettled B.meaning self.new.state c }
         ensures goes { OnOk result (GoesOn B.meaning B.making B.collections self.old self.new) }
         ensures notes { OnOk result (Notes B.meaning self.old
-            (Action.Call number (Target.Number col) call.now result) self.new) }
+            (Action.Ask number (Target.Number at) call.now when result) self.new) }
+        ensures deferred { IfOk result (λ reply. when ≡ When.AtCommit → reply ≡ Reply.Done) }
     {
         let Self { shelves, journal } = self;
-        let shelf = shelves.of_mut(col);
-        let looked = shelf.look(journal.format(), number, col, call);
-        journal.call(shelf, number, col, call, looked)
-    }
-
-    /// Puts the call off to the transaction's commit, under the need that it has with the reply
-    /// Done. Until then it shows in no reply, not even to its own transaction.
-    ///
-    /// NoSuchTxn, Falling, NoSuchCollection, WrongKind, BadArg for a call that cannot be put off,
-    /// Worn, TooManyCalls at 1,024 calls and laters, Backlog, Busy with the least other transaction
-    /// that holds a need in the way, NoMemory.
-    pub fn later(&mut self, number: u64, col: u8, call: &Call) -> Result<(), Refusal>
-        ensures answer { Takes B.meaning B.making self.old
-            (Action.Later number (Target.Number col) call.now result) self.new }
-        ensures settled { (c : B) → IsSettled B.meaning self.old.state c →
-            IsSettled B.meaning self.new.state c }
-        ensures goes { OnOk result (GoesOn B.meaning B.making B.collections self.old self.new) }
-        ensures notes { OnOk result (Notes B.meaning self.old
-            (Action.Later number (Target.Number col) call.now result) self.new) }
-    {
-        let Self { shelves, journal } = self;
-        let shelf = shelves.of_mut(col);
-        let looked = shelf.look_later(number, col, call);
-        journal.later(shelf, number, col, call, looked)
+        let shelf = shelves.of_mut(at);
+        let looked = shelf.look(journal.format(), number, at, call, when);
+        journal.ask(shelf, number, at, call, when, looked)
     }
 
     /// Commits the transaction: what it put off, and what its calls left, runs in the order asked,

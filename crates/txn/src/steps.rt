@@ -1,5 +1,5 @@
 // The steps of a book with their answers: what every history of it is a list of.
-use calls::{Call, Kind, Name, Refusal, Reply};
+use calls::{Call, Kind, Name, Refusal, Reply, When};
 
 /// The collection that a step was asked for.
 pub enum Target {
@@ -17,10 +17,8 @@ pub enum Action {
     Make(Name, Kind, Result<u64, Refusal>),
     /// Makes a number live.
     Enter(u64, Result<(), Refusal>),
-    /// A call of a live transaction on a collection.
-    Call(u64, Target, Call, Result<Reply, Refusal>),
-    /// A call that a live transaction puts off to its commit.
-    Later(u64, Target, Call, Result<(), Refusal>),
+    /// A live transaction asks a collection for a call, at once or deferred to its commit.
+    Ask(u64, Target, Call, When, Result<Reply, Refusal>),
     /// Commits a live transaction. It answers the count of commits and makes, this one included.
     Commit(u64, Result<u64, Refusal>),
     /// Undoes the newest call of a live transaction. It answers whether there was one.

@@ -6,7 +6,7 @@ ghost use Rattle.std.specs.Prelude.{vec_capacity, take, drop};
 ghost use Rattle.std.specs.FinMap as maps;
 ghost use Rattle.slab.specs.Slab.{get};
 ghost use Rattle.calls.specs.Transactions as transactions;
-ghost use Rattle.calls.specs.Transactions.{own, others, Asked, PutOff, calls_of};
+ghost use Rattle.calls.specs.Transactions.{own, others, calls_of};
 ghost use Rattle.undo_log.specs.Entries.{event_of, entry_of, stamped_entry, owned_entry, HasNoCall};
 ghost use Rattle.undo_log.specs.Entries.{HasNewestCall, IsNewestCall, IsNewestPlace};
 ghost use Rattle.undo_log.specs.Logs.{Log, IsLive, IsFalling, HasRoom, KeepsRoom, fallen, live_of};
@@ -17,7 +17,7 @@ ghost use Rattle.undo_log.specs.Index.{AreRising, IsIndex, IsGapFor};
 ghost use Rattle.undo_log.specs.declared.live.Transaction.{Transaction};
 ghost use Rattle.undo_log.specs.declared.live.Seat.{Seat};
 
-use crate::{Entry, Later, Logged, Owned, Stamped};
+use crate::{Entry, Logged, Owned, Stamped};
 use calls::Refusal;
 use slab::Slab;
 use std::alloc::Global;
@@ -222,8 +222,9 @@ impl Live {
         Ok(())
     }
 
-    // Notes the entry of the transaction as the newest one.
-    fn push(&mut self, number: u64, entry: Entry)
+    /// Notes what the transaction asks for as the newest entry, for which there is room. One search;
+    /// it takes no memory.
+    pub fn push(&mut self, number: u64, entry: Entry)
         requires live { IsLive self.old number }
         requires room { HasRoom self.old number }
         ensures entries { self.new.entries ≡ self.old.entries ++ (number, entry_of entry) ∷ [] }
@@ -238,29 +239,6 @@ impl Live {
             .push_reserved(Stamped { stamp, entry });
         self.next += 1;
         self.count += 1;
-    }
-
-    /// Notes a call of the transaction as the newest entry. One search; it takes no memory.
-    pub fn push_call(&mut self, number: u64, logged: Logged)
-        requires live { IsLive self.old number }
-        requires room { HasRoom self.old number }
-        ensures entries { self.new.entries ≡ self.old.entries ++ (number, Asked (event_of logged)) ∷
-            [] }
-        ensures live { self.new.live ≡ self.old.live }
-    {
-        self.push(number, Entry::Asked(logged));
-    }
-
-    /// Notes a call that the transaction puts off to its commit as the newest entry. One search; it
-    /// takes no memory.
-    pub fn push_later(&mut self, number: u64, later: Later)
-        requires live { IsLive self.old number }
-        requires room { HasRoom self.old number }
-        ensures entries { self.new.entries ≡ self.old.entries ++
-            (number, PutOff later.at later.call) ∷ [] }
-        ensures live { self.new.live ≡ self.old.live }
-    {
-        self.push(number, Entry::PutOff(later));
     }
 
     /// The newest call of the transaction, those that it put off not counted. One search, and a

@@ -16,8 +16,7 @@ pub core_answered : (s : BookState) (waiting : List Block) (mark : ℕ) (x : Ste
 core_answered s waiting mark (Step.Draw, a) t waits step = step.0
 core_answered s waiting mark (Step.Make name kind, a) t waits step = step.0
 core_answered s waiting mark (Step.Enter n, a) t waits step = step.0
-core_answered s waiting mark (Step.Call n at call, a) t waits step = step.0
-core_answered s waiting mark (Step.Later n at call, a) t waits step = step.0
+core_answered s waiting mark (Step.Ask n at call when, a) t waits step = step.0
 core_answered s waiting mark (Step.Commit n, a) t waits step = step.0
 core_answered s waiting mark (Step.Back n, a) t waits step = step.0
 core_answered s waiting mark (Step.Ended n, a) t waits step = step.0

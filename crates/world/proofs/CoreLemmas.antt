@@ -3,6 +3,7 @@ use Rattle.std.proofs.Common.{◌≡◌, ℕ, ◌≤◌, Bool, List, ◌++◌, l
 use Rattle.std.proofs.Common.{Ok, Err}
 use Rattle.std.specs.List.{AllByRecursion}
 use Rattle.calls.specs.declared.call.Call.{Call}
+use Rattle.calls.specs.declared.when.When.{When}
 use Rattle.calls.specs.declared.kind.Kind.{Kind}
 use Rattle.calls.specs.declared.reply.Reply.{Reply}
 use Rattle.calls.specs.declared.refusal.Refusal.{Refusal}
@@ -45,17 +46,11 @@ enter_row : (s t : BookState) (n : ℕ) (r : Result (Unit {0}) Refusal) →
 enter_row s t n (Ok done) row = (tt, row)
 enter_row s t n (Err e) row = (tt, row)
 
-call_row : (s t : BookState) (n at : ℕ) (call : Call) (r : Result Reply Refusal) →
-    Takes s (Action.Call n (Target.Number at) call r) t →
-    Took s (Step.Call n at call) (outcome Answer.Replied r) t
-call_row s t n at call (Ok reply) row = (tt, row)
-call_row s t n at call (Err e) row = (tt, row)
-
-later_row : (s t : BookState) (n at : ℕ) (call : Call) (r : Result (Unit {0}) Refusal) →
-    Takes s (Action.Later n (Target.Number at) call r) t →
-    Took s (Step.Later n at call) (outcome (alone Answer.PutOff) r) t
-later_row s t n at call (Ok done) row = (tt, row)
-later_row s t n at call (Err e) row = (tt, row)
+ask_row : (s t : BookState) (n at : ℕ) (call : Call) (when : When) (r : Result Reply Refusal) →
+    Takes s (Action.Ask n (Target.Number at) call when r) t →
+    Took s (Step.Ask n at call when) (outcome Answer.Replied r) t
+ask_row s t n at call when (Ok reply) row = (tt, row)
+ask_row s t n at call when (Err e) row = (tt, row)
 
 commit_row : (s t : BookState) (n : ℕ) (r : Result ℕ Refusal) → Takes s (Action.Commit n r) t →
     Took s (Step.Commit n) (outcome Answer.Placed r) t
@@ -185,22 +180,14 @@ module _ {D : Type 0} (g : Ghosts D) (w : Whole D)
         core_taken (Step.Enter n, outcome (alone Answer.Entered) r) t w.transit w.next w.undoing good
         (row.0, row.1, refl) refl ((row.0, row.1, refl), refl, refl, refl, refl, (refl, refl))
 
-    pub call_taken : (n at : ℕ) (call : Call) (r : Result Reply Refusal) →
-        Takes w.book (Action.Call n (Target.Number at) call r) t →
-        TakesStep g w (Step.Call n at call, outcome Answer.Replied r) (record w { book = t })
-    call_taken n at call r called =
-        let row = call_row w.book t n at call r called in
-        core_taken (Step.Call n at call, outcome Answer.Replied r) t w.transit w.next w.undoing good
-        (row.0, row.1, refl) refl ((row.0, row.1, refl), refl, refl, refl, refl, (refl, refl))
-
-    pub later_taken : (n at : ℕ) (call : Call) (r : Result (Unit {0}) Refusal) →
-        Takes w.book (Action.Later n (Target.Number at) call r) t →
-        TakesStep g w (Step.Later n at call, outcome (alone Answer.PutOff) r)
-        (record w { book = t })
-    later_taken n at call r put_off =
-        let row = later_row w.book t n at call r put_off in
-        core_taken (Step.Later n at call, outcome (alone Answer.PutOff) r) t w.transit w.next w.undoing good
-        (row.0, row.1, refl) refl ((row.0, row.1, refl), refl, refl, refl, refl, (refl, refl))
+    pub ask_taken : (n at : ℕ) (call : Call) (when : When) (r : Result Reply Refusal) →
+        Takes w.book (Action.Ask n (Target.Number at) call when r) t →
+        TakesStep g w (Step.Ask n at call when, outcome Answer.Replied r) (record w { book = t })
+    ask_taken n at call when r asked =
+        let row = ask_row w.book t n at call when r asked in
+        core_taken (Step.Ask n at call when, outcome Answer.Replied r) t w.transit w.next w.undoing
+        good (row.0, row.1, refl) refl
+        ((row.0, row.1, refl), refl, refl, refl, refl, (refl, refl))
 
     pub commit_taken : (n : ℕ) (r : Result ℕ Refusal) →
         Takes w.book (Action.Commit n r) t →

@@ -6,6 +6,7 @@ use Rattle.std.proofs.Common.{length-append, true, false}
 use Rattle.std.specs.Prelude.{OnOk, OnErr}
 use Rattle.std.proofs.lemmas.Bool.{eqb-true}
 use Rattle.calls.specs.declared.call.Call.{Call}
+use Rattle.calls.specs.declared.when.When.{When}
 use Rattle.calls.specs.declared.kind.Kind.{Kind}
 use Rattle.calls.specs.declared.reply.Reply.{Reply}
 use Rattle.calls.specs.declared.refusal.Refusal.{Refusal}
@@ -62,15 +63,11 @@ pub enter_same : (s t : BookState) (n : ℕ) (r : Result (Unit {0}) Refusal) →
 enter_same s t n (Ok done) took = tt
 enter_same s t n (Err e) took = took.0
 
-pub call_same : (s t : BookState) (n at : ℕ) (call : Call) (r : Result Reply Refusal) →
-    Takes s (Action.Call n (Target.Number at) call r) t → OnErr r (t ≡ s)
-call_same s t n at call (Ok reply) took = tt
-call_same s t n at call (Err e) took = took.0
-
-pub later_same : (s t : BookState) (n at : ℕ) (call : Call) (r : Result (Unit {0}) Refusal) →
-    Takes s (Action.Later n (Target.Number at) call r) t → OnErr r (t ≡ s)
-later_same s t n at call (Ok done) took = tt
-later_same s t n at call (Err e) took = took.0
+pub ask_same : (s t : BookState) (n at : ℕ) (call : Call) (when : When)
+    (r : Result Reply Refusal) →
+    Takes s (Action.Ask n (Target.Number at) call when r) t → OnErr r (t ≡ s)
+ask_same s t n at call when (Ok reply) took = tt
+ask_same s t n at call when (Err e) took = took.0
 
 pub commit_same : (s t : BookState) (n : ℕ) (r : Result ℕ Refusal) →
     Takes s (Action.Commit n r) t → OnErr r (t ≡ s)

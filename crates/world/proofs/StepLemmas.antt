@@ -129,8 +129,7 @@ uncut : (b : BookState) (action : Action) (t : BookState) →
 uncut b (Action.Cut count a) t took = absurd took
 uncut b (Action.Make name kind a) t took = refl
 uncut b (Action.Enter n a) t took = refl
-uncut b (Action.Call n target call a) t took = refl
-uncut b (Action.Later n target call a) t took = refl
+uncut b (Action.Ask n target call when a) t took = refl
 uncut b (Action.Commit n a) t took = refl
 uncut b (Action.Back n a) t took = refl
 uncut b (Action.Ended n a) t took = refl
@@ -386,11 +385,8 @@ module _ {D : Type 0} (seen : D → List ℕ) (may_leave : D → List ℕ → Ty
   core_past (Step.Enter n, a) t waits good step =
       book_takes (Step.Enter n, a) (action_of (Step.Enter n) a) t waits refl (omega arith) step.1
       good step.2
-  core_past (Step.Call n at call, a) t waits good step =
-      book_takes (Step.Call n at call, a) (action_of (Step.Call n at call) a) t waits refl
-      (omega arith) step.1 good step.2
-  core_past (Step.Later n at call, a) t waits good step =
-      book_takes (Step.Later n at call, a) (action_of (Step.Later n at call) a) t waits refl
+  core_past (Step.Ask n at call when, a) t waits good step =
+      book_takes (Step.Ask n at call when, a) (action_of (Step.Ask n at call when) a) t waits refl
       (omega arith) step.1 good step.2
   core_past (Step.Commit n, a) t waits good step =
       book_takes (Step.Commit n, a) (action_of (Step.Commit n) a) t waits refl (omega arith) step.1

@@ -29,14 +29,10 @@ action_of (Step.Make name kind) (Answer.Placed place) = Some (Action.Make name k
 action_of (Step.Make name kind) (Answer.Refused e) = Some (Action.Make name kind (Err e))
 action_of (Step.Enter n) Answer.Entered = Some (Action.Enter n (Ok tt))
 action_of (Step.Enter n) (Answer.Refused e) = Some (Action.Enter n (Err e))
-action_of (Step.Call n at call) (Answer.Replied reply) =
-    Some (Action.Call n (Target.Number at) call (Ok reply))
-action_of (Step.Call n at call) (Answer.Refused e) =
-    Some (Action.Call n (Target.Number at) call (Err e))
-action_of (Step.Later n at call) Answer.PutOff =
-    Some (Action.Later n (Target.Number at) call (Ok tt))
-action_of (Step.Later n at call) (Answer.Refused e) =
-    Some (Action.Later n (Target.Number at) call (Err e))
+action_of (Step.Ask n at call when) (Answer.Replied reply) =
+    Some (Action.Ask n (Target.Number at) call when (Ok reply))
+action_of (Step.Ask n at call when) (Answer.Refused e) =
+    Some (Action.Ask n (Target.Number at) call when (Err e))
 action_of (Step.Commit n) (Answer.Placed place) = Some (Action.Commit n (Ok place))
 action_of (Step.Commit n) (Answer.Refused e) = Some (Action.Commit n (Err e))
 action_of (Step.Back n) (Answer.Backed undone) = Some (Action.Back n (Ok undone))
@@ -96,10 +92,8 @@ IsAnswerOf (Step.Make name kind) (Answer.Placed place) = Unit {0}
 IsAnswerOf (Step.Make name kind) (Answer.Refused e) = Unit {0}
 IsAnswerOf (Step.Enter n) Answer.Entered = Unit {0}
 IsAnswerOf (Step.Enter n) (Answer.Refused e) = Unit {0}
-IsAnswerOf (Step.Call n at call) (Answer.Replied reply) = Unit {0}
-IsAnswerOf (Step.Call n at call) (Answer.Refused e) = Unit {0}
-IsAnswerOf (Step.Later n at call) Answer.PutOff = Unit {0}
-IsAnswerOf (Step.Later n at call) (Answer.Refused e) = Unit {0}
+IsAnswerOf (Step.Ask n at call when) (Answer.Replied reply) = Unit {0}
+IsAnswerOf (Step.Ask n at call when) (Answer.Refused e) = Unit {0}
 IsAnswerOf (Step.Commit n) (Answer.Placed place) = Unit {0}
 IsAnswerOf (Step.Commit n) (Answer.Refused e) = Unit {0}
 IsAnswerOf (Step.Back n) (Answer.Backed undone) = Unit {0}

@@ -1,5 +1,5 @@
 // What the core does, one step at a time, and what each step is answered.
-use calls::{Call, Kind, Name, Refusal, Reply};
+use calls::{Call, Kind, Name, Refusal, Reply, When};
 use checkpoint::Turn;
 
 /// A step of the core. Numbers are those of transactions; a collection goes by its number.
@@ -11,11 +11,9 @@ pub enum Step {
     Make(Name, Kind),
     /// Makes a number live.
     Enter(u64),
-    /// A call of a live transaction on a collection.
-    Call(u64, u8, Call),
-    /// A call that a live transaction puts off to its commit.
-    Later(u64, u8, Call),
-    /// Commits a live transaction: what it put off runs.
+    /// What a live transaction asks of a collection, at once or deferred to its commit.
+    Ask(u64, u8, Call, When),
+    /// Commits a live transaction: what it deferred runs.
     Commit(u64),
     /// Undoes the newest call of a live transaction.
     Back(u64),
@@ -47,9 +45,8 @@ pub enum Answer {
     /// The count of commits and makes since the store was opened, this one included.
     Placed(u64),
     Entered,
+    /// The reply; Done to a call that will run at the commit.
     Replied(Reply),
-    /// The call will run at the commit.
-    PutOff,
     /// Whether a call was undone.
     Backed(bool),
     Ended,

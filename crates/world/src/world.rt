@@ -21,7 +21,7 @@ ghost use Rattle.world.specs.OneStep.{parts, TakesStep};
 use crate::steps::{Answer, Step};
 use crate::transit::Transit;
 use calls::limits::NUMBER_END;
-use calls::{Call, Kind, Name, Refusal, Reply};
+use calls::{Call, Kind, Name, Refusal, Reply, When};
 use catalog::{Catalog, NamedHolding};
 use checkpoint::{Keeper, Turn};
 use disk_model::Disk;
@@ -188,26 +188,21 @@ impl<D: Disk> World<D> {
         entered
     }
 
-    /// A call of a live transaction on a collection: the refusals of `Book::call`.
-    pub fn call(&mut self, number: u64, collection: u8, asked: &Call) -> Result<Reply, Refusal>
+    /// What a live transaction asks of a collection, at once or deferred: the refusals of
+    /// `Book::ask`.
+    pub fn ask(
+        &mut self,
+        number: u64,
+        collection: u8,
+        asked: &Call,
+        when: When,
+    ) -> Result<Reply, Refusal>
         ensures { TakesStep ⟦<D as Disk>⟧ self.old
-            (Step.Call number collection asked.now, outcome Answer.Replied result) self.new }
+            (Step.Ask number collection asked.now when, outcome Answer.Replied result) self.new }
     {
-        let replied = self.book.call(number, collection, asked);
+        let replied = self.book.ask(number, collection, asked, when);
         self.book.upheld();
         replied
-    }
-
-    /// Puts a call of a live transaction on a collection off to its commit: the refusals of
-    /// `Book::later`.
-    pub fn later(&mut self, number: u64, collection: u8, asked: &Call) -> Result<(), Refusal>
-        ensures { TakesStep ⟦<D as Disk>⟧ self.old
-            (Step.Later number collection asked.now, outcome (alone Answer.PutOff) result)
-            self.new }
-    {
-        let put_off = self.book.later(number, collection, asked);
-        self.book.upheld();
-        put_off
     }
 
     /// Commits a live transaction, and answers its place: the refusals of `Book::commit`.
@@ -387,12 +382,9 @@ impl<D: Disk> World<D> {
                     .map_or_else(Answer::Refused, Answer::Placed)
             }
             Step::Enter(number) => answered(self.enter(*number), Answer::Entered),
-            Step::Call(number, collection, asked) => {
-                self.call(*number, *collection, asked)
+            Step::Ask(number, collection, asked, when) => {
+                self.ask(*number, *collection, asked, *when)
                     .map_or_else(Answer::Refused, Answer::Replied)
-            }
-            Step::Later(number, collection, asked) => {
-                answered(self.later(*number, *collection, asked), Answer::PutOff)
             }
             Step::Commit(number) => {
                 self.commit(*number)

@@ -2,10 +2,10 @@
 ghost use Rattle.std.specs.Prelude.{◌≡◌};
 
 use calls::Refusal;
-use player::Said;
 use script::ScriptError;
 use std::alloc::AllocError;
 use std::{fmt, io};
+use talks::Said;
 
 /// Why a command was not done. Each line of its text begins with the program's name; that of
 /// `Unwritten` is empty.

@@ -5,10 +5,10 @@ ghost use Rattle.boost.specs.Commands.{IsOfStore};
 use crate::commands::failure::Failure;
 use calls::Item;
 use catalog::{Catalog, Shown};
-use player::Hex;
 use recovery::Report;
 use std::fmt;
 use std::io::Write;
+use talks::Hex;
 
 /// Prints collections, by rising number: each in a line of its own, and its items in the lines
 /// behind it.

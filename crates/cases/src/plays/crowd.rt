@@ -1,6 +1,6 @@
 // The clients of a script as one who talks for them all.
 ghost use Rattle.std.specs.Prelude.{◌≡◌, ◌↔◌, ⊤, IsTrue};
-ghost use Rattle.sessions.specs.Sessions.{said_place, IsRefusal};
+ghost use Rattle.talks.specs.Sessions.{said_place, IsRefusal};
 
 use crate::plays::through_store::Stage;
 use boost::{Action, End, Line, Request, Said, Speaker};

@@ -6,7 +6,7 @@ use crate::plays::told::Told;
 use crate::plays::values::{byte, not_understood, number, pair, three};
 use crate::plays::workbench::Workbench;
 use boost::Said;
-use calls::{Call, Kind, Name, Refusal};
+use calls::{Call, Kind, Name, Refusal, When};
 use catalog::Catalog;
 use checkpoint::Keeper;
 use disk_model::MemDisk;
@@ -33,24 +33,18 @@ fn call(text: &str) -> io::Result<Call> {
     }
 }
 
-// A transaction's number, a collection and a call.
-fn asked(text: &str) -> io::Result<(u64, u8, Call)> {
+// A call with the number of its transaction and of a collection, made then.
+fn asked(text: &str, when: When) -> io::Result<Step> {
     let (owner, collection, asked) = three(text)?;
-    Ok((number(owner)?, byte(collection)?, call(asked)?))
+    Ok(Step::Ask(number(owner)?, byte(collection)?, call(asked)?, when))
 }
 
 // A step that speaks of a transaction or of a name.
 fn step_of(alloc: Global, word: &str, rest: &str) -> io::Result<Step> {
     match word {
         "make" => Ok(Step::Make(Name::new(String::from_str(alloc, rest)?), Kind::Counter)),
-        "call" => {
-            let (owner, collection, call) = asked(rest)?;
-            Ok(Step::Call(owner, collection, call))
-        }
-        "later" => {
-            let (owner, collection, call) = asked(rest)?;
-            Ok(Step::Later(owner, collection, call))
-        }
+        "call" => asked(rest, When::Now),
+        "later" => asked(rest, When::AtCommit),
         _ => step_with(word, number(rest)?),
     }
 }

@@ -2,7 +2,7 @@
 use crate::bench::calling::Content;
 use crate::bench::workload::Workload;
 use crate::trouble::Trouble;
-use calls::{Call, Format, Kind, Refusal};
+use calls::{Call, Format, Kind, Refusal, When};
 use catalog::Catalog;
 use checkpoint::Inbox;
 use rand_pcg::Pcg32;
@@ -173,12 +173,13 @@ impl BookBench {
         Ok(())
     }
 
-    // Makes a call, or puts a fill off, on the collection of that place.
+    // Asks the collection of that place for the call: a fill is deferred.
     fn ask(&mut self, place: u8, call: &Call) -> Result<(), Refusal> {
-        if let Call::Fill(_) = call {
-            return self.book.later(self.number, place, call);
-        }
-        self.book.call(self.number, place, call)?;
+        let when = match call {
+            Call::Fill(_) => When::AtCommit,
+            _ => When::Now,
+        };
+        self.book.ask(self.number, place, call, when)?;
         Ok(())
     }
 

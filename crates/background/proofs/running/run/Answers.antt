@@ -3,7 +3,7 @@ use Rattle.group_commit.specs.Marks.{AreReached}
 use Rattle.recovery.proofs.Stores.{opened_sound}
 use Rattle.store.specs.Openings.{naming_of}
 use Rattle.background.specs.Works.{AreTold}
-use Rattle.background.proofs.WorkLemmas.{ok_then, parts_told, was_opened}
+use Rattle.background.proofs.WorkLemmas.{ok_then, ok_always, parts_told, was_opened}
 use Rattle.background.proofs.running.run.Goals as goal
 
 pub returns-in-Ok-clause-opened : goal.returns-in-Ok-clause-opened
@@ -41,6 +41,9 @@ returns-in-Ok-clause-left g c =
     })
     (λ honest. opened_sound (g.D.Disk.seen c.args.disk) _ _ _ (opened.opened honest))
     (λ content stands honest. opened.content content stands honest) refl (λ t bytes was. was))
+
+pub returns-in-Ok-clause-rest : goal.returns-in-Ok-clause-rest
+returns-in-Ok-clause-rest g c = ok_always c.run_opened.result.0 c.run_opened.ensures.rest
 
 pub returns-in-Err-clause-left : goal.returns-in-Err-clause-left
 returns-in-Err-clause-left g c = inl c.in-Err.ensures.kept_in_refusal

@@ -13,10 +13,10 @@ run_beside-ended-requires-sync-S g c κs within =
     b.sync-J in
     search (parts, store)
 
-pub returns-in-Ok-gather-clause-closed : goal.returns-in-Ok-gather-clause-closed
-returns-in-Ok-gather-clause-closed g c =
+pub returns-in-Ok-join-clause-closed : goal.returns-in-Ok-join-clause-closed
+returns-in-Ok-join-clause-closed g c =
     let all = AreParts (g.W.Work.says c.args.work.now g.J.Naming.origin)
-    c.in-Ok-gather.answers.items in
-    closed_with g.J.Naming g.D.Disk _ all c.close.result.disk c.close.result.kept c.close.ensures
+    c.in-Ok-join.answers.items in
+    closed_with g.J.Naming g.D.Disk _ all c.close.result.disk c.close.result.kept c.close.ensures.closed
     (λ seen counts is. subst (λ s. all s counts) (sym is.0)
-    (subst (all (seen_of c.in-Ok-gather.last)) (sym is.1) c.in-Ok-gather.ensures.parts))
+    (subst (all (seen_of c.in-Ok-join.last)) (sym is.1) c.in-Ok-join.ensures.parts))

@@ -3,7 +3,7 @@ use Rattle.std.proofs.Common.{◌≡◌}
 use Rattle.std.proofs.lemmas.Option.{slice_get_read}
 use Rattle.std.specs.Prelude.{slice_get}
 use Rattle.clients.specs.Known.{Known, newcomer}
-use Rattle.sessions.specs.Sessions.{IsRun}
+use Rattle.talks.specs.Sessions.{IsRun}
 use Rattle.boost.specs.Serving.{ScriptState}
 use Rattle.boost.proofs.script_work.ScriptWork.work.Goals as goal
 

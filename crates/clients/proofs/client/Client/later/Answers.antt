@@ -1,44 +1,19 @@
-use Rattle.std.proofs.Common.{Err, refl, ap, inl, inr}
+use Rattle.std.proofs.Common.{Ok, Err}
 use Rattle.std.proofs.lemmas.Result.{err_from_is_err_and}
-use Rattle.clients.proofs.Seeing.{does_entering, does_refused_so, entering_again}
+use Rattle.calls.specs.declared.when.When.{When}
+use Rattle.clients.specs.Calls.{AsksFor}
+use Rattle.clients.proofs.Deferring.{room_replied, is_done}
 use Rattle.clients.proofs.client.Client.later.Goals as goal
 
-pub returns-in_err-at-clause-step : goal.returns-in_err-at-clause-step
-returns-in_err-at-clause-step g c =
+pub returns-in_err-ask-clause-step : goal.returns-in_err-ask-clause-step
+returns-in_err-ask-clause-step g c =
     let p = err_from_is_err_and c.from_residual.result c.from_residual.ensures.1 in
-    rw (p.1, p.2) (inl (does_entering g.J.Naming c.args.self.now.phase c.args.self.now c.loop.self
-    c.place_of_later.new.self _ _ _ refl c.loop.invariant
-    (does_refused_so g.J.Naming c.loop.self.phase c.loop.self c.place_of_later.new.self _ _ _ _
-    (λ d is. ap Err is) c.in_err-at.ensures.err)))
+    rw (p.1, p.2) (room_replied g.J.Naming c.args.self.now.phase c.args.self.now
+    (AsksFor c.args.name.now c.args.call.now When.AtCommit) c.ask.result
+    (Err c.in_err-ask.field-0.0) c.ask.new.self c.in_err-ask.was c.ask.ensures.step)
 
-pub returns-in-Ok-clause-step : goal.returns-in-Ok-clause-step
-returns-in-Ok-clause-step g c = rw c.remember.ensures
-    (inl (does_entering g.J.Naming c.args.self.now.phase c.args.self.now c.place_of_later.new.self
-    c.later_at.new.self _ _ _ refl
-    (entering_again g.J.Naming c.args.self.now.phase c.args.self.now c.loop.self
-    c.place_of_later.new.self refl c.loop.invariant c.in_ok-at.ensures.ok)
-    c.in-Ok.ensures.done))
-
-pub returns-in-Err-NoRoom-clause-step : goal.returns-in-Err-NoRoom-clause-step
-returns-in-Err-NoRoom-clause-step g c = inr (
-  refl,
-  entering_again g.J.Naming c.args.self.now.phase c.args.self.now
-      c.place_of_later.new.self c.later_at.new.self refl
-      (entering_again g.J.Naming c.args.self.now.phase c.args.self.now c.loop.self
-      c.place_of_later.new.self refl c.loop.invariant c.in_ok-at.ensures.ok)
-      c.in-Err-NoRoom.ensures.miss,
-)
-
-pub loop-preserved-in-Err-Elsewhere : goal.loop-preserved-in-Err-Elsewhere
-loop-preserved-in-Err-Elsewhere g c = entering_again g.J.Naming c.args.self.now.phase c.args.self.now
-    c.place_of_later.new.self c.later_at.new.self refl
-    (entering_again g.J.Naming c.args.self.now.phase c.args.self.now c.loop.self
-    c.place_of_later.new.self refl c.loop.invariant c.in_ok-at.ensures.ok)
-    c.in-Err-Elsewhere.ensures.miss
-
-pub loop-preserved : goal.loop-preserved
-loop-preserved g c = entering_again g.J.Naming c.args.self.now.phase c.args.self.now
-    c.place_of_later.new.self c.later_at.new.self refl
-    (entering_again g.J.Naming c.args.self.now.phase c.args.self.now c.loop.self
-    c.place_of_later.new.self refl c.loop.invariant c.in_ok-at.ensures.ok)
-    c.in-Err-NoRoomYet.ensures.miss
+pub returns-clause-step : goal.returns-clause-step
+returns-clause-step g c = room_replied g.J.Naming c.args.self.now.phase c.args.self.now
+    (AsksFor c.args.name.now c.args.call.now When.AtCommit) c.ask.result (Ok tt) c.ask.new.self
+    (is_done c.ask.result c.in_ok-ask.field-0 c.in_ok-ask.was c.ask.ensures.deferred)
+    c.ask.ensures.step

@@ -27,9 +27,9 @@ hold-requires g c =
     subst (IsClear c.self.inside.shelf.holds n e.at) (sym c.need-need.ensures) can.clear
 
 -- what was noted
-step : (g : Over) (c : goal.After-note_call g) → let i = c.self.inside in
+step : (g : Over) (c : goal.After-note g) → let i = c.self.inside in
     HeldCallRow g.B.Boosted.meaning (state_with i.format i.shelf i.ledger) c.args.number
-    (event_of c.args.asked) (state_with i.format c.hold.new.self c.note_call.new.self)
+    (event_of c.args.asked) (state_with i.format c.hold.new.self c.note.new.self)
 step g c =
     let i = c.self.inside in
     let n = c.args.number in
@@ -37,15 +37,15 @@ step g c =
     let can = subst (λ (s : State _). CanHoldCall g.B.Boosted.meaning s n e) (sym c.self.view_is)
     c.requires.can in
     let shelf = c.hold.new.self in
-    let ledger = c.note_call.new.self in
+    let ledger = c.note.new.self in
     held_row i.format i.shelf.now i.shelf.holds (log_of i.ledger) i.ledger.wear n shelf.now
     shelf.holds (log_of ledger) ledger.wear g.B.Boosted.meaning e can
     (subst (λ k. IsAdded i.shelf.holds shelf.holds (hold n e.at k)) c.need-need.ensures
     c.in_ok-hold.ensures.held) c.in_ok-hold.ensures.now
-    (c.note_call.ensures.live ∙ c.in_ok-reserve.ensures.live)
-    (c.note_call.ensures.entries ∙
+    (c.note.ensures.live ∙ c.in_ok-reserve.ensures.live)
+    (c.note.ensures.entries ∙
     ap (λ l. l ++ (n, Asked e) ∷ []) c.in_ok-reserve.ensures.entries)
-    (c.note_call.ensures.wear ∙ c.in_ok-reserve.ensures.wear)
+    (c.note.ensures.wear ∙ c.in_ok-reserve.ensures.wear)
 
 pub invariant_of-self-2 : goal.invariant_of-self-2
 invariant_of-self-2 g c = (
@@ -53,7 +53,7 @@ invariant_of-self-2 g c = (
       (laws g) _ c.self.invariant.0 c.args.number (event_of c.args.asked) _ c.requires.pairs
       (step g c),
   subst (λ l. IsLast l c.self.inside.last)
-      (sym (c.note_call.ensures.live ∙ c.in_ok-reserve.ensures.live)) c.self.invariant.1,
+      (sym (c.note.ensures.live ∙ c.in_ok-reserve.ensures.live)) c.self.invariant.1,
 )
 
 pub returns-clause-ok : goal.returns-clause-ok

@@ -35,11 +35,11 @@ step g c =
     c.requires.room)
     (subst (λ k. IsAdded shelf.holds c.take.new.self.holds (hold n e.at k)) c.requires.need
     c.in_ok-take.ensures.held) c.in_ok-take.ensures.made
-    (c.add_wear.ensures.live ∙ c.note_call.ensures.live ∙ c.in_ok-reserve.ensures.live)
-    (c.add_wear.ensures.entries ∙ c.note_call.ensures.entries ∙
+    (c.add_wear.ensures.live ∙ c.note.ensures.live ∙ c.in_ok-reserve.ensures.live)
+    (c.add_wear.ensures.entries ∙ c.note.ensures.entries ∙
     ap (λ l. l ++ (n, Asked e) ∷ []) c.in_ok-reserve.ensures.entries)
     (c.add_wear.ensures.wear ∙
-    ap (λ w. w + 1) (c.note_call.ensures.wear ∙ c.in_ok-reserve.ensures.wear))
+    ap (λ w. w + 1) (c.note.ensures.wear ∙ c.in_ok-reserve.ensures.wear))
 
 pub returns-clause-ok : goal.returns-clause-ok
 returns-clause-ok g c = rw (← c.self.view_is) (step g c)

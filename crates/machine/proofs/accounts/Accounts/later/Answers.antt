@@ -30,11 +30,11 @@ step g c =
     c.requires.room)
     (subst (λ k. IsAdded shelf.holds c.hold.new.self.holds (hold n put.at k)) c.requires.need
     c.in_ok-hold.ensures.held) c.in_ok-hold.ensures.now
-    (c.add_wear.ensures.live ∙ c.note_later.ensures.live ∙ c.in_ok-reserve.ensures.live)
-    (c.add_wear.ensures.entries ∙ c.note_later.ensures.entries ∙
+    (c.add_wear.ensures.live ∙ c.note.ensures.live ∙ c.in_ok-reserve.ensures.live)
+    (c.add_wear.ensures.entries ∙ c.note.ensures.entries ∙
     ap (λ l. l ++ (n, PutOff put.at put.call) ∷ []) c.in_ok-reserve.ensures.entries)
     (c.add_wear.ensures.wear ∙
-    ap (λ w. w + 1) (c.note_later.ensures.wear ∙ c.in_ok-reserve.ensures.wear))
+    ap (λ w. w + 1) (c.note.ensures.wear ∙ c.in_ok-reserve.ensures.wear))
 
 pub returns-clause-ok : goal.returns-clause-ok
 returns-clause-ok g c = rw (← c.self.view_is) (step g c)

@@ -12,16 +12,16 @@ use Rattle.machine.proofs.accounts.Accounts.read.Given.{Over}
 use Rattle.machine.proofs.accounts.Accounts.read.Goals as goal
 
 -- the step that was taken
-step : (g : Over) (c : goal.After-note_call g) → let i = c.self.inside in
+step : (g : Over) (c : goal.After-note g) → let i = c.self.inside in
     ReadRow g.C.Boosted.meaning (state_on (accounts_of i.format i.ledger) c.args.shelf.now)
     c.args.number (event_of c.args.asked)
-    (state_on (accounts_of i.format c.note_call.new.self) c.hold.new.self)
+    (state_on (accounts_of i.format c.note.new.self) c.hold.new.self)
 step g c =
     let i = c.self.inside in
     let n = c.args.number in
     let e = event_of c.args.asked in
     let shelf = c.args.shelf.now in
-    let ledger = c.note_call.new.self in
+    let ledger = c.note.new.self in
     read_row i.format shelf.now shelf.holds (log_of i.ledger) i.ledger.wear n
     c.hold.new.self.now c.hold.new.self.holds (log_of ledger) ledger.wear g.C.Boosted.meaning e
     (subst (λ a. CanCall g.C.Boosted.meaning (state_on a shelf) n e) (sym c.self.view_is)
@@ -30,10 +30,10 @@ step g c =
     c.requires.room)
     (subst (λ k. IsAdded shelf.holds c.hold.new.self.holds (hold n e.at k)) c.requires.need
     c.in_ok-hold.ensures.held) c.in_ok-hold.ensures.now
-    (c.note_call.ensures.live ∙ c.in_ok-reserve.ensures.live)
-    (c.note_call.ensures.entries ∙
+    (c.note.ensures.live ∙ c.in_ok-reserve.ensures.live)
+    (c.note.ensures.entries ∙
     ap (λ l. l ++ (n, Asked e) ∷ []) c.in_ok-reserve.ensures.entries)
-    (c.note_call.ensures.wear ∙ c.in_ok-reserve.ensures.wear)
+    (c.note.ensures.wear ∙ c.in_ok-reserve.ensures.wear)
 
 pub returns-clause-ok : goal.returns-clause-ok
 returns-clause-ok g c = rw (← c.self.view_is) (step g c)

@@ -15,14 +15,11 @@ returns-in-Make g c = wrapped g.D.Disk _ _ (Step.Make c.in-Make.name c.in-Make.k
 pub returns-in-Enter : goal.returns-in-Enter
 returns-in-Enter g c = rw (c.in-Enter.is, c.answered.ensures) c.enter.ensures
 
-pub returns-in-Call : goal.returns-in-Call
-returns-in-Call g c = wrapped g.D.Disk _ _
-    (Step.Call c.in-Call.number c.in-Call.collection c.in-Call.asked) c.args.step.now
-    (Answer.Replied) c.call.result c.map_or_else-in-Call.result c.in-Call.is
-    c.map_or_else-in-Call.ensures c.call.ensures
-
-pub returns-in-Later : goal.returns-in-Later
-returns-in-Later g c = rw (c.in-Later.is, c.answered-in-Later.ensures) c.later.ensures
+pub returns-in-Ask : goal.returns-in-Ask
+returns-in-Ask g c = wrapped g.D.Disk _ _
+    (Step.Ask c.in-Ask.number c.in-Ask.collection c.in-Ask.asked c.in-Ask.when) c.args.step.now
+    (Answer.Replied) c.ask.result c.map_or_else-in-Ask.result c.in-Ask.is
+    c.map_or_else-in-Ask.ensures c.ask.ensures
 
 pub returns-in-Commit : goal.returns-in-Commit
 returns-in-Commit g c = wrapped g.D.Disk _ _ (Step.Commit c.in-Commit.number) c.args.step.now

@@ -1,0 +1,29 @@
+use Rattle.std.proofs.Common.{None, Err, refl}
+use Rattle.std.proofs.lemmas.Result.{IfErr-weaker}
+use Rattle.txn.specs.declared.steps.Action.{Action}
+use Rattle.txn.specs.declared.steps.Target.{Target}
+use Rattle.clients.proofs.Visits.{entered_own, found_client, took_on}
+use Rattle.clients.proofs.client.Client.find.Goals as goal
+
+pub find_for_ask-requires-clause-own : goal.find_for_ask-requires-clause-own
+find_for_ask-requires-clause-own g c =
+    let i = c.self.inside in
+    entered_own g.J.Naming c.args.self.now c.enter.new.self c.in_ok-number.number
+    c.in_ok-number.ensures i.line i.watcher i.drawer i.phase c.self.view_is c.self.invariant.own
+
+pub invariant_of-self : goal.invariant_of-self
+invariant_of-self g c =
+    let i = c.self.inside in
+    found_client g.J.Naming i.line c.find_for_ask.new.me i.watcher i.drawer i.phase
+    c.self.invariant
+    c.find_for_ask.result _ c.find_for_ask.ensures.ok c.find_for_ask.ensures.err
+
+pub returns-clause-err : goal.returns-clause-err
+returns-clause-err g c =
+    let i = c.self.inside in
+    let n = c.in_ok-number.number in
+    IfErr-weaker c.find_for_ask.result _ _ (λ e steps. took_on g.J.Naming c.args.self.now
+    c.enter.new.self n c.in_ok-number.ensures i.line i.watcher i.drawer i.phase c.self.view_is
+    c.find_for_ask.new.me _ _ (Action.Ask n (Target.Named c.args.request.now.name.now None)
+    c.args.request.now.call.now c.args.request.now.when (Err e))
+    (None, refl) steps) c.find_for_ask.ensures.err

@@ -1,5 +1,0 @@
-pub mod Stepping
-pub mod ClientLemmas
-pub mod CheckpointLemmas
-pub mod RequestLemmas
-pub mod Removals

@@ -1,8 +1,0 @@
-use Rattle.std.proofs.Common.{◌≡◌, ℕ}
-use Rattle.player.specs.Plays.{Plays}
-use Rattle.player.specs.Checkpoints.{copied}
-use Rattle.player.proofs.checkpointer.gather.Given as goal
-
-abbrev pub invariant-loop : goal.invariant-loop
-invariant-loop g l = (k : ℕ) × (k ≡ l.counter) ×
-    Plays g.D.Disk l.fn.world (copied k) l.world

@@ -1,5 +1,0 @@
-use Rattle.player.proofs.CheckpointLemmas.{HasLaid}
-use Rattle.player.proofs.checkpointer.lay_all.Given as goal
-
-abbrev pub invariant-loop : goal.invariant-loop
-invariant-loop g l = HasLaid g.D.Disk l.fn.world l.counter l.world

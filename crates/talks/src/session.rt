@@ -1,0 +1,101 @@
+// A client of a store that threads share, as a talk speaks with it.
+ghost use Rattle.std.specs.Prelude.{◌≡◌, None};
+ghost use Rattle.talks.specs.Sessions.{session};
+
+use crate::requests::{end, say};
+use crate::{End, Said, Speaker};
+use calls::Refusal;
+use clients::{Client, Ticket};
+use desks::Naming;
+use script::Request;
+use std::alloc::Global;
+use std::marker::Model;
+use std::sync::Wait;
+
+/// A client of a store that threads share, to speak with: what it knows of the store, and the
+/// ticket of what it last committed or made.
+#[derive(Drop)]
+pub struct Session<'c, 's, J: Naming> {
+    client: &'c mut Client<'s, J>,
+    ticket: Option<Ticket>,
+}
+
+impl<'c, 's, J: Naming> Model for Session<'c, 's, J> {
+    ghost use Rattle.talks.specs.Sessions.{SessionState, session};
+
+    ghost Value = { SessionState };
+
+    ghost view = { λ s. session s.client.now s.ticket };
+}
+
+impl<'c, 's, J: Naming> Session<'c, 's, J> {
+    /// A session that has no ticket yet.
+    pub fn new(client: &'c mut Client<'s, J>) -> Self
+        ensures { result ≡ session client.old None }
+    {
+        Self {
+            client,
+            ticket: None,
+        }
+    }
+}
+
+impl<J: Naming> Speaker for Session<'_, '_, J> {
+    ghost use Rattle.std.specs.Prelude.{◌≡◌, [], ◌∷◌};
+    ghost use Rattle.talks.specs.Sessions.{Says, Ends, said_place, IsRefusal};
+    ghost use Rattle.clients.specs.Calls.{Hears, IsOpen};
+
+    type Said = Said;
+
+    ghost says = { Says J.origin };
+
+    ghost ends = { λ old end new. Ends old.known old.ticket end new.known ×
+        (new.ticket ≡ old.ticket) };
+
+    ghost hears = { λ old failed new. Hears old.known [] (failed ∷ []) new.known ×
+        (new.ticket ≡ old.ticket) };
+
+    ghost is_open = { λ s. IsOpen s.known.phase };
+
+    ghost placed = { said_place };
+
+    ghost refuses = { IsRefusal };
+
+    /// Carries a request out, and says what it is answered: a refusal of the store too. It waits
+    /// for locks of the book alone.
+    fn say<R: Wait>(&mut self, rt: &R, request: &Request) -> Said {
+        say(rt, self.client, &mut self.ticket, request)
+    }
+
+    /// Waits for the client's last ticket, if it has one: some committer has to take turns
+    /// meanwhile, or have met a fault of the disk.
+    fn end<R: Wait>(&mut self, rt: &R) -> End {
+        end(rt, self.client, self.ticket)
+    }
+
+    /// Whether keeping has failed, as `Client::has_failed` tells it.
+    fn has_failed(&mut self) -> bool {
+        self.client.has_failed()
+    }
+
+    /// How the store stands, as `Client::status` tells it, in one line.
+    fn status<R: Wait>(&self, rt: &R, alloc: Global) -> Result<String, Refusal> {
+        let status = self.client.status(rt, alloc)?;
+        Ok(format!(in alloc; "{status}")?)
+    }
+
+    fn is_open(&self) -> bool {
+        self.client.is_open()
+    }
+
+    fn place(said: &Said) -> Option<u64> {
+        match said {
+            Said::Placed(place) => Some(*place),
+            _ => None,
+        }
+    }
+
+    fn is_refusal(said: &Said) -> bool {
+        matches!(said, Said::Refused(_))
+    }
+}

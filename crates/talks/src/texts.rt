@@ -1,0 +1,87 @@
+// What the lines of a script answer, as texts.
+use calls::{Refusal, Reply};
+use checkpoint::Turn;
+use std::fmt;
+
+/// What a line answers.
+#[derive(Drop)]
+pub enum Said {
+    /// The count of commits and makes since the store was opened, this one included.
+    Placed(u64),
+    /// The number of the transaction that begins.
+    Begun(u64),
+    /// The reply; Done to a call that will run at the commit.
+    Replied(Reply),
+    /// The transaction was taken back.
+    Aborted,
+    /// The client's ticket is kept.
+    Kept,
+    /// The client's ticket is not kept yet.
+    NotYet,
+    /// The client has no ticket.
+    NoTicket,
+    Turned(Turn),
+    /// An image is the store, and so many commits are kept.
+    Flipped(u64),
+    Refused(Refusal),
+}
+
+impl fmt::Display for Said {
+    fn fmt<W: fmt::Write>(&self, f: &mut fmt::Formatter<W>) -> fmt::Result {
+        let (text, number) = match self {
+            Said::Placed(place) => ("place", Some(*place)),
+            Said::Begun(number) => ("begun", Some(*number)),
+            Said::Replied(reply) => return write_reply(f, reply),
+            Said::Aborted => ("aborted", None),
+            Said::Kept => ("kept", None),
+            Said::NotYet => ("not yet", None),
+            Said::NoTicket => ("no ticket", None),
+            Said::Turned(Turn::Idle) => ("idle", None),
+            Said::Turned(Turn::Kept(place)) => ("kept", Some(*place)),
+            Said::Turned(Turn::Held) => ("held", None),
+            Said::Flipped(mark) => ("flipped", Some(*mark)),
+            Said::Refused(refusal) => {
+                let number = refusal.number();
+                return write!(f, "refused {number} {refusal}");
+            }
+        };
+        match number {
+            Some(number) => write!(f, "{text} {number}"),
+            None => f.write_str(text),
+        }
+    }
+}
+
+// Writes a reply, its bytes in hexadecimal digits.
+fn write_reply<W: fmt::Write>(f: &mut fmt::Formatter<W>, reply: &Reply) -> fmt::Result {
+    let text = match reply {
+        Reply::Done => "done",
+        Reply::No => "no",
+        Reply::Yes => "yes",
+        Reply::Nothing => "nothing",
+        Reply::Value(value) => return write!(f, "value {}", Hex(value.as_slice())),
+        Reply::Entry(key, value) => return write!(f, "entry {key} {}", Hex(value.as_slice())),
+        Reply::Item(priority, tag) => return write!(f, "item {priority} {tag}"),
+        Reply::Total(total) => return write!(f, "total {total}"),
+        Reply::Id(id) => return write!(f, "id {id}"),
+        Reply::Queued => "queued",
+        Reply::Absent => "absent",
+    };
+    f.write_str(text)
+}
+
+/// Bytes in pairs of digits, or a dash for none.
+#[derive(Clone, Copy)]
+pub struct Hex<'a>(pub &'a [u8]);
+
+impl fmt::Display for Hex<'_> {
+    fn fmt<W: fmt::Write>(&self, f: &mut fmt::Formatter<W>) -> fmt::Result {
+        if self.0.is_empty() {
+            return f.write_str("-");
+        }
+        for byte in self.0 {
+            write!(f, "{byte:02x}")?;
+        }
+        Ok(())
+    }
+}
