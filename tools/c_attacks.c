@@ -189,6 +189,29 @@ static void forked(void)
     printf("forked: the server ended beside the child\n");
 }
 
+/* A wait of a line is longer than the time-out of others, and says how long it may be. */
+static void waits_for_work(void)
+{
+    struct timespec began, ended;
+    struct boost *store = started();
+    boost_ask(store, "make set jobs");
+    boost_set_timeout(store, 1);
+    clock_gettime(CLOCK_MONOTONIC, &began);
+    const char *answer = boost_within(store, 1.5, "do jobs pick");
+    clock_gettime(CLOCK_MONOTONIC, &ended);
+    must(answer != NULL && strncmp(answer, "nothing; place ", 15) == 0, "a wait that is over");
+    must((double)(ended.tv_sec - began.tv_sec) + (double)(ended.tv_nsec - began.tv_nsec) / 1e9 >= 1.5, "it was over early");
+    is_answered(store, "do jobs add 7", "yes; place ");
+    answer = boost_within(store, 30, "keep jobs pick");
+    must(answer != NULL && strncmp(answer, "id 7; kept ", 11) == 0, "a job that is there");
+    must(boost_refusal(boost_within(store, -0.1, "do jobs pick")) == -1, "less than no time");
+    must(boost_refusal(boost_within(store, 86401, "do jobs pick")) == -1, "more than a day");
+    boost_set_timeout(store, 0);
+    is_answered(store, "do jobs pick", "nothing; place ");
+    must(boost_close(store) == 0, "close");
+    printf("waits_for_work: for 1.5 seconds, longer than other answers may take\n");
+}
+
 /* The program's standard input and output are closed, and the server is given its own all the same. */
 static void closed_streams(void)
 {
@@ -235,6 +258,7 @@ int main(int count, char **words)
     a_file_in_the_place_of_a_fifo();
     forked();
     closed_streams();
+    waits_for_work();
     files_are_given_back();
     return 0;
 }

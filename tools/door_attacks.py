@@ -420,7 +420,7 @@ def too_long_lines():
         told = server.stdout.decode().splitlines()
         expect([line for line in told if line[:2] == 'c2'],
                ['c2 place 1', 'c2 done; place 2', 'c2 error LineTooLong', 'c2 total 1; place 3',
-                'c2 error NotUnderstood: kept\\r: no request, as make, do, keep, begin, call, commit, abort or status'], 'c2')
+                'c2 error NotUnderstood: kept\\r: no request, as make, do, keep, within, begin, call, commit, abort or status'], 'c2')
         assert '- error LineTooLong' in told
     return '6 lines'
 

@@ -30,6 +30,7 @@ TESTS = {
     'closed streams': ['tools/closed_streams.py', PROGRAM],
     'paths and scripts that mean harm': ['tools/attacks.py', PROGRAM],
     'the door': ['tools/door_attacks.py', PROGRAM],
+    'who waits for work': ['tools/waiting.py', PROGRAM],
     'a full store': ['tools/full_store.py', PROGRAM],
     'what takes long': ['tools/progress.py', PROGRAM],
     'the client in Python': ['-m', 'unittest', 'discover', '-s', 'clients/python/tests'],

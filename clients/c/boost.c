@@ -19,7 +19,7 @@
 #include <time.h>
 #include <unistd.h>
 
-enum { LONGEST = 4095, BUSY = 9, TOO_MANY_LIVE = 12, BACKLOG = 14, PIECE = 4096 };
+enum { LONGEST = 4095, MOST_SECONDS = 86400, BUSY = 9, TOO_MANY_LIVE = 12, BACKLOG = 14, PIECE = 4096 };
 
 /* What each line of a server begins with that is of no client. */
 static const char NOBODY[] = "- ";
@@ -158,7 +158,8 @@ static double end_of(const struct boost *store)
     return store->timeout > 0 ? now() + store->timeout : 0;
 }
 
-static const char *ask(struct boost *store, const char *format, va_list words)
+/* Asks a line that may wait for so many thousandths of a second in the server, less than 0 where it does not. */
+static const char *ask(struct boost *store, long waits, const char *format, va_list words)
 {
     if (store->owner != getpid() || store->to < 0) {
         errno = store->owner != getpid() ? EPERM : EPIPE;
@@ -166,6 +167,8 @@ static const char *ask(struct boost *store, const char *format, va_list words)
     }
     char line[LONGEST + 2];
     int tag = snprintf(line, sizeof line, "%s", store->tag);
+    if (waits >= 0)
+        tag += snprintf(line + tag, sizeof line - (size_t)tag, "within %ld.%03ld ", waits / 1000, waits % 1000);
     int size = vsnprintf(line + tag, sizeof line - (size_t)tag, format, words);
     if (size < 0)
         return NULL;
@@ -175,6 +178,8 @@ static const char *ask(struct boost *store, const char *format, va_list words)
         return "error NotUnderstood";
     line[tag + size] = '\n';
     double end = end_of(store);
+    if (end > 0 && waits > 0)
+        end += (double)waits / 1000;
     if (write_within(store->to, line, (size_t)(tag + size + 1), end) != 0)
         return give_up(store, errno);
     return next_line(store, end);
@@ -184,7 +189,18 @@ const char *boost_ask(struct boost *store, const char *format, ...)
 {
     va_list words;
     va_start(words, format);
-    const char *answer = ask(store, format, words);
+    const char *answer = ask(store, -1, format, words);
+    va_end(words);
+    return answer;
+}
+
+const char *boost_within(struct boost *store, double seconds, const char *format, ...)
+{
+    if (!(seconds >= 0 && seconds <= MOST_SECONDS))
+        return "error NotUnderstood";
+    va_list words;
+    va_start(words, format);
+    const char *answer = ask(store, (long)(seconds * 1000 + 0.5), format, words);
     va_end(words);
     return answer;
 }
@@ -244,7 +260,7 @@ const char *boost_try(struct boost *store, int seconds, const char *format, ...)
     for (unsigned pause = 200;; pause = pause < 50000 ? pause * 2 : pause) {
         va_list words;
         va_start(words, format);
-        const char *answer = ask(store, format, words);
+        const char *answer = ask(store, -1, format, words);
         va_end(words);
         if (answer == NULL || !boost_passes(boost_refusal(answer)) || now() > end)
             return answer;
@@ -435,6 +451,8 @@ static struct boost *come_in(const char *folder, const char *word, int held, int
     int why = errno;
     close_file(&held);
     close_file(&guard);
+    if (here)
+        flock(from, LOCK_EX | LOCK_NB);       /* by which the server sees, while this client waits, that it is there */
     if (!here) {
         close_file(&to);
         close_file(&from);

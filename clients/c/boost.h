@@ -53,6 +53,12 @@ int boost_is_word(const char *text);
 /* Asks again while another transaction is in the way, for so many seconds: for a `do` or a `keep` with calls. The last answer. */
 const char *boost_try(struct boost *store, int seconds, const char *format, ...) __attribute__((format(printf, 3, 4)));
 
+/* Asks a `do` or a `keep` with calls that waits in the server, for so many seconds at most, from 0 to 86,400: until no call is answered
+ * `nothing` and no other transaction is in the way. So a worker waits for a job: boost_within(store, 30, "keep jobs take"). Once the
+ * time is over it is done as it stands, or refused. The answer is waited for as much longer than others. A number of seconds that is
+ * none of these is answered `error NotUnderstood`. */
+const char *boost_within(struct boost *store, double seconds, const char *format, ...) __attribute__((format(printf, 3, 4)));
+
 /* The number of the refusal that an answer tells. -1 where the line was not carried out: it was not understood, too long, of no
  * client, or the first one behind a silence in which the server took the open transaction back (`error Idle`); also of NULL. 0 else. */
 int boost_refusal(const char *answer);

@@ -273,6 +273,7 @@ static void begin(const char *group, int port)
     TAILQ_INIT(&gate.resting);
     TAILQ_INIT(&gate.programs);
     TAILQ_INIT(&gate.waiting);
+    TAILQ_INIT(&gate.patient);
     TAILQ_INIT(&gate.telling);
     TAILQ_INIT(&gate.gone);
     make_seats();

@@ -50,7 +50,7 @@ struct watch {
     void (*ready)(struct watch *watch, uint32_t events);
 };
 
-enum verb { OTHER, BEGIN, CALL, COMMIT, KEEP, ABORT, MAKE, DO, KEPT, WAIT, STATUS, BYE };
+enum verb { OTHER, BEGIN, CALL, COMMIT, KEEP, ABORT, MAKE, DO, WITHIN, KEPT, WAIT, STATUS, BYE };
 
 /* A line that the server has not answered yet; of no program where that is gone, and where the gate asks by itself. */
 struct asked {
@@ -94,6 +94,8 @@ struct program {
     struct seat *last;            /* the seat that made it, */
     uint64_t number;              /* and the which it was of that */
     int is_on_port, is_greeted, is_waiting, is_telling;
+    int is_patient;               /* its line may wait in the server, and stands in a line before it does */
+    int is_within;                /* it does, or is to once it has a seat */
     int is_skipping;              /* in a line that is too long */
     int was_idle;                 /* its transaction was undone, which it does not know yet */
     int is_over;                  /* it says no more */
@@ -116,8 +118,8 @@ struct gate {
     ino_t inode;
     struct seat of[MOST_SEATS];
     struct seats resting;
-    struct programs programs, waiting, telling, gone;
-    int count, most, waiters;     /* of programs */
+    struct programs programs, waiting, patient, telling, gone;
+    int count, most, waiters, within;   /* of programs */
     double now, looked;
     double retry, pause, left;    /* when a server is looked for again, how long after that, and when the last seat ended */
     int is_away;                  /* no server was there */
@@ -150,6 +152,7 @@ int number_of(enum state state);
 /* seats.c: what the server is asked and answers */
 void ask(struct seat *seat, struct program *program, enum verb verb, const char *line, size_t size);
 void close_seat(struct seat *seat);
+void learn_commits(struct seat *seat);
 void hold(struct program *program, struct seat *seat);
 void give_back(struct program *program);
 struct seat *resting_seat(const struct program *program);
@@ -162,6 +165,7 @@ void flush_seats(void);
 /* lines.c: what programs ask */
 void serve(struct program *program);
 void go_on(struct program *program);
+void wait_no_more(struct program *program);
 void call_next(void);
 
 /* programs.c: programs that come, are told and go */

@@ -37,7 +37,7 @@ static enum verb verb_of(const struct line *line)
         enum verb verb;
         int is_alone;
     } words[] = {
-        { "call", CALL, 0 }, { "do", DO, 0 }, { "keep", KEEP, 0 }, { "begin", BEGIN, 1 }, { "commit", COMMIT, 1 },
+        { "call", CALL, 0 }, { "do", DO, 0 }, { "within", WITHIN, 0 }, { "keep", KEEP, 0 }, { "begin", BEGIN, 1 }, { "commit", COMMIT, 1 },
         { "later", CALL, 0 }, { "abort", ABORT, 1 }, { "wait", WAIT, 1 }, { "kept", KEPT, 1 }, { "make", MAKE, 0 },
         { "status", STATUS, 1 }, { "bye", BYE, 1 },
     };
@@ -108,6 +108,40 @@ static int may_ask(const struct program *program)
     return TAILQ_EMPTY(&gate.waiting) || (program->seat->is_open && program->enders == 0);
 }
 
+/* How many programs wait in the server at most: three quarters of the seats, so that others have theirs meanwhile. */
+static int most_within(void)
+{
+    return gate.seats - gate.seats / 4;
+}
+
+/* Whether a line that may wait in the server goes there now. Where as many wait as may, it stands in a line without a seat. */
+static int may_wait(struct program *program)
+{
+    int is_refused = program->seat != NULL && program->seat->is_open;
+    if (program->asked > 0 || program->is_patient)
+        return 0;
+    if (is_refused || program->is_within)
+        return 1;
+    if (gate.within < most_within()) {
+        program->is_within = 1;
+        gate.within++;
+        return 1;
+    }
+    give_back(program);
+    program->is_patient = 1;
+    TAILQ_INSERT_TAIL(&gate.patient, program, queue);
+    return 0;
+}
+
+void wait_no_more(struct program *program)
+{
+    gate.within -= program->is_within;
+    program->is_within = 0;
+    if (program->is_patient)
+        TAILQ_REMOVE(&gate.patient, program, queue);
+    program->is_patient = 0;
+}
+
 /* Carries a line out. 0 where that has to wait: for a seat, or for the answers to those before it. */
 static int carry_out(struct program *program, const struct line *line)
 {
@@ -124,8 +158,10 @@ static int carry_out(struct program *program, const struct line *line)
     } else if (is_apart) {
         ask(program->last, program, verb, line->text, line->size);
     } else {
-        if (!has_seat(program) || !may_ask(program))
+        if ((verb == WITHIN && !may_wait(program)) || !has_seat(program) || !may_ask(program))
             return 0;
+        if (verb == WITHIN)                                /* nobody waits for its seat's commits behind a line that waits */
+            learn_commits(program->seat);
         ask(program->seat, program, verb, line->text, line->size);
     }
     return 1;
@@ -165,10 +201,21 @@ void go_on(struct program *program)
         give_back(program);
 }
 
+/* Has those go on who may wait in the server now. */
+static void call_patient(void)
+{
+    struct program *program;
+    while (gate.within < most_within() && (program = TAILQ_FIRST(&gate.patient)) != NULL) {
+        wait_no_more(program);
+        go_on(program);
+    }
+}
+
 /* Gives the seats that rest to those who wait, in their order. */
 void call_next(void)
 {
     struct program *program;
+    call_patient();
     while ((program = TAILQ_FIRST(&gate.waiting)) != NULL) {
         struct seat *seat = resting_seat(program);
         if (seat == NULL)

@@ -75,6 +75,7 @@ static void forget(struct program *program)
 void finish(struct program *program)
 {
     forget(program);
+    wait_no_more(program);
     if (program->is_waiting) {
         TAILQ_REMOVE(&gate.waiting, program, queue);
         program->is_waiting = 0;

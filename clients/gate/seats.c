@@ -6,6 +6,7 @@
 #include <poll.h>
 #include <stdlib.h>
 #include <string.h>
+#include <sys/file.h>
 #include <unistd.h>
 
 /* ---- seats that rest, are held and end */
@@ -80,12 +81,20 @@ static void end_seat(struct seat *seat)
     close_seat(seat);
 }
 
-/* One that nobody holds rests, once all is answered and nothing is open. Where the server does not abort, its end is the abort. */
+/* Whether the server waits for work for a program that is gone. */
+static int is_left(const struct seat *seat)
+{
+    const struct asked *asked = TAILQ_FIRST(&seat->asked);
+    return asked != NULL && asked->verb == WITHIN && asked->program == NULL && seat->commits == seat->kept;
+}
+
+/* One that nobody holds rests, once all is answered and nothing is open. Where the server does not abort, its end is the abort; and by
+ * its end the server learns that nobody waits for work. */
 static void settle(struct seat *seat)
 {
-    if (seat->state != SERVING || seat->holder != NULL || !TAILQ_EMPTY(&seat->asked) || seat->is_resting)
+    if (seat->state != SERVING || seat->holder != NULL || seat->is_resting || (!TAILQ_EMPTY(&seat->asked) && !is_left(seat)))
         return;
-    if (seat->is_open && seat->is_undoing) {
+    if (is_left(seat) || (seat->is_open && seat->is_undoing)) {
         end_seat(seat);
     } else if (seat->is_open) {
         seat->is_undoing = 1;
@@ -198,19 +207,22 @@ void flush_seats(void)
     }
 }
 
-/* Learns which commits are kept that programs have not waited for, so that the end of a seat is none of these programs, and no later
- * commit of another is in the way of a `kept`. */
+/* Learns whether the commits of a seat are kept that programs have not waited for. */
+void learn_commits(struct seat *seat)
+{
+    const struct asked *asked;
+    int is_waiting = seat->state != SERVING || seat->commits == seat->kept;
+    TAILQ_FOREACH (asked, &seat->asked, link)
+        is_waiting |= asked->verb == WAIT;
+    if (!is_waiting)
+        ask(seat, NULL, WAIT, "wait", strlen("wait"));
+}
+
+/* So that the end of a seat is none of these programs, and no later commit of another is in the way of a `kept`. */
 void wait_for_commits(void)
 {
-    for (int i = 0; i < gate.seats; i++) {
-        struct seat *seat = &gate.of[i];
-        const struct asked *asked;
-        int is_waiting = seat->state != SERVING || seat->commits == seat->kept;
-        TAILQ_FOREACH (asked, &seat->asked, link)
-            is_waiting |= asked->verb == WAIT;
-        if (!is_waiting)
-            ask(seat, NULL, WAIT, "wait", strlen("wait"));
-    }
+    for (int i = 0; i < gate.seats; i++)
+        learn_commits(&gate.of[i]);
 }
 
 /* Lets those seats go that nobody wanted for long: others may want to be clients of the server. */
@@ -255,7 +267,7 @@ static void note_answer(struct seat *seat, const struct asked *asked)
         seat->is_open = 0;
     if ((verb == WAIT || verb == KEPT) && is(head, "kept"))
         seat->kept = seat->commits;
-    if (!is_refused && (verb == COMMIT || verb == KEEP || verb == DO || verb == MAKE))
+    if (!is_refused && (verb == COMMIT || verb == KEEP || verb == DO || verb == WITHIN || verb == MAKE))
         note_commit(seat, asked->program, verb == KEEP);
 }
 
@@ -290,6 +302,8 @@ static void end_answer(struct seat *seat)
         program->asked--;
         program->enders -= asked->verb != CALL;
         program->spoke = gate.now;
+        if (asked->verb == WITHIN)
+            wait_no_more(program);
     }
     if (is(seat->head, "error Idle") && is_apart(seat, asked)) {
         pass_on_idle(seat, asked);
@@ -339,6 +353,7 @@ static void begin_serving(struct seat *seat, const char *bytes, size_t size)
         close(seat->held[i]);
         seat->held[i] = -1;
     }
+    flock(seat->from.file, LOCK_EX | LOCK_NB);             /* by which the server sees, while a line waits, that the gate is there */
     seat->state = SERVING;
     if (gate.is_away)
         note("a server is at %s", gate.folder);

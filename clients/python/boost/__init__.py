@@ -17,6 +17,15 @@ A function of a transaction is run again while another transaction is in its way
     >>> store.keep(lambda t: t.call('jobs', 'take'))
     (3, 17)
 
+Who waits for something to do sleeps in the server, for so many seconds at most, and is woken as it comes:
+
+    >>> store.do(('jobs', 'take'), keep=True, within=0.1)
+    [None]
+    >>> store.do(('jobs', 'add', 3, 17))
+    [None]
+    >>> store.do(('jobs', 'take'), keep=True, within=30)
+    [(3, 17)]
+
 How the store stands is told at once, whoever has a transaction open:
 
     >>> status = store.status()
@@ -60,7 +69,7 @@ from typing import Any, Callable, Iterator, List, Optional, Sequence, Tuple, Typ
 
 from .connections import CLIENTS, CLOSED, FORKED, TIMEOUT, Child, Connection, Path, Pipes, Shared, Socket, path_of_gate
 from .errors import Busy, Closed, Error, Gone, Idle, Lost, Misunderstood, NotServed, Refused, TimedOut
-from .lines import Argument, Collection, Reply, Status, reply_of, words_of
+from .lines import Argument, Collection, Reply, Status, reply_of, seconds_of, words_of
 from .pool import Pool
 
 __version__ = '1.1.0'
@@ -212,23 +221,38 @@ class Store:
             t._let_go()
 
     def do(self, *calls: Tuple[Argument, ...], keep: bool = False, patience: float = 60,
-           timeout: Optional[float] = None) -> List[Reply]:
+           timeout: Optional[float] = None, within: Optional[float] = None) -> List[Reply]:
         """A whole transaction at once: a name with its call for each call, and `'later'` before the name to put it off. All of them
         are done, or none. While another transaction is in the way it is tried again, for so many seconds of patience.
 
+        With `within` it waits in the server, for so many seconds at most, until no call is answered None for `nothing` and no other
+        transaction is in the way: so a worker waits for a job, as in `store.do(('jobs', 'pick'), within=30)`. Once the time is over
+        it is done as it stands, or `Busy` is raised. The time-out of its answer begins behind that.
+
         Where no answer comes it raises `Gone`, and is not sent again: it may have been carried out. What is too long for one line is
-        sent as the lines of a transaction."""
+        sent as the lines of a transaction, which cannot wait."""
         if not calls:
             raise ValueError('no call')
         parts = [words_of(*call) for call in calls]
         line = ('keep ' if keep else 'do ') + '; '.join(parts)
+        if within is not None:
+            return self._do_within(line, keep, timeout, within)
         if len(line) <= Shared.longest:
             return patiently(lambda: self._do(line, keep, timeout), patience)
         return patiently(lambda: self._do_in_lines(parts, keep, timeout), patience)
 
-    def _do(self, line: str, keep: bool, timeout: Optional[float]) -> List[Reply]:
+    def _do_within(self, line: str, keep: bool, timeout: Optional[float], seconds: float) -> List[Reply]:
+        seconds_of(seconds)
+        end = time.monotonic() + seconds
+
+        def attempt() -> List[Reply]:
+            left = max(0.0, end - time.monotonic())
+            return self._do('within %s %s' % (seconds_of(left), line), keep, timeout, left)
+        return patiently(attempt, seconds)
+
+    def _do(self, line: str, keep: bool, timeout: Optional[float], more: float = 0.0) -> List[Reply]:
         with self._client(timeout) as connection:
-            answer = connection.ask([line], timeout)[0]
+            answer = connection.ask([line], self._seconds(timeout) + more)[0]
             if answer.startswith(('refused ', 'error ')):
                 reply_of(answer, line)
             self._note(connection, keep)
@@ -254,8 +278,9 @@ class Store:
 
     def keep_when(self, work: Callable[[Transaction], Optional[T]], seconds: float, patience: float = 60,
                   timeout: Optional[float] = None) -> Optional[T]:
-        """Runs work(t) as `keep` does, again and again until it gives something, for so many seconds: so a worker waits for a job. What
-        gave None is taken back, and None is the answer where nothing else came. The pauses grow to a fifth of a second."""
+        """Runs work(t) as `keep` does, again and again until it gives something, for so many seconds. What gave None is taken back, and
+        None is the answer where nothing else came. The pauses grow to a fifth of a second: who waits for what the calls of one line
+        find waits better by `do(.., within=..)`, which sleeps in the server."""
         def attempt() -> Optional[T]:
             with self.transaction(True, timeout) as t:
                 found = work(t)

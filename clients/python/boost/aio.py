@@ -27,7 +27,7 @@ from typing import Any, Awaitable, Callable, Deque, List, Optional, Sequence, Se
 from . import pauses
 from .connections import CLIENTS, CLOSED_STORE, HELLO, TIMEOUT, path_of_gate
 from .errors import Busy, Closed, Error, Gone, Lost, NotServed, Refused, TimedOut
-from .lines import LONGEST, Argument, Reply, Status, bytes_of_line, reply_of, words_of
+from .lines import LONGEST, Argument, Reply, Status, bytes_of_line, reply_of, seconds_of, words_of
 
 __all__ = ['join', 'Store', 'Transaction']
 
@@ -257,14 +257,20 @@ class Store:
         return Transaction(self, keep, timeout)
 
     async def do(self, *calls: Tuple[Argument, ...], keep: bool = False, patience: float = 60,
-                 timeout: Optional[float] = None) -> List[Reply]:
+                 timeout: Optional[float] = None, within: Optional[float] = None) -> List[Reply]:
         """A whole transaction at once: a name with its call for each call, and `'later'` before the name to put it off. All of them
         are done, or none. While another transaction is in the way it is tried again, for so many seconds of patience. Where no
-        answer comes it raises `Gone`, and is not sent again: it may have been carried out."""
+        answer comes it raises `Gone`, and is not sent again: it may have been carried out.
+
+        With `within` it waits in the server, for so many seconds at most, until no call is answered None for `nothing` and no other
+        transaction is in the way. Once the time is over it is done as it stands, or `Busy` is raised. The time-out of its answer
+        begins behind that. A task that is cancelled meanwhile closes its connection, and then nothing is done, or all was."""
         if not calls:
             raise ValueError('no call')
         parts = [words_of(*call) for call in calls]
         line = ('keep ' if keep else 'do ') + '; '.join(parts)
+        if within is not None:
+            return await self._do_within(line, timeout, keep, within)
 
         async def at_once() -> List[Reply]:
             answer = await self._ask(line, timeout, keep)
@@ -275,6 +281,16 @@ class Store:
             async with self.transaction(keep, timeout) as t:
                 return [reply_of(answer, line) for answer, line in zip(await t._lines(lines, None), lines)]
         return await patiently(at_once if len(line) <= LONGEST else in_lines, patience)
+
+    async def _do_within(self, line: str, timeout: Optional[float], keep: bool, seconds: float) -> List[Reply]:
+        seconds_of(seconds)
+        end = time.monotonic() + seconds
+
+        async def attempt() -> List[Reply]:
+            left = max(0.0, end - time.monotonic())
+            answer = await self._ask('within %s %s' % (seconds_of(left), line), timeout, keep, left)
+            return [reply_of(part, line) for part in answer.split('; ')][:-1]
+        return await patiently(attempt, seconds)
 
     async def transact(self, work: Callable[[Transaction], Awaitable[T]], keep: bool = False, patience: float = 60,
                        timeout: Optional[float] = None) -> T:
@@ -316,12 +332,12 @@ class Store:
     async def __aexit__(self, *_: Any) -> None:
         await self.close()
 
-    async def _ask(self, line: str, timeout: Optional[float], is_kept: bool) -> str:
-        """Asks one line over a connection. Raises what its answer refuses."""
+    async def _ask(self, line: str, timeout: Optional[float], is_kept: bool, more: float = 0.0) -> str:
+        """Asks one line over a connection, whose answer may take so many seconds more. Raises what its answer refuses."""
         seconds = self._seconds(timeout)
         connection = await self._take(seconds)
         try:
-            answer = (await connection.ask([line], seconds))[0]
+            answer = (await connection.ask([line], seconds + more))[0]
         finally:
             self._give_back(connection)
         if answer.startswith(('refused ', 'error ')):

@@ -308,6 +308,8 @@ class Pipes(Stream):
             self.say_hello(min(seconds, self.patience))
             for file in self.open[:2]:
                 file.close()
+            with contextlib.suppress(OSError):     # by which the server sees, while this one waits, that it is there
+                fcntl.flock(self.answers, fcntl.LOCK_EX | fcntl.LOCK_NB)
         except OSError as error:
             why = 'nobody reads its door' if error.errno == errno.ENXIO else error
             raise Gone('no server can be reached at %s: %s' % (self.folder, why)) from error

@@ -13,6 +13,8 @@ Reply = Any
 
 # How many bytes a line has at most, with the tag of its client and without its line feed.
 LONGEST = 4095
+# How many seconds a transaction in one line may wait at most: a day.
+MOST_SECONDS = 86400
 # How many bytes go into a pipe at once or not at all, of which a line is no more.
 AT_ONCE = LONGEST + 1
 
@@ -142,6 +144,13 @@ def words_of(*arguments: Argument) -> str:
     """Arguments as words, with a space between two. The number of a `bump` may be below nothing."""
     before = itertools.chain([None], arguments)
     return ' '.join(word_of(argument, isinstance(verb, str) and verb == 'bump') for verb, argument in zip(before, arguments))
+
+
+def seconds_of(seconds: float) -> str:
+    """So many seconds as the word behind `within`, to a thousandth. ValueError for less than none and for more than a day."""
+    if not 0 <= seconds <= MOST_SECONDS:
+        raise ValueError('%r seconds are not from 0 to %d' % (seconds, MOST_SECONDS))
+    return '%d.%03d' % divmod(round(seconds * 1000), 1000)
 
 
 def bytes_of_line(text: str, longest: int) -> bytes:

@@ -54,6 +54,8 @@ class Gate:
                 break
             elif line == 'do hits never':
                 continue
+            elif line.startswith('within '):
+                answer = 'id 7; place 9'
             elif line == 'do busy read':
                 answer = 'refused 9 Busy 1'
             elif line == 'wait':
@@ -95,6 +97,13 @@ class Aio(unittest.TestCase):
             await t.call('hits', 'bump', 1)
         await store.wait()
         self.assertEqual(gate.lines[-2:], ['commit', 'wait'])
+
+    @at_a_gate
+    async def test_who_waits_says_how_long(self, gate, store):
+        self.assertEqual(await store.do(('jobs', 'pick'), within=30), [7])
+        self.assertRegex(gate.lines[-1], r'^within (30\.000|29\.9\d\d) do jobs pick$')
+        with self.assertRaises(ValueError):
+            await store.do(('jobs', 'pick'), within=-1)
 
     @at_a_gate
     async def test_many_tasks_share_64_connections(self, gate, store):

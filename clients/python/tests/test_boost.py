@@ -2,6 +2,7 @@
 
 A program of a few lines stands for a child, and a thread of this process for a server at a door.
 """
+import fcntl
 import os
 import pickle
 import random
@@ -16,7 +17,7 @@ import unittest
 sys.path.insert(0, os.path.join(os.path.dirname(os.path.abspath(__file__)), '..'))
 import boost  # noqa: E402
 from boost.connections import IN_STEP, Connection  # noqa: E402
-from boost.lines import AT_ONCE, batches, bytes_of_line, reply_of, words_of  # noqa: E402
+from boost.lines import AT_ONCE, batches, bytes_of_line, reply_of, seconds_of, words_of  # noqa: E402
 from boost.pool import Pool  # noqa: E402
 
 # A server that answers as often as a line asks: `say WORDS`, twice where it is `twice WORDS`; `nothing`, and `end`.
@@ -55,6 +56,13 @@ class Words(unittest.TestCase):
         for word in (True, False, 1.0, None, [], {}):
             with self.assertRaises(TypeError, msg=repr(word)):
                 words_of('m', word)
+
+    def test_seconds_are_a_word(self):
+        for seconds, word in ((0, '0.000'), (30, '30.000'), (0.5, '0.500'), (0.0004, '0.000'), (1.9999, '2.000'), (86400, '86400.000')):
+            self.assertEqual(seconds_of(seconds), word)
+        for seconds in (-0.001, 86400.001, float('inf'), float('nan')):
+            with self.assertRaises(ValueError, msg=repr(seconds)):
+                seconds_of(seconds)
 
     def test_a_line_is_one_and_is_answered(self):
         self.assertEqual(bytes_of_line('do hits read', 20), b'do hits read\n')
@@ -246,6 +254,41 @@ class AtTheDoor(unittest.TestCase):
             self.assertEqual(store.do(('hits', 'read')), [6])
         self.assertEqual(read, [b'do hits read\n'])
         self.assertEqual(os.listdir(self.folder), ['door'])
+
+    def test_who_waits_says_how_long(self):
+        read = self.serve(b'id 7; kept 3\n')
+        with boost.join(self.folder) as store:
+            self.assertEqual(store.do(('jobs', 'pick'), keep=True, within=30), [7])
+            for seconds in (-1, 86401):
+                with self.assertRaises(ValueError):
+                    store.do(('jobs', 'pick'), within=seconds)
+        word, seconds, *calls = read[0].split()
+        self.assertEqual((word, calls), (b'within', [b'keep', b'jobs', b'pick']))
+        self.assertTrue(29 < float(seconds) <= 30)
+
+    def test_who_waits_is_not_late_meanwhile(self):
+        held = []
+
+        def answers():
+            hello = b''
+            while not hello.endswith(b'\n') or hello == b'\n':
+                hello += os.read(self.door, 100)
+            path = os.path.join(self.folder, hello.split()[1].decode())
+            with open(path + '.from', 'wb', buffering=0) as out, open(path + '.to', 'rb', buffering=0) as lines:
+                out.write(b'hello boost 1\n')
+                lines.read(100)
+                try:
+                    fcntl.flock(out, fcntl.LOCK_SH | fcntl.LOCK_NB)
+                except BlockingIOError:
+                    held.append(True)                               # the client holds the lock of its answers while it waits
+                time.sleep(0.6)
+                out.write(b'refused 9 Busy 1\n')
+        thread = threading.Thread(target=answers)
+        thread.start()
+        with boost.join(self.folder) as store, self.assertRaises(boost.Busy):
+            store.do(('jobs', 'pick'), timeout=0.3, within=0.5)
+        thread.join()
+        self.assertEqual(held, [True])
 
     def test_a_cut_line_is_no_answer(self):
         self.serve(b'total 6; place 3')

@@ -17,6 +17,7 @@ use Rattle.disk_model.specs.declared.disk.Disk.{Ghosts}
 use Rattle.group_commit.specs.declared.mark.Raised.{Raised}
 use Rattle.group_commit.specs.Marks.{AreReached}
 use Rattle.recovery.specs.Openings.{KeepsContent}
+use Rattle.recovery.specs.Refusals.{IsOnlyOpened}
 use Rattle.repetition.specs.Journals.{StandsFor}
 use Rattle.repetition.specs.Reading.{IsSound}
 use Rattle.clients.specs.Known.{SeenState}
@@ -192,6 +193,7 @@ module _ {D : Type 0} (g : Ghosts D) where
       ((was_kept : Raised → Type 0) →
       ((x : Raised) → Contains closed.counts x → 0 < x.count → was_kept x) →
       told j.origin closed.closes.steps was_kept) →
+      (g.is_honest opened → IsOnlyOpened g old opened) →
       (g.is_honest opened → KeepsContent g.seen g.may_leave g.moment g.left_since old opened) →
       (g.is_honest opened → IsAtRest g.seen g.may_leave old → j.sound) →
       (g.is_honest opened → IsSound (g.seen old)) →
@@ -199,7 +201,7 @@ module _ {D : Type 0} (g : Ghosts D) where
       j.origin.start ≡ content) → (j.opened_at ≡ g.moment opened) →
       ((t : ℕ) (bytes : List ℕ) → j.left_since t bytes → g.left_since opened t bytes) →
       WasOpened g told old new kept
-  was_opened j parts told old opened new kept closed told_of keeps sound whole start at was =
+  was_opened j parts told old opened new kept closed told_of only keeps sound whole start at was =
       let steps = closed.closes.steps in
       let stop : g.is_honest opened → (content : List Collection) →
       IsAtRest g.seen g.may_leave old → StandsFor (g.seen old) content → (bytes : List ℕ) →
@@ -212,6 +214,7 @@ module _ {D : Type 0} (g : Ghosts D) where
       (sym closed.mark)
       (closed.closes.stop (sound honest rest) bytes (closed.disk.stop bytes left))) in record {
         opened = opened;
+        only_opened = only;
         keeps = keeps;
         worked = λ honest content rest stands. record {
           origin = j.origin;

@@ -11,6 +11,7 @@ use Rattle.group_commit.specs.declared.mark.Raised.{Raised}
 use Rattle.group_commit.specs.Marks.{AreReached}
 use Rattle.checkpoint.specs.Keepers.{KeeperState}
 use Rattle.recovery.specs.Openings.{KeepsContent}
+use Rattle.recovery.specs.Refusals.{IsOnlyOpened, OpeningLeaves}
 use Rattle.repetition.specs.Journals.{StandsFor}
 use Rattle.desks.specs.Origins.{Origin}
 use Rattle.desks.specs.Seen.{IsHistory, step_of}
@@ -109,24 +110,25 @@ pub record IsWorkedOn {D : Type 0} (g : Ghosts D)
       Yields content (committed_by steps) (take kept (committed_by steps)) bytes
   pub stands : Yields content (committed_by steps) (take kept (committed_by steps)) (g.seen new)
 
--- A store was opened, and worked on. Where the disk read true until it was open, a stop in the
--- opening leaves the content; and where it was at rest and its bytes stood for a content, the work
--- went on from that, and what is said of a stop at any moment is said of each since the opening
--- began.
+-- A store was opened, and worked on. Where the disk read true until it was open, there was a store,
+-- and a stop in the opening leaves the content; and where it was at rest and its bytes stood for a
+-- content, the work went on from that, and what is said of a stop at any moment is said of each
+-- since the opening began.
 pub record WasOpened {D : Type 0} (g : Ghosts D)
     (told : Origin → List BookStep → (Raised → Type 0) → Type 0) (old new : D) (kept : ℕ) :
     Type 0 where
   pub opened : D
+  pub only_opened : g.is_honest opened → IsOnlyOpened g old opened
   pub keeps : g.is_honest opened →
       KeepsContent g.seen g.may_leave g.moment g.left_since old opened
   pub worked : g.is_honest opened → (content : List Collection) →
       IsAtRest g.seen g.may_leave old → StandsFor (g.seen old) content →
       IsWorkedOn g told content (g.moment old) new kept
 
--- The opening was refused: a stop leaves the content. Or the store was opened and worked on.
+-- The opening was refused: nothing more was written than that does, and a stop leaves the content.
+-- Or the store was opened and worked on.
 abbrev pub IsLeftByWork : {D : Type 0} (g : Ghosts D) → (old new : D) → (kept : ℕ) → Type 0
-IsLeftByWork g old new kept =
-    (g.is_honest new → KeepsContent g.seen g.may_leave g.moment g.left_since old new)
+IsLeftByWork g old new kept = OpeningLeaves g old new
     ⊎ WasOpened g (λ origin steps was_kept. Unit {0}) old new kept
 
 -- The disk may have been synced: a read gives the same, and a stop leaves nothing else, now or since

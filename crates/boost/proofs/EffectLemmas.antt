@@ -6,7 +6,7 @@ use Rattle.std.proofs.lemmas.List.{take_all}
 use Rattle.std.specs.Prelude.{MatchResult, IfErr, IsErrOf}
 use Rattle.arguments.specs.declared.Task.{Task}
 use Rattle.calls.specs.Contents.{Collection}
-use Rattle.disk_model.specs.Disk.{ReadsOnly, IsAtRest, LeavesOnly}
+use Rattle.disk_model.specs.Disk.{ReadsOnly, IsAtRest, LeavesOnly, Rises}
 use Rattle.disk_model.specs.declared.disk.Disk.{Ghosts}
 use Rattle.disk_model.proofs.Walk.{started, weaker, and_then}
 use Rattle.repetition.specs.Journals.{StandsFor}
@@ -15,7 +15,8 @@ use Rattle.calls.specs.Formats.{number_of}
 use Rattle.calls.specs.declared.format.Format.{Format}
 use Rattle.calls.specs.declared.refusal.Refusal.{Refusal}
 use Rattle.recovery.specs.Formats.{IsRoomAs, IsFormatAnswer, IsEmptyStore, IsMaking, IsFormatting}
-use Rattle.recovery.specs.Openings.{KeepsContent}
+use Rattle.recovery.specs.Openings.{KeepsContent, IsOpenRefusal}
+use Rattle.recovery.specs.Refusals.{IsOpenedAtMost, OpeningLeaves, RefusalLeaves}
 use Rattle.world.specs.Moves.{Whole}
 use Rattle.world.specs.Pasts.{Past}
 use Rattle.checkpoint.specs.Crash.{Yields}
@@ -32,6 +33,7 @@ use Rattle.boost.specs.Commands.{IsUnderstood, IsPlay, IsOfStore, IsWhyUnplayed,
 use Rattle.boost.specs.Commands.{status_of}
 use Rattle.boost.specs.Effects.{KeepsPlaying, StartsFrom, ArePlayedOn, IsPlayedOn, IsPlayedAnew}
 use Rattle.boost.specs.Effects.{Leaves, IsLeftByPlay, IsFormatted, IsEmptyAs, FormatLeaves}
+use Rattle.boost.specs.Effects.{IsBroughtUp}
 use Rattle.talks.specs.declared.client.Client.{Client}
 use Rattle.script.specs.declared.line.Line.{Line}
 
@@ -93,32 +95,53 @@ module _ {D : Type 0} (seen : D → List ℕ) (may_leave : D → List ℕ → Ty
       }
 
 module _ {D : Type 0} (g : Ghosts D) (old : D) where
+  -- an opening that did not touch its disk
+  pub unopened : ((c : List ℕ) → g.left_since old (g.moment old) c → g.may_leave old c) →
+      OpeningLeaves g old old
+  unopened only_now = record {
+    ends = inl (inl (untouched_reads g.seen g.may_leave g.moment g.left_since old only_now));
+    any_moment = λ honest.
+        untouched_keeps g.seen g.may_leave g.moment g.left_since old only_now;
+  }
+
   -- a play of which no line was carried out
-  pub unplayed_leaves : (script : List ℕ) (new : D) →
-      KeepsContent g.seen g.may_leave g.moment g.left_since old new → IsLeftByPlay g script old new
-  unplayed_leaves script new keeps = record {
-    in_part = inl keeps;
-    any_moment = nothing_played g.seen g.may_leave g.moment g.left_since old new keeps;
+  pub unplayed_leaves : (script : List ℕ) (new : D) → g.is_honest new → OpeningLeaves g old new →
+      IsLeftByPlay g script old new
+  unplayed_leaves script new honest leaves = record {
+    in_part = inl leaves;
+    any_moment = nothing_played g.seen g.may_leave g.moment g.left_since old new
+        (leaves.any_moment honest);
+  }
+
+  -- a format that did not touch its disk
+  unformatted : (number area : ℕ) →
+      ((c : List ℕ) → g.left_since old (g.moment old) c → g.may_leave old c) →
+      FormatLeaves g number area old old
+  unformatted number area only_now = record {
+    ends = inl refl;
+    any_moment =
+        untouched_format g.seen g.may_leave g.moment g.left_since old (IsEmptyAs number) only_now;
   }
 
   -- a command that did not touch its disk
   pub untouched_leaves : ((c : List ℕ) → g.left_since old (g.moment old) c → g.may_leave old c) →
       (task : Task) (script : List ℕ) → Leaves g task script old old
   untouched_leaves only_now (Task.Format disk area version reserve group force) script =
-      untouched_format g.seen g.may_leave g.moment g.left_since old (IsEmptyAs version) only_now
+      unformatted version area only_now
   untouched_leaves only_now (Task.Play disk name) script = λ honest.
-      unplayed_leaves script old
-      (untouched_keeps g.seen g.may_leave g.moment g.left_since old only_now)
-  untouched_leaves only_now (Task.Show disk false) script = λ honest.
-      untouched_keeps g.seen g.may_leave g.moment g.left_since old only_now
+      unplayed_leaves script old honest (unopened only_now)
+  untouched_leaves only_now (Task.Show disk false) script = unopened only_now
   untouched_leaves only_now (Task.Show disk true) script =
       untouched_reads g.seen g.may_leave g.moment g.left_since old only_now
   untouched_leaves only_now (Task.Check disk) script =
       untouched_reads g.seen g.may_leave g.moment g.left_since old only_now
   untouched_leaves only_now (Task.Stat disk json) script =
       untouched_reads g.seen g.may_leave g.moment g.left_since old only_now
-  untouched_leaves only_now (Task.Upgrade disk) script = λ honest.
-      untouched_keeps g.seen g.may_leave g.moment g.left_since old only_now
+  untouched_leaves only_now (Task.Upgrade disk) script = record {
+    ends = inl (inl (untouched_reads g.seen g.may_leave g.moment g.left_since old only_now));
+    any_moment = λ honest.
+        untouched_keeps g.seen g.may_leave g.moment g.left_since old only_now;
+  }
   untouched_leaves only_now Task.Demo script = refl
 
   -- a format of a number: what it makes, and what a stop in it leaves
@@ -134,7 +157,8 @@ module _ {D : Type 0} (g : Ghosts D) (old : D) where
   making : (number area : ℕ) (new : D) → IsRoomAs number area (length (g.seen old)) →
       ((f : Format) → number ≡ number_of f → IsAtRest g.seen g.may_leave old →
       LeavesOnly g.moment g.left_since old new (IsFormatting f (g.seen old))) →
-      FormatLeaves g number old new
+      IsAtRest g.seen g.may_leave old →
+      LeavesOnly g.moment g.left_since old new (IsMaking (IsEmptyAs number) (g.seen old))
   making number area new room stop rest =
       weaker g.moment g.left_since old new _ (IsMaking (IsEmptyAs number) (g.seen old))
       (stop room.version room.numbered rest)
@@ -150,22 +174,41 @@ module _ {D : Type 0} (g : Ghosts D) (old : D) where
         ]
       ])
 
-  pub format_leaves : (number area : ℕ) (new : D) (is_risen : Type 0)
-      (r : Result (Unit {0}) Refusal) →
+  pub format_leaves : (number area : ℕ) (new : D) (r : Result (Unit {0}) Refusal) →
       ((c : List ℕ) → g.left_since old (g.moment old) c → g.may_leave old c) →
-      IsFormatAnswer (IsRoomAs number area (length (g.seen old))) is_risen r →
+      IsFormatAnswer (IsRoomAs number area (length (g.seen old)))
+      (Rises (g.fault_count old) (g.fault_count new)) r →
       (IsErrOf r Refusal.BadArg → new ≡ old) →
+      ((f : Format) → number ≡ number_of f → OnOk r (IsEmptyStore f (g.seen new))) →
+      OnOk r (IsAtRest g.seen g.may_leave new) →
       ((f : Format) → number ≡ number_of f → IsAtRest g.seen g.may_leave old →
       LeavesOnly g.moment g.left_since old new (IsFormatting f (g.seen old))) →
-      FormatLeaves g number old new
-  format_leaves number area new is_risen (Ok done) only_now answer same stop =
-      making number area new answer stop
-  format_leaves number area new is_risen (Err Refusal.Fault) only_now answer same stop =
-      making number area new answer.0 stop
-  format_leaves number area new is_risen (Err Refusal.BadArg) only_now answer same stop =
-      subst (λ d. FormatLeaves g number old d) (sym (same refl))
-      (untouched_format g.seen g.may_leave g.moment g.left_since old (IsEmptyAs number) only_now)
-  format_leaves number area new is_risen (Err e) only_now answer same stop = absurd answer
+      FormatLeaves g number area old new
+  format_leaves number area new (Ok done) only_now answer same empty rest stop = record {
+    ends = inr (inl (formatted number area new answer empty rest));
+    any_moment = making number area new answer stop;
+  }
+  format_leaves number area new (Err Refusal.Fault) only_now answer same empty rest stop = record {
+    ends = inr (inr answer);
+    any_moment = making number area new answer.0 stop;
+  }
+  format_leaves number area new (Err Refusal.BadArg) only_now answer same empty rest stop =
+      subst (λ d. FormatLeaves g number area old d) (sym (same refl))
+      (unformatted number area only_now)
+  format_leaves number area new (Err e) only_now answer same empty rest stop = absurd answer
+
+  -- an upgrade that was refused
+  pub refused_leaves : (new : D) (no_head : Type 0) (is_damaged : ℕ → Type 0) (no_room : Type 0)
+      (e : Refusal) →
+      IsOpenRefusal (Rises (g.fault_count old) (g.fault_count new)) no_head is_damaged no_room e →
+      RefusalLeaves g old new e → IsOpenedAtMost g old new ⊎
+      (Rises (g.fault_count old) (g.fault_count new) ⊎ (g.is_honest new → IsBroughtUp g old new))
+  refused_leaves new no_head is_damaged no_room Refusal.NoMemory why left = inl left
+  refused_leaves new no_head is_damaged no_room Refusal.Full why left = inl left
+  refused_leaves new no_head is_damaged no_room Refusal.Fault why left = inr (inl why)
+  refused_leaves new no_head is_damaged no_room Refusal.NotAStore why left = inl (inl left)
+  refused_leaves new no_head is_damaged no_room (Refusal.Damaged place) why left = inl (inl left)
+  refused_leaves new no_head is_damaged no_room e why left = absurd why
 
   -- a store was opened, and then steps were taken
   pub steps_played : (w v : Whole D) →

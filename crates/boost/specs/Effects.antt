@@ -15,13 +15,14 @@ use Rattle.recovery.specs.Formats.{IsRoomFor, IsRoomAs, IsEmptyStore, IsMaking}
 use Rattle.record_format.specs.declared.record.Record.{Record}
 use Rattle.recovery.specs.declared.report.Report.{Report}
 use Rattle.recovery.specs.declared.report.Survey.{Survey}
-use Rattle.recovery.specs.Heads.{HasNoHeader}
+use Rattle.recovery.specs.Heads.{HasHeader, HasNoHeader}
 use Rattle.recovery.specs.Openings.{IsOpened, IsReport, IsDamagedAt, KeepsContent}
 use Rattle.recovery.specs.Finding.{IsFound}
 use Rattle.recovery.specs.Loading.{HoldsImage}
 use Rattle.recovery.specs.Surveys.{IsSurvey}
 use Rattle.recovery.specs.Copies.{IsCopyOf, IsTooLarge, IsCopyAnswer}
-use Rattle.recovery.specs.Upgrades.{IsUpgraded, IsOpenedFirst}
+use Rattle.recovery.specs.Refusals.{IsOpenedAtMost, OpeningLeaves}
+use Rattle.recovery.specs.Upgrades.{IsUpgraded}
 use Rattle.repetition.specs.Steps.{State}
 use Rattle.gate_block.specs.declared.area.Area.{Area}
 use Rattle.gate_block.specs.Area.{base_of, size_of}
@@ -80,8 +81,7 @@ IsPlayedOn g script old new = (lines : List Line) × IsScriptOf lines script ×
 -- A beginning of a script's lines is played on a disk, or none: then the store was opened at most,
 -- and its content stays.
 abbrev pub IsPlayedInPart : {D : Type 0} (g : Ghosts D) → List ℕ → D → D → Type 0
-IsPlayedInPart g script old new =
-    KeepsContent g.seen g.may_leave g.moment g.left_since old new ⊎
+IsPlayedInPart g script old new = OpeningLeaves g old new ⊎
     ((lines : List Line) × IsScriptOf lines script × ((n : ℕ) ×
     ArePlayedOn g (take n lines) old new))
 
@@ -112,18 +112,31 @@ pub record IsEmptyAs (number : ℕ) (bytes : List ℕ) : Type 0 where
   pub numbered : number ≡ number_of version
   pub empty : IsEmptyStore version bytes
 
--- What a format leaves of a disk at rest, done or not: the old bytes, with any value for the gate
--- of the head; no store; or an empty one of the version of this number.
-abbrev pub FormatLeaves : {D : Type 0} (g : Ghosts D) → (number : ℕ) → D → D → Type 0
-FormatLeaves g number old new = IsAtRest g.seen g.may_leave old →
-    LeavesOnly g.moment g.left_since old new (IsMaking (IsEmptyAs number) (g.seen old))
+-- What a format leaves of a disk, done or not. It is as it was; or there is room for the areas, and
+-- an empty store was made, or the disk failed. A stop at any moment of it, where the disk was at
+-- rest, leaves the old bytes, with any value for the gate of the head; no store; or an empty one of
+-- the version of this number.
+pub record FormatLeaves {D : Type 0} (g : Ghosts D) (number area : ℕ) (old new : D) : Type 0 where
+  pub ends : (new ≡ old) ⊎ (IsFormatted g number area old new ⊎
+      (IsRoomAs number area (length (g.seen old)) ×
+      Rises (g.fault_count old) (g.fault_count new)))
+  pub any_moment : IsAtRest g.seen g.may_leave old →
+      LeavesOnly g.moment g.left_since old new (IsMaking (IsEmptyAs number) (g.seen old))
 
--- A store at rest was brought to the second format, with its content, and is at rest. One that was of
--- this format was only opened.
-abbrev pub IsBroughtUp : {D : Type 0} (g : Ghosts D) → D → D → Type 0
-IsBroughtUp g old new = IsOpenedFirst (g.seen old) (g.seen new) ×
-    (IsAtRest g.seen g.may_leave old → IsUpgraded (g.seen old) (g.seen new) ×
-    IsAtRest g.seen g.may_leave new)
+-- A store was brought to the second format, with its head, its next number, its wear and its
+-- content, and is at rest where it was before. One that was of this format was only opened.
+pub record IsBroughtUp {D : Type 0} (g : Ghosts D) (old new : D) : Type 0 where
+  pub upgraded : IsUpgraded (g.seen old) (g.seen new)
+  pub at_rest : IsAtRest g.seen g.may_leave old → IsAtRest g.seen g.may_leave new
+
+-- What an upgrade leaves of a disk, done or not. It was only read, or opened at most; or it failed,
+-- or a store was brought to the second format. So where no store is, or a damaged one, nothing is
+-- written. A stop at any moment of it leaves the content.
+pub record UpgradeLeaves {D : Type 0} (g : Ghosts D) (old new : D) : Type 0 where
+  pub ends : IsOpenedAtMost g old new ⊎ (Rises (g.fault_count old) (g.fault_count new) ⊎
+      (g.is_honest new → IsBroughtUp g old new))
+  pub any_moment : g.is_honest new →
+      KeepsContent g.seen g.may_leave g.moment g.left_since old new
 
 -- A store was read and opened, and the disk is as the opening leaves it.
 pub record IsShown {D : Type 0} (g : Ghosts D) (old new : D) : Type 0 where
@@ -156,10 +169,9 @@ abbrev pub IsShownAs : {D : Type 0} (g : Ghosts D) → (read_only : Bool) → D 
 IsShownAs g false old new = g.is_honest new → IsShown g old new
 IsShownAs g true old new = IsSeen g old new
 
--- What it leaves then: the content, or all as it was.
+-- What it leaves then: what an opening does, or all as it was.
 abbrev pub ShowLeaves : {D : Type 0} (g : Ghosts D) → (read_only : Bool) → D → D → Type 0
-ShowLeaves g false old new = g.is_honest new →
-    KeepsContent g.seen g.may_leave g.moment g.left_since old new
+ShowLeaves g false old new = OpeningLeaves g old new
 ShowLeaves g true old new = ReadsOnly g.seen g.may_leave g.moment g.left_since old new
 
 -- A store was read, and so many things were counted of it.
@@ -186,18 +198,17 @@ IsDone g stored Task.Demo script old new = stored
 -- left: a format the old bytes, no store or an empty one; a play what a beginning of the script's
 -- lines leaves, and a beginning of what its steps committed; a show the content, or all where
 -- nothing is to be written; a check and a stat only read; an upgrade the content; and the stored
--- run does not touch the disk.
+-- run does not touch the disk. Where no store is, or a damaged one, only a format writes.
 abbrev pub Leaves : {D : Type 0} (g : Ghosts D) → Task → (script : List ℕ) → D → D → Type 0
 Leaves g (Task.Format disk area version reserve group force) script old new =
-    FormatLeaves g version old new
+    FormatLeaves g version area old new
 Leaves g (Task.Play disk name) script old new = g.is_honest new → IsLeftByPlay g script old new
 Leaves g (Task.Show disk read_only) script old new = ShowLeaves g read_only old new
 Leaves g (Task.Check disk) script old new =
     ReadsOnly g.seen g.may_leave g.moment g.left_since old new
 Leaves g (Task.Stat disk json) script old new =
     ReadsOnly g.seen g.may_leave g.moment g.left_since old new
-Leaves g (Task.Upgrade disk) script old new = g.is_honest new →
-    KeepsContent g.seen g.may_leave g.moment g.left_since old new
+Leaves g (Task.Upgrade disk) script old new = UpgradeLeaves g old new
 Leaves g Task.Demo script old new = new ≡ old
 
 -- ---- a copy, from the two disks as they were to the two as they are
@@ -219,5 +230,6 @@ pub record IsCopyRefused {D N : Type 0} (g : Ghosts D) (h : Ghosts N) (area : �
       (g.is_honest after.0 → HasNoHeader (g.seen before.0))
       (λ place. g.is_honest after.0 → IsDamagedAt (g.seen before.0) place)
       (g.is_honest after.0 → IsTooLarge (g.seen before.0) area) (Err refusal)
+  pub starved : refusal ≡ Refusal.NoMemory → g.is_honest after.0 → HasHeader (g.seen before.0)
   pub unwritten : (after.1 ≡ before.1) ⊎
       ((refusal ≡ Refusal.Fault) × Rises (h.fault_count before.1) (h.fault_count after.1))

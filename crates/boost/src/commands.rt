@@ -3,6 +3,7 @@ ghost use Rattle.std.specs.Prelude.{◌≡◌, ◌⊎◌, ℕ, List, Ok, Err, On
 ghost use Rattle.std.specs.Prelude.{MatchResult, replicate};
 ghost use Rattle.disk_model.specs.Disk.{ReadsOnly};
 ghost use Rattle.recovery.specs.Openings.{KeepsContent};
+ghost use Rattle.recovery.specs.Refusals.{OpeningLeaves};
 ghost use Rattle.talks.specs.Requests.{nobody};
 ghost use Rattle.boost.specs.Effects.{ArePlayedOn, IsPlayedOn, IsPlayedAnew, IsLeftByPlay};
 ghost use Rattle.boost.specs.Effects.{StartsFrom, IsFormatted, IsShown, IsCounted, IsDone, Leaves};
@@ -56,12 +57,14 @@ use world::World;
 ///   what Show does. It leaves `disk` alone.
 ///
 /// To open a store is to undo the transactions that have not ended, which is written to the disk.
+/// Where there is no store, or a damaged one, only a Format writes.
 /// The memory that it takes is bounded by the bytes of the area in use, as `recovery::open` says.
 /// Show and Stat hold the items of one collection at a time beside it, and Stat an image.
 ///
 /// What a stop leaves, of a disk at rest that reads true and whose bytes are sound: of a Show and
 /// of an Upgrade the content; of a Play the content that a beginning of what its steps committed
-/// gives; of a Format what `recovery::format_as` says. Output is held in a buffer, so it comes at
+/// gives; of a Format what `recovery::format_as` says. A Format for which the disk has not the room,
+/// or has more, leaves the disk as it was. Output is held in a buffer, so it comes at
 /// the end and where the buffer is full.
 ///
 /// The status is 0 where the command was done; lines of the script that were refused count as done.
@@ -161,7 +164,7 @@ fn perform<D: Disk, O: Write>(
 fn format_disk<D: Disk>(disk: D, area: u64, version: u8) -> (Result<(), Failure<'static>>, D)
     ensures why { IfErr result.0 IsOfStore }
     ensures done { OnOk result.0 (IsFormatted ⟦<D as Disk>⟧ version area disk result.1) }
-    ensures formatting { FormatLeaves ⟦<D as Disk>⟧ version disk result.1 }
+    ensures formatting { FormatLeaves ⟦<D as Disk>⟧ version area disk result.1 }
 {
     let mut disk = disk;
     match format_as(&mut disk, area, version) {
@@ -198,8 +201,7 @@ fn open_player<D: Disk>(alloc: Global, disk: D) -> Result<Player<D>, (Refusal, D
         StartsFrom ⟦<D as Disk>⟧ disk player.world) }
     ensures kept { IfOk result (λ player. D.is_honest player.world.keeper.disk →
         KeepsContent D.seen D.may_leave D.moment D.left_since disk player.world.keeper.disk) }
-    ensures kept_in_refusal { IfErr result
-        (λ x. D.is_honest x.1 → KeepsContent D.seen D.may_leave D.moment D.left_since disk x.1) }
+    ensures left_in_refusal { IfErr result (λ x. OpeningLeaves ⟦<D as Disk>⟧ disk x.1) }
 {
     let (book, keeper) = open(alloc, disk)?;
     Ok(Player::new(World::new(alloc, book, keeper)?))
@@ -264,8 +266,7 @@ fn show_opened<D: Disk, O: Write>(
 ) -> (Result<(), Failure<'static>>, D)
     ensures why { IfErr result.0 IsOfStore }
     ensures done { OnOk result.0 (D.is_honest result.1 → IsShown ⟦<D as Disk>⟧ disk result.1) }
-    ensures shown { D.is_honest result.1 →
-        KeepsContent D.seen D.may_leave D.moment D.left_since disk result.1 }
+    ensures shown { OpeningLeaves ⟦<D as Disk>⟧ disk result.1 }
 {
     match open(alloc, disk) {
         Ok((book, keeper)) => {

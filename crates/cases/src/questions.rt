@@ -7,7 +7,7 @@ use crate::system::System;
 use crate::{damage, files, image_bytes, runs, spellings, texts, watched};
 use std::fs::{self, File};
 use std::io;
-use std::rt::Files;
+use std::rt::{Clock, Files};
 use std::sync::Wait;
 
 /// Asks what a line asks, and tells what is answered.
@@ -42,7 +42,7 @@ fn ask_of_threads(
 
 // Asks a question of files, or else another.
 fn ask_of_files(
-    rt: &(impl Files<File = File> + Wait + AllocGlobal),
+    rt: &(impl Files<File = File> + Wait + Clock + AllocGlobal),
     bench: &mut Workbench,
     word: &str,
     rest: &str,
@@ -66,7 +66,7 @@ fn ask_of_files(
 
 // Asks for stops or for areas, or else another question.
 fn ask_of_sweeps(
-    rt: &(impl Files + Wait + AllocGlobal),
+    rt: &(impl Files + Wait + Clock + AllocGlobal),
     bench: &mut Workbench,
     word: &str,
     rest: &str,
@@ -86,7 +86,7 @@ fn ask_of_sweeps(
 
 // Asks a question of a store, or one that brings all that it needs, or else one of `plays`.
 fn ask_of_stores(
-    rt: &(impl Wait + AllocGlobal),
+    rt: &(impl Wait + Clock + AllocGlobal),
     bench: &mut Workbench,
     word: &str,
     rest: &str,

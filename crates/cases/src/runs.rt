@@ -66,7 +66,7 @@ pub fn serve_ends(
 
 /// Plays a script of one line, which stands between two marks.
 pub fn play_line(
-    rt: &(impl Wait + AllocGlobal),
+    rt: &(impl Wait + Clock + AllocGlobal),
     bench: &mut Workbench,
     text: &str,
     told: &mut Told,

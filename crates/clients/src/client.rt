@@ -20,6 +20,7 @@ ghost use Rattle.clients.specs.Calls.{Aborts, DoesInRoom, IsEntering, IsMade, nu
 ghost use Rattle.clients.specs.Calls.{ended_by, placed, replied, back, backs, Loads, Hears, Waits};
 ghost use Rattle.clients.specs.Calls.{AsksFor};
 
+use crate::awaiting::Awaiting;
 use crate::hints::Hints;
 use crate::miss::Miss;
 use crate::phase::Phase;
@@ -56,11 +57,13 @@ use std::sync::Wait;
 pub struct Client<'s, J: Naming, B: Coded = Catalog> {
     shelves: &'s Shelves<J, B>,
     desk: &'s Lock<Desk<J, B>>,
-    shared: &'s Shared<J>,
+    pub(crate) shared: &'s Shared<J>,
     line: ClientSeat,
     watcher: Watcher,
     drawer: Drawer,
     phase: Phase,
+    // what the transaction asked for, and where the client stands in the line of those who wait
+    pub(crate) awaiting: Awaiting,
     // where collections were found, and on which shelves the transaction asked for something
     hints: Hints,
     touched: Four<bool>,
@@ -74,15 +77,17 @@ impl<'s, J: Naming, B: Coded> Drop for Client<'s, J, B> {
         let Self {
             shelves: _shelves,
             desk: _desk,
-            shared: _shared,
+            shared,
             line,
             watcher,
             drawer,
             phase: _phase,
+            awaiting,
             hints: _hints,
             touched: _touched,
             waited: _waited,
         } = self;
+        awaiting.abandon(&shared.waiting);
         drop(line);
         drop(watcher);
         drop(drawer);
@@ -125,6 +130,7 @@ impl<'s, J: Naming, B: Coded> Client<'s, J, B> {
             watcher,
             drawer,
             phase: Phase::Closed,
+            awaiting: Awaiting::new(),
             hints: Hints::new(),
             touched: each(false),
             waited: None,
@@ -162,6 +168,7 @@ impl<'s, J: Naming, B: Coded> Client<'s, J, B> {
             IsWorn J.origin.next self.old self.new) }
     {
         let number = self.shared.numbers.draw(&mut self.drawer)?;
+        self.awaiting.forget();
         self.phase = Phase::Drawn(number);
         Ok(number)
     }
@@ -274,7 +281,9 @@ impl<'s, J: Naming, B: Coded> Client<'s, J, B> {
     /// transactions that conflict with it are answered Busy, until this one ends. Call it only of a
     /// client with a transaction. It takes the lock of the shelf of the collection and then the
     /// journal's, each once; the journal's once before where the client does not know the
-    /// collection's number, and both anew where it was mistaken in it. It calls no device.
+    /// collection's number, and both anew where it was mistaken in it. It calls no device. Before the
+    /// first call of a transaction it stands back, for a tenth of a second at most, where another
+    /// client goes first (see `await_change`).
     ///
     /// Full where what the call adds has no room (see `Client`). At the first call of a transaction
     /// TooManyLive, Worn, Backlog, NoMemory, and then the book does not know the transaction yet.
@@ -298,11 +307,12 @@ impl<'s, J: Naming, B: Coded> Client<'s, J, B> {
         self.arrive(rt);
         let request = Request { name, call, when };
         let mut hint = self.hints.told(name);
+        self.stand_back(rt, &request, hint);
         for _ in rt.forever() {
             let at = self.place_of(rt, &request, hint)?;
             match self.ask_at(rt, &request, at) {
                 Ok(answer) => {
-                    self.remember(name, at);
+                    self.remember(&request, at, &answer);
                     return answer;
                 }
                 Err(Miss::Elsewhere) => hint = None,
@@ -478,9 +488,11 @@ impl<'s, J: Naming, B: Coded> Client<'s, J, B> {
         ensures phase { IsEnded result self.new.phase }
     {
         self.shared.signal.let_drain(rt);
+        let number = self.number();
         let mut wanted = self.wanted();
         for _ in rt.forever() {
             if let Some(placed) = self.commit_on(rt, &wanted) {
+                self.tell_commit(rt, number, placed.is_ok());
                 return placed;
             }
             wanted = each(true);
@@ -544,13 +556,28 @@ impl<'s, J: Naming, B: Coded> Client<'s, J, B> {
         ensures phase { IsEnded result self.new.phase }
     {
         match self.phase {
-            Phase::Entered(number) => self.end(rt, number),
+            Phase::Entered(number) => self.end_and_tell(rt, number),
             Phase::Drawn(_) => {
                 close(&mut self.phase, &mut self.touched);
                 Ok(())
             }
             Phase::Closed => unreachable!(),
         }
+    }
+
+    // Undoes a transaction's calls, ends it, and tells those in whose way it was.
+    fn end_and_tell<R: Wait>(&mut self, rt: &R, number: u64) -> Result<(), Refusal>
+        requires { self.old.phase ≡ Phase.Entered number }
+        ensures step { (count : ℕ) ×
+            (Acts J.origin self.old (backs number count ++ back number (Ok false) ∷ [])
+            (Action.Ended number result) self.new
+            ⊎ ((e : Refusal) × (result ≡ Err e) ×
+            Acts J.origin self.old (backs number count) (back number (Err e)) self.new)) }
+        ensures phase { self.new.phase ≡ ended_by result number }
+    {
+        let ended = self.end(rt, number);
+        self.tell_taken_back(rt, number, ended.is_ok());
+        ended
     }
 
     // Undoes a transaction's calls, and ends it.
@@ -710,12 +737,23 @@ impl<'s, J: Naming, B: Coded> Client<'s, J, B> {
         }
     }
 
-    // The transaction asked for something of the collection of the name, which is at the number.
-    fn remember(&mut self, name: &str, at: u8)
+    // The transaction asked for something of the collection of the name, which is at the number, and
+    // was answered so.
+    fn remember(&mut self, request: &Request<'_>, at: u8, answer: &Result<Reply, Refusal>)
         ensures { self.new ≡ self.old }
     {
-        self.hints.tell(name, at);
+        self.hints.tell(request.name, at);
         *self.touched.of_mut(at) = true;
+        self.awaiting.note(request, at, answer);
+    }
+
+    // Before the first call of a transaction, which holds nothing yet, others go first who have
+    // waited long for the collection that is told.
+    fn stand_back<R: Wait>(&self, rt: &R, request: &Request<'_>, hint: Option<u8>) {
+        if let (Phase::Drawn(_), Some(at)) = (self.phase, hint) {
+            self.awaiting
+                .stand_back(rt, &self.shared.waiting, at, request.call);
+        }
     }
 
     /// Whether the commit or making of the ticket is kept through a stop. It takes no memory, and
@@ -831,15 +869,17 @@ impl<'s, J: Naming, B: Coded> Client<'s, J, B> {
         let Self {
             shelves: _shelves,
             desk: _desk,
-            shared: _shared,
+            shared,
             line,
             watcher,
             drawer,
             phase: _phase,
+            awaiting,
             hints: _hints,
             touched: _touched,
             waited: _waited,
         } = self;
+        awaiting.abandon(&shared.waiting);
         drop(drawer);
         Seen::new(line, watcher)
     }

@@ -13,10 +13,11 @@
 //! has seen go on, `proofs/Visits` what it knows behind one visit to the locks.
 //!
 //! **To change it.** A new step of a client is a method of `Desk`, which notes it, and one of
-//! `Client`, with its definition in `specs/Calls`.
+//! `Client`, with its definition in `specs/Calls`. Who waits for work is `src/awaiting.rt`.
 #![tactic(auto)]
 
 mod attempt;
+mod awaiting;
 mod client;
 mod hints;
 mod miss;
@@ -27,6 +28,7 @@ mod ticket;
 
 pub use attempt::{Attempt, Transaction};
 pub use client::Client;
+pub use desks::Moment;
 pub use phase::Phase;
 pub use seen::Seen;
 pub use ticket::Ticket;

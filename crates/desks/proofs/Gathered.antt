@@ -7,8 +7,8 @@ use Rattle.calls.specs.Contents.{Collection}
 use Rattle.calls.specs.declared.refusal.Refusal.{Refusal}
 use Rattle.blocks.specs.declared.block.Block.{Block}
 use Rattle.images.specs.Gathers.{GatherState}
-use Rattle.gathering.specs.Gatherings.{KeepsGoing}
-use Rattle.gathering.proofs.Going.{goes_past_others}
+use Rattle.images.specs.Gatherings.{KeepsGoing}
+use Rattle.images.proofs.Going.{goes_past_others}
 use Rattle.txn.specs.declared.steps.Action.{Action}
 use Rattle.txn.specs.declared.steps.Target.{Target}
 use Rattle.txn.specs.Books.{BookState, GoesOn, Takes, CutAnswers, position}

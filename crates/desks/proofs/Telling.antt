@@ -26,7 +26,7 @@ use Rattle.record_format.specs.declared.record.Record.{Record}
 use Rattle.record_format.specs.Short.{AreShort}
 use Rattle.records.specs.Told.{Tells}
 use Rattle.images.specs.Gathers.{GatherState}
-use Rattle.gathering.specs.Gatherings.{GatheringState, GoesAlong}
+use Rattle.images.specs.Gatherings.{GatheringState, GoesAlong}
 use Rattle.machine.specs.Machine.{State, Does, IsRunning, IsLeft, CanBegin, BeginRow, EndedRow}
 use Rattle.machine.specs.Machine.{FallRow, UnreadRow, MakeRow, CanCall, CallRow, ReadRow}
 use Rattle.machine.specs.Machine.{LaterRow, CommitRow, WrittenBackRow}

@@ -6,10 +6,12 @@ use crate::signal::Signal;
 use calls::Format;
 use group_commit::{Accord, Handoff, Line, Mark, Numbers};
 use std::marker::PhantomData;
+use waiting::WaitQueue;
 
 /// The parts that threads share by `&`, of the store's own name: the one history, the mark, the
 /// numbers, the hand-off of blocks, the accords on what is gathered of the book and on the image
-/// that the keeper awaits, what wakes the committer, and the format of the store.
+/// that the keeper awaits, what wakes the committer, the line of clients that wait for work, and the
+/// format of the store.
 #[derive(Drop)]
 pub struct Shared<J: Naming> {
     pub line: Line,
@@ -19,6 +21,7 @@ pub struct Shared<J: Naming> {
     pub gathering: Accord,
     pub awaited: Accord,
     pub signal: Signal,
+    pub waiting: WaitQueue,
     pub format: Format,
     pub of: PhantomData<J>,
     pub ghost line_is: { line ≡ J.line },

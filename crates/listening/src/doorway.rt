@@ -307,7 +307,7 @@ impl<'a, F: Fifos + Drop, E: Write + Drop> Doorway<'a, F, E> {
         let (reader, mut writer) = self.meet(alloc, word)?;
         writer.write_all(b"hello boost 1\n")?;
         let (number, answers) = (reader.as_raw_fd(), writer.as_raw_fd());
-        let writer = Answers::new(rt, writer, outlet, &self.looks);
+        let writer = Answers::new(rt, writer, outlet, &self.looks, &self.is_over);
         let reader = Until::new(rt, reader, seat, &self.looks, &self.is_over);
         let mut lines = BufReader::with_capacity(alloc, READ_SIZE, reader)?;
         let mut session = Session::new(client);

@@ -1,6 +1,6 @@
 // The FIFOs by which clients come.
 use std::alloc::{AllocGlobal, Global};
-use std::fs::{self, File, Metadata};
+use std::fs::{self, File, Metadata, TryLockError};
 use std::io;
 use std::os::fd::AsRawFd;
 use std::os::unix::fs::FileTypeExt;
@@ -36,6 +36,24 @@ pub trait Fifos {
 
     /// Whether standard error is a FIFO.
     fn has_standard_error(&self) -> bool;
+}
+
+/// A file of which somebody else may hold the lock.
+pub trait Held {
+    /// Whether somebody else does. Where that cannot be told it is taken to be so.
+    fn is_held(&self) -> bool;
+}
+
+impl Held for File {
+    fn is_held(&self) -> bool {
+        match self.try_lock_shared() {
+            Ok(()) => {
+                let _given_up = self.unlock();
+                false
+            }
+            Err(TryLockError::WouldBlock | TryLockError::Error(_)) => true,
+        }
+    }
 }
 
 /// The other side of the FIFO that is open in this process under a number, or the same side once

@@ -40,6 +40,8 @@ const STANDARD_INPUT: i32 = 0;
 /// Where 64 batches of lines wait for one client, no more input is read. So the parent reads
 /// answers while it writes lines, or has few of them outstanding.
 ///
+/// Behind the end of the input no line waits for others any more.
+///
 /// Where a time is set, what a client has open is taken back once no line has come for it for so
 /// long. Where a client was told that keeping has failed, no more input is read, which ends all
 /// clients: at once where the input is a pipe, and else behind what comes next.
@@ -53,7 +55,8 @@ pub struct Multiplex<'a, F, I, O, E> {
     // No looks are taken at it.
     looks: AtomicU64,
     arrivals: Arrivals,
-    is_lost: AtomicBool,
+    // No more input is read.
+    is_over: AtomicBool,
     // How keeping goes.
     state: KeepingState<'a>,
     input: Mutex<Option<I>>,
@@ -96,7 +99,7 @@ impl<'a, F: Fifos + Drop, I: Read + Drop, O: Write + Drop, E: Write + Drop> Mult
             seat: Seat::new(),
             looks: AtomicU64::new(0),
             arrivals: Arrivals::new(MAX_LIVE + 1),
-            is_lost: AtomicBool::new(false),
+            is_over: AtomicBool::new(false),
             state,
             input: Mutex::new(Some(input)),
             output: Mutex::new(output),
@@ -137,8 +140,9 @@ impl<'a, F: Fifos + Drop, I: Read + Drop, O: Write + Drop, E: Write + Drop> Mult
         let mut handing = Handing::new(rt, rt.alloc(), &self.output, self.manner, senders);
         handing.say_hello()?;
         self.seat.take(rt, STANDARD_INPUT);
-        let input = Until::new(rt, input, &self.seat, &self.looks, &self.is_lost);
+        let input = Until::new(rt, input, &self.seat, &self.looks, &self.is_over);
         let handed_out = handing.hand_out_all(input);
+        self.is_over.store(true, Ordering::SeqCst);
         self.seat.leave(rt);
         handed_out
     }
@@ -178,7 +182,8 @@ impl<'a, F: Fifos + Drop, I: Read + Drop, O: Write + Drop, E: Write + Drop> Mult
         let coming = Coming::new(rt, batches, self.idle, Vec::new(alloc));
         let mut lines = BufReader::with_capacity(alloc, READ_SIZE, coming)?;
         let number = of.saturating_add(1);
-        let output = Tagged::new(rt, &self.output, number, self.manner, Vec::new(alloc));
+        let (manner, text) = (self.manner, Vec::new(alloc));
+        let output = Tagged::new(rt, &self.output, number, manner, &self.is_over, text);
         let mut printer = Printer::new(alloc, output).with_state(&self.state);
         for _ in rt.forever() {
             let mut session = Session::new(client);
@@ -220,7 +225,7 @@ impl<F: Fifos + Drop, I: Read + Drop, O: Write + Drop, E: Write + Drop> Work
     /// next.
     fn keeping_ended<R: Wait + AllocGlobal>(&self, rt: &R, refusal: Refusal) {
         self.state.note(refusal);
-        self.is_lost.store(true, Ordering::SeqCst);
+        self.is_over.store(true, Ordering::SeqCst);
         let _woken = self.seat.wake(rt, rt.alloc(), &self.fifos, u64::MAX, false);
     }
 

@@ -21,6 +21,8 @@ pub const HELP: &[u8] = b"\
 make KIND NAME       makes a collection: a set, map, queue, counter, pool, stock or quotas
 do NAME CALL; ..     a transaction of these calls: all of them, or none
 keep NAME CALL; ..   the same, and waits until it is on the disk
+within 30 do ..      waits up to 30 seconds while a call is Busy or finds nothing;
+                     and so does `within 30 keep ..`
 begin                begins a transaction of many lines:
   call NAME CALL       makes a call in it
   later NAME CALL      puts a `bump` or a `fill` off to its commit

@@ -1,7 +1,9 @@
 // The output that clients share, for the lines of one of them.
 use crate::shell::{Manner, PROMPT};
 use std::io::{self, Write};
+use std::sync::atomic::{AtomicBool, Ordering};
 use std::sync::{Mutex, Wait};
+use talks::{Attention, Output};
 
 /// A shared output as a writer of one client: each line begins with `c`, the client's number and a
 /// space. What is written at once goes out at once, and nothing of others comes between. Call it
@@ -13,16 +15,19 @@ pub struct Tagged<'a, O, R: Wait> {
     output: &'a Mutex<O>,
     client: usize,
     manner: Manner,
+    is_over: &'a AtomicBool,
     text: Vec<u8>,
 }
 
 impl<'a, O, R: Wait> Tagged<'a, O, R> {
-    /// The output for the client of this number. `text` is empty, and holds what is written.
+    /// The output for the client of this number. `is_over` says that no more input is read, and
+    /// `text` is empty, and holds what is written.
     pub fn new(
         rt: &'a R,
         output: &'a Mutex<O>,
         client: usize,
         manner: Manner,
+        is_over: &'a AtomicBool,
         text: Vec<u8>,
     ) -> Self {
         Self {
@@ -30,6 +35,7 @@ impl<'a, O, R: Wait> Tagged<'a, O, R> {
             output,
             client,
             manner,
+            is_over,
             text,
         }
     }
@@ -64,5 +70,15 @@ impl<O: Write, R: Wait> Write for Tagged<'_, O, R> {
 
     fn flush(&mut self) -> io::Result<()> {
         Ok(())
+    }
+}
+
+/// Clients that share an output are there as long as it is.
+impl<O: Write, R: Wait> Output for Tagged<'_, O, R> {
+    fn attention(&mut self) -> Attention {
+        if self.is_over.load(Ordering::SeqCst) {
+            return Attention::Hurried;
+        }
+        Attention::Patient
     }
 }

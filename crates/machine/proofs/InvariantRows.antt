@@ -10,7 +10,7 @@ use Rattle.calls.specs.declared.kind.Kind.{Kind}
 use Rattle.calls.specs.declared.call.Call.{Call}
 use Rattle.calls.specs.declared.reply.Reply.{Reply}
 use Rattle.calls.specs.Rules.{Disposable, inverse_of}
-use Rattle.calls.specs.Transactions.{Event, Asked, PutOff, Leads, laters_of, own}
+use Rattle.calls.specs.Transactions.{Event, Entry, Asked, PutOff, Leads, laters_of, own}
 use Rattle.undo_log.specs.Logs.{Lives, fallen}
 use Rattle.boosted.specs.Meaning as shape
 use Rattle.boosted.specs.Meaning.{HasRoom, Meaning}
@@ -18,7 +18,7 @@ use Rattle.boosted.proofs.Each.{weaker, each_append}
 use Rattle.record_format.specs.Records.{IsNumber}
 use Rattle.records.proofs.Items.{short_disposable}
 use Rattle.machine.specs.Machine.{State, Does, IsRunning, IsLeft, BeginRow, CommitRow, EndedRow}
-use Rattle.machine.specs.Machine.{FallRow, MakeRow, CallRow, LaterRow, BackRow}
+use Rattle.machine.specs.Machine.{FallRow, MakeRow, CallRow, LaterRow, AcceptRow, BackRow}
 use Rattle.machine.specs.Machines.{resting, IsAskedEntry, IsUpheld}
 use Rattle.shelf.specs.Shelves.{CanRun}
 use Rattle.machine.specs.Sound.{IsSound}
@@ -181,6 +181,10 @@ module _ {S : Type 0} (meaning : Meaning S ℕ) (making : Making S)
           holds = subst Sound row.is (steps.later_sound meaning making laws.rules s upheld.holds n
               at call t row);
         })
+
+    pub take_upheld : (n : ℕ) (e : Entry) (t : State S) → AcceptRow meaning s n e t → Upheld t
+    take_upheld n (Asked e) t row = call_upheld n e t row
+    take_upheld n (PutOff at call) t row = later_upheld n at call t row
 
     -- A transaction is over. What it put off wore by no more than its entries count, so each entry
     -- that is left may still be undone.

@@ -35,7 +35,8 @@ use Rattle.machine.specs.Machine.{CanCall, CallRow, ReadRow, LaterRow, BackRow}
 use Rattle.machine.specs.Machines.{IsUpheld}
 use Rattle.machine.specs.Sound.{IsSound}
 use Rattle.machine.specs.Wholes.{AccountsState, state_on, contents, all_holds, whole_state}
-use Rattle.machine.specs.Wholes.{AreShelved, place_of, HasEntry, IsJoined, StepsOn, StepsBeside}
+use Rattle.undo_log.specs.Entries.{place_of}
+use Rattle.machine.specs.Wholes.{AreShelved, HasEntry, IsJoined, StepsOn, StepsBeside}
 use Rattle.machine.specs.Accounts.{alone, rested, finished, CanUndo}
 use Rattle.machine.proofs.AloneRows.{begin_on, fall_on, unread_on, commit_on, ended_on}
 use Rattle.machine.proofs.BookLaws.{BookLaws}

@@ -16,7 +16,7 @@ use Rattle.calls.specs.Transactions.{Event, Entry, Asked, PutOff, Leads, own, ot
 use Rattle.calls.specs.Transactions.{laters_of}
 use Rattle.calls.proofs.Readings.{read_leaves}
 use Rattle.abstract_locks.specs.declared.table.Hold.{Hold}
-use Rattle.ledger.specs.LeftCalls.{GoesTwice}
+use Rattle.undo_log.specs.LeftCalls.{GoesTwice}
 use Rattle.undo_log.specs.Entries.{HasNoCall}
 use Rattle.undo_log.specs.Logs.{Lives, fallen}
 use Rattle.boosted.specs.Meaning.{Meaning}

@@ -12,7 +12,7 @@ use Rattle.calls.specs.declared.reply.Reply.{Reply}
 use Rattle.calls.specs.Rules.{left_by}
 use Rattle.calls.specs.Transactions.{Event, Entry, Asked, PutOff, own}
 use Rattle.boosted.specs.Runs as runs
-use Rattle.ledger.specs.LeftCalls.{IsGoing, GoesTwice}
+use Rattle.undo_log.specs.LeftCalls.{IsGoing, GoesTwice}
 use Rattle.machine.specs.Theory.Rules.{Has, Lacks}
 use Rattle.machine.specs.Theory.Journal as journal
 use Rattle.machine.specs.Theory.Machine.{lefts}

@@ -16,7 +16,6 @@ pub mod Rows
 pub mod UndoneCall
 pub mod AlikeStates
 pub mod JoinedEntries
-pub mod HeldNeeds
 pub mod Journalled
 pub mod Readings
 pub mod AloneRows

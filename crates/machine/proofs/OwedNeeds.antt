@@ -11,7 +11,8 @@ use Rattle.undo_log.specs.Entries.{IsNewestCall}
 use Rattle.machine.specs.Machine.{State, IsLeft}
 use Rattle.machine.proofs.LiveNumbers.{fallen_is, lives_more, lives_fewer, falls_more, falls_fresh}
 use Rattle.machine.proofs.LiveNumbers.{falls_fewer}
-use Rattle.machine.specs.Wholes.{place_of, HasEntry, IsOwed}
+use Rattle.undo_log.specs.Entries.{place_of}
+use Rattle.machine.specs.Wholes.{HasEntry, IsOwed}
 
 -- ---- entries
 more : (n at : ℕ) (xs ys : List (ℕ × Entry)) → HasEntry n at xs → HasEntry n at (xs ++ ys)

@@ -4,18 +4,18 @@ use Rattle.std.proofs.Common.{arith}
 use Rattle.std.specs.FinMap as maps
 use Rattle.calls.specs.declared.format.Format.{Format}
 use Rattle.calls.specs.declared.kind.Kind.{Kind}
-use Rattle.calls.specs.declared.call.Call.{Call}
-use Rattle.calls.specs.declared.reply.Reply.{Reply}
 use Rattle.calls.specs.Names.{IsName}
 use Rattle.calls.specs.Transactions.{Event, Entry, Asked, PutOff}
 use Rattle.calls.specs.declared.refusal.Refusal.{Refusal}
 use Rattle.catalog.specs.Making as naming
 use Rattle.record_format.specs.declared.record.Record.{Record}
 use Rattle.abstract_locks.specs.declared.table.Hold.{Hold}
-use Rattle.abstract_locks.specs.Holds.{hold, IsAdded}
+use Rattle.abstract_locks.specs.Holds.{hold, IsAdded, IsClear}
+use Rattle.undo_log.specs.Entries.{place_of, need_to_take}
 use Rattle.undo_log.specs.Logs.{Statuses, Log}
+use Rattle.shelf.specs.Shelves.{IsAnswered, taken}
 use Rattle.machine.specs.Machine.{State, MakeRow}
-use Rattle.machine.specs.Machine.{CanCall, CallRow, ReadRow, CanPutOff, LaterRow}
+use Rattle.machine.specs.Machine.{CanCall, ReadRow, CanAccept, AcceptRow}
 use Rattle.machine.specs.Machines.{resting, unmade, HasRoomFor, StepAnswers}
 use Rattle.machine.specs.Views.{state_of}
 use Rattle.boosted.specs.Meaning.{Meaning}
@@ -74,6 +74,17 @@ made_row laws format now held log wear name kind now' at good is few made =
       is = refl;
     }
 
+-- What can be taken is answered by the collections, and its need is free.
+module _ {S : Type 0} (meaning : Meaning S ℕ) (s : State S) (n : ℕ) where
+  pub can_answer : (e : Entry) → CanAccept meaning s n e → IsAnswered meaning s.now e
+  can_answer (Asked e) can = can.answered
+  can_answer (PutOff at c) can = tt
+
+  pub can_clear : (e : Entry) → CanAccept meaning s n e →
+      IsClear s.holds n (place_of e) (need_to_take e)
+  can_clear (Asked e) can = can.clear
+  can_clear (PutOff at c) can = can.clear
+
 module _ {S : Type 0} (format : Format) (now : S) (held : List Hold) (log : Log) (wear n : ℕ)
   where
     abbrev before : State S
@@ -85,17 +96,22 @@ module _ {S : Type 0} (format : Format) (now : S) (held : List Hold) (log : Log)
       behind = state_of format now' held' log' wear'
 
       module _ (meaning : Meaning S ℕ) where
-        -- A call is made and noted.
-        pub called_row : (e : Event) → CanCall meaning before n e → HasRoomFor before 1 →
-            IsAdded held held' (hold n e.at (need_of e.call e.reply)) →
-            now' ≡ meaning.leaves now e.at e.call e.reply → log'.live ≡ log.live →
-            log'.entries ≡ log.entries ++ (n, Asked e) ∷ [] → wear' ≡ wear + 1 →
-            CallRow meaning before n e behind
-        called_row e can room added made live entries worn = record {
+        -- What is asked for is taken and noted.
+        pub taken_row : (e : Entry) → CanAccept meaning before n e → HasRoomFor before 1 →
+            IsAdded held held' (hold n (place_of e) (need_to_take e)) → now' ≡ taken meaning now e →
+            log'.live ≡ log.live → log'.entries ≡ log.entries ++ (n, e) ∷ [] → wear' ≡ wear + 1 →
+            AcceptRow meaning before n e behind
+        taken_row (Asked e) can room added made live entries worn = record {
           can = can;
           room = room;
           holds = added;
           is = same_parts format made live entries refl worn;
+        }
+        taken_row (PutOff at c) can room added there live entries worn = record {
+          can = can;
+          room = room;
+          holds = added;
+          is = same_parts format there live entries refl worn;
         }
 
         -- A call that only reads is noted.
@@ -106,18 +122,6 @@ module _ {S : Type 0} (format : Format) (now : S) (held : List Hold) (log : Log)
         read_row e can only_reads room added there live entries worn = record {
           can = can;
           only_reads = only_reads;
-          room = room;
-          holds = added;
-          is = same_parts format there live entries refl worn;
-        }
-
-        -- A call is put off and noted.
-        pub put_row : (at : ℕ) (c : Call) → CanPutOff meaning before n at c → HasRoomFor before 1 →
-            IsAdded held held' (hold n at (need_of c Reply.Done)) → now' ≡ now →
-            log'.live ≡ log.live → log'.entries ≡ log.entries ++ (n, PutOff at c) ∷ [] →
-            wear' ≡ wear + 1 → LaterRow meaning before n at c behind
-        put_row at c can room added there live entries worn = record {
-          can = can;
           room = room;
           holds = added;
           is = same_parts format there live entries refl worn;

@@ -7,16 +7,16 @@ use Rattle.calls.specs.Transactions.{Event, others}
 use Rattle.undo_log.specs.Entries.{HasNewestCall}
 use Rattle.boosted.specs.Meaning.{Meaning, Undoes}
 use Rattle.shelf.specs.Shelves.{ShelfState}
-use Rattle.ledger.specs.Ledgers.{Account}
+use Rattle.undo_log.specs.Logs.{Log}
 use Rattle.machine.specs.Machine.{State}
 use Rattle.machine.specs.Wholes.{AccountsState, state_on}
 
--- what a ledger says of it, in a store of the format
-abbrev pub accounts_of : Format → Account → AccountsState
-accounts_of format account = record {
-  live = account.live;
-  entries = account.entries;
-  wear = account.wear;
+-- of these live transactions and so much wear, in a store of the format
+abbrev pub accounts_of : Format → Log → (wear : ℕ) → AccountsState
+accounts_of format log wear = record {
+  live = log.live;
+  entries = log.entries;
+  wear = wear;
   format = format;
 }
 

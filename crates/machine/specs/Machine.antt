@@ -11,7 +11,7 @@ use Rattle.calls.specs.declared.format.Format.{Format}
 use Rattle.calls.specs.Rules.{need_of, IsUndoneInPlace}
 use Rattle.calls.specs.Reads.{reads, is_journalled}
 use Rattle.calls.specs.Transactions.{Event, Entry, Asked, PutOff, own, others, calls_of, laters_of}
-use Rattle.ledger.specs.LeftCalls.{GoesTwice}
+use Rattle.undo_log.specs.LeftCalls.{GoesTwice}
 use Rattle.calls.specs.Transactions.{Leads}
 use Rattle.calls.specs.Limits.{max_live, max_calls, max_wear}
 use Rattle.abstract_locks.specs.declared.table.Hold.{Hold}
@@ -175,6 +175,15 @@ module _ {S : Type 0} (meaning : Meaning S ℕ) where
       holds = t.holds;
       wear = s.wear + 1;
     }
+
+  -- What a transaction asks for can be taken, and is: a call, or one that is put off.
+  abbrev pub CanAccept : State S → (n : ℕ) → Entry → Type 0
+  CanAccept s n (Asked e) = CanCall s n e
+  CanAccept s n (PutOff at c) = CanPutOff s n at c
+
+  abbrev pub AcceptRow : State S → (n : ℕ) → Entry → State S → Type 0
+  AcceptRow s n (Asked e) t = CallRow s n e t
+  AcceptRow s n (PutOff at c) t = LaterRow s n at c t
 
   -- A transaction commits: what it put off runs, in the order asked. All that it asked for stays
   -- done.

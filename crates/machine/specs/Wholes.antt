@@ -4,8 +4,9 @@ use Rattle.std.specs.Prelude.{◌≡◌, ℕ, ◌⊎◌, List, [], ◌∷◌, �
 use Rattle.std.specs.List.{AllByRecursion}
 use Rattle.calls.specs.declared.format.Format.{Format}
 use Rattle.calls.specs.Contents.{Collection}
-use Rattle.calls.specs.Transactions.{Entry, Asked, PutOff}
+use Rattle.calls.specs.Transactions.{Entry}
 use Rattle.abstract_locks.specs.declared.table.Hold.{Hold}
+use Rattle.undo_log.specs.Entries.{place_of}
 use Rattle.undo_log.specs.Logs.{Statuses, Lives, Falls}
 use Rattle.boosted.specs.Meaning.{Meaning}
 use Rattle.shelf.specs.Shelves.{ShelfState}
@@ -68,10 +69,6 @@ abbrev pub AreShelved : {T : Type 0} → Four (ShelfState T) → Type 0
 AreShelved f = (w : Which) → AllByRecursion (λ h. which_of h.at ≡ w) (pick f w).holds
 
 -- ---- whose needs come from where
-
-abbrev pub place_of : Entry → ℕ
-place_of (Asked e) = e.at
-place_of (PutOff at c) = at
 
 -- The number has an entry on the collection.
 abbrev pub HasEntry : (n at : ℕ) → List (ℕ × Entry) → Type 0

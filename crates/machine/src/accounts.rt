@@ -7,32 +7,31 @@ ghost use Rattle.calls.specs.Limits.{max_calls, max_wear};
 ghost use Rattle.calls.specs.Reads.{reads};
 ghost use Rattle.calls.specs.Rules.{need_of};
 ghost use Rattle.calls.specs.Transactions.{own};
-ghost use Rattle.calls.specs.declared.reply.Reply.{Reply};
-ghost use Rattle.undo_log.specs.Entries.{event_of, HasNoCall};
+ghost use Rattle.undo_log.specs.Entries.{entry_of, event_of, need_to_take, HasNoCall};
 ghost use Rattle.undo_log.specs.Logs.{Lives};
 ghost use Rattle.boosted.specs.Meaning.{HasRoom};
-ghost use Rattle.ledger.specs.LeftCalls.{GoesTwice};
 ghost use Rattle.machine.specs.Machine.{CanBegin, BeginRow, FallRow, UnreadRow, HasNewestRead};
 ghost use Rattle.machine.specs.Machine.{UndoingTakesMemory};
-ghost use Rattle.machine.specs.Machine.{CanCall, CallRow, ReadRow, CanPutOff, LaterRow, BackRow};
+ghost use Rattle.machine.specs.Machine.{CanCall, ReadRow, CanAccept, AcceptRow, BackRow};
 ghost use Rattle.machine.specs.Machines.{HasRoomFor};
 ghost use Rattle.machine.specs.Wholes.{state_on};
 ghost use Rattle.machine.specs.Accounts.{accounts_of, alone, rested, finished, CanUndo};
 
 use boosted::Boosted;
-use calls::{Call, Format, Need, Refusal, Reply};
-use ledger::Ledger;
+use calls::limits::{MAX_CALLS, MAX_WEAR};
+use calls::{Format, Need, Refusal};
 use shelf::Shelf;
 use std::alloc::Global;
 use std::marker::Model;
-use undo_log::{Entry, Later, Live, Logged};
+use undo_log::{Entry, Live, Logged};
 
 /// What a machine keeps beside its collections and the needs on them: the live transactions with
 /// what they asked for, the wear, and the format of the store.
 ///
 /// A step on collections takes the shelf that they lie on, of which nothing else is asked.
 pub struct Accounts {
-    ledger: Ledger,
+    live: Live,
+    wear: u64,
     format: Format,
 }
 
@@ -40,10 +39,11 @@ pub struct Accounts {
 impl Drop for Accounts {
     fn drop(self) {
         let Self {
-            ledger,
+            live,
+            wear: _wear,
             format: _format,
         } = self;
-        drop(ledger);
+        drop(live);
     }
 }
 
@@ -58,7 +58,7 @@ impl Model for Accounts {
 
     ghost coded = { Prim.hlevel (codes, maps.code {R = nat_cmp} coded_ℕ coded_bool) };
 
-    ghost view = { λ a. accounts_of a.format a.ledger };
+    ghost view = { λ a. accounts_of a.format a.live a.wear };
 }
 
 impl Accounts {
@@ -67,16 +67,17 @@ impl Accounts {
         ensures { result ≡ rested format wear }
     {
         Self {
-            ledger: Ledger::new(alloc, wear),
+            live: Live::new(alloc),
+            wear,
             format,
         }
     }
 
-    // Of a store of the format, with what the ledger has.
-    pub(crate) fn of_ledger(format: Format, ledger: Ledger) -> Self
-        ensures { result ≡ accounts_of format ledger }
+    /// Of a store of the format, with these live transactions and so much wear.
+    pub fn of_live(format: Format, live: Live, wear: u64) -> Self
+        ensures { result ≡ accounts_of format live wear }
     {
-        Self { ledger, format }
+        Self { live, wear, format }
     }
 
     /// The live transactions, and what they asked for and did not undo.
@@ -84,7 +85,7 @@ impl Accounts {
         ensures live { result.now.live ≡ self.now.live }
         ensures entries { result.now.entries ≡ self.now.entries }
     {
-        self.ledger.live()
+        &self.live
     }
 
     /// How often anything was entered, called, put off, run in a commit or undone. What `read`
@@ -92,7 +93,7 @@ impl Accounts {
     pub fn wear(&self) -> u64
         ensures { result ≡ self.now.wear }
     {
-        self.ledger.wear()
+        self.wear
     }
 
     /// The format of the store.
@@ -100,36 +101,6 @@ impl Accounts {
         ensures { result ≡ self.now.format }
     {
         self.format
-    }
-
-    /// Whether the transaction has left to its commit already what this call, answered so, would
-    /// leave. It costs what `Ledger::goes_twice` does.
-    pub fn goes_twice(&self, number: u64, at: u8, call: &Call, reply: &Reply) -> bool
-        ensures { IsTrue result ↔ GoesTwice self.now.entries number
-            (record { at = at; call = call.now; reply = reply.now }) }
-    {
-        self.ledger.goes_twice(number, at, call, reply)
-    }
-
-    /// Whether the wear has room for so many runs more, and then for the undoing of all entries and
-    /// of so many more.
-    pub fn has_room(&self, runs: u64, more: usize) -> bool
-        requires { self.now.wear + runs + (length self.now.entries + more) < 2 ^ 64 }
-        ensures { IsTrue result ↔
-            (self.now.wear + runs + (length self.now.entries + more) ≤ max_wear) }
-    {
-        self.ledger.has_room(runs, more)
-    }
-
-    /// Whether the transaction is live, and one entry more of it can be noted, behind so many runs
-    /// more.
-    pub fn has_place(&self, number: u64, runs: u64) -> bool
-        requires { self.now.wear + runs + (length self.now.entries + 1) < 2 ^ 64 }
-        ensures { IsTrue result ↔ (Lives self.now.live number ×
-            (length (own number self.now.entries) < max_calls) ×
-            (self.now.wear + runs + (length self.now.entries + 1) ≤ max_wear)) }
-    {
-        self.ledger.has_place(number, runs)
     }
 
     /// Begins a transaction.
@@ -142,34 +113,35 @@ impl Accounts {
         ensures same { OnErr result (self.new ≡ self.old) }
         ensures refusal { IsOkUnless result Refusal.NoMemory }
     {
-        self.ledger.enter(number)?;
-        self.ledger.add_wear(1);
+        self.live.enter(number)?;
+        self.wear += 1;
         Ok(())
     }
 
-    /// Makes the call on the shelf, answered so, and notes it with the need that it has.
+    /// Takes what the transaction asks for on the shelf, and notes it with the need that it has: a
+    /// call, answered so, is made; one that is put off does nothing yet.
     ///
     /// NoMemory leaves all as before.
-    pub fn call<C: Boosted<At = u8>>(
+    pub fn take<C: Boosted<At = u8>>(
         &mut self,
         shelf: &mut Shelf<C>,
         number: u64,
-        asked: Logged,
+        entry: Entry,
         need: Need,
     ) -> Result<(), Refusal>
-        requires can { CanCall C.meaning (state_on self.old shelf.old) number (event_of asked) }
+        requires can { CanAccept C.meaning (state_on self.old shelf.old) number (entry_of entry) }
         requires room { HasRoomFor (state_on self.old shelf.old) 1 }
         requires reach { HasRoom C.meaning shelf.old.now }
-        requires need { need ≡ need_of asked.call asked.reply }
-        ensures ok { OnOk result (CallRow C.meaning (state_on self.old shelf.old) number
-            (event_of asked) (state_on self.new shelf.new)) }
+        requires need { need ≡ need_to_take (entry_of entry) }
+        ensures ok { OnOk result (AcceptRow C.meaning (state_on self.old shelf.old) number
+            (entry_of entry) (state_on self.new shelf.new)) }
         ensures same { OnErr result ((self.new ≡ self.old) × (shelf.new ≡ shelf.old)) }
         ensures refusal { IsOkUnless result Refusal.NoMemory }
     {
-        self.ledger.reserve(number)?;
-        shelf.take(number, asked.at, &asked.call, &asked.reply, need)?;
-        self.ledger.note(number, Entry::Asked(asked));
-        self.ledger.add_wear(1);
+        self.live.reserve(number)?;
+        shelf.take(number, &entry, need)?;
+        self.live.push(number, entry);
+        self.wear += 1;
         Ok(())
     }
 
@@ -193,34 +165,9 @@ impl Accounts {
         ensures same { OnErr result ((self.new ≡ self.old) × (shelf.new ≡ shelf.old)) }
         ensures refusal { IsOkUnless result Refusal.NoMemory }
     {
-        self.ledger.reserve(number)?;
+        self.live.reserve(number)?;
         shelf.hold(number, asked.at, need)?;
-        self.ledger.note(number, Entry::Asked(asked));
-        Ok(())
-    }
-
-    /// Puts a call on the shelf off to the commit, under the need that it has with the reply Done.
-    ///
-    /// NoMemory leaves all as before.
-    pub fn later<C: Boosted<At = u8>>(
-        &mut self,
-        shelf: &mut Shelf<C>,
-        number: u64,
-        put: Later,
-        need: Need,
-    ) -> Result<(), Refusal>
-        requires can { CanPutOff C.meaning (state_on self.old shelf.old) number put.at put.call }
-        requires room { HasRoomFor (state_on self.old shelf.old) 1 }
-        requires need { need ≡ need_of put.call Reply.Done }
-        ensures ok { OnOk result (LaterRow C.meaning (state_on self.old shelf.old) number put.at
-            put.call (state_on self.new shelf.new)) }
-        ensures same { OnErr result ((self.new ≡ self.old) × (shelf.new ≡ shelf.old)) }
-        ensures refusal { IsOkUnless result Refusal.NoMemory }
-    {
-        self.ledger.reserve(number)?;
-        shelf.hold(number, put.at, need)?;
-        self.ledger.note(number, Entry::PutOff(put));
-        self.ledger.add_wear(1);
+        self.live.push(number, Entry::Asked(asked));
         Ok(())
     }
 
@@ -244,13 +191,13 @@ impl Accounts {
         ensures refusal { IsOkUnless result Refusal.NoMemory }
         ensures in_place { OnErr result (UndoingTakesMemory number self.old.entries) }
     {
-        let Some(newest) = self.ledger.live().newest(number) else {
+        let Some(newest) = self.live.newest(number) else {
             unreachable!();
         };
         shelf.undo(newest)?;
-        let _undone = self.ledger.pop(number);
-        self.ledger.fall(number);
-        self.ledger.add_wear(1);
+        let _undone = self.live.pop(number);
+        self.live.fall(number);
+        self.wear += 1;
         Ok(())
     }
 
@@ -261,8 +208,8 @@ impl Accounts {
         requires newest { HasNewestRead number self.old.entries }
         ensures { UnreadRow (alone self.old) number (alone self.new) }
     {
-        let _read = self.ledger.pop(number);
-        self.ledger.fall(number);
+        let _read = self.live.pop(number);
+        self.live.fall(number);
     }
 
     /// Makes a transaction falling of which nothing is left to undo. It takes no memory.
@@ -271,7 +218,7 @@ impl Accounts {
         requires undone { HasNoCall number self.old.entries }
         ensures { FallRow (alone self.old) number (alone self.new) }
     {
-        self.ledger.fall(number);
+        self.live.fall(number);
     }
 
     /// Takes a transaction out that was settled on its shelves, where so many calls ran for it, or
@@ -280,7 +227,27 @@ impl Accounts {
         requires { self.old.wear + ran < 2 ^ 64 }
         ensures { self.new ≡ finished number ran self.old }
     {
-        self.ledger.remove(number);
-        self.ledger.add_wear(ran);
+        self.live.remove(number);
+        self.wear += ran;
     }
+}
+
+/// Whether the wear has room for so many runs more, and then for the undoing of all entries and of
+/// so many more.
+pub fn has_room(live: &Live, wear: u64, runs: u64, more: usize) -> bool
+    requires { wear + runs + (length live.now.entries + more) < 2 ^ 64 }
+    ensures { IsTrue result ↔ (wear + runs + (length live.now.entries + more) ≤ max_wear) }
+{
+    wear + runs + (live.len() + more) as u64 <= MAX_WEAR
+}
+
+/// Whether the transaction is live, and one entry more of it can be noted, behind so many runs
+/// more.
+pub fn has_place(live: &Live, wear: u64, number: u64, runs: u64) -> bool
+    requires { wear + runs + (length live.now.entries + 1) < 2 ^ 64 }
+    ensures { IsTrue result ↔ (Lives live.now.live number ×
+        (length (own number live.now.entries) < max_calls) ×
+        (wear + runs + (length live.now.entries + 1) ≤ max_wear)) }
+{
+    live.is_live(number) && live.count(number) < MAX_CALLS && has_room(live, wear, runs, 1)
 }

@@ -23,5 +23,5 @@
 mod accounts;
 mod machine;
 
-pub use accounts::Accounts;
+pub use accounts::{Accounts, has_place, has_room};
 pub use machine::{Machine, unmade};

@@ -19,28 +19,27 @@ ghost use Rattle.record_format.specs.Short.{AreShort, IsShortReply};
 ghost use Rattle.calls.specs.declared.format.Format.{Format};
 ghost use Rattle.calls.specs.Formats.{widest};
 ghost use Rattle.machine.specs.Machine.{IsRunning, CanBegin, BeginRow, CommitRow, EndedRow};
-ghost use Rattle.machine.specs.Machine.{FallRow, MakeRow, CanCall, CallRow, CanPutOff, LaterRow};
+ghost use Rattle.machine.specs.Machine.{FallRow, MakeRow, CanCall, CanPutOff, CanAccept, AcceptRow};
 ghost use Rattle.machine.specs.Machine.{BackRow, ReadRow, UnreadRow, HasNewestRead, Steps};
 ghost use Rattle.machine.specs.Machine.{UndoingTakesMemory};
-ghost use Rattle.ledger.specs.LeftCalls.{GoesTwice};
+ghost use Rattle.undo_log.specs.LeftCalls.{GoesTwice};
 ghost use Rattle.machine.specs.Machines.{resting, unmade, HasRoomFor, IsUpheld, StepAnswers};
 ghost use Rattle.machine.specs.Machines.{RepeatAnswers};
 ghost use Rattle.machine.specs.Sound.{IsSound};
-ghost use Rattle.machine.specs.Views.{state_with};
+ghost use Rattle.machine.specs.Wholes.{state_on};
 ghost use Rattle.calls.specs.Rules.{need_of};
 ghost use Rattle.calls.specs.Reads.{reads};
 ghost use Rattle.calls.specs.Limits.{max_collections, max_calls, max_wear};
 
-use crate::Accounts;
+use crate::accounts::{Accounts, has_place, has_room};
 use calls::limits::MAX_LIVE;
 use calls::{Call, Format, Kind, Name, Need, Refusal, Reply};
 use catalog::Parts;
-use ledger::Ledger;
 use records::{CallRecord, Coded, LaterRecord, Record, is_short_reply};
 use shelf::Shelf;
 use std::alloc::Global;
 use std::marker::Model;
-use undo_log::{Later, Live, Logged};
+use undo_log::{Entry, Later, Live, Logged};
 
 /// The collections with the live transactions on them: the state that records lead to, one step a
 /// record.
@@ -222,15 +221,12 @@ impl<B: Parts + Coded> Machine<B> {
     }
 
     /// The machine of its parts, for which holds what holds of every machine.
-    pub fn of_parts(format: Format, shelf: Shelf<B>, ledger: Ledger) -> Self
+    pub fn of_parts(shelf: Shelf<B>, accounts: Accounts) -> Self
         requires { IsUpheld B.meaning B.making (λ f s. AreShort f (B.collections s))
-            (IsSound B.meaning B.making) (state_with format shelf ledger) }
-        ensures { result ≡ state_with format shelf ledger }
+            (IsSound B.meaning B.making) (state_on accounts shelf) }
+        ensures { result ≡ state_on accounts shelf }
     {
-        Self {
-            shelf,
-            accounts: Accounts::of_ledger(format, ledger),
-        }
+        Self { shelf, accounts }
     }
 
     /// Makes an empty collection at the end.
@@ -260,33 +256,20 @@ impl<B: Parts + Coded> Machine<B> {
         self.accounts.begin(number)
     }
 
-    /// Makes the call, answered so, and notes it with the need that it has.
+    /// Takes what the transaction asks for, and notes it with the need that it has: a call, answered
+    /// so, is made; one that is put off does nothing yet.
     ///
     /// NoMemory leaves all as before.
-    pub fn call(&mut self, number: u64, asked: Logged) -> Result<(), Refusal>
-        requires can { CanCall B.meaning self.old number (logs.event_of asked) }
+    pub fn take(&mut self, number: u64, entry: Entry) -> Result<(), Refusal>
+        requires can { CanAccept B.meaning self.old number (logs.entry_of entry) }
         requires room { HasRoomFor self.old 1 }
-        ensures ok { OnOk result (CallRow B.meaning self.old number (logs.event_of asked)
+        ensures ok { OnOk result (AcceptRow B.meaning self.old number (logs.entry_of entry)
             self.new) }
         ensures same { OnErr result (self.new ≡ self.old) }
         ensures refusal { IsOkUnless result Refusal.NoMemory }
     {
-        let need = asked.call.need(&asked.reply);
-        self.accounts.call(&mut self.shelf, number, asked, need)
-    }
-
-    /// Puts the call off to the commit of the transaction, and notes it with the need that it has.
-    ///
-    /// NoMemory leaves all as before.
-    pub fn later(&mut self, number: u64, put: Later) -> Result<(), Refusal>
-        requires can { CanPutOff B.meaning self.old number put.at put.call }
-        requires room { HasRoomFor self.old 1 }
-        ensures ok { OnOk result (LaterRow B.meaning self.old number put.at put.call self.new) }
-        ensures same { OnErr result (self.new ≡ self.old) }
-        ensures refusal { IsOkUnless result Refusal.NoMemory }
-    {
-        let need = put.call.need(&Reply::Done);
-        self.accounts.later(&mut self.shelf, number, put, need)
+        let need = entry.need();
+        self.accounts.take(&mut self.shelf, number, entry, need)
     }
 
     /// Commits a transaction: what it put off, and what its calls left, runs in the order asked.
@@ -320,15 +303,6 @@ impl<B: Parts + Coded> Machine<B> {
         ensures { IsTrue result ↔ IsRunning self.now number }
     {
         self.is_live(number) && !self.live().is_falling(number)
-    }
-
-    /// Whether the transaction has left to its commit already what this call, answered so, would
-    /// leave.
-    pub fn goes_twice(&self, number: u64, at: u8, call: &Call, reply: &Reply) -> bool
-        ensures { IsTrue result ↔ GoesTwice self.now.entries number
-            (record { at = at; call = call.now; reply = reply.now }) }
-    {
-        self.accounts.goes_twice(number, at, call, reply)
     }
 
     // The record's step, from this very state.
@@ -391,7 +365,7 @@ impl<B: Parts + Coded> Machine<B> {
             call,
             reply,
         };
-        self.call(number, asked)?;
+        self.take(number, Entry::Asked(asked))?;
         Ok(true)
     }
 
@@ -411,7 +385,7 @@ impl<B: Parts + Coded> Machine<B> {
             at: collection,
             call,
         };
-        self.later(number, put)?;
+        self.take(number, Entry::PutOff(put))?;
         Ok(true)
     }
 
@@ -453,7 +427,9 @@ impl<B: Parts + Coded> Machine<B> {
         requires { IsNumber number }
         ensures { IsTrue result ↔ (CanBegin self.now number × HasRoomFor self.now 0) }
     {
-        !self.is_live(number) && self.count_live() < MAX_LIVE && self.accounts.has_room(1, 0)
+        !self.is_live(number)
+            && self.count_live() < MAX_LIVE
+            && has_room(self.accounts.live(), self.accounts.wear(), 1, 0)
     }
 
     // Whether the transaction can make the call and get the reply.
@@ -478,7 +454,8 @@ impl<B: Parts + Coded> Machine<B> {
         ensures { IsTrue result ↔ (IsRunning self.now number ×
             (length (own number self.now.entries) < max_calls) × HasRoomFor self.now 1) }
     {
-        self.accounts.has_place(number, 1) && !self.live().is_falling(number)
+        has_place(self.accounts.live(), self.accounts.wear(), number, 1)
+            && !self.live().is_falling(number)
     }
 
     // Whether the call can get the reply, which has no value too long for the format, leaves
@@ -494,24 +471,34 @@ impl<B: Parts + Coded> Machine<B> {
         self.parts()
             .fits(called.collection, &called.call, &called.reply)
             && is_short_reply(self.format(), &called.reply)
-            && !self.goes_twice(
-                called.number,
-                called.collection,
-                &called.call,
-                &called.reply,
-            )
-            && self.is_clear(called)
+            && self.is_apart(called)
     }
 
-    // Whether no other transaction holds a need that is in the call's way.
-    fn is_clear(&self, called: &CallRecord) -> bool
-        ensures { IsTrue result ↔ IsClear self.now.holds called.now.number called.now.collection
-            (need_of called.now.call called.now.reply) }
+    // Whether the call leaves nothing that is going already, and has no other transaction in the
+    // way.
+    fn is_apart(&self, called: &CallRecord) -> bool
+        ensures { IsTrue result ↔ ((GoesTwice self.now.entries called.now.number
+            (event_of called.now) → ⊥) ×
+            IsClear self.now.holds called.now.number called.now.collection
+            (need_of called.now.call called.now.reply)) }
     {
-        let need = called.call.need(&called.reply);
-        self.shelf
-            .test(called.number, called.collection, &need)
-            .is_ok()
+        !self.live().goes_twice(
+            called.number,
+            called.collection,
+            &called.call,
+            &called.reply,
+        ) && self.is_clear(
+            called.number,
+            called.collection,
+            called.call.need(&called.reply),
+        )
+    }
+
+    // Whether no other transaction holds a need in the way.
+    fn is_clear(&self, number: u64, at: u8, need: Need) -> bool
+        ensures { IsTrue result ↔ IsClear self.now.holds number at need }
+    {
+        self.shelf.test(number, at, &need).is_ok()
     }
 
     // Whether the transaction can put the call off.
@@ -524,18 +511,11 @@ impl<B: Parts + Coded> Machine<B> {
                 .parts()
                 .deferrable(later.collection, &later.call)
                 .is_ok()
-            && self.is_clear_later(later)
-    }
-
-    // Whether no other transaction holds a need that is in the way of the call to be put off.
-    fn is_clear_later(&self, later: &LaterRecord) -> bool
-        ensures { IsTrue result ↔ IsClear self.now.holds later.now.number later.now.collection
-            (need_of later.now.call Reply.Done) }
-    {
-        let need = later.call.need(&Reply::Done);
-        self.shelf
-            .test(later.number, later.collection, &need)
-            .is_ok()
+            && self.is_clear(
+                later.number,
+                later.collection,
+                later.call.need(&Reply::Done),
+            )
     }
 }
 

@@ -7,5 +7,7 @@ pub mod Stores
 pub mod ImageItems
 pub mod ImageNames
 pub mod OpenedStores
+pub mod RefusalLemmas
 mod CopyLemmas
+mod FlipLemmas
 mod UpgradeLemmas

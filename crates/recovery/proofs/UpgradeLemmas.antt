@@ -29,7 +29,7 @@ use Rattle.records.specs.Images.{IsImage}
 use Rattle.machine.specs.Sound.{IsSound as IsSoundState}
 use Rattle.images.specs.Images.{IsPackedImage}
 use Rattle.txn.specs.Books.{BookState}
-use Rattle.repetition.specs.Journals.{StandsFor, records_in}
+use Rattle.repetition.specs.Journals.{IsHeader, StandsFor, records_in}
 use Rattle.repetition.specs.Steps.{State}
 use Rattle.repetition.specs.Reading.{AreAccepted, IsSound}
 use Rattle.repetition.proofs.LagLemmas.{lags_self, lags_format}
@@ -39,10 +39,10 @@ use Rattle.checkpoint.specs.declared.stage.Stage.{Stage}
 use Rattle.checkpoint.specs.Crash.{YieldsUpTo}
 use Rattle.checkpoint.specs.Stored.{StandIn}
 use Rattle.checkpoint.specs.DiskHeads.{IsInUse}
-use Rattle.checkpoint.specs.Imaging.{IsTooLong, IsBeingLaid, HasPiece, bodies_of}
+use Rattle.checkpoint.specs.Imaging.{IsTooLong, IsBeingLaid, IsOther, HasPiece, bodies_of}
 use Rattle.checkpoint.specs.Imaging.{left_of, IsWritten}
 use Rattle.checkpoint.specs.ImageAnswers.{HoldAnswers, PieceAnswers, FlipAnswers}
-use Rattle.checkpoint.specs.Keepers.{KeeperState, IsFresh}
+use Rattle.checkpoint.specs.Keepers.{KeeperState, IsFresh, IsOneOfTwo}
 use Rattle.checkpoint.specs.Keeping.{BegunImage, HasReceived, LeavesKept, HoldKeeps}
 use Rattle.checkpoint.specs.Keeping.{BeginKeeps, ImageKeeps, begun_with}
 use Rattle.checkpoint.proofs.StandLemmas.{stands_whole}
@@ -55,8 +55,13 @@ use Rattle.recovery.proofs.CopyLemmas.{rested_image, image_accepted, all_later, 
 use Rattle.recovery.proofs.CopyLemmas.{sound as image_sound, stands as image_stands}
 use Rattle.recovery.proofs.OpenedStores.{are_read, in_use, was_there}
 use Rattle.recovery.proofs.OpenedStores.{sound as opened_sound, stands as opened_stands}
+use Rattle.recovery.proofs.OpenedStores.{header as opened_header}
+use Rattle.recovery.proofs.OpenLemmas.{header_same, far_off}
+use Rattle.recovery.proofs.FlipLemmas.{LaidBeside, laid_nothing, laid_more, other_far}
+use Rattle.recovery.proofs.FlipLemmas.{flipped_header}
 use Rattle.recovery.specs.Upgrades.{StandsOver, LeavesContent, GoesOn, TakesImage, IsTakeRefusal}
-use Rattle.recovery.specs.Upgrades.{IsUpgraded, IsUpgradeRefusal, HasNoRoomForImage}
+use Rattle.recovery.specs.Upgrades.{IsUpgraded, IsUpgradeRefusal, HasNoRoomForImage, IsFlippedTo}
+use Rattle.recovery.specs.Upgrades.{HasFlipped}
 
 -- ---- what is yielded where nothing was committed
 
@@ -161,6 +166,7 @@ module _ {D : Type 0} (g : Ghosts D) where
     pub laid : (w : Laying) (bodies : List (List ℕ)) → k.stage ≡ Stage.Laid w →
         IsBeingLaid w (g.seen k.disk) bodies →
         (v : Laying) × (l.stage ≡ Stage.Laid v) × IsBeingLaid v (g.seen l.disk) bodies
+    pub beside : LaidBeside g k l
     pub size : length (g.seen l.disk) ≡ length (g.seen k.disk)
 
   pub piecing_starts : (k : KeeperState D) →
@@ -171,6 +177,7 @@ module _ {D : Type 0} (g : Ghosts D) where
     piece = piece;
     goes = goes_nowhere k only_now;
     laid = λ w bodies is being. (w, is, being);
+    beside = laid_nothing g k;
     size = refl;
   }
 
@@ -198,6 +205,7 @@ module _ {D : Type 0} (g : Ghosts D) where
       laid = λ w bodies there being.
           let before = so_far.laid w bodies there being in
           (is, now_laid, lays before.0 is bodies before.1 now_laid before.2);
+      beside = laid_more g k l m so_far.beside risen more answer elsewhere;
       size = (elsewhere was answer.1.2).same_size ∙ so_far.size;
     }
 
@@ -327,6 +335,46 @@ module _ (old mid : List ℕ) (m : State) (n : ℕ) (area : Area)
         (record { image = packed.groups; is_image_of = of; whole = packed.whole }) long;
   }
 
+  -- the other area holds it, and is picked
+  pub upgraded_to : (other : Area) (new : List ℕ) → m.format ≢ Format.Two →
+      IsOneOfTwo area (length mid) → IsOther area other → IsFlippedTo other mid new →
+      IsRow (bodies_of blocks) (bytes_of other new) → IsUpgraded old new
+  upgraded_to other new first one is_other flipped laid =
+      let image : List (List Record) = packed.groups in
+      let row : IsRow (map spelling image) (bytes_of other new) =
+      subst (λ bs. IsRow bs (bytes_of other new)) (whole_bodies blocks image packed.whole) laid in
+      let used : IsRow (map spelling image) (area_in_use (size_of area) new) =
+      subst (λ n. IsRow (map spelling image) (area_in_use n new)) is_other.size
+      (subst (λ b. IsRow (map spelling image) (part b (size_of other) new)) (sym flipped.picks)
+      row) in
+      let far : 4096 ≤ base_of other = other_far area other (length mid) one is_other in
+      let there : IsHeader o.version (size_of area) new =
+      flipped_header other mid new far flipped o.version (size_of area)
+      (opened_header old (book_of m n) area mid o) in
+      record {
+        book = book_of m n;
+        area = area;
+        between = mid;
+        opened = o;
+        no_more = λ second. absurd (first second);
+        rewritten = λ other_format. record {
+          image = image;
+          is_image_of = of;
+          other = other;
+          is_other = is_other;
+          row_is = row;
+          flipped = flipped;
+        };
+        header = λ version size is. flipped_header other mid new far flipped version size
+            (header_same version (base_of area) size (size_of area) old mid
+            (far_off (base_of area) (size_of area) old o.picks) o.elsewhere is);
+        sound = image_sound Format.Two old image of o.version (allows_second o.version)
+            (size_of area) new there used;
+        format = refl;
+        stands = image_stands Format.Two old image of o.version (allows_second o.version)
+            (size_of area) new there used;
+      }
+
   -- where the keeper begins
   abbrev start : State
   start = resting u.format u.now u.wear
@@ -392,26 +440,20 @@ module _ {D : Type 0} (g : Ghosts D) (disk : D) (old : List ℕ) (m : State) (n 
       (subst (λ (d : D). LeavesOnly g.moment g.left_since d l.disk
       (λ b. IsSound b × StandsFor b o.undone.now)) disk_is taken.1)
 
-  -- and once it is the store, that is of the second format
-  pub taken_upgraded : l.failed ≡ false →
-      IsReady g.seen g.may_leave l.area l.disk (bodies_of image.blocks.items) →
-      IsUpgraded old (g.seen l.disk)
-  taken_upgraded fine ready =
-      let head = (taken.0.2.in_use fine).head.headed in
-      let new : List ℕ = g.seen l.disk in
-      let is = of old (g.seen disk) m n area o upheld image.blocks.items packed in
-      let row : IsRow (map spelling packed.groups) (area_in_use (size_of l.area) new) =
-      subst (λ b. IsRow (map spelling packed.groups) (part b (size_of l.area) new))
-      (sym head.picks)
-      (subst (λ bs. IsRow bs (bytes_of l.area new))
-      (whole_bodies image.blocks.items packed.groups packed.whole) ready.holds) in
-      record {
-        sound = image_sound Format.Two old packed.groups is head.version
-            (allows_second head.version) (size_of l.area) new head.header row;
-        format = refl;
-        stands = image_stands Format.Two old packed.groups is head.version
-            (allows_second head.version) (size_of l.area) new head.header row;
-      }
+-- and what it made is the store
+pub taken_upgraded : {D : Type 0} (g : Ghosts D) (disk : D) (old : List ℕ) (m : State) (n : ℕ)
+    (area : Area) (o : IsOpened old (book_of m n) area (g.seen disk)) →
+    IsUpheld catalog_meaning catalog_making AreShort
+    (IsSoundState catalog_meaning catalog_making) m → (image : Image) →
+    IsPackedImage (λ v. v) n (resting Format.Two m.now m.wear) image.blocks.items →
+    (k l : KeeperState D) → k.disk ≡ disk → k.area ≡ area → m.format ≢ Format.Two →
+    IsOneOfTwo area (length (g.seen disk)) → HasFlipped g k l →
+    IsReady g.seen g.may_leave l.area l.disk (bodies_of image.blocks.items) →
+    IsUpgraded old (g.seen l.disk)
+taken_upgraded g disk old m n area o upheld image packed k l disk_is area_is first one has ready =
+    upgraded_to old (g.seen disk) m n area o upheld image.blocks.items packed l.area
+    (g.seen l.disk) first one (subst (λ a. IsOther a l.area) area_is has.is_other)
+    (subst (λ d. IsFlippedTo l.area (g.seen d) (g.seen l.disk)) disk_is has.flipped) ready.holds
 
 -- ---- a store that is of the second format already
 
@@ -419,6 +461,14 @@ module _ {D : Type 0} (g : Ghosts D) (disk : D) (old : List ℕ) (m : State) (n 
     (o : IsOpened old (book_of m n) area (g.seen disk)) where
   pub was_upgraded : m.format ≡ Format.Two → IsUpgraded old (g.seen disk)
   was_upgraded second = record {
+    book = book_of m n;
+    area = area;
+    between = g.seen disk;
+    opened = o;
+    no_more = λ is. refl;
+    rewritten = λ first. absurd (first second);
+    header = λ version size is. header_same version (base_of area) size (size_of area) old
+        (g.seen disk) (far_off (base_of area) (size_of area) old o.picks) o.elsewhere is;
     sound = opened_sound old (book_of m n) area (g.seen disk) o;
     format = sym (ap (λ (b : BookState (List Collection)). b.state.format) o.book_is) ∙ second;
     stands = λ content stood. subst (StandsFor (g.seen disk))

@@ -3,6 +3,7 @@ pub mod Formats
 pub mod Openings
 pub mod Loading
 pub mod Finding
+pub mod Refusals
 pub mod Copies
 pub mod Surveys
 pub mod Upgrades

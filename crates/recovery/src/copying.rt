@@ -8,7 +8,7 @@ ghost use Rattle.gate_block.specs.Row.{row, IsRow, part};
 ghost use Rattle.gate_block.specs.Area.{base_of, size_of, position_of, has_failed};
 ghost use Rattle.gate_block.specs.Layout.{areas_at};
 ghost use Rattle.checkpoint.specs.Imaging.{IsTooLong, IsBeingLaid, bodies_of, left_of};
-ghost use Rattle.recovery.specs.Heads.{HasNoHeader};
+ghost use Rattle.recovery.specs.Heads.{HasHeader, HasNoHeader};
 ghost use Rattle.recovery.specs.Openings.{IsDamagedAt};
 ghost use Rattle.recovery.specs.Formats.{IsRoomFor, IsMaking, IsShut};
 ghost use Rattle.recovery.specs.Copies.{IsFilledWith, IsStoreOf, IsCopyOf};
@@ -56,6 +56,8 @@ pub fn copy<D: Disk, E: Disk>(
         (D.is_honest old.new → HasNoHeader (D.seen old.old))
         (λ place. D.is_honest old.new → IsDamagedAt (D.seen old.old) place)
         (D.is_honest old.new → IsTooLarge (D.seen old.old) area) result }
+    ensures starved { IfErr result (λ e. e ≡ Refusal.NoMemory → D.is_honest old.new →
+        HasHeader (D.seen old.old)) }
     ensures copied { OnOk result (D.is_honest old.new →
         IsCopyOf (D.seen old.old) area (E.seen new.new)) }
     ensures durable { OnOk result (IsAtRest E.seen E.may_leave new.new) }

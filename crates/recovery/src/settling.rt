@@ -7,7 +7,7 @@ ghost use Rattle.calls.specs.Limits.{number_end};
 ghost use Rattle.disk_model.specs.Disk.{ReadsOnly, Rises};
 ghost use Rattle.machine.specs.Machines.{resting};
 ghost use Rattle.images.specs.Images.{IsPackedImage};
-ghost use Rattle.recovery.specs.Heads.{HasNoHeader};
+ghost use Rattle.recovery.specs.Heads.{HasHeader, HasNoHeader};
 ghost use Rattle.recovery.specs.Openings.{IsDamagedAt, IsFindRefusal};
 ghost use Rattle.recovery.specs.Copies.{SpellsCopyOf, copied_as};
 ghost use Rattle.recovery.specs.Surveys.{image_len};
@@ -38,6 +38,8 @@ pub(crate) fn settled_image<D: Disk>(
         (Rises (D.fault_count disk.old) (D.fault_count disk.new))
         (D.is_honest disk.new → HasNoHeader (D.seen disk.old))
         (λ place. D.is_honest disk.new → IsDamagedAt (D.seen disk.old) place)) }
+    ensures starved { IfErr result (λ e. e ≡ Refusal.NoMemory → D.is_honest disk.new →
+        HasHeader (D.seen disk.old)) }
     ensures reads { ReadsOnly D.seen D.may_leave D.moment D.left_since disk.old disk.new }
     ensures honest { D.is_honest disk.new → D.is_honest disk.old }
     ensures faults { D.fault_count disk.old ≤ D.fault_count disk.new }

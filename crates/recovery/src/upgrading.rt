@@ -12,11 +12,13 @@ ghost use Rattle.checkpoint.specs.declared.laying.Laying.{Laying};
 ghost use Rattle.checkpoint.specs.declared.stage.Stage.{Stage};
 ghost use Rattle.checkpoint.specs.Imaging.{HasPiece, IsBeingLaid, IsTooLong, bodies_of};
 ghost use Rattle.checkpoint.specs.Keepers.{IsFresh, IsOneOfTwo};
-ghost use Rattle.recovery.specs.Heads.{HasNoHeader};
+ghost use Rattle.recovery.specs.Heads.{HasHeader, HasNoHeader};
 ghost use Rattle.recovery.specs.Openings.{IsDamagedAt, IsOpenRefusal, KeepsContent};
-ghost use Rattle.recovery.specs.Upgrades.{IsUpgraded, IsOpenedFirst, HasNoRoomToUpgrade, BringsUp};
+ghost use Rattle.recovery.specs.Refusals.{RefusalLeaves};
+ghost use Rattle.recovery.specs.Upgrades.{IsUpgraded, HasNoRoomToUpgrade, BringsUp};
 ghost use Rattle.recovery.specs.Upgrades.{KeepsOpened, HasNoRoomForSettled, GoesOn, TakesImage};
-ghost use Rattle.recovery.specs.Upgrades.{IsTakeRefusal, IsUpgradeRefusal};
+ghost use Rattle.recovery.specs.Upgrades.{HasFlipped, HasFlippedTo, IsTakeRefusal};
+ghost use Rattle.recovery.specs.Upgrades.{IsUpgradeRefusal};
 
 use crate::opening::{Settled, settle};
 use crate::settling::{image_of, in_format};
@@ -30,8 +32,9 @@ use std::alloc::Global;
 
 /// Brings the store on a disk to format 2, in its place: opens it, writes the image of the settled
 /// content in format 2 into the area that is not in use, and makes that the one in use by its root
-/// byte. Where the area in use is of format 2 already, it only opens the store. The head of the
-/// disk stays, with its version.
+/// byte. Where the area in use is of format 2 already, it only opens the store. The next number and
+/// the wear are those of the opening. The head of the disk stays, with its version, and so does
+/// every byte outside the two areas but the root byte.
 ///
 /// A stop at any moment of the call, on a disk that was at rest and sound, leaves a store of the
 /// same content, in the format from before or in format 2.
@@ -39,27 +42,29 @@ use std::alloc::Global;
 /// It takes the time and memory of an opening, and of one copy of the content, which is spelled
 /// whole before any of it is written.
 ///
-/// Refused NotAStore, Damaged, NoMemory, Full and Fault as `open` says, and NoMemory and Full where
-/// there is none for the image, with what the opening wrote. A refusal hands the disk back.
+/// Refused NotAStore and Damaged as `open` says, with nothing written; NoMemory and Full as `open`
+/// says, or where there is none for the image, with what the opening wrote and nothing more; Fault
+/// where the disk failed. A refusal hands the disk back.
 pub fn upgrade<D: Disk>(alloc: Global, disk: D) -> Result<D, (Refusal, D)>
     // What it makes, of a disk that read true.
-    ensures upgraded { IfOk result (λ new. D.is_honest new → IsAtRest D.seen D.may_leave disk →
+    ensures upgraded { IfOk result (λ new. D.is_honest new →
         IsUpgraded (D.seen disk) (D.seen new)) }
     ensures durable { IfOk result (λ new. D.is_honest new → IsAtRest D.seen D.may_leave disk →
         IsAtRest D.seen D.may_leave new) }
-    ensures only_opened { IfOk result (λ new. D.is_honest new →
-        IsOpenedFirst (D.seen disk) (D.seen new)) }
     // What a stop leaves.
     ensures kept { IfOk result (λ new. D.is_honest new →
         KeepsContent D.seen D.may_leave D.moment D.left_since disk new) }
     ensures kept_in_refusal { IfErr result
         (λ x. D.is_honest x.1 → KeepsContent D.seen D.may_leave D.moment D.left_since disk x.1) }
-    // Why it is refused.
+    // Why it is refused, and what was written then.
     ensures refused { IfErr result (λ x. IsOpenRefusal
         (Rises (D.fault_count disk) (D.fault_count x.1))
         (D.is_honest x.1 → HasNoHeader (D.seen disk))
         (λ place. D.is_honest x.1 → IsDamagedAt (D.seen disk) place)
         (D.is_honest x.1 → HasNoRoomToUpgrade (D.seen disk)) x.0) }
+    ensures starved { IfErr result (λ x. x.0 ≡ Refusal.NoMemory → D.is_honest x.1 →
+        HasHeader (D.seen disk)) }
+    ensures left { IfErr result (λ x. RefusalLeaves ⟦<D as Disk>⟧ disk x.1 x.0) }
     // What the device tells, and its length.
     ensures honest { IfOk result (λ new. D.is_honest new → D.is_honest disk) }
     ensures honest_in_refusal { IfErr result (λ x. D.is_honest x.1 → D.is_honest disk) }
@@ -78,10 +83,8 @@ pub fn upgrade<D: Disk>(alloc: Global, disk: D) -> Result<D, (Refusal, D)>
 fn upgrade_settled<D: Disk>(alloc: Global, settled: Settled, disk: D) -> Result<D, (Refusal, D)>
     requires fine { has_failed settled.area ≡ false }
     requires one { IsOneOfTwo settled.area (length (D.seen disk)) }
-    ensures upgraded { IfOk result (BringsUp ⟦<D as Disk>⟧ settled.machine settled.next
-        settled.area disk) }
-    ensures no_more { IfOk result (λ new. settled.machine.format ≡ Format.Two →
-        D.seen new ≡ D.seen disk) }
+    ensures upgraded { IfOk result (λ new. BringsUp settled.machine settled.next settled.area
+        (D.seen disk) (D.seen new)) }
     ensures durable { IfOk result (λ new. IsAtRest D.seen D.may_leave disk →
         IsAtRest D.seen D.may_leave new) }
     ensures kept { IfOk result (KeepsOpened ⟦<D as Disk>⟧ settled.machine settled.next
@@ -91,6 +94,7 @@ fn upgrade_settled<D: Disk>(alloc: Global, settled: Settled, disk: D) -> Result<
     ensures refused { IfErr result (λ x. IsUpgradeRefusal
         (Rises (D.fault_count disk) (D.fault_count x.1))
         (HasNoRoomForSettled settled.machine settled.next settled.area (D.seen disk)) x.0) }
+    ensures unwritten { IfErr result (λ x. (x.0 ≡ Refusal.Fault → ⊥) → x.1 ≡ disk) }
     ensures honest { IfOk result (λ new. D.is_honest new → D.is_honest disk) }
     ensures honest_in_refusal { IfErr result (λ x. D.is_honest x.1 → D.is_honest disk) }
     ensures faults_in_refusal { IfErr result (λ x. D.fault_count disk ≤ D.fault_count x.1) }
@@ -114,13 +118,14 @@ fn is_second(format: Format) -> bool
     }
 }
 
-// Writes the image of a store whose losers are undone in the second format, and makes its area the
-// one in use.
+// Writes the image of a store of another format, whose losers are undone, in the second one, and
+// makes its area the one in use.
 fn write_second<D: Disk>(alloc: Global, settled: Settled, disk: D) -> Result<D, (Refusal, D)>
+    requires other { settled.machine.format ≢ Format.Two }
     requires fine { has_failed settled.area ≡ false }
     requires one { IsOneOfTwo settled.area (length (D.seen disk)) }
-    ensures upgraded { IfOk result (BringsUp ⟦<D as Disk>⟧ settled.machine settled.next
-        settled.area disk) }
+    ensures upgraded { IfOk result (λ new. BringsUp settled.machine settled.next settled.area
+        (D.seen disk) (D.seen new)) }
     ensures durable { IfOk result (IsAtRest D.seen D.may_leave) }
     ensures kept { IfOk result (KeepsOpened ⟦<D as Disk>⟧ settled.machine settled.next
         settled.area disk) }
@@ -129,6 +134,7 @@ fn write_second<D: Disk>(alloc: Global, settled: Settled, disk: D) -> Result<D, 
     ensures refused { IfErr result (λ x. IsUpgradeRefusal
         (Rises (D.fault_count disk) (D.fault_count x.1))
         (HasNoRoomForSettled settled.machine settled.next settled.area (D.seen disk)) x.0) }
+    ensures unwritten { IfErr result (λ x. (x.0 ≡ Refusal.Fault → ⊥) → x.1 ≡ disk) }
     ensures honest { IfOk result (λ new. D.is_honest new → D.is_honest disk) }
     ensures honest_in_refusal { IfErr result (λ x. D.is_honest x.1 → D.is_honest disk) }
     ensures faults_in_refusal { IfErr result (λ x. D.fault_count disk ≤ D.fault_count x.1) }
@@ -174,11 +180,13 @@ fn take_image<D: Disk>(keeper: &mut Keeper<D>, image: Image) -> Result<(), Refus
     ensures takes { TakesImage ⟦<D as Disk>⟧ image keeper.old keeper.new }
     ensures ready { OnOk result (IsReady D.seen D.may_leave keeper.new.area keeper.new.disk
         (bodies_of image.blocks.items)) }
+    ensures flipped { OnOk result (HasFlipped ⟦<D as Disk>⟧ keeper.old keeper.new) }
     ensures durable { OnOk result (IsAtRest D.seen D.may_leave keeper.new.disk) }
-    ensures fine { OnOk result (keeper.new.failed ≡ false) }
     ensures refused { IfErr result (IsTakeRefusal
         (Rises (D.fault_count keeper.old.disk) (D.fault_count keeper.new.disk))
         (IsTooLong (size_of keeper.old.area) image.blocks.items)) }
+    ensures unwritten { IfErr result (λ e. (e ≡ Refusal.Fault → ⊥) →
+        keeper.new.disk ≡ keeper.old.disk) }
     ensures honest { D.is_honest keeper.new.disk → D.is_honest keeper.old.disk }
     ensures faults { D.fault_count keeper.old.disk ≤ D.fault_count keeper.new.disk }
     ensures size { length (D.seen keeper.new.disk) ≡ length (D.seen keeper.old.disk) }
@@ -196,8 +204,9 @@ fn write_out<D: Disk>(keeper: &mut Keeper<D>) -> Result<(), Refusal>
     ensures ready { (w : Laying) (bodies : List (List ℕ)) → keeper.old.stage ≡ Stage.Laid w →
         bodies ≢ [] → IsBeingLaid w (D.seen keeper.old.disk) bodies →
         OnOk result (IsReady D.seen D.may_leave keeper.new.area keeper.new.disk bodies) }
+    ensures flipped { (w : Laying) → keeper.old.stage ≡ Stage.Laid w →
+        OnOk result (HasFlippedTo ⟦<D as Disk>⟧ w keeper.old keeper.new) }
     ensures durable { OnOk result (IsAtRest D.seen D.may_leave keeper.new.disk) }
-    ensures fine { OnOk result (keeper.new.failed ≡ false) }
     ensures fault { IfErr result (λ e. (e ≡ Refusal.Fault) ×
         Rises (D.fault_count keeper.old.disk) (D.fault_count keeper.new.disk)) }
     ensures honest { D.is_honest keeper.new.disk → D.is_honest keeper.old.disk }

@@ -23,7 +23,7 @@ use Rattle.repetition.specs.Steps.{State, Steps, Repeats}
 use Rattle.repetition.specs.Reading.{AreAccepted}
 use Rattle.repetition.proofs.CatalogLaws.{laws}
 use Rattle.repetition.proofs.Lists.{leads_append, leads_exact, flat_map-append}
-use Rattle.loader.proofs.Loaded.{loaded_sound, loaded_entries}
+use Rattle.repetition.proofs.Loaded.{loaded_sound, loaded_entries}
 use Rattle.repetition.proofs.OneImage.{one_image}
 use Rattle.repetition.proofs.Parts.{IsParts, parts_of, repeats_journal}
 use Rattle.catalog.specs.Meaning.{catalog_meaning, catalog_making}

@@ -24,7 +24,7 @@ use Rattle.abstract_locks.proofs.Members.{filtered_is_given_up}
 use Rattle.undo_log.specs.Entries.{HasNoCall, IsNewestCall}
 use Rattle.undo_log.specs.Logs.{Statuses, Lives, Falls, fallen}
 use Rattle.machine.specs.Machine.{Does, IsRunning, IsLeft, BeginRow, MakeRow}
-use Rattle.ledger.specs.LeftCalls.{GoesTwice}
+use Rattle.undo_log.specs.LeftCalls.{GoesTwice}
 use Rattle.machine.specs.Machine.{CallRow, LaterRow, CommitRow, BackRow, EndedRow}
 use Rattle.machine.proofs.Theory.Lists.{not_same}
 use Rattle.machine.proofs.LiveNumbers.{fallen_is, lives_more, falls_more, falls_fresh, lives_fewer}

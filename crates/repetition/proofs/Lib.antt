@@ -10,3 +10,7 @@ pub mod LagLemmas
 pub mod Formats
 pub mod OneFormat
 pub mod Resting
+pub mod TakenBack
+pub mod LoadAlikes
+pub mod Loaded
+pub mod LoadRows

@@ -15,7 +15,7 @@ use Rattle.record_format.specs.declared.record.CallRecord.{CallRecord}
 use Rattle.record_format.specs.declared.record.LaterRecord.{LaterRecord}
 use Rattle.machine.specs.Machines.{Alike, RepeatAnswers}
 use Rattle.repetition.specs.declared.stage.Stage.{Stage}
-use Rattle.loader.specs.Loading.{LoadAnswers}
+use Rattle.repetition.specs.Loading.{LoadAnswers}
 use Rattle.repetition.specs.Steps.{State, Steps}
 use Rattle.repetition.specs.Reading.{Named, Progress, InCollections, InCalls, InJournal}
 use Rattle.repetition.specs.Reading.{Closes, HoldsLive, Reads, ReadsLive, next_after}

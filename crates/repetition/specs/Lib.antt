@@ -3,3 +3,4 @@ pub mod Steps
 pub mod Lagging
 pub mod Reading
 pub mod Repetitions
+pub mod Loading

@@ -16,7 +16,7 @@ use Rattle.record_format.specs.Reached.{IsReached}
 use Rattle.record_format.specs.Short.{IsShortItem}
 use Rattle.machine.specs.Machine.{IsSettled}
 use Rattle.machine.specs.Machines.{resting}
-use Rattle.loader.specs.Loading.{LoadRow, LiveSteps}
+use Rattle.repetition.specs.Loading.{LoadRow, LiveSteps}
 use Rattle.repetition.specs.Journals.{Holds, records_in}
 use Rattle.repetition.specs.Steps.{State, Steps}
 use Rattle.catalog.specs.Meaning.{catalog_meaning, catalog_making}

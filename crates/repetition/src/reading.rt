@@ -15,11 +15,11 @@ ghost use Rattle.repetition.specs.Repetitions.{LeadsOn, IsNoStep, LiveLeads, IsN
 ghost use Rattle.repetition.specs.Repetitions.{IsBegin, IsItem, IsSomeRecord, IsTold, IsFit};
 ghost use Rattle.repetition.specs.Repetitions.{count_of, named_of};
 
+use crate::Loader;
 use crate::stage::{Collections, Stage, Told};
 use calls::limits::{MAX_COLLECTIONS, MAX_WEAR};
 use calls::{Format, Item, Kind, Name, Refusal};
 use catalog::{Catalog, Parts, follows};
-use loader::Loader;
 use machine::Machine;
 use records::{Record, is_reached, is_short_item};
 use std::alloc::Global;

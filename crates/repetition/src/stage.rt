@@ -1,7 +1,7 @@
 // How far the reading of an area has come.
+use crate::Loader;
 use calls::{Format, Item, Kind, Name};
 use catalog::Catalog;
-use loader::Loader;
 use machine::Machine;
 
 /// The collection of which an image tells now, and its items so far.

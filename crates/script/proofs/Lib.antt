@@ -5,3 +5,4 @@ pub mod ScriptWords
 pub mod ScriptOperations
 pub mod WishLemmas
 pub mod ReviewLemmas
+pub mod ScriptSeconds

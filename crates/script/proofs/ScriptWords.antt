@@ -83,16 +83,19 @@ all_more : (P : ℕ → Type 0) (xs ys : List ℕ) → AllByRecursion P xs → A
 all_more P [] ys all more = more
 all_more P (x ∷ xs) ys all more = (all.0, all_more P xs ys all.1 more)
 
-no_other : (n b : ℕ) → b ≡ 48 + n → b ≢ 32
-no_other n b is same = absurd (omega arith)
+no_other : (n b byte : ℕ) → byte < 48 → b ≡ 48 + n → b ≢ byte
+no_other n b byte low is same = absurd (omega arith)
 
--- no space is in a number
+-- nothing below the digits is in a number: no space, and no point
+pub decimal_has_no : (byte n : ℕ) → byte < 48 → n < 2 ^ 64 → All (λ b. b ≢ byte) (decimal n)
+decimal_has_no byte n low small = all_by (λ b. b ≢ byte) (decimal n)
+    (decimal_by_steps (λ m ds. AllByRecursion (λ b. b ≢ byte) ds)
+    (λ m lt. (no_other m (48 + m) byte low refl, tt))
+    (λ m ds lt all. all_more (λ b. b ≢ byte) ds ((48 + m % 10) ∷ []) all
+    (no_other (m % 10) (48 + m % 10) byte low refl, tt)) n small)
+
 pub decimal_whole : (n : ℕ) → n < 2 ^ 64 → All (λ b. b ≢ 32) (decimal n)
-decimal_whole n small = all_by (λ b. b ≢ 32) (decimal n)
-    (decimal_by_steps (λ m ds. AllByRecursion (λ b. b ≢ 32) ds)
-    (λ m lt. (no_other m (48 + m) refl, tt))
-    (λ m ds lt all. all_more (λ b. b ≢ 32) ds ((48 + m % 10) ∷ []) all
-    (no_other (m % 10) (48 + m % 10) refl, tt)) n small)
+decimal_whole n small = decimal_has_no 32 n (omega arith) small
 
 pub natural_is_text : (n : ℕ) (text : List ℕ) → n < 2 ^ 64 → text ≡ decimal n → IsUtf8 text
 natural_is_text n text small e = rw e (IsUtf8-from_ascii (decimal n) (IsAscii-decimal n small))

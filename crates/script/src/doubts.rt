@@ -160,6 +160,18 @@ fn in_part<'a>(before: &'a str, call: &'a str) -> (&'a str, Why) {
     }
 }
 
+// Of the words behind within: how long, and what is done.
+fn in_within<'a>(within: &'a str, text: &'a str) -> (&'a str, Why) {
+    let (time, rest) = front(text);
+    if time.is_empty() || !Thing::Seconds.is(time) {
+        return at_word(within, text, Thing::Seconds);
+    }
+    match front(rest) {
+        (word @ ("do" | "keep"), calls) => in_calls(word, calls),
+        _ => at_word(time, rest, Thing::DoOrKeep),
+    }
+}
+
 /// The word at which a line of a server's client ceases to be understood, and why, where it is not
 /// understood. The line is without the client's name.
 pub fn doubt_wish(line: &str) -> (&str, Why) {
@@ -167,6 +179,7 @@ pub fn doubt_wish(line: &str) -> (&str, Why) {
     match word {
         "wait" | "status" | "bye" => too_much(word, rest),
         "do" | "keep" => in_calls(word, rest),
+        "within" => in_within(word, rest),
         "begin" | "commit" | "abort" | "kept" | "make" | "call" | "later" => in_request("", line),
         _ => (word, Why::IsNo(Thing::Wish)),
     }

@@ -1,4 +1,5 @@
 // What stands in a line of a script.
+use crate::seconds::seconds;
 use std::fmt::{self, Display, Formatter};
 
 /// What may stand at a place of a line.
@@ -14,6 +15,8 @@ pub enum Thing {
     Natural,
     Number,
     Value,
+    Seconds,
+    DoOrKeep,
 }
 
 impl Display for Thing {
@@ -21,13 +24,16 @@ impl Display for Thing {
         f.write_str(match self {
             Thing::Action => "turn, checkpoint or client, c1 to c64",
             Thing::Request => "request: make, begin, call, later, commit, abort or kept",
-            Thing::Wish => "request, as make, do, keep, begin, call, commit, abort or status",
+            Thing::Wish =>
+                "request, as make, do, keep, within, begin, call, commit, abort or status",
             Thing::Kind => "kind: set, map, queue, counter, pool, stock or quotas",
             Thing::Name => "name",
             Thing::Call => "call of a collection",
             Thing::PutOffCall => "call that can be put off: bump or fill",
             Thing::Natural => "number from 0 to 2^64 - 1 as it is printed",
             Thing::Number => "number from -2^63 to 2^63 - 1 as it is printed",
+            Thing::Seconds => "number of seconds from 0 to 86400, with at most three places",
+            Thing::DoOrKeep => "transaction: do or keep, and its calls",
             Thing::Value => "value: pairs of small hexadecimal digits, or - for none",
         })
     }
@@ -41,6 +47,7 @@ impl Thing {
             Thing::Number => {
                 is_spelled_so(word.strip_prefix("-").unwrap_or(word)) && word.parse::<i64>().is_ok()
             }
+            Thing::Seconds => seconds(word.as_bytes()).is_some(),
             Thing::Value => word == "-" || are_pairs(word.as_bytes()),
             _ => true,
         }

@@ -2,10 +2,11 @@
 ghost use Rattle.std.specs.Prelude.{List, IfOk, MatchOption};
 ghost use Rattle.script.specs.declared.action.Request.{Request};
 ghost use Rattle.script.specs.declared.wishes.Wish.{Wish};
-ghost use Rattle.script.specs.Wishes.{IsWishOf, AreCallsOf, IsPart, IsLaterPart};
+ghost use Rattle.script.specs.Wishes.{IsWishOf, AreCallsOf, IsPart, IsLaterPart, IsWithinOf};
 
 use crate::action::Request;
 use crate::phrases::{called, put_off, request};
+use crate::seconds::{Limit, seconds};
 use crate::words::{behind, same, split_at_byte};
 use std::alloc::{AllocError, Global};
 
@@ -24,6 +25,11 @@ pub enum Wish {
     Do(Vec<Request>),
     /// The same, and a wait until it is kept.
     DoAndKeep(Vec<Request>),
+    /// The same as `Do`, for which it waits until no call of it is Busy and none is answered nothing,
+    /// or up to that limit.
+    DoWithin(Limit, Vec<Request>),
+    /// The same as `DoWithin`, and a wait until it is kept.
+    KeepWithin(Limit, Vec<Request>),
     /// How the store stands.
     Status,
     /// The end.
@@ -77,6 +83,32 @@ fn calls_of(alloc: Global, text: &[u8]) -> Result<Option<Vec<Request>>, AllocErr
     Ok(Some(calls))
 }
 
+// Calls that may wait for so long, behind their word.
+fn within(alloc: Global, text: &[u8]) -> Result<Option<Wish>, AllocError>
+    ensures { IfOk result (λ found. MatchOption found ((w : Wish) → IsWithinOf w text.now → ⊥)
+        (λ w. IsWithinOf w text.now)) }
+{
+    let Some((front, back)) = split_at_byte(text, b' ') else {
+        return Ok(None);
+    };
+    let Some(thousandths) = seconds(front) else {
+        return Ok(None);
+    };
+    if let Some(rest) = behind(back, b"do ") {
+        return match calls_of(alloc, rest)? {
+            Some(calls) => Ok(Some(Wish::DoWithin(Limit::of(thousandths, rest), calls))),
+            None => Ok(None),
+        };
+    }
+    let Some(rest) = behind(back, b"keep ") else {
+        return Ok(None);
+    };
+    match calls_of(alloc, rest)? {
+        Some(calls) => Ok(Some(Wish::KeepWithin(Limit::of(thousandths, rest), calls))),
+        None => Ok(None),
+    }
+}
+
 /// What a line of a client asks for, which has no line feed. No line is understood but those that
 /// this program knows, word for word, with one space between two words. None where the line is not
 /// understood; refused only for want of memory.
@@ -110,6 +142,9 @@ pub fn wish_of(alloc: Global, line: &[u8]) -> Result<Option<Wish>, AllocError>
             Some(calls) => Ok(Some(Wish::DoAndKeep(calls))),
             None => Ok(None),
         };
+    }
+    if let Some(rest) = behind(line, b"within ") {
+        return within(alloc, rest);
     }
     match request(alloc, line)? {
         Some(asked) => Ok(Some(Wish::Ask(asked))),

@@ -1,10 +1,11 @@
 -- A shelf: what its collections hold, the needs that are held on them, and what a commit runs
 -- there.
-use Rattle.std.specs.Prelude.{◌≢◌, ℕ, ◌+◌, ◌≤◌, ◌==◌, ◌%◌, List, length, Option, Some, None}
+use Rattle.std.specs.Prelude.{◌≢◌, ⊤, ℕ, ◌+◌, ◌≤◌, ◌==◌, ◌%◌, List, length, Option, Some, None}
 use Rattle.std.specs.List.{AllByRecursion, filter}
 use Rattle.calls.specs.Rules.{Disposable}
 use Rattle.calls.specs.Transactions.{Event, Entry, Asked, PutOff, Leads}
 use Rattle.calls.specs.Limits.{max_wear}
+use Rattle.undo_log.specs.Entries.{place_of}
 use Rattle.abstract_locks.specs.declared.table.Hold.{Hold}
 use Rattle.abstract_locks.specs.Holds.{IsGivenUp}
 use Rattle.boosted.specs.Meaning as shape
@@ -43,8 +44,18 @@ of_quarter (Some quarter) es = on_quarter quarter es
 -- The collection of what was asked for is in another quarter.
 abbrev pub IsOutside : Option ℕ → Entry → Type 0
 IsOutside None e = ⊥
-IsOutside (Some quarter) (Asked e) = e.at % 4 ≢ quarter
-IsOutside (Some quarter) (PutOff at c) = at % 4 ≢ quarter
+IsOutside (Some quarter) e = place_of e % 4 ≢ quarter
+
+-- The collections can answer what is asked for as it tells. Nothing is asked of a call that is put
+-- off: it does nothing yet.
+abbrev pub IsAnswered : {C : Type 0} → Meaning C ℕ → C → Entry → Type 0
+IsAnswered meaning s (Asked e) = meaning.answers s e.at e.call e.reply
+IsAnswered meaning s (PutOff at c) = ⊤
+
+-- What they hold then.
+abbrev pub taken : {C : Type 0} → Meaning C ℕ → C → Entry → C
+taken meaning s (Asked e) = meaning.leaves s e.at e.call e.reply
+taken meaning s (PutOff at c) = s
 
 -- A transaction is settled on the shelf: these calls ran, and its needs are gone.
 pub record Settles {C : Type 0} (meaning : Meaning C ℕ) (s : ShelfState C) (number : ℕ)

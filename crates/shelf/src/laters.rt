@@ -65,12 +65,8 @@ fn run_put_off<C: Boosted<At = u8>>(collections: &mut C, entry: &Entry) -> u64
 fn is_outside(entry: &Entry, quarter: Option<u8>) -> bool
     ensures { IsTrue result ↔ IsOutside quarter (entry_of entry.now) }
 {
-    let at = match entry {
-        Entry::Asked(logged) => logged.at,
-        Entry::PutOff(later) => later.at,
-    };
     match quarter {
-        Some(quarter) => at % 4 != quarter,
+        Some(quarter) => entry.at() % 4 != quarter,
         None => false,
     }
 }

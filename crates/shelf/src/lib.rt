@@ -5,13 +5,13 @@
 ghost use Rattle.std.specs.Prelude.{◌≡◌, [], map, length, IfOk, IfErr, OnOk, OnErr, IsOk};
 ghost use Rattle.std.specs.Prelude.{IsOkUnless};
 ghost use Rattle.std.specs.Borrow.{Lends, sem};
-ghost use Rattle.calls.specs.Rules.{Askable, need_of, IsUndoneInPlace};
+ghost use Rattle.calls.specs.Rules.{Askable, IsUndoneInPlace};
 ghost use Rattle.calls.specs.Transactions.{Leads, laters_of};
 ghost use Rattle.abstract_locks.specs.Holds.{hold, IsClear, IsBusyRefusal, IsAdded, IsGivenUp};
-ghost use Rattle.undo_log.specs.Entries.{stamped_entry};
+ghost use Rattle.undo_log.specs.Entries.{entry_of, stamped_entry, place_of, need_to_take};
 ghost use Rattle.boosted.specs.Meaning.{CanAsk, AskRefused, Undoes, HasRoom};
 ghost use Rattle.shelf.specs.Looks.{IsLooked, IsTold, CanTake, TakeRefused};
-ghost use Rattle.shelf.specs.Shelves.{Does, CanRun, on_quarter};
+ghost use Rattle.shelf.specs.Shelves.{Does, CanRun, IsAnswered, taken, on_quarter};
 ghost use Rattle.shelf.specs.contracts.Shelf.{the_row};
 
 mod laters;
@@ -24,7 +24,7 @@ use laters::run_laters;
 pub use looked::Looked;
 use std::alloc::Global;
 use std::marker::Model;
-use undo_log::{Logged, Stamped};
+use undo_log::{Entry, Logged, Stamped};
 
 /// Collections, with the needs that live transactions hold on them.
 ///
@@ -119,37 +119,33 @@ impl<C: Boosted<At = u8>> Shelf<C> {
         Looked::Answered { reply, need, clear }
     }
 
-    /// Makes the call, answered so, and lets the transaction hold the need that it has. That is
-    /// free, and there is room in the wear.
+    /// Takes what the transaction asks for, and lets it hold the need that this has: a call,
+    /// answered so, is made; one that is put off does nothing yet. The need is free, and there is
+    /// room in the wear.
     ///
-    /// NoMemory leaves all as before. It costs what `Boosted::run`, `NeedTable::reserve` and
-    /// `NeedTable::grant` do.
-    pub fn take(
-        &mut self,
-        number: u64,
-        at: u8,
-        call: &Call,
-        reply: &Reply,
-        need: Need,
-    ) -> Result<(), Refusal>
-        requires answered { C.meaning.answers self.old.now at call.now reply.now }
+    /// NoMemory leaves all as before. It costs what `NeedTable::reserve` and `NeedTable::grant` do,
+    /// and `Boosted::run` for a call.
+    pub fn take(&mut self, number: u64, entry: &Entry, need: Need) -> Result<(), Refusal>
+        requires answered { IsAnswered C.meaning self.old.now (entry_of entry.now) }
         requires room { HasRoom C.meaning self.old.now }
-        requires need { need ≡ need_of call.now reply.now }
-        requires clear { IsClear self.old.holds number at need }
-        ensures made { OnOk result
-            (self.new.now ≡ C.meaning.leaves self.old.now at call.now reply.now) }
-        ensures held { OnOk result (IsAdded self.old.holds self.new.holds (hold number at need)) }
+        requires need { need ≡ need_to_take (entry_of entry.now) }
+        requires clear { IsClear self.old.holds number (place_of (entry_of entry.now)) need }
+        ensures taken { OnOk result
+            (self.new.now ≡ taken C.meaning self.old.now (entry_of entry.now)) }
+        ensures held { OnOk result (IsAdded self.old.holds self.new.holds
+            (hold number (place_of (entry_of entry.now)) need)) }
         ensures same { OnErr result (self.new ≡ self.old) }
         ensures refusal { IsOkUnless result Refusal.NoMemory }
     {
+        let at = entry.at();
         self.needs.reserve(at)?;
-        self.collections.run(at, call, reply)?;
+        make_asked(&mut self.collections, entry)?;
         self.needs.grant(number, at, need);
         Ok(())
     }
 
-    /// Lets the transaction hold the need, which is free: that of a call that is put off, that only
-    /// reads, or that the collections show as done.
+    /// Lets the transaction hold the need, which is free: that of a call that only reads, or that the
+    /// collections show as done.
     ///
     /// NoMemory leaves all as before. It costs what `NeedTable::reserve` and `NeedTable::grant` do.
     pub fn hold(&mut self, number: u64, at: u8, need: Need) -> Result<(), Refusal>
@@ -263,5 +259,21 @@ impl<C: Boosted<At = u8>> Shelf<C> {
             return Err(Refusal::TooLong);
         }
         Ok(())
+    }
+}
+
+// Makes the call that was asked for; one that is put off does nothing yet. NoMemory leaves all as
+// before.
+fn make_asked<C: Boosted<At = u8>>(collections: &mut C, entry: &Entry) -> Result<(), Refusal>
+    requires answered { IsAnswered C.meaning collections.old (entry_of entry.now) }
+    requires room { HasRoom C.meaning collections.old }
+    ensures taken { OnOk result
+        (collections.new ≡ taken C.meaning collections.old (entry_of entry.now)) }
+    ensures same { OnErr result (collections.new ≡ collections.old) }
+    ensures refusal { IsOkUnless result Refusal.NoMemory }
+{
+    match entry {
+        Entry::Asked(asked) => collections.run(asked.at, &asked.call, &asked.reply),
+        Entry::PutOff(_) => Ok(()),
     }
 }

@@ -15,7 +15,7 @@ use Rattle.catalog.specs.Shelving.{ShelfLaws, CopyRefused}
 use Rattle.catalog.specs.Woven.{Label, names_in}
 use Rattle.shelf.specs.Shelves.{ShelfState}
 use Rattle.images.specs.Gathers.{GatherState, Repeats, caught_up}
-use Rattle.gathering.specs.Gatherings.{CanGoOn, GoesAlong}
+use Rattle.images.specs.Gatherings.{CanGoOn, GoesAlong}
 use Rattle.txn.specs.declared.steps.Action.{Action}
 use Rattle.txn.specs.Books.{BookState, position}
 use Rattle.txn.specs.Freezing.{IsGatheredOf, BookGathers, FreezeAnswers}

@@ -22,8 +22,8 @@ use Rattle.blocks.specs.Packings.{joined}
 use Rattle.blocks.proofs.Carrying.{joined-append, carries_parts}
 use Rattle.images.specs.declared.gather.Marks.{Marks}
 use Rattle.images.specs.Gathers.{GatherState, FrozenState, Packs}
-use Rattle.gathering.specs.Gatherings.{HoldsAll, IsUnderWay}
-use Rattle.gathering.proofs.Going.{holds_image}
+use Rattle.images.specs.Gatherings.{HoldsAll, IsUnderWay}
+use Rattle.images.proofs.Going.{holds_image}
 use Rattle.machine.specs.Machine as machine
 use Rattle.machine.specs.Machine.{journalled}
 use Rattle.machine.specs.Sound.{IsSound}

@@ -6,7 +6,7 @@ use Rattle.calls.specs.Contents.{Collection}
 use Rattle.calls.specs.declared.refusal.Refusal.{Refusal}
 use Rattle.images.specs.Gathers.{GatherState, Repeats}
 use Rattle.images.proofs.Repeats.{repeated_both}
-use Rattle.gathering.specs.Gatherings.{GoesAlong}
+use Rattle.images.specs.Gatherings.{GoesAlong}
 use Rattle.txn.specs.Books.{BookState, position}
 use Rattle.txn.specs.Freezing.{IsGatheredOf, BookGathers}
 use Rattle.world.specs.Worlds.{IsOfBook}

@@ -30,7 +30,7 @@ use Rattle.catalog.proofs.four.Four.TheSendSync as fours
 use Rattle.abstract_locks.proofs.table.NeedTable.TheSendSync as tables
 use Rattle.shelf.proofs.Shelf.TheSendSync as shelves
 use Rattle.machine.proofs.accounts.Accounts.TheSendSync as accounts
-use Rattle.gathering.proofs.gathering.Gathering.TheSendSync as gatherings
+use Rattle.images.proofs.gathering.Gathering.TheSendSync as gatherings
 use Rattle.checkpoint.proofs.keeper.Keeper.TheSendSync as keepers
 use Rattle.group_commit.proofs.accord.Accord.TheSendSync as accords
 use Rattle.group_commit.proofs.accord.Near.TheSendSync as nears
@@ -53,6 +53,8 @@ use Rattle.group_commit.proofs.twin.TwinFar.TheSendSync as twin_fars
 use Rattle.desks.proofs.budget.Budget.TheSendSync as budgets
 use Rattle.desks.proofs.shelf_desk.ShelfDesk.TheSendSync as shelf_desks
 use Rattle.desks.proofs.signal.Signal.TheSendSync as signals
+use Rattle.waiting.proofs.queue.WaitQueue.TheSendSync as queues
+use Rattle.clients.proofs.awaiting.Awaiting.TheSendSync as awaitings
 use Rattle.clients.specs.contracts.client.Client as client
 use Rattle.desks.specs.declared.naming.Naming as namings
 use Rattle.desks.specs.contracts.desk.Desk as desk
@@ -100,6 +102,8 @@ pub ruleset parts = (
   budgets.the_send,
   shelf_desks.the_send,
   signals.the_sync,
+  queues.the_sync,
+  awaitings.the_send,
 )
 
 -- What clients share of a store may be shared, and a client may be sent, where the names and the

@@ -10,7 +10,7 @@ use Rattle.catalog.specs.Making.{Making}
 use Rattle.catalog.specs.Woven.{Label}
 use Rattle.shelf.specs.Shelves.{ShelfState}
 use Rattle.images.specs.Gathers.{GatherState, Repeats}
-use Rattle.gathering.specs.Gatherings.{CanGoOn}
+use Rattle.images.specs.Gatherings.{CanGoOn}
 use Rattle.txn.specs.Parts.{IsCopy}
 use Rattle.txn.specs.Shelved.{JournalState}
 use Rattle.txn.specs.Books.{BookState, position}

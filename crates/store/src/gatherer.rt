@@ -8,7 +8,7 @@ ghost use Rattle.catalog.specs.Fours.{which_of};
 ghost use Rattle.catalog.specs.Shelving.{CopyRefused};
 ghost use Rattle.shelf.specs.Shelves.{ShelfState};
 ghost use Rattle.images.specs.Gathers.{Packs};
-ghost use Rattle.gathering.specs.Gatherings.{CanGoOn};
+ghost use Rattle.images.specs.Gatherings.{CanGoOn};
 ghost use Rattle.txn.specs.declared.steps.Action.{Action};
 ghost use Rattle.txn.specs.Freezing.{IsGatheredOf};
 ghost use Rattle.txn.specs.Parts.{IsCopy};

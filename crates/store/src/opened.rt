@@ -3,13 +3,14 @@ ghost use Rattle.std.specs.Prelude.{◌≡◌, ◌≤◌, List, IfOk, IfErr, IsO
 ghost use Rattle.calls.specs.Contents.{Collection};
 ghost use Rattle.calls.specs.declared.refusal.Refusal.{Refusal};
 ghost use Rattle.calls.specs.Limits.{number_end};
-ghost use Rattle.disk_model.specs.Disk.{Rises, IsAtRest};
+ghost use Rattle.disk_model.specs.Disk.{ReadsOnly, Rises, IsAtRest};
 ghost use Rattle.repetition.specs.Journals.{StandsFor};
 ghost use Rattle.txn.specs.Books.{opened};
 ghost use Rattle.checkpoint.specs.Keepers.{IsFresh};
-ghost use Rattle.recovery.specs.Heads.{HasNoHeader};
+ghost use Rattle.recovery.specs.Heads.{HasHeader, HasNoHeader};
 ghost use Rattle.recovery.specs.Openings.{IsOpened, IsDamagedAt, HasNoRoom, IsReadyStore};
 ghost use Rattle.recovery.specs.Openings.{IsOpenRefusal, KeepsContent};
+ghost use Rattle.recovery.specs.Refusals.{IsOpenedAtMost};
 ghost use Rattle.desks.specs.Told.{told_book};
 ghost use Rattle.store.specs.Openings.{IsNamed};
 
@@ -20,7 +21,7 @@ use crate::vault::Vault;
 use calls::Refusal;
 use catalog::Catalog;
 use checkpoint::Keeper;
-use desks::{Desk, Extent, Naming, Shared, Shelves, Signal};
+use desks::{Desk, Extent, Naming, Shared, Shelves, Signal, WaitQueue};
 use disk_model::Disk;
 use group_commit::{
     Accord, BookSeat, DrawerMaker, Far, Handoff, KeeperSeat, Line, Mark, Near, Numbers, Receiver,
@@ -184,8 +185,9 @@ impl<D: Disk> Opened<D> {
     ///
     /// NotAStore, Fault, Damaged, NoMemory, Full where the records of the undoing do not fit. Each
     /// hands the disk back. NotAStore, Damaged and Full come with nothing written. NoMemory may
-    /// also come once the disk is open, and then what the opening wrote stays. A store that is
-    /// refused so has the same content as before, and can be opened again.
+    /// also come once the disk is open, and then what the opening wrote stays, and nothing more. A
+    /// store that is refused so has the same content as before, and can be opened again. It comes
+    /// only where the disk has a head of a store, if it read true.
     ///
     /// ```text
     /// let opened = Opened::open(alloc, disk).map_err(|(refusal, _disk)| refusal)?;
@@ -204,12 +206,19 @@ impl<D: Disk> Opened<D> {
             KeepsContent D.seen D.may_leave D.moment D.left_since disk o.keeper.disk) }
         ensures kept_in_refusal { IfErr result (λ x. D.is_honest x.1 →
             KeepsContent D.seen D.may_leave D.moment D.left_since disk x.1) }
-        // Why it is refused.
+        // Why it is refused, and what was written then.
         ensures refused { IfErr result (λ x. IsOpenRefusal
             (Rises (D.fault_count disk) (D.fault_count x.1))
             (D.is_honest x.1 → HasNoHeader (D.seen disk))
             (λ place. D.is_honest x.1 → IsDamagedAt (D.seen disk) place)
             (D.is_honest x.1 → HasNoRoom (D.seen disk)) x.0) }
+        ensures starved { IfErr result (λ x. x.0 ≡ Refusal.NoMemory → D.is_honest x.1 →
+            HasHeader (D.seen disk)) }
+        ensures unchanged { IfErr result
+            (λ x. (x.0 ≡ Refusal.Fault → ⊥) → (x.0 ≡ Refusal.NoMemory → ⊥) →
+            ReadsOnly D.seen D.may_leave D.moment D.left_since disk x.1) }
+        ensures opened_at_most { IfErr result (λ x. x.0 ≡ Refusal.NoMemory →
+            IsOpenedAtMost ⟦<D as Disk>⟧ disk x.1) }
         // What the device tells.
         ensures honest { IfOk result (λ o. D.is_honest o.keeper.disk → D.is_honest disk) }
         ensures honest_in_refusal { IfErr result (λ x. D.is_honest x.1 → D.is_honest disk) }
@@ -299,6 +308,7 @@ impl<D: Disk, B: Coded> Opened<D, B> {
             gathering,
             awaited,
             signal: Signal::new(),
+            waiting: WaitQueue::new(),
             format: book.format(),
             of: PhantomData,
         };

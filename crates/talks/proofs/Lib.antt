@@ -1,4 +1,5 @@
 pub mod TalkLemmas
+pub mod PatienceLemmas
 pub mod LineLemmas
 pub mod SessionLemmas
 pub mod Stepping

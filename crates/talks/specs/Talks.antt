@@ -1,5 +1,6 @@
 -- What a talk with a client does: the lines that come, and what the client is told of each.
-use Rattle.std.specs.Prelude.{◌≡◌, ◌≢◌, ◌⊎◌, ℕ, ◌≤◌, Bool, true, false, List, [], ◌∷◌, ◌++◌, All}
+use Rattle.std.specs.Prelude.{◌≡◌, ◌≢◌, ◌⊎◌, ℕ, zero, suc, ◌≤◌, Bool, true, false, List, [], ◌∷◌}
+use Rattle.std.specs.Prelude.{◌++◌, All}
 use Rattle.std.specs.Prelude.{Option, None, Some, IsSome, IfSome, length, ◌||◌, string_bytes}
 use Rattle.std.specs.Io.BufRead.{strip_last}
 use Rattle.std.specs.Io.KnownBytes.{Consumes}
@@ -13,6 +14,7 @@ use Rattle.talks.specs.declared.speaking.End.{End}
 use Rattle.talks.specs.declared.speaking.Speaker.{Ghosts}
 use Rattle.talks.specs.declared.told.Told.{Told}
 use Rattle.talks.specs.declared.transacting.Outcome.{Outcome}
+use Rattle.talks.specs.declared.patience.Tried.{Tried}
 use Rattle.talks.specs.declared.why.Why.{Why}
 use Rattle.talks.specs.Hearing.{Hears, tolds_of}
 
@@ -75,6 +77,8 @@ WantsKeeping (Wish.Ask Request.Kept) = Unit {0}
 WantsKeeping Wish.Keep = Unit {0}
 WantsKeeping (Wish.Do calls) = Unit {0}
 WantsKeeping (Wish.DoAndKeep calls) = Unit {0}
+WantsKeeping (Wish.DoWithin limit calls) = Unit {0}
+WantsKeeping (Wish.KeepWithin limit calls) = Unit {0}
 WantsKeeping wish = ⊥
 
 -- What a client is told at a line behind a silence in which its transaction was taken back: nothing
@@ -155,6 +159,49 @@ module _ {S A : Type 0} (s : Ghosts S A) where
       ⊎ ((told : Told A) × (back : Bool) × (mid : S) × (outcome ≡ Outcome.Refused told back) ×
       Stops opened rs told mid × IsTakenBack mid back new)))
 
+  -- ---- one line with a transaction that waits
+
+  -- A transaction of these calls, as far as they are not refused, that is taken back, as far as
+  -- that can be.
+  abbrev pub Tries : S → List Request → Bool → S → Type 0
+  Tries old rs back new = (begun : A) × (opened mid : S) × s.says old Request.Begin begun opened ×
+      (s.refuses begun → ⊥) × (((saids : List A) × RunsCalls opened rs saids mid)
+      ⊎ ((told : Told A) × Stops opened rs told mid)) × IsTakenBack mid back new
+
+  -- So many of them, each of which is taken back whole.
+  abbrev pub TriesInVain : ℕ → S → List Request → S → Type 0
+  TriesInVain zero old rs new = new ≡ old
+  TriesInVain (suc n) old rs new =
+      (mid : S) × TriesInVain n old rs mid × Tries mid rs true new
+
+  -- what becomes of a try whose calls were answered so, and of one of which a call was refused
+  abbrev pub Settles : S → List A → Tried A → S → Type 0
+  Settles old saids (Tried.Transacted outcome) new = Commits old saids outcome new
+  Settles old saids (Tried.TakenBack back) new = IsTakenBack old back new
+
+  abbrev pub GivesUp : S → Told A → Tried A → S → Type 0
+  GivesUp old told (Tried.Transacted outcome) new =
+      (back : Bool) × (outcome ≡ Outcome.Refused told back) × IsTakenBack old back new
+  GivesUp old told (Tried.TakenBack back) new = IsTakenBack old back new
+
+  -- what becomes of a try
+  abbrev pub IsTried : S → List Request → Tried A → S → Type 0
+  IsTried old rs (Tried.Transacted outcome) new = Transacts old rs outcome new
+  IsTried old rs (Tried.TakenBack back) new = Tries old rs back new
+
+  -- What tries end with: a transaction of one line; or nothing is done as the client has gone; or
+  -- one more try cannot be taken back.
+  abbrev pub EndsTries : S → List Request → Outcome A → S → Type 0
+  EndsTries old rs outcome new = Transacts old rs outcome new
+      ⊎ ((outcome ≡ Outcome.Refused Told.Idle true) × (new ≡ old))
+      ⊎ ((outcome ≡ Outcome.Refused Told.Idle false) × Tries old rs false new)
+
+  -- A transaction of these calls alone that waits: of its tries each before the last is taken back
+  -- whole, and the last one is a transaction that does not wait.
+  abbrev pub TransactsWithin : S → List Request → Outcome A → S → Type 0
+  TransactsWithin old rs outcome new =
+      (n : ℕ) × (mid : S) × TriesInVain n old rs mid × EndsTries mid rs outcome new
+
   -- ---- lines
 
   -- A commit of the open transaction, and a wait until it is kept.
@@ -187,6 +234,12 @@ module _ {S A : Type 0} (s : Ghosts S A) where
   CarriesOut old (Wish.DoAndKeep calls) told next new =
       (outcome : Outcome A) × (mid : S) × Transacts old calls.items outcome mid ×
       KeepsOutcome mid outcome told next new
+  CarriesOut old (Wish.DoWithin limit calls) told next new =
+      (outcome : Outcome A) × TransactsWithin old calls.items outcome new ×
+      ((told, next) ≡ told_outcome outcome)
+  CarriesOut old (Wish.KeepWithin limit calls) told next new =
+      (outcome : Outcome A) × (mid : S) × TransactsWithin old calls.items outcome mid ×
+      KeepsOutcome mid outcome told next new
   CarriesOut old Wish.Status told next new =
       (failed : Bool) × (status : Told A) × s.hears old failed new × IsStatus failed status ×
       (told ≡ Some status) × (next ≡ None)
@@ -201,9 +254,11 @@ module _ {S A : Type 0} (s : Ghosts S A) where
 
   -- The client is told that keeping has failed, which was heard, and the talk ends.
   abbrev pub IsLost : S → Option (Told A) → Option Why → S → Type 0
-  IsLost old told next new = s.hears old true new × ((told, next) ≡ telling (Told.Refused Refusal.Lost))
+  IsLost old told next new = s.hears old true new ×
+      ((told, next) ≡ telling (Told.Refused Refusal.Lost))
 
-  -- What was to be told is told: a place only where keeping was heard not to have failed; else Lost.
+  -- What was to be told is told: a place only where keeping was heard not to have failed; else
+  -- Lost.
   abbrev pub IsUnlessFailed : S → Option (Told A) → Option Why → Option (Told A) → Option Why → S →
       Type 0
   IsUnlessFailed old done ends told next new =
@@ -280,8 +335,8 @@ module _ {S A : Type 0} (s : Ghosts S A) where
   told_of [] = []
   told_of ((bs, told) ∷ rounds) = tolds_of told ++ told_of rounds
 
-  -- A talk was broken off: before a line was read, or behind one, of which it is not known whether it
-  -- was told.
+  -- A talk was broken off: before a line was read, or behind one, of which it is not known whether
+  -- it was told.
   abbrev pub BreaksOff : S → Bool → S → Type 0
   BreaksOff old undone new = (new ≡ old)
       ⊎ ((bs : List ℕ) × (told : Option (Told A)) × (next : Option Why) × (after : Bool) ×

@@ -14,6 +14,7 @@ ghost use Rattle.talks.specs.Talks.{telling, IsStatus};
 
 use crate::doubting::reason;
 use crate::hearing::Hearer;
+use crate::patience::transact_within;
 use crate::speaking::{End, Speaker};
 use crate::told::Told;
 use crate::transacting::{Outcome, transact};
@@ -21,6 +22,7 @@ use crate::why::Why;
 use calls::Refusal;
 use script::{Request, Wish, wish_of};
 use std::alloc::{AllocGlobal, Global};
+use std::rt::Clock;
 use std::sync::Wait;
 
 // A line without the carriage return at its end, if one is there.
@@ -57,7 +59,7 @@ pub fn wish_in<S>(alloc: Global, line: &[u8]) -> Result<Wish, Told<S>>
 // Once keeping has failed, what commits or makes something, and what asks whether something is
 // kept, is told Lost and not done. Where it is found to have failed behind a commit, the client is
 // told Lost in place of its place.
-pub fn exchange<R: Wait + AllocGlobal, S: Speaker, H: Hearer<S::Said>>(
+pub fn exchange<R: Wait + Clock + AllocGlobal, S: Speaker, H: Hearer<S::Said>>(
     rt: &R,
     speaker: &mut S,
     hearer: &mut H,
@@ -80,6 +82,7 @@ fn wants_keeping(wish: &Wish) -> bool
     match wish {
         Wish::Ask(Request::Make(..) | Request::Commit | Request::Kept) => true,
         Wish::Keep | Wish::Do(_) | Wish::DoAndKeep(_) => true,
+        Wish::DoWithin(..) | Wish::KeepWithin(..) => true,
         _ => false,
     }
 }
@@ -110,7 +113,7 @@ fn tells_place<S: Speaker>(told: &Option<Told<S::Said>>) -> bool
 }
 
 // Does what a line asks for. Answers what the client is told, and why the talk ends, if it does.
-fn carry_out<R: Wait + AllocGlobal, S: Speaker, H: Hearer<S::Said>>(
+fn carry_out<R: Wait + Clock + AllocGlobal, S: Speaker, H: Hearer<S::Said>>(
     rt: &R,
     speaker: &mut S,
     hearer: &mut H,
@@ -127,6 +130,15 @@ fn carry_out<R: Wait + AllocGlobal, S: Speaker, H: Hearer<S::Said>>(
         Wish::Do(calls) => told_of(transact(rt, rt.alloc(), speaker, calls.as_slice())),
         Wish::DoAndKeep(calls) => {
             let outcome = transact(rt, rt.alloc(), speaker, calls.as_slice());
+            keep_outcome(rt, speaker, hearer, outcome)
+        }
+        Wish::DoWithin(limit, calls) => {
+            let alloc = rt.alloc();
+            told_of(transact_within(rt, alloc, speaker, hearer, *limit, calls.as_slice()))
+        }
+        Wish::KeepWithin(limit, calls) => {
+            let alloc = rt.alloc();
+            let outcome = transact_within(rt, alloc, speaker, hearer, *limit, calls.as_slice());
             keep_outcome(rt, speaker, hearer, outcome)
         }
         Wish::Status => (Some(status(rt, rt.alloc(), speaker)), None),

@@ -2,6 +2,17 @@
 use crate::told::Told;
 use std::io;
 
+/// Whether somebody still waits for what it is to be told.
+#[derive(Clone, Copy)]
+pub enum Attention {
+    /// Somebody does.
+    Patient,
+    /// Somebody does, but not for long: all is to end soon.
+    Hurried,
+    /// Nobody does any more.
+    Gone,
+}
+
 /// Who hears what a client is told.
 pub trait Hearer<S> {
     ghost use Rattle.std.specs.Prelude.{List, [], ◌∷◌, Option, None, OnOk};
@@ -17,5 +28,9 @@ pub trait Hearer<S> {
 
     /// Sends on what was kept back.
     fn send(&mut self) -> io::Result<()>
+        ensures { Hears (heard self.old) (heard self.new) [] };
+
+    /// Whether it still waits for what it is to hear.
+    fn attention(&mut self) -> Attention
         ensures { Hears (heard self.old) (heard self.new) [] };
 }

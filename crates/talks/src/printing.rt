@@ -2,7 +2,7 @@
 ghost use Rattle.std.specs.Prelude.{[], ◌∷◌, None, OnOk};
 ghost use Rattle.talks.specs.Hearing.{Hears};
 
-use crate::hearing::Hearer;
+use crate::hearing::{Attention, Hearer};
 use crate::keeping_state::KeepingState;
 use crate::told::Told;
 use calls::Refusal;
@@ -13,6 +13,12 @@ use std::io::{self, Write};
 // How many bytes are kept back at most.
 const MOST_BACK: usize = 65_536;
 
+/// An output that may know whether somebody still reads it.
+pub trait Output: Write {
+    /// Whether somebody still waits for what is written.
+    fn attention(&mut self) -> Attention;
+}
+
 /// Writes what a client is told, a line each, to an output. Lines are kept back until they are
 /// asked for, or are many; each write has whole lines.
 #[derive(Drop)]
@@ -22,7 +28,7 @@ pub struct Printer<'a, O> {
     state: Option<&'a KeepingState<'a>>,
 }
 
-impl<'a, O: Write + Drop> Printer<'a, O> {
+impl<'a, O: Output + Drop> Printer<'a, O> {
     /// A printer that has written nothing yet.
     pub fn new(alloc: Global, output: O) -> Self {
         Self {
@@ -73,7 +79,7 @@ impl<'a, O: Write + Drop> Printer<'a, O> {
     }
 }
 
-impl<S: Display + Drop, O: Write + Drop> Hearer<S> for Printer<'_, O> {
+impl<S: Display + Drop, O: Output + Drop> Hearer<S> for Printer<'_, O> {
     fn hear(&mut self, told: Told<S>) -> io::Result<()>
         ensures { OnOk result (Hears {S = S} None None (told ∷ [])) }
     {
@@ -88,5 +94,11 @@ impl<S: Display + Drop, O: Write + Drop> Hearer<S> for Printer<'_, O> {
         ensures { Hears {S = S} None None [] }
     {
         self.write_out()
+    }
+
+    fn attention(&mut self) -> Attention
+        ensures { Hears {S = S} None None [] }
+    {
+        self.output.attention()
     }
 }

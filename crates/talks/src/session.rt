@@ -4,12 +4,13 @@ ghost use Rattle.talks.specs.Sessions.{session};
 
 use crate::requests::{end, say};
 use crate::{End, Said, Speaker};
-use calls::Refusal;
-use clients::{Client, Ticket};
+use calls::{Refusal, Reply};
+use clients::{Client, Moment, Ticket};
 use desks::Naming;
 use script::Request;
 use std::alloc::Global;
 use std::marker::Model;
+use std::rt::Clock;
 use std::sync::Wait;
 
 /// A client of a store that threads share, to speak with: what it knows of the store, and the
@@ -84,6 +85,21 @@ impl<J: Naming> Speaker for Session<'_, '_, J> {
         Ok(format!(in alloc; "{status}")?)
     }
 
+    /// Lines up with those who wait, as `Client::line_up` does.
+    fn line_up<R: Wait + Clock>(&mut self, rt: &R, alike: u64) {
+        self.client.line_up(rt, alike);
+    }
+
+    /// Sleeps until another try may be worth it, as `Client::await_change` does.
+    fn await_change<R: Wait + Clock>(&mut self, rt: &R, until: Moment) -> bool {
+        self.client.await_change(rt, until)
+    }
+
+    /// Waits no more, as `Client::leave_line` says.
+    fn leave_line<R: Wait>(&mut self, rt: &R) {
+        self.client.leave_line(rt);
+    }
+
     fn is_open(&self) -> bool {
         self.client.is_open()
     }
@@ -97,5 +113,12 @@ impl<J: Naming> Speaker for Session<'_, '_, J> {
 
     fn is_refusal(said: &Said) -> bool {
         matches!(said, Said::Refused(_))
+    }
+
+    fn is_fruitless(said: &Said) -> bool {
+        matches!(
+            said,
+            Said::Replied(Reply::Nothing) | Said::Refused(Refusal::Busy(_))
+        )
     }
 }

@@ -1,8 +1,10 @@
 // Who carries requests out.
 use calls::Refusal;
+use clients::Moment;
 use script::Request;
 use std::alloc::Global;
 use std::fmt;
+use std::rt::Clock;
 use std::sync::Wait;
 
 /// What a client was told of its last ticket.
@@ -72,6 +74,20 @@ pub trait Speaker {
     fn status<R: Wait>(&self, rt: &R, alloc: Global) -> Result<String, Refusal>
         ensures { IsOkUnless result Refusal.NoMemory };
 
+    /// Lines up with those who wait: what it asks for from here on is noted. Those who give the same
+    /// number ask for the same thing, and of these the first alone is woken.
+    fn line_up<R: Wait + Clock>(&mut self, rt: &R, alike: u64)
+        ensures { self.new ≡ self.old };
+
+    /// Sleeps until somebody else has ended something that it asked for since it lined up, or since
+    /// the last sleep, or until then. Whether another try may be worth it. No transaction is open.
+    fn await_change<R: Wait + Clock>(&mut self, rt: &R, until: Moment) -> bool
+        ensures { self.new ≡ self.old };
+
+    /// It waits no more.
+    fn leave_line<R: Wait>(&mut self, rt: &R)
+        ensures { self.new ≡ self.old };
+
     /// Whether a transaction is open.
     fn is_open(&self) -> bool
         ensures { IsTrue result ↔ is_open self.now };
@@ -83,4 +99,7 @@ pub trait Speaker {
     /// Whether an answer is a refusal.
     fn is_refusal(said: &Self::Said) -> bool
         ensures { IsTrue result ↔ refuses said.now };
+
+    /// Whether an answer says that there was nothing, or that another transaction was in the way.
+    fn is_fruitless(said: &Self::Said) -> bool;
 }

@@ -16,6 +16,7 @@ use crate::why::Why;
 use crate::{Found, read_line};
 use std::alloc::AllocGlobal;
 use std::io::{BufRead, BufReader, Read};
+use std::rt::Clock;
 use std::sync::Wait;
 
 /// The lines of a client, as they come.
@@ -56,7 +57,7 @@ pub struct Ended {
 /// The taking back is refused where too many records wait for the disk, or memory is wanting; it is
 /// tried many times. Where it is refused for good `is_taken_back` is false, and the speaker must
 /// not have another talk.
-pub fn talk<R: Wait + AllocGlobal, S: Speaker, I: Lines, H: Hearer<S::Said>>(
+pub fn talk<R: Wait + Clock + AllocGlobal, S: Speaker, I: Lines, H: Hearer<S::Said>>(
     rt: &R,
     speaker: &mut S,
     lines: &mut I,
@@ -85,7 +86,7 @@ struct Pending {
 }
 
 // Talks with a client.
-fn talk_on<R: Wait + AllocGlobal, S: Speaker, I: Lines, H: Hearer<S::Said>>(
+fn talk_on<R: Wait + Clock + AllocGlobal, S: Speaker, I: Lines, H: Hearer<S::Said>>(
     rt: &R,
     speaker: &mut S,
     lines: &mut I,
@@ -107,7 +108,7 @@ fn talk_on<R: Wait + AllocGlobal, S: Speaker, I: Lines, H: Hearer<S::Said>>(
 }
 
 // Reads a line and answers it, and says why the talk ends, if it does.
-fn turn<R: Wait + AllocGlobal, S: Speaker, I: Lines, H: Hearer<S::Said>>(
+fn turn<R: Wait + Clock + AllocGlobal, S: Speaker, I: Lines, H: Hearer<S::Said>>(
     rt: &R,
     speaker: &mut S,
     lines: &mut I,
@@ -138,7 +139,7 @@ fn turn<R: Wait + AllocGlobal, S: Speaker, I: Lines, H: Hearer<S::Said>>(
 
 // Answers what was found, and says why the talk ends, if it does. In a silence what is open is
 // taken back, and the next line that asks for something is told so, and no more.
-fn answer<R: Wait + AllocGlobal, S: Speaker, H: Hearer<S::Said>>(
+fn answer<R: Wait + Clock + AllocGlobal, S: Speaker, H: Hearer<S::Said>>(
     rt: &R,
     speaker: &mut S,
     found: Found,
@@ -180,7 +181,7 @@ fn turn_away<S, H: Hearer<S>>(found: Found, pending: &mut Pending, hearer: &mut 
 }
 
 // Answers a line, and says why the talk ends, if it does.
-fn answer_line<R: Wait + AllocGlobal, S: Speaker, H: Hearer<S::Said>>(
+fn answer_line<R: Wait + Clock + AllocGlobal, S: Speaker, H: Hearer<S::Said>>(
     rt: &R,
     speaker: &mut S,
     line: &[u8],

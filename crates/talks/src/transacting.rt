@@ -47,7 +47,7 @@ pub fn transact<R: Wait, S: Speaker>(
 }
 
 // Commits the open transaction, whose calls were answered so.
-fn commit<R: Wait, S: Speaker>(rt: &R, speaker: &mut S, saids: Vec<S::Said>) -> Outcome<S::Said>
+pub fn commit<R: Wait, S: Speaker>(rt: &R, speaker: &mut S, saids: Vec<S::Said>) -> Outcome<S::Said>
     ensures { Commits ⟦<S as Speaker>⟧ speaker.old saids.items result speaker.new }
 {
     let said = speaker.say(rt, &Request::Commit);
@@ -59,7 +59,7 @@ fn commit<R: Wait, S: Speaker>(rt: &R, speaker: &mut S, saids: Vec<S::Said>) -> 
 
 // Runs calls in the open transaction up to the first that is refused, and answers what is told of
 // that one.
-fn run_calls<R: Wait, S: Speaker>(
+pub fn run_calls<R: Wait, S: Speaker>(
     rt: &R,
     speaker: &mut S,
     calls: &[Request],

@@ -23,8 +23,8 @@ use Rattle.records.proofs.Items.{widest_all}
 use Rattle.machine.specs.Sound.{IsSound}
 use Rattle.machine.specs.Wholes.{contents}
 use Rattle.images.specs.Gathers.{GatherState}
-use Rattle.gathering.specs.Gatherings.{GatheringState, CanGoOn, IsNextOf, part_of, GatherAnswers}
-use Rattle.gathering.specs.Gatherings.{GoesAlong}
+use Rattle.images.specs.Gatherings.{GatheringState, CanGoOn, IsNextOf, part_of, GatherAnswers}
+use Rattle.images.specs.Gatherings.{GoesAlong}
 use Rattle.txn.specs.Books.{BookState, IsKept}
 use Rattle.txn.specs.Shelved.{JournalState, book_state, journal_position, IsBook}
 use Rattle.txn.specs.Parts.{IsCopy, IsGivenNext, GathersOn}

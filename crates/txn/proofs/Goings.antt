@@ -10,8 +10,8 @@ use Rattle.records.specs.Told.{Tells}
 use Rattle.record_format.specs.declared.record.Record.{Record}
 use Rattle.machine.proofs.Sizes.{pushed_length}
 use Rattle.images.specs.declared.effect.Effect.{Effect}
-use Rattle.gathering.specs.Gatherings.{GatheringState, noted, AreRun, KeepsGoing}
-use Rattle.gathering.proofs.Going.{goes_past_runs, goes_past_makings, goes_past_others}
+use Rattle.images.specs.Gatherings.{GatheringState, noted, AreRun, KeepsGoing}
+use Rattle.images.proofs.Going.{goes_past_runs, goes_past_makings, goes_past_others}
 use Rattle.txn.specs.Books.{BookState, position, Appends, GoesOn}
 
 -- one record more waits

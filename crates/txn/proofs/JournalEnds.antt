@@ -42,10 +42,10 @@ use Rattle.machine.proofs.Steps.{laters_disposable}
 use Rattle.machine.proofs.UndoneCall.{newest_once, call_there, written_back}
 use Rattle.machine.proofs.WholeRuns.{undoes_join}
 use Rattle.images.specs.declared.effect.Effect.{Effect}
-use Rattle.gathering.specs.Gatherings.{GatheringState, noted, to_note, effect_at, AreRun, TakesBack}
-use Rattle.gathering.proofs.OnShelf.{run_joins}
-use Rattle.gathering.proofs.Running.{are_run, late_short}
-use Rattle.gathering.proofs.Undoing.{newest_short, back_once}
+use Rattle.images.specs.Gatherings.{GatheringState, noted, to_note, effect_at, AreRun, TakesBack}
+use Rattle.images.proofs.OnShelf.{run_joins}
+use Rattle.images.proofs.Running.{are_run, late_short}
+use Rattle.images.proofs.Undoing.{newest_short, back_once}
 use Rattle.txn.specs.declared.steps.Action.{Action}
 use Rattle.txn.specs.Books.{BookState, position}
 use Rattle.txn.specs.Shelved.{JournalState, book_state, journal_position, Writes}

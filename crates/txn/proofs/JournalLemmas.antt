@@ -5,7 +5,7 @@ use Rattle.record_format.specs.Acts as acts
 use Rattle.blocks.specs.Waits.{Waiting, waiting, freezes}
 use Rattle.blocks.specs.declared.draft.Handed.{Handed}
 use Rattle.machine.specs.Wholes.{AccountsState}
-use Rattle.gathering.specs.Gatherings.{GatheringState}
+use Rattle.images.specs.Gatherings.{GatheringState}
 use Rattle.txn.specs.Books.{next_behind}
 use Rattle.txn.specs.Shelved.{JournalState, Writes}
 use Rattle.txn.specs.Views.{journal_of}

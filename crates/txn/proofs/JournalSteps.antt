@@ -10,7 +10,7 @@ use Rattle.calls.specs.Reads.{reads}
 use Rattle.calls.specs.Rules.{need_of}
 use Rattle.calls.specs.Transactions.{Event}
 use Rattle.abstract_locks.specs.Holds.{IsClear, IsBusyRefusal}
-use Rattle.ledger.specs.LeftCalls.{GoesTwice}
+use Rattle.undo_log.specs.LeftCalls.{GoesTwice}
 use Rattle.std.specs.Prelude.{OnOk, OnErr, IsOkUnless}
 use Rattle.boosted.specs.Meaning.{Meaning, HasRoom}
 use Rattle.boosted.specs.Laws.{BoostedLaws}
@@ -40,8 +40,8 @@ use Rattle.machine.proofs.Joining as joining
 use Rattle.machine.proofs.Steps.{begin_settles, call_settles, later_settles}
 use Rattle.machine.proofs.Readings.{read_settles}
 use Rattle.machine.proofs.InvariantRows.{call_room}
-use Rattle.gathering.specs.Gatherings.{noted, effect_at}
-use Rattle.gathering.proofs.Running.{are_run}
+use Rattle.images.specs.Gatherings.{noted, effect_at}
+use Rattle.images.proofs.Running.{are_run}
 use Rattle.txn.specs.declared.steps.Action.{Action}
 use Rattle.txn.specs.declared.steps.Target.{Target}
 use Rattle.txn.specs.Rows.{IsOpen, RunRefused, OpenRefused, IsDenied, CanGet}

@@ -18,7 +18,8 @@ use Rattle.catalog.specs.Laws.Numbers.{remainder_is}
 use Rattle.catalog.specs.Making.{Making}
 use Rattle.shelf.specs.Shelves.{ShelfState, on_quarter}
 use Rattle.machine.specs.Machine.{IsRunning}
-use Rattle.machine.specs.Wholes.{place_of, HasEntry}
+use Rattle.undo_log.specs.Entries.{place_of}
+use Rattle.machine.specs.Wholes.{HasEntry}
 use Rattle.machine.specs.Accounts.{alone}
 use Rattle.machine.proofs.FourShelves.{rank_is, held_in, held_each}
 use Rattle.txn.specs.Shelved.{JournalState, IsBook, IsUntouched, IsIdle}

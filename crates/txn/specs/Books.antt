@@ -22,8 +22,8 @@ use Rattle.machine.specs.Machines.{resting, IsUpheld}
 use Rattle.blocks.specs.Cuts.{CutsOff}
 use Rattle.blocks.specs.declared.block.Block.{Block}
 use Rattle.images.specs.declared.effect.Effect.{Effect}
-use Rattle.gathering.specs.Gatherings.{GatheringState, none_begun, noted, AreRun, KeepsGoing}
-use Rattle.gathering.specs.Gatherings.{effect_at, IsInverse}
+use Rattle.images.specs.Gatherings.{GatheringState, none_begun, noted, AreRun, KeepsGoing}
+use Rattle.images.specs.Gatherings.{effect_at, IsInverse}
 use Rattle.calls.specs.declared.when.When.{When}
 use Rattle.txn.specs.declared.steps.Action.{Action}
 use Rattle.txn.specs.declared.steps.Target.{Target}

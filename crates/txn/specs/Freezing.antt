@@ -6,8 +6,8 @@ use Rattle.calls.specs.Contents.{Collection}
 use Rattle.blocks.specs.declared.block.Image.{Image}
 use Rattle.images.specs.Images.{IsPackedImage}
 use Rattle.images.specs.Gathers.{GatherState}
-use Rattle.gathering.specs.Gatherings.{given_up, GatherAnswers, IsWhole, FreezeRefused, IsOfThis}
-use Rattle.gathering.specs.Gatherings.{HoldsAll}
+use Rattle.images.specs.Gatherings.{given_up, GatherAnswers, IsWhole, FreezeRefused, IsOfThis}
+use Rattle.images.specs.Gatherings.{HoldsAll}
 use Rattle.txn.specs.Books.{BookState, position}
 
 -- The image is one of the book: its records tell of what the collections hold, of the live

@@ -11,7 +11,7 @@ use Rattle.catalog.specs.Making.{Making}
 use Rattle.catalog.specs.Woven.{Label}
 use Rattle.shelf.specs.Shelves.{ShelfState}
 use Rattle.images.specs.Gathers.{GatherState}
-use Rattle.gathering.specs.Gatherings.{CanGoOn, GoesAlong}
+use Rattle.images.specs.Gatherings.{CanGoOn, GoesAlong}
 use Rattle.txn.specs.Books.{position}
 use Rattle.txn.specs.Freezing.{IsGatheredOf, BookGathers}
 use Rattle.txn.specs.Shelved.{JournalState, book_state, IsBook}

@@ -13,7 +13,7 @@ use Rattle.calls.specs.Transactions.{Event, own}
 use Rattle.abstract_locks.specs.Holds.{IsBusy, IsClear}
 use Rattle.undo_log.specs.Entries.{HasNoCall}
 use Rattle.undo_log.specs.Logs.{Lives, Falls}
-use Rattle.ledger.specs.LeftCalls.{GoesTwice}
+use Rattle.undo_log.specs.LeftCalls.{GoesTwice}
 use Rattle.boosted.specs.Meaning.{Meaning}
 use Rattle.shelf.specs.Looks.{CanTake, TakeRefused}
 use Rattle.catalog.specs.Making as naming

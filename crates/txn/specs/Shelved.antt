@@ -21,9 +21,10 @@ use Rattle.record_format.specs.Short.{AreShort}
 use Rattle.machine.specs.Machine.{IsSettled}
 use Rattle.machine.specs.Sound.{IsSound}
 use Rattle.machine.specs.Transactions.{RunsWhole}
-use Rattle.machine.specs.Wholes.{AccountsState, place_of, whole_state, IsJoined}
+use Rattle.undo_log.specs.Entries.{place_of}
+use Rattle.machine.specs.Wholes.{AccountsState, whole_state, IsJoined}
 use Rattle.machine.specs.Accounts.{alone, rested}
-use Rattle.gathering.specs.Gatherings.{GatheringState, none_begun}
+use Rattle.images.specs.Gatherings.{GatheringState, none_begun}
 use Rattle.txn.specs.declared.steps.Action.{Action}
 use Rattle.txn.specs.Rows.{Standing}
 use Rattle.txn.specs.Books.{BookState, next_behind, IsKept, Takes, GoesOn, Notes}

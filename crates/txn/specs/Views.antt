@@ -1,7 +1,7 @@
 -- A journal as contracts see it, from its parts.
 use Rattle.std.specs.Prelude.{ℕ}
 use Rattle.blocks.specs.Waits.{Waiting, waiting, freezes}
-use Rattle.gathering.specs.Gatherings.{GatheringState}
+use Rattle.images.specs.Gatherings.{GatheringState}
 use Rattle.machine.specs.Wholes.{AccountsState}
 use Rattle.txn.specs.Shelved.{JournalState}
 

@@ -7,7 +7,7 @@ ghost use Rattle.calls.specs.declared.reply.Reply.{Reply};
 ghost use Rattle.calls.specs.declared.when.When.{When};
 ghost use Rattle.undo_log.specs.Entries.{event_of};
 ghost use Rattle.catalog.specs.Fours.{which_of};
-ghost use Rattle.ledger.specs.LeftCalls.{GoesTwice};
+ghost use Rattle.undo_log.specs.LeftCalls.{GoesTwice};
 ghost use Rattle.shelf.specs.Looks.{IsLooked};
 ghost use Rattle.machine.specs.Machine.{IsRunning, CanCall, CanPutOff};
 ghost use Rattle.machine.specs.Wholes.{state_on};
@@ -22,7 +22,7 @@ use calls::{Call, Need, Refusal, Reply, When};
 use catalog::Parts;
 use records::{Coded, LaterRecord, Record, call_len, encoded_len, fits_call, fits_reply};
 use shelf::{Looked, Shelf};
-use undo_log::{Later, Logged};
+use undo_log::{Entry, Later, Logged};
 
 impl<B: Parts + Coded> Journal<B> {
     /// What the transaction asks of the collection of a number, under the need that the call has
@@ -80,7 +80,7 @@ impl<B: Parts + Coded> Journal<B> {
             (record { at = at; call = call.now; reply = reply.now }) }
     {
         match when {
-            When::Now => self.accounts.goes_twice(number, at, call, reply),
+            When::Now => self.accounts.live().goes_twice(number, at, call, reply),
             When::AtCommit => false,
         }
     }
@@ -180,7 +180,8 @@ impl<B: Parts + Coded> Journal<B> {
         self.pending.reserve(call_len(call, reply))?;
         let asked = logged(at, call, reply)?;
         let effect = self.gathering.effect_of_call(&asked, position)?;
-        self.accounts.call(shelf, number, asked, need)?;
+        self.accounts
+            .take(shelf, number, Entry::Asked(asked), need)?;
         self.gathering.note(effect);
         self.pending.push_call(number, at, call, reply);
         Ok(())
@@ -214,7 +215,7 @@ impl<B: Parts + Coded> Journal<B> {
         };
         let entry = later_record(number, at, call)?;
         self.pending.reserve(encoded_len(&entry))?;
-        self.accounts.later(shelf, number, put, need)?;
+        self.accounts.take(shelf, number, Entry::PutOff(put), need)?;
         self.pending.push(entry);
         Ok(())
     }

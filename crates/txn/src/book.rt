@@ -18,7 +18,7 @@ ghost use Rattle.record_format.specs.Short.{AreShort};
 ghost use Rattle.machine.specs.Machine.{IsSettled};
 ghost use Rattle.machine.specs.Transactions.{RunsWhole};
 ghost use Rattle.machine.specs.Sound.{IsSound};
-ghost use Rattle.gathering.specs.Gatherings.{GoesAlong};
+ghost use Rattle.images.specs.Gatherings.{GoesAlong};
 ghost use Rattle.blocks.specs.Cuts.{IsNextBlock};
 ghost use Rattle.txn.specs.declared.steps.Action.{Action};
 ghost use Rattle.txn.specs.declared.steps.Target.{Target};

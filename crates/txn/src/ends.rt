@@ -10,9 +10,9 @@ ghost use Rattle.undo_log.specs.Logs.{Lives};
 ghost use Rattle.catalog.specs.Fours.{Which, which_of, pick};
 ghost use Rattle.record_format.specs.declared.record.Record.{Record};
 ghost use Rattle.machine.specs.Machine.{IsRunning, HasNewestRead};
-ghost use Rattle.machine.specs.Wholes.{place_of};
+ghost use Rattle.undo_log.specs.Entries.{place_of};
 ghost use Rattle.machine.specs.Accounts.{finished};
-ghost use Rattle.gathering.specs.Gatherings.{noted, effect_at};
+ghost use Rattle.images.specs.Gatherings.{noted, effect_at};
 ghost use Rattle.txn.specs.declared.steps.Action.{Action};
 ghost use Rattle.txn.specs.Rows.{CommitRefused, EndedRefused};
 ghost use Rattle.txn.specs.Shelved.{standing_of, journal_position, IsJournal, IsOfBook, LeadsOn};
@@ -24,7 +24,7 @@ use calls::Refusal;
 use catalog::{Four, Parts};
 use records::{Coded, Record};
 use shelf::Shelf;
-use undo_log::{Entry, Stamped};
+use undo_log::Stamped;
 
 impl<B: Parts + Coded> Journal<B> {
     /// The number of the collection of the transaction's newest call that is not undone, if there
@@ -230,8 +230,5 @@ fn has_entry(entries: &[Stamped], quarter: u8) -> bool
 fn is_elsewhere(stamped: &Stamped, quarter: u8) -> bool
     ensures { IsTrue result ↔ (place_of (stamped_entry stamped.now) % 4 ≢ quarter) }
 {
-    match &stamped.entry {
-        Entry::Asked(logged) => logged.at % 4 != quarter,
-        Entry::PutOff(later) => later.at % 4 != quarter,
-    }
+    stamped.entry.at() % 4 != quarter
 }

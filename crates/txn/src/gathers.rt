@@ -9,7 +9,7 @@ ghost use Rattle.catalog.specs.Holdings.{Measures};
 ghost use Rattle.catalog.specs.Places.{At};
 ghost use Rattle.shelf.specs.Shelves.{ShelfState};
 ghost use Rattle.machine.specs.Wholes.{contents};
-ghost use Rattle.gathering.specs.Gatherings.{CanGoOn};
+ghost use Rattle.images.specs.Gatherings.{CanGoOn};
 ghost use Rattle.txn.specs.Parts.{IsGivenNext, GathersOn};
 ghost use Rattle.txn.specs.Freezing.{IsGatheredOf, FreezeAnswers};
 ghost use Rattle.txn.specs.Shelved.{book_state, IsBook};

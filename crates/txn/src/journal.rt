@@ -23,7 +23,7 @@ use blocks::{NextBlock, Outbox, Pending};
 use calls::limits::{MAX_COLLECTIONS, MAX_LIVE, MAX_PENDING, NUMBER_END};
 use calls::{Format, Kind, Refusal};
 use catalog::{Named, Parts};
-use gathering::Gathering;
+use images::Gathering;
 use machine::Accounts;
 use records::{Coded, Record};
 use std::alloc::Global;

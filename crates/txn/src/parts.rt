@@ -7,11 +7,11 @@ ghost use Rattle.catalog.specs.Holdings.{Measures};
 ghost use Rattle.catalog.specs.Places.{At};
 ghost use Rattle.record_format.specs.Short.{AreShort};
 ghost use Rattle.machine.specs.Machine.{IsSettled};
-ghost use Rattle.gathering.specs.Gatherings.{GoesAlong};
+ghost use Rattle.images.specs.Gatherings.{GoesAlong};
 ghost use Rattle.txn.specs.declared.steps.Action.{Action};
 ghost use Rattle.txn.specs.Books.{opened, position, Takes, GoesOn, Notes};
 ghost use Rattle.txn.specs.Freezing.{IsGatheredOf, BookGathers, FreezeAnswers};
-ghost use Rattle.gathering.specs.Gatherings.{CanGoOn};
+ghost use Rattle.images.specs.Gatherings.{CanGoOn};
 ghost use Rattle.txn.specs.Parts.{at_rest, IsCopy};
 ghost use Rattle.txn.specs.Shelved.{IsBook};
 

@@ -5,3 +5,4 @@ pub mod Index
 pub mod Marks
 pub mod Written
 pub mod Sorting
+pub mod LeftLemmas

@@ -2,6 +2,9 @@
 use Rattle.std.specs.Prelude.{◌≡◌, ℕ, List, [], ◌∷◌, ◌++◌, map, drop}
 use Rattle.calls.specs.Transactions as transactions
 use Rattle.calls.specs.Transactions.{Event, own, calls_of}
+use Rattle.calls.specs.declared.need.Need.{Need}
+use Rattle.calls.specs.declared.reply.Reply.{Reply}
+use Rattle.calls.specs.Rules.{need_of}
 use Rattle.undo_log.specs.declared.logged.Logged.{Logged}
 use Rattle.undo_log.specs.declared.logged.Entry.{Entry}
 use Rattle.undo_log.specs.declared.logged.Entry.TheVariants.{Asked, PutOff}
@@ -24,6 +27,16 @@ stamped_entry s = entry_of s.entry
 -- The same with the number of its transaction.
 abbrev pub owned_entry : Owned → ℕ × transactions.Entry
 owned_entry o = (o.owner, entry_of o.entry.now)
+
+-- The collection that it was asked of.
+abbrev pub place_of : transactions.Entry → ℕ
+place_of (transactions.Asked e) = e.at
+place_of (transactions.PutOff at c) = at
+
+-- The need that it has: a call by its reply, one that is put off by the reply Done.
+abbrev pub need_to_take : transactions.Entry → Need
+need_to_take (transactions.Asked e) = need_of e.call e.reply
+need_to_take (transactions.PutOff at c) = need_of c Reply.Done
 
 -- It is a call that was asked for, and not one that was put off.
 abbrev pub IsCall : Stamped → Type 0

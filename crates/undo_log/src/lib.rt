@@ -2,6 +2,7 @@
 //! asked.
 #![tactic(auto)]
 
+mod left_calls;
 mod live;
 mod logged;
 

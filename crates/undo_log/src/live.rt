@@ -14,11 +14,13 @@ ghost use Rattle.undo_log.specs.Logs.{EachOnce, IsSlotOf, IsLeastLive, IsLeastSl
 ghost use Rattle.undo_log.specs.Logs.{IsNextSlot, Lives};
 ghost use Rattle.undo_log.specs.Stamps.{marks, mark_of};
 ghost use Rattle.undo_log.specs.Index.{AreRising, IsIndex, IsGapFor};
+ghost use Rattle.undo_log.specs.LeftCalls.{GoesTwice};
 ghost use Rattle.undo_log.specs.declared.live.Transaction.{Transaction};
 ghost use Rattle.undo_log.specs.declared.live.Seat.{Seat};
 
+use crate::left_calls::is_going;
 use crate::{Entry, Logged, Owned, Stamped};
-use calls::Refusal;
+use calls::{Call, Refusal, Reply};
 use slab::Slab;
 use std::alloc::Global;
 use std::marker::Model;
@@ -178,6 +180,18 @@ impl Live {
         ensures { result ≡ length (own number self.now.entries) }
     {
         self.entries_of(number).len()
+    }
+
+    /// Whether the transaction has left to its commit already what this call, answered so, would
+    /// leave. Where it would leave one, one search, and each entry of the transaction is looked at.
+    pub fn goes_twice(&self, number: u64, at: u8, call: &Call, reply: &Reply) -> bool
+        ensures { IsTrue result ↔ GoesTwice self.now.entries number
+            (record { at = at; call = call.now; reply = reply.now }) }
+    {
+        match call.after(reply) {
+            Some(left) => is_going(self.entries_of(number), at, &left),
+            None => false,
+        }
     }
 
     /// Makes the transaction live and running, with nothing asked for. NoMemory leaves all as

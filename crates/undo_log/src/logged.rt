@@ -1,8 +1,8 @@
 // What a live transaction asked for.
-ghost use Rattle.std.specs.Prelude.{◌↔◌, IsTrue};
-ghost use Rattle.undo_log.specs.Entries.{IsCall};
+ghost use Rattle.std.specs.Prelude.{◌≡◌, ◌↔◌, IsTrue};
+ghost use Rattle.undo_log.specs.Entries.{IsCall, entry_of, place_of, need_to_take};
 
-use calls::{Call, Reply};
+use calls::{Call, Need, Reply};
 
 /// A call on a collection, with the reply that it got.
 #[derive(Drop)]
@@ -24,6 +24,29 @@ pub struct Later {
 pub enum Entry {
     Asked(Logged),
     PutOff(Later),
+}
+
+impl Entry {
+    /// The collection that it was asked of.
+    pub fn at(&self) -> u8
+        ensures { result ≡ place_of (entry_of self.now) }
+    {
+        match self {
+            Entry::Asked(logged) => logged.at,
+            Entry::PutOff(later) => later.at,
+        }
+    }
+
+    /// The need that it has: a call by its reply, one that is put off by the reply Done. It takes no
+    /// memory.
+    pub fn need(&self) -> Need
+        ensures { result ≡ need_to_take (entry_of self.now) }
+    {
+        match self {
+            Entry::Asked(logged) => logged.call.need(&logged.reply),
+            Entry::PutOff(later) => later.call.need(&Reply::Done),
+        }
+    }
 }
 
 /// What a transaction asked for, with its stamp: stamps rise in the order asked, over all

@@ -12,7 +12,7 @@ use Rattle.machine.specs.Sound.{IsSound}
 use Rattle.images.specs.Gathers.{GatherState, gathered, Repeats, Packs}
 use Rattle.images.specs.Images.{IsPacked, TellsGathered}
 use Rattle.images.proofs.Repeats.{repeated_none, repeated_same}
-use Rattle.gathering.proofs.Going.{holds_image}
+use Rattle.images.proofs.Going.{holds_image}
 use Rattle.txn.specs.declared.steps.Action.{Action}
 use Rattle.txn.specs.declared.steps.BookStep.{BookStep}
 use Rattle.txn.specs.Books.{IsKept, position}

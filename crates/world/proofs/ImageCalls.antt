@@ -18,9 +18,9 @@ use Rattle.abstract_locks.specs.declared.table.Hold.{Hold}
 use Rattle.abstract_locks.specs.Holds.{hold, Blocks, IsClear, IsAdded}
 use Rattle.catalog.specs.Laws.ByPlace.{answered_belongs}
 use Rattle.record_format.specs.declared.record.Record.{Record}
-use Rattle.ledger.specs.LeftCalls.{GoesTwice, IsGoing}
+use Rattle.undo_log.specs.LeftCalls.{GoesTwice, IsGoing}
 use Rattle.machine.specs.Machines.{IsAskedEntry}
-use Rattle.loader.specs.Loading.{HasRoomToHold}
+use Rattle.repetition.specs.Loading.{HasRoomToHold}
 use Rattle.machine.specs.Sound.{owned, all_owned, Shows}
 use Rattle.machine.specs.Theory.Rules.{Rules, Has, Lacks}
 use Rattle.machine.specs.Theory.Journal as journal

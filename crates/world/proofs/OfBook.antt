@@ -13,8 +13,8 @@ use Rattle.calls.specs.declared.refusal.Refusal.{Refusal}
 use Rattle.blocks.specs.declared.block.Block.{Block}
 use Rattle.images.specs.Gathers.{GatherState, Repeats, caught_up}
 use Rattle.images.proofs.Following.{follows_repeated, came_repeated}
-use Rattle.gathering.specs.Gatherings.{GatheringState, GoesAlong, IsUnderWay, KeepsGoing, gone_on}
-use Rattle.gathering.proofs.Going.{goes_past_others}
+use Rattle.images.specs.Gatherings.{GatheringState, GoesAlong, IsUnderWay, KeepsGoing, gone_on}
+use Rattle.images.proofs.Going.{goes_past_others}
 use Rattle.txn.specs.declared.steps.Action.{Action}
 use Rattle.txn.specs.declared.steps.Target.{Target}
 use Rattle.txn.specs.Books as books

@@ -7,7 +7,7 @@ use Rattle.record_format.specs.declared.record.Record.{Record}
 use Rattle.blocks.specs.declared.block.Block.{Block}
 use Rattle.blocks.specs.declared.block.Image.{Image}
 use Rattle.images.specs.Gathers.{GatherState, Packs}
-use Rattle.gathering.specs.Gatherings.{IsUnderWay}
+use Rattle.images.specs.Gatherings.{IsUnderWay}
 use Rattle.machine.specs.Machine.{journalled}
 use Rattle.repetition.specs.Steps.{State}
 use Rattle.txn.specs.declared.steps.BookStep.{BookStep}

@@ -1,8 +1,7 @@
 // Bringing a store to the second format.
 ghost use Rattle.std.specs.Prelude.{OnOk, IfErr};
-ghost use Rattle.recovery.specs.Openings.{KeepsContent};
 ghost use Rattle.boost.specs.Commands.{IsOfStore};
-ghost use Rattle.boost.specs.Effects.{IsBroughtUp};
+ghost use Rattle.boost.specs.Effects.{IsBroughtUp, UpgradeLeaves};
 
 use crate::commands::failure::Failure;
 use disk_model::Disk;
@@ -20,8 +19,7 @@ pub fn upgrade_store<D: Disk, O: Write>(
     ensures why { IfErr result.0 IsOfStore }
     ensures done { OnOk result.0 (D.is_honest result.1 →
         IsBroughtUp ⟦<D as Disk>⟧ disk result.1) }
-    ensures kept { D.is_honest result.1 →
-        KeepsContent D.seen D.may_leave D.moment D.left_since disk result.1 }
+    ensures left { UpgradeLeaves ⟦<D as Disk>⟧ disk result.1 }
 {
     match upgrade(alloc, disk) {
         Ok(disk) => (tell_upgraded(out), disk),

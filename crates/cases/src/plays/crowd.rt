@@ -4,12 +4,14 @@ ghost use Rattle.talks.specs.Sessions.{said_place, IsRefusal};
 
 use crate::plays::through_store::Stage;
 use boost::{Action, End, Line, Request, Said, Speaker};
-use calls::Refusal;
+use calls::{Refusal, Reply};
 use checkpoint::Turn;
 use disk_model::Disk;
 use std::alloc::Global;
+use std::rt::Clock;
 use std::sync::Wait;
 use store::Naming;
+use talks::Moment;
 
 // So many turns keep all that a dialogue commits.
 const TURNS: u64 = 1 << 16;
@@ -95,6 +97,22 @@ impl<D: Disk, J: Naming> Speaker for Crowd<'_, '_, '_, D, J> {
         self.stage.status(rt, alloc)
     }
 
+    fn line_up<R: Wait + Clock>(&mut self, rt: &R, alike: u64) {
+        let _ = rt;
+        let _ = alike;
+    }
+
+    /// Nobody else is there.
+    fn await_change<R: Wait + Clock>(&mut self, rt: &R, until: Moment) -> bool {
+        let _ = rt;
+        let _ = until;
+        false
+    }
+
+    fn leave_line<R: Wait>(&mut self, rt: &R) {
+        let _ = rt;
+    }
+
     fn is_open(&self) -> bool {
         self.is_busy
     }
@@ -112,5 +130,12 @@ impl<D: Disk, J: Naming> Speaker for Crowd<'_, '_, '_, D, J> {
         ensures { IsTrue result ↔ IsRefusal said.now }
     {
         matches!(said, Said::Refused(_))
+    }
+
+    fn is_fruitless(said: &Said) -> bool {
+        matches!(
+            said,
+            Said::Replied(Reply::Nothing) | Said::Refused(Refusal::Busy(_))
+        )
     }
 }

@@ -8,9 +8,10 @@ use disk_model::Disk;
 use std::alloc::Global;
 use std::io::{self, BufReader, ErrorKind, Read, Write};
 use std::marker::Brand;
+use std::rt::Clock;
 use std::sync::Wait;
 use store::{Naming, Opened, Store};
-use talks::{Ended, Printer, talk};
+use talks::{Attention, Ended, Output, Printer, talk};
 
 /// The bytes of a client, of which each read brings a line at most.
 #[derive(Drop)]
@@ -62,6 +63,13 @@ impl Write for Page<'_> {
     }
 }
 
+/// Nobody waits: there is no other thread.
+impl Output for Page<'_> {
+    fn attention(&mut self) -> Attention {
+        Attention::Hurried
+    }
+}
+
 /// What a talk is to be: the lines of a script for whose clients it is, or none; what is typed; how
 /// many writes of what it is told go well; and what is typed behind it, in a talk of its own, by
 /// the first client.
@@ -93,7 +101,7 @@ impl Heard {
 }
 
 // Talks with who talks for the clients.
-fn hold<D: Disk, J: Naming, R: Wait + AllocGlobal>(
+fn hold<D: Disk, J: Naming, R: Wait + Clock + AllocGlobal>(
     rt: &R,
     crowd: &mut Crowd<'_, '_, '_, D, J>,
     typed: &[u8],
@@ -106,7 +114,7 @@ fn hold<D: Disk, J: Naming, R: Wait + AllocGlobal>(
 }
 
 // Holds a dialogue on a store.
-fn hold_on<D: Disk, J: Naming, R: Wait + AllocGlobal>(
+fn hold_on<D: Disk, J: Naming, R: Wait + Clock + AllocGlobal>(
     rt: &R,
     store: &Store<D, J>,
     dialogue: &Dialogue<'_>,
@@ -129,7 +137,7 @@ fn hold_on<D: Disk, J: Naming, R: Wait + AllocGlobal>(
 }
 
 // The same on a store that was opened, which is closed then.
-fn hold_opened<J: Naming, D: Disk + Drop, R: Wait + AllocGlobal>(
+fn hold_opened<J: Naming, D: Disk + Drop, R: Wait + Clock + AllocGlobal>(
     rt: &R,
     opened: Opened<D>,
     dialogue: &Dialogue<'_>,
@@ -145,7 +153,7 @@ fn hold_opened<J: Naming, D: Disk + Drop, R: Wait + AllocGlobal>(
 }
 
 // The same on the store of a disk, under a name of its own.
-fn hold_named<D: Disk + Drop, R: Wait + AllocGlobal>(
+fn hold_named<D: Disk + Drop, R: Wait + Clock + AllocGlobal>(
     rt: &R,
     opened: Opened<D>,
     dialogue: &Dialogue<'_>,
@@ -155,7 +163,7 @@ fn hold_named<D: Disk + Drop, R: Wait + AllocGlobal>(
 }
 
 /// Holds a dialogue on the store of a disk, which is let go then.
-pub fn converse<D: Disk + Drop, R: Wait + AllocGlobal>(
+pub fn converse<D: Disk + Drop, R: Wait + Clock + AllocGlobal>(
     rt: &R,
     disk: D,
     dialogue: &Dialogue<'_>,

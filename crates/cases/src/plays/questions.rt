@@ -8,6 +8,7 @@ use boost::Task;
 use disk_model::Disk;
 use std::alloc::Global;
 use std::io;
+use std::rt::Clock;
 use std::sync::Wait;
 
 /// The word of a line that asks something, with what stands behind it. It is told then. None where
@@ -40,7 +41,7 @@ pub fn question<'a>(
 /// Asks for a command on the disk of the case, or else of the disk and of the script. A line that
 /// is neither is refused as InvalidInput.
 pub fn ask(
-    rt: &(impl Wait + AllocGlobal),
+    rt: &(impl Wait + Clock + AllocGlobal),
     bench: &mut Workbench,
     word: &str,
     rest: &str,

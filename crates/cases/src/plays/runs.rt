@@ -8,6 +8,7 @@ use boost::{Task, run, run_copy};
 use disk_model::{Disk, MemDisk};
 use std::alloc::Global;
 use std::io;
+use std::rt::Clock;
 use std::sync::Wait;
 
 /// What a run answered: its status, and what it printed.
@@ -172,7 +173,7 @@ pub fn carry_out(
 /// Plays the script that was written, once more through the store that threads share, and once more
 /// as a talk: what these answer or leave otherwise is told too.
 pub fn play(
-    rt: &(impl Wait + AllocGlobal),
+    rt: &(impl Wait + Clock + AllocGlobal),
     bench: &mut Workbench,
     told: &mut Told,
 ) -> io::Result<()> {

@@ -8,6 +8,7 @@ use calls::Refusal;
 use disk_model::MemDisk;
 use std::alloc::{AllocError, Global};
 use std::io::{self, ErrorKind};
+use std::rt::Clock;
 use std::sync::Wait;
 
 // Why no talk was held.
@@ -59,7 +60,7 @@ fn answers_of(alloc: Global, out: &str, lines: &[Line]) -> Result<Vec<u8>, Alloc
 /// Holds the talk in which each request of a script that was played is a line, on a disk of the
 /// same bytes. What is told there otherwise than in the play is told too.
 pub fn compare(
-    rt: &(impl Wait + AllocGlobal),
+    rt: &(impl Wait + Clock + AllocGlobal),
     bench: &mut Workbench,
     disk: MemDisk,
     script: &[u8],
@@ -93,7 +94,7 @@ pub fn compare(
 
 // What is told where so many bytes of a dialogue are typed, and so many writes go well.
 fn heard_of(
-    rt: &(impl Wait + AllocGlobal),
+    rt: &(impl Wait + Clock + AllocGlobal),
     bench: &mut Workbench,
     typed: &[u8],
     writes: u64,
@@ -134,7 +135,7 @@ fn tell_heard(heard: &Heard, told: &mut Told) {
 /// what a talk behind it tells at a line. Then tells how many cuts told no beginning of what the
 /// whole dialogue tells, or left a transaction open.
 pub fn cut_each(
-    rt: &(impl Wait + AllocGlobal),
+    rt: &(impl Wait + Clock + AllocGlobal),
     bench: &mut Workbench,
     behind: &str,
     told: &mut Told,
@@ -165,7 +166,7 @@ pub fn cut_each(
 /// Holds the dialogue once for each of its writes, which fails then with all behind it. Tells the
 /// same.
 pub fn fail_each(
-    rt: &(impl Wait + AllocGlobal),
+    rt: &(impl Wait + Clock + AllocGlobal),
     bench: &mut Workbench,
     behind: &str,
     told: &mut Told,

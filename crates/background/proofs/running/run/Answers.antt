@@ -1,5 +1,6 @@
 use Rattle.std.proofs.Common.{inl, inr, refl, sym, subst}
 use Rattle.group_commit.specs.Marks.{AreReached}
+use Rattle.recovery.proofs.RefusalLemmas.{only_opened, starved_opening}
 use Rattle.recovery.proofs.Stores.{opened_sound}
 use Rattle.store.specs.Openings.{naming_of}
 use Rattle.background.specs.Works.{AreTold}
@@ -19,7 +20,9 @@ returns-in-Ok-clause-opened g c =
     closed.seen closed.closes.steps closed.counts
     result.1.kept are closed.closes.begins
     (subst (AreReached closed.counts) (sym closed.mark) closed.closes.reached) was_kept all)
-    opened.kept (λ honest rest. record {
+    (only_opened g.D.Disk c.args.disk c.in-Ok.opened.keeper.disk c.in-Ok.opened.book
+    c.in-Ok.opened.keeper.area opened.opened opened.ready) opened.kept
+    (λ honest rest. record {
       bytes = g.D.Disk.seen c.args.disk;
       is_opened = opened.opened honest;
       ready = opened.ready honest rest;
@@ -33,7 +36,9 @@ returns-in-Ok-clause-left g c =
     let result = c.run_opened.result in
     inr (was_opened g.D.Disk _ _ (λ origin steps was_kept. Unit {0}) c.args.disk
     c.in-Ok.opened.keeper.disk result.1.disk result.1.kept c.run_opened.ensures.closed
-    (λ was_kept all. tt) opened.kept
+    (λ was_kept all. tt)
+    (only_opened g.D.Disk c.args.disk c.in-Ok.opened.keeper.disk c.in-Ok.opened.book
+    c.in-Ok.opened.keeper.area opened.opened opened.ready) opened.kept
     (λ honest rest. record {
       bytes = g.D.Disk.seen c.args.disk;
       is_opened = opened.opened honest;
@@ -46,4 +51,10 @@ pub returns-in-Ok-clause-rest : goal.returns-in-Ok-clause-rest
 returns-in-Ok-clause-rest g c = ok_always c.run_opened.result.0 c.run_opened.ensures.rest
 
 pub returns-in-Err-clause-left : goal.returns-in-Err-clause-left
-returns-in-Err-clause-left g c = inl c.in-Err.ensures.kept_in_refusal
+returns-in-Err-clause-left g c =
+    let e = c.in-Err.ensures in
+    inl (record {
+      ends = starved_opening g.D.Disk c.args.disk c.in-Err.disk _ _ _ c.in-Err.refusal e.refused
+          e.unchanged e.opened_at_most;
+      any_moment = e.kept_in_refusal;
+    })

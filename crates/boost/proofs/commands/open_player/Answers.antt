@@ -1,23 +1,32 @@
-use Rattle.std.proofs.Common.{◌≡◌, [], sym, subst}
+use Rattle.std.proofs.Common.{◌≡◌, inl, inr, [], sym, subst}
 use Rattle.std.proofs.lemmas.Result.{err_from_is_err_and}
-use Rattle.recovery.specs.Openings.{KeepsContent}
 use Rattle.world.specs.Moves.{Whole}
+use Rattle.recovery.specs.Refusals.{OpeningLeaves}
+use Rattle.recovery.proofs.RefusalLemmas.{refused_opening, only_opened}
 use Rattle.boost.proofs.OpenLemmas.{opened_parts, opened_numbers, opened_past, opened_keeps}
 use Rattle.boost.proofs.commands.open_player.Goals as goal
 
-pub returns-in_err-book-clause-kept_in_refusal : goal.returns-in_err-book-clause-kept_in_refusal
-returns-in_err-book-clause-kept_in_refusal g c =
+pub returns-in_err-book-clause-left_in_refusal : goal.returns-in_err-book-clause-left_in_refusal
+returns-in_err-book-clause-left_in_refusal g c =
     let p = err_from_is_err_and c.from_residual.result c.from_residual.ensures.1 in
-    rw (p.1, p.2) c.in_err-book.ensures.kept_in_refusal
+    let refusal = c.in_err-book.ensures in
+    rw (p.1, p.2) (record {
+      ends = refused_opening g.D.Disk c.args.disk c.in_err-book.field-0.0.1 _ _ _
+          c.in_err-book.field-0.0.0 refusal.refused refusal.unchanged;
+      any_moment = refusal.kept_in_refusal;
+    })
 
-pub returns-in_err-new-clause-kept_in_refusal : goal.returns-in_err-new-clause-kept_in_refusal
-returns-in_err-new-clause-kept_in_refusal g c =
+pub returns-in_err-new-clause-left_in_refusal : goal.returns-in_err-new-clause-left_in_refusal
+returns-in_err-new-clause-left_in_refusal g c =
     let p = err_from_is_err_and c.from_residual-in_err-new.result
     c.from_residual-in_err-new.ensures.1 in
-    let is = c.in_err-new.ensures.refused.1 in
-    rw (p.1, p.2) (λ honest. subst (λ d. KeepsContent g.D.Disk.seen g.D.Disk.may_leave
-    g.D.Disk.moment g.D.Disk.left_since c.args.disk d) (sym is)
-    (c.in_ok-book.ensures.kept (subst g.D.Disk.is_honest is honest)))
+    let opened = c.in_ok-book.ensures in
+    rw (p.1, p.2) (subst (OpeningLeaves g.D.Disk c.args.disk) (sym c.in_err-new.ensures.refused.1)
+    (record {
+      ends = inl (inr (only_opened g.D.Disk c.args.disk c.in_ok-book.keeper.disk c.in_ok-book.book
+          c.in_ok-book.keeper.area opened.opened opened.ready));
+      any_moment = opened.kept;
+    }))
 
 pub returns-clause-past : goal.returns-clause-past
 returns-clause-past g c = λ honest.

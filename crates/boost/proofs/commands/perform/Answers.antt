@@ -45,7 +45,7 @@ pub returns-in-Upgrade-clause-done : goal.returns-in-Upgrade-clause-done
 returns-in-Upgrade-clause-done g c = rw c.in-Upgrade.is c.upgrade_store.ensures.done
 
 pub returns-in-Upgrade-clause-any_moment : goal.returns-in-Upgrade-clause-any_moment
-returns-in-Upgrade-clause-any_moment g c = rw c.in-Upgrade.is c.upgrade_store.ensures.kept
+returns-in-Upgrade-clause-any_moment g c = rw c.in-Upgrade.is c.upgrade_store.ensures.left
 
 pub returns-in-Upgrade-clause-why : goal.returns-in-Upgrade-clause-why
 returns-in-Upgrade-clause-why g c =

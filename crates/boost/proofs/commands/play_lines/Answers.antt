@@ -34,5 +34,5 @@ returns-in-Ok-clause-lines g c =
 
 pub returns-in-Err-clause-left : goal.returns-in-Err-clause-left
 returns-in-Err-clause-left g c = λ script is honest.
-    unplayed_leaves g.D.Disk c.args.disk script c.in-Err.disk
-    (c.in-Err.ensures.kept_in_refusal honest)
+    unplayed_leaves g.D.Disk c.args.disk script c.in-Err.disk honest
+    c.in-Err.ensures.left_in_refusal

@@ -1,13 +1,12 @@
 use Rattle.std.proofs.Common.{◌≡◌, refl}
-use Rattle.boost.proofs.EffectLemmas.{untouched_keeps, unplayed_leaves, script_played}
+use Rattle.boost.proofs.EffectLemmas.{unopened, unplayed_leaves, script_played}
 use Rattle.boost.proofs.EffectLemmas.{store_unplayed, script_unplayed}
 use Rattle.boost.proofs.commands.play_script.Goals as goal
 
 pub returns-in-Err-clause-left : goal.returns-in-Err-clause-left
 returns-in-Err-clause-left g c = λ honest.
-    unplayed_leaves g.D.Disk c.args.disk c.args.script.now c.args.disk
-    (untouched_keeps g.D.Disk.seen g.D.Disk.may_leave g.D.Disk.moment g.D.Disk.left_since
-    c.args.disk (g.met.D.Disk.only_now c.args.disk))
+    unplayed_leaves g.D.Disk c.args.disk c.args.script.now c.args.disk honest
+    (unopened g.D.Disk c.args.disk (g.met.D.Disk.only_now c.args.disk))
 
 pub returns-in-Err-clause-why : goal.returns-in-Err-clause-why
 returns-in-Err-clause-why g c =

@@ -64,3 +64,8 @@ returns-in-Err-clause-stop g c = λ rest.
     c.in_ok-image.version (g.D.Disk.seen c.args.old.now) c.args.area
     c.in_ok-image.image.blocks.items c.args.new.now
     c.write_copy.new.disk c.in_ok-image.ensures.image (c.write_copy.ensures.stop rest)
+
+pub returns-in_err-image-clause-starved : goal.returns-in_err-image-clause-starved
+returns-in_err-image-clause-starved g c =
+    let p = err_from_is_err_and c.from_residual.result c.from_residual.ensures.1 in
+    rw (p.1, p.2) c.in_err-image.ensures.starved

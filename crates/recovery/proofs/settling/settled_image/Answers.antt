@@ -1,6 +1,8 @@
 use Rattle.std.proofs.Common.{◌≡◌, ◌≤◌, List, sym, ◌∙◌, ap, subst}
+use Rattle.std.proofs.lemmas.Result.{err_from_is_err_and}
 use Rattle.calls.specs.Contents.{Collection}
 use Rattle.calls.specs.Formats.{max_area, Allows}
+use Rattle.gate_block.specs.Area.{size_of}
 use Rattle.images.specs.Images.{IsPackedImage}
 use Rattle.repetition.proofs.OneFormat.{repeats_format}
 use Rattle.recovery.specs.Copies.{copied_as}
@@ -45,3 +47,16 @@ returns-clause-some g c =
     some_blocks c.in_ok-machine.field-0.next c.in_format-machine.result
     c.in_ok-image.image.blocks.items
     c.in_ok-image.ensures.image
+
+pub returns-in_err-machine-clause-starved : goal.returns-in_err-machine-clause-starved
+returns-in_err-machine-clause-starved g c =
+    let p = err_from_is_err_and c.from_residual.result c.from_residual.ensures.1 in
+    rw (p.1, p.2) c.in_err-machine.ensures.starved
+
+pub returns-in_err-image-clause-starved : goal.returns-in_err-image-clause-starved
+returns-in_err-image-clause-starved g c =
+    let p = err_from_is_err_and c.from_residual-in_err-image.result
+    c.from_residual-in_err-image.ensures.1 in
+    rw p.1 (λ starved true_read.
+    let stored = c.in_ok-machine.ensures.found.stored true_read in
+    (stored.version, size_of c.in_ok-machine.field-0.area, stored.header))

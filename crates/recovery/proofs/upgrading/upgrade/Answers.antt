@@ -1,5 +1,7 @@
 use Rattle.std.proofs.Common.{inr}
 use Rattle.undoing.proofs.Walks.{rises_before}
+use Rattle.gate_block.specs.Area.{size_of}
+use Rattle.recovery.proofs.RefusalLemmas.{unopened_leaves, opened_leaves}
 use Rattle.recovery.proofs.UpgradeLemmas.{ok_two, err_two, both_err, kept_then, upgrade_refusal}
 use Rattle.recovery.specs.Openings.{book_of}
 use Rattle.recovery.proofs.upgrading.upgrade.Goals as goal
@@ -8,9 +10,8 @@ pub returns-in-Ok-clause-upgraded : goal.returns-in-Ok-clause-upgraded
 returns-in-Ok-clause-upgraded g c =
     ok_two c.upgrade_settled.result _ _ _ c.upgrade_settled.ensures.upgraded
     c.upgrade_settled.ensures.honest
-    (λ new upgraded honest true_read rest. upgraded (g.D.Disk.seen c.args.disk)
-    (c.in-Ok.ensures.opened (honest true_read))
-    (c.in-Ok.ensures.durable (honest true_read) rest))
+    (λ new upgraded honest true_read. upgraded (g.D.Disk.seen c.args.disk)
+    (c.in-Ok.ensures.opened (honest true_read)))
 
 pub returns-in-Ok-clause-durable : goal.returns-in-Ok-clause-durable
 returns-in-Ok-clause-durable g c =
@@ -18,18 +19,6 @@ returns-in-Ok-clause-durable g c =
     c.upgrade_settled.ensures.honest
     (λ new durable honest true_read rest. durable
     (c.in-Ok.ensures.durable (honest true_read) rest))
-
-pub returns-in-Ok-clause-only_opened : goal.returns-in-Ok-clause-only_opened
-returns-in-Ok-clause-only_opened g c =
-    ok_two c.upgrade_settled.result _ _ _ c.upgrade_settled.ensures.no_more
-    c.upgrade_settled.ensures.honest
-    (λ new no_more honest true_read. record {
-      book = book_of c.in-Ok.settled.machine c.in-Ok.settled.next;
-      area = c.in-Ok.settled.area;
-      between = g.D.Disk.seen c.settle.new.disk;
-      opened = c.in-Ok.ensures.opened (honest true_read);
-      no_more = no_more;
-    })
 
 pub returns-in-Ok-clause-kept : goal.returns-in-Ok-clause-kept
 returns-in-Ok-clause-kept g c =
@@ -62,3 +51,28 @@ returns-in-Ok-clause-refused g c =
     (rises_before _ _ _ c.settle.ensures.faults told.1)
     (λ long true_read. inr (long (g.D.Disk.seen c.args.disk)
     (c.in-Ok.ensures.opened (told.0 true_read)))) refused)
+
+pub returns-in-Ok-clause-starved : goal.returns-in-Ok-clause-starved
+returns-in-Ok-clause-starved g c =
+    err_two c.upgrade_settled.result _ _ _ c.upgrade_settled.ensures.honest_in_refusal
+    c.upgrade_settled.ensures.honest_in_refusal
+    (λ x honest same starved true_read.
+    let o = c.in-Ok.ensures.opened (honest true_read) in
+    (o.version, size_of c.in-Ok.settled.area, o.header))
+
+pub returns-in-Ok-clause-left : goal.returns-in-Ok-clause-left
+returns-in-Ok-clause-left g c =
+    err_two c.upgrade_settled.result _ _ _ c.upgrade_settled.ensures.refused
+    c.upgrade_settled.ensures.unwritten
+    (λ x refused same. opened_leaves g.D.Disk c.args.disk x.1 c.settle.new.disk _ _ x.0 refused same
+    (λ true_read. record {
+      book = book_of c.in-Ok.settled.machine c.in-Ok.settled.next;
+      area = c.in-Ok.settled.area;
+      opened = c.in-Ok.ensures.opened true_read;
+      at_rest = c.in-Ok.ensures.durable true_read;
+    }))
+
+pub returns-in-Err-clause-left : goal.returns-in-Err-clause-left
+returns-in-Err-clause-left g c =
+    unopened_leaves g.D.Disk c.args.disk c.settle.new.disk c.in-Err.refusal
+    c.in-Err.ensures.unchanged

@@ -2,6 +2,7 @@ use Rattle.std.proofs.Common.{arith, refl, ◌∙◌}
 use Rattle.std.proofs.lemmas.Result.{err_from_is_err_and}
 use Rattle.disk_model.specs.Disk.{Rises}
 use Rattle.undoing.proofs.Walks.{rises_before}
+use Rattle.recovery.proofs.FlipLemmas.{flipped_to, laid_more}
 use Rattle.recovery.proofs.UpgradeLemmas.{piecing_starts, piecing_on, goes_then, goes_image}
 use Rattle.recovery.proofs.UpgradeLemmas.{written_ready, piece_stage, piece_fine, all_written}
 use Rattle.recovery.proofs.UpgradeLemmas.{flip_refused}
@@ -93,3 +94,16 @@ pieces-preserved g c = (
     omega (arith, c.pieces.invariant.1.1, c.image_piece.ensures.faults),
   ),
 )
+
+pub returns-then-not-branch-clause-flipped : goal.returns-then-not-branch-clause-flipped
+returns-then-not-branch-clause-flipped g c =
+    let k = c.args.keeper.now in
+    flipped_to g.D.Disk k c.image_piece.new.self c.flip.new.self
+    (laid_more g.D.Disk k c.pieces.keeper c.image_piece.new.self c.pieces.invariant.0.beside
+    (Rises (g.D.Disk.fault_count c.pieces.keeper.disk)
+    (g.D.Disk.fault_count c.image_piece.new.self.disk)) c.in_ok-image_piece.field-0
+    c.in_ok-image_piece.ensures.answer c.image_piece.ensures.elsewhere)
+    (Rises (g.D.Disk.fault_count c.image_piece.new.self.disk)
+    (g.D.Disk.fault_count c.flip.new.self.disk)) c.in_ok-flip.field-0
+    c.in_ok-flip.ensures.answer c.flip.ensures.root c.in_ok-flip.ensures.picks
+    c.in_ok-flip.ensures.plain

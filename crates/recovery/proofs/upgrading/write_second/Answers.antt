@@ -1,4 +1,4 @@
-use Rattle.std.proofs.Common.{sym, ap, subst}
+use Rattle.std.proofs.Common.{sym, ap, subst, ◌∙◌}
 use Rattle.disk_model.specs.Disk.{LeavesOnly, Rises}
 use Rattle.gate_block.specs.Area.{size_of}
 use Rattle.checkpoint.specs.Keepers.{KeeperState}
@@ -11,16 +11,15 @@ use Rattle.recovery.proofs.UpgradeLemmas.{made_fresh, still_there}
 use Rattle.recovery.proofs.upgrading.write_second.Goals as goal
 
 pub returns-in-Ok-take_image-clause-upgraded : goal.returns-in-Ok-take_image-clause-upgraded
-returns-in-Ok-take_image-clause-upgraded g c = λ old o rest.
+returns-in-Ok-take_image-clause-upgraded g c = λ old o.
     let x = c.args.settled in
     let k = c.new-keeper.result in
     subst (λ d. IsUpgraded old (g.D.Disk.seen d)) (sym c.into_disk.ensures)
     (taken_upgraded g.D.Disk c.args.disk old x.machine x.next x.area o c.upheld.ensures
     c.in-Ok.image c.in-Ok.ensures.image k c.take_image.new.keeper
-    (made_fresh c.args.disk x.area k c.new-keeper.ensures)
     (ap (λ (k : KeeperState g.row.D.Denot). k.disk) c.new-keeper.ensures)
-    (ap (λ (k : KeeperState g.row.D.Denot). k.area) c.new-keeper.ensures) rest
-    c.take_image.ensures.takes c.in-Ok-take_image.ensures.fine c.in-Ok-take_image.ensures.ready)
+    (ap (λ (k : KeeperState g.row.D.Denot). k.area) c.new-keeper.ensures) c.requires.other
+    c.requires.one c.in-Ok-take_image.ensures.flipped c.in-Ok-take_image.ensures.ready)
 
 pub returns-in-Ok-take_image-clause-kept : goal.returns-in-Ok-take_image-clause-kept
 returns-in-Ok-take_image-clause-kept g c = λ old o rest.
@@ -69,3 +68,8 @@ pub returns-in-Err-clause-kept_in_refusal : goal.returns-in-Err-clause-kept_in_r
 returns-in-Err-clause-kept_in_refusal g c = λ old o rest.
     still_there g.D.Disk c.args.disk old c.args.settled.machine c.args.settled.next
     c.args.settled.area o (g.met.D.Disk.only_now c.args.disk) rest
+
+pub returns-in-Err-take_image-clause-unwritten : goal.returns-in-Err-take_image-clause-unwritten
+returns-in-Err-take_image-clause-unwritten g c = λ no_fault.
+    c.into_disk-in-Err-take_image.ensures ∙ c.in-Err-take_image.ensures.unwritten no_fault ∙
+    ap (λ (k : KeeperState g.row.D.Denot). k.disk) c.new-keeper.ensures

@@ -1,6 +1,6 @@
 use Rattle.std.proofs.Common.{List, refl, sym, ap, subst, ◌∙◌}
 use Rattle.calls.specs.Contents.{Collection}
-use Rattle.loader.specs.Loading.{LoadRow}
+use Rattle.repetition.specs.Loading.{LoadRow}
 use Rattle.repetition.specs.Steps.{State}
 use Rattle.repetition.proofs.ReadLemmas.{load_true, load_false}
 use Rattle.repetition.proofs.reading.load.Goals as goal

@@ -1,11 +1,10 @@
-use Rattle.std.proofs.Common.{◌+◌, ◌∙◌, sym, ap, subst, Result, Ok, Err, OnErr}
+use Rattle.std.proofs.Common.{◌+◌, ◌∙◌, refl, sym, ap, subst, Result, Ok, Err, OnErr}
 use Rattle.std.proofs.Common.{true≢false}
 use Rattle.undo_log.specs.Entries.{event_of, HasNewestCall}
-use Rattle.undo_log.specs.Logs.{Log, Lives, fallen}
+use Rattle.undo_log.specs.Logs.{Lives, fallen}
 use Rattle.machine.specs.Machine.{BackRow}
 use Rattle.machine.specs.Wholes.{AccountsState, state_on}
 use Rattle.machine.specs.Accounts.{accounts_of}
-use Rattle.ledger.specs.Ledgers.{log_of}
 use Rattle.machine.proofs.UndoneCall.{undone_row}
 use Rattle.machine.proofs.accounts.Accounts.back.Given.{Over}
 use Rattle.machine.proofs.accounts.Accounts.back.Goals as goal
@@ -14,37 +13,29 @@ pub undo-requires-clause-askable : goal.undo-requires-clause-askable
 undo-requires-clause-askable g c =
     let x = event_of c.in-Some.newest.now in
     (c.requires.undoes x (subst (λ (a : AccountsState). HasNewestCall c.args.number a.entries x)
-    c.self.view_is (subst (λ (l : Log). HasNewestCall c.args.number l.entries x) c.live.ensures
-    c.in-Some.ensures.found))).0
+    c.self.view_is c.in-Some.ensures.found)).0
 
 pub undo-requires-clause-undoes : goal.undo-requires-clause-undoes
 undo-requires-clause-undoes g c =
     let x = event_of c.in-Some.newest.now in
     (c.requires.undoes x (subst (λ (a : AccountsState). HasNewestCall c.args.number a.entries x)
-    c.self.view_is (subst (λ (l : Log). HasNewestCall c.args.number l.entries x) c.live.ensures
-    c.in-Some.ensures.found))).1
+    c.self.view_is c.in-Some.ensures.found)).1
 
 -- the step that was taken
 step : (g : Over) (c : goal.Joined-undone g) → let i = c.self.inside in
-    BackRow g.C.Boosted.meaning (state_on (accounts_of i.format i.ledger) c.args.shelf.now)
-    c.args.number (state_on (accounts_of i.format c.add_wear.new.self) c.undo.new.self)
+    BackRow g.C.Boosted.meaning (state_on (accounts_of i.format i.live i.wear) c.args.shelf.now)
+    c.args.number (state_on (accounts_of i.format c.fall.new.self (i.wear + 1)) c.undo.new.self)
 step g c =
     let i = c.self.inside in
     let shelf = c.args.shelf.now in
-    let ledger = c.add_wear.new.self in
-    undone_row i.format shelf.now shelf.holds (log_of i.ledger) i.ledger.wear c.args.number
+    undone_row i.format shelf.now shelf.holds i.live i.wear c.args.number
     g.C.Boosted.meaning (event_of c.in-Some.newest.now) c.undo.new.self.now c.undo.new.self.holds
-    c.pop-undone.new.self.entries (log_of ledger) ledger.wear c.pop-undone.result
+    c.pop-undone.new.self.entries c.fall.new.self (i.wear + 1) c.pop-undone.result
     (subst (λ (a : AccountsState). Lives a.live c.args.number) (sym c.self.view_is)
-    c.requires.live)
-    (subst (λ (l : Log). HasNewestCall c.args.number l.entries (event_of c.in-Some.newest.now))
-    c.live.ensures c.in-Some.ensures.found) c.in_ok-undo.ensures.ok c.pop-undone.ensures.found
+    c.requires.live) c.in-Some.ensures.found c.in_ok-undo.ensures.ok c.pop-undone.ensures.found
     c.pop-undone.ensures.none c.in_ok-undo.ensures.holds
-    (c.add_wear.ensures.live ∙ c.fall.ensures.live ∙
-    ap (λ v. fallen v c.args.number) c.pop-undone.ensures.live)
-    (c.add_wear.ensures.entries ∙ c.fall.ensures.entries)
-    (c.add_wear.ensures.wear ∙
-    ap (λ w. w + 1) (c.fall.ensures.wear ∙ c.pop-undone.ensures.wear))
+    (c.fall.ensures.live ∙ ap (λ v. fallen v c.args.number) c.pop-undone.ensures.live)
+    c.fall.ensures.entries refl
 
 pub returns-clause-ok : goal.returns-clause-ok
 returns-clause-ok g c = rw (← c.self.view_is) (step g c)
@@ -60,7 +51,6 @@ returns-in_err-undo-clause-in_place g c =
     of_refusal c.from_residual.result _ (
       x,
       subst (λ (a : AccountsState). HasNewestCall c.args.number a.entries x) c.self.view_is
-          (subst (λ (l : Log). HasNewestCall c.args.number l.entries x) c.live.ensures
-          c.in-Some.ensures.found),
+          c.in-Some.ensures.found,
       λ in_place. true≢false (sym (c.in_err-undo.ensures.in_place in_place)),
     )

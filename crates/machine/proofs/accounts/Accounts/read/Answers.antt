@@ -1,4 +1,4 @@
-use Rattle.std.proofs.Common.{◌++◌, ◌∷◌, [], sym, ◌∙◌, ap, subst}
+use Rattle.std.proofs.Common.{◌++◌, ◌∷◌, [], refl, sym, ◌∙◌, ap, subst}
 use Rattle.abstract_locks.specs.Holds.{hold, IsAdded}
 use Rattle.calls.specs.Transactions.{Asked}
 use Rattle.undo_log.specs.Entries.{event_of}
@@ -6,34 +6,32 @@ use Rattle.machine.specs.Machine.{CanCall, ReadRow}
 use Rattle.machine.specs.Machines.{HasRoomFor}
 use Rattle.machine.specs.Wholes.{AccountsState, state_on}
 use Rattle.machine.specs.Accounts.{accounts_of}
-use Rattle.ledger.specs.Ledgers.{log_of}
 use Rattle.machine.proofs.Rows.{read_row}
 use Rattle.machine.proofs.accounts.Accounts.read.Given.{Over}
 use Rattle.machine.proofs.accounts.Accounts.read.Goals as goal
 
 -- the step that was taken
-step : (g : Over) (c : goal.After-note g) → let i = c.self.inside in
-    ReadRow g.C.Boosted.meaning (state_on (accounts_of i.format i.ledger) c.args.shelf.now)
+step : (g : Over) (c : goal.After-push g) → let i = c.self.inside in
+    ReadRow g.C.Boosted.meaning (state_on (accounts_of i.format i.live i.wear) c.args.shelf.now)
     c.args.number (event_of c.args.asked)
-    (state_on (accounts_of i.format c.note.new.self) c.hold.new.self)
+    (state_on (accounts_of i.format c.push.new.self i.wear) c.hold.new.self)
 step g c =
     let i = c.self.inside in
     let n = c.args.number in
     let e = event_of c.args.asked in
     let shelf = c.args.shelf.now in
-    let ledger = c.note.new.self in
-    read_row i.format shelf.now shelf.holds (log_of i.ledger) i.ledger.wear n
-    c.hold.new.self.now c.hold.new.self.holds (log_of ledger) ledger.wear g.C.Boosted.meaning e
+    read_row i.format shelf.now shelf.holds i.live i.wear n
+    c.hold.new.self.now c.hold.new.self.holds c.push.new.self i.wear g.C.Boosted.meaning e
     (subst (λ a. CanCall g.C.Boosted.meaning (state_on a shelf) n e) (sym c.self.view_is)
     c.requires.can) c.requires.only_reads
     (subst (λ (a : AccountsState). HasRoomFor (state_on a shelf) 1) (sym c.self.view_is)
     c.requires.room)
     (subst (λ k. IsAdded shelf.holds c.hold.new.self.holds (hold n e.at k)) c.requires.need
     c.in_ok-hold.ensures.held) c.in_ok-hold.ensures.now
-    (c.note.ensures.live ∙ c.in_ok-reserve.ensures.live)
-    (c.note.ensures.entries ∙
+    (c.push.ensures.live ∙ c.in_ok-reserve.ensures.live)
+    (c.push.ensures.entries ∙
     ap (λ l. l ++ (n, Asked e) ∷ []) c.in_ok-reserve.ensures.entries)
-    (c.note.ensures.wear ∙ c.in_ok-reserve.ensures.wear)
+    refl
 
 pub returns-clause-ok : goal.returns-clause-ok
 returns-clause-ok g c = rw (← c.self.view_is) (step g c)

@@ -3,7 +3,7 @@ use Rattle.std.specs.Prelude.{OnOk, IfErr}
 use Rattle.std.proofs.lemmas.Result.{err_from_is_err_and}
 use Rattle.calls.specs.declared.when.When.{When}
 use Rattle.abstract_locks.specs.Holds.{IsClear, IsBusyRefusal}
-use Rattle.ledger.specs.LeftCalls.{GoesTwice}
+use Rattle.undo_log.specs.LeftCalls.{GoesTwice}
 use Rattle.shelf.specs.Looks.{IsLooked, CanTake, CanTell}
 use Rattle.txn.proofs.JournalSteps.{misplaced, unopened, starved, twice, busy, hungry, can_get}
 use Rattle.txn.proofs.journal.Journal.ask.Goals as goal

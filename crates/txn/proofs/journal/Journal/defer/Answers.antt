@@ -7,15 +7,20 @@ use Rattle.txn.specs.Rows.{IsOpen}
 use Rattle.txn.specs.Shelved.{JournalState, standing_of}
 use Rattle.txn.specs.Views.{journal_of}
 use Rattle.txn.proofs.JournalLemmas.{written}
-use Rattle.txn.proofs.JournalSteps.{room_on, later_on}
+use Rattle.txn.proofs.JournalSteps.{room_on, reach_on, later_on}
 use Rattle.txn.proofs.journal.Journal.defer.Goals as goal
 
-pub later-requires-clause-room : goal.later-requires-clause-room
-later-requires-clause-room g c =
+pub take-requires-clause-room : goal.take-requires-clause-room
+take-requires-clause-room g c =
     subst (λ (j : JournalState _). HasRoomFor (state_on j.accounts c.args.shelf.now) 1)
     (sym c.self.view_is) (room_on g.met.B.Boosted.laws g.met.B.Parts.laws g.met.B.Coded.told
     g.met.B.Parts.shelf_laws c.args.self.now c.args.shelf.now c.args.number c.args.at
     c.args.call.now c.requires.open c.requires.kept.0 c.requires.kept.1)
+
+pub take-requires-clause-reach : goal.take-requires-clause-reach
+take-requires-clause-reach g c = reach_on g.met.B.Boosted.laws g.met.B.Parts.laws g.met.B.Coded.told
+    g.met.B.Parts.shelf_laws c.args.self.now c.args.shelf.now c.args.number c.args.at
+    c.args.call.now c.requires.kept.0 c.requires.kept.1
 
 pub returns-clause-ok : goal.returns-clause-ok
 returns-clause-ok g c =
@@ -28,10 +33,10 @@ returns-clause-ok g c =
     c.in_ok-entry.ensures.ok c.push.ensures.records in
     rw (← c.self.view_is) (later_on g.met.B.Boosted.laws g.met.B.Parts.laws g.met.B.Coded.told
     g.met.B.Parts.shelf_laws j c.args.shelf.now c.args.number c.args.at c.args.call.now _
-    c.later.new.shelf opens c.ranges.at.fits
+    c.take.new.shelf opens c.ranges.at.fits
     (subst (λ v. LaterRow g.B.Shelf.Boosted.meaning (state_on i.accounts c.args.shelf.now)
-    c.args.number c.args.at v (state_on c.later.new.self c.later.new.shelf)) c.in_ok-copy.ensures
-    c.in_ok-later.ensures.ok)
+    c.args.number c.args.at v (state_on c.take.new.self c.take.new.shelf)) c.in_ok-copy.ensures
+    c.in_ok-take.ensures.ok)
     (written i.pending c.reserve.new.self c.push.new.self opens.room reserved.records
     reserved.freezes reserved.handed put c.push.ensures.freezes c.push.ensures.handed (omega arith)
     refl) refl refl)

@@ -13,7 +13,7 @@ use Rattle.machine.specs.Wholes.{contents, whole_state}
 use Rattle.machine.proofs.BookLaws.{BookLaws, book_laws}
 use Rattle.machine.proofs.ShortValues.{widest_entry}
 use Rattle.machine.proofs.Steps as steps
-use Rattle.gathering.specs.Gatherings.{HoldsAll, GoesAlong}
+use Rattle.images.specs.Gatherings.{HoldsAll, GoesAlong}
 use Rattle.txn.specs.Shelved.{book_state, IsJournal}
 use Rattle.txn.specs.Views.{journal_of}
 use Rattle.txn.proofs.BookLemmas.{seals_reserved}

@@ -1,7 +1,7 @@
 use Rattle.std.proofs.Common.{sym, subst}
 use Rattle.std.proofs.lemmas.Result.{on_ok_weaker}
 use Rattle.machine.specs.Wholes.{contents}
-use Rattle.gathering.specs.Gatherings.{IsNextOf, part_of, GatherAnswers, GoesAlong}
+use Rattle.images.specs.Gatherings.{IsNextOf, part_of, GatherAnswers, GoesAlong}
 use Rattle.txn.specs.Parts.{IsGivenNext}
 use Rattle.txn.specs.Shelved.{JournalState}
 use Rattle.txn.specs.Views.{journal_of}

@@ -4,8 +4,8 @@ use Rattle.undo_log.specs.Entries.{event_of}
 use Rattle.machine.specs.Machine.{CallRow}
 use Rattle.machine.specs.Machines.{HasRoomFor}
 use Rattle.machine.specs.Wholes.{state_on}
-use Rattle.gathering.specs.Gatherings.{noted, effect_at}
-use Rattle.gathering.proofs.Running.{note_kept}
+use Rattle.images.specs.Gatherings.{noted, effect_at}
+use Rattle.images.proofs.Running.{note_kept}
 use Rattle.txn.specs.Rows.{IsOpen}
 use Rattle.txn.specs.Shelved.{JournalState, standing_of, journal_position}
 use Rattle.txn.specs.Views.{journal_of}
@@ -13,15 +13,15 @@ use Rattle.txn.proofs.JournalLemmas.{written}
 use Rattle.txn.proofs.JournalSteps.{room_on, reach_on, call_on}
 use Rattle.txn.proofs.journal.Journal.note_call.Goals as goal
 
-pub call-requires-clause-room : goal.call-requires-clause-room
-call-requires-clause-room g c =
+pub take-requires-clause-room : goal.take-requires-clause-room
+take-requires-clause-room g c =
     subst (λ (j : JournalState _). HasRoomFor (state_on j.accounts c.args.shelf.now) 1)
     (sym c.self.view_is) (room_on g.met.B.Boosted.laws g.met.B.Parts.laws g.met.B.Coded.told
     g.met.B.Parts.shelf_laws c.args.self.now c.args.shelf.now c.args.number c.args.at
     c.args.call.now c.requires.open c.requires.kept.0 c.requires.kept.1)
 
-pub call-requires-clause-reach : goal.call-requires-clause-reach
-call-requires-clause-reach g c = reach_on g.met.B.Boosted.laws g.met.B.Parts.laws g.met.B.Coded.told
+pub take-requires-clause-reach : goal.take-requires-clause-reach
+take-requires-clause-reach g c = reach_on g.met.B.Boosted.laws g.met.B.Parts.laws g.met.B.Coded.told
     g.met.B.Parts.shelf_laws c.args.self.now c.args.shelf.now c.args.number c.args.at
     c.args.call.now c.requires.kept.0 c.requires.kept.1
 
@@ -42,12 +42,12 @@ returns-clause-ok g c =
     c.in_ok-asked.ensures.ok in
     rw (← c.self.view_is) (call_on g.met.B.Boosted.laws g.met.B.Parts.laws g.met.B.Coded.told
     g.met.B.Parts.shelf_laws j c.args.shelf.now c.args.number c.args.at c.args.call.now
-    c.args.reply.now _ c.call.new.shelf opens c.requires.written
+    c.args.reply.now _ c.take.new.shelf opens c.requires.written
     (c.fits_call.ensures.fits.0 c.if-prove.false) (c.fits_reply.ensures.fits.0 c.if-prove-2.false)
     c.ranges.at.fits
     (subst (λ v. CallRow g.B.Shelf.Boosted.meaning (state_on i.accounts c.args.shelf.now)
-    c.args.number v (state_on c.call.new.self c.call.new.shelf)) c.in_ok-asked.ensures.ok
-    c.in_ok-call.ensures.ok)
+    c.args.number v (state_on c.take.new.self c.take.new.shelf)) c.in_ok-asked.ensures.ok
+    c.in_ok-take.ensures.ok)
     (written i.pending c.reserve.new.self c.push_call.new.self opens.room reserved.records
     reserved.freezes reserved.handed c.push_call.ensures.records c.push_call.ensures.freezes
     c.push_call.ensures.handed (omega arith) refl) refl notes)

@@ -4,7 +4,7 @@ use Rattle.calls.specs.Formats.{widest}
 use Rattle.calls.specs.Rules.{IsShort}
 use Rattle.calls.specs.Transactions.{own, laters_of}
 use Rattle.blocks.specs.Waits.{HasRoomFor}
-use Rattle.gathering.proofs.Running.{each_short}
+use Rattle.images.proofs.Running.{each_short}
 use Rattle.txn.specs.Shelved.{IsJournal}
 use Rattle.txn.proofs.BookLemmas.{mark_length}
 use Rattle.txn.proofs.JournalEnds.{laters_short, ready_short}

@@ -4,8 +4,8 @@ use Rattle.calls.specs.Transactions.{Entry}
 use Rattle.undo_log.specs.Entries.{event_of, HasNewestCall, HasNoCall}
 use Rattle.catalog.specs.Fours.{which_of}
 use Rattle.blocks.specs.Waits.{HasRoomFor}
-use Rattle.gathering.specs.Gatherings.{noted, TakesBack}
-use Rattle.gathering.proofs.Running.{note_kept}
+use Rattle.images.specs.Gatherings.{noted, TakesBack}
+use Rattle.images.proofs.Running.{note_kept}
 use Rattle.machine.specs.Machine.{HasNewestRead}
 use Rattle.txn.specs.Shelved.{JournalState, IsOfBook, HasNewestAt, journal_position}
 use Rattle.txn.proofs.BookLemmas.{mark_length}

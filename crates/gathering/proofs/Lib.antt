@@ -1,5 +1,0 @@
-pub mod Going
-pub mod Running
-pub mod Undoing
-mod Laters
-pub mod OnShelf

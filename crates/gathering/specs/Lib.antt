@@ -1,3 +1,0 @@
-pub mod Gatherings
-pub mod Views
-pub mod Laws

@@ -1,0 +1,39 @@
+-- What is gathered goes along past every step of a book, and comes to an image.
+use Rattle.std.specs.Prelude.{◌≡◌, ℕ, ◌+◌, ◌≤◌, List, length}
+use Rattle.calls.specs.declared.kind.Kind.{Kind}
+use Rattle.calls.specs.Contents.{Collection}
+use Rattle.calls.specs.Limits.{max_wear}
+use Rattle.boosted.specs.Meaning.{Meaning}
+use Rattle.catalog.specs.Making.{Making}
+use Rattle.blocks.specs.declared.block.Image.{Image}
+use Rattle.machine.specs.Machine.{State}
+use Rattle.images.specs.declared.effect.Effect.{Effect}
+use Rattle.images.specs.Gathers.{GatherState, Repeats, Packs}
+use Rattle.images.specs.Images.{IsPackedImage}
+use Rattle.images.specs.Gatherings.{GatheringState, noted, AreRun, KeepsGoing, HoldsAll}
+
+module _ {S : Type 0} (collections : S → List Collection) where
+  -- Calls are run, which the next record tells of, and are noted.
+  abbrev pub GoesPastRuns : Meaning S ℕ → Type 0
+  GoesPastRuns meaning = (n : GatheringState) (es : List Effect) (position wear : ℕ) (s t : S) →
+      meaning.within s wear → wear + length es ≤ max_wear →
+      AreRun meaning (position + 1) es s t →
+      KeepsGoing collections n s position (noted n es) t (position + 1)
+
+  -- A collection is made, which the next record tells of.
+  abbrev pub GoesPastMakings : Making S → Type 0
+  GoesPastMakings making = (n : GatheringState) (position : ℕ) (s t : S) (name : List ℕ)
+      (kind : Kind) → making.makes s name kind t →
+      KeepsGoing collections n s position n t (position + 1)
+
+  -- The collections stay, and at most one record more is written.
+  abbrev pub GoesPastOthers : Type 0
+  GoesPastOthers = (n : GatheringState) (position next : ℕ) (s : S) → position ≤ next →
+      KeepsGoing collections n s position n s next
+
+  -- What holds all of a state comes to an image of it.
+  abbrev pub HoldsImage : Type 0
+  HoldsImage = (next place position : ℕ) (s : State S) (g h : GatherState) (image : Image) →
+      HoldsAll collections next place position s g → Repeats g h → Packs h image →
+      IsPackedImage collections next s image.blocks.items × (image.end ≡ position) ×
+      (image.place ≡ place)

@@ -1,4 +1,0 @@
-pub mod TakenBack
-pub mod LoadAlikes
-pub mod Loaded
-pub mod LoadRows
